@@ -1,4 +1,4 @@
--- Sums of factors times values, one for each of some unknowns.
+-- Sums of coefficients times values, over some unknowns.
 use Rattle.std.proofs.Common.{◌≡◌, ◌≢◌, ℕ, zero, suc, ◌+◌, ◌<◌, List, [], ◌∷◌, ◌++◌, length, take, drop, map, ⊎_elim, Bool, true, false, if◌then◌else◌, eqb, slice_get, refl, sym, ap, ◌∙◌, arith}
 use Rattle.std.specs.List.{range_with_len}
 use Rattle.std.proofs.lemmas.Bool.Decides.{eqb_tells}
@@ -16,7 +16,7 @@ dot f [] xs = 0ℚ
 dot f (u ∷ us) [] = 0ℚ
 dot f (u ∷ us) (x ∷ xs) = f u *ℚ x +ℚ dot f us xs
 
--- ---- over plain numbers
+-- ---- equations of rationals
 none_first : (a : ℚ) → a ≡ 0ℚ +ℚ a
 none_first a = linear_eq (a ∷ []) [] (search reading_of depth 12) tt tt
 
@@ -84,7 +84,7 @@ dot-map f g [] xs = refl
 dot-map f g (u ∷ us) [] = refl
 dot-map f g (u ∷ us) (x ∷ xs) = ap (λ (s : ℚ). f (g u) *ℚ x +ℚ s) (dot-map f g us xs)
 
--- ---- one factor alone
+-- ---- a single coefficient
 abbrev pub only : ℕ → ℚ → ℕ → ℚ
 only w c v = if eqb v w then c else 0ℚ
 

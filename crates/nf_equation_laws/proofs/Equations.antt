@@ -1,4 +1,4 @@
--- The rows of a pattern's table, and what they say of values: just what the pattern's equations say of flows and slopes.
+-- The rows of a pattern's table: their conditions on values are the pattern's equations on flows and slopes.
 use Rattle.std.proofs.Common.{◌≡◌, ℕ, ◌+◌, ◌<◌, List, [], ◌∷◌, length, take, drop, map, Some, unwrap_or, refl, ap, ◌∙◌, arith}
 use Rattle.std.specs.List.{range_with_len}
 use Rattle.std.proofs.lemmas.List.{length-map, length-append}
@@ -43,7 +43,7 @@ module _ (net : Network) (sets : Sets) where
       let c : length (map FlowOn (active_from 0 sets.active)) ≡ flow_count = length-map (active_from 0 sets.active) FlowOn in
       omega arith
 
-  -- ---- what a row says of values
+  -- ---- the condition of a row on values
   module _ (good : IsNetwork net) (sets_are : AreSets net sets) (xs : List ℚ) (count : length xs ≡ net.nodes + flow_count) where
     abbrev pub slopes : List ℚ
     slopes = slopes_in net.nodes xs

@@ -1,4 +1,4 @@
--- The flows of the active links alone, as the table's unknowns have them.
+-- The flows of the active links only, as unknowns of the table.
 use Rattle.std.proofs.Common.{◌≡◌, ℕ, zero, suc, ◌+◌, List, [], ◌∷◌, ◌++◌, length, take, drop, Bool, true, false, refl, sym, ap, ◌∙◌, arith}
 use Rattle.std.specs.Prelude.{Some}
 use Rattle.nf_rational.specs.Rational.{ℚ}
@@ -27,7 +27,7 @@ onto-length (false ∷ active) xs = ap suc (onto-length active xs)
 not_set : Some false ≡ Some true → ⊥
 not_set e = cc
 
--- none is lost where the others are 0
+-- No flow is lost if the others are 0.
 pub onto-packed : (active : List Bool) (flows : List ℚ) → length flows ≡ length active → ((e : ℕ) → (Has active e → ⊥) → number_at flows e ≡ 0ℚ) → onto_links active (packed active flows) ≡ flows
 onto-packed [] [] e z = refl
 onto-packed [] (x ∷ flows) e z = absurd (cc)
@@ -43,7 +43,7 @@ packed-onto (true ∷ active) k [] e = absurd (cc)
 packed-onto (true ∷ active) k (x ∷ xs) e = ap (λ (l : List ℚ). x ∷ l) (packed-onto active (suc k) xs (cc))
 packed-onto (false ∷ active) k xs e = packed-onto active (suc k) xs e
 
--- ---- two lists in one
+-- ---- two lists merged into one
 pub take-front : (xs ys : List ℚ) (n : ℕ) → length xs ≡ n → take n (xs ++ ys) ≡ xs
 take-front [] ys zero e = refl
 take-front [] ys (suc n) e = absurd (cc)

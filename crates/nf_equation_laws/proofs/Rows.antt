@@ -1,4 +1,4 @@
--- What holds of each row of a table, part by part; and how many rows there are.
+-- Properties of each row of a table, and the number of rows.
 use Rattle.std.proofs.Common.{◌≡◌, ◌≢◌, ℕ, zero, suc, ◌+◌, ◌<◌, ◌≤◌, List, [], ◌∷◌, ◌++◌, length, map, filter, ⊎_elim, Bool, true, false, not, cond, if◌then◌else◌, eqb, refl, sym, ap, subst, ◌∙◌, arith}
 use Rattle.std.specs.Prelude.{Some, slice_get, unwrap_or}
 use Rattle.std.specs.List.{range_with_len, flat_map, enumerate_from}
@@ -34,7 +34,7 @@ module _ (P : Row → Type 0) where
   each-second [] others h = h
   each-second (row ∷ rows) others h = each-second rows others h.1
 
-  -- ---- a row for each number but one
+  -- ---- a row for each number except one
   module _ (f : ℕ → Row) (left_out : ℕ) where
     abbrev pub is_kept : ℕ → Bool
     is_kept v = not (eqb v left_out)
@@ -82,7 +82,7 @@ module _ (P : Row → Type 0) where
         picked_here : v ≡ k → P (f v)
         picked_here same = subst (λ (w : ℕ). P (f w)) (sym same) (picked_first (is_kept k) k (filter is_kept (range_with_len (k + 1) n)) (apart_kept k (λ e. apart (same ∙ e))) h)
 
-  -- ---- a row for each link that is set in these flags
+  -- ---- a row for each link with a set flag
   module _ (set : ℕ → Bool) (f : ℕ → Link → Row) where
     abbrev pub rows_if : ℕ × Link → List Row
     rows_if (e, link) = if set e then f e link ∷ [] else []
@@ -109,8 +109,8 @@ module _ (P : Row → Type 0) where
         (if_at (set k) (f k l) (ap set here ∙ s) (each-first (rows_if (k, l)) (flat_map rows_if (enumerate_from (k + 1) links)) h)))
     links_at (l ∷ links) k h (suc i) e link same at s = links_at links (k + 1) (each-second (rows_if (k, l)) (flat_map rows_if (enumerate_from (k + 1) links)) h) i e link (omega arith) at s
 
--- ---- how many
--- numbers without one that is among them
+-- ---- the number of rows
+-- The numbers below a bound, without one of them.
 filtered_before : (n k w : ℕ) → w < k → length (filter (λ v. not (eqb v w)) (range_with_len k n)) ≡ n
 filtered_before zero k w h = refl
 filtered_before (suc n) k w h = ⊎_elim
@@ -137,7 +137,7 @@ filtered-length (suc n) k w low high = ⊎_elim
     later : k ≢ w → k + 1 ≤ w
     later n = omega arith
 
--- rows for the links that are set, as many as there are active ones
+-- The rows for links with a set flag are as many as the active links.
 module _ (set : ℕ → Bool) (f : ℕ → Link → Row) where
   abbrev set_rows : ℕ → List Link → List Row
   set_rows k links = flat_map (λ (p : ℕ × Link). if set p.0 then f p.0 p.1 ∷ [] else []) (enumerate_from k links)

@@ -1,4 +1,4 @@
--- The table of a pattern is square; it is solved by just the values that are flows and slopes with which the pattern is.
+-- The table of a pattern is square, and exactly the values that are flows and slopes of a solution of the pattern solve the table.
 use Rattle.std.proofs.Common.{◌≡◌, ◌≢◌, ℕ, suc, ◌+◌, ◌<◌, List, [], ◌∷◌, ◌++◌, length, take, drop, map, filter, ⊎_elim, Bool, true, false, not, eqb, Option, Some, None, slice_get, unwrap_or, refl, sym, ap, subst, ◌∙◌, arith}
 use Rattle.std.specs.Prelude.{is_none, Ok}
 use Rattle.std.specs.Option.{option_map}
@@ -31,7 +31,7 @@ use Rattle.nf_equation_laws.proofs.Equations.{flow_count, unknowns-length, total
 use Rattle.nf_rational_laws.proofs.Field.{same_from-less}
 use Rattle.nf_plain_laws.proofs.Entries.{entry}
 
--- ---- over plain numbers
+-- ---- equations of rationals
 
 no_step : (h t : ℚ) → h ≡ t → h -ℚ t ≡ 0ℚ
 no_step h t e = linear_eq (h ∷ t ∷ []) (eq e ∷ []) (search reading_of depth 12) tt tt
@@ -90,7 +90,7 @@ module _ (net : Network) (sets : Sets) (rate : ℚ) (pattern : Pattern) where
     pub is_square : IsSquare (equations net sets rate pattern)
     is_square i b = each_at IsWide (equations net sets rate pattern) wide i b ∙ ap suc same_count
 
-    -- ---- what the rows say of values
+    -- ---- the conditions of the rows on values
     module _ (xs : List ℚ) (count : length xs ≡ net.nodes + flow_count net sets) where
       abbrev HasRight : Row → Type 0
       HasRight r = left_side r xs ≡ number_at r (length (unknowns net sets))

@@ -1,5 +1,5 @@
--- Oversupplies are described by systems, so that there is one with the least sum of slopes, and that sends out least from the source
--- among those.
+-- Systems describe oversupplies. So there is an oversupply with the least sum of slopes, and among those, one with the least flow out of
+-- the source.
 use Rattle.std.proofs.Common.{◌≡◌, ◌≢◌, ℕ, zero, suc, ◌<◌, ◌⊎◌, Option, Some, None, sym, ap, subst, refl, ◌∙◌, arith}
 use Rattle.std.proofs.lemmas.Option.{none-some, same_Some}
 use Rattle.nf_rational.specs.Rational.{ℚ}
@@ -23,7 +23,7 @@ use Rattle.nf_existence_laws.proofs.Spare.{not_negative}
 use Rattle.nf_existence_laws.proofs.Affine.{Affine, Affine-value, Affine-form, Affine-floor, Affine-constant, Affine-variable, Affine-plus, Affine-times, Affine-sum_to, Affine-sum_in, Affine-sum_out}
 use Rattle.nf_existence_laws.proofs.Described.{Described, Described-as, Described-always, Described-never, Described-both, Described-either, Described-when, Described-decided, Described-le, Described-same, Described-to, Described-links, Described-some, EachLink}
 
--- ---- slopes and flows in one assignment: those at even numbers, and those at odd ones
+-- ---- slopes and flows in one assignment: slopes at even numbers, and flows at odd numbers
 abbrev pub even : ℕ → ℕ
 even zero = zero
 even (suc v) = suc (suc (even v))
@@ -53,7 +53,7 @@ slopes_of-joined flows slopes = λ i v. joined-even v flows slopes i
 pub flows_of-joined : (flows slopes : ℕ → ℚ) → flows_of (joined flows slopes) ≡ flows
 flows_of-joined flows slopes = λ i e. joined-odd e flows slopes i
 
--- ---- parts of an oversupply
+-- ---- conditions of an oversupply
 slope : (v : ℕ) → Affine (λ x. slopes_of x v)
 slope v = Affine-variable (even v)
 
@@ -114,7 +114,7 @@ fits_described e capacity tail head = Described-as (λ x. (N x × M x) × (U x �
     V : (ℕ → ℚ) → Type 0
     V x = (slopes_of x head ≤ℚ slopes_of x tail) ⊎ FilledAt e capacity head x
 
--- no oversupply has a lesser sum of slopes, and none with as little of it sends out less from the source
+-- No oversupply has a smaller sum of slopes, and none with an equally small sum sends less out of the source.
 pub record IsLeast (net : Network) (sets : Sets) (rate : ℚ) (flows slopes : ℕ → ℚ) : Type 0 where
   pub over : IsOversupply net sets rate flows slopes
   pub slopes_least : (other_flows other_slopes : ℕ → ℚ) → IsOversupply net sets rate other_flows other_slopes → sum_to net.nodes slopes ≤ℚ sum_to net.nodes other_slopes
@@ -129,7 +129,7 @@ module _ (net : Network) (sets : Sets) (rate : ℚ) where
   abbrev IsAssigned : (ℕ → ℚ) → Type 0
   IsAssigned x = IsOversupply net sets rate (flows_of x) (slopes_of x)
 
-  -- ---- of the source and the nodes
+  -- ---- conditions on the source and the nodes
   abbrev Starts : (ℕ → ℚ) → Type 0
   Starts x = slopes_of x net.source ≡ 1ℚ
 
@@ -178,7 +178,7 @@ module _ (net : Network) (sets : Sets) (rate : ℚ) where
       (Affine-plus (λ x. sum_out net.links (flows_of x) v) (λ x. demand net rate v) (Affine-sum_out net.links (λ e x. flows_of x e) v flow) (Affine-constant (demand net rate v)))
       (Affine-sum_in net.links (λ e x. flows_of x e) v flow)))
 
-  -- ---- of the links
+  -- ---- conditions on the links
   abbrev InactiveAt : ℕ → Link → (ℕ → ℚ) → Type 0
   InactiveAt e link x = (Has sets.active e → ⊥) → flows_of x e ≡ 0ℚ
 

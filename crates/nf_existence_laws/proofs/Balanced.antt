@@ -1,4 +1,4 @@
--- An oversupply in which no node has anything to spare, is a thin flow.
+-- An oversupply without excess at any node is a thin flow.
 use Rattle.std.proofs.Common.{◌≡◌, ◌≢◌, ℕ, ◌<◌, ◌≤◌, if◌then◌else◌, List, [], ◌∷◌, length, ◌⊎◌, inl, inr, ⊎_elim, Bool, true, false, eqb, Option, Some, None, slice_get, sym, ap, subst, refl, ◌∙◌}
 use Rattle.std.proofs.lemmas.Bool.Decides.{eqb_tells}
 use Rattle.std.proofs.lemmas.Bool.{cases_lt}
@@ -42,7 +42,7 @@ module _ (net : Network) (sets : Sets) (rate : ℚ) (flows slopes : ℕ → ℚ)
   slope_at : (v : ℕ) → v < net.nodes → number_at slope_list v ≡ slopes v
   slope_at v h = number_at-numbers net.nodes slopes v h
 
-  -- ---- what is sent out beyond what comes in
+  -- ---- the surplus of a node
   surplus_is : (v : ℕ) → surplus net flow_list v ≡ out_less_in net.links flows v
   surplus_is v = same (sum_out-same net.links (number_at flow_list) flows v (λ e link p _. flow_at e link p)) (sum_in-same net.links (number_at flow_list) flows v (λ e link p _. flow_at e link p))
     where
@@ -89,7 +89,7 @@ module _ (net : Network) (sets : Sets) (rate : ℚ) (flows slopes : ℕ → ℚ)
       ∙ ap (λ (x : ℚ). exit_slope b link.capacity x (number_at slope_list link.tail)) (flow_at e link p)
       ∙ ap (λ (s : ℚ). exit_slope b link.capacity (flows e) s) (slope_at link.tail (good.tails e link p))
 
-  -- at least the slope of the head, and just that of a link with flow, or one that leads
+  -- The exit slope is at least the slope of the head, and equals it if the link has flow, is resetting, or its slope does not fall.
   abbrev Exits : ℕ → Link → Type 0
   Exits e link = (slopes link.head ≤ℚ exit_of e link) × ((0ℚ <ℚ flows e) ⊎ (Has sets.resetting e ⊎ (slopes link.tail ≤ℚ slopes link.head)) → exit_of e link ≡ slopes link.head)
 

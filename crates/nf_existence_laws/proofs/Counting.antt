@@ -1,9 +1,9 @@
--- How many nodes lack something.
+-- The number of nodes that lack a property.
 use Rattle.std.proofs.Common.{◌≡◌, ℕ, zero, suc, ◌+◌, ◌<◌, ◌≤◌, inl, inr, ⊎_elim, subst, arith}
 use Rattle.nf_plain_laws.proofs.Naturals.{before_or_at}
 use Rattle.nf_complete_laws.proofs.Deciding.{Decided}
 
--- 0 where it holds, else 1
+-- 0 if the property holds, and 1 otherwise.
 abbrev pub lack : {A : Type 0} → Decided A → ℕ
 lack (inl a) = 0
 lack (inr n) = 1
@@ -19,7 +19,7 @@ lack-lt (inl x) b n y = absurd (n x)
 lack-lt (inr m) (inl z) n y = omega arith
 lack-lt (inr m) (inr k) n y = absurd (k y)
 
--- the sum of f below n
+-- The sum of f over the numbers below n.
 abbrev pub count_to : ℕ → (ℕ → ℕ) → ℕ
 count_to zero f = 0
 count_to (suc n) f = count_to n f + f n

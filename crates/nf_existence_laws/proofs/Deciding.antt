@@ -1,4 +1,4 @@
--- What more can be decided of numbers and links.
+-- More decidable properties of numbers and links.
 use Rattle.std.proofs.Common.{◌≡◌, ℕ, zero, suc, ◌<◌, List, ◌⊎◌, inl, inr, ⊎_elim, Some, slice_get, subst, arith}
 use Rattle.nf_rational.specs.Rational.{ℚ}
 use Rattle.nf_rational.specs.Order.{◌≤ℚ◌, ◌<ℚ◌}

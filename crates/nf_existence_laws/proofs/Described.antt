@@ -1,4 +1,4 @@
--- What is asked of an assignment, as finitely many systems one of which is to be met.
+-- Properties of an assignment, described by finitely many systems of which one must be met.
 use Rattle.std.proofs.Common.{◌≡◌, ℕ, zero, suc, ◌<◌, List, [], ◌∷◌, ◌++◌, ◌⊎◌, inl, inr, ⊎_elim, Some, slice_get, sym, subst, refl, arith}
 use Rattle.std.proofs.lemmas.Option.{none-some, same_Some}
 use Rattle.nf_rational.specs.Rational.{ℚ}
@@ -18,7 +18,7 @@ use Rattle.nf_complete_laws.proofs.Deciding.{Decided}
 use Rattle.nf_existence_laws.proofs.Deciding.{SomeLink}
 use Rattle.nf_existence_laws.proofs.Affine.{Affine}
 
--- ---- systems one after the other, and each of some with each of others
+-- ---- the union of two lists of systems, and each system of one list joined with each of the other
 in_front : (systems others : List (List AtMost)) (x : ℕ → ℚ) → MeetsOne systems x → MeetsOne (systems ++ others) x
 in_front [] others x h = absurd h
 in_front (system ∷ systems) others x (inl h) = inl h
@@ -63,7 +63,7 @@ crossed-out (system ∷ systems) others x h = ⊎_elim
     (λ (k : MeetsOne (crossed systems others) x). let w : MeetsOne systems x × MeetsOne others x = crossed-out systems others x k in (inr w.0, w.1))
     (in_either (beside system others) (crossed systems others) x h)
 
--- ---- what can be said by systems
+-- ---- properties described by systems
 pub record Described (P : (ℕ → ℚ) → Type 0) : Type 0 where
   pub systems : List (List AtMost)
   pub into : (x : ℕ → ℚ) → P x → MeetsOne systems x
@@ -101,7 +101,7 @@ Described-when A P d f = ⊎_elim
 pub Described-decided : (A : Type 0) → Decided A → Described (λ x. A)
 Described-decided A d = ⊎_elim (λ (a : A). Described-always (λ x. A) (λ x. a)) (λ (n : A → ⊥). Described-never (λ x. A) (λ x a. n a)) d
 
--- ---- orders and equations of what is affine
+-- ---- inequalities and equations of affine numbers
 there : (f g a b r s m : ℚ) → f ≡ a +ℚ r → g ≡ b +ℚ s → m ≡ a -ℚ b → f ≤ℚ g → m ≤ℚ s -ℚ r
 there f g a b r s m d e h k = linear_le (f ∷ g ∷ a ∷ b ∷ r ∷ s ∷ m ∷ []) (eq d ∷ eq e ∷ eq h ∷ le k ∷ []) (search reading_of depth 12) tt
 
@@ -125,7 +125,7 @@ Described-same f g p q = Described-as (λ x. (f x ≤ℚ g x) × (g x ≤ℚ f x
     (λ x h. ≤ℚ_antisymm _ _ h.0 h.1) (λ x e. (≤ℚ_of_same _ _ e, ≤ℚ_of_same _ _ (sym e)))
     (Described-both (λ x. f x ≤ℚ g x) (λ x. g x ≤ℚ f x) (Described-le f g p q) (Described-le g f q p))
 
--- ---- of each number below n, of each link, of some link
+-- ---- a property of each number below n, of each link, or of some link
 pub Described-to : (n : ℕ) (P : ℕ → (ℕ → ℚ) → Type 0) → ((k : ℕ) → k < n → Described (P k)) → Described (λ x. (k : ℕ) → k < n → P k x)
 Described-to zero P s = Described-always (λ x. (k : ℕ) → k < 0 → P k x) (λ x k l. absurd (omega arith))
 Described-to (suc n) P s = Described-as (λ x. ((k : ℕ) → k < n → P k x) × P n x) (λ x. (k : ℕ) → k < suc n → P k x)

@@ -1,4 +1,4 @@
--- A least oversupply, with flows whose nodes with something to spare are closed, is a thin flow: else all of these could be lowered.
+-- A least oversupply whose nodes with excess are closed is a thin flow. Otherwise the slopes of these nodes could be lowered.
 use Rattle.std.proofs.Common.{ℕ, ◌<◌, List, length, ⊎_elim}
 use Rattle.nf_rational.specs.Rational.{ℚ}
 use Rattle.nf_rational.specs.Operations.{0ℚ}

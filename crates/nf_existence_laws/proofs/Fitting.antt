@@ -16,7 +16,7 @@ use Rattle.nf_thin_laws.proofs.ExitSlopes.{exit_full, exit_tight, exit_zero}
 use Rattle.nf_existence_laws.specs.Oversupply.{Fits}
 use Rattle.nf_complete_laws.proofs.Deciding.{Decided}
 
--- ---- no more than fills the link; just that; less
+-- ---- flows of at most what fills the link, of exactly that, and of less
 abbrev pub IsAtMost : Option ℚ → ℚ → ℚ → Type 0
 IsAtMost capacity x t = (c : ℚ) → capacity ≡ Some c → x ≤ℚ c *ℚ t
 
@@ -48,7 +48,7 @@ IsAtMost-none capacity x t positive z n c e = subst (λ (k : ℚ). k ≤ℚ c *�
 pub not_negative-fills : (capacity : Option ℚ) (x t : ℚ) → IsPositive capacity → Fills capacity x t → 0ℚ ≤ℚ t → 0ℚ ≤ℚ x
 not_negative-fills capacity x t positive f n = subst (λ (k : ℚ). 0ℚ ≤ℚ k) (sym f.2) (nn_times f.0 t (≤ℚ_of_lt _ _ (positive f.0 f.1)) n)
 
--- ---- a flow, cut to what fills the link where that is less
+-- ---- a flow, cut to the flow that fills the link if that is less
 abbrev pub capped : Option ℚ → ℚ → ℚ → ℚ
 capped None x t = x
 capped (Some c) x t = min_ℚ x (c *ℚ t)
@@ -57,7 +57,7 @@ pub capped-le : (capacity : Option ℚ) (x t : ℚ) → capped capacity x t ≤�
 capped-le None x t = ≤ℚ_refl x
 capped-le (Some c) x t = min_left x (c *ℚ t)
 
--- a lower bound of what is left
+-- A lower bound of the cut flow.
 pub capped-ge : (capacity : Option ℚ) (x t y : ℚ) → y ≤ℚ x → IsAtMost capacity y t → y ≤ℚ capped capacity x t
 capped-ge None x t y h k = h
 capped-ge (Some c) x t y h k = min_keeps (λ (z : ℚ). y ≤ℚ z) x (c *ℚ t) h (k c refl)
@@ -75,7 +75,7 @@ capped-not_negative capacity x t positive h n = capped-ge capacity x t 0ℚ h (I
 pub capped-none : (capacity : Option ℚ) (x t : ℚ) → IsPositive capacity → x ≡ 0ℚ → 0ℚ ≤ℚ t → capped capacity x t ≡ 0ℚ
 capped-none capacity x t positive e n = ≤ℚ_antisymm _ _ (≤ℚ_trans _ _ _ (capped-le capacity x t) (≤ℚ_of_same _ _ e)) (capped-not_negative capacity x t positive (≤ℚ_of_same _ _ (sym e)) n)
 
--- where the slope of the head falls by no more than h, no more than h times the capacity is cut off
+-- If the slope of the head falls by at most h, at most h times the capacity is cut off.
 pub capped-near : (capacity : Option ℚ) (x t u h : ℚ) → IsPositive capacity → 0ℚ ≤ℚ h → IsAtMost capacity x t → t -ℚ h ≤ℚ u → x ≤ℚ capped capacity x u +ℚ unwrap_or capacity 0ℚ *ℚ h
 capped-near None x t u h positive n m k = linear_le (x ∷ h ∷ []) [] (search reading_of depth 12) tt
 capped-near (Some c) x t u h positive n m k = min_keeps (λ (z : ℚ). x ≤ℚ z +ℚ c *ℚ h) x (c *ℚ u)
@@ -85,7 +85,7 @@ capped-near (Some c) x t u h positive n m k = min_keeps (λ (z : ℚ). x ≤ℚ 
     low : 0ℚ ≤ℚ c
     low = ≤ℚ_of_lt _ _ (positive c refl)
 
--- a link that is filled stays filled
+-- A filled link is still filled.
 filled_by : (c x t u : ℚ) → 0ℚ ≤ℚ c → c *ℚ t ≤ℚ x → u ≤ℚ t → c *ℚ u ≤ℚ x
 filled_by c x t u n h k = linear_le (c ∷ x ∷ t ∷ u ∷ []) (le_times n k ∷ le h ∷ []) (search reading_of depth 12) tt
 
@@ -107,7 +107,7 @@ IsFilled-fills capacity x t f = (f.0, f.1, ≤ℚ_of_same _ _ (sym f.2))
 pub capped-fills : (capacity : Option ℚ) (x t u : ℚ) → IsPositive capacity → Fills capacity x t → u ≤ℚ t → Fills capacity (capped capacity x u) u
 capped-fills capacity x t u positive f k = Fills-filled capacity _ u (capped-at_most capacity x u) (capped-filled capacity x t u positive (IsFilled-fills capacity x t f) k)
 
--- so a flow that fits the slopes s and t, is cut to one that fits r and u
+-- So a flow that fits slopes s and t is cut to one that fits r and u.
 pub Fits-capped : (capacity : Option ℚ) (x s t r u : ℚ) → IsPositive capacity → Fits capacity x s t → 0ℚ ≤ℚ u → u ≤ℚ t → (x ≤ℚ 0ℚ) ⊎ (r ≤ℚ u) → (u ≤ℚ r) ⊎ IsFilled capacity x t
     → Fits capacity (capped capacity x u) r u
 Fits-capped capacity x s t r u positive fits n k used upper = record {
@@ -133,7 +133,7 @@ fits_least capacity x s t positive fits = ⊎_elim
 pub fits_used : (capacity : Option ℚ) (x s t : ℚ) → Fits capacity x s t → 0ℚ <ℚ x → s ≤ℚ t
 fits_used capacity x s t fits h = ⊎_elim (λ (k : x ≤ℚ 0ℚ). absurd (not_both_ℚ _ _ h k)) (λ (k : s ≤ℚ t). k) fits.used
 
--- ---- slopes that fall by h or not at all keep their order, for small h
+-- ---- slopes that fall by h, or stay, keep their order for small h
 pub ordered-low : (s t r u h : ℚ) → s ≤ℚ t → r ≤ℚ s → (u ≡ t) ⊎ ((u ≡ t -ℚ h) × ((s <ℚ t → h ≤ℚ t -ℚ s) × (s ≡ t → r ≡ s -ℚ h))) → r ≤ℚ u
 ordered-low s t r u h l k (inl e) = linear_le (s ∷ t ∷ r ∷ u ∷ []) (le l ∷ le k ∷ eq e ∷ []) (search reading_of depth 12) tt
 ordered-low s t r u h l k (inr w) = ⊎_elim

@@ -1,4 +1,4 @@
--- From flows that send out least from the source, pushes lead to such whose nodes with something to spare are closed.
+-- Pushes: starting with flows that send the least out of the source, they end with flows whose nodes with excess are closed.
 use Rattle.std.proofs.Common.{◌≡◌, ◌≢◌, ℕ, zero, suc, ◌<◌, ◌≤◌, [], ◌∷◌, ◌⊎◌, inl, inr, ⊎_elim, Option, Some, None, sym, subst, refl, ◌∙◌, arith}
 use Rattle.std.proofs.lemmas.Option.{none-some, same_Some}
 use Rattle.nf_rational.specs.Rational.{ℚ}
@@ -25,7 +25,7 @@ use Rattle.nf_existence_laws.proofs.Lowering.{IsClosed}
 use Rattle.nf_existence_laws.proofs.Pushing.{pushed, out-here, out-else, spare-else, spare-head, spare-tail, IsOversupply-pushed}
 use Rattle.nf_existence_laws.proofs.Counting.{lack, lack-le, lack-lt, count_to, count_to-lt}
 
--- ---- a part of two numbers above 0
+-- ---- a positive number, less than one number and at most another
 pub record IsPart (b x a : ℚ) : Type 0 where
   pub above : 0ℚ <ℚ a
   pub less : a <ℚ b
@@ -54,7 +54,7 @@ part_of b x h k =
     below : (y q : ℚ) → y ≤ℚ q → q <ℚ b → y <ℚ b
     below y q l m = linear_lt (y ∷ q ∷ b ∷ []) (le l ∷ lt m ∷ []) (search reading_of depth 12) tt
 
--- and of the room on a link
+-- The same for the room on a link.
 pub part_of_room : (capacity : Option ℚ) (x t b : ℚ) → 0ℚ <ℚ b → HasRoom capacity x t → (a : ℚ) × (0ℚ <ℚ a) × (a <ℚ b) × IsAtMost capacity (x +ℚ a) t
 part_of_room None x t b h r = let w : (q : ℚ) × (0ℚ <ℚ q) × (q <ℚ b) = half b h in (w.0, w.1, w.2, λ c e. absurd (none-some c e))
 part_of_room (Some c) x t b h r =
@@ -95,12 +95,12 @@ less_less s t a e = linear_eq (s ∷ t ∷ a ∷ []) (eq e ∷ []) (search readi
 no_less_than : (o q a : ℚ) → q ≡ o +ℚ (0ℚ -ℚ a) → o ≤ℚ q → 0ℚ <ℚ a → ⊥
 no_less_than o q a e h k = linear_false (o ∷ q ∷ a ∷ []) (eq e ∷ le h ∷ lt k ∷ []) (search reading_of depth 12) tt
 
--- ---- an oversupply with these slopes that sends out least from the source
+-- ---- an oversupply with these slopes that sends the least out of the source
 pub record IsLeastFlow (net : Network) (sets : Sets) (rate : ℚ) (slopes flows : ℕ → ℚ) : Type 0 where
   pub over : IsOversupply net sets rate flows slopes
   pub least : (other : ℕ → ℚ) → IsOversupply net sets rate other slopes → sum_out net.links flows net.source ≤ℚ sum_out net.links other net.source
 
--- one more node has something to spare
+-- One more node has excess.
 pub record Grows (net : Network) (sets : Sets) (rate : ℚ) (slopes flows : ℕ → ℚ) : Type 0 where
   pub new : ℕ → ℚ
   pub least_flow : IsLeastFlow net sets rate slopes new
@@ -128,7 +128,7 @@ module _ (net : Network) (sets : Sets) (rate : ℚ) (slopes : ℕ → ℚ) (good
       apart : link.head ≢ link.tail
       apart = ends_apart e link p needs.0
 
-      -- ---- a push of a from one node to another
+      -- ---- a push of the amount a from one node to another
       module _ (d : ℚ) (giver gainer : ℕ) (a : ℚ) (above : 0ℚ <ℚ a) (nn : 0ℚ ≤ℚ flows e +ℚ d) (most : IsAtMost link.capacity (flows e +ℚ d) (slopes link.head))
           (gives : spare net rate (pushed net rate flows e link p d) giver ≡ spare net rate flows giver -ℚ a) (has : HasSpare net rate flows giver) (less : a <ℚ spare net rate flows giver)
           (gains : spare net rate (pushed net rate flows e link p d) gainer ≡ spare net rate flows gainer +ℚ a) (is_node : gainer < net.nodes) (not_source : gainer ≢ net.source)
@@ -181,7 +181,7 @@ module _ (net : Network) (sets : Sets) (rate : ℚ) (slopes : ℕ → ℚ) (good
           a : ℚ
           a = part.0
 
-      -- ---- less flow into a node with something to spare
+      -- ---- less flow into a node with excess
       module _ (some : 0ℚ <ℚ flows e) (s : HasSpare net rate flows link.head) where
         part : (a : ℚ) × IsPart (spare net rate flows link.head) (flows e) a
         part = part_of (spare net rate flows link.head) (flows e) s.1 some
@@ -205,7 +205,7 @@ module _ (net : Network) (sets : Sets) (rate : ℚ) (slopes : ℕ → ℚ) (good
             (λ (k : v ≢ link.head). subst (λ (z : ℚ). 0ℚ ≤ℚ z) (sym (spare-else net rate flows e link p d v k (λ t. other (t ∙ at)))) (spare-not_negative v l other))
             (same_node v link.head)
 
-        -- the link is not one out of the source
+        -- The link does not leave the source.
         from_source : link.tail ≢ net.source
         from_source at = no_less_than (sum_out net.links flows net.source) _ a (out-here net rate flows e link p d net.source at)
             (f.least (pushed net rate flows e link p d) (IsOversupply-pushed net rate flows e link p d sets slopes f.over needs level less at_most (left at))) part.1.above
@@ -216,7 +216,7 @@ module _ (net : Network) (sets : Sets) (rate : ℚ) (slopes : ℕ → ℚ) (good
             (less_less _ _ a (spare-tail net rate flows e link p d apart)) (good.tails e link p) from_source none
             (λ v h t. spare-else net rate flows e link p d v h t) from_source
 
-    -- ---- a link along which can be pushed, or the nodes are closed
+    -- ---- a push is possible along some link, or the nodes with excess are closed
     abbrev Level : ℕ → Link → Type 0
     Level e link = NeedsState sets e × (slopes link.head ≡ slopes link.tail)
 
@@ -256,7 +256,7 @@ module _ (net : Network) (sets : Sets) (rate : ℚ) (slopes : ℕ → ℚ) (good
         (some_link net.links Back back_or_not))
         (some_link net.links Forth forth_or_not)
 
-  -- ---- until they are closed
+  -- ---- pushes until they are closed
   abbrev lacking : (ℕ → ℚ) → ℕ
   lacking flows = count_to net.nodes (λ v. lack (spare_or_not net rate flows v))
 

@@ -1,17 +1,17 @@
--- The least value that a number takes at the links with a property.
+-- The least value of a function on the links with a property.
 use Rattle.std.proofs.Common.{◌≡◌, ℕ, zero, suc, ◌<◌, ◌≤◌, List, [], ◌∷◌, ◌⊎◌, inl, inr, ⊎_elim, Some, slice_get, subst, refl, arith}
 use Rattle.std.proofs.lemmas.Bool.{cases_lt}
 use Rattle.std.proofs.lemmas.Option.{none-some, same_Some}
 use Rattle.nf_model.specs.Network.{Link}
 use Rattle.nf_complete_laws.proofs.Deciding.{NoLink}
 
--- what holds of the first link and of the others
+-- A property of the first link and of the others.
 pub each_of : (Q : ℕ → Link → Type 0) (l : Link) (links : List Link) → Q 0 l → ((e : ℕ) (link : Link) → slice_get links e ≡ Some link → Q (suc e) link)
     → (e : ℕ) (link : Link) → slice_get (l ∷ links) e ≡ Some link → Q e link
 each_of Q l links a b zero link p = subst (λ (m : Link). Q 0 m) (same_Some l link p) a
 each_of Q l links a b (suc e) link p = b e link p
 
--- a link with the property at which f is least
+-- A link with the property and the least value of f.
 abbrev pub LeastLink : List Link → (ℕ → Link → Type 0) → (ℕ → Link → ℕ) → Type 0
 LeastLink links P f = (e : ℕ) × (link : Link) × (slice_get links e ≡ Some link) × P e link × ((k : ℕ) (other : Link) → slice_get links k ≡ Some other → P k other → f e link ≤ f k other)
 
@@ -41,7 +41,7 @@ value_of links P f d (inl w) = f w.0 w.1
 value_of links P f d (inr n) = d
 
 module _ (links : List Link) (P : ℕ → Link → Type 0) (test : (e : ℕ) (link : Link) → P e link ⊎ (P e link → ⊥)) where
-  -- the least value of f, and d where there is none
+  -- The least value of f, or d if no link has the property.
   abbrev pub least_of : ℕ → (ℕ → Link → ℕ) → ℕ
   least_of d f = value_of links P f d (least_or_none links P f test)
 

@@ -1,5 +1,4 @@
--- Where the nodes with something to spare are closed, the slopes of all of them can be lowered: an oversupply with a lesser sum of
--- slopes.
+-- If the nodes with excess are closed, the slopes of all of them can be lowered. The result is an oversupply with a smaller sum of slopes.
 use Rattle.std.proofs.Common.{◌≡◌, ◌≢◌, ℕ, zero, suc, ◌<◌, [], ◌∷◌, ◌⊎◌, inl, inr, ⊎_elim, Option, Some, None, slice_get, unwrap_or, sym, ap, subst, refl, ◌∙◌, arith}
 use Rattle.std.proofs.lemmas.Option.{none-some}
 use Rattle.nf_rational.specs.Rational.{ℚ}
@@ -27,7 +26,7 @@ use Rattle.nf_existence_laws.proofs.LinkSums.{sum_in-not_negative}
 use Rattle.nf_existence_laws.proofs.Fitting.{IsAtMost, IsFilled, HasRoom, filled_or_room, capped, capped-le, capped-same, capped-none, capped-near, capped-fills, Fits-capped, fits_used, ordered-low}
 use Rattle.nf_existence_laws.proofs.Spare.{spare, HasSpare, spare_or_not, kind_of, at_most, spare-brings}
 
--- ---- sums of numbers of which none grows and one falls
+-- ---- sums of numbers of which none grows and at least one falls
 pub sum_to-le : (n : ℕ) (f g : ℕ → ℚ) → ((k : ℕ) → k < n → f k ≤ℚ g k) → sum_to n f ≤ℚ sum_to n g
 sum_to-le zero f g h = ≤ℚ_refl 0ℚ
 sum_to-le (suc n) f g h = add (sum_to n f) (sum_to n g) (f n) (g n) (sum_to-le n f g (λ k l. h k (omega arith))) (h n (omega arith))
@@ -48,7 +47,7 @@ sum_to-lt (suc n) f g h v l k = ⊎_elim
     right : (a b c d : ℚ) → a ≤ℚ b → c <ℚ d → a +ℚ c <ℚ b +ℚ d
     right a b c d p q = linear_lt (a ∷ b ∷ c ∷ d ∷ []) (le p ∷ lt q ∷ []) (search reading_of depth 12) tt
 
--- ---- less by h, where something holds
+-- ---- a number lowered by h, if a property holds
 abbrev pub low_by : {A : Type 0} → Decided A → ℚ → ℚ → ℚ
 low_by (inl a) h x = x -ℚ h
 low_by (inr n) h x = x
@@ -73,8 +72,8 @@ pub low_by-not : {A : Type 0} (d : Decided A) (h x : ℚ) → (A → ⊥) → lo
 low_by-not (inl a) h x n = absurd (n a)
 low_by-not (inr m) h x n = refl
 
--- ---- Nodes with something to spare are closed: where slopes are equal, a link with room leads from one of them to another, and a
--- link with flow to one of them comes from another.
+-- ---- The nodes with excess are closed: if slopes are equal, a link with room from such a node leads to such a node,
+-- and a link with flow into such a node comes from such a node.
 pub record IsClosed (net : Network) (sets : Sets) (rate : ℚ) (flows slopes : ℕ → ℚ) : Type 0 where
   pub forth : (e : ℕ) (link : Link) → IsLink net e link → NeedsState sets e → slopes link.head ≡ slopes link.tail → HasRoom link.capacity (flows e) (slopes link.head)
       → HasSpare net rate flows link.tail → HasSpare net rate flows link.head
@@ -95,7 +94,7 @@ unwrapped-not_negative (Some c) positive = ≤ℚ_of_lt _ _ (positive c refl)
 capacity_at-not_negative : (net : Network) → IsNetwork net → (e : ℕ) (link : Link) → IsLink net e link → 0ℚ ≤ℚ capacity_at net e
 capacity_at-not_negative net good e link p = subst (λ (o : Option Link). 0ℚ ≤ℚ capacity_by o) (sym p) (unwrapped-not_negative link.capacity (IsPositive-link net e link good p))
 
--- what is asked of h
+-- The conditions on h.
 pub record IsSmall (net : Network) (rate : ℚ) (flows slopes : ℕ → ℚ) (h : ℚ) : Type 0 where
   pub rising : (e : ℕ) (link : Link) → IsLink net e link → slopes link.tail <ℚ slopes link.head → h ≤ℚ slopes link.head -ℚ slopes link.tail
   pub falling : (e : ℕ) (link : Link) → IsLink net e link → slopes link.head <ℚ slopes link.tail → h ≤ℚ slopes link.tail -ℚ slopes link.head
@@ -122,7 +121,7 @@ module _ (net : Network) (sets : Sets) (rate : ℚ) (flows slopes : ℕ → ℚ)
   idle_none : (e : ℕ) (link : Link) → IsLink net e link → (Has sets.active e → ⊥) → 0ℚ <ℚ flows e → ⊥
   idle_none e link p none some = not_both_ℚ _ _ some (≤ℚ_of_same _ _ (over.inactive e link p none))
 
-  -- ---- the slopes of nodes with something to spare are above 0
+  -- ---- the slopes of nodes with excess are greater than 0
   abbrev Flat : ℕ → Type 0
   Flat v = Spares v × (slopes v ≤ℚ 0ℚ)
 
@@ -164,7 +163,7 @@ module _ (net : Network) (sets : Sets) (rate : ℚ) (flows slopes : ℕ → ℚ)
       (λ (k : slopes v ≤ℚ 0ℚ). absurd (none_first net sets good acyclic Flat flat_back v h (s, k)))
       (lt_or_le_ℚ 0ℚ (slopes v))
 
-  -- ---- all small numbers do
+  -- ---- all sufficiently small numbers satisfy the conditions
   abbrev Rising : ℚ → Type 0
   Rising h = (e : ℕ) (link : Link) → IsLink net e link → slopes link.tail <ℚ slopes link.head → h ≤ℚ slopes link.head -ℚ slopes link.tail
 
@@ -197,7 +196,7 @@ module _ (net : Network) (sets : Sets) (rate : ℚ) (flows slopes : ℕ → ℚ)
       (λ h w. record { rising = w.0.0; falling = w.0.1; above = w.1.0; paid = w.1.1 })
       (Small-both (λ h. Rising h × Falling h) (λ h. Above h × Paid h) (Small-both Rising Falling rising falling) (Small-both Above Paid above paid))
 
-  -- ---- lowered by h
+  -- ---- slopes lowered by h
   module _ (h : ℚ) (n : 0ℚ ≤ℚ h) (is_small : IsSmall net rate flows slopes h) where
     abbrev pub lowered : ℕ → ℚ
     lowered v = low_by (spare_or_not net rate flows v) h (slopes v)
@@ -236,7 +235,7 @@ module _ (net : Network) (sets : Sets) (rate : ℚ) (flows slopes : ℕ → ℚ)
         left : (x y : ℚ) → y ≡ x -ℚ h → h ≤ℚ x → 0ℚ ≤ℚ y
         left x y e k = linear_le (x ∷ y ∷ h ∷ []) (eq e ∷ le k ∷ []) (search reading_of depth 12) tt
 
-    -- slopes keep their order along a link with flow, and against one with room
+    -- Slopes keep their order along a link with flow, and against a link with room.
     rises : (e : ℕ) (link : Link) → IsLink net e link → NeedsState sets e → 0ℚ <ℚ flows e → lowered link.tail ≤ℚ lowered link.head
     rises e link p m some = ordered-low (slopes link.tail) (slopes link.head) (lowered link.tail) (lowered link.head) h (fits_used link.capacity _ _ _ (fits_of e link p m) some) (lowered-le link.tail)
         (⊎_elim
@@ -273,7 +272,7 @@ module _ (net : Network) (sets : Sets) (rate : ℚ) (flows slopes : ℕ → ℚ)
             (λ (r : HasRoom link.capacity (flows e) (slopes link.head)). inl (falls e link p m r))
             (filled_or_room link.capacity (flows e) (slopes link.head))
 
-    -- ---- flows fall, by little, and only on links into nodes with something to spare
+    -- ---- flows fall by little, and only on links into nodes with excess
     new-le : (e : ℕ) (link : Link) → IsLink net e link → new e ≤ℚ flows e
     new-le e link p = subst (λ (x : ℚ). x ≤ℚ flows e) (sym (new-is e link p)) (capped-le link.capacity (flows e) (lowered link.head))
 
@@ -299,7 +298,7 @@ module _ (net : Network) (sets : Sets) (rate : ℚ) (flows slopes : ℕ → ℚ)
         (sum_in-same net.links new flows v (λ e link p at. new-same e link p (λ k. s (subst Spares at k)))) (over.enough v l other))
         (spare_or_not net rate flows v)
 
-    -- ---- each node is led
+    -- ---- each node is still entered
     abbrev Led : ℕ → Type 0
     Led v = (e : ℕ) × (link : Link) × Enters net sets v e link × (Has sets.resetting e ⊎ (lowered link.tail ≤ℚ lowered link.head))
 
@@ -346,7 +345,7 @@ module _ (net : Network) (sets : Sets) (rate : ℚ) (flows slopes : ℕ → ℚ)
         less : (x y : ℚ) → y ≡ x -ℚ h → y <ℚ x
         less x y e = linear_lt (x ∷ y ∷ h ∷ []) (eq e ∷ lt k ∷ []) (search reading_of depth 12) tt
 
-  -- where a node has something to spare, there is an oversupply with a lesser sum of slopes
+  -- If a node has excess, there is an oversupply with a smaller sum of slopes.
   pub lower : (v : ℕ) → v < net.nodes → HasSpare net rate flows v
       → (new_flows : ℕ → ℚ) × (new_slopes : ℕ → ℚ) × IsOversupply net sets rate new_flows new_slopes × (sum_to net.nodes new_slopes <ℚ sum_to net.nodes slopes)
   lower v l s =

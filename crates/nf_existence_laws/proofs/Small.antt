@@ -1,4 +1,4 @@
--- What holds of all numbers, not negative, that are small enough.
+-- Properties of all sufficiently small numbers that are not negative.
 use Rattle.std.proofs.Common.{◌≡◌, ℕ, zero, suc, ◌<◌, List, [], ◌∷◌, ⊎_elim, Some, slice_get, sym, subst, arith}
 use Rattle.std.proofs.lemmas.Option.{none-some}
 use Rattle.nf_rational.specs.Rational.{ℚ}
@@ -16,7 +16,7 @@ use Rattle.nf_existence_laws.proofs.LeastLinks.{each_of}
 use Rattle.nf_complete_laws.proofs.Deciding.{Decided}
 use Rattle.nf_existence_laws.proofs.Deciding.{less_or_not}
 
--- ---- small enough
+-- ---- sufficiently small numbers
 pub record Small (P : ℚ → Type 0) : Type 0 where
   pub bound : ℚ
   pub positive : 0ℚ <ℚ bound
@@ -44,7 +44,7 @@ Small-when A P d f = ⊎_elim
 pub Small-at_most : (a : ℚ) → 0ℚ <ℚ a → Small (λ h. h ≤ℚ a)
 Small-at_most a p = record { bound = a; positive = p; holds = λ h n k. k }
 
--- at most the gap of two numbers, where there is one
+-- At most the gap between two numbers, if there is one.
 pub Small-apart : (s t : ℚ) → Small (λ h. s <ℚ t → h ≤ℚ t -ℚ s)
 Small-apart s t = Small-when (s <ℚ t) (λ h. h ≤ℚ t -ℚ s) (less_or_not s t) (λ l. Small-at_most (t -ℚ s) (linear_lt (s ∷ t ∷ []) (lt l ∷ []) (search reading_of depth 12) tt))
 

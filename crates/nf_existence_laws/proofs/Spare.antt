@@ -1,4 +1,4 @@
--- What an oversupply leaves at a node, and what it says of links.
+-- The excess of a node in an oversupply, its inflow less its outflow and demand; and properties of the links.
 use Rattle.std.proofs.Common.{◌≢◌, ℕ, ◌==◌, if◌then◌else◌, Bool, true, false, [], ◌∷◌, ◌⊎◌, inl, inr, ⊎_elim, sym}
 use Rattle.nf_rational.specs.Rational.{ℚ}
 use Rattle.nf_rational.specs.Operations.{0ℚ, ◌+ℚ◌, ◌-ℚ◌}
@@ -23,7 +23,7 @@ use Rattle.nf_existence_laws.proofs.Fitting.{IsAtMost, IsAtMost-fills, IsAtMost-
 abbrev pub spare : Network → ℚ → (ℕ → ℚ) → ℕ → ℚ
 spare net rate flows v = sum_in net.links flows v -ℚ (sum_out net.links flows v +ℚ demand net rate v)
 
--- a node other than the source that has something to spare
+-- A node other than the source with positive excess.
 abbrev pub HasSpare : Network → ℚ → (ℕ → ℚ) → ℕ → Type 0
 HasSpare net rate flows v = (v ≢ net.source) × (0ℚ <ℚ spare net rate flows v)
 
@@ -43,7 +43,7 @@ demand-not_negative net rate v n = by_sink (v == net.sink)
     by_sink true = n
     by_sink false = ≤ℚ_refl 0ℚ
 
--- a link is resetting, or has a state, or is not active
+-- A link is resetting, needs a state, or is not active.
 pub kind_of : (sets : Sets) (e : ℕ) → Has sets.resetting e ⊎ (NeedsState sets e ⊎ (Has sets.active e → ⊥))
 kind_of sets e = ⊎_elim
     (λ (r : Has sets.resetting e). inl r)
@@ -72,7 +72,7 @@ module _ (net : Network) (sets : Sets) (rate : ℚ) (flows slopes : ℕ → ℚ)
       o)
       (kind_of sets e)
 
-  -- something comes into a node with something to spare
+  -- A node with excess has an inflow.
   pub spare-brings : 0ℚ ≤ℚ rate → (v : ℕ) → 0ℚ <ℚ spare net rate flows v → HasIn net.links flows v
   spare-brings n v h = sum_in-some net.links flows v (some _ _ _ (sum_out-not_negative net.links flows v not_negative) (demand-not_negative net rate v n) h)
     where

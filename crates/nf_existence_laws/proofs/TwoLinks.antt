@@ -19,7 +19,7 @@ use Rattle.nf_existence_laws.specs.Oversupply.{ResetsAreBounded}
 use Rattle.nf_existence_laws.specs.ExistenceLaws.{ThinFlowExists}
 use Rattle.nf_existence_laws.specs.TwoLinks.{bounded_link, unbounded_link, two_links, queue_labels, queue_sets, TwoLinksHaveThinFlow}
 
--- what is said of both links is said of each
+-- A property of both links is a property of each link.
 by_link : (P : ℕ → Link → Type 0) (e : ℕ) (link : Link) → IsLink two_links e link → P 0 bounded_link → P 1 unbounded_link → P e link
 by_link P zero link p a b = subst (λ (l : Link). P 0 l) (same_Some bounded_link link p) a
 by_link P (suc zero) link p a b = subst (λ (l : Link). P 1 l) (same_Some unbounded_link link p) b
@@ -28,7 +28,7 @@ by_link P (suc (suc e)) link p a b = absurd (none-some link p)
 zero_one : {X : Type 0} → ◌≡◌ {A = ℕ} zero (suc zero) → X
 zero_one e = absurd (cc)
 
--- both lead from 0 to 1
+-- Both links lead from 0 to 1.
 ends_of : (e : ℕ) (hop : Hop) → IsHop (hops two_links) e hop → (0 ≡ hop.tail) × (hop.head ≡ 1)
 ends_of zero hop p = let s : hop_of bounded_link ≡ hop = same_Some _ hop p in (ap (λ (h : Hop). h.tail) s, sym (ap (λ (h : Hop). h.head) s))
 ends_of (suc zero) hop p = let s : hop_of unbounded_link ≡ hop = same_Some _ hop p in (ap (λ (h : Hop). h.tail) s, sym (ap (λ (h : Hop). h.head) s))

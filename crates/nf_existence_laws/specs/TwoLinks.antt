@@ -1,4 +1,4 @@
--- Two links from source to sink, with labels at which a queue stands on the one, and nothing waits on the other, which is unbounded.
+-- Two links from source to sink. The labels give one a queue, and nothing waits on the other, which is unbounded.
 use Rattle.std.specs.Prelude.{List, [], ◌∷◌, Some, None}
 use Rattle.nf_rational.specs.Rational.{ℚ}
 use Rattle.nf_rational.specs.Operations.{0ℚ, 1ℚ}
@@ -18,14 +18,14 @@ unbounded_link = record { tail = 0; head = 1; transit = 1ℚ; capacity = None }
 abbrev pub two_links : Network
 two_links = record { nodes = 2; source = 0; sink = 1; links = bounded_link ∷ unbounded_link ∷ []; pieces = [] }
 
--- who departs at time 0 waits for 1 at the bounded link, and takes as long on the unbounded one
+-- A driver who departs at time 0 waits for 1 at the bounded link, and takes equally long on the unbounded link.
 abbrev pub queue_labels : List ℚ
 queue_labels = 0ℚ ∷ 1ℚ ∷ []
 
 abbrev pub queue_sets : Sets
 queue_sets = sets_at two_links queue_labels
 
--- so the premises of existence are met with a resetting link and with an unbounded one, and there is a thin flow for each rate
+-- The premises of existence have a member with a resetting link and an unbounded link, and there is a thin flow for each rate.
 pub record TwoLinksHaveThinFlow : Type 0 where
   pub resetting : Has queue_sets.resetting 0
   pub unbounded : Has queue_sets.active 1

@@ -1,4 +1,4 @@
--- A pattern in which one link goes over to another state.
+-- A pattern in which one link changes its state.
 use Rattle.std.proofs.Common.{◌≡◌, ◌≢◌, ⊎_elim, ℕ, zero, suc, ◌<◌, Bool, true, false, List, [], ◌∷◌, length, length-set, set, eqb, refl, sym, ap, subst, ◌∙◌, arith}
 use Rattle.std.specs.Prelude.{Option, Some, None, is_none, IsSome, slice_get}
 use Rattle.std.specs.Option.{option_map}
@@ -65,7 +65,7 @@ module _ (sets : Sets) (flags : List Bool) (pattern : Pattern) (is : IsPattern s
   pub still_pattern : IsPattern sets flags changed
   still_pattern = record { count = length-set pattern e (Some new) ∙ is.count; states = λ k. (state_after k, need_before k); no_full = none_full }
 
--- a link with a state goes over to one that it may be in
+-- A link with a state changes to another state that it may have.
 pub IsPatternIn-changed : (net : Network) (sets : Sets) (pattern : Pattern) (e : ℕ) (link : Link) (old : Option State) (new : State) → IsPatternIn net sets pattern → IsLink net e link
     → slice_get pattern e ≡ Some old → is_none old ≡ false → (new ≡ Full → IsSome link.capacity) → IsPatternIn net sets (set pattern e (Some new))
 IsPatternIn-changed net sets pattern e link None new p is at some fits = absurd (cc)

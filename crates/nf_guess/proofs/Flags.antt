@@ -6,6 +6,6 @@ turned : (b : Bool) → not (not b) ≡ b
 turned true = refl
 turned false = refl
 
--- the flag of where there is none, as that of a link without a capacity
+-- The flag of a missing entry is that of a link without a capacity.
 pub none_flag : {A : Type 0} (o p : Option A) (b : Bool) → o ≡ p → is_some o ≡ not b → is_none p ≡ b
 none_flag {A = A} o p b same e = ap is_none (sym same) ∙ (ap not e ∙ turned b)

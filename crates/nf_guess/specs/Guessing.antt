@@ -1,4 +1,4 @@
--- What a guess comes to.
+-- The result of a guess.
 use Rattle.nf_rational.specs.Rational.{ℚ}
 use Rattle.nf_work.specs.Passing.{Passing}
 use Rattle.nf_model.specs.Network.{Network}
@@ -7,7 +7,7 @@ use Rattle.nf_equation_laws.specs.Equations.{IsPatternIn}
 use Rattle.nf_guess.specs.declared.guessing.SolvedPattern.{SolvedPattern}
 use Rattle.nf_one_pattern.specs.Trying.{AreValuesOf}
 
--- a pattern with the values that solve its table
+-- A pattern, with the values that solve its table.
 pub record IsSolved (passes : Passing) (net : Network) (sets : Sets) (rate : ℚ) (solved : SolvedPattern) : Type 0 where
   pub pattern_in : IsPatternIn net sets solved.pattern
   pub values_are : AreValuesOf passes net sets rate solved.pattern solved.values.items

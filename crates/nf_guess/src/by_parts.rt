@@ -1,5 +1,5 @@
-// The values that solve the table of a pattern, without that table: the slopes from a table of one equation for each part of the
-// network that Tight links join, and then the flows. Nothing rests on them, since only a guess asks.
+// The values that solve a pattern's table, found without that table: slopes from one equation for each Tight component, then flows. No
+// contract depends on these values, since a guess is judged like any other pattern.
 ghost use Rattle.std.specs.Prelude.{◌≡◌, length};
 
 use crate::part_slopes::part_slopes;
@@ -10,7 +10,7 @@ use nf_net::Network;
 use nf_pattern::Pattern;
 use std::alloc::{AllocError, Global};
 
-// The slopes of the nodes, and then the flows of the active links.
+// Returns the slopes of the nodes, and after them the flows of the active links, or `None`.
 fn slopes_and_flows(
     alloc: Global,
     net: &Network,
@@ -27,8 +27,9 @@ fn slopes_and_flows(
     }
 }
 
-/// The values that solve the table of a pattern: the slopes of the nodes, in node order, and the flows of the active links, in link
-/// order. None where not just one does, or an operation passes. None of this is promised by a clause.
+/// Returns the values that solve a pattern's table: slopes in node order, and then flows of active links in link order. Flows are amounts
+/// per unit of time. Returns `None` if the table does not have exactly one solution, or an operation passes. No contract promises this.
+/// Fails if an allocation fails.
 pub fn part_values(
     alloc: Global,
     net: &Network,

@@ -1,10 +1,10 @@
-// A forest of links, and walks along it, each link forward and backward: one hand on the wall. Nothing rests on it, since only a guess
-// asks.
+// A forest of links, and its traversal, which crosses each link in both directions. No contract depends on it, since a guess is judged like
+// any other pattern.
 
 use nf_graph::NodeId;
 use std::alloc::{AllocError, Global};
 
-// A link of the forest, and which one was before it at its tail and at its head.
+// A link of the forest, with the branch before it at its tail and at its head.
 #[derive(Clone, Copy)]
 struct Branch {
     tail: NodeId,
@@ -13,14 +13,15 @@ struct Branch {
     before_at_head: Option<usize>,
 }
 
-// Where a walk is: at a node, with the branch to go on by. With none, the branches of the node are gone through.
+// The position of a traversal: a node, and the branch to cross next. `None` ends the node's chain of branches: `step` restarts it, or ends
+// the traversal at its start node.
 #[derive(Clone, Copy)]
 struct Place {
     node: NodeId,
     branch: Option<usize>,
 }
 
-/// Links that close no cycle, one after the other, and the last one at each node.
+/// A forest of links, in the order in which they were added, with the last branch at each node.
 #[derive(Drop)]
 pub struct Forest {
     branches: Vec<Branch>,
@@ -28,7 +29,7 @@ pub struct Forest {
 }
 
 impl Forest {
-    /// No link between these nodes.
+    /// Returns a forest without links between these nodes. Fails if an allocation fails.
     pub(crate) fn new(alloc: Global, nodes: u32) -> Result<Forest, AllocError> {
         let last = vec![in alloc; None; nodes as usize]?;
         Ok(Forest {
@@ -37,7 +38,7 @@ impl Forest {
         })
     }
 
-    // Where a walk from this node begins, and where the branches of the node are begun anew.
+    // Returns the position at a node with the last branch there, at which the node's chain starts.
     fn place_at(&self, node: NodeId) -> Place {
         let branch = if node.index() < self.last.len() {
             self.last[node.index()]
@@ -47,7 +48,7 @@ impl Forest {
         Place { node, branch }
     }
 
-    // From a node over a branch, and on to the branch before it at the node there.
+    // Crosses a branch from a node. Returns the node at its other end, with the branch before this one there.
     fn cross(&self, node: NodeId, number: usize) -> Place {
         if number >= self.branches.len() {
             return Place { node, branch: None };
@@ -66,7 +67,7 @@ impl Forest {
         }
     }
 
-    // One step of a walk; None at its end, where all branches of the start are gone through.
+    // Makes one step of a traversal. Returns `None` at its end: at the start node, after all its branches.
     fn step(&self, start: NodeId, place: Place) -> Option<Place> {
         match place.branch {
             Some(number) => Some(self.cross(place.node, number)),
@@ -79,13 +80,14 @@ impl Forest {
         }
     }
 
-    // How many steps a walk has at most: it crosses each branch twice, and begins those of each node once.
+    // Returns the most steps of a traversal, which crosses each branch twice and restarts each node's chain once.
     fn most_steps(&self) -> usize {
         let crossings = self.branches.len().saturating_mul(2);
         crossings.saturating_add(self.last.len())
     }
 
-    // Whether it joins two nodes: walks from both in turn, until one is at its end or comes to the other's start.
+    // Returns whether the forest joins two nodes. Two traversals alternate, one from each node, until one ends or reaches the start of the
+    // other.
     fn joins(&self, tail: NodeId, head: NodeId) -> bool {
         if tail == head {
             return true;
@@ -108,14 +110,14 @@ impl Forest {
         true
     }
 
-    // The branch of this number is the last one at the node.
+    // Sets the last branch at a node.
     fn set_last(&mut self, node: NodeId, number: usize) {
         if node.index() < self.last.len() {
             self.last[node.index()] = Some(number);
         }
     }
 
-    /// A link between these nodes more, unless it closes a cycle; whether it closes none.
+    /// Adds a link between two nodes unless it closes a cycle. Returns whether it closes none. Fails if an allocation fails.
     pub fn grow(&mut self, tail: NodeId, head: NodeId) -> Result<bool, AllocError> {
         if self.joins(tail, head) {
             return Ok(false);
@@ -133,7 +135,7 @@ impl Forest {
         Ok(true)
     }
 
-    /// The nodes that are joined with this one, it too, get this number.
+    /// Gives a number to the start node and all nodes joined with it.
     pub(crate) fn give_number(&self, start: NodeId, number: u32, numbers: &mut [Option<u32>]) {
         let mut place = self.place_at(start);
         for _ in 0..=self.most_steps() {

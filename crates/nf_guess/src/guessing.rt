@@ -1,5 +1,5 @@
-// A guess of a pattern that is accepted: a first pattern is repaired until no link breaks its inequality. Nothing rests on it, since
-// what it comes to is judged like any other.
+// A guess of an accepted pattern: a first pattern is repaired until no link violates its inequality. No contract depends on the guess,
+// since it is judged like any other pattern.
 ghost use Rattle.std.specs.Prelude.{IfOk, IfSome};
 ghost use Rattle.nf_work.specs.Passing.{passes_Q};
 ghost use Rattle.nf_equation_laws.specs.Equations.{IsPatternIn};
@@ -16,20 +16,21 @@ use nf_one_pattern::pattern_values;
 use nf_pattern::Pattern;
 use std::alloc::{AllocError, Global};
 
-/// A pattern, and the values that solve its table: the slopes of the nodes, in node order, and the flows of the active links, in link
-/// order, amounts per unit of time.
+/// A pattern, with the values that solve its table: slopes in node order, and then flows of active links in link order. Flows are amounts
+/// per unit of time.
 #[derive(Drop)]
 pub struct SolvedPattern {
     pub pattern: Pattern,
     pub values: Vec<Q>,
 }
 
-// How often a pattern is repaired at most: mostly a few times, and where links are many and alike, twice for each of them.
+// Returns the most repairs of a pattern. A few usually suffice, and many similar links need up to two repairs each.
 fn most_repairs(net: &Network) -> u32 {
     net.link_count().saturating_mul(3).saturating_add(64)
 }
 
-// The values that solve the table of a pattern. None where not just one does, or an operation passes.
+// Returns the values that solve a pattern's table. Returns `None` if there is not exactly one solution, or an operation passes. Fails if an
+// allocation fails.
 fn values_of(
     alloc: Global,
     net: &Network,
@@ -47,7 +48,8 @@ fn values_of(
     }
 }
 
-// The pattern with the values that solve its table, if just one does and no operation passes.
+// Returns the pattern with the values that solve its table. Returns `None` if there is not exactly one solution, or an operation passes.
+// Fails if an allocation fails.
 fn solved_pattern(
     alloc: Global,
     net: &Network,
@@ -64,8 +66,8 @@ fn solved_pattern(
     }
 }
 
-// The pattern is repaired until no link breaks its inequality; the values that it has then. None where that comes to no end, not just
-// one vector of values solves the table, or an operation passes.
+// Repairs the pattern until no link violates its inequality, and returns its values then. Returns `None` if the repairs do not end, the
+// table does not have exactly one solution, or an operation passes.
 fn repaired(
     alloc: Global,
     net: &Network,
@@ -87,8 +89,9 @@ fn repaired(
     Ok(None)
 }
 
-/// What repairs of a pattern come to, with the values that solve its table. None where they come to no end, not just one vector of values
-/// solves the table, or an operation of it passes. The values that repairs go by on their way are found without a table.
+/// Guesses an accepted pattern by repairs of `first`, and returns it with the values that solve its table. `rate` is the supply, an amount
+/// per unit of time. The values on the way are found without a table. Returns `None` if the repairs do not end, a table does not have
+/// exactly one solution, or an operation passes. Fails if an allocation fails.
 pub fn guess(
     alloc: Global,
     net: &Network,

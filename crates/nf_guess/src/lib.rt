@@ -1,6 +1,6 @@
-//! A guess of a pattern that is accepted. It is promised that the values with it solve the pattern's table, and nothing else: who asks
-//! judges it like any other pattern. On its way it goes by values that are found without a table, of which nothing is promised: slopes by
-//! the parts of the network that Tight links join, and the flows of these links along their forest.
+//! A guess of an accepted pattern. The contract promises only that its values solve the pattern's table. Callers judge the guess like any
+//! other pattern. The values on the way are found without a table, and no contract promises anything of them. Slopes come from the Tight
+//! components of the network, and flows of Tight links from their forest.
 #![tactic(auto)]
 
 mod by_parts;

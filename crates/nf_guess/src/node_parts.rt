@@ -1,4 +1,4 @@
-// The parts of the network that the Tight links of a pattern join, and their numbers.
+// The Tight components of a network: the sets of nodes that Tight links join, and their numbers.
 ghost use Rattle.std.specs.Prelude.{◌≡◌, ◌<◌, length};
 
 use crate::forest::Forest;
@@ -8,7 +8,7 @@ use nf_net::Network;
 use nf_pattern::Pattern;
 use std::alloc::{AllocError, Global};
 
-/// The state of a link, where one that is resetting counts as Full; none where it isn't active.
+/// Returns the state of an active link, where a resetting link counts as Full. Returns `None` if the link is not active.
 pub(crate) fn state_in(sets: &LinkSets, pattern: &Pattern, link: LinkId) -> Option<State>
     requires sets { link < length sets.now.active }
     requires states { link < length pattern.now }
@@ -22,7 +22,7 @@ pub(crate) fn state_in(sets: &LinkSets, pattern: &Pattern, link: LinkId) -> Opti
     }
 }
 
-/// The Tight links; None where they close a cycle.
+/// Returns the forest of the Tight links, or `None` if they close a cycle. Fails if an allocation fails.
 pub fn tight_forest(
     alloc: Global,
     net: &Network,
@@ -44,12 +44,13 @@ pub fn tight_forest(
     Ok(Some(forest))
 }
 
-// The node has a number.
+// Returns whether the node has a number.
 fn has_number(numbers: &[Option<u32>], node: NodeId) -> bool {
     node.index() < numbers.len() && numbers[node.index()].is_some()
 }
 
-/// The number of each node's part, and how many parts there are. That of the source has number 0, and the others follow in node order.
+/// The Tight components: each node's component number, and the number of components. The component of the source has number 0, and the
+/// others follow in node order.
 #[derive(Drop)]
 pub(crate) struct Parts {
     numbers: Vec<Option<u32>>,
@@ -57,7 +58,7 @@ pub(crate) struct Parts {
 }
 
 impl Parts {
-    /// The parts that the links of a forest join.
+    /// Returns the components that the links of a forest join. Fails if an allocation fails.
     pub(crate) fn new(alloc: Global, net: &Network, forest: &Forest) -> Result<Parts, AllocError> {
         let mut numbers = vec![in alloc; None; net.node_count() as usize]?;
         forest.give_number(net.source(), 0, &mut numbers);
@@ -71,7 +72,7 @@ impl Parts {
         Ok(Parts { numbers, count })
     }
 
-    /// The number of a node's part.
+    /// Returns the number of a node's component.
     pub(crate) fn number(&self, node: NodeId) -> u32 {
         if node.index() < self.numbers.len() {
             self.numbers[node.index()].unwrap_or(self.count)

@@ -1,7 +1,7 @@
-// Numbers at places of a list, which may lie beyond its end: what is read there is 0, and what is written there is left.
+// Access to a list of numbers by an index that may be beyond its end. A read there gives 0, and a write does nothing.
 use nf_frac::{Halt, Part, Q, at};
 
-/// The number at a place, and 0 beyond the last.
+/// Returns the number at an index, or 0 beyond the end.
 pub fn number_or_zero(numbers: &[Q], place: usize) -> Q {
     if place < numbers.len() {
         numbers[place]
@@ -10,7 +10,7 @@ pub fn number_or_zero(numbers: &[Q], place: usize) -> Q {
     }
 }
 
-/// A number is added to that at a place, if there is such a place.
+/// Adds a number to the entry at an index, or does nothing beyond the end. Refuses if the sum passes.
 pub(crate) fn add_at(numbers: &mut [Q], place: usize, number: Q) -> Result<(), Halt<Q>> {
     if place < numbers.len() {
         let sum = at!(Part::Table, numbers[place].sum(number));
@@ -19,7 +19,7 @@ pub(crate) fn add_at(numbers: &mut [Q], place: usize, number: Q) -> Result<(), H
     Ok(())
 }
 
-/// A number is taken off that at a place, if there is such a place.
+/// Subtracts a number from the entry at an index, or does nothing beyond the end. Refuses if the difference passes.
 pub(crate) fn take_off_at(numbers: &mut [Q], place: usize, number: Q) -> Result<(), Halt<Q>> {
     if place < numbers.len() {
         let difference = at!(Part::Table, numbers[place].difference(number));

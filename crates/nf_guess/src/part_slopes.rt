@@ -1,5 +1,5 @@
-// The slopes that solve the table of a pattern, from one equation for each part of the network that Tight links join: all nodes of a
-// part have one slope, and what leaves the part less what enters it is known. Nothing rests on them, since only a guess asks.
+// The slopes that solve a pattern's table, from one equation for each Tight component. All nodes of a component have the same slope, and
+// its outflow less its inflow is known. No contract depends on these slopes, since a guess is judged like any other pattern.
 ghost use Rattle.std.specs.Prelude.{◌≡◌, ◌<◌, ◌≤◌, length};
 
 use crate::node_parts::{Parts, state_in, tight_forest};
@@ -13,10 +13,10 @@ use nf_one_pattern::solved;
 use nf_pattern::Pattern;
 use std::alloc::{AllocError, Global};
 
-// `Table::new` takes at most this many unknowns.
+// The most unknowns that `Table::new` accepts.
 const MOST_TABLE_UNKNOWNS: u32 = 264;
 
-// A Full or resetting link from a part to another one.
+// A Full or resetting link between two components.
 #[derive(Clone, Copy)]
 struct FullLink {
     tail: u32,
@@ -24,7 +24,7 @@ struct FullLink {
     capacity: Q,
 }
 
-// All of them, in link order.
+// Returns the Full and resetting links between two components, in link order. Fails if an allocation fails.
 fn full_links(
     alloc: Global,
     net: &Network,
@@ -54,7 +54,7 @@ fn full_links(
     Ok(links)
 }
 
-// What a link adds to what leaves a part less what enters it.
+// Adds a link's term to the coefficients of a component's outflow less its inflow.
 fn add_link(link: FullLink, part: u32, factors: &mut [Q]) -> Result<(), Halt<Q>> {
     if link.tail == part {
         return add_at(factors, link.head as usize, link.capacity);
@@ -65,7 +65,7 @@ fn add_link(link: FullLink, part: u32, factors: &mut [Q]) -> Result<(), Halt<Q>>
     Ok(())
 }
 
-// What leaves a part less what enters it: of each part, how often its slope is in it.
+// Adds the terms of all links to the coefficients of a component's outflow less its inflow, one coefficient for each component's slope.
 fn leaving_less_entering(links: &[FullLink], part: u32, factors: &mut [Q]) -> Result<(), Halt<Q>> {
     for i in 0..links.len() {
         add_link(links[i], part, factors)?;
@@ -73,7 +73,7 @@ fn leaving_less_entering(links: &[FullLink], part: u32, factors: &mut [Q]) -> Re
     Ok(())
 }
 
-// A number of a row that is 0 so far becomes this one.
+// Sets an entry of a row that is 0 so far.
 fn set_number(table: &mut Table<Q>, size: u32, row: u32, column: u32, number: Q)
     requires size { length table.old ≡ size }
     requires row { row < size }
@@ -86,7 +86,8 @@ fn set_number(table: &mut Table<Q>, size: u32, row: u32, column: u32, number: Q)
     table.set(row, column, number);
 }
 
-// A row of zeros becomes these factors of the slopes; that of the source's part is 1.
+// Sets a row of zeros to these coefficients of the slopes, with this right side. The slope of the source's component is 1, and has no
+// column.
 fn set_row(table: &mut Table<Q>, size: u32, row: u32, factors: &[Q], right: Q)
     requires size { length table.old ≡ size }
     requires row { row < size }
@@ -99,14 +100,13 @@ fn set_row(table: &mut Table<Q>, size: u32, row: u32, factors: &[Q], right: Q)
     table.set_right(row, right);
 }
 
-// The part whose equation is in a row: the one whose slope is the column of the same number, but that of the source in place of the
-// sink's.
+// Returns the component whose equation is in a row: that of the row's slope, or the source's component instead of the sink's.
 fn part_of_row(row: u32, sink_part: u32) -> u32 {
     let part = row.saturating_add(1);
     if part == sink_part { 0 } else { part }
 }
 
-// The row of the equation of a part.
+// Sets a row to the equation of a component.
 fn fill_row(
     alloc: Global,
     table: &mut Table<Q>,
@@ -128,7 +128,7 @@ fn fill_row(
     Ok(())
 }
 
-// The table of the slopes of all parts but that of the source.
+// Returns the table of the slopes of all components except that of the source.
 fn slope_table(
     alloc: Global,
     size: u32,
@@ -147,7 +147,8 @@ fn slope_table(
     Ok(table)
 }
 
-// The slopes of all parts but that of the source.
+// Returns the slopes of all components except that of the source. Returns `None` if there is not exactly one solution, or the table is too
+// large.
 fn slopes_of_parts(
     alloc: Global,
     count: u32,
@@ -166,7 +167,7 @@ fn slopes_of_parts(
     solved(alloc, table)
 }
 
-// The slope of the part of this number, where that of the source's part is 1.
+// Returns the slope of a component. That of the source's component is 1.
 fn slope_of_part(number: u32, others: &[Q]) -> Q {
     if number == 0 {
         Q::one()
@@ -175,7 +176,7 @@ fn slope_of_part(number: u32, others: &[Q]) -> Q {
     }
 }
 
-// The slope of each node, from those of the parts.
+// Returns the slope of each node, from those of the components.
 fn slopes_of_nodes(
     alloc: Global,
     nodes: u32,
@@ -190,7 +191,7 @@ fn slopes_of_nodes(
     Ok(slopes)
 }
 
-// The slopes of the nodes, from the parts that Tight links join.
+// Returns the slopes of the nodes from the components, or `None` if there is not exactly one solution.
 fn slopes_from(
     alloc: Global,
     net: &Network,
@@ -211,7 +212,8 @@ fn slopes_from(
     Ok(Some(slopes))
 }
 
-/// The slopes of the nodes, in node order. None where the table of the pattern hasn't just one solution.
+/// Returns the slopes of the nodes, in node order. Returns `None` if the pattern's table does not have exactly one solution, or is too
+/// large.
 pub(crate) fn part_slopes(
     alloc: Global,
     net: &Network,

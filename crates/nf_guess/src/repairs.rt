@@ -1,5 +1,5 @@
-// Repairs of a pattern: the links that break their inequalities go over to another state. Nothing rests on them, since only a guess
-// asks.
+// Repairs of a pattern: links that violate their inequalities change their states. No contract depends on repairs, since a guess is judged
+// like any other pattern.
 ghost use Rattle.std.specs.Prelude.{◌≡◌, ◌<◌, length, IsTrue, IsSome};
 ghost use Rattle.nf_model.specs.declared.State.TheVariants.{Full};
 ghost use Rattle.nf_equation_laws.specs.Equations.{IsPatternIn};
@@ -15,7 +15,7 @@ use nf_one_pattern::{full_flow, may_carry};
 use nf_pattern::Pattern;
 use std::alloc::{AllocError, Global};
 
-// A flow is more than a link of this capacity carries at this slope of its head.
+// Returns whether a flow exceeds the flow that fills a link of this capacity at this slope of its head.
 fn overfills(capacity: Option<Q>, flow: Q, head_slope: Q) -> bool {
     match full_flow(capacity, head_slope) {
         Some(most) => flow > most,
@@ -23,7 +23,7 @@ fn overfills(capacity: Option<Q>, flow: Q, head_slope: Q) -> bool {
     }
 }
 
-// A link of this capacity may be in this state: in Full, if it has a capacity.
+// Returns whether a link of this capacity may have this state. An unbounded link may not be Full.
 fn fits(capacity: Option<Q>, state: State) -> bool
     ensures { IsTrue result → state ≡ Full → IsSome capacity }
 {
@@ -34,7 +34,7 @@ fn fits(capacity: Option<Q>, state: State) -> bool
     }
 }
 
-/// The link goes over to a state, if it has one and may be in this; whether it does.
+/// Sets the state of a link that has a state, if the link may have the new one. Returns whether it sets the state.
 pub(crate) fn change(
     net: &Network,
     sets: &LinkSets,
@@ -57,7 +57,7 @@ pub(crate) fn change(
     true
 }
 
-// Another Tight, Full or resetting link leads to the same node as this one.
+// Returns whether another Tight, Full or resetting link leads to the head of this link.
 fn is_spare(net: &Network, sets: &LinkSets, pattern: &Pattern, link: LinkId) -> bool
     requires pattern { IsPatternIn net.now.net sets.now pattern.now }
     requires link { link < length net.now.net.links }
@@ -73,8 +73,8 @@ fn is_spare(net: &Network, sets: &LinkSets, pattern: &Pattern, link: LinkId) -> 
     false
 }
 
-// A Tight link with a negative flow becomes Zero, if its head keeps another link that may carry flow; one that is overfilled becomes
-// Full. Whether it does.
+// Makes a Tight link with a negative flow Zero, if another link that may carry flow leads to its head. Makes a Tight link with too much
+// flow Full. Returns whether the state changes.
 fn loosen_link(
     net: &Network,
     sets: &LinkSets,
@@ -108,7 +108,7 @@ fn loosen_link(
     change(net, sets, pattern, link, State::Full)
 }
 
-// Repairs each Tight link that breaks its inequalities; whether one changes.
+// Repairs each Tight link that violates its inequalities. Returns whether a state changes.
 fn loosen(net: &Network, sets: &LinkSets, values: &[Q], pattern: &mut Pattern) -> bool
     requires { IsPatternIn net.now.net sets.now pattern.old }
     ensures { IsPatternIn net.now.net sets.now pattern.new }
@@ -134,7 +134,7 @@ fn loosen(net: &Network, sets: &LinkSets, values: &[Q], pattern: &mut Pattern) -
     changes
 }
 
-// A link in this state is Full to a smaller slope, or Zero to a greater one.
+// Returns whether the link is Full with a smaller slope at its head, or Zero with a greater one.
 fn breaks(state: Option<State>, tail_slope: Q, head_slope: Q) -> bool {
     match state {
         Some(State::Full) => head_slope < tail_slope,
@@ -143,8 +143,8 @@ fn breaks(state: Option<State>, tail_slope: Q, head_slope: Q) -> bool {
     }
 }
 
-// A Full link to a smaller slope and a Zero link to a greater one become Tight, if that closes no cycle with other Tight links;
-// whether this one does.
+// Makes a Full link with a smaller slope at its head, or a Zero link with a greater one, Tight. Changes nothing if the link would close a
+// cycle with other Tight links. Returns whether the state changes.
 fn tighten_link(
     net: &Network,
     sets: &LinkSets,
@@ -170,7 +170,7 @@ fn tighten_link(
     Ok(changes)
 }
 
-// All Full and Zero links that break their inequalities, in link order; whether one changes.
+// Repairs all Full and Zero links that violate their inequalities, in link order. Returns whether a state changes.
 fn tighten(
     alloc: Global,
     net: &Network,
@@ -193,7 +193,7 @@ fn tighten(
     Ok(changes)
 }
 
-/// One repair of the links that break their inequalities; whether there is one.
+/// Repairs once each link that violates its inequality. Returns whether a state changes. Fails if an allocation fails.
 pub(crate) fn repair(
     alloc: Global,
     net: &Network,

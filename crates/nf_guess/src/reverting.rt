@@ -1,6 +1,6 @@
-// A guessed pattern reverts towards the one that the guess began with: where its values suit the state that a link has there too, the
-// link takes that state. Of the patterns that are accepted the list comes to one with few changes first, and so mostly to this one.
-// Nothing rests on it, since what it comes to is judged like any other.
+// The reverting of a guessed pattern towards the first one: a link takes its first state if its values suit that state. Among the accepted
+// patterns, the listing reaches one with few changes first, and so mostly this one. No contract depends on reverting, since a guess is
+// judged like any other pattern.
 ghost use Rattle.std.specs.Prelude.{◌≡◌, ◌<◌, length, IfOk};
 ghost use Rattle.nf_equation_laws.specs.Equations.{IsPatternIn};
 
@@ -17,7 +17,7 @@ use nf_one_pattern::{each_is_led, full_flow, is_one_pattern};
 use nf_pattern::Pattern;
 use std::alloc::{AllocError, Global};
 
-// The slopes of a link's ends and its flow suit a state.
+// Returns whether a link's flow and the slopes of its ends suit a state.
 fn suits(link: Link, state: State, flow: Q, values: &[Q]) -> bool {
     let tail_slope = number_or_zero(values, link.tail.index());
     let head_slope = number_or_zero(values, link.head.index());
@@ -29,7 +29,7 @@ fn suits(link: Link, state: State, flow: Q, values: &[Q]) -> bool {
     }
 }
 
-// The link takes its first state, if that is Full or Zero and its values suit it.
+// Gives a link its first state if that is Full or Zero and suits its values.
 fn revert_apart(
     net: &Network,
     sets: &LinkSets,
@@ -54,7 +54,7 @@ fn revert_apart(
     }
 }
 
-// All links whose first state is Full or Zero take it, where their values suit it.
+// Gives each link its first state if that is Full or Zero and suits its values.
 fn revert_all_apart(
     net: &Network,
     sets: &LinkSets,
@@ -77,7 +77,7 @@ fn revert_all_apart(
     }
 }
 
-// The link becomes Tight, if that is its first state, the slopes of its ends suit it and it closes no cycle with other Tight links.
+// Makes a link Tight if that is its first state, suits its slopes, and closes no cycle with other Tight links.
 fn revert_tight(
     net: &Network,
     sets: &LinkSets,
@@ -105,7 +105,7 @@ fn revert_tight(
     Ok(())
 }
 
-// The same of all links; the forest begins with those that are Tight already.
+// Runs `revert_tight` for all links, with the forest of the links that are Tight already.
 fn revert_all_tight(
     alloc: Global,
     net: &Network,
@@ -127,7 +127,7 @@ fn revert_all_tight(
     Ok(())
 }
 
-// The values break no link's inequality: no repair changes the pattern.
+// Returns whether the values violate no link's inequality, so that no repair changes the pattern.
 fn suits_all(
     alloc: Global,
     net: &Network,
@@ -142,7 +142,7 @@ fn suits_all(
     Ok(!changes)
 }
 
-// The pattern leads to each node, and its values break no link's inequality.
+// Returns whether the pattern leads to each node and its values violate no link's inequality.
 fn is_repaired(
     alloc: Global,
     net: &Network,
@@ -161,8 +161,8 @@ fn is_repaired(
     }
 }
 
-// A pattern in which the links take their first states, where the values suit them; whether it is another one, still leads to each node
-// and breaks no inequality.
+// Gives the links of `nearer` their first states if these suit the values. Returns whether the result differs from `pattern`, leads to each
+// node and violates no inequality.
 fn revert(
     alloc: Global,
     net: &Network,
@@ -186,7 +186,8 @@ fn revert(
     is_repaired(alloc, net, sets, rate, nearer)
 }
 
-/// A pattern nearer to the first one, if that still leads to each node and breaks no inequality, or else the same pattern.
+/// Returns a pattern nearer to the first one if it leads to each node and violates no inequality. Otherwise returns the same pattern. Fails
+/// if an allocation fails.
 pub(crate) fn reverted(
     alloc: Global,
     net: &Network,

@@ -1,5 +1,6 @@
-// The flows of links, where the slopes that solve the table of a pattern are known: a Full or resetting link fills its capacity, and
-// the Tight links are a forest, whose flows come from its leaves on. Nothing rests on them, since only a guess asks.
+// The flows of links, for the slopes that solve a pattern's table. A Full or resetting link fills its capacity. The Tight links form a
+// forest, and conservation of flow determines their flows from the leaves inward. No contract depends on these flows, since a guess is
+// judged like any other pattern.
 ghost use Rattle.std.specs.Prelude.{◌≡◌, ◌<◌, length};
 
 use crate::node_parts::state_in;
@@ -11,7 +12,7 @@ use nf_net::{Link, Network};
 use nf_pattern::Pattern;
 use std::alloc::{AllocError, Global};
 
-// A Tight link whose flow isn't known yet: its ends, and the place of its flow among the values.
+// A Tight link whose flow is undetermined: its ends, and the index of its flow among the values.
 #[derive(Clone, Copy)]
 struct OpenLink {
     tail: NodeId,
@@ -20,7 +21,7 @@ struct OpenLink {
 }
 
 impl OpenLink {
-    // The flow of the link where this much leaves one of its ends on it, and the other end.
+    // Returns the link's flow if `leaving` leaves one end on the link, and the other end.
     fn flow_from(self, end: NodeId, leaving: Q) -> Result<(Q, NodeId), Halt<Q>> {
         if self.tail == end {
             return Ok((leaving, self.head));
@@ -30,7 +31,8 @@ impl OpenLink {
     }
 }
 
-// Of each node what must leave it on open links beyond what enters it on such ones, and how many of them it has.
+// The undetermined flows. `missing` has for each node the outflow less the inflow that its undetermined links must carry. `degrees` has the
+// number of undetermined links at each node.
 #[derive(Drop)]
 struct OpenFlows {
     sink: NodeId,
@@ -39,14 +41,14 @@ struct OpenFlows {
     open: Vec<OpenLink>,
 }
 
-// A count rises by one.
+// Increases a count by one.
 fn count_up(counts: &mut [u32], place: usize) {
     if place < counts.len() {
         counts[place] = counts[place].saturating_add(1);
     }
 }
 
-// A count falls by one.
+// Decreases a count by one.
 fn count_down(counts: &mut [u32], place: usize) {
     if place < counts.len() {
         counts[place] = counts[place].saturating_sub(1);
@@ -54,7 +56,7 @@ fn count_down(counts: &mut [u32], place: usize) {
 }
 
 impl OpenFlows {
-    // No link carries flow yet, and none is open.
+    // Returns the undetermined flows before any link carries flow or is undetermined.
     fn new(alloc: Global, net: &Network, rate: Q) -> Result<OpenFlows, Halt<Q>> {
         let nodes = net.node_count() as usize;
         let mut missing = vec![in alloc; Q::zero(); nodes]?;
@@ -68,7 +70,7 @@ impl OpenFlows {
         })
     }
 
-    // A link carries this flow.
+    // Records the flow of a determined link at both ends.
     fn carry(&mut self, tail: NodeId, head: NodeId, flow: Q) -> Result<(), Halt<Q>> {
         if flow.is_zero() {
             return Ok(());
@@ -77,7 +79,7 @@ impl OpenFlows {
         add_at(&mut self.missing, head.index(), flow)
     }
 
-    // The flow of a link isn't known yet.
+    // Adds an undetermined link.
     fn open(&mut self, link: OpenLink) -> Result<(), Halt<Q>> {
         count_up(&mut self.degrees, link.tail.index());
         count_up(&mut self.degrees, link.head.index());
@@ -85,12 +87,12 @@ impl OpenFlows {
         Ok(())
     }
 
-    // A node that isn't the sink has just one open link.
+    // Returns whether a node other than the sink has exactly one undetermined link.
     fn is_leaf(&self, node: NodeId) -> bool {
         node != self.sink && node.index() < self.degrees.len() && self.degrees[node.index()] == 1
     }
 
-    // The first open link at a node is taken away.
+    // Removes the first undetermined link at a node, and returns it.
     fn take_open(&mut self, node: NodeId) -> Option<OpenLink> {
         for i in 0..self.open.len() {
             let link = self.open[i];
@@ -102,7 +104,7 @@ impl OpenFlows {
         None
     }
 
-    // An open link carries this flow, and is no longer open.
+    // Records the flow of a link that was undetermined.
     fn close(&mut self, link: OpenLink, flow: Q) -> Result<(), Halt<Q>> {
         self.carry(link.tail, link.head, flow)?;
         count_down(&mut self.degrees, link.tail.index());
@@ -110,7 +112,7 @@ impl OpenFlows {
         Ok(())
     }
 
-    // The open link of a leaf carries what is missing there. Its other end, if that becomes a leaf.
+    // Determines the flow of a leaf's link by what is missing there. Returns the link's other end if that becomes a leaf.
     fn close_leaf(&mut self, leaf: NodeId, values: &mut [Q]) -> Result<Option<NodeId>, Halt<Q>> {
         let Some(link) = self.take_open(leaf) else {
             return Ok(None);
@@ -129,7 +131,7 @@ impl OpenFlows {
     }
 }
 
-// A link carries its capacity times the slope of its head.
+// Returns the flow that fills a link: its capacity times the slope of its head. Records it at both ends.
 fn fill(link: Link, values: &[Q], flows: &mut OpenFlows) -> Result<Q, Halt<Q>> {
     let capacity = link.capacity.unwrap_or(Q::zero());
     let head_slope = number_or_zero(values, link.head.index());
@@ -138,7 +140,7 @@ fn fill(link: Link, values: &[Q], flows: &mut OpenFlows) -> Result<Q, Halt<Q>> {
     Ok(flow)
 }
 
-// The flow of a link is put after the values, or its link is open.
+// Appends the flow of a link to the values. A Tight link gets 0 and is undetermined.
 fn put_flow(
     net: &Network,
     link: LinkId,
@@ -165,7 +167,7 @@ fn put_flow(
     Ok(())
 }
 
-// Puts the flow of each active link, in link order.
+// Appends the flow of each active link, in link order.
 fn put_flows(
     net: &Network,
     sets: &LinkSets,
@@ -184,7 +186,7 @@ fn put_flows(
     Ok(())
 }
 
-// The leaves to begin with.
+// Returns the nodes that are leaves at the start. Fails if an allocation fails.
 fn leaves(alloc: Global, net: &Network, flows: &OpenFlows) -> Result<Vec<NodeId>, AllocError> {
     let mut leaves = Vec::new(alloc);
     for v in 0..net.node_count() {
@@ -195,7 +197,7 @@ fn leaves(alloc: Global, net: &Network, flows: &OpenFlows) -> Result<Vec<NodeId>
     Ok(leaves)
 }
 
-// The open links get their flows from the leaves on; a node becomes a leaf once.
+// Determines the undetermined flows from the leaves inward. A node becomes a leaf at most once.
 fn close_leaves(
     alloc: Global,
     net: &Network,
@@ -214,7 +216,7 @@ fn close_leaves(
     Ok(())
 }
 
-/// These slopes, and after them the flows of the active links, in link order. None where Tight links close a cycle.
+/// Returns these slopes, and after them the flows of the active links, in link order. Returns `None` if Tight links close a cycle.
 pub(crate) fn with_flows(
     alloc: Global,
     net: &Network,

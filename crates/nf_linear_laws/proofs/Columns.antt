@@ -1,4 +1,4 @@
--- Tables whose first columns are cleared: each of these has its pivot row, and is 0 in every other row.
+-- Tables whose first columns are cleared: each of these columns has a pivot row, and is 0 in every other row.
 use Rattle.std.proofs.Common.{◌≡◌, ◌≢◌, ℕ, zero, suc, ◌<◌, ◌≤◌, [], ◌∷◌, ◌⊎◌, inl, inr, ⊎_elim, true, false, cond, eqb, ltb, leb, refl, sym, ap, subst, ◌∙◌, arith}
 use Rattle.std.proofs.lemmas.Bool.Decides.{eqb_tells, leb_tells}
 use Rattle.nf_rational.specs.Rational.{ℚ}
@@ -109,7 +109,7 @@ module _ {n : ℕ} {M : Table} {P : ℕ → ℕ} (r : Reduced n n M P) where
       (alone x d found.1 ∙ ap (λ (v : ℚ). M (P d) d *ℚ v) (h d found.1) ∙ *ℚ_comm (M (P d) d) (solution d) ∙ /ℚ-times (M (P d) n) (M (P d) d) (r.pivot d found.1)
       ∙ sym (times_one (M (P d) n)))
 
--- ---- a column with no pivot: a solution of the homogeneous system that isn't 0 there
+-- ---- a column without a pivot: a solution of the homogeneous system that is not 0 there
 module _ {n c : ℕ} {M : Table} {P : ℕ → ℕ} (r : Reduced n c M P) (inside : c < n) (none : (i : ℕ) → i < n → ((d : ℕ) → d < c → P d ≢ i) → M i c ≡ 0ℚ) where
   abbrev pub free : ℕ → ℚ
   free j = cond (ltb j c) (0ℚ -ℚ M (P j) c /ℚ M (P j) j) (cond (eqb j c) 1ℚ 0ℚ)
@@ -138,7 +138,7 @@ module _ {n c : ℕ} {M : Table} {P : ℕ → ℕ} (r : Reduced n c M P) (inside
       (eqb_tells j c))
       (ltb_tells j c)
 
-  -- where each number before the column is 0 in a row, or else not asked for
+  -- Each number before the column is 0 in the row, or does not count.
   by_place : (A : ℕ → Type 0) → (j : ℕ) → (j < c → A j) → A c → (c < j → A j) → A j
   by_place A j h k l = ⊎_elim
       (λ (s : (ltb j c ≡ true) × (j < c)). h s.1)

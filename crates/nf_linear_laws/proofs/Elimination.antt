@@ -1,5 +1,5 @@
--- The table list, where no operation can pass: each column with a pivot is cleared, one without makes the system loose, and when
--- all are cleared the pivot rows give the one solution.
+-- The table operations, if no operation can pass. Each column with a pivot is cleared. A column without a pivot shows that the system does
+-- not have exactly one solution. If all columns are cleared, the pivot rows give the only solution.
 use Rattle.std.proofs.Common.{◌≡◌, ◌≢◌, ℕ, zero, suc, ◌+◌, ◌<◌, List, [], ◌∷◌, ◌++◌, length, get_or, Bool, true, false, cond, ◌||◌, eqb, refl, sym, ap, subst, ◌∙◌, arith}
 use Rattle.std.specs.Prelude.{◌==◌, Option, Some, None, Ok}
 use Rattle.std.proofs.lemmas.Bool.{eq-eqb}
@@ -23,13 +23,13 @@ use Rattle.nf_linear_laws.specs.Solution.{IsSquare}
 abbrev pub numbers : List Row → Table
 numbers rows i j = number_at (row_at rows i) j
 
--- ---- what the values of the list say of a table of n rows
+-- ---- what the result of the operations means for a table of n rows
 pub record IsSolvedBy (n : ℕ) (M : Table) (xs : List ℚ) : Type 0 where
   pub count : length xs ≡ n
   pub forced : (x : ℕ → ℚ) → Meets n M 1ℚ x → (d : ℕ) → d < n → x d ≡ number_at xs d
   pub met : (x : ℕ → ℚ) → ((d : ℕ) → d < n → x d ≡ number_at xs d) → Meets n M 1ℚ x
 
--- the homogeneous system has a solution that isn't 0 everywhere
+-- The homogeneous system has a solution other than 0.
 pub record IsLoose (n : ℕ) (M : Table) : Type 0 where
   pub column : ℕ
   pub within : column < n
@@ -193,7 +193,7 @@ eliminated zero n c same done s values e =
 eliminated (suc more) n c same done s values e =
     by_pivot n c more done s (omega arith) values (λ next t f. eliminated more n (suc c) (omega arith) next t values f) (pivot_of done.rows done.pivots c) refl e
 
--- before the first column
+-- No column is cleared yet.
 pub first_cleared : (rows : List Row) → IsSquare rows → IsCleared (length rows) 0 rows []
 first_cleared rows square = record {
   count = refl;

@@ -1,4 +1,4 @@
--- The pivot of a column, and the numbers of the pivot rows: as many different ones as there are rows are all of them.
+-- The pivot of a column, and the set of pivot rows: if there are as many different ones as rows, they are all rows.
 use Rattle.std.proofs.Common.{◌≡◌, ◌≢◌, ℕ, zero, suc, ◌+◌, ◌<◌, ◌≤◌, List, [], ◌∷◌, length, get_or, ⊎_elim, Bool, true, false, not, ◌&&◌, ◌||◌, eqb, refl, sym, subst, ◌∙◌, arith}
 use Rattle.std.specs.Prelude.{◌==◌, if◌then◌else◌, Option, Some, None}
 use Rattle.std.specs.List.{list_any}
@@ -29,7 +29,7 @@ is_zero-at x e = rw (test_of_le x 0ℚ (≤ℚ_of_same x 0ℚ e), test_of_le 0�
 pub some_tested : (x : ℚ) → is_zero x ≡ false → x ≢ 0ℚ
 some_tested x e h = let k = is_zero-at x h in absurd (cc)
 
--- ---- what a number is the pivot of
+-- ---- the pivot row of a column
 abbrev pub pivot_row_of : List ℕ → ℕ → ℕ
 pivot_row_of pivots d = get_or pivots d 0
 
@@ -92,7 +92,7 @@ is_pivot k [] pivots c p e = absurd (cc)
 is_pivot k (row ∷ rows) pivots c p e =
     pivot_at (list_any (λ q. q == k) pivots) (is_zero (number_at row c)) k row rows pivots c p refl refl e (is_pivot (suc k) rows pivots c p)
 
--- ---- different numbers below a bound, as many as it says, are all of them
+-- ---- as many different numbers below a bound as the bound are all of them
 same_inside : (xs : List ℕ) (i d : ℕ) → i < length xs → get_or xs i d ≡ get_or xs i 0
 same_inside [] i d b = absurd (omega arith)
 same_inside (x ∷ xs) zero d b = refl

@@ -1,4 +1,4 @@
--- What the steps of the table list do to rows, where no operation can pass.
+-- The effect of the table operations on rows, if no operation can pass.
 use Rattle.std.proofs.Common.{◌≡◌, ◌≢◌, ℕ, zero, suc, ◌+◌, ◌<◌, List, [], ◌∷◌, ◌++◌, length, take, drop, Bool, true, false, cond, ◌||◌, refl, sym, ap, ◌∙◌, arith}
 use Rattle.std.specs.Prelude.{◌==◌, Result, Ok}
 use Rattle.nf_rational.specs.Rational.{ℚ}
@@ -18,7 +18,7 @@ use Rattle.nf_linear_laws.proofs.Pivots.{zero_tested}
 pub bind_ok : {A B E : Type 0} (r : Result A E) (a : A) (f : A → Result B E) (s : Result B E) → r ≡ Ok a → f a ≡ s → (r >>= f) ≡ s
 bind_ok r a f s h k = ap (λ (w : Result _ _). w >>= f) h ∙ k
 
--- ---- the rows that come
+-- ---- the resulting rows
 abbrev pub less_at : Bool → ℚ → ℚ → ℚ → ℚ
 less_at true f p x = x
 less_at false f p x = x -ℚ f *ℚ p
@@ -39,7 +39,7 @@ abbrev pub rows_after : ℕ → ℕ → Row → ℕ → List Row → List Row
 rows_after c p pivot_row k [] = []
 rows_after c p pivot_row k (row ∷ rows) = kept_or_less (k == p || is_zero (number_at row c)) c pivot_row row ∷ rows_after c p pivot_row (suc k) rows
 
--- ---- these are what the steps give
+-- ---- the operations give these rows
 less_exact : (b : Bool) (f p x : ℚ) → less_unless never b f p x ≡ Ok (less_at b f p x)
 unfolding checked
 less_exact true f p x = refl

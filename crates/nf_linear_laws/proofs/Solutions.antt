@@ -1,4 +1,4 @@
--- The value of the table list and the solutions of the system.
+-- The value of the table operations, and the solutions of the system.
 use Rattle.std.proofs.Common.{◌≡◌, ◌≢◌, ℕ, zero, suc, ◌<◌, List, [], ◌∷◌, length, Some, None, refl, sym, ap, subst, ◌∙◌, arith}
 use Rattle.std.specs.Prelude.{Ok}
 use Rattle.nf_rational.specs.Rational.{ℚ}
@@ -55,7 +55,7 @@ only_solution rows xs s = record {
   only = λ ys t. same_entries 0ℚ ys xs (t.count ∙ sym s.count) (λ i b. s.forced (number_at ys) (meets_of rows ys t) i (subst (λ (k : ℕ). i < k) t.count b));
 }
 
--- ---- none, or more than one: with a solution there is another one
+-- ---- no solution, or more than one: besides a solution there is another one
 product_less : (m x h : ℚ) → m *ℚ (x -ℚ h) ≡ m *ℚ x -ℚ 1ℚ *ℚ (m *ℚ h)
 product_less m x h = ring rationals (m ∷ x ∷ h ∷ []) (search reading depth 30) tt
 
@@ -88,7 +88,7 @@ module _ (rows : List Row) (s : IsLoose (length rows) (numbers rows)) (xs : List
 not_only : (rows : List Row) → IsLoose (length rows) (numbers rows) → (xs : List ℚ) → IsOnlySolution rows xs → ⊥
 not_only rows s xs h = differs rows s xs h.solves (h.only (other rows s xs h.solves) (other_solves rows s xs h.solves))
 
--- ---- whichever operations may pass
+-- ---- for every rule of which operations pass
 pub one_solution : (passes : Passing) (rows : List Row) (xs : List ℚ) → IsSquare rows → table_list passes rows ≡ Ok (Some xs) → IsOnlySolution rows xs
 one_solution passes rows xs square e = only_solution rows xs (table_says rows square (Some xs) (table_list_as passes rows (Some xs) e))
 

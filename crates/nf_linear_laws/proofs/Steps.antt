@@ -1,5 +1,5 @@
--- A row less a multiple of another one, in all rows: what solves the system before solves it afterwards, and the other way round.
--- A table of n rows is seen as its numbers M i j; column n is the right side.
+-- A multiple of one row subtracted from all other rows: the system has the same solutions before and after.
+-- A table of n rows is given by its numbers M i j, where column n is the right side.
 use Rattle.std.proofs.Common.{◌≡◌, ℕ, suc, ◌<◌, [], ◌∷◌, sym, ap, ◌∙◌, arith}
 use Rattle.nf_rational.specs.Rational.{ℚ}
 use Rattle.nf_rational.specs.Operations.{0ℚ, ◌+ℚ◌, ◌-ℚ◌, ◌*ℚ◌}
@@ -11,11 +11,11 @@ use Rattle.nf_linear_laws.proofs.Totals.{total, total_same, total_less}
 abbrev pub Table : Type 0
 Table = ℕ → ℕ → ℚ
 
--- with x each row has its right side times t: t is 1 for the system, and 0 for the homogeneous one
+-- With x, each row has its right side times t: t is 1 for the system, and 0 for the homogeneous system.
 abbrev pub Meets : ℕ → Table → ℚ → (ℕ → ℚ) → Type 0
 Meets n M t x = (i : ℕ) → i < n → total n (λ j. M i j *ℚ x j) ≡ M i n *ℚ t
 
--- each row i loses g i times row p, and row p itself nothing
+-- Each row i loses g i times row p, and row p does not change.
 pub record IsStep (n p : ℕ) (g : ℕ → ℚ) (M N : Table) : Type 0 where
   pub within : p < n
   pub at : (i j : ℕ) → i < n → j < suc n → N i j ≡ M i j -ℚ g i *ℚ M p j

@@ -44,7 +44,7 @@ total_less (suc n) f g k =
     ap (λ (s : ℚ). (f 0 -ℚ k *ℚ g 0) +ℚ s) (total_less n (λ j. f (suc j)) (λ j. g (suc j)) k)
     ∙ less_regrouped (f 0) (g 0) (total n (λ j. f (suc j))) (total n (λ j. g (suc j))) k
 
--- one term alone
+-- A single term.
 pub total_one : (n c : ℕ) (f : ℕ → ℚ) → c < n → ((j : ℕ) → j < n → j ≢ c → f j ≡ 0ℚ) → total n f ≡ f c
 total_one zero c f b h = absurd (omega arith)
 total_one (suc n) zero f b h = second_zero (f 0) (total n (λ j. f (suc j))) (total_zero n (λ j. f (suc j)) (λ j b. h (suc j) (omega arith) (omega arith)))
@@ -52,7 +52,7 @@ total_one (suc n) (suc c) f b h =
     first_zero (f 0) (total n (λ j. f (suc j))) (h 0 (omega arith) (omega arith))
     ∙ total_one n c (λ j. f (suc j)) (omega arith) (λ j b other. h (suc j) (omega arith) (omega arith))
 
--- two terms alone
+-- Two terms.
 pub total_two : (n d c : ℕ) (f : ℕ → ℚ) → d < c → c < n → ((j : ℕ) → j < n → j ≢ d → j ≢ c → f j ≡ 0ℚ) → total n f ≡ f d +ℚ f c
 total_two zero d c f a b h = absurd (omega arith)
 total_two (suc n) d zero f a b h = absurd (omega arith)

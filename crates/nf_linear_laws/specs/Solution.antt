@@ -1,5 +1,5 @@
--- Linear systems with as many equations as unknowns, and what elimination has to do with their solutions. A system is given by
--- its table: a row has a number for each unknown, and then its right side.
+-- Linear systems with as many equations as unknowns, and their solution by elimination. A system is given by its table: a row has a number
+-- for each unknown, and then its right side.
 use Rattle.std.specs.Prelude.{◌≡◌, ℕ, suc, ◌<◌, List, [], ◌∷◌, length, Some, None, Ok}
 use Rattle.nf_rational.specs.Rational.{ℚ}
 use Rattle.nf_rational.specs.Operations.{0ℚ, ◌+ℚ◌, ◌*ℚ◌}
@@ -7,17 +7,17 @@ use Rattle.nf_work.specs.Passing.{Passing}
 use Rattle.nf_model.specs.Entries.{number_at}
 use Rattle.nf_lists.specs.Table.{Row, row_at, table_list}
 
--- each row has a number for each unknown, and its right side
+-- Each row has a number for each unknown, and its right side.
 abbrev pub IsSquare : List Row → Type 0
 IsSquare rows = (i : ℕ) → i < length rows → length (row_at rows i) ≡ suc (length rows)
 
--- the sum of the numbers of a row, each times its unknown
+-- The sum of the numbers of a row, each times its unknown.
 abbrev pub left_side : Row → List ℚ → ℚ
 left_side [] xs = 0ℚ
 left_side (a ∷ row) [] = 0ℚ
 left_side (a ∷ row) (x ∷ xs) = a *ℚ x +ℚ left_side row xs
 
--- a value for each unknown, with which each row has its right side
+-- There is a value for each unknown, and with these values each row has its right side.
 pub record Solves (rows : List Row) (xs : List ℚ) : Type 0 where
   pub count : length xs ≡ length rows
   pub each : (i : ℕ) → i < length rows → left_side (row_at rows i) xs ≡ number_at (row_at rows i) (length rows)
@@ -26,7 +26,7 @@ pub record IsOnlySolution (rows : List Row) (xs : List ℚ) : Type 0 where
   pub solves : Solves rows xs
   pub only : (ys : List ℚ) → Solves rows ys → ys ≡ xs
 
--- Where no operation passes: the values given are the only solution, and none are given where there is none or more than one.
+-- If no operation passes, the values are the only solution, and there are none if there is no solution or more than one.
 pub record TableIsSolved : Type 0 where
   pub one : (passes : Passing) (rows : List Row) (xs : List ℚ) → IsSquare rows → table_list passes rows ≡ Ok (Some xs)
       → IsOnlySolution rows xs

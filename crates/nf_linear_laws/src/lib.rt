@@ -4,8 +4,8 @@
 
 ghost use Rattle.nf_linear_laws.specs.Solution.{TableIsSolved};
 
-/// Where none of its operations passes, the elimination of a square table gives the only solution of its system, and gives
-/// none exactly where the system has no solution or more than one.
+/// If no operation passes, elimination of a square table gives the only solution of its system. It gives none exactly if the system has no
+/// solution or more than one.
 pub fn table_is_solved()
     ensures { TableIsSolved }
 {}

@@ -1,4 +1,4 @@
--- Each assignment of firm states is listed.
+-- Each assignment of freely combinable states is listed.
 use Rattle.std.proofs.Common.{◌≡◌, ◌⊎◌, inl, inr, ℕ, zero, suc, ◌<◌, Bool, true, false, List, [], ◌∷◌, length, refl, sym, ap, subst, ◌∙◌, arith}
 use Rattle.std.specs.Prelude.{Option, Some, None, slice_get}
 use Rattle.std.proofs.lemmas.Option.{none-some, same_Some, slice_get_within}
@@ -106,7 +106,7 @@ module _ (nodes source : ℕ) (hops : List Hop) (sets : Sets) (unbounded : List 
   count = sym (AreIn-length (choices_by base tight full zeros) q in_q)
       ∙ count_by base tight full zeros (firm.tight_count ∙ sym is_base.count) (firm.full_count ∙ sym is_base.count) (firm.zero_count ∙ sym is_base.count)
 
-  -- what a link with a state has
+  -- The flags and the state of a link that has a state in the base.
   record Stated (e : ℕ) (s : Option State) : Type 0 where
     t : Bool
     f : Bool
@@ -127,7 +127,7 @@ module _ (nodes source : ℕ) (hops : List Hop) (sets : Sets) (unbounded : List 
     may_be = state_of state w.t w.f w.z s (subst (λ (x : Option State). IsIn (states_by x w.t w.f w.z) s) (same_Some w.b (Some state) (sym w.at_base ∙ at)) w.is_in);
   }
 
-  -- a link has a state in the base where it has one
+  -- A link with a state in the assignment q needs a state.
   needs : (e : ℕ) (s : State) → HasState q e s → NeedsState sets e
   needs e s at = let w = chosen base tight full zeros q in_q e (Some s) at in go w.b w.at_base w.is_in
     where

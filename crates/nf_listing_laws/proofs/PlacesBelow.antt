@@ -1,4 +1,4 @@
--- A listed pattern stands behind as many places as listed assignments come before it.
+-- The rank of a listed pattern is greater than the number of listed assignments before it.
 use Rattle.std.proofs.Common.{◌≡◌, ◌⊎◌, inl, inr, ℕ, zero, suc, ◌<◌, ◌≤◌, Bool, List, length, refl, sym, ap, subst, ◌∙◌, arith}
 use Rattle.std.specs.Prelude.{Some, slice_get}
 use Rattle.std.proofs.lemmas.Option.{same_Some}
@@ -44,7 +44,7 @@ module _ (nodes source : ℕ) (hops : List Hop) (sets : Sets) (unbounded : List 
         go w i at_w (inr (inr more)) =
             let l = before_less choices base q w.q in_q w.in_choices counts (in_listing j i q w.q more at at_w) in absurd (let f = w.number in omega arith)
 
-    -- what comes before it stands at an earlier place
+    -- An assignment before it has a lower rank.
     earlier_place : (q : Pattern) → IsBefore base q p → (i j : ℕ) → slice_get listing i ≡ Some q → slice_get listing j ≡ Some p → (i < j) ⊎ ((i ≡ j) ⊎ (j < i)) → i < j
     earlier_place q before i j at_q at_p (inl h) = h
     earlier_place q before i j at_q at_p (inr (inl same)) =

@@ -1,4 +1,4 @@
--- To each number below that of the assignments before a pattern there is one that comes before it, and just so many before that.
+-- For each number less than the count of assignments before a pattern, some assignment before it has exactly that many before itself.
 use Rattle.std.proofs.Common.{eqb-true, ◌≡◌, ◌⊎◌, inl, inr, ℕ, zero, suc, ◌+◌, ◌-◌, ◌<◌, ◌≤◌, Bool, true, false, List, [], ◌∷◌, refl, sym, ap, ◌∙◌, arith}
 use Rattle.std.specs.Prelude.{Option, Some, None, ◌==◌, if◌then◌else◌}
 use Rattle.std.proofs.Math.Dec.{eqb-suc-zero}
@@ -15,7 +15,7 @@ use Rattle.nf_listing_laws.proofs.Counting.{counted_less, counted_not, left_ways
 below_or : (x y : ℕ) → (x < y) ⊎ (y ≤ x)
 below_or x y = grind arith
 
--- what is left of the changes, where there are ways
+-- The remaining changes, if the count is not 0.
 left_of_changes : (j : ℕ) (rest : ℕ → ℕ) (n i : ℕ) → i < left_ways j rest n → (m : ℕ) × (n ≡ j + m) × (left_ways j rest n ≡ rest m)
 left_of_changes zero rest n i h = (n, omega arith, refl)
 left_of_changes (suc j) rest zero i h = absurd (omega arith)
@@ -60,7 +60,7 @@ module _ (b : Option State) (rest : ℕ → ℕ) (n : ℕ) where
         rank_is = (let e = counted_less (rank t) (rank w.s) (with t) (up.0 w.s w.is_state) in let k = w.rank_is in omega arith);
       }
 
-  -- one before a state
+  -- A state before another one.
   record StateBelow (states : List (Option State)) (r : Option State) (j : ℕ) : Type 0 where
     s : Option State
     is_state : IsIn states s
@@ -106,7 +106,7 @@ record Numbered (choices : Choices) (base : Pattern) (n j : ℕ) : Type 0 where
   changed : changes base q ≡ n
   number : ways_earlier choices base q n ≡ j
 
--- with a state before those of the other links
+-- With the first link's state, before the states of the other links.
 module _ (c : List (Option State)) (choices : Choices) (b : Option State) (base : Pattern) (n : ℕ) (s : Option State) (is_state : IsIn c s) (m : ℕ) (split : n ≡ change b s + m) (i : ℕ)
     (w : Numbered choices base m i) where
   more_changes : changes (b ∷ base) (s ∷ w.q) ≡ n
@@ -134,7 +134,7 @@ numbered (c ∷ choices) (b ∷ base) n j up h =
       number = number_more c choices b base n w.s w.is_state l.0 l.1 w.i inner ∙ sym w.rank_is;
     }
 
--- ---- one that is earlier than a pattern
+-- ---- an assignment that is earlier than a pattern
 rank_same : (s t : Option State) → rank s ≡ rank t → s ≡ t
 rank_same None None h = refl
 rank_same None (Some Tight) h = absurd (omega arith)
@@ -161,7 +161,7 @@ is_in-is (t ∷ states) s h = go (rank s == rank t) refl (λ later. is_in-is sta
     go true e later = inl (rank_same s t (eqb-true (rank s) (rank t) e))
     go false e later = inr (later (sym (ap (λ (x : Bool). if x then true else is_in states s) e) ∙ h))
 
--- what is counted where a test holds
+-- The count, if a test holds.
 counted_so : (test : Bool) (a i : ℕ) → i < (if test then a else 0) → (test ≡ true) × (i < a)
 counted_so true a i h = (refl, h)
 counted_so false a i h = absurd (omega arith)
@@ -207,14 +207,14 @@ number_earlier (c ∷ choices) (b ∷ base) (s ∷ p) n j up h = go (below_or j 
           earlier = inr (refl, inner.earlier);
         }
 
--- ---- and one that comes before it
+-- ---- an assignment that comes before a pattern
 pub record Before (choices : Choices) (base p : Pattern) (k : ℕ) : Type 0 where
   pub q : Pattern
   pub in_choices : AreIn choices q
   pub before : IsBefore base q p
   pub number : ways_before choices base q ≡ k
 
--- at fewer changes
+-- An assignment with fewer changes.
 record Fewer (choices : Choices) (base : Pattern) (n k : ℕ) : Type 0 where
   q : Pattern
   in_choices : AreIn choices q

@@ -1,4 +1,4 @@
--- What a listing with forced states tells of the whole one, and at which place of a listing a pattern stands at most.
+-- Theorems on listings with forced states, and on the rank of a pattern in a listing.
 use Rattle.std.specs.Prelude.{◌≡◌, ◌↔◌, ℕ, suc, ◌+◌, ◌<◌, ◌≤◌, Bool, List, length}
 use Rattle.nf_rational.specs.Rational.{ℚ}
 use Rattle.nf_work.specs.Passing.{Passing}
@@ -15,8 +15,8 @@ use Rattle.nf_listing_laws.specs.Forcing.{left_of, filled, sets_left, IsForcing,
 use Rattle.nf_listing_laws.specs.Ways.{Choices, AreIn, ways_before, AreSole, choices_of}
 use Rattle.nf_listing_laws.specs.Firm.{choices_by, AreFirm, AllAscend, firm_before}
 
--- The listed patterns that have the forced states are those that are listed for the sets that are left, with the forced states put
--- in; in the same order, and with as many changes more for each.
+-- The listed patterns with the forced states are those listed for the sets left, with the forced states put in. They are in the same order,
+-- and each has the same number of additional changes.
 pub record ForcedPatternsAreListed : Type 0 where
   pub taken : (nodes source : ℕ) (hops : List Hop) (sets : Sets) (unbounded : List Bool) (forced p : Pattern)
       → IsForcing sets unbounded forced
@@ -40,7 +40,7 @@ pub record ForcedPatternsAreListed : Type 0 where
 
 -- ---- searches
 
--- a network's listing, and that of what is left where each pattern that is listed and solvable has the forced states
+-- A network's listing, and the listing without the forced links. Each listed and solvable pattern has the forced states.
 pub record Narrows (net : Network) (sets : Sets) (rate : ℚ) (base forced : Pattern) (listing narrow : List Pattern) : Type 0 where
   pub forcing : IsForcing sets (unbounded net) forced
   pub starts : IsPattern sets (unbounded net) base
@@ -48,13 +48,14 @@ pub record Narrows (net : Network) (sets : Sets) (rate : ℚ) (base forced : Pat
   pub part : IsListing net.nodes net.source (hops net) (sets_left forced sets) (unbounded net) (left_of forced base) narrow
   pub allowed : (pattern : Pattern) → IsListedIn net sets pattern → IsSolvable net sets rate pattern → HasForced forced pattern
 
--- none of the patterns before a place is accepted, with the forced states put in
+-- No pattern before this rank is accepted, with the forced states put in.
 abbrev pub NoneFilledBefore : Passing → Network → Sets → ℚ → Pattern → List Pattern → ℕ → Type 0
 NoneFilledBefore passes net sets rate forced narrow place =
     (other : ℕ) (p : Pattern) → other < place → HasPlace narrow other p → IsAccepted passes net sets rate (filled forced p) → ⊥
 
--- The first one that is accepted with the forced states is the first accepted one of the whole listing, at no earlier place; where
--- the first ones of so many aren't, nor are as many of the whole listing; and where none is, none at all is accepted.
+-- The first accepted pattern with the forced states is the first accepted pattern of the whole listing, at this rank or a later one. If
+-- there are more than `budget` patterns left and none of the first `budget` is accepted, the same holds for the whole listing. If no
+-- pattern left is accepted, none of the whole listing is.
 pub record NarrowedSearchTells : Type 0 where
   pub found : (passes : Passing) (net : Network) (sets : Sets) (rate : ℚ) (base forced : Pattern) (listing narrow : List Pattern)
       (place : ℕ) (p : Pattern)
@@ -70,7 +71,7 @@ pub record NarrowedSearchTells : Type 0 where
       → Narrows net sets rate base forced listing narrow → ((place : ℕ) → NoneFilledBefore passes net sets rate forced narrow place)
       → NoneAccepted passes net sets rate listing
 
--- Where active links hold no cycle, the slopes of a thin flow force states that each listed and solvable pattern has.
+-- If the active links hold no cycle, the slopes of a thin flow force states that each listed and solvable pattern has.
 abbrev pub SlopesForceStates : Type 0
 SlopesForceStates = (net : Network) (sets : Sets) (rate : ℚ) (base : Pattern) (flows slopes : List ℚ) → IsNetwork net → AreSets net sets
     → HoldNoCycle net sets
@@ -78,10 +79,10 @@ SlopesForceStates = (net : Network) (sets : Sets) (rate : ℚ) (base : Pattern) 
     → IsForcing sets (unbounded net) (forced_by net slopes base)
     × ((pattern : Pattern) → IsListedIn net sets pattern → IsSolvable net sets rate pattern → HasForced (forced_by net slopes base) pattern)
 
--- ---- places
+-- ---- ranks
 
--- A pattern of a listing stands at most one place behind as many assignments as come before it, whatever states links may have,
--- if only each listed pattern has such states.
+-- The rank of a pattern is at most one more than the number of assignments before it. The choices may be any that contain the states of
+-- each listed pattern.
 abbrev pub PlacesAreBounded : Type 0
 PlacesAreBounded = (nodes source : ℕ) (hops : List Hop) (sets : Sets) (unbounded : List Bool) (base : Pattern) (choices : Choices)
     (listing : List Pattern) (place : ℕ) (p : Pattern)
@@ -89,7 +90,7 @@ PlacesAreBounded = (nodes source : ℕ) (hops : List Hop) (sets : Sets) (unbound
     → ((q : Pattern) → IsListed nodes source hops sets unbounded q → AreIn choices q)
     → length base ≡ length sets.active → HasPlace listing place p → place ≤ suc (ways_before choices base p)
 
--- Each listed pattern has such states: Full for no unbounded link, and Zero for none that alone can enter its head.
+-- Each listed pattern has such states: Full for no unbounded link, and Zero for no link that alone can enter its head.
 abbrev pub ListedStatesAreChoices : Type 0
 ListedStatesAreChoices = (nodes source : ℕ) (hops : List Hop) (sets : Sets) (unbounded sole : List Bool) (base p : Pattern)
     → ((e : ℕ) (hop : Hop) → IsHop hops e hop → hop.head < nodes) → ((e : ℕ) → Has sets.resetting e → Has sets.active e)
@@ -97,7 +98,7 @@ ListedStatesAreChoices = (nodes source : ℕ) (hops : List Hop) (sets : Sets) (u
     → length unbounded ≡ length sets.active → length sole ≡ length sets.active → AreSole source hops sets sole
     → IsListed nodes source hops sets unbounded p → AreIn (choices_of base unbounded sole) p
 
--- A pattern of a listing stands behind as many places as assignments come before it, if each of these is listed.
+-- The rank of a pattern is greater than the number of assignments before it, if each assignment is listed and the choices ascend.
 abbrev pub PlacesAreBoundedBelow : Type 0
 PlacesAreBoundedBelow = (nodes source : ℕ) (hops : List Hop) (sets : Sets) (unbounded : List Bool) (base : Pattern) (choices : Choices)
     (listing : List Pattern) (place : ℕ) (p : Pattern)
@@ -105,7 +106,7 @@ PlacesAreBoundedBelow = (nodes source : ℕ) (hops : List Hop) (sets : Sets) (un
     → ((q : Pattern) → AreIn choices q → IsListed nodes source hops sets unbounded q) → AllAscend choices
     → length base ≡ length sets.active → HasPlace listing place p → firm_before choices base p < place
 
--- Each assignment of firm states is listed, and the states ascend.
+-- Each assignment of freely combinable states is listed, and the choices ascend.
 abbrev pub FirmAssignmentsAreListed : Type 0
 FirmAssignmentsAreListed = (nodes source : ℕ) (hops : List Hop) (sets : Sets) (unbounded : List Bool) (base listed : Pattern)
     (tight full zeros : List Bool)
@@ -114,10 +115,10 @@ FirmAssignmentsAreListed = (nodes source : ℕ) (hops : List Hop) (sets : Sets) 
     → ((q : Pattern) → AreIn (choices_by base tight full zeros) q → IsListed nodes source hops sets unbounded q)
     × AllAscend (choices_by base tight full zeros)
 
--- ---- what a narrowed search answers
+-- ---- the answer of a search with forced states
 
--- The first pattern that is accepted with the forced states is what the search finds, at some place, where that is known to be within the
--- budget. Where the place of any pattern is known to be beyond, and none before it is accepted, the search finds nothing.
+-- If its rank is known to be within the budget, the search finds the first accepted pattern with the forced states, at that rank. If the
+-- rank of a pattern is known to be beyond the budget, and no earlier pattern is accepted, the answer is `OverBudget`.
 pub record NarrowedSearchAnswers : Type 0 where
   pub within : (passes : Passing) (net : Network) (sets : Sets) (rate : ℚ) (base forced : Pattern) (listing narrow : List Pattern)
       (budget place : ℕ) (p : Pattern) (flows slopes : List ℚ)

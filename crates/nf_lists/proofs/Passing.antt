@@ -1,4 +1,4 @@
--- Lists of operations in which one passes, by computation. All fractions are of 127 bits.
+-- Operation sequences in which one operation passes, by computation. All fractions have 127 bits.
 use Rattle.std.specs.Prelude.{◌≡◌, [], ◌∷◌, Option, Some, None, Result, Ok, Err, pos, refl}
 use Rattle.nf_rational.specs.Gcd.{gcd}
 use Rattle.nf_rational.specs.Rational.{ℚ, ratio}
@@ -30,7 +30,7 @@ abbrev passing : {A : Type 0} → Result A (PassedAt ℚ) → Option (Part × Op
 passing (Ok x) = None
 passing (Err p) = Some (p.part, p.op, parts_of p.left, parts_of p.right)
 
--- ---- slack: a transit time that the tail's label 1/3 can't be added to
+-- ---- slack: a transit time to which the tail's label 1/3 cannot be added
 slack_passes : passing (at_part Slack (slack_list in_127_bits (record { tail = 0; head = 1; transit = n L } ∷ []) (ratio (pos 1) 3 ∷ n 0 ∷ [])))
     ≡ Some (Slack, Sum, (pos 1, 3), (pos L, 1))
 unfolding slack_of slack_list checked beyond whole ratio gcd neg_ℚ ◌+ℚ◌ ◌-ℚ◌ ◌*ℚ◌
@@ -51,7 +51,7 @@ extend_passes : passing (phases_by far_change (n 1) (first_standing far_change (
 unfolding pattern_lists table_list equations verdict_list phase_lists extend_list advance_list labels_after curve_list checked beyond whole ratio gcd neg_ℚ inv_ℚ ◌+ℚ◌ ◌-ℚ◌ ◌*ℚ◌ ◌/ℚ◌ le_ℚ lt_ℚ min_ℚ
 extend_passes = refl
 
--- ---- advance: a label at the greatest number can't move on by 1
+-- ---- advance: a label at the greatest number cannot grow by 1
 abbrev long : Network
 long = record { nodes = 2; source = 0; sink = 1; links = link 0 1 (n L) (Some (n 1)) ∷ []; pieces = record { start = n 0; rate = n 1 } ∷ [] }
 

@@ -1,4 +1,4 @@
--- Runs by computation: phases by given patterns, and the curves of the report at their end.
+-- Runs by computation: phases by these patterns, and the curves of the report at their end.
 use Rattle.std.specs.Prelude.{◌≡◌, ℕ, List, [], ◌∷◌, Option, Some, None, Result, Ok, map, length, replicate, pos, refl}
 use Rattle.nf_rational.specs.Gcd.{gcd}
 use Rattle.nf_rational.specs.Rational.{ℚ, ratio}
@@ -105,7 +105,7 @@ one_link_to_0 : printed_run (phases_by one_link (n 0) (first_standing one_link (
 unfolding whole ratio gcd neg_ℚ inv_ℚ ◌+ℚ◌ ◌-ℚ◌ ◌*ℚ◌ ◌/ℚ◌ le_ℚ lt_ℚ
 one_link_to_0 = refl
 
--- to 4: the queue grows until 2, and is served then, while the label of the sink stands still
+-- ---- to 4: the queue grows until 2 and then shrinks, while the sink's label is constant
 one_link_to_4 : printed_run (phases_by one_link (n 4) (first_standing one_link (n 0 ∷ n 1 ∷ [])) ((Some Full ∷ []) ∷ (None ∷ []) ∷ [])) ≡ Some (record {
   reached = i 4;
   labels = (at 0 0 ∷ at 4 4 ∷ []) ∷ (at 0 1 ∷ at 2 5 ∷ at 4 5 ∷ []) ∷ [];

@@ -1,4 +1,4 @@
--- The advance list: the length of a phase, and node by node the label at its end.
+-- The advance operations: the length of a phase, and the label of each node at its end, in node order.
 use Rattle.std.specs.Prelude.{ℕ, List, Option, Some, None, Ok}
 use Rattle.std.specs.List.{enumerate_from}
 use Rattle.nf_rational.specs.Rational.{ℚ}
@@ -8,18 +8,18 @@ use Rattle.nf_work.specs.Checked.{Checked, checked, each, ◌>>=◌}
 use Rattle.nf_work.specs.declared.Op.TheVariants.{Sum, Difference, Product}
 use Rattle.nf_model.specs.Entries.{number_at}
 
--- an extension length, where there is one, cut at what is left to the horizon
+-- The extension length, if there is one, cut at the remaining time to the horizon.
 abbrev pub cut_at : ℚ → Option ℚ → ℚ
 cut_at left None = left
 cut_at left (Some extension) = min_ℚ left extension
 
--- a phase's length, and the labels at its end
+-- The length of a phase, and the labels at its end.
 pub record Advanced : Type 0 where
   pub length : ℚ
   pub labels : List ℚ
 
 module _ (passes : Passing) where
-  -- the label at the end, of a node of this number
+  -- The label at the phase's end, of the node with this number.
   abbrev pub label_after : ℚ → List ℚ → ℕ × ℚ → Checked ℚ
   label_after length slopes (v, label) = do
     p ← checked passes Product length (number_at slopes v)

@@ -1,4 +1,4 @@
--- The curve list: link by link, how its curves go on in a phase.
+-- The curve operations: how the curves of each link are extended in a phase, in link order.
 use Rattle.std.specs.Prelude.{ℕ, Bool, true, false, List, Option, Some, None, slice_get, unwrap_or, Ok}
 use Rattle.std.specs.List.{enumerate_from}
 use Rattle.nf_rational.specs.Rational.{ℚ}
@@ -14,26 +14,26 @@ use Rattle.nf_model.specs.ThinFlow.{Sets}
 use Rattle.nf_model.specs.Pattern.{Pattern}
 use Rattle.nf_lists.specs.Signs.{is_positive}
 
--- how a queue goes on: what is in it at the phase's end, and its slope until then, by the time at the tail
+-- The extension of a queue: its size at the phase's end, and its slope until then, by the time at the link's tail.
 pub record QueueStep : Type 0 where
   pub size : ℚ
   pub slope : ℚ
 
--- How a link goes on in a phase: what has entered it by the phase's end; the rates at which flow enters it, by the time at its
--- tail, and leaves it, by the time at its head; and its queue. Where the label of the tail stands still there is no time in
--- which flow could enter, so there is no inflow rate and no step of the queue; likewise no outflow rate at the head.
+-- The extension of a link's curves in a phase. `amount` has entered the link by the phase's end. The inflow rate is by the time at the
+-- tail, and the outflow rate by the time at the head. There is no inflow rate and no queue step if the tail's label is constant, since no
+-- time passes at the tail. There is no outflow rate if the head's label is constant.
 pub record LinkStep : Type 0 where
   pub amount : ℚ
   pub inflow_rate : Option ℚ
   pub outflow_rate : Option ℚ
   pub queue : Option QueueStep
 
--- the flow fills the link: it is resetting or Full
+-- The flow fills the link: the link is resetting or Full.
 abbrev pub is_filled : Option State → Bool → Bool
 is_filled (Some Full) resetting = true
 is_filled state resetting = resetting
 
--- what the list reads of a link: its slopes are those of the labels of its ends, and the labels are those at the phase's end
+-- The values that the operations read for a link. The labels of its ends are those at the phase's end, and the slopes are of these labels.
 pub record LinkPhase : Type 0 where
   pub capacity : Option ℚ
   pub transit : ℚ
@@ -44,7 +44,7 @@ pub record LinkPhase : Type 0 where
   pub tail_label : ℚ
   pub head_label : ℚ
 
--- that of a link with its number; the flow is 0 where the link isn't active
+-- The values of a link with its number. The flow is 0 if the link is not active.
 abbrev pub link_phase : Sets → Pattern → List ℚ → List ℚ → List ℚ → ℕ × Link → LinkPhase
 link_phase sets pattern flows slopes labels (e, link) = record {
   capacity = link.capacity;
@@ -58,24 +58,24 @@ link_phase sets pattern flows slopes labels (e, link) = record {
 }
 
 module _ (passes : Passing) where
-  -- flow over slope, where that is above 0
+  -- Flow over slope, if the slope is greater than 0.
   abbrev pub rate_over : Bool → ℚ → ℚ → Checked (Option ℚ)
   rate_over false flow slope = Ok None
   rate_over true flow slope = do
     rate ← checked passes Quotient flow slope
     Ok (Some rate)
 
-  -- capacity times slack, where that is above 0
+  -- Capacity times slack, if the slack is greater than 0.
   abbrev pub size_at : Bool → Option ℚ → ℚ → Checked ℚ
   size_at true (Some capacity) slack = checked passes Product capacity slack
   size_at above capacity slack = Ok 0ℚ
 
-  -- inflow rate less capacity, where the link is filled
+  -- Inflow rate less capacity, if the link is filled.
   abbrev pub slope_at : Bool → Option ℚ → ℚ → Checked ℚ
   slope_at true (Some capacity) rate = checked passes Difference rate capacity
   slope_at filled capacity rate = Ok 0ℚ
 
-  -- where there is an inflow rate
+  -- The queue step, if there is an inflow rate.
   abbrev pub queue_step : LinkPhase → Option ℚ → Checked (Option QueueStep)
   queue_step link None = Ok None
   queue_step link (Some rate) = do
@@ -94,7 +94,7 @@ module _ (passes : Passing) where
     queue ← queue_step link inflow_rate
     Ok (record { amount = amount; inflow_rate = inflow_rate; outflow_rate = outflow_rate; queue = queue })
 
-  -- the labels are those at the phase's end, and the amounts what had entered the links at its beginning
+  -- The curve operations of all links. `labels` are at the phase's end; `amounts` had entered the links by the phase's start.
   unfoldable pub curve_list : Network → Sets → Pattern → ℚ → List ℚ → List ℚ → List ℚ → List ℚ → Checked (List LinkStep)
   curve_list net sets pattern length flows slopes labels amounts =
       each (λ numbered. link_step length (number_at amounts numbered.0) (link_phase sets pattern flows slopes labels numbered))

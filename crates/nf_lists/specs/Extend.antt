@@ -1,5 +1,5 @@
--- The extend list: how long a phase may last. Link by link, after how long it changes sides, and last how long it is until the
--- next inflow change.
+-- The extend operations: how long a phase may last. They give, for each link in order, the time until its slack becomes 0, and last the
+-- time until the next change of the supply.
 use Rattle.std.specs.Prelude.{ℕ, Bool, true, false, List, Option, Some, None, Ok}
 use Rattle.std.specs.List.{enumerate_from}
 use Rattle.nf_rational.specs.Rational.{ℚ}
@@ -12,13 +12,13 @@ use Rattle.nf_model.specs.Entries.{number_at}
 use Rattle.nf_model.specs.Network.{Link, Network, next_change}
 use Rattle.nf_lists.specs.Signs.{is_zero, are_opposite}
 
--- the lesser of the lengths so far and one more; none so far where there was none
+-- The lesser of the least length so far and this length, or this length if there is none so far.
 abbrev pub lesser : Option ℚ → ℚ → Option ℚ
 lesser None length = Some length
 lesser (Some least) length = Some (min_ℚ least length)
 
 module _ (passes : Passing) where
-  -- how long a slack takes to become 0 that changes by this much per unit of time: where it goes towards 0
+  -- The least length, with the time until a slack that changes by `change` per unit of time becomes 0, if it moves towards 0.
   abbrev pub to_zero : Bool → Option ℚ → ℚ → ℚ → Checked (Option ℚ)
   to_zero false least slack change = Ok least
   to_zero true least slack change = do
@@ -26,7 +26,7 @@ module _ (passes : Passing) where
     length ← checked passes Quotient m change
     Ok (lesser least length)
 
-  -- a link whose slack is 0 has no part in it
+  -- The least length after a link. A link whose slack is 0 does not change it.
   abbrev pub after_link : Bool → Option ℚ → ℚ → ℚ → ℚ → Checked (Option ℚ)
   after_link true least slack tail_slope head_slope = Ok least
   after_link false least slack tail_slope head_slope = do
@@ -43,7 +43,7 @@ module _ (passes : Passing) where
     length ← checked passes Difference change time
     Ok (lesser least length)
 
-  -- the extension length, and none where the phase may last for any length
+  -- The extension length, or none if the phase may last for any length.
   unfoldable pub extend_list : Network → List ℚ → List ℚ → ℚ → Checked (Option ℚ)
   extend_list net slacks slopes time = do
     least ← fold_checked (least_after slacks slopes) None (enumerate_from 0 net.links)

@@ -1,5 +1,4 @@
--- The phase run: from departure 0 on, phase by phase, each by the first accepted pattern, until the horizon or a stop. And its
--- report.
+-- The phase run and its report. From departure 0 on, each phase is made by the first accepted pattern, until the horizon or a stop.
 use Rattle.std.specs.Prelude.{◌≡◌, ℕ, suc, ◌<◌, List, length, map, replicate, Option, Some, None, Result, Ok, Err}
 use Rattle.nf_rational.specs.Rational.{ℚ}
 use Rattle.nf_rational.specs.Operations.{0ℚ, ◌+ℚ◌}
@@ -24,8 +23,8 @@ use Rattle.nf_lists.specs.CurveList.{LinkStep, curve_list}
 use Rattle.nf_lists.specs.Search.{SearchAnswer, Found, OverBudget, PassesAt, NoPattern, IsSearch}
 use Rattle.nf_lists.specs.ReportCurves.{GrowingCurve, LinkCurves, first_label_curve, first_curves, label_curves_after, link_curves_after, amount_so_far}
 
--- where a run stands: the departure that it has reached, with the labels of the nodes; the curves up to there; and how many
--- phases were made, with the pattern of the last one
+-- The state of a run. It has the departure reached, the labels of the nodes there, the curves up to there, the number of phases made, and
+-- the pattern of the last phase.
 pub record Standing : Type 0 where
   pub time : ℚ
   pub labels : List ℚ
@@ -34,19 +33,19 @@ pub record Standing : Type 0 where
   pub made : ℕ
   pub last : Pattern
 
--- how far a run goes: to a horizon, with so many phases, and so many patterns in each
+-- The bounds of a run: the horizon, the number of phases, and the number of patterns in each phase.
 pub record Bounds : Type 0 where
   pub horizon : ℚ
   pub phases : ℕ
   pub patterns : ℕ
 
--- what a phase comes to
+-- The result of a phase: its length, the labels at its end, and the extension of each link's curves.
 pub record PhaseStep : Type 0 where
   pub length : ℚ
   pub labels : List ℚ
   pub links : List LinkStep
 
--- before the first phase: the labels are the least transit sums from the source, and no link has a state yet
+-- The run state before the first phase. The labels are the least transit sums from the source, and no link has a state.
 pub record IsStart (net : Network) (s : Standing) : Type 0 where
   pub time : s.time ≡ 0ℚ
   pub labels : AreStartLabels net s.labels
@@ -55,7 +54,7 @@ pub record IsStart (net : Network) (s : Standing) : Type 0 where
   pub made : s.made ≡ 0
   pub last : s.last ≡ replicate (length net.links) None
 
--- after a phase with this pattern and these slopes
+-- The run state after a phase with this pattern and these slopes.
 abbrev pub standing_after : Network → Standing → Pattern → List ℚ → PhaseStep → Standing
 standing_after net s pattern slopes step = record {
   time = s.time +ℚ step.length;
@@ -66,16 +65,16 @@ standing_after net s pattern slopes step = record {
   last = pattern;
 }
 
--- why a search in a phase has no thin flow
+-- The cause for which a phase's search gives no thin flow, or none if it gives one.
 abbrev pub cause_of_search : ℕ → ℕ → SearchAnswer → Option (Cause ℚ)
 cause_of_search phase budget (Found place pattern flows slopes) = None
 cause_of_search phase budget OverBudget = Some (Cause.Patterns phase budget)
 cause_of_search phase budget (PassesAt place at) = Some (Cause.Passed phase (Some place) at)
 cause_of_search phase budget NoPattern = Some (Cause.NoPattern phase)
 
--- ---- one phase, to a horizon and with a budget of patterns
+-- ---- one phase, with this horizon and this budget of patterns
 module _ (passes : Passing) (net : Network) (horizon : ℚ) where
-  -- the lists of extend, advance and curve, in this order
+  -- The extend, advance and curve operations, in this order.
   unfoldable pub phase_lists : Standing → Pattern → List ℚ → List ℚ → Result PhaseStep (PassedAt ℚ)
   phase_lists s pattern flows slopes = do
     extension ← at_part Extend (extend_list passes net (slacks_of (hops net) s.labels) slopes s.time)
@@ -85,20 +84,20 @@ module _ (passes : Passing) (net : Network) (horizon : ℚ) where
     Ok (record { length = advanced.length; labels = advanced.labels; links = links })
 
 module _ (passes : Passing) (net : Network) (horizon : ℚ) (patterns : ℕ) where
-  -- the search of the phase that begins here, by the sets of the slacks and the rate
+  -- The search of the phase that begins here, for the link sets of the slacks and the supply's rate.
   pub record IsSearchHere (s : Standing) (answer : SearchAnswer) : Type 0 where
     pub base : Pattern
     pub is_base : IsBase (hops net) (sets_at net s.labels) s.last base
     pub is_search : IsSearch passes net (sets_at net s.labels) (rate_at net s.time) base patterns answer
 
-  -- the run is below the horizon and no operation of the slack list passes, so a pattern is sought
+  -- The run is below the horizon, no slack operation passes, and the search gives this answer.
   pub record Seeks (s : Standing) (answer : SearchAnswer) : Type 0 where
     pub below : s.time <ℚ horizon
     pub slacks : slack_list passes (hops net) s.labels ≡ Ok (slacks_of (hops net) s.labels)
     pub search : IsSearchHere s answer
 
-  -- A phase is made by the first accepted pattern. No operation of its lists passes, and it lasts for the extension length, cut
-  -- at the horizon.
+  -- One phase is made, by the first accepted pattern. No operation of the phase passes. Its length is the extension length, cut at the
+  -- horizon.
   pub record Goes (s new : Standing) : Type 0 where
     pub place : ℕ
     pub pattern : Pattern
@@ -110,8 +109,7 @@ module _ (passes : Passing) (net : Network) (horizon : ℚ) (patterns : ℕ) whe
     pub is_length : IsPhaseLength net (slacks_of (hops net) s.labels) slopes s.time horizon step.length
     pub new_is : new ≡ standing_after net s pattern slopes step
 
-  -- The first cause for which no phase can be made: an operation of the slack list passes; the search finds no pattern; or an
-  -- operation of the phase's lists passes.
+  -- The first cause for which no phase can be made: a slack operation passes, the search finds no pattern, or a phase operation passes.
   pub data Fails (s : Standing) : Cause ℚ → Type 0 where
     at_slack : (p : Passed ℚ) → s.time <ℚ horizon → slack_list passes (hops net) s.labels ≡ Err p
         → Fails s (Cause.Passed (suc s.made) None (placed Slack p))
@@ -122,8 +120,8 @@ module _ (passes : Passing) (net : Network) (horizon : ℚ) (patterns : ℕ) whe
 
 -- ---- phase by phase
 module _ (passes : Passing) (net : Network) (bounds : Bounds) where
-  -- From here on, the run ends there: at the horizon; or below it, where as many phases as allowed were made or the next one
-  -- fails.
+  -- From a run state on, the run ends in another state: at the horizon, or below it with a stop. It stops if as many phases as allowed are
+  -- made, or the next phase fails.
   pub data Runs : Standing → Standing → Option (Cause ℚ) → Type 0 where
     at_horizon : {s : Standing} → s.time ≡ bounds.horizon → Runs s s None
     at_phases : {s : Standing} → s.time <ℚ bounds.horizon → s.made ≡ bounds.phases → Runs s s (Some (Cause.Phases s.made))
@@ -148,7 +146,7 @@ flow_of s = record {
   queues = map (λ curves. curves.queue.points) s.link_curves;
 }
 
--- each curve of a flow is in short form: it has one point, or its slopes change at each inner point
+-- Each curve of the flow is in short form: it has one point, or its slope changes at each inner point.
 pub record IsShortFlow (net : Network) (flow : Flow) : Type 0 where
   pub labels : (v : ℕ) → v < net.nodes → IsShort (points_at flow.labels v)
   pub inflows : (e : ℕ) → e < length net.links → IsShort (points_at (points_of flow.inflows) e)
@@ -158,7 +156,7 @@ pub record IsShortFlow (net : Network) (flow : Flow) : Type 0 where
 abbrev pub report_of : ℚ → Standing → Option (Cause ℚ) → Report
 report_of horizon s stop = record { horizon = horizon; flow = flow_of s; stop = stop; last = s.last }
 
--- the report of the phase run
+-- The report of the phase run.
 pub record IsRunReport (passes : Passing) (net : Network) (bounds : Bounds) (report : Report) : Type 0 where
   pub last : Standing
   pub stop : Option (Cause ℚ)

@@ -1,5 +1,5 @@
--- The curves of a run's report, as they grow phase by phase. They are in short form: a curve that goes on with the slope that it
--- had gets no corner; its last point moves.
+-- The curves of a run's report, as they are extended phase by phase. They are in short form: if a curve is extended with its last slope,
+-- its last point moves, and it gets no corner.
 use Rattle.std.specs.Prelude.{◌-◌, Bool, true, false, List, [], ◌∷◌, ◌++◌, length, take, Option, Some, None}
 use Rattle.std.specs.List.{last_or}
 use Rattle.std.specs.Option.{option_map_or}
@@ -14,17 +14,17 @@ use Rattle.nf_lists.specs.CurveList.{QueueStep, LinkStep}
 
 -- ---- one more point
 
--- whether a curve that came to its last point with a slope, where it has more points than one, goes on with the same
+-- The curve has a last slope, and is extended with the same slope.
 abbrev pub goes_on : Option ℚ → ℚ → Bool
 goes_on None slope = false
 goes_on (Some before) slope = is_same before slope
 
--- where it does, the new point takes the place of the last
+-- The new point replaces the last point if the slope is the same, and is appended otherwise.
 abbrev pub with_point : Bool → List Point → Point → List Point
 with_point true points point = take (length points - 1) points ++ point ∷ []
 with_point false points point = points ++ point ∷ []
 
--- a curve, and the slope with which it came to its last point
+-- A curve, and the slope up to its last point if it has more than one point.
 pub record GrowingCurve : Type 0 where
   pub points : List Point
   pub slope : Option ℚ
@@ -32,7 +32,7 @@ pub record GrowingCurve : Type 0 where
 abbrev pub curve_with : GrowingCurve → Point → ℚ → GrowingCurve
 curve_with curve point slope = record { points = with_point (goes_on curve.slope slope) curve.points point; slope = Some slope }
 
--- a curve with the rate from each of its points to the next
+-- The rates of a curve, each from one point to the next, after one more point.
 abbrev pub with_rate : Bool → List ℚ → ℚ → List ℚ
 with_rate true rates rate = rates
 with_rate false rates rate = rates ++ rate ∷ []
@@ -45,11 +45,11 @@ trace_with trace point rate = record {
 
 -- ---- the first points
 
--- the curve of a node's label: it begins with the label of departure 0
+-- A label curve begins with the label of departure 0.
 abbrev pub first_label_curve : ℚ → GrowingCurve
 first_label_curve label = record { points = (0ℚ, label) ∷ []; slope = None }
 
--- a curve at a node begins with 0 at time 0, and stays 0 until the label of departure 0 there
+-- A curve at a node begins with 0 at time 0, and is 0 until the label of departure 0 there.
 abbrev pub first_queue : Bool → ℚ → GrowingCurve
 first_queue true label = record { points = (0ℚ, 0ℚ) ∷ (label, 0ℚ) ∷ []; slope = Some 0ℚ }
 first_queue false label = record { points = (0ℚ, 0ℚ) ∷ []; slope = None }
@@ -58,7 +58,7 @@ abbrev pub first_trace : Bool → ℚ → Trace
 first_trace true label = record { points = (0ℚ, 0ℚ) ∷ (label, 0ℚ) ∷ []; rates = 0ℚ ∷ [] }
 first_trace false label = record { points = (0ℚ, 0ℚ) ∷ []; rates = [] }
 
--- the curves of a link: its inflow and its queue by the time at its tail, its outflow by the time at its head
+-- The curves of a link: inflow and queue by the time at its tail, and outflow by the time at its head.
 pub record LinkCurves : Type 0 where
   pub inflow : Trace
   pub outflow : Trace
@@ -73,13 +73,13 @@ first_curves labels link = record {
 
 -- ---- the points of a phase: at its end, and at the labels there
 
--- the label of a node, by departure
+-- The label curve of each node, by departure.
 abbrev pub label_curves_after : ℚ → List ℚ → List ℚ → List GrowingCurve → List GrowingCurve
 label_curves_after time (label ∷ labels) (slope ∷ slopes) (curve ∷ curves) =
     curve_with curve (time, label) slope ∷ label_curves_after time labels slopes curves
 label_curves_after time labels slopes curves = []
 
--- no point where the label stands still
+-- The curve gets no point if the label is constant.
 abbrev pub trace_after : Trace → ℚ → ℚ → Option ℚ → Trace
 trace_after trace label amount None = trace
 trace_after trace label amount (Some rate) = trace_with trace (label, amount) rate
@@ -100,6 +100,6 @@ link_curves_after labels (link ∷ links) (c ∷ curves) (step ∷ steps) =
     curves_after labels link c step ∷ link_curves_after labels links curves steps
 link_curves_after labels links curves steps = []
 
--- ---- what has entered a link so far: the value of its inflow curve's last point
+-- ---- the amount that has entered a link so far: the value of its inflow curve's last point
 abbrev pub amount_so_far : LinkCurves → ℚ
 amount_so_far curves = option_map_or (λ point. point.1) (last_or None curves.inflow.points) 0ℚ

@@ -1,4 +1,4 @@
--- The search for a thin flow: the first accepted pattern of the listing, within a budget of patterns.
+-- The search for a thin flow, by the first accepted pattern of the listing, within a budget of patterns.
 use Rattle.std.specs.Prelude.{◌≡◌, ℕ, suc, ◌<◌, ◌≤◌, List, length, Err, IsOk}
 use Rattle.nf_rational.specs.Rational.{ℚ}
 use Rattle.nf_work.specs.Passing.{Passing}
@@ -9,18 +9,18 @@ use Rattle.nf_model.specs.Pattern.{Pattern, IsSolution}
 use Rattle.nf_lists.specs.Accepted.{pattern_lists, IsAccepted}
 use Rattle.nf_lists.specs.Listing.{HasPlace, IsListingIn}
 
--- what a search answers
+-- The answers of a search.
 pub data SearchAnswer : Type 0 where
-  -- the first accepted pattern, with its place and its thin flow: flows of the links and slopes of the nodes
+  -- The first accepted pattern, with its rank and its thin flow: the flows of the links and the slopes of the nodes.
   Found : (place : ℕ) (pattern : Pattern) (flows slopes : List ℚ) → SearchAnswer
-  -- the listing is longer than the budget
+  -- The listing is longer than the budget, and no pattern within the budget is accepted.
   OverBudget : SearchAnswer
-  -- at this place an operation passes at first
+  -- No pattern is accepted, and an operation passes: the rank of the first such pattern, and its first passing operation.
   PassesAt : (place : ℕ) (at : PassedAt ℚ) → SearchAnswer
   NoPattern : SearchAnswer
 
 module _ (passes : Passing) (net : Network) (sets : Sets) (rate : ℚ) (listing : List Pattern) where
-  -- no pattern before this place is accepted
+  -- No pattern before this rank is accepted.
   abbrev pub NoneAcceptedBefore : ℕ → Type 0
   NoneAcceptedBefore place = (other : ℕ) (pattern : Pattern) → other < place → HasPlace listing other pattern
       → IsAccepted passes net sets rate pattern → ⊥
@@ -35,17 +35,17 @@ module _ (passes : Passing) (net : Network) (sets : Sets) (rate : ℚ) (listing 
     pub accepted : IsAccepted passes net sets rate pattern
     pub solution : IsSolution net sets rate pattern flows slopes
 
-  -- the budget is tried in vain, and there are more patterns
+  -- No pattern within the budget is accepted, and the listing is longer.
   pub record IsOverBudget (budget : ℕ) : Type 0 where
     pub longer : budget < length listing
     pub none_accepted : NoneAcceptedBefore (suc budget)
 
-  -- the whole listing is tried in vain
+  -- No pattern of the whole listing is accepted, and the listing is not longer than the budget.
   pub record IsInVain (budget : ℕ) : Type 0 where
     pub not_longer : length listing ≤ budget
     pub none_accepted : NoneAccepted
 
-  -- the first pattern of which an operation passes, and the first one of its operations that does
+  -- The pattern of this rank is the first one of which an operation passes, and `at` is its first passing operation.
   pub record IsFirstPassing (place : ℕ) (at : PassedAt ℚ) : Type 0 where
     pub pattern : Pattern
     pub has_place : HasPlace listing place pattern
@@ -62,7 +62,7 @@ module _ (passes : Passing) (net : Network) (sets : Sets) (rate : ℚ) (listing 
   Answers budget (PassesAt place at) = IsInVain budget × IsFirstPassing place at
   Answers budget NoPattern = IsInVain budget × NonePasses
 
--- the answer of the search that begins with this base pattern and tries no more patterns than the budget
+-- The answer of the search with this base pattern and this budget of patterns.
 pub record IsSearch (passes : Passing) (net : Network) (sets : Sets) (rate : ℚ) (base : Pattern) (budget : ℕ)
     (answer : SearchAnswer) : Type 0 where
   pub listing : List Pattern

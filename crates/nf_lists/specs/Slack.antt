@@ -1,4 +1,4 @@
--- The slack list: link by link, the operations that give its slack.
+-- The slack operations: the slack of each link, in link order.
 use Rattle.std.specs.Prelude.{List}
 use Rattle.nf_rational.specs.Rational.{ℚ}
 use Rattle.nf_work.specs.Passing.{Passing}
@@ -8,7 +8,7 @@ use Rattle.nf_model.specs.Entries.{number_at}
 use Rattle.nf_model.specs.Walk.{Hop}
 
 module _ (passes : Passing) where
-  -- the tail's label and the transit time, and how much later the head's label is
+  -- The head's label less the tail's label and the transit time.
   unfoldable pub slack_of : List ℚ → Hop → Checked ℚ
   slack_of labels hop = do
     a ← checked passes Sum (number_at labels hop.tail) hop.transit

@@ -1,5 +1,5 @@
--- The table list: elimination of a linear system, as Gauss and Jordan do it. The table has as many rows as unknowns, and each
--- row has a number for each unknown (its columns) and then its right side.
+-- The table operations: Gauss-Jordan elimination of a linear system. The table has as many rows as unknowns. Each row has a number for each
+-- unknown (its columns), and then its right side.
 use Rattle.std.specs.Prelude.{ℕ, zero, suc, Bool, true, false, not, ◌&&◌, ◌||◌, ◌==◌, if◌then◌else◌, List, [], ◌∷◌, ◌++◌, length, take, drop, Option, Some, None, slice_get, unwrap_or, Ok}
 use Rattle.std.specs.List.{list_any}
 use Rattle.nf_rational.specs.Rational.{ℚ}
@@ -18,8 +18,7 @@ row_at rows i = unwrap_or (slice_get rows i) []
 
 -- ---- pivots
 
--- The pivot of a column: the first row that is the pivot of no column yet and has an entry other than 0 there. Here these are
--- the rows from number i on.
+-- The pivot of a column: the first row, from number i on, that is no pivot so far and has a nonzero entry in the column.
 abbrev pub pivot_from : ℕ → List Row → List ℕ → ℕ → Option ℕ
 pivot_from i [] pivots column = None
 pivot_from i (row ∷ rows) pivots column =
@@ -29,22 +28,22 @@ pivot_from i (row ∷ rows) pivots column =
 abbrev pub pivot_of : List Row → List ℕ → ℕ → Option ℕ
 pivot_of rows pivots column = pivot_from 0 rows pivots column
 
--- rows, with the pivot row of each column so far
+-- Rows, with the pivot row of each column so far.
 pub record Eliminated : Type 0 where
   pub rows : List Row
   pub pivots : List ℕ
 
 module _ (passes : Passing) where
-  -- ---- a column is cleared in all rows but its pivot row
+  -- ---- clearing of a column in all rows except its pivot row
 
-  -- an entry less f times that of the pivot row; no operation where that is 0
+  -- An entry less f times the pivot row's entry. If the pivot row's entry is 0, there is no operation.
   abbrev pub less_unless : Bool → ℚ → ℚ → ℚ → Checked ℚ
   less_unless true f p x = Ok x
   less_unless false f p x = do
     m ← checked passes Product f p
     checked passes Difference x m
 
-  -- the same for all entries from a column on, the right side last
+  -- The same for all entries from a column on, the right side last.
   abbrev pub entries_less : ℚ → Row → Row → Checked Row
   entries_less f (p ∷ pivot_row) (x ∷ row) = do
     y ← less_unless (is_zero p) f p x
@@ -52,20 +51,19 @@ module _ (passes : Passing) where
     Ok (y ∷ ys)
   entries_less f pivot_row row = Ok []
 
-  -- a row with an entry in the column: the entry becomes 0, and the later ones lose the pivot row's times the quotient of the
-  -- two entries
+  -- The row with its entry in the column cleared. Each later entry loses the quotient of the two entries times the pivot row's entry.
   abbrev pub cleared_row : ℕ → Row → Row → Checked Row
   cleared_row column pivot_row row = do
     f ← checked passes Quotient (number_at row column) (number_at pivot_row column)
     later ← entries_less f (drop (suc column) pivot_row) (drop (suc column) row)
     Ok (take column row ++ 0ℚ ∷ later)
 
-  -- a row stays as it is where it is the pivot row, or has no entry in the column
+  -- The pivot row, and a row with entry 0 in the column, stay unchanged.
   abbrev pub clear_unless : Bool → ℕ → Row → Row → Checked Row
   clear_unless true column pivot_row row = Ok row
   clear_unless false column pivot_row row = cleared_row column pivot_row row
 
-  -- the rows from number i on, in order
+  -- The rows from number i on, cleared in order.
   abbrev pub clear_rows : ℕ → ℕ → Row → ℕ → List Row → Checked (List Row)
   clear_rows column pivot pivot_row i [] = Ok []
   clear_rows column pivot pivot_row i (row ∷ rows) = do
@@ -75,7 +73,7 @@ module _ (passes : Passing) where
 
   -- ---- column by column
 
-  -- a column without pivot ends the list
+  -- A column without a pivot ends the operations.
   abbrev pub eliminate_at : Eliminated → ℕ → Option ℕ → Checked (Option Eliminated)
   eliminate_at done column None = Ok None
   eliminate_at done column (Some pivot) = do
@@ -89,14 +87,14 @@ module _ (passes : Passing) where
   if_some f None = Ok None
   if_some f (Some x) = f x
 
-  -- so many columns, from this one on
+  -- Elimination of the given number of columns, from this column on.
   abbrev pub eliminate_from : ℕ → ℕ → Eliminated → Checked (Option Eliminated)
   eliminate_from zero column done = Ok (Some done)
   eliminate_from (suc more) column done = eliminate_column done column >>= if_some (λ next. eliminate_from more (suc column) next)
 
   -- ---- the solution
 
-  -- the right side of the pivot row over its entry, for each column from this one on
+  -- For each column from this one on, the right side of its pivot row over the entry there.
   abbrev pub solution_from : List Row → ℕ → List ℕ → Checked (List ℚ)
   solution_from rows column [] = Ok []
   solution_from rows column (pivot ∷ pivots) = do
@@ -109,6 +107,6 @@ module _ (passes : Passing) where
     xs ← solution_from done.rows 0 done.pivots
     Ok (Some xs)
 
-  -- the value of each unknown, and none where the system has not exactly one solution
+  -- The value of each unknown, or none if the system does not have exactly one solution.
   unfoldable pub table_list : List Row → Checked (Option (List ℚ))
   table_list rows = eliminate_from (length rows) 0 (record { rows = rows; pivots = [] }) >>= if_some solution_of

@@ -1,4 +1,4 @@
--- The verdict list: link by link, the greatest flow that a Tight link may carry.
+-- The verdict operations: the greatest flow that a Tight link may carry, in link order.
 use Rattle.std.specs.Prelude.{ℕ, List, Option, Some, None, slice_get, unwrap_or, Ok}
 use Rattle.std.specs.List.{enumerate_from}
 use Rattle.nf_rational.specs.Rational.{ℚ}
@@ -12,7 +12,7 @@ use Rattle.nf_model.specs.Network.{Link, Network}
 use Rattle.nf_model.specs.Pattern.{Pattern}
 
 module _ (passes : Passing) where
-  -- on a Tight link with a capacity: the capacity times the slope of the head
+  -- On a Tight link with a capacity, the capacity times the slope of the head.
   abbrev pub bound_on : Option State → Option ℚ → ℚ → Checked (Option ℚ)
   bound_on (Some Tight) (Some capacity) head_slope = do
     bound ← checked passes Product capacity head_slope

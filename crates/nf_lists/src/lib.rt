@@ -1,4 +1,4 @@
-//! Which operations on fractions a run does, in which order, and what a run and its report are. Definitions alone: see
-//! `specs/`. A list of operations is written as the computation that does them (`nf_work`): its value, or the first of its
-//! operations that passes the bound of a fraction's parts.
+//! Definitions of the operations on fractions that a run does, in their order, and of a run and its report: see `specs/`. An operation
+//! sequence is written as the computation that does it (`nf_work`). Its value is a result, or the first operation that passes the bound on
+//! a fraction's numerator and denominator.
 #![tactic(auto)]

@@ -20,7 +20,7 @@ same_entries (suc n) (x ∷ xs) (y ∷ ys) h k same =
     let first : x ≡ y = same_Some x y (same 0 (omega arith)) in
     ap (λ (w : _). w ∷ xs) first ∙ ap (λ (ws : List _). y ∷ ws) rest
 
--- ---- what can be decided
+-- ---- decidable properties
 same_state : (s t : State) → (s ≡ t) ⊎ (s ≡ t → ⊥)
 same_state Tight Tight = inl refl
 same_state Tight Full = inr (λ e. cc)

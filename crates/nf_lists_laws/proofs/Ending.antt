@@ -1,4 +1,4 @@
--- The curves of a run end at the labels of the departure that it has reached.
+-- The curves of a run end at the labels of the departure reached.
 use Rattle.std.proofs.Common.{◌≡◌, ℕ, zero, suc, ◌+◌, ◌<◌, List, [], ◌∷◌, Bool, true, false, length, refl, sym, ap, ◌∙◌, subst, arith, inl, inr}
 use Rattle.std.specs.Prelude.{◌-◌, ◌⊎◌, Option, Some, None, Result, Ok, Err, map, take, slice_get, unwrap_or}
 use Rattle.std.specs.List.{enumerate_from}
@@ -42,7 +42,7 @@ end-with_point : (goes : Bool) (points : List Point) (point : Point) → end_of 
 end-with_point true points point = ap (λ (o : Option Point). option_map_or (λ p. p.0) o 0ℚ) (last-append None (take (length points - 1) points) point)
 end-with_point false points point = ap (λ (o : Option Point). option_map_or (λ p. p.0) o 0ℚ) (last-append None points point)
 
--- ---- entries of lists that are made of others
+-- ---- entries of lists made of other lists
 module _ {A B : Type 0} (f : A → B) where
   pub from_map : (xs : List A) (e : ℕ) (y : B) → slice_get (map f xs) e ≡ Some y → (x : A) × (slice_get xs e ≡ Some x) × (f x ≡ y)
   from_map [] e y h = absurd (none-some y h)
@@ -103,7 +103,7 @@ module _ (net : Network) (is_network : IsNetwork net) where
         ∙ first_queue_end _ (number_at s.labels link.tail) (start_nn s.labels h.labels link.tail (is_network.tails e link is_link)) refl);
   }
 
--- ---- what a computation that ends with a value did
+-- ---- the steps of a computation that ends with a value
 
 part_ok : {A : Type 0} (part : Part) (r : Checked A) (x : A) → at_part part r ≡ Ok x → r ≡ Ok x
 part_ok part (Ok y) x h = cc
@@ -131,7 +131,7 @@ enumerated k [] e x h = absurd (none-some x h)
 enumerated k (y ∷ xs) zero x h = ap (λ (p : ℕ × _). Some p) (let e : k ≡ k + 0 = omega arith in ap (λ (i : ℕ). (i, y)) e ∙ ap (λ (z : _). (k + 0, z)) (same_Some y x h))
 enumerated k (y ∷ xs) (suc e) x h = enumerated (k + 1) xs e x h ∙ ap (λ (i : ℕ). Some (i, x)) (let f : (k + 1) + e ≡ k + suc e = omega arith in f)
 
--- ---- the labels that are moved
+-- ---- the moved labels
 pub number-moved : (labels slopes : List ℚ) (while : ℚ) (v : ℕ) → length slopes ≡ length labels → number_at (moved labels slopes while) v ≡ number_at labels v +ℚ while *ℚ number_at slopes v
 number-moved [] [] while v count = ring rationals (while ∷ []) (search reading depth 30) tt
 number-moved [] (r ∷ slopes) while v count = absurd (omega arith)
@@ -148,7 +148,7 @@ length-moved (x ∷ labels) (r ∷ slopes) while count = ap suc (length-moved la
 stands_still : (label while slope : ℚ) → slope ≡ 0ℚ → label ≡ label +ℚ while *ℚ slope
 stands_still label while slope still = (let f : label ≡ label +ℚ while *ℚ 0ℚ = ring rationals (label ∷ while ∷ []) (search reading depth 30) tt in f) ∙ ap (λ (x : ℚ). label +ℚ while *ℚ x) (sym still)
 
--- ---- the curve list's steps
+-- ---- the steps of the curve operations
 module _ (passes : Passing) where
   no_rate : (moves : Bool) (flow slope : ℚ) → rate_over passes moves flow slope ≡ Ok None → moves ≡ false
   no_rate false flow slope h = refl
@@ -199,7 +199,7 @@ label_end time (x ∷ labels) (r ∷ slopes) (c ∷ curves) zero curve h =
     ap (λ (k : GrowingCurve). end_of k.points) (sym (same_Some _ curve h)) ∙ end-with_point _ c.points (time, x)
 label_end time (x ∷ labels) (r ∷ slopes) (c ∷ curves) (suc v) curve h = label_end time labels slopes curves v curve h
 
--- the curves of a link after the phase, from those before it and the link's step
+-- The curves of a link after the phase, from those before the phase and the link's step.
 pub record After (labels : List ℚ) (links : List Link) (curves : List LinkCurves) (steps : List LinkStep) (e : ℕ) (link : Link) (after : LinkCurves) : Type 0 where
   pub before : LinkCurves
   pub step : LinkStep

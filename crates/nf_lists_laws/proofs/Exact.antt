@@ -1,5 +1,5 @@
--- Where no operation of a list passes, its value is that of the list in which fewer pass, and so the exact one: that of the list in which none can
--- pass.
+-- If no operation of a sequence passes, its value is also that of the sequence in which fewer operations can pass.
+-- So it is the exact value: that of the sequence in which no operation can pass.
 use Rattle.std.proofs.Common.{◌≡◌, ℕ, zero, suc, ◌+◌, List, [], ◌∷◌, Bool, true, false, length, refl, sym, ap, ◌∙◌, arith}
 use Rattle.std.specs.Prelude.{◌==◌, ◌||◌, if◌then◌else◌, Option, Some, None, Result, Ok, Err, drop, map, slice_get, unwrap_or}
 use Rattle.std.specs.List.{enumerate_from}
@@ -27,11 +27,11 @@ use Rattle.nf_lists.specs.Extend.{to_zero, after_link, least_after, until_change
 use Rattle.nf_lists.specs.Advance.{Advanced, label_after, labels_after, advance_list, cut_at}
 use Rattle.nf_lists.specs.CurveList.{LinkPhase, rate_over, size_at, slope_at, queue_step, link_step, link_phase, curve_list}
 
--- what the first computation gives, the second gives
+-- The second computation gives every value that the first gives.
 abbrev pub GivesAs : {A E : Type 0} → Result A E → Result A E → Type 0
 GivesAs {A} r s = (x : A) → r ≡ Ok x → s ≡ Ok x
 
--- ---- of the ways to put computations together
+-- ---- compositions of computations
 bind : {A B E : Type 0} (r s : Result A E) (f g : A → Result B E) → GivesAs r s → ((x : A) → GivesAs (f x) (g x)) → GivesAs (r >>= f) (s >>= g)
 bind {A = A} {E = E} (Ok a) s f g h k y e = ap (λ (w : Result A E). w >>= g) (h a refl) ∙ k a y e
 bind (Err p) s f g h k y e = cc
@@ -51,12 +51,12 @@ same r x e = e
 same_value : {A E : Type 0} (r : Result A E) (x y : A) → r ≡ Ok x → r ≡ Ok y → x ≡ y
 same_value r x y h k = cc
 
--- ---- of one operation
+-- ---- one operation
 one_at : (b c : Bool) (p : Passed ℚ) (v : ℚ) → (b ≡ false → c ≡ false) → GivesAs (if b then Err p else Ok v) (if c then Err p else Ok v)
 one_at true c p v h x e = cc
 one_at false c p v h x e = rw (h refl) e
 
--- no operation passes that doesn't pass by the first passing
+-- Each operation that passes by `fewer` also passes by `passes`.
 abbrev pub PassesFewer : Passing → Passing → Type 0
 PassesFewer passes fewer = (op : Op) (x y : ℚ) → passes op x y ≡ false → fewer op x y ≡ false
 
@@ -65,7 +65,7 @@ module _ (passes fewer : Passing) (none_more : PassesFewer passes fewer) where
   unfolding checked
   one op x y = one_at (passes op x y) (fewer op x y) (record { op = op; left = x; right = y }) (result_of op x y) (none_more op x y)
 
-  -- ---- of each list
+  -- ---- each operation sequence
   slack_as : (labels : List ℚ) (hop : Hop) → GivesAs (slack_of passes labels hop) (slack_of fewer labels hop)
   unfolding slack_of
   slack_as labels hop = bind (checked passes Sum (number_at labels hop.tail) hop.transit) (checked fewer Sum (number_at labels hop.tail) hop.transit) _ _
@@ -201,7 +201,7 @@ module _ (passes fewer : Passing) (none_more : PassesFewer passes fewer) where
   curve_list_under net sets pattern length flows slopes labels amounts =
       each_as _ _ (λ (numbered : ℕ × Link). step_as length (number_at amounts numbered.0) (link_phase sets pattern flows slopes labels numbered)) (enumerate_from 0 net.links)
 
--- ---- where none can pass
+-- ---- no operation can pass
 none_passes : (passes : Passing) → PassesFewer passes never
 none_passes passes op x y e = refl
 
@@ -229,7 +229,7 @@ pub curve_list_as : (passes : Passing) (net : Network) (sets : Sets) (pattern : 
     → GivesAs (curve_list passes net sets pattern length flows slopes labels amounts) (curve_list never net sets pattern length flows slopes labels amounts)
 curve_list_as passes = curve_list_under passes never (none_passes passes)
 
--- ---- the values of the slack list and of the advance list, by the model's definitions
+-- ---- the values of the slack and advance operations, by the model's definitions
 each_exact : {A B E : Type 0} (f : A → Result B E) (g : A → B) → ((x : A) → f x ≡ Ok (g x)) → (xs : List A) → each f xs ≡ Ok (map g xs)
 each_exact f g h [] = refl
 each_exact f g h (x ∷ xs) = ap (λ (w : Result _ _). w >>= λ y. each f xs >>= λ ys. Ok (y ∷ ys)) (h x) ∙ ap (λ (w : Result _ _). w >>= λ ys. Ok (g x ∷ ys)) (each_exact f g h xs)
@@ -243,7 +243,7 @@ unfolding slack_list
 slacks_exact passes hops labels slacks e =
     same_value (slack_list never hops labels) slacks (slacks_of hops labels) (slack_list_as passes hops labels slacks e) (each_exact (slack_of never labels) (slack labels) (slack_exact labels) hops)
 
--- the labels of the nodes from a number on, each moved
+-- The moved labels of the nodes from a number on.
 abbrev moved_label : ℚ → List ℚ → ℕ × ℚ → ℚ
 moved_label length slopes numbered = numbered.1 +ℚ length *ℚ number_at slopes numbered.0
 

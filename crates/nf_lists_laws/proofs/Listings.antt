@@ -38,7 +38,7 @@ IsBefore-transitive base p q r (inl h) (inr k) = let e = k.0 in inl (omega arith
 IsBefore-transitive base p q r (inr h) (inl k) = let e = h.0 in inl (omega arith)
 IsBefore-transitive base p q r (inr h) (inr k) = inr (h.0 ∙ k.0, IsEarlier-transitive p q r h.1 k.1)
 
--- ---- where each comes before the next, each comes before all later ones
+-- ---- if each pattern comes before the next, it comes before all later ones
 abbrev pub NextInOrder : Pattern → List Pattern → Type 0
 NextInOrder base listing = (i : ℕ) (p q : Pattern) → slice_get listing i ≡ Some p → slice_get listing (suc i) ≡ Some q → IsBefore base p q
 
@@ -58,7 +58,7 @@ all_in_order base (x ∷ xs) h zero (suc j) p q before at_p at_q =
 all_in_order base (x ∷ xs) h (suc i) zero p q before at_p at_q = absurd (omega arith)
 all_in_order base (x ∷ xs) h (suc i) (suc j) p q before at_p at_q = all_in_order base xs (tail_in_order base x xs h) i j p q (omega arith) at_p at_q
 
--- ---- places
+-- ---- ranks
 pub same_pattern : (listing : List Pattern) (place : ℕ) (p q : Pattern) → HasPlace listing place p → HasPlace listing place q → p ≡ q
 same_pattern listing place p q h k =
     let e : h.0 ≡ k.0 = (let f = h.1 in let g = k.1 in omega arith) in

@@ -1,5 +1,5 @@
--- A phase run by all of its definition: one link of transit time 1 and capacity 1, supplied at rate 1, to the horizon 1. It has one
--- phase, by its first pattern, Tight.
+-- A phase run that satisfies its whole definition: one link of transit time 1 and capacity 1, supplied at rate 1, to the horizon 1.
+-- It has one phase, by its first pattern, Tight.
 use Rattle.std.proofs.Common.{◌≡◌, ℕ, zero, suc, ◌<◌, List, [], ◌∷◌, Bool, true, false, length, refl, sym, ap, ◌∙◌, subst, arith, inl, inr}
 use Rattle.std.specs.Prelude.{◌⊎◌, ◌↔◌, Option, Some, None, Result, Ok, Err, IsOk, unwrap_or, map, slice_get}
 use Rattle.std.proofs.lemmas.Option.{none-some, same_Some}

@@ -1,4 +1,4 @@
--- A loop that pushes what comes of each entry of a list with its number: what is there so far stands before what comes of the rest.
+-- A loop that pushes a result for each numbered entry of a list: the results so far come before those of the remaining entries.
 use Rattle.std.proofs.Common.{◌≡◌, ℕ, zero, suc, ◌+◌, ◌≤◌, List, [], ◌∷◌, ◌++◌, length, drop, sym, ap, subst, refl, ◌∙◌, arith}
 use Rattle.std.specs.Prelude.{Some, slice_get, Result, Ok, Err}
 use Rattle.std.specs.List.{enumerate_from}
@@ -20,7 +20,7 @@ drop_at [] i x e = absurd (none-some x e)
 drop_at (y ∷ xs) zero x e = ap (λ (z : _). z ∷ xs) (same_Some y x e)
 drop_at (y ∷ xs) (suc i) x e = drop_at xs i x e
 
--- the value that a part of the work gives
+-- The value of a step of the work.
 pub part_ok : {A : Type 0} (part : Part) (r : Result A (Passed ℚ)) (x : A) → Ok x ≡ at_part part r → r ≡ Ok x
 part_ok part (Ok y) x e = cc
 part_ok part (Err q) x e = absurd (cc)
@@ -36,13 +36,13 @@ module _ {A B : Type 0} (f : ℕ × A → Result B (Passed ℚ)) (xs : List A) w
     so_now : each f (enumerate_from 0 xs) ≡ with_front front (each f ((i, x) ∷ drop (suc i) (enumerate_from 0 xs)))
     so_now = so ∙ ap (λ (rest : List (ℕ × A)). with_front front (each f rest)) left_is
 
-    -- one more
+    -- One more entry.
     pub one_more : (part : Part) (y : B) → Ok y ≡ at_part part (f (i, x)) → SoFar (front ++ y ∷ []) (i + 1)
     one_more part y said =
         let later : suc i ≡ i + 1 = omega arith in
         subst (SoFar (front ++ y ∷ [])) later (so_now ∙ each_ok f front (i, x) (drop (suc i) (enumerate_from 0 xs)) y (part_ok part (f (i, x)) y said))
 
-    -- at one that passes
+    -- An entry whose operation passes.
     pub one_passes : (part : Part) (p : PassedAt ℚ) → Err p ≡ at_part part (f (i, x)) → at_part part (each f (enumerate_from 0 xs)) ≡ Err p
     one_passes part p said = go (f (i, x)) refl said
       where
@@ -50,7 +50,7 @@ module _ {A B : Type 0} (f : ℕ × A → Result B (Passed ℚ)) (xs : List A) w
         go (Ok y) e k = absurd (cc)
         go (Err q) e k = ap (at_part part) (so_now ∙ each_err f front (i, x) (drop (suc i) (enumerate_from 0 xs)) q e) ∙ ap Err (same_Err {A = B} (placed part q) p (sym k))
 
-  -- after the last
+  -- After the last entry.
   pub all_done : (part : Part) (front : List B) (i : ℕ) → length xs ≤ i → SoFar front i → at_part part (each f (enumerate_from 0 xs)) ≡ Ok front
   all_done part front i end so =
       let l : length (enumerate_from 0 xs) ≤ i = omega (arith, length-enumerate_from 0 xs) in

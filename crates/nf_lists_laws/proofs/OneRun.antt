@@ -1,4 +1,4 @@
--- A phase run has one end: each phase, and each cause for which none is made, follows from where the run stands.
+-- A phase run has one end: the run state determines each phase, and each cause for which none is made.
 use Rattle.std.proofs.Common.{◌≡◌, ℕ, suc, ◌<◌, List, length, refl, sym, ap, ◌∙◌, subst, arith}
 use Rattle.std.specs.Prelude.{Option, Some, None, Result, Ok, Err, map}
 use Rattle.std.proofs.lemmas.Option.{none-some, same_Some}

@@ -38,7 +38,7 @@ seven = states Tight Zero
     ∷ states Zero Full
     ∷ []
 
--- ---- which patterns there are
+-- ---- the patterns
 states_of : (a b : State) (e : ℕ) → NeedsState both e ↔ ((state : State) × HasState (states a b) e state)
 states_of a b zero = (λ h. (a, refl), λ h. (refl, λ k. cc))
 states_of a b (suc zero) = (λ h. (b, refl), λ h. (refl, λ k. cc))
@@ -52,7 +52,7 @@ none_unbounded (suc (suc e)) h = cc
 is_pattern : (a b : State) → IsPattern both (unbounded parallel) (states a b)
 is_pattern a b = record { count = refl; states = states_of a b; no_full = λ e h k. none_unbounded e h }
 
--- ---- the forest: one of the links alone makes no cycle
+-- ---- the forest: a single link makes no cycle
 one_tight : (a b : State) → (a ≡ Tight → b ≡ Tight → ⊥) → (e f : ℕ) → HasState (states a b) e Tight → HasState (states a b) f Tight → e ≡ f
 one_tight a b not_both zero zero h k = refl
 one_tight a b not_both zero (suc zero) h k = absurd (not_both (same_Some a Tight (same_Some _ _ h)) (same_Some b Tight (same_Some _ _ k)))

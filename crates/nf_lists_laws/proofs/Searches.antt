@@ -13,7 +13,7 @@ use Rattle.nf_lists.specs.Listing.{HasPlace}
 use Rattle.nf_lists.specs.Search.{SearchAnswer, Found, OverBudget, PassesAt, NoPattern, IsFirstAccepted, IsOverBudget, IsInVain, IsFirstPassing, NonePasses, Answers, IsSearch}
 use Rattle.nf_lists_laws.proofs.Listings.{same_pattern, one_listing}
 
--- two places neither of which comes before the other are one
+-- Two ranks are equal if neither is less.
 same_place : (p q : ℕ) → (p < q → ⊥) → (q < p → ⊥) → p ≡ q
 same_place p q not_before not_after = elim (cases_lt p q) [ inl h ↦ absurd (not_before h) | inr h ↦ at h ]
   where

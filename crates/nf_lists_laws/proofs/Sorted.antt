@@ -5,7 +5,7 @@ use Rattle.std.proofs.Common.{inl, inr}
 use Rattle.std.proofs.lemmas.Option.{none-some, same_Some}
 
 module _ {A : Type 0} where
-  -- x stands in the list
+  -- The list contains x.
   abbrev pub StandsIn : List A → A → Type 0
   StandsIn xs x = (i : ℕ) × (slice_get xs i ≡ Some x)
 
@@ -18,7 +18,7 @@ module _ {A : Type 0} where
   head_before : (R : A → A → Type 0) (x y : A) (xs : List A) (j : ℕ) → InOrder R (x ∷ xs) → slice_get xs j ≡ Some y → R x y
   head_before R x y xs j h at = h 0 (suc j) x y (omega arith) refl at
 
-  -- where an element of a list with a head stands
+  -- An element of a nonempty list is its head, or in its tail.
   in_tail : (x y : A) (xs : List A) (i : ℕ) → slice_get (x ∷ xs) i ≡ Some y → (x ≡ y) ⊎ StandsIn xs y
   in_tail x y xs zero at = inl (same_Some x y at)
   in_tail x y xs (suc i) at = inr (i, at)
@@ -30,7 +30,7 @@ module _ {A : Type 0} (R : A → A → Type 0) (asymmetric : (x y : A) → R x y
   heads_at x y xs ys order_x order_y (inr y_later) (inr x_later) =
       absurd (asymmetric x y (head_before R x y xs y_later.0 order_x y_later.1) (head_before R y x ys x_later.0 order_y x_later.1))
 
-  -- an element of the tail after the same head is no head, so it stands in the other tail
+  -- An element of the tail after the same head is no head, so the other tail contains it.
   stays : (x y z : A) (xs : List A) (i : ℕ) (ys : List A) → InOrder R (x ∷ xs) → x ≡ y → slice_get xs i ≡ Some z → (y ≡ z) ⊎ StandsIn ys z → StandsIn ys z
   stays x y z xs i ys order_x e at (inr later) = later
   stays x y z xs i ys order_x e at (inl f) =

@@ -1,5 +1,5 @@
--- What holds whatever the network: there is at most one listing, one answer of a search, and one report of a run; the curves of a
--- run end at its labels; and the lists of operations give exact values.
+-- Theorems on all networks. There is at most one listing, one answer of a search, and one report of a run. The curves of a run end at its
+-- labels, and operation sequences give exact values.
 use Rattle.std.specs.Prelude.{◌≡◌, ℕ, Bool, false, List, length, Option, Ok}
 use Rattle.nf_rational.specs.Rational.{ℚ}
 use Rattle.nf_rational.specs.Operations.{◌-ℚ◌}
@@ -38,13 +38,13 @@ abbrev pub RunEndsAtLabels : Type 0
 RunEndsAtLabels = (passes : Passing) (net : Network) (bounds : Bounds) (last : Standing) (stop : Option (Cause ℚ)) → IsNetwork net
     → IsPhaseRun passes net bounds last stop → EndsAtLabels net last
 
--- ---- where no operation of a list passes, its value is exact
+-- ---- if no operation of a sequence passes, its value is exact
 
--- no operation passes
+-- No operation passes.
 abbrev pub never : Passing
 never op x y = false
 
--- Whichever operations may pass: where none of the list does, its value is the one that it has where none can.
+-- If no operation of a sequence passes, its value is the one that it has if no operation can pass.
 pub record ValuesAreExact : Type 0 where
   pub slack : (passes : Passing) (hops : List Hop) (labels slacks : List ℚ) → slack_list passes hops labels ≡ Ok slacks
       → slack_list never hops labels ≡ Ok slacks
@@ -61,8 +61,8 @@ pub record ValuesAreExact : Type 0 where
       → curve_list passes net sets pattern length flows slopes labels amounts ≡ Ok steps
       → curve_list never net sets pattern length flows slopes labels amounts ≡ Ok steps
 
--- The slack list gives the slacks; the advance list gives the extension length cut at what is left to the horizon, and the
--- labels moved as long.
+-- The slack operations give the slacks. The advance operations give the extension length, cut at the remaining time to the horizon, and the
+-- labels moved for that length.
 pub record StepsAreTheModels : Type 0 where
   pub slacks : (passes : Passing) (hops : List Hop) (labels slacks : List ℚ) → slack_list passes hops labels ≡ Ok slacks
       → slacks ≡ slacks_of hops labels

@@ -1,4 +1,4 @@
--- Numbers of ways that are cut at the most that fits.
+-- Counts of assignments, capped at 2^64 - 1.
 use Rattle.std.proofs.Common.{◌≡◌, ℕ, zero, suc, ◌<◌, ◌≤◌, min, Bool, true, false, List, [], ◌∷◌, length, refl, arith}
 use Rattle.std.specs.Prelude.{Option, nat_lt, if◌then◌else◌}
 use Rattle.nf_model.specs.declared.State.{State}
@@ -12,7 +12,7 @@ counted_capped true x y m h = h
 counted_capped false x y m h = omega arith
 
 module _ (m : ℕ) (f g : ℕ → ℕ) where
-  -- up to so many changes, g is f, cut
+  -- Up to this number of changes, g is f, capped.
   abbrev Caps : ℕ → Type 0
   Caps n = (k : ℕ) → k ≤ n → g k ≡ min (f k) m
 
@@ -31,7 +31,7 @@ module _ (m : ℕ) (f g : ℕ → ℕ) where
       let one = counted_capped (nat_lt (rank t) (rank s)) (left_ways (change b t) g n) (left_ways (change b t) f n) m (left_capped (change b t) n h) in
       let rest = below_capped states b s n h in omega arith
 
--- rows that are alike up to some number of changes tell as many ways there
+-- Rows that are equal up to some number of changes give equal counts there.
 left_alike : (f g : ℕ → ℕ) (j n : ℕ) → ((k : ℕ) → k ≤ n → g k ≡ f k) → left_ways j g n ≡ left_ways j f n
 left_alike f g zero n h = h n (omega arith)
 left_alike f g (suc j) zero h = refl

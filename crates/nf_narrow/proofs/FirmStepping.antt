@@ -1,4 +1,4 @@
--- One link more, where links may have states all at once: the ways from it on, by those behind it.
+-- One more link with freely combinable states: the counts of assignments from it on, by those of the links after it.
 use Rattle.std.proofs.Common.{◌≡◌, ℕ, suc, ◌+◌, ◌<◌, ◌≤◌, min, List, [], ◌∷◌, length, drop, sym, ap, ◌∙◌, arith}
 use Rattle.std.specs.Prelude.{Option, Some, slice_get, if◌then◌else◌}
 use Rattle.std.proofs.Math.ListN.{drop_of_length-le}
@@ -14,7 +14,7 @@ use Rattle.nf_narrow.specs.Firming.{states_of_firm, firm_choices}
 use Rattle.nf_narrow.proofs.Capping.{by_capped, below_capped, caps_of, counted_capped}
 use Rattle.nf_narrow.proofs.Stepping.{drop_entry, changes_step_at}
 
--- how many ways there are from link i on
+-- The counts of assignments from link i on.
 abbrev pub ways_from : Pattern → List Firm → ℕ → ℕ → ℕ
 ways_from base firm i k = ways (firm_choices (drop i base) (drop i firm)) (drop i base) k
 
@@ -47,7 +47,7 @@ module _ (base p : Pattern) (firm : List Firm) (i : ℕ) (b s : Option State) (f
         is k (omega arith) ∙ (by_capped most (ways_from base firm (suc i)) (number_in row) (states_of_firm b f) b k
         (caps_of row (ways_from base firm (suc i)) k tells (omega arith)) ∙ ap (λ (x : ℕ). min x most) (sym (ways_step k)))
 
-    -- the earlier ones with it
+    -- The earlier assignments, with the link.
     pub earlier_more : (before made now : ℕ) → made ≡ changes (drop (suc i) base) (drop (suc i) p) → now ≡ changes (drop i base) (drop i p) → now < length row
         → before ≡ min (earlier_from base firm p (suc i) made) most → (under same after : ℕ) → under ≡ min (ways_below (states_of_firm b f) b s (number_in row) now) most
         → same ≡ (if is_in (states_of_firm b f) s then before else 0)
@@ -62,7 +62,7 @@ module _ (base p : Pattern) (firm : List Firm) (i : ℕ) (b s : Option State) (f
         let all = earlier_step now in
         omega arith
 
--- behind the last link none is left
+-- No link is left after the last.
 module _ (base p : Pattern) (firm : List Firm) (i : ℕ) (end : length base ≤ i) (same_firm : length firm ≤ i) (same_p : length p ≤ i) where
   no_base : drop i base ≡ []
   no_base = drop_of_length-le base end

@@ -1,4 +1,4 @@
--- A listing that goes on: what it has given then, and where the pattern stands that is looked for.
+-- A listing that advances: its enumerated patterns, and the rank of the pattern sought.
 use Rattle.std.proofs.Common.{◌≡◌, ℕ, suc, ◌-◌, ◌^◌, ◌<◌, List, sym, ap, subst, ◌∙◌, arith}
 use Rattle.std.specs.Prelude.{Some, None}
 use Rattle.nf_model.specs.Pattern.{Pattern}
@@ -10,7 +10,7 @@ use Rattle.nf_narrow.specs.Asking.{GivenUpTo, GoesThrough, IsBehind, StandsAt}
 use Rattle.nf_narrow.proofs.Places.{later_place}
 use Rattle.nf_narrow.proofs.Standing.{found_here, not_here, behind_all, given_more}
 
--- the pattern isn't among those that were given
+-- The pattern is not among the enumerated ones.
 abbrev pub IsAhead : Question → Given → Pattern → Type 0
 IsAhead q given pattern = (listing : List Pattern) (place : ℕ) → IsListingOf q listing → HasPlace listing place pattern → given.place < place
 
@@ -56,7 +56,7 @@ module _ (q : Question) (given after : Given) (through : GoesThrough q given) (p
     pub not_listed : IsQuestion q → IsListedBy q pattern → ⊥
     not_listed asked listed = let l = has_listing q asked in let w = l.1.whole pattern listed in no_more l.0 w.0 l.1 w.1
 
--- of which nothing is given yet
+-- Nothing is enumerated yet.
 pub from_start : (q : Question) (given : Given) (pattern : Pattern) → given.question ≡ q → given.last ≡ AtStart → given.place ≡ 0 → IsBehind q given pattern
 from_start q given pattern same start none = record {
   through = record { same = same; counted = λ listing is. subst (λ (n : ℕ). GivenUpTo listing n given.last) (sym none) start };

@@ -1,4 +1,4 @@
--- One link more: the ways from it on, by those behind it.
+-- One more link: the counts of assignments from it on, by those of the links after it.
 use Rattle.std.proofs.Common.{◌≡◌, ℕ, zero, suc, ◌+◌, ◌<◌, ◌≤◌, min, Bool, List, [], ◌∷◌, ◌++◌, length, take, drop, sym, ap, ◌∙◌, arith}
 use Rattle.std.specs.Prelude.{Option, Some, slice_get, get_or}
 use Rattle.std.proofs.lemmas.Option.{none-some, same_Some, slice_get-get_or}
@@ -40,7 +40,7 @@ changes_step_at base p i j b s at h k =
     (λ z. changes (drop_entry base i b h z) (drop_entry p i s k z))
     ∙ (changes_first b s (drop (suc i) base) (drop (suc i) p) ∙ ap (λ (n : ℕ). change b s + changes (drop n base) (drop n p)) (sym at))
 
--- how many ways there are from link i on
+-- The counts of assignments from link i on.
 abbrev pub ways_from : Pattern → List Bool → List Bool → ℕ → ℕ → ℕ
 ways_from base us sole i k = ways (choices_of (drop i base) (drop i us) (drop i sole)) (drop i base) k
 
@@ -78,7 +78,7 @@ module _ (base p : Pattern) (us sole : List Bool) (i : ℕ) (b s : Option State)
         is k (omega arith) ∙ (by_capped most (ways_from base us sole (suc i)) (number_in row) (states_of b u o) b k
         (caps_of row (ways_from base us sole (suc i)) k tells (omega arith)) ∙ ap (λ (x : ℕ). min x most) (sym (ways_step k)))
 
-    -- the earlier ones with it
+    -- The earlier assignments, with the link.
     pub earlier_more : (before made now : ℕ) → made ≡ changes (drop (suc i) base) (drop (suc i) p) → now ≡ changes (drop i base) (drop i p) → now < length row
         → before ≡ min (earlier_from base us sole p (suc i) made) most → (under after : ℕ) → under ≡ min (ways_below (states_of b u o) b s (number_in row) now) most
         → after ≡ min (before + under) most → after ≡ min (earlier_from base us sole p i now) most
@@ -91,7 +91,7 @@ module _ (base p : Pattern) (us sole : List Bool) (i : ℕ) (b s : Option State)
         let all = earlier_step now in
         omega arith
 
--- behind the last link none is left
+-- No link is left after the last.
 module _ (base p : Pattern) (us sole : List Bool) (i : ℕ) (end : length base ≤ i) (same_us : length us ≤ i) (same_sole : length sole ≤ i) (same_p : length p ≤ i) where
   no_base : drop i base ≡ []
   no_base = drop_of_length-le base end

@@ -1,4 +1,4 @@
--- The states that links may have all at once, by flags of each link.
+-- Freely combinable states of links, by flags of each link.
 use Rattle.std.specs.Prelude.{List, [], ◌∷◌, Option}
 use Rattle.nf_model.specs.declared.State.{State}
 use Rattle.nf_model.specs.Pattern.{Pattern}

@@ -1,4 +1,4 @@
-// Given states of some links: patterns with them put in or left out, and the sets that are left without these links.
+// Forced states of links: patterns with and without them, and the link sets without the forced links.
 ghost use Rattle.std.specs.Prelude.{◌≡◌, length, IfOk};
 ghost use Rattle.nf_graph.specs.Sets.{AreSets};
 ghost use Rattle.nf_listing_laws.specs.Forcing.{entrywise, free_state as free_state_of, given_state as given_state_of, still_active as still_active_of, now_resetting as now_resetting_of, left_of, filled, sets_left, IsForcing};
@@ -8,7 +8,7 @@ use nf_model::State;
 use nf_pattern::Pattern;
 use std::alloc::{AllocError, Global};
 
-// What is left of a link's state.
+// Returns the state of a free link, and `None` for a forced link.
 fn free_state(forced: Option<State>, state: Option<State>) -> Option<State>
     ensures { result ≡ free_state_of forced state }
 {
@@ -18,7 +18,7 @@ fn free_state(forced: Option<State>, state: Option<State>) -> Option<State>
     }
 }
 
-// The given state of a link, or the one that it has.
+// Returns the forced state of a link, or its own state if the link is free.
 fn given_state(forced: Option<State>, state: Option<State>) -> Option<State>
     ensures { result ≡ given_state_of forced state }
 {
@@ -28,7 +28,7 @@ fn given_state(forced: Option<State>, state: Option<State>) -> Option<State>
     }
 }
 
-// Whether an active link stays so.
+// Returns whether the link is active when links forced to be Zero count as inactive.
 fn still_active(forced: Option<State>, flag: bool) -> bool
     ensures { result ≡ still_active_of forced flag }
 {
@@ -40,7 +40,7 @@ fn still_active(forced: Option<State>, flag: bool) -> bool
     }
 }
 
-// Whether a link is as if resetting.
+// Returns whether the link is resetting when links forced to be Full count as resetting.
 fn now_resetting(forced: Option<State>, flag: bool) -> bool
     ensures { result ≡ now_resetting_of forced flag }
 {
@@ -52,7 +52,7 @@ fn now_resetting(forced: Option<State>, flag: bool) -> bool
     }
 }
 
-/// The pattern becomes this part with the given states put in.
+/// Sets the pattern to `part` with the forced states put in.
 pub fn fill(pattern: &mut Pattern, forced: &Pattern, part: &Pattern, links: u32)
     requires pattern { length pattern.old ≡ links }
     requires forced { length forced.now ≡ links }
@@ -66,7 +66,7 @@ pub fn fill(pattern: &mut Pattern, forced: &Pattern, part: &Pattern, links: u32)
     }
 }
 
-// The pattern without the links that have given states.
+// Returns the pattern without the states of forced links. Fails if an allocation fails.
 pub(crate) fn left_pattern(
     alloc: Global,
     forced: &Pattern,
@@ -86,7 +86,7 @@ pub(crate) fn left_pattern(
     Ok(left)
 }
 
-// The active links that are left.
+// Returns the active links, without those forced to be Zero. Fails if an allocation fails.
 fn active_left(
     alloc: Global,
     forced: &Pattern,
@@ -106,7 +106,7 @@ fn active_left(
     Ok(flags)
 }
 
-// The links that are resetting, or are taken as resetting since their state is forced to be Full.
+// Returns the resetting links and those forced to be Full. Fails if an allocation fails.
 fn resetting_left(
     alloc: Global,
     forced: &Pattern,
@@ -127,7 +127,7 @@ fn resetting_left(
     Ok(flags)
 }
 
-// The sets that are left.
+// Returns the link sets without the forced links. Fails if an allocation fails.
 pub(crate) fn left_sets(
     alloc: Global,
     forced: &Pattern,
@@ -140,7 +140,7 @@ pub(crate) fn left_sets(
     requires forcing { IsForcing sets.now unbounded.now forced.now }
     ensures { IfOk result (λ left. left ≡ sets_left forced.now sets.now) }
 {
-    // For the proof: no unbounded link is given Full.
+    // Proof: no unbounded link is forced to be Full.
     let _ = unbounded;
     let active = active_left(alloc, forced, sets, links)?;
     let resetting = resetting_left(alloc, forced, sets, links)?;

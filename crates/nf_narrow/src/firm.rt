@@ -1,4 +1,4 @@
-// In how many ways links may be assigned states that they may have all at once.
+// The number of assignments of freely combinable states that come before a pattern.
 ghost use Rattle.std.specs.Prelude.{◌≡◌, ◌<◌, ◌^◌, ℕ, suc, min, length, IfOk, if◌then◌else◌, Some};
 ghost use Rattle.nf_model.specs.Pattern.{changes as changes_of};
 ghost use Rattle.nf_listing_laws.specs.Forcing.{change as change_of};
@@ -13,7 +13,7 @@ use nf_model::State;
 use nf_pattern::Pattern;
 use std::alloc::{AllocError, Global};
 
-/// Of a link with a state in the base, which states it may have.
+/// The combinable states of a link with a state in the base. Every combination of such states, one for each link, counts as an assignment.
 #[derive(Clone, Copy)]
 pub struct Firm {
     pub tight: bool,
@@ -21,7 +21,7 @@ pub struct Firm {
     pub zero: bool,
 }
 
-// In how many ways so many changes can be made with a state, if the link may have it.
+// Returns how many assignments have exactly `changes` changes and this state, or 0 if the link may not have it.
 fn ways_if(row: &[u64], base: Option<State>, allowed: bool, state: State, changes: usize) -> u64
     requires { changes < length row.now }
     ensures { result ≡ (if allowed then left_ways (change_of base (Some state)) (number_in row.now) changes else 0) }
@@ -33,7 +33,7 @@ fn ways_if(row: &[u64], base: Option<State>, allowed: bool, state: State, change
     }
 }
 
-// In how many ways if it has any state that it may have.
+// Returns how many assignments have exactly `changes` changes and any of the link's combinable states, capped at 2^64 - 1.
 fn firm_at(row: &[u64], base: Option<State>, firm: Firm, changes: usize) -> u64
     requires { changes < length row.now }
     ensures { result ≡ min (ways_by (states_of_firm base firm) base (number_in row.now) changes) most }
@@ -47,7 +47,7 @@ fn firm_at(row: &[u64], base: Option<State>, firm: Firm, changes: usize) -> u64
     tight.saturating_add(full).saturating_add(zero)
 }
 
-// In how many if it has one that comes before this state.
+// Returns how many assignments have exactly `changes` changes and a combinable state before `state`, capped at 2^64 - 1.
 fn firm_under(
     row: &[u64],
     base: Option<State>,
@@ -71,7 +71,7 @@ fn firm_under(
     tight.saturating_add(full)
 }
 
-// Whether the link may have this state.
+// Returns whether `state` is one of the link's combinable states.
 fn may_have(base: Option<State>, firm: Firm, state: Option<State>) -> bool
     ensures { result ≡ is_in (states_of_firm base firm) state }
 {
@@ -86,14 +86,14 @@ fn may_have(base: Option<State>, firm: Firm, state: Option<State>) -> bool
     }
 }
 
-// The earlier ones that go along with the pattern at a link.
+// Returns how many earlier assignments agree with the pattern at this link: `earlier` if the link may have its state, and 0 otherwise.
 fn along(may_have: bool, earlier: u64) -> u64
     ensures { result ≡ (if may_have then earlier else 0) }
 {
     if may_have { earlier } else { 0 }
 }
 
-// One link more, before those of the row.
+// Extends the row by one link, before the links that it counts.
 fn add_firm(row: &mut [u64], base: Option<State>, firm: Firm)
     ensures count { length row.new ≡ length row.old }
     ensures ways { (k : ℕ) → k < length row.old
@@ -106,8 +106,8 @@ fn add_firm(row: &mut [u64], base: Option<State>, firm: Firm)
     }
 }
 
-// How many assignments are earlier than the pattern, link by link, with equally many changes; the row begins with no link, and ends
-// with all of them.
+// Returns how many assignments of combinable states with as many changes as the pattern are earlier link by link, capped at 2^64 - 1. The
+// row counts no link at first and all links at the end.
 fn earlier_firm(row: &mut [u64], base: &Pattern, pattern: &Pattern, firm: &[Firm]) -> u64
     requires start { Tells row.old none_left }
     requires changes { length row.old ≡ suc (changes_of base.now pattern.now) }
@@ -135,7 +135,8 @@ fn earlier_firm(row: &mut [u64], base: &Pattern, pattern: &Pattern, firm: &[Firm
     earlier
 }
 
-/// How many assignments of states that links may have come before a pattern, or 2^64 - 1 where that is less.
+/// Returns how many assignments of freely combinable states come before a pattern, capped at 2^64 - 1. They differ from the base at fewer
+/// links, or at equally many and are earlier link by link. Fails if an allocation fails.
 pub fn firm_ways_before(
     alloc: Global,
     base: &Pattern,

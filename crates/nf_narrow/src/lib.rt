@@ -1,5 +1,6 @@
-//! The narrow question: what a listing is of once the states are given that slopes of a thin flow force, patterns with these states put
-//! in; and whether a pattern stands within a budget, by the number of assignments of states that come before it, or by the listing.
+//! The narrow question: the listing that is left if the slopes of a thin flow force states of links. The crate puts forced states into
+//! patterns, and decides whether a pattern's rank is within a budget. It decides by the number of assignments before the pattern, or by the
+//! listing.
 #![tactic(auto)]
 
 mod filling;

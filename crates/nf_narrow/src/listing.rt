@@ -1,4 +1,4 @@
-// The listing of what is left without the links that have given states.
+// The listing of the patterns left without the forced links.
 ghost use Rattle.std.specs.Prelude.{◌≡◌, ◌^◌, ◌<◌, length, IfOk};
 ghost use Rattle.nf_model.specs.Pattern.{IsPattern};
 ghost use Rattle.nf_graph.specs.Graph.{AreBelow};
@@ -12,8 +12,8 @@ use nf_graph::{Hop, LinkSets, NodeId};
 use nf_pattern::{Pattern, Patterns};
 use std::alloc::{AllocError, Global};
 
-/// The listing of the patterns that are left without the links that have given states. With these put in, they are the listed patterns
-/// that have the given states, in their order.
+/// Returns the listing of the patterns left without the forced links. Fails if an allocation fails. With the forced states put in, these
+/// are the listed patterns that have the forced states, in the same order.
 pub fn narrow_listing(
     alloc: Global,
     nodes: u32,

@@ -1,4 +1,4 @@
-// Rows of ways: how many assignments of states to the links from one on differ from a base at so many of them.
+// Rows of counts. Entry k is the number of assignments of states to the links from some link on with exactly k changes from the base.
 ghost use Rattle.std.specs.Prelude.{◌≡◌, ◌<◌, ◌≤◌, ◌^◌, ℕ, suc, Bool, min, length, IfOk};
 ghost use Rattle.nf_model.specs.Pattern.{rank as rank_of, changes as changes_of};
 ghost use Rattle.nf_listing_laws.specs.Forcing.{change as change_of};
@@ -10,7 +10,7 @@ use nf_model::State;
 use nf_pattern::Pattern;
 use std::alloc::{AllocError, Global};
 
-// Tight before Full before Zero, and before them no state.
+// Returns the rank of a state: no state, Tight, Full, Zero in this order.
 pub(crate) fn rank(state: Option<State>) -> u32
     ensures { result ≡ rank_of state }
 {
@@ -22,7 +22,7 @@ pub(crate) fn rank(state: Option<State>) -> u32
     }
 }
 
-// How many changes this state makes of the base's: one, or none.
+// Returns 1 if the state differs from the base state, and 0 otherwise.
 pub(crate) fn change(base: Option<State>, state: Option<State>) -> usize
     ensures value { result ≡ change_of base state }
     ensures small { result ≤ 1 }
@@ -30,7 +30,7 @@ pub(crate) fn change(base: Option<State>, state: Option<State>) -> usize
     if rank(base) == rank(state) { 0 } else { 1 }
 }
 
-// In how many ways so many changes can be made, if the link has this state.
+// Returns how many assignments have exactly `changes` changes if the link has this state.
 pub(crate) fn ways_with(
     row: &[u64],
     base: Option<State>,
@@ -46,7 +46,7 @@ pub(crate) fn ways_with(
     if changes == 0 { 0 } else { row[changes - 1] }
 }
 
-// In how many ways if it has any state that it may have.
+// Returns how many assignments have exactly `changes` changes and any state that the link may have, capped at 2^64 - 1.
 fn ways_at(row: &[u64], base: Option<State>, unbounded: bool, sole: bool, changes: usize) -> u64
     requires { changes < length row.now }
     ensures { result ≡ min (ways_by (states_of base unbounded sole) base (number_in row.now) changes) most }
@@ -68,7 +68,7 @@ fn ways_at(row: &[u64], base: Option<State>, unbounded: bool, sole: bool, change
     tight.saturating_add(full).saturating_add(zero)
 }
 
-// In how many if it has one that comes before this state.
+// Returns how many assignments have exactly `changes` changes and a possible state before `state`, capped at 2^64 - 1.
 fn ways_under(
     row: &[u64],
     base: Option<State>,
@@ -100,7 +100,7 @@ fn ways_under(
     tight.saturating_add(full)
 }
 
-// One link more, before those of the row.
+// Extends the row by one link, before the links that it counts.
 fn add_link(row: &mut [u64], base: Option<State>, unbounded: bool, sole: bool)
     ensures count { length row.new ≡ length row.old }
     ensures ways { (k : ℕ) → k < length row.old
@@ -113,7 +113,7 @@ fn add_link(row: &mut [u64], base: Option<State>, unbounded: bool, sole: bool)
     }
 }
 
-// How many links differ from the base.
+// Returns how many links differ from the base.
 pub(crate) fn count_changes(base: &Pattern, pattern: &Pattern, links: u32) -> usize
     requires base { length base.now ≡ links }
     requires pattern { length pattern.now ≡ links }
@@ -128,7 +128,7 @@ pub(crate) fn count_changes(base: &Pattern, pattern: &Pattern, links: u32) -> us
     count
 }
 
-// The ways of the first numbers of changes together.
+// Returns the sum of the first `count` entries, capped at 2^64 - 1.
 pub(crate) fn sum_of(row: &[u64], count: usize) -> u64
     requires { count ≤ length row.now }
     ensures { (ways : ℕ → ℕ) → Tells row.now ways → result ≡ min (first_ways ways count) most }
@@ -140,8 +140,8 @@ pub(crate) fn sum_of(row: &[u64], count: usize) -> u64
     sum
 }
 
-// How many assignments are earlier than the pattern, link by link, with equally many changes; the row begins with no link, and ends
-// with all of them.
+// Returns how many assignments with as many changes as the pattern are earlier link by link, capped at 2^64 - 1. The row counts no link at
+// first and all links at the end.
 fn count_earlier(
     row: &mut [u64],
     base: &Pattern,
@@ -176,7 +176,7 @@ fn count_earlier(
     earlier
 }
 
-// With no link there is one way to make no change.
+// Returns the row of no links: one assignment with no change. Fails if an allocation fails.
 pub(crate) fn first_row(alloc: Global, changes: usize) -> Result<Vec<u64>, AllocError>
     requires { changes < 2 ^ 32 }
     ensures count { IfOk result (λ row. length row.items ≡ suc changes) }
@@ -187,8 +187,9 @@ pub(crate) fn first_row(alloc: Global, changes: usize) -> Result<Vec<u64>, Alloc
     Ok(row)
 }
 
-/// How many assignments of states to links come before a pattern, or 2^64 - 1 where that is less: those that differ from the base at
-/// fewer links, or at equally many and are earlier link by link. An unbounded link is never Full, and one that is called sole never Zero.
+/// Returns how many assignments of states to links come before a pattern, capped at 2^64 - 1. They differ from the base at fewer links, or
+/// at equally many and are earlier link by link. An unbounded link is never Full, and a link flagged in `sole` never Zero. Fails if an
+/// allocation fails.
 pub fn ways_before(
     alloc: Global,
     base: &Pattern,

@@ -1,4 +1,4 @@
-// Whether a listed pattern stands within a budget: the listing is gone through as far as that.
+// The rank of a listed pattern and a budget, by enumeration of the listing.
 ghost use Rattle.std.specs.Prelude.{◌≡◌, true, length, MatchBool};
 ghost use Rattle.nf_pattern.specs.Given.{IsQuestion, IsListedBy};
 ghost use Rattle.nf_narrow.specs.Asking.{StandsWithin, IsBehind, StandsAt};
@@ -7,7 +7,7 @@ use nf_graph::LinkId;
 use nf_model::State;
 use nf_pattern::{Pattern, Patterns};
 
-// Whether two states are one.
+// Returns whether two states are equal.
 fn is_one_state(one: Option<State>, other: Option<State>) -> bool
     ensures { MatchBool result (one ≡ other) (one ≡ other → ⊥) }
 {
@@ -19,7 +19,7 @@ fn is_one_state(one: Option<State>, other: Option<State>) -> bool
     }
 }
 
-// Whether two patterns are one.
+// Returns whether two patterns are equal.
 fn is_one(one: &Pattern, other: &Pattern, links: u32) -> bool
     requires one { length one.now ≡ links }
     requires other { length other.now ≡ links }
@@ -34,8 +34,8 @@ fn is_one(one: &Pattern, other: &Pattern, links: u32) -> bool
     true
 }
 
-/// Whether a pattern is one of so many first ones of a listing, which goes on as far as that: to the pattern, which is later than what
-/// was given before, or to the end of the budget.
+/// Enumerates a listing up to a pattern or the end of the budget. Returns whether the pattern is one of the first `budget` patterns. The
+/// pattern must be later than the patterns enumerated before.
 pub fn goes_on_to(patterns: &mut Patterns, pattern: &Pattern, budget: u64, links: u32) -> bool
     requires question { IsQuestion patterns.old.question }
     requires links { length patterns.old.question.hops ≡ links }

@@ -1,4 +1,4 @@
--- The last link is taken back from what is kept of the Tight ones.
+-- Removal of the last link from the stack of Tight links.
 use Rattle.std.proofs.Common.{◌≡◌, ◌≢◌, ℕ, suc, ◌<◌, ⊎_elim, Bool, true, false, eqb, refl, List, length, Option, Some, get_or, slice_get, slice_set, sym, ap, subst, ◌∙◌, arith}
 use Rattle.std.specs.Prelude.{None, MatchBool}
 use Rattle.std.proofs.Math.ListN.{length-set}
@@ -23,7 +23,7 @@ module _ (hops : List Hop) (p : Pattern) (n : ℕ) (ends tails heads : List (Opt
   new : (v : ℕ) → ends_at hops p n v ≡ true → last_at (ends_at hops p) (suc n) v ≡ Some n
   new v e = last_new (ends_at hops p) (other_end hops) (λ m v w. AreJoined hops (TightBefore p m) v w) n v e
 
-  -- which isn't Tight
+  -- The link is not Tight.
   pub back_loose : (HasState p n Tight → ⊥) → IsWalkable hops p n ends tails heads
   back_loose none = record {
     below = chains.below;
@@ -48,7 +48,7 @@ module _ (hops : List Hop) (p : Pattern) (n : ℕ) (ends tails heads : List (Opt
         let told = (last_told (ends_at hops p) n i n (sym (still i (ends_loose hops p n i none)) ∙ here)).0 in absurd (omega arith))
         (decide_state p n Tight)
 
-    -- it isn't the last one at its tail
+    -- The link is not the last one at its tail.
     pub back_else : (slice_get ends i ≡ Some (Some n) → ⊥) → IsWalkable hops p n ends tails heads
     back_else none = back_loose (λ tight. none (tight_last tight))
 
@@ -87,7 +87,7 @@ module _ (hops : List Hop) (p : Pattern) (n : ℕ) (ends tails heads : List (Opt
         heads_are = λ e hop less tight is. chains.heads_are e hop (omega arith) tight is;
       }
 
-  -- what is read of a link
+  -- The hop read for a link.
   pub read_tails : (hop : Hop) (i : ℕ) (found : Option ℕ) → IsHop hops n hop → HasState p n Tight → n < length hops → found ≡ get_or tails n found → i ≡ hop.tail → found ≡ last_at (ends_at hops p) n i
   read_tails hop i found is tight within read at =
       same_Some found (last_at (ends_at hops p) n i) (ap (λ (o : Option ℕ). Some o) read
@@ -100,7 +100,7 @@ module _ (hops : List Hop) (p : Pattern) (n : ℕ) (ends tails heads : List (Opt
       ∙ (sym (slice_get-get_or heads n found (let count = chains.count_heads in omega arith)) ∙ (chains.heads_are n hop (omega arith) tight is
       ∙ ap (λ (h : ℕ). Some (last_at (ends_at hops p) n h)) (sym at))))
 
--- ---- the last link at a node, as it is read
+-- ---- the last link at a node, as read
 module _ (last : List (Option ℕ)) (node i : ℕ) (found : Option ℕ) (same : i ≡ node) (below : node < length last) (read : found ≡ get_or last i found) where
   at_node : slice_get last node ≡ Some found
   at_node = slice_get_read last (length last) node found refl below (read ∙ ap (λ (k : ℕ). get_or last k found) same)

@@ -1,4 +1,4 @@
--- When the states of the first links keep a pattern from being listed, whatever the states of the later links.
+-- Prefixes without listed completion: the states of the first links rule out every listed pattern.
 use Rattle.std.proofs.Common.{◌≡◌, ◌≢◌, ℕ, suc, ◌+◌, ◌<◌, Bool, List, take, Some, inl, inr, sym, ◌∙◌, arith}
 use Rattle.std.specs.Prelude.{slice_get}
 use Rattle.std.proofs.lemmas.Option.{slice_get_within}
@@ -13,7 +13,7 @@ use Rattle.nf_pattern.proofs.Forests.{no_forest}
 use Rattle.nf_pattern.proofs.Trails.{trail_by}
 use Rattle.nf_pattern.proofs.Choosing.{pattern_of, same_front_at}
 
--- a cycle among the first links is there in each pattern that is the same up to there
+-- A cycle among the first links is there in each pattern with the same first states.
 pub closes_same : (hops : List Hop) (p r : Pattern) (n e : ℕ) → e < n → take n r ≡ take n p → Closes hops p e → Closes hops r e
 closes_same hops p r n e less same closes = (
   same_front_at n e r p less same ∙ closes.0,
@@ -38,14 +38,14 @@ module _ (question : Question) (is : IsQuestion question) (p : Pattern) where
   pub barren_cycle : (e : ℕ) → Closes question.hops p e → IsBarren question (e + 1) p
   barren_cycle e closes other listed same = no_forest question.hops other e (closes_same question.hops p other (e + 1) e (omega arith) same closes) listed.forest
 
-  -- a link that may carry flow in a listed pattern can do so from the start on
+  -- A link that may carry flow in a listed pattern can carry flow by the base.
   carries : (other : Pattern) (e : ℕ) → IsListedBy question other → MayCarry question.sets.resetting other e → CanCarry question.sets.resetting question.base e
   carries other e listed (inl resetting) = inl resetting
   carries other e listed (inr (inl tight)) = inr ((is.base.states e).0 ((listed.states.states e).1 (Tight, tight)))
   carries other e listed (inr (inr full)) = inr ((is.base.states e).0 ((listed.states.states e).1 (Full, full)))
 
   module _ (ends : List ℕ) (are : AreEnds question.hops question.sets.resetting question.base ends) where
-    -- a node that a listed pattern enters, by a link before its end
+    -- A node that a listed pattern enters, by a link before the last possible one.
     enters : (other : Pattern) (v n : ℕ) → IsListedBy question other → v < question.nodes → v ≢ question.source → slice_get ends v ≡ Some n
         → (e : ℕ) × (hop : Hop) × IsHop question.hops e hop × (hop.head ≡ v) × MayCarry question.sets.resetting other e × (e < n)
     enters other v n listed below apart at =

@@ -1,4 +1,4 @@
--- What is known of firm links, as a link comes or goes.
+-- Flags of jointly acyclic links, when a link is added or removed.
 use Rattle.std.proofs.Common.{◌≡◌, ◌≢◌, ℕ, zero, suc, ◌+◌, ◌<◌, ◌≤◌, ◌⊎◌, ⊎_elim, Bool, true, false, List, length, replicate, take, Some, inl, inr, refl, sym, ap, subst, ◌∙◌, arith}
 use Rattle.std.specs.Prelude.{slice_get, slice_set, MatchBool}
 use Rattle.std.proofs.lemmas.Option.{same_Some}
@@ -14,7 +14,7 @@ use Rattle.nf_pattern.proofs.Setting.{set_same, set_other, tell}
 use Rattle.nf_pattern.proofs.Trails.{joined_by}
 
 module _ (hops : List Hop) (p : Pattern) (n : ℕ) (links : FirmLinks) (calm : AreCalm hops p n links) where
-  -- a link more that isn't Tight, or is firm
+  -- One more link, which is not Tight or is flagged.
   more_calm : (HasState p n Tight → Has links.flags.items n) → AreCalm hops p (suc n) links
   more_calm here = record {
     count = calm.count;
@@ -31,11 +31,11 @@ module _ (hops : List Hop) (p : Pattern) (n : ℕ) (links : FirmLinks) (calm : A
   pub calm_firm : Has links.flags.items n → AreCalm hops p (suc n) links
   calm_firm firm = more_calm (λ tight. firm)
 
-  -- which was not looked at yet
+  -- The link is not examined yet.
   pub calm_fewer : (m : ℕ) → m ≤ n → AreCalm hops p m links
   calm_fewer m few = record { count = calm.count; firm = calm.firm; calm = λ e less before tight. calm.calm e (omega arith) before tight }
 
-  -- with another number of calm ones
+  -- The same with another first possible exception.
   pub calm_up_to : (m : ℕ) (after : FirmLinks) → after.flags.items ≡ links.flags.items → ((e : ℕ) → e < m → e < after.calm → (e < n) × (e < links.calm)) → AreCalm hops p m after
   calm_up_to m after same fewer = record {
     count = ap length same ∙ calm.count;
@@ -43,12 +43,12 @@ module _ (hops : List Hop) (p : Pattern) (n : ℕ) (links : FirmLinks) (calm : A
     calm = λ e less before tight. let f = fewer e less before in subst (λ (flags : List Bool). Has flags e) (sym same) (calm.calm e f.0 f.1 tight);
   }
 
-  -- a firm link closes no cycle with those before it, where the Tight ones of them are firm
+  -- A flagged link closes no cycle with Tight links before it, if these are flagged.
   pub calm_clear : n ≤ links.calm → Has links.flags.items n → LeadsBack hops p n → ⊥
   calm_clear all firm back = calm.firm n back.hop firm back.is_hop
       (joined_by hops (TightBefore p n) (FirmBefore links.flags.items n) back.hop.head back.hop.tail (λ k t. (t.0, calm.calm k t.0 (let l = t.0 in omega arith) t.1)) back.joined)
 
--- a pattern that is the same so far
+-- A pattern that is the same up to there.
 pub calm_same : (hops : List Hop) (p r : Pattern) (n : ℕ) (links : FirmLinks) → take n r ≡ take n p → AreCalm hops p n links → AreCalm hops r n links
 calm_same hops p r n links same calm = record {
   count = calm.count;

@@ -1,4 +1,4 @@
--- The walk along the wall comes to each node that Tight links join with its start.
+-- The forest traversal reaches each node that Tight links join with its start.
 use Rattle.std.proofs.Common.{◌≡◌, ◌≢◌, ℕ, zero, suc, inl, inr, ◌⊎◌, ⊎_elim, Bool, true, false, ◌&&◌, ◌||◌, eqb, List, [], ◌∷◌, Option, Some, None, slice_get, refl, sym, ap, subst, ◌∙◌, arith}
 use Rattle.std.specs.Prelude.{if◌then◌else◌}
 use Rattle.std.proofs.lemmas.Bool.Decides.{eqb_tells}
@@ -167,7 +167,7 @@ module _ (hops : List Hop) (p : Pattern) where
   nothing [] v u q = q
   nothing ((e, d) ∷ s) v u q = let l = q.2.0 in absurd (omega arith)
 
-  -- from its start, before it is at its end, to where the chain of each joined node ends; and to its end
+  -- From the start, before its end, the traversal reaches the end of the chain of each joined node; and it reaches its own end.
   pub comes : (n : ℕ) → NoneCloses hops p n → (v u : ℕ) → Joined n v u → Way n v v (last n v) u None
   comes zero clear v u j = (zero, (nothing j.0 v u j.1, refl))
   comes (suc n) clear v u j = more n clear (comes n (λ e less. clear e (omega arith))) v u j

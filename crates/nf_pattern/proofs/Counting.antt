@@ -1,4 +1,4 @@
--- How many links differ from a base, and may, link by link; and when there is an assignment with so many changes.
+-- The number of links that differ from a base, and that may differ, link by link; and which numbers of changes have an assignment.
 use Rattle.std.proofs.Common.{◌≡◌, ℕ, suc, ◌+◌, ◌<◌, ◌≤◌, Bool, List, [], ◌∷◌, length, get_or, drop, drop-cons, add-one, refl, ap, ◌∙◌, arith}
 use Rattle.std.specs.Prelude.{Option, Some, None}
 use Rattle.std.proofs.Math.ListN.{drop_of_length-le}
@@ -29,7 +29,7 @@ changes_within [] (a ∷ states) = omega arith
 changes_within (b ∷ base) [] = omega arith
 changes_within (b ∷ base) (a ∷ states) = let f = changes_first b a base states in let s = change_small b a in let r = changes_within base states in omega arith
 
--- none has more changes than there can be
+-- No assignment has more changes than links that may differ.
 pub none_earliest : (base : Pattern) (us : List Bool) (n : ℕ) → IsAssignment base us base → free base < n → earliest base us n ≡ None
 none_earliest base us n valid more = go (earliest base us n) refl
   where

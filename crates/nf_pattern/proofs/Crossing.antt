@@ -1,4 +1,4 @@
--- Where a link leads to from one of its ends, and the link to go on by from there.
+-- Crossing of a link from one of its ends, and the next link to cross.
 use Rattle.std.proofs.Common.{◌≡◌, ℕ, ◌<◌, Bool, true, false, cond, eqb, List, length, get_or, Option, sym, ap, subst, ◌∙◌}
 use Rattle.nf_model.specs.declared.State.TheVariants.{Tight}
 use Rattle.nf_model.specs.Walk.{Hop, IsHop}

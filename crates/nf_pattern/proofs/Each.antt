@@ -1,4 +1,4 @@
--- What holds of each entry of a list, by its place.
+-- Properties of each entry of a list, by index.
 use Rattle.std.proofs.Common.{◌≡◌, ◌⊎◌, Vec, Global, ℕ, zero, suc, ◌+◌, ◌-◌, ◌<◌, List, [], ◌∷◌, ◌++◌, length, length-append, length-drop, get_or, take, drop, add-one, inl, inr, ⊎_elim, refl, sym, ap, subst, ◌∙◌, arith}
 use Rattle.std.specs.Prelude.{Some, slice_get}
 use Rattle.std.proofs.lemmas.Option.{none-some, same_Some, slice_get-get_or}
@@ -25,7 +25,7 @@ each_pushed {A = A} P xs y n count each here k x h = ⊎_elim
 pub length_pushed : {A : Type 0} (xs : List A) (y : A) (n : ℕ) → length xs ≡ n → length (xs ++ y ∷ []) ≡ n + 1
 length_pushed xs y n h = let e = length-append xs (y ∷ []) in omega arith
 
--- one entry more from the front of a list
+-- One more entry of a prefix of a list.
 pub take_pushed : {A : Type 0} (xs front pushed : List A) (i : ℕ) (x : A) → slice_get xs i ≡ Some x → front ≡ take i xs → pushed ≡ front ++ x ∷ [] → pushed ≡ take (i + 1) xs
 take_pushed {A = A} xs front pushed i x at is e = e ∙ (ap (λ (ys : List A). ys ++ x ∷ []) is ∙ rw (add-one i) (sym (taken xs i at)))
   where

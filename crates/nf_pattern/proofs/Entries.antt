@@ -1,4 +1,4 @@
--- Which links enter each node, backward from the last that leads to it; and behind which one no later one can.
+-- The links into each node, backward from the last one; and the last link that can enter the node.
 use Rattle.std.proofs.Common.{◌≡◌, ◌≢◌, ℕ, zero, suc, ◌+◌, ◌<◌, ◌≤◌, Bool, true, false, not, List, length, get_or, replicate, slice_set, inl, inr, ◌⊎◌, ⊎_elim, Option, Some, None, refl, sym, ap, subst, ◌∙◌, arith}
 use Rattle.std.specs.Prelude.{slice_get, MatchBool, is_some}
 use Rattle.std.proofs.lemmas.Option.{same_Some, none-some}
@@ -18,7 +18,7 @@ apart_or_same e k = grind arith
 pub hop_there : (hops : List Hop) (e i : ℕ) (hop : Hop) → e < length hops → i ≡ e → hop ≡ get_or hops i hop → IsHop hops e hop
 hop_there hops e i hop within same read = IsHop-read hops e hop within (read ∙ ap (λ (k : ℕ). get_or hops k hop) same)
 
--- a link that isn't resetting can carry where it may have a state
+-- A link that is not resetting can carry flow if it may have a state.
 pub carried_by_state : (resetting : List Bool) (base : Pattern) (e : ℕ) → slice_get resetting e ≡ Some false → (given : Option State) → slice_get base e ≡ Some given
     → MatchBool (is_some given) (CanCarry resetting base e) (CanCarry resetting base e → ⊥)
 carried_by_state resetting base e off (Some state) at = inr (state, at)
@@ -26,7 +26,7 @@ carried_by_state resetting base e off None at = λ can. ⊎_elim
     (λ (on : Has resetting e). absurd (let same : false ≡ true = same_Some false true (sym off ∙ on) in cc))
     (λ (w : (state : State) × HasState base e state). absurd (none-some w.0 (same_Some None (Some w.0) (sym at ∙ w.1)))) can
 
--- how many links may be left to go back to
+-- The most links that remain backward.
 abbrev pub left_back_to : Option ℕ → ℕ
 left_back_to None = 0
 left_back_to (Some k) = suc k
@@ -43,7 +43,7 @@ module _ (hops : List Hop) (resetting : List Bool) (p : Pattern) where
       (before_or_at e n (omega arith))
 
   -- ---- the links that lead to a node, from the last one backward
-  -- none from number `from` on enters node v, and before that the last one is known that leads there
+  -- No link from number `from` on enters node v, and the last link before it into v is known.
   pub record IsBack (n v : ℕ) (at : Option ℕ) : Type 0 where
     pub from : ℕ
     pub few : from ≤ n
@@ -173,7 +173,7 @@ none_last hops count v found read = subst (λ (o : Option ℕ). IsLastInto hops 
     none_only (suc n) zero found at = sym (same_Some None found at)
     none_only (suc n) (suc v) found at = none_only n v found at
 
--- ---- the ends of those into each node
+-- ---- the last link that can enter each node
 module _ (hops : List Hop) (resetting : List Bool) (base : Pattern) where
   end_later : (m v n : ℕ) → IsEndBefore hops resetting base m v n → ((hop : Hop) → IsHop hops m hop → hop.head ≡ v → CanCarry resetting base m → ⊥) → IsEndBefore hops resetting base (suc m) v n
   end_later m v n end none = record {
@@ -217,7 +217,7 @@ module _ (hops : List Hop) (resetting : List Bool) (base : Pattern) where
       all_nothing (suc count) zero n read = sym (same_Some 0 n read)
       all_nothing (suc count) (suc v) n read = all_nothing count v n read
 
--- ---- no node without one
+-- ---- a node without such a link
 pub none_more : (source v : ℕ) (ends : List ℕ) → ((w : ℕ) → w < v → w ≢ source → slice_get ends w ≡ Some 0 → ⊥) → (v ≢ source → slice_get ends v ≡ Some 0 → ⊥)
     → (w : ℕ) → w < v + 1 → w ≢ source → slice_get ends w ≡ Some 0 → ⊥
 none_more source v ends so_far here w less other lost = ⊎_elim

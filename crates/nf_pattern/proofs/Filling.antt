@@ -41,7 +41,7 @@ take-all [] (suc i) h = refl
 take-all (x ∷ xs) zero h = absurd (omega arith)
 take-all (x ∷ xs) (suc i) h = ap (λ (zs : List _). x ∷ zs) (take-all xs i (omega arith))
 
--- the links before number i have their states, and so many changes are left
+-- The links before number i have their states, and `left` changes remain.
 pub record AreFilled (base : Pattern) (us : List Bool) (n : ℕ) (states : Pattern) (i left more : ℕ) : Type 0 where
   pub said : earliest base us n ≡ prefixed (take i states) (earliest (drop i base) (drop i us) left)
   pub all_free : more ≡ free (drop i base)
@@ -162,7 +162,7 @@ pub rest_filled : (base : Pattern) (us : List Bool) (n : ℕ) (states : Pattern)
 rest_filled base us n states i left more none filled = filled.said ∙ (ap (λ (k : ℕ). prefixed (take i states) (earliest (drop i base) (drop i us) k)) none
     ∙ ap (prefixed (take i states)) (earliest_same (drop i base) (drop i us) filled.valid))
 
--- a link that doesn't differ from its base has no later state without a change
+-- A link with its base state has no later state without a change.
 pub none_raised : (b : Option State) (u : Bool) (base : Pattern) (us : List Bool) (a : Option State) → change b a ≡ 0 → raised b u base us a 0 ≡ None
 none_raised b u base us a same = go (first_good (higher b a 0 (free base)) (choices b u)) refl
   where

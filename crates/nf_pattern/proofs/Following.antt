@@ -1,4 +1,4 @@
--- How far the states of a pattern were looked at, as a link comes or goes.
+-- The examined prefix of a pattern, when a link is added or removed.
 use Rattle.std.proofs.Common.{◌≡◌, ℕ, zero, suc, ◌<◌, Bool, List, length, ⊎_elim, Option, Some, slice_get, refl, sym, ap, subst, ◌∙◌, arith}
 use Rattle.nf_model.specs.Walk.{Hop}
 use Rattle.nf_model.specs.Pattern.{Pattern}
@@ -36,7 +36,7 @@ module _ (source : ℕ) (hops : List Hop) (resetting : List Bool) (p : Pattern) 
     last = λ v e at. follows.last v e (ap (λ (es : List ℕ). slice_get es v) (sym ends) ∙ at);
   }
 
-  -- the last link is taken back
+  -- The last link is removed.
   pub left_back : {trail after : Trail} → Follows source hops resetting p trail → trail.depth ≡ suc after.depth
       → Holds hops p after.depth after.tight → length after.tight.last.items ≡ length trail.tight.last.items
       → after.ends.items ≡ trail.ends.items → after.chain.items ≡ trail.chain.items → after.firm ≡ trail.firm → Follows source hops resetting p after
@@ -52,7 +52,7 @@ module _ (source : ℕ) (hops : List Hop) (resetting : List Bool) (p : Pattern) 
     last = λ v e at. follows.last v e (ap (λ (es : List ℕ). slice_get es v) (sym ends) ∙ at);
   }
 
-  -- so far back that other firm links are told
+  -- The first possible exception changes, for links that are not examined.
   pub calmed : {trail after : Trail} → Follows source hops resetting p trail → after ≡ record { depth = trail.depth; tight = trail.tight; firm = after.firm; chain = trail.chain; ends = trail.ends; lost = trail.lost }
       → AreCalm hops p trail.depth after.firm → Follows source hops resetting p after
   calmed {trail} {after} follows same calm = subst (λ (t : Trail). Follows source hops resetting p t) (sym same) (record {
@@ -67,14 +67,14 @@ module _ (source : ℕ) (hops : List Hop) (resetting : List Bool) (p : Pattern) 
     last = follows.last;
   })
 
--- ---- the way of a trail
+-- ---- steps of a trail
 pub way_same : (trail : Trail) → IsOnWay trail trail
 way_same trail = record { nodes = refl; ends = refl; lost = refl }
 
 pub way_on : {before now after : Trail} → IsOnWay before now → IsOnWay now after → IsOnWay before after
 way_on a b = record { nodes = b.nodes ∙ a.nodes; ends = b.ends ∙ a.ends; lost = b.lost ∙ a.lost }
 
--- ---- no link was looked at
+-- ---- no link is examined
 pub follows_none : (source : ℕ) (hops : List Hop) (resetting : List Bool) (base p : Pattern) (nodes : ℕ) {trail : Trail} → trail.depth ≡ zero → Holds hops p zero trail.tight
     → length trail.tight.last.items ≡ nodes → AreChained hops trail.chain.items → length trail.chain.items ≡ length hops → length trail.ends.items ≡ nodes
     → AreEnds hops resetting base trail.ends.items → AreCalm hops p zero trail.firm → Follows source hops resetting p trail

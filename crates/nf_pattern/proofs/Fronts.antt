@@ -1,4 +1,4 @@
--- The patterns given so far are a front of the listing, and all of it where none is left.
+-- The enumerated patterns are a prefix of the listing, and the whole listing if none is left.
 use Rattle.std.proofs.Common.{◌≡◌, ℕ, zero, suc, ◌+◌, ◌-◌, ◌^◌, min, List, [], ◌∷◌, ◌++◌, length, length-append, inl, inr, ◌⊎◌, ⊎_elim, Some, slice_get, refl, sym, ap, subst, ◌∙◌, arith}
 use Rattle.std.proofs.lemmas.Option.{none-some, same_Some, slice_get_within}
 use Rattle.nf_model.specs.Pattern.{Pattern, IsBefore}
@@ -9,7 +9,7 @@ use Rattle.nf_pattern.specs.Front.{IsListingOf, AreGiven, GivenAreFronts}
 use Rattle.nf_pattern.proofs.Each.{entry_pushed}
 use Rattle.nf_pattern.proofs.Ranging.{before_or}
 
--- ---- a sorted list all of whose elements are in another, with what comes before them there, is a front of it
+-- ---- a sorted list is a prefix of another if its elements are in the other, with all elements before them there
 module _ (base : Pattern) where
   pub stands_cases : (x y : Pattern) (xs : List Pattern) → StandsIn (x ∷ xs) y → (x ≡ y) ⊎ StandsIn xs y
   stands_cases x y xs (zero, at) = inl (same_Some x y at)
@@ -129,7 +129,7 @@ module _ (given : Given) (front : List Pattern) (are : AreGiven given front) whe
     ordered = ordered_by_place base front are.ordered;
   }
 
-  -- ---- a front of each listing
+  -- ---- a prefix of each listing
   pub given_front : (listing : List Pattern) → IsListingOf question listing → (i : ℕ) (p : Pattern) → slice_get front i ≡ Some p → slice_get listing i ≡ Some p
   given_front listing is = front_of base front listing are.ordered (λ i j p q less at_p at_q. is.ordered (suc i) (suc j) p q (omega arith) (i, refl, at_p) (j, refl, at_q))
       (λ p here. let at = is.whole p (are.listed here.0 p here.1) in (at.1.0, at.1.2))

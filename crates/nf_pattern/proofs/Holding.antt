@@ -1,4 +1,4 @@
--- What is kept of the Tight links: of none, of a link more, and of patterns that are the same so far.
+-- The stack of Tight links: of no link, of one more link, and of patterns with the same first states.
 use Rattle.std.proofs.Common.{◌≡◌, ◌≢◌, ℕ, zero, suc, ◌<◌, ◌≤◌, ⊎_elim, true, false, ◌&&◌, List, length, replicate, take, Option, Some, None, slice_get, slice_set, refl, sym, ap, subst, ◌∙◌, arith}
 use Rattle.std.specs.Prelude.{if◌then◌else◌, MatchBool, Bool}
 use Rattle.std.proofs.Math.ListN.{length-set}
@@ -45,7 +45,7 @@ module _ (hops : List Hop) (p : Pattern) (n : ℕ) where
   new v e = sym (last_new (ends_at hops p) (other_end hops) (λ m x y. AreJoined hops (TightBefore p m) x y) n v e)
 
   module _ (ends tails heads : List (Option ℕ)) (holds : IsWalkable hops p n ends tails heads) where
-    -- which isn't Tight
+    -- The link is not Tight.
     pub holds_loose : (HasState p n Tight → ⊥) → IsWalkable hops p (suc n) ends tails heads
     holds_loose none = record {
       below = holds.below;
@@ -62,7 +62,7 @@ module _ (hops : List Hop) (p : Pattern) (n : ℕ) where
             (λ (other : e ≢ n). (omega arith))
             (tell e n)
 
-    -- which is Tight, and is put in at both ends
+    -- The link is Tight, and is pushed at both ends.
     module _ (tight : HasState p n Tight) (hop : Hop) (is : IsHop hops n hop) where
       put_before : (side : Hop → ℕ) (befores : List (Option ℕ)) (k : ℕ) (found : Option ℕ) → length befores ≡ length hops → k ≡ n → found ≡ last_at (ends_at hops p) n (side hop)
           → ((e : ℕ) (other : Hop) → e < n → HasState p e Tight → IsHop hops e other → slice_get befores e ≡ Some (last_at (ends_at hops p) e (side other)))
@@ -112,14 +112,14 @@ module _ (hops : List Hop) (p : Pattern) (n : ℕ) where
           heads_are = put_before (λ h. h.head) heads l before_head holds.count_heads at_heads read_head holds.heads_are;
         }
 
-  -- which closes no cycle
+  -- The link closes no cycle.
   pub clear_more : NoneCloses hops p n → (Closes hops p n → ⊥) → NoneCloses hops p (suc n)
   clear_more clear none e less closes = ⊎_elim
       (λ (same : e ≡ n). none (subst (λ (k : ℕ). Closes hops p k) same closes))
       (λ (other : e ≢ n). clear e (omega arith) closes)
       (tell e n)
 
-  -- between nodes that are joined, or not
+  -- The link's ends are joined, or not.
   pub leads_between : (hop : Hop) → IsHop hops n hop → (from to : ℕ) → from ≡ hop.head → to ≡ hop.tail → (m : ℕ) → m ≡ n → (b : Bool)
       → MatchBool b (AreJoined hops (TightBefore p m) from to) (AreJoined hops (TightBefore p m) from to → ⊥) → MatchBool b (LeadsBack hops p n) (LeadsBack hops p n → ⊥)
   leads_between hop is from to head tail m at true joined = record {

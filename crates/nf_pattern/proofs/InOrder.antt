@@ -1,5 +1,4 @@
--- The order of assignments: the base is the first, and the next one that isn't the same up to some link is the least of those
--- that come after and are not.
+-- The order of assignments. The base is the first. The next assignment that differs at one of the first links is the least of those later.
 use Rattle.std.proofs.Common.{◌≡◌, ℕ, suc, take, Bool, true, false, List, [], ◌∷◌, inl, inr, ⊎_elim, eqb, refl, sym, ◌∙◌, arith}
 use Rattle.std.specs.Prelude.{Option, Some, None, if◌then◌else◌}
 use Rattle.nf_graph.proofs.Walks.{same_from_test}
@@ -64,7 +63,7 @@ module _ (i : ℕ) (base : Pattern) (us : List Bool) (valid : IsAssignment base 
       go c (inl less) (inr l) = absurd (earliest_first base us (suc (changes base p)) q r e h (l.0 ∙ c) l.1)
       go c (inr k) after = later_none i base us p r valid none h (sym k.0) k.1
 
-  -- between them are only assignments that are the same up to the link
+  -- All assignments between them have the same states at the first links.
   pub next_least : (q r : Pattern) → IsAssignment base us p → next_assignment i base us p ≡ Some q → IsAssignment base us r → IsBefore base p r → IsBefore base r q → take i r ≡ take i p
   next_least q r a e h before after = ⊎_elim
       (λ (w : later i base us p ≡ Some q). between_later q r a w h before after)

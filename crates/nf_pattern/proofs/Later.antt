@@ -1,4 +1,4 @@
--- The next assignment with equally many changes that isn't the same up to some link: it is later, and nothing else lies between.
+-- The next assignment with equally many changes that differs at one of the first links: it is later, and nothing is between.
 use Rattle.std.proofs.Common.{◌≡◌, ◌⊎◌, ℕ, zero, suc, take, ◌+◌, ◌-◌, ◌<◌, ◌≤◌, Bool, List, [], ◌∷◌, inl, inr, ⊎_elim, refl, sym, ap, subst, ◌∙◌, arith}
 use Rattle.std.specs.Prelude.{Option, Some, None}
 use Rattle.nf_model.specs.declared.State.{State}
@@ -19,7 +19,7 @@ module _ (b : Option State) (u : Bool) (base : Pattern) (us : List Bool) (a : Op
   abbrev pub Kept : ℕ → Pattern → Type 0
   Kept i q = (states : Pattern) × (later i base us p ≡ Some states) × (q ≡ a ∷ states)
 
-  -- either the rest moves on, or it can't and the first link does
+  -- The later links advance; if they cannot, the first link does.
   parts : (i : ℕ) (q : Pattern) → later (suc i) (b ∷ base) (u ∷ us) (a ∷ p) ≡ Some q → Kept i q ⊎ ((later i base us p ≡ None) × Raised q)
   parts i q e = ⊎_elim
       (λ (w : before_all a (later i base us p) ≡ Some q). inl (before_given a (later i base us p) q w))
@@ -94,7 +94,7 @@ later_is (suc i) (b ∷ base) (u ∷ us) (a ∷ p) q v h e = ⊎_elim
 same_front : (i : ℕ) (a t : Option State) (p r : Pattern) → a ≡ t → take i r ≡ take i p → take (suc i) (t ∷ r) ≡ take (suc i) (a ∷ p)
 same_front i a t p r e f = ap (λ (x : Option State). x ∷ take i r) (sym e) ∙ ap (λ (x : Pattern). a ∷ x) f
 
--- none is later where it says none, but what is the same up to the link
+-- If there is none, only assignments with the same first states are later.
 pub later_none : (i : ℕ) (base : Pattern) (us : List Bool) (p r : Pattern) → IsAssignment base us base → later i base us p ≡ None → IsAssignment base us r → changes base r ≡ changes base p
     → IsEarlier p r → take i r ≡ take i p
 later_none zero base us p r v e h c before = refl
@@ -110,7 +110,7 @@ later_none (suc i) (b ∷ base) (u ∷ us) (a ∷ p) (t ∷ r) v e h c (inl less
 later_none (suc i) (b ∷ base) (u ∷ us) (a ∷ p) (t ∷ r) v e h c (inr k) = same_front i a t p r k.0
     (later_none i base us p r v.1 (before_none a (later i base us p) (else_none (before_all a (later i base us p)) (raised b u base us a (changes (b ∷ base) (a ∷ p))) e).0) h.1 (same_rest b u base us a p t r c k.0) k.1)
 
--- and nothing else lies between
+-- Nothing else is between.
 pub later_next : (i : ℕ) (base : Pattern) (us : List Bool) (p q r : Pattern) → IsAssignment base us base → later i base us p ≡ Some q → IsAssignment base us r → changes base r ≡ changes base p
     → IsEarlier p r → IsEarlier r q → take i r ≡ take i p
 later_next zero base us p q r v e h c before after = refl

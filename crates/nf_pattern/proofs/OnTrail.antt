@@ -1,4 +1,4 @@
--- What a trail says of a listing: whether its pattern is listed, or up to which link none is.
+-- What a trail decides: its pattern is listed, or no pattern with the same first links is.
 use Rattle.std.proofs.Common.{◌≡◌, ◌≢◌, ℕ, zero, suc, ◌+◌, ◌<◌, ◌≤◌, ◌⊎◌, ⊎_elim, Bool, true, false, List, length, take, Some, sym, ap, subst, ◌∙◌, arith}
 use Rattle.std.specs.Prelude.{slice_get, get_or, Result, Ok, Err, IfOk}
 use Rattle.std.proofs.lemmas.Option.{slice_get-get_or, slice_get_within}
@@ -20,7 +20,7 @@ use Rattle.nf_pattern.proofs.Holding.{holds_same, clear_same}
 use Rattle.nf_pattern.proofs.Calming.{calm_same}
 use Rattle.nf_pattern.proofs.Barren.{may_carry_too, barren_cycle, barren_stranded, barren_lost, listed_by}
 
--- ---- a pattern that is the same up to where the trail stands
+-- ---- a pattern with the same states on the trail
 module _ (hops : List Hop) (resetting : List Bool) (p r : Pattern) where
   entered_too : (m n v : ℕ) → m ≤ n → take n r ≡ take n p → EnteredBefore hops resetting p m v → EnteredBefore hops resetting r m v
   entered_too m n v few same (e, less, by) = (e, less, (by.0, by.1, by.2, may_carry_too resetting r p n e (omega arith) (sym same) by.3))
@@ -38,7 +38,7 @@ module _ (hops : List Hop) (resetting : List Bool) (p r : Pattern) where
     last = follows.last;
   }
 
--- the trail goes on, of the same pattern
+-- The trail is extended along the same pattern.
 pub gone_on : (question : Question) (p : Pattern) (before after : Trail) → IsTrailOf question p before
     → Follows question.source question.hops question.sets.resetting p after → IsOnWay before after → IsTrailOf question p after
 gone_on question p before after is follows way = record {
@@ -51,7 +51,7 @@ gone_on question p before after is follows way = record {
 take_fewer : (n link : ℕ) (r p : Pattern) → n ≤ link → take link r ≡ take link p → take n r ≡ take n p
 take_fewer n link r p few same = sym (take-take n link r few) ∙ (ap (take n) same ∙ take-take n link p few)
 
--- it comes back, to where another pattern is the same
+-- The trail is shortened to where another pattern has the same states.
 pub come_back : (question : Question) (p r : Pattern) (link : ℕ) (before after : Trail) → IsTrailOf question p before
     → Follows question.source question.hops question.sets.resetting p after → IsOnWay before after → after.depth ≤ link → take link r ≡ take link p → IsTrailOf question r after
 come_back question p r link before after is follows way few same =
@@ -64,7 +64,7 @@ come_back question p r link before after is follows way few same =
     }
 
 module _ (question : Question) (is : IsQuestion question) (p : Pattern) (trail : Trail) (here : IsTrailOf question p trail) where
-  -- no node is lost, and all links were looked at
+  -- Each node can be entered, and all links are examined.
   entered_all : trail.lost ≡ false → trail.depth ≡ length question.hops → (v : ℕ) → v < question.nodes → v ≢ question.source → IsEntered question.hops question.sets.resetting p v
   entered_all kept whole v below apart =
       let within : v < length trail.ends.items = (let a = here.follows.count_ends in let b = here.nodes in omega arith) in
@@ -104,7 +104,7 @@ module _ (question : Question) (is : IsQuestion question) (p : Pattern) (trail :
         barren_lost question is p trail.ends.items here.ends w.0 (let l = slice_get_within trail.ends.items w.0 0 w.2 in let a = here.follows.count_ends in let b = here.nodes in omega arith) w.1 w.2,
       )
 
--- ---- what the parts of a question say
+-- ---- the components of a question
 module _ (q seen : Question) (same : q ≡ seen) (hops : List Hop) (resetting : List Bool) (is_hops : hops ≡ q.hops) (is_resetting : resetting ≡ q.sets.resetting) where
   pub follows_seen : (p : Pattern) (trail : Trail) → Follows q.source hops resetting p trail → Follows seen.source seen.hops seen.sets.resetting p trail
   follows_seen p trail follows = subst (λ (x : Question). Follows x.source x.hops x.sets.resetting p trail) same
@@ -135,7 +135,7 @@ module _ (q seen : Question) (same : q ≡ seen) (hops : List Hop) (resetting : 
   pub all_seen : length hops ≡ length seen.hops
   all_seen = ap length (is_hops ∙ ap (λ (x : Question). x.hops) same)
 
--- what goes on by the hops, goes on by the question
+-- A trail along the hops is a trail of the question.
 module _ (q seen : Question) (same : q ≡ seen) (hops : List Hop) (is_hops : hops ≡ q.hops) where
   seen_hops : hops ≡ seen.hops
   seen_hops = is_hops ∙ ap (λ (x : Question). x.hops) same
@@ -153,7 +153,7 @@ module _ (q seen : Question) (same : q ≡ seen) (hops : List Hop) (is_hops : ho
 pub count_links : (question : Question) → IsQuestion question → (p : Pattern) → IsAssignment question.base question.unbounded p → length p ≡ length question.hops
 count_links question is p assigned = assigned_length question.base question.unbounded p assigned ∙ (is.base.count ∙ is.active)
 
--- ---- the way from assignment to assignment
+-- ---- from assignment to assignment
 module _ (q seen : Question) (same : q ≡ seen) (is : IsQuestion q) where
   pub valid_base : (base : Pattern) (us : List Bool) → base ≡ q.base → us ≡ q.unbounded → IsAssignment base us base
   valid_base base us e f = subst (λ (x : Pattern). IsAssignment x us x) (sym e) (subst (λ (x : List Bool). IsAssignment q.base x q.base) (sym f) (valid q is))

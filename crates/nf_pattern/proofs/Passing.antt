@@ -1,4 +1,4 @@
--- Links without a state are passed by, on the way of a trail and back.
+-- Links without a state are skipped when a trail is extended or shortened.
 use Rattle.std.proofs.Common.{◌≡◌, ℕ, zero, suc, ◌+◌, ◌≤◌, Bool, List, length, inl, inr, ⊎_elim, Some, None, slice_get, refl, subst, arith}
 use Rattle.nf_model.specs.declared.State.{State}
 use Rattle.nf_model.specs.declared.State.TheVariants.{Tight}
@@ -19,7 +19,7 @@ use Rattle.nf_pattern.proofs.Backing.{back_loose}
 use Rattle.nf_pattern.proofs.Calming.{calm_loose}
 use Rattle.nf_pattern.proofs.Following.{entered_on, left_back}
 
--- the trail, further on or back
+-- The trail, extended or shortened.
 abbrev pub moved : Trail → ℕ → Trail
 moved trail n = record { depth = n; tight = trail.tight; firm = trail.firm; chain = trail.chain; ends = trail.ends; lost = trail.lost }
 

@@ -1,4 +1,4 @@
--- From which link on nothing differs from the base.
+-- The unchanged suffix of an assignment.
 use Rattle.std.proofs.Common.{◌≡◌, ℕ, zero, suc, ◌+◌, ◌-◌, ◌≤◌, List, [], ◌∷◌, ◌++◌, length, length-drop, take, drop, refl, sym, ap, subst, ◌∙◌, arith}
 use Rattle.std.specs.Prelude.{Option, Some, None, MatchOption, Bool}
 use Rattle.std.proofs.Math.Seq.{drop-append-add, drop-append_seam}
@@ -33,7 +33,7 @@ quiet_rest base states after quiet within count is free_is =
     ap (drop i) is ∙ subst (λ (n : ℕ). drop n (take i states ++ drop i base) ≡ drop i base) front (drop-append_seam (take i states) (drop i base)) in
     record { within = within; unchanged = ap (changes (drop i base)) rest ∙ changes_self (drop i base); free_is = free_is }
 
--- the first links, and then such a rest
+-- The first links, and then an unchanged suffix.
 pub quiet_behind : (base states rest after : Pattern) (i : ℕ) (quiet behind : Quiet) → i ≤ length base → length states ≡ length base → after ≡ take i states ++ rest → IsQuiet (drop i base) quiet rest
     → behind.link ≡ i + quiet.link → behind.free ≡ quiet.free → IsQuiet base behind after
 quiet_behind base states rest after i quiet behind within count is is_quiet link free_is =
@@ -49,7 +49,7 @@ quiet_behind base states rest after i quiet behind within count is is_quiet link
       free_is = free_is ∙ (is_quiet.free_is ∙ ap free from);
     }
 
--- ---- up to where nothing differs
+-- ---- up to the unchanged suffix
 changes_parts : (k : ℕ) (base states : Pattern) → length states ≡ length base → changes base states ≡ changes (take k base) (take k states) + changes (drop k base) (drop k states)
 changes_parts zero base states count = let z : changes (take zero base) (take zero states) ≡ 0 = refl in omega arith
 changes_parts (suc k) [] states count = omega arith
@@ -80,13 +80,13 @@ module _ (base states : Pattern) (quiet : Quiet) (is : IsQuiet base quiet states
   pub free_to_quiet : free (to_quiet base) + quiet.free ≡ free (drop i base)
   free_to_quiet = ap (λ (n : ℕ). free (to_quiet base) + n) (is.free_is ∙ sym (ap free (behind base))) ∙ sym (free_parts (quiet.link - i) (drop i base))
 
--- so many links at most may differ
+-- At most this many links may differ.
 pub free_few : (base : Pattern) → free base ≤ length base
 free_few [] = omega arith
 free_few (None ∷ base) = let w = free_few base in omega arith
 free_few (Some b ∷ base) = let w = free_few base in omega arith
 
--- no link behind it can be raised with as many changes
+-- No link of the unchanged suffix can be raised with as many changes.
 pub raised_up_to : (base : Pattern) (us : List Bool) (states after : Pattern) (quiet : Quiet) (same : ℕ) (found : Option Raised) → quiet.link ≤ same → length states ≡ length base → IsQuiet base quiet states
     → MatchOption found ((later quiet.link base us states ≡ None) × (after ≡ states)) (λ raised. (later quiet.link base us states ≡ Some after) × IsSameBefore quiet.link raised.link states after × IsQuiet base raised.quiet after)
     → MatchOption found ((later same base us states ≡ None) × (after ≡ states)) (λ raised. (later same base us states ≡ Some after) × IsSameBefore same raised.link states after × IsQuiet base raised.quiet after)

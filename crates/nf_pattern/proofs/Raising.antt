@@ -12,7 +12,7 @@ use Rattle.nf_pattern.proofs.Stating.{idle_there}
 use Rattle.nf_pattern.proofs.Filling.{free_first, none_raised}
 use Rattle.nf_pattern.proofs.Successors.{changes_first, fits_out, good_some, higher, higher_out}
 
--- ---- what stands behind a link
+-- ---- the links after a link
 pub from_one : {A : Type 0} (xs : List A) (i : ℕ) → take (length xs - (i + 1)) (drop (i + 1) xs) ≡ drop (suc i) xs
 from_one xs i = take_all (length xs - (i + 1)) (drop (i + 1) xs) (let l = length-drop (i + 1) xs in omega arith) ∙ ap (λ (n : ℕ). drop n xs) (add-one i)
 
@@ -91,12 +91,12 @@ last_from base us states same made more within is few is_free few_free =
       few_free = omega arith;
     }
 
--- with nothing later behind it, the first link is raised
+-- If nothing later is possible after it, the first link is raised.
 later_here : (b : Option State) (u : Bool) (base : Pattern) (us : List Bool) (a : Option State) (p : Pattern) (k n : ℕ) → later k base us p ≡ None → n ≡ changes (b ∷ base) (a ∷ p)
     → later (suc k) (b ∷ base) (u ∷ us) (a ∷ p) ≡ raised b u base us a n
 later_here b u base us a p k n last is = ap (λ (o : Option Pattern). or_else (before_all a o) (raised b u base us a (changes (b ∷ base) (a ∷ p)))) last ∙ ap (raised b u base us a) (sym is)
 
--- where nothing differs from the base, nothing comes later with as many changes
+-- If nothing differs from the base, nothing is later with as many changes.
 later_none : (k : ℕ) (base : Pattern) (us : List Bool) (states : Pattern) → length states ≡ length base → changes base states ≡ 0 → later k base us states ≡ None
 later_none zero base us states count none = refl
 later_none (suc k) [] us states count none = refl
@@ -106,7 +106,7 @@ later_none (suc k) (b ∷ base) (u ∷ us) (a ∷ states) count none =
     let f = changes_first b a base states in
     later_here b u base us a states k 0 (later_none k base us states (omega arith) (omega arith)) (sym none) ∙ none_raised b u base us a (omega arith)
 
--- and so nothing up to a link behind which nothing differs
+-- So nothing is later up to the unchanged suffix.
 later_quiet : (i k : ℕ) (base : Pattern) (us : List Bool) (states : Pattern) → length states ≡ length base → changes (drop i base) (drop i states) ≡ 0
     → later (i + k) base us states ≡ later i base us states
 later_quiet zero k base us states count none = ap (λ (n : ℕ). later n base us states) (zero-add k) ∙ later_none k base us states count none

@@ -40,7 +40,7 @@ abbrev pub room : Pattern → ℕ
 room [] = 1
 room (s ∷ p) = (room p + room p) + (room p + room p)
 
--- the place of a pattern among all lists of states of its length
+-- The rank of a pattern among all lists of states of its length.
 abbrev pub place_in : Pattern → ℕ
 place_in [] = 0
 place_in (None ∷ p) = place_in p

@@ -1,4 +1,4 @@
--- The first listed pattern from an assignment on, found by going on from assignments that are not listed.
+-- The first listed pattern from an assignment on, found by advancing over assignments that are not listed.
 use Rattle.std.proofs.Common.{◌≡◌, ℕ, ◌<◌, ◌≤◌, Bool, List, length, take, take_all, inl, inr, ◌⊎◌, ⊎_elim, Some, None, refl, sym, ap, subst, ◌∙◌, arith}
 use Rattle.std.specs.Prelude.{MatchBool, true, false}
 use Rattle.nf_model.specs.Pattern.{Pattern, IsBefore}
@@ -68,7 +68,7 @@ module _ (question : Question) (is : IsQuestion question) where
     sought_found listed = record { listed = listed; after = sought.after; first = sought.first }
 
     module _ (n : ℕ) (barren : IsBarren question n p) where
-      -- a listed pattern from the start on comes after p, and is not the same up to link n
+      -- A listed pattern from the start on is after p, and differs from it at one of the first n links.
       later : (r : Pattern) → IsListedBy question r → IsFrom base start r → (IsBefore base p r → take n r ≡ take n p) → ⊥
       later r listed from same = ⊎_elim
           (λ (before : IsBefore base r p). sought.first r listed from before)
@@ -94,7 +94,7 @@ module _ (question : Question) (is : IsQuestion question) where
       let step = next_is n base us valid p q h e in
       fewer_left base p q (sym (same_length p q h step.0)) (changes_few base us q step.0) step.1
 
-  -- ---- after what was given
+  -- ---- after the enumerated patterns
   pub all_from_base : (r : Pattern) → IsListedBy question r → IsFrom base base r
   all_from_base r listed = ⊎_elim
       (λ (before : IsBefore base r base). absurd (base_first base r before))
@@ -167,7 +167,7 @@ standing_start question seen current trail quiet same is at on_trail all none =
           (all ∙ (ap (λ (x : Question). length x.hops) (sym same) ∙ sym (q.base.count ∙ q.active))) none;
     }
 
--- ---- one pattern more is given
+-- ---- one more pattern is enumerated
 abbrev given_up_to : Question → Pattern → ℕ → Given
 given_up_to question p place = record { question = question; last = UpTo p; place = place }
 
@@ -182,7 +182,7 @@ gives_next question last place seen same p now after next is count = (
   ),
 )
 
--- the current pattern is the one that was given last
+-- The current pattern is the last enumerated one.
 pub current_is : (stand : Stand) (current p : Pattern) → last_of stand current ≡ UpTo p → current ≡ p
 current_is Start current p e = absurd (cc)
 current_is Listed current p e = cc

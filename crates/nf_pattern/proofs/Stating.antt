@@ -49,6 +49,6 @@ stated_too base us p stated assigned is =
       last = λ e n at. let last = is.last e n at in (last.0, λ k from less. none_too base us p k assigned (last.1 k from less));
     }
 
--- what is read of a link without a state
+-- The entry read for a link without a state.
 pub idle_there : (p : Pattern) (e : ℕ) → slice_get p e ≡ Some None → get_or p e None ≡ None
 idle_there p e at = same_Some (get_or p e None) None (sym (slice_get-get_or p e None (slice_get_within p e None at)) ∙ at)

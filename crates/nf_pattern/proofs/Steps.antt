@@ -1,4 +1,4 @@
--- Steps of a walk along the wall.
+-- Steps of a forest traversal.
 use Rattle.std.proofs.Common.{◌≡◌, ◌≢◌, ℕ, zero, suc, ◌<◌, ◌≤◌, inl, inr, ◌⊎◌, ⊎_elim, Bool, true, false, ◌&&◌, eqb, List, [], length, Option, Some, None, slice_get, get_or, refl, sym, ap, subst, ◌∙◌, arith}
 use Rattle.std.specs.Prelude.{if◌then◌else◌}
 use Rattle.std.proofs.lemmas.Option.{none-some, same_Some, slice_get-get_or}
@@ -44,7 +44,7 @@ module _ (hops : List Hop) (p : Pattern) (n : ℕ) where
   abbrev pub On : ℕ → ℕ → ℕ → Option ℕ → ℕ → Option ℕ → Type 0
   On v k x o y r = Path (ends_at hops p) (other_end hops) (λ m v w. AreJoined hops (TightBefore p m) v w) n v k x o y r
 
-  -- the link of a place
+  -- The link of a position.
   pub place_link : (v l : ℕ) → IsPlace hops p n v (Some l) → (l < n) × HasState p l Tight × (hop : Hop) × IsHop hops l hop
   place_link v l (m, few, is) =
       let told = last_told (ends_at hops p) m v l (sym is) in
@@ -82,14 +82,14 @@ module _ (hops : List Hop) (p : Pattern) (n : ℕ) where
   ended v x None goes = (goes, refl)
   ended v x (Some l) goes = absurd goes
 
-  -- on to its end
+  -- The path continues to its end.
   pub to_end : (v k x : ℕ) (o : Option ℕ) (after : Place) → On v k x o v None → GoesBy hops p n v x o (Some after) → (j : ℕ) × (suc j ≡ k) × On v j after.node after.link v None × Joined v after.node
   to_end v k x o after path goes = ⊎_elim
       (λ (e : (x ≡ v) × (o ≡ None)). absurd (at_end v x o after e.0 e.1 goes))
       (λ (w : (j : ℕ) × (suc j ≡ k) × On v j after.node after.link v None × Joined v after.node). w)
       (stepped v k x o v None after path goes)
 
-  -- on to another node, where it isn't yet
+  -- The path continues to another node that it has not reached.
   abbrev pub Meets : ℕ → ℕ → ℕ → Option ℕ → Type 0
   Meets v w x o = Joined v w → (k : ℕ) × On v k x o w None
 
@@ -105,13 +105,13 @@ module _ (hops : List Hop) (p : Pattern) (n : ℕ) where
   none_left v w zero differ path = differ path.0
   none_left v w (suc k) differ path = path.0 refl
 
-  -- at its end, without having been at the other node
+  -- The path is at its end, and has not reached the other node.
   pub not_joined : (v w x : ℕ) (o : Option ℕ) → v ≢ w → Meets v w x o → GoesBy hops p n v x o None → Joined v w → ⊥
   not_joined v w x o differ meets goes j =
       let way = meets j in let e = ended v x o goes in
       none_left v w way.0 differ (subst (λ (q : Option ℕ). On v way.0 v q w None) e.1 (subst (λ (h : ℕ). On v way.0 h o w None) e.0 way.1))
 
-  -- ---- how many steps are left
+  -- ---- the number of steps left
   abbrev pub left : ℕ → ℕ → ℕ → Option ℕ → ℕ
   left v zero x o = zero
   left v (suc k) x None = if eqb x v then zero else suc (left v k x (last n x))
@@ -129,7 +129,7 @@ module _ (hops : List Hop) (p : Pattern) (n : ℕ) where
       ∙ ap suc (left_is v k f x (last n x) (omega arith) path.2)
   left_is v (suc k) (suc f) x (Some l) few path = ap suc (left_is v k f (other_end hops l x) (last l (other_end hops l x)) (omega arith) path.1)
 
-  -- the steps of a whole walk
+  -- The steps of a whole traversal.
   abbrev Clear : Type 0
   Clear = ((e : ℕ) × (e < n) × Closes hops p e) ⊎ ((e : ℕ) → e < n → Closes hops p e → ⊥)
 
@@ -149,7 +149,7 @@ module _ (hops : List Hop) (p : Pattern) (n : ℕ) where
   unfolding whole
   whole_ends v clear = steps_end v clear (decide_below (λ e. Closes hops p e) (decide_closes hops p) n)
 
-  -- a walk at its start
+  -- A traversal at its start.
   pub meets_first : (v w : ℕ) → NoneCloses hops p n → Meets v w v (last n v)
   meets_first v w clear j = comes hops p n clear v w j
 
@@ -160,7 +160,7 @@ module _ (hops : List Hop) (p : Pattern) (n : ℕ) where
   read_last {ends} chains v i found within at read = same_Some found (last n v)
       (ap (λ (o : Option ℕ). Some o) (read ∙ ap (λ (k : ℕ). get_or ends k found) at) ∙ (sym (slice_get-get_or ends v found within) ∙ chains.last_is v within))
 
-  -- ---- where a walk stands that hasn't come to node w
+  -- ---- the position of a traversal that has not reached node w
   pub record Stands (v w nodes x : ℕ) (o : Option ℕ) : Type 0 where
     pub place : IsPlace hops p n x o
     pub within : x < nodes

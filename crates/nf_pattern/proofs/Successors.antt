@@ -62,7 +62,7 @@ module _ (good : Option State → Bool) where
   compared_at x s t states false i j (inl same) k above rest = let l : good x ≡ true = is_good x t same k in absurd (cc)
   compared_at x s t states false i j (inr l) k above rest = rest j l
 
-  -- what stands before it is not good
+  -- No choice before it is good.
   pub compared : (states : List (Option State)) (s t : Option State) → Ascending states → first_good good states ≡ Some s → IsIn states t → good t ≡ true → (t ≡ s) ⊎ (rank s < rank t)
   compared [] s t a e h k = absurd h
   compared (x ∷ states) s t a e h k = compared_at x s t states (good x) refl e h k a.0 (λ f g. compared states s t a.1 f g k)
@@ -192,7 +192,7 @@ earliest_first (b ∷ base) (u ∷ us) n q (t ∷ r) e h c before =
     go s states (inr k) (inl same) rest = rest same k.1
     go s states (inr k) (inr more) rest = let e : rank t ≡ rank s = ap rank k.0 in omega arith
 
--- ---- there is one wherever so many changes can be made
+-- ---- it exists if this number of changes is possible
 pub rest_none : (o : Option (Option State)) (rest : Option State → Option Pattern) → with_rest o rest ≡ None → (o ≡ None) ⊎ ((s : Option State) × (o ≡ Some s) × (rest s ≡ None))
 rest_none None rest e = inl refl
 rest_none (Some s) rest e = inr (s, refl, before_none s (rest s) e)

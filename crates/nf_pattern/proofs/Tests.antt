@@ -1,4 +1,4 @@
--- What tests of one entry of a list say.
+-- Tests of one entry of a list.
 use Rattle.std.proofs.Common.{◌≡◌, ◌≢◌, ℕ, suc, ◌+◌, ◌<◌, ◌≤◌, Bool, true, false, not, eqb, ltb, ◌⊎◌, ⊎_elim, inl, inr, List, length, get_or, Some, None, add-one, refl, sym, ap, subst, ◌∙◌, arith}
 use Rattle.std.specs.Prelude.{slice_get, MatchBool}
 use Rattle.std.proofs.lemmas.Bool.{false≢true}
@@ -31,7 +31,7 @@ carries_not resetting p e off tight full may = ⊎_elim
     (λ (on : Has resetting e). not_set resetting e off on)
     (λ (w : HasState p e Tight ⊎ HasState p e Full). ⊎_elim (λ (t : HasState p e Tight). tight t) (λ (f : HasState p e Full). full f) w) may
 
--- whether another link bars one
+-- Whether another link bars this one.
 module _ (sets : Sets) (other e : ℕ) where
   pub bars_by_resetting : (b : Bool) → slice_get sets.resetting other ≡ Some b → b ≡ true → MatchBool b (Bars sets other e) (Bars sets other e → ⊥)
   bars_by_resetting true at is = inl at
@@ -66,7 +66,7 @@ is_end_told ends v e i j below at_v at_e = by_test (get_or ends i 0) (j + 1) (sl
     (λ same. entry_at ends 0 (suc e) v i below at_v (same ∙ (add-one j ∙ ap suc at_e)))
     (λ there. same_Some (get_or ends i 0) (suc e) (sym (entry_at ends 0 (get_or ends i 0) v i below at_v refl) ∙ there) ∙ (ap suc (sym at_e) ∙ sym (add-one j)))
 
--- whether no link can enter a node, which isn't the source
+-- Whether no link can enter a node other than the source.
 pub is_lost_told : (ends : List ℕ) (source v : ℕ) → v < length ends → true ≡ not (eqb v source)
     → MatchBool (eqb (get_or ends v 0) 0) ((v ≢ source) × (slice_get ends v ≡ Some 0)) (v ≢ source → slice_get ends v ≡ Some 0 → ⊥)
 is_lost_told ends source v below other = ⊎_elim

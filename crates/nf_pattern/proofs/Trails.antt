@@ -27,7 +27,7 @@ Steps = List (ℕ × Bool)
 abbrev pub numbers : Steps → List ℕ
 numbers steps = map (λ step. step.0) steps
 
--- a hop stands among the steps
+-- A hop is crossed by one of the steps.
 abbrev Splits : ℕ → Steps → Type 0
 Splits n steps = (front : Steps) × (forward : Bool) × (back : Steps) × (steps ≡ front ++ (n, forward) ∷ back)
 
@@ -111,7 +111,7 @@ module _ (hops : List Hop) where
   abbrev Short : (ℕ → Type 0) → ℕ → ℕ → Type 0
   Short A v w = (s : Steps) × AllDiffer (numbers s) × IsTrail hops A s v w
 
-  -- a hop before a trail that takes it again: either way the part after that is enough
+  -- A hop before a trail that crosses the hop again: in both directions, the trail after the hop is enough.
   again : (A : ℕ → Type 0) (e : ℕ) (d f : Bool) (v w : ℕ) (hop : Hop) (back : Steps) → IsHop hops e hop → A e → v ≡ start_of d hop → (Contains (numbers back) e → ⊥) → AllDiffer (numbers back)
       → IsTrail hops A back (end_of f hop) w → Short A v w
   again A e true true v w hop back p a s none differ q = ((e, true) ∷ back, (none, differ), (hop, p, a, s, q))

@@ -1,10 +1,10 @@
--- Along the wall: a walk that crosses a tree's links, each at both sides, and comes to its start again.
+-- Traversal of a tree: it crosses each link on both sides, and returns to its start.
 use Rattle.std.proofs.Common.{◌≡◌, ◌≢◌, ℕ, zero, suc, ⊎_elim, Bool, true, false, Option, Some, None, sym, ap, subst, ◌∙◌}
 use Rattle.std.specs.Prelude.{if◌then◌else◌}
 use Rattle.nf_pattern.specs.Walking.{last_at as last_of, Path as PathOf}
 use Rattle.nf_pattern.proofs.Setting.{tell}
 
--- whether a link that counts ends at a node, where a link leads to from there, and which nodes the links before a number join
+-- A traversal depends on three functions: whether a link ends at a node, where it leads to from there, and which nodes are joined.
 module _ (Ends : ℕ → ℕ → Bool) (other : ℕ → ℕ → ℕ) (Joined : ℕ → ℕ → ℕ → Type 0) where
   abbrev last_at : ℕ → ℕ → Option ℕ
   last_at = last_of Ends
@@ -28,7 +28,7 @@ module _ (Ends : ℕ → ℕ → Bool) (other : ℕ → ℕ → ℕ) (Joined : �
   pub last_new : (n v : ℕ) → Ends n v ≡ true → last_at (suc n) v ≡ Some n
   last_new n v e = ap (λ (b : Bool). if b then Some n else last_at n v) e
 
-  -- where it ends at none of the nodes where a chain is begun anew
+  -- The link ends at none of the nodes where a chain restarts.
   kept : (n v u : ℕ) → ((x : ℕ) → Joined n v x → x ≢ v → (Ends n x ≡ false) × (x ≢ u)) → ((x : ℕ) → Joined n v x → Joined (suc n) u x)
       → (k x : ℕ) (o : Option ℕ) (y : ℕ) (r : Option ℕ) → Path n v k x o y r → Path (suc n) u k x o y r
   kept n v u safe far zero x o y r p = p
@@ -38,7 +38,7 @@ module _ (Ends : ℕ → ℕ → Bool) (other : ℕ → ℕ → ℕ) (Joined : �
   kept n v u safe far (suc k) x (Some l) y r p = (far (other l x) p.0, kept n v u safe far k (other l x) (last_at l (other l x)) y r p.1)
 
   module _ (back : (n v w : ℕ) → Joined n v w → Joined n w v) (through : (n v w x : ℕ) → Joined n v w → Joined n w x → Joined n v x) (wider : (n v w : ℕ) → Joined n v w → Joined (suc n) v w) (itself : (n v : ℕ) → Joined n v v) where
-    -- it joins nodes a and b, which were not joined
+    -- The link joins nodes a and b, which were not joined.
     module _ (n a b : ℕ) (ends_a : Ends n a ≡ true) (ends_b : Ends n b ≡ true) (ends : (x : ℕ) → x ≢ a → x ≢ b → Ends n x ≡ false) (over : other n a ≡ b) (again : other n b ≡ a)
         (apart : Joined n a b → ⊥) (link : Joined (suc n) a b) (comes : (v u : ℕ) → Joined n v u → Way n v v (last_at n v) u None) where
       module _ (v : ℕ) (near : Joined n v a) where
@@ -60,7 +60,7 @@ module _ (Ends : ℕ → ℕ → Bool) (other : ℕ → ℕ → ℕ) (Joined : �
         beyond : (x : ℕ) → Joined n b x → Joined (suc n) v x
         beyond x j = through (suc n) v b x to_b (wider n b x j)
 
-        -- on the other side
+        -- On the side of b.
         side : (k x : ℕ) (o : Option ℕ) (y : ℕ) (r : Option ℕ) → Path n b k x o y r → Path (suc n) v k x o y r
         side = kept n b v (λ x j other_one. (ends x (not_a x j) other_one, not_v x j)) beyond
 
@@ -88,7 +88,7 @@ module _ (Ends : ℕ → ℕ → Bool) (other : ℕ → ℕ → ℕ) (Joined : �
         detour = let way = comes b b (itself n b) in
             cross a (last_at n a) (on (suc n) v way.0 b (last_at n b) b None a (last_at n a) (side way.0 b (last_at n b) b None way.1) home)
 
-        -- from where a's chain ends
+        -- From the end of a's chain.
         anew : v ≢ a → (y : ℕ) (r : Option ℕ) → Way (suc n) v a (Some n) y r → Way (suc n) v a None y r
         anew differ y r way = (suc way.0, ((λ same. differ (sym same)), to_a, subst (λ (q : Option ℕ). Path (suc n) v way.0 a q y r) (sym (last_new n a ends_a)) way.1))
 
@@ -136,7 +136,7 @@ module _ (Ends : ℕ → ℕ → Bool) (other : ℕ → ℕ → ℕ) (Joined : �
             (on (suc n) v first.0 v (last_at n v) a None u None first.1 (anew differ u None (over_to u j))))
             (tell v a)
 
-    -- ---- and none does, where it ends at no node
+    -- ---- the link ends at no node joined with the start
     pub idle : (n v u : ℕ) → ((x : ℕ) → Joined n v x → Ends n x ≡ false) → Way n v v (last_at n v) u None → Way (suc n) v v (last_at (suc n) v) u None
     idle n v u none way = (
       way.0,

@@ -7,11 +7,11 @@ use Rattle.nf_model.specs.Walk.{Hop}
 use Rattle.nf_model.specs.ThinFlow.{Sets}
 use Rattle.nf_model.specs.Pattern.{Pattern, HasState, NeedsState, IsFirstInto}
 
--- a link into the head of link e that is resetting, or active and before it
+-- Link `other`, with the same head as link e, is resetting, or active and before link e.
 abbrev pub Bars : Sets → ℕ → ℕ → Type 0
 Bars sets other e = Has sets.resetting other ⊎ ((other < e) × Has sets.active other)
 
--- the state of link e in the base pattern, or none
+-- Link e has this state in the base pattern, or none.
 pub record IsBaseState (hops : List Hop) (sets : Sets) (last : Pattern) (e : ℕ) (given : Option State) : Type 0 where
   pub needed : (state : State) → given ≡ Some state → NeedsState sets e
   pub there : NeedsState sets e → (state : State) × (given ≡ Some state)

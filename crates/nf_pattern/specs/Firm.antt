@@ -1,4 +1,4 @@
--- Links that hold no cycle among themselves.
+-- Flags of jointly acyclic links ("firm").
 use Rattle.std.specs.Prelude.{◌≡◌, ℕ, ◌<◌, Bool, List, length}
 use Rattle.nf_model.specs.declared.State.TheVariants.{Tight}
 use Rattle.nf_model.specs.Entries.{Has}
@@ -7,15 +7,15 @@ use Rattle.nf_model.specs.Pattern.{Pattern, HasState}
 use Rattle.nf_pattern.specs.declared.firm.FirmLinks.{FirmLinks}
 use Rattle.nf_pattern.specs.Forest.{AreJoined}
 
--- link e is firm and stands before number n
+-- Link e is flagged and before number n.
 abbrev pub FirmBefore : List Bool → ℕ → ℕ → Type 0
 FirmBefore firm n e = (e < n) × Has firm e
 
--- no firm link closes a cycle with firm ones before it
+-- The flagged links are jointly acyclic: none closes a cycle with flagged links before it.
 abbrev pub AreFirm : List Hop → List Bool → Type 0
 AreFirm hops firm = (e : ℕ) (hop : Hop) → Has firm e → IsHop hops e hop → AreJoined hops (FirmBefore firm e) hop.head hop.tail → ⊥
 
--- of the links before number n, the Tight ones that come before the last calm one are firm
+-- Of the links before number n, the Tight ones before `calm`, the first possible exception, are flagged.
 pub record AreCalm (hops : List Hop) (pattern : Pattern) (n : ℕ) (links : FirmLinks) : Type 0 where
   pub count : length links.flags.items ≡ length hops
   pub firm : AreFirm hops links.flags.items

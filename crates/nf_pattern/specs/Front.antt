@@ -1,4 +1,4 @@
--- The listing of a question, and the patterns of it that were given.
+-- The listing of a question, and its enumerated prefix.
 use Rattle.std.specs.Prelude.{◌≡◌, ℕ, ◌-◌, ◌^◌, ◌<◌, min, List, [], ◌∷◌, ◌++◌, length, Some, None, slice_get}
 use Rattle.nf_model.specs.Pattern.{Pattern, IsBefore}
 use Rattle.nf_lists.specs.Listing.{IsListing}
@@ -11,8 +11,8 @@ IsListingOf question listing = IsListing question.nodes question.source question
 abbrev pub HaveListings : Type 0
 HaveListings = (question : Question) → IsQuestion question → (listing : List Pattern) × IsListingOf question listing
 
--- These patterns were given: they are listed and in order, each listed pattern that doesn't come later is there, and the place is
--- their number, or 2^64 - 1 where that is less.
+-- The list `front` is enumerated. Its patterns are listed and in order, and it holds each listed pattern that does not come later. The
+-- place is its length, capped at 2^64 - 1.
 pub record AreGiven (given : Given) (front : List Pattern) : Type 0 where
   pub listed : (i : ℕ) (p : Pattern) → slice_get front i ≡ Some p → IsListedBy given.question p
   pub ordered : (i j : ℕ) (p q : Pattern) → i < j → slice_get front i ≡ Some p → slice_get front j ≡ Some q
@@ -23,8 +23,8 @@ pub record AreGiven (given : Given) (front : List Pattern) : Type 0 where
       → IsBefore given.question.base p r
   pub place : given.place ≡ min (length front) (2 ^ 64 - 1)
 
--- None is given at the start; what is given next is the next of them; where none is left, they are the listing; and they are always
--- a front of it.
+-- The enumerated patterns are a prefix of the listing. They are none at the start, and the next pattern is appended to them. If none is
+-- left, they are the listing.
 pub record GivenAreFronts : Type 0 where
   pub start : (question : Question) → AreGiven (record { question = question; last = AtStart; place = 0 }) []
   pub more : (given after : Given) (front : List Pattern) (p : Pattern) → AreGiven given front → Gives given (Some p) after

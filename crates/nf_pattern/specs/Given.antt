@@ -1,4 +1,4 @@
--- Listings, and how far one has been given.
+-- Questions of listings, and how far a listing is enumerated.
 use Rattle.std.specs.Prelude.{◌≡◌, ◌⊎◌, ℕ, ◌+◌, ◌-◌, ◌^◌, ◌<◌, min, Bool, List, length, take, Option, Some, None, refl}
 use Rattle.std.specs.Coded.{Coded, code_by, coded×, coded_ℕ, coded_bool, coded_list, coded_option}
 use Rattle.nf_model.specs.Codes.{coded_hop, coded_sets, coded_pattern}
@@ -7,7 +7,7 @@ use Rattle.nf_model.specs.ThinFlow.{Sets}
 use Rattle.nf_model.specs.Pattern.{Pattern, IsPattern, IsListed, IsBefore}
 use Rattle.nf_graph.specs.Graph.{AreBelow}
 
--- what a listing is of
+-- What a listing depends on.
 pub record Question : Type 0 where
   pub nodes : ℕ
   pub source : ℕ
@@ -16,7 +16,7 @@ pub record Question : Type 0 where
   pub unbounded : List Bool
   pub base : Pattern
 
--- lists with one entry for each hop, hops between the nodes, and a base with states for the links that need one
+-- All lists have one entry for each hop, hops join the nodes, and the base has a state for exactly the links that need one.
 pub record IsQuestion (question : Question) : Type 0 where
   pub ends : AreBelow question.nodes question.hops
   pub active : length question.sets.active ≡ length question.hops
@@ -29,15 +29,15 @@ pub record IsQuestion (question : Question) : Type 0 where
 abbrev pub IsListedBy : Question → Pattern → Type 0
 IsListedBy question pattern = IsListed question.nodes question.source question.hops question.sets question.unbounded pattern
 
--- no pattern that is the same up to link n is listed
+-- No listed pattern has the same states as this one at the first n links.
 abbrev pub IsBarren : Question → ℕ → Pattern → Type 0
 IsBarren question n pattern = (other : Pattern) → IsListedBy question other → take n other ≡ take n pattern → ⊥
 
--- r is p or comes after it
+-- Pattern r is p or comes after it.
 abbrev pub IsFrom : Pattern → Pattern → Pattern → Type 0
 IsFrom base p r = (r ≡ p) ⊎ IsBefore base p r
 
--- the first listed pattern from p on
+-- Pattern q is the first listed pattern from p on.
 pub record IsFirstFrom (question : Question) (p q : Pattern) : Type 0 where
   pub listed : IsListedBy question q
   pub after : IsFrom question.base p q
@@ -46,22 +46,22 @@ pub record IsFirstFrom (question : Question) (p q : Pattern) : Type 0 where
 abbrev pub NoneFrom : Question → Pattern → Type 0
 NoneFrom question p = (r : Pattern) → IsListedBy question r → IsFrom question.base p r → ⊥
 
--- ---- how far a listing has been given
+-- ---- how far a listing is enumerated
 pub data Last : Type 0 where
-  -- nothing of it
+  -- Nothing is enumerated.
   AtStart : Last
-  -- up to this pattern
+  -- The listing is enumerated up to this pattern.
   UpTo : (pattern : Pattern) → Last
-  -- all of it
+  -- The whole listing is enumerated.
   AtEnd : Last
 
--- r comes after what was given
+-- Pattern r comes after the enumerated ones.
 abbrev pub IsLater : Pattern → Last → Pattern → Type 0
 IsLater base AtStart r = Unit {0}
 IsLater base (UpTo p) r = IsBefore base p r
 IsLater base AtEnd r = ⊥
 
--- the least listed pattern after what was given
+-- Pattern p is the least listed pattern after the enumerated ones.
 pub record IsNext (question : Question) (last : Last) (p : Pattern) : Type 0 where
   pub listed : IsListedBy question p
   pub later : IsLater question.base last p
@@ -70,7 +70,7 @@ pub record IsNext (question : Question) (last : Last) (p : Pattern) : Type 0 whe
 abbrev pub NoneLeft : Question → Last → Type 0
 NoneLeft question last = (r : Pattern) → IsListedBy question r → IsLater question.base last r → ⊥
 
--- with how many patterns were given, or 2^64 - 1 where that is less
+-- A question, its last enumerated pattern, and the count so far, capped at 2^64 - 1.
 pub record Given : Type 0 where
   pub question : Question
   pub last : Last
@@ -79,14 +79,14 @@ pub record Given : Type 0 where
 abbrev pub next_place : ℕ → ℕ
 next_place place = min (place + 1) (2 ^ 64 - 1)
 
--- one pattern more is given, or none exactly where none is left
+-- One more pattern is enumerated, or none exactly if none is left.
 abbrev pub Gives : Given → Option Pattern → Given → Type 0
 Gives given None after = NoneLeft given.question given.last
     × (after ≡ record { question = given.question; last = AtEnd; place = given.place })
 Gives given (Some p) after = IsNext given.question given.last p
     × (after ≡ record { question = given.question; last = UpTo p; place = next_place given.place })
 
--- ---- how these values are told apart
+-- ---- codes of these values
 abbrev pub coded_question : Coded Question
 coded_question = code_by (ℕ × (ℕ × (List Hop × (Sets × (List Bool × Pattern)))))
     (coded× coded_ℕ (coded× coded_ℕ (coded× (coded_list coded_hop) (coded× coded_sets (coded× (coded_list coded_bool) coded_pattern)))))

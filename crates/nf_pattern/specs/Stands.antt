@@ -1,4 +1,4 @@
--- Where a listing stands.
+-- The progress of a listing.
 use Rattle.std.specs.Prelude.{◌≡◌}
 use Rattle.nf_model.specs.Pattern.{Pattern}
 use Rattle.nf_pattern.specs.declared.question.Stand.{Stand}
@@ -9,14 +9,14 @@ use Rattle.nf_pattern.specs.declared.trail.Trail.{Trail}
 use Rattle.nf_pattern.specs.Trail.{IsTrailOf}
 use Rattle.nf_pattern.specs.Given.{Question, IsQuestion, Last, AtStart, UpTo, AtEnd}
 
--- what was given last, with this current pattern
+-- How far the listing is enumerated, given its current pattern.
 abbrev pub last_of : Stand → Pattern → Last
 last_of Start current = AtStart
 last_of Listed current = UpTo current
 last_of End current = AtEnd
 
--- a current assignment, which is the base at the start and later the listed pattern that was given last, a trail along it, and a
--- link from which on nothing of it differs from the base
+-- The current assignment is the base at the start, and later the last enumerated pattern. The trail is one along this assignment, and
+-- `quiet` is its unchanged suffix.
 pub record IsStanding (question : Question) (stand : Stand) (current : Pattern) (trail : Trail) (quiet : Quiet) : Type 0 where
   pub is_question : IsQuestion question
   pub assigned : IsAssignment question.base question.unbounded current

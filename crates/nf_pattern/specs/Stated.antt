@@ -3,19 +3,19 @@ use Rattle.std.specs.Prelude.{◌≡◌, ℕ, suc, ◌<◌, ◌≤◌, length, S
 use Rattle.nf_model.specs.Pattern.{Pattern}
 use Rattle.nf_pattern.specs.declared.stated.StatedLinks.{StatedLinks}
 
--- from link m up to before link n none has a state
+-- No link from m on and before n has a state.
 abbrev pub AreIdle : Pattern → ℕ → ℕ → Type 0
 AreIdle pattern m n = (e : ℕ) → m ≤ e → e < n → slice_get pattern e ≡ Some None
 
--- n is link e or a later one, or behind the last, and none before it from e on has a state
+-- No link from e on and before n has a state, where n is at least e and at most the number of links.
 abbrev pub IsNextFrom : Pattern → ℕ → ℕ → Type 0
 IsNextFrom pattern e n = (e ≤ n) × (n ≤ length pattern) × AreIdle pattern e n
 
--- n is link e or an earlier one, and none after it up to e has a state
+-- No link after n and up to e has a state, where n is at most e.
 abbrev pub IsLastTo : Pattern → ℕ → ℕ → Type 0
 IsLastTo pattern e n = (n ≤ e) × AreIdle pattern (suc n) (suc e)
 
--- both of each link
+-- `IsNextFrom` and `IsLastTo` hold for every link.
 pub record AreStated (pattern : Pattern) (stated : StatedLinks) : Type 0 where
   pub count_next : length stated.next.items ≡ length pattern
   pub count_last : length stated.last.items ≡ length pattern

@@ -1,11 +1,11 @@
--- Which assignment of states comes next, among those that differ from a base at equally many links.
+-- The next assignment of states, in the order by changes from a base and then link by link.
 use Rattle.std.specs.Prelude.{◌≡◌, ◌⊎◌, ℕ, suc, ◌+◌, ◌-◌, ◌≤◌, Bool, true, false, ◌&&◌, ◌==◌, nat_lt, nat_le, if◌then◌else◌, List, [], ◌∷◌, ◌++◌, length, get_or, take, drop, Option, Some, None}
 use Rattle.nf_model.specs.declared.State.{State}
 use Rattle.nf_model.specs.declared.State.TheVariants.{Tight, Full, Zero}
 use Rattle.nf_model.specs.Pattern.{Pattern, rank, changes}
 use Rattle.nf_pattern.specs.declared.assignments.Quiet.{Quiet}
 
--- the states that a link may have, in order: none where the base has none, and Full for no unbounded link
+-- The states that a link may have, in order: none where the base has none, and Full for no unbounded link.
 abbrev pub choices : Option State → Bool → List (Option State)
 choices None unbounded = None ∷ []
 choices (Some state) true = Some Tight ∷ Some Zero ∷ []
@@ -15,23 +15,23 @@ abbrev pub IsIn : List (Option State) → Option State → Type 0
 IsIn [] t = ⊥
 IsIn (s ∷ states) t = (t ≡ s) ⊎ IsIn states t
 
--- each link has one of its choices
+-- Each link has one of its choices.
 abbrev pub IsAssignment : Pattern → List Bool → Pattern → Type 0
 IsAssignment [] [] [] = Unit {0}
 IsAssignment (b ∷ base) (u ∷ unbounded) (s ∷ states) = IsIn (choices b u) s × IsAssignment base unbounded states
 IsAssignment base unbounded states = ⊥
 
--- how many links may differ from the base
+-- The number of links that may differ from the base.
 abbrev pub free : Pattern → ℕ
 free [] = 0
 free (None ∷ base) = free base
 free (Some b ∷ base) = suc (free base)
 
--- whether a link differs from its base
+-- 1 if a link's state differs from its base state, and 0 otherwise.
 abbrev pub change : Option State → Option State → ℕ
 change b s = if rank b == rank s then 0 else 1
 
--- with this state of a link, so many changes can be made at it and at links of which so many may differ
+-- Exactly n links can differ from the base, given state s here and at most `more` later changes.
 abbrev pub fits : Option State → ℕ → ℕ → Option State → Bool
 fits b n more s = nat_le (change b s) n && nat_le n (change b s + more)
 
@@ -47,7 +47,7 @@ abbrev pub with_rest : Option (Option State) → (Option State → Option Patter
 with_rest None rest = None
 with_rest (Some s) rest = before_all s (rest s)
 
--- the earliest assignment with so many changes
+-- The earliest assignment with n changes.
 abbrev pub earliest : Pattern → List Bool → ℕ → Option Pattern
 earliest [] unbounded n = if n == 0 then Some [] else None
 earliest (b ∷ base) [] n = None
@@ -58,39 +58,39 @@ abbrev pub or_else : Option Pattern → Option Pattern → Option Pattern
 or_else None other = other
 or_else (Some states) other = Some states
 
--- a later state of the first link, with as many changes in all
+-- The earliest assignment with n changes whose first link has a later state than a.
 abbrev pub raised : Option State → Bool → Pattern → List Bool → Option State → ℕ → Option Pattern
 raised b u base unbounded a n =
     with_rest (first_good (λ s. nat_lt (rank a) (rank s) && fits b n (free base) s) (choices b u))
     (λ s. earliest base unbounded (n - change b s))
 
--- the same at link e of a list: from there on, with so many changes
+-- The same at link e of a list: the new states from link e on, with n changes there.
 abbrev pub raised_at : Pattern → List Bool → Pattern → ℕ → ℕ → Option Pattern
 raised_at base unbounded states e n = raised (get_or base e None) (get_or unbounded e false) (drop (suc e) base) (drop (suc e) unbounded)
     (get_or states e None) n
 
--- link e of the states is raised, and the links before it stay
+-- Link e of the states is raised, and the links before it keep theirs.
 pub record RaisesAt (base : Pattern) (unbounded : List Bool) (states : Pattern) (e n : ℕ) (after : Pattern) : Type 0 where
   pub rest : Pattern
   pub is_raised : raised_at base unbounded states e n ≡ Some rest
   pub stays : after ≡ take e states ++ rest
 
--- the states before link e stay; it is none, or comes before link `same`
+-- The first e links have the same states in both, where e is 0 or less than `same`.
 abbrev pub IsSameBefore : ℕ → ℕ → Pattern → Pattern → Type 0
 IsSameBefore same e states after = (e ≤ same - 1) × (take e after ≡ take e states)
 
--- from a link on nothing differs from the base, and so many of the links from there on may
+-- The links from `quiet.link` on equal the base, and `quiet.free` of them may differ from it.
 pub record IsQuiet (base : Pattern) (quiet : Quiet) (states : Pattern) : Type 0 where
   pub within : quiet.link ≤ length base
   pub unchanged : changes (drop quiet.link base) (drop quiet.link states) ≡ 0
   pub free_is : quiet.free ≡ free (drop quiet.link base)
 
--- the next assignment with equally many changes that isn't the same up to this link
+-- The next assignment with equally many changes that differs at one of the first i links.
 abbrev pub later : ℕ → Pattern → List Bool → Pattern → Option Pattern
 later (suc i) (b ∷ base) (u ∷ unbounded) (a ∷ states) =
     or_else (before_all a (later i base unbounded states)) (raised b u base unbounded a (changes (b ∷ base) (a ∷ states)))
 later i base unbounded states = None
 
--- the next assignment that isn't the same up to this link: with equally many changes, or else the earliest with one change more
+-- The next assignment with equally many changes that differs at one of the first i links, or else the earliest with one change more.
 abbrev pub next_assignment : ℕ → Pattern → List Bool → Pattern → Option Pattern
 next_assignment i base unbounded states = or_else (later i base unbounded states) (earliest base unbounded (suc (changes base states)))

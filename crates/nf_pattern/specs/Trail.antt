@@ -1,4 +1,4 @@
--- How far the states of a pattern were looked at, link by link.
+-- The examined prefix of a pattern.
 use Rattle.std.specs.Prelude.{◌≡◌, ◌≢◌, ℕ, suc, ◌<◌, ◌≤◌, Bool, List, length, Some, slice_get}
 use Rattle.nf_model.specs.Walk.{Hop}
 use Rattle.nf_model.specs.Pattern.{Pattern}
@@ -11,8 +11,8 @@ use Rattle.nf_pattern.specs.Stated.{AreStated}
 use Rattle.nf_pattern.specs.declared.stated.StatedLinks.{StatedLinks}
 use Rattle.nf_pattern.specs.declared.trail.Trail.{Trail}
 
--- The links before number `depth` were looked at: none of them closes a cycle of Tight links, and each node but the source is
--- entered that no later link can enter, unless no link can from the start on. The last one that can enter a node leads to it.
+-- The links before number `depth` are examined. None of them closes a cycle of Tight links. Each node except the source whose last possible
+-- entering link is examined is entered. That last link leads to it.
 pub record Follows (source : ℕ) (hops : List Hop) (resetting : List Bool) (pattern : Pattern) (trail : Trail) : Type 0 where
   pub depth : trail.depth ≤ length hops
   pub tight : Holds hops pattern trail.depth trail.tight
@@ -25,23 +25,23 @@ pub record Follows (source : ℕ) (hops : List Hop) (resetting : List Bool) (pat
       → EnteredBefore hops resetting pattern n v
   pub last : (v e : ℕ) → slice_get trail.ends.items v ≡ Some (suc e) → LeadsTo hops e v
 
--- the trail stands at a link of the pattern, in a listing's question
+-- The trail is an examined prefix of the pattern, for the question of a listing.
 pub record IsTrailOf (question : Question) (pattern : Pattern) (trail : Trail) : Type 0 where
   pub follows : Follows question.source question.hops question.sets.resetting pattern trail
   pub nodes : length trail.tight.last.items ≡ question.nodes
   pub ends : AreEnds question.hops question.sets.resetting question.base trail.ends.items
   pub lost : IsLost question.source trail.ends.items trail.lost
 
--- of some pattern, for some source
+-- The trail is an examined prefix of some pattern, for some source.
 abbrev pub IsLeft : List Hop → Trail → Type 0
 IsLeft hops trail = (source : ℕ) × (resetting : List Bool) × (pattern : Pattern) × Follows source hops resetting pattern trail
 
--- of one in which these links have a state
+-- The trail is an examined prefix of some pattern in which exactly the indexed links have a state.
 abbrev pub IsLeftBy : List Hop → StatedLinks → Trail → Type 0
 IsLeftBy hops stated trail = (source : ℕ) × (resetting : List Bool) × (pattern : Pattern) × AreStated pattern stated
     × Follows source hops resetting pattern trail
 
--- what a trail keeps on its way
+-- The number of nodes, `ends` and `lost` stay.
 pub record IsOnWay (before after : Trail) : Type 0 where
   pub nodes : length after.tight.last.items ≡ length before.tight.last.items
   pub ends : after.ends ≡ before.ends

@@ -1,4 +1,4 @@
-// Assignments of states to links, in order: by the number of links that differ from a base, and then link by link.
+// Assignments of states to links, ordered by the number of links that differ from a base, and then link by link.
 ghost use Rattle.std.specs.Prelude.{◌≡◌, ◌^◌, ◌<◌, ◌≤◌, ◌++◌, suc, length, take, drop, Some, None, MatchOption};
 ghost use Rattle.nf_model.specs.Pattern.{changes as changes_of};
 ghost use Rattle.nf_pattern.specs.Stated.{AreStated};
@@ -8,21 +8,21 @@ use crate::choice::{change, first_choice, next_choice};
 use crate::stated::StatedLinks;
 use nf_model::State;
 
-// From which link on nothing differs from the base, and how many of the links from there on may.
+// The unchanged suffix of an assignment. The links from `link` on equal the base, and `free` of them may differ from it.
 #[derive(Clone, Copy)]
 pub(crate) struct Quiet {
     pub(crate) link: usize,
     pub(crate) free: u32,
 }
 
-// What a step to a later assignment tells: the link up to which it is the same as before, and where it is quiet.
+// A step to a later assignment: the links before `link` keep their states, and `quiet` is the new unchanged suffix.
 #[derive(Clone, Copy)]
 pub(crate) struct Raised {
     pub(crate) link: usize,
     pub(crate) quiet: Quiet,
 }
 
-// The links from this one on are as in the base.
+// Copies the base's states to the links from `link` on.
 fn copy_rest(states: &mut [Option<State>], base: &[Option<State>], link: usize)
     requires states { length states.old ≡ length base.now }
     requires link { link ≤ length base.now }
@@ -31,7 +31,7 @@ fn copy_rest(states: &mut [Option<State>], base: &[Option<State>], link: usize)
     states[link..].copy_from_slice(&base[link..]);
 }
 
-// The earliest assignment with so many changes, where `more` links may differ from the base; and where it is quiet.
+// Sets `states` to the earliest assignment with `changes` changes, and returns its unchanged suffix. `more` links may differ from the base.
 fn fill(
     states: &mut [Option<State>],
     base: &[Option<State>],
@@ -74,8 +74,9 @@ fn fill(
     }
 }
 
-// This link gets its next state with so many changes from it on, and the links after it the earliest ones; and where it is quiet then.
-// None where it has no such state. `more` of the links after it may differ from the base.
+// Gives `link` its next state for which exactly `changes` links from `link` on can differ from the base. Sets the links after it to the
+// earliest such states, and returns the unchanged suffix. Returns `None`, and changes nothing, if there is no such state. `more` of the
+// links after `link` may differ from the base.
 fn raise_at(
     states: &mut [Option<State>],
     base: &[Option<State>],
@@ -114,8 +115,8 @@ fn raise_at(
     }
 }
 
-// The next assignment with equally many changes that isn't the same up to this link, from which on there are so many changes and may be
-// so many; None where there is none.
+// Sets `states` to the next assignment with equally many changes that differs at one of the first `same` links. Returns `None`, and changes
+// nothing, if there is none. From `same` on, `changes` links differ from the base and `more` may differ.
 fn raise_from(
     states: &mut [Option<State>],
     base: &[Option<State>],
@@ -152,8 +153,8 @@ fn raise_from(
     None
 }
 
-// The next assignment with equally many changes that isn't the same up to this link; None where there is none. Where it is quiet no
-// link can be raised.
+// Sets `states` to the next assignment with equally many changes that differs at one of the first `same` links. Returns `None`, and changes
+// nothing, if there is none. Skips the unchanged suffix, since no link in it can be raised.
 fn raise(
     states: &mut [Option<State>],
     base: &[Option<State>],
@@ -183,7 +184,7 @@ fn raise(
     }
 }
 
-// How many links differ from the base.
+// Returns how many links differ from the base.
 fn count_changes(base: &[Option<State>], states: &[Option<State>]) -> u32
     requires states { length states.now ≡ length base.now }
     requires fewer { length base.now < 2 ^ 32 }
@@ -197,7 +198,7 @@ fn count_changes(base: &[Option<State>], states: &[Option<State>]) -> u32
     count
 }
 
-// How many links may differ from it.
+// Returns how many links may differ from the base: those with a state in it.
 fn count_free(base: &[Option<State>]) -> u32
     requires { length base.now < 2 ^ 32 }
     ensures free { result ≡ free base.now }
@@ -210,7 +211,8 @@ fn count_free(base: &[Option<State>]) -> u32
     count
 }
 
-// The next assignment that isn't the same up to this link; None where there is none.
+// Sets `states` to the next assignment with equally many changes that differs at one of the first `same` links. If there is none, sets them
+// to the earliest assignment with one change more. Returns `None`, and changes nothing, if there is neither.
 pub(crate) fn advance(
     states: &mut [Option<State>],
     base: &[Option<State>],

@@ -1,4 +1,4 @@
-// The pattern that the search of a phase begins with.
+// The base pattern, with which the search of a phase begins.
 ghost use Rattle.std.specs.Prelude.{◌≡◌, ◌^◌, ◌<◌, length, IfOk, MatchBool};
 ghost use Rattle.nf_model.specs.Walk.{Hop as SeenHop, IsHop};
 ghost use Rattle.nf_model.specs.Pattern.{IsFirstInto, IsBase};
@@ -10,7 +10,8 @@ use nf_graph::{Hop, LinkId, LinkSets};
 use nf_model::State;
 use std::alloc::{AllocError, Global};
 
-// The other link, into the same head, keeps this one from being the first active one into a node that no resetting link enters.
+// Returns whether `other`, a link with the same head, is resetting, or active and before `link`. Then `link` is not the first active link
+// into a node that no resetting link enters.
 fn bars(sets: &LinkSets, other: LinkId, link: LinkId) -> bool
     requires { other < length sets.now.active }
     ensures { MatchBool result (Bars sets.now other link) (Bars sets.now other link → ⊥) }
@@ -18,7 +19,7 @@ fn bars(sets: &LinkSets, other: LinkId, link: LinkId) -> bool
     sets.resetting(other) || other.index() < link.index() && sets.active(other)
 }
 
-// The link is the first active one into its head, and no resetting link enters that node.
+// Returns whether the link is the first active link into its head, and no resetting link enters that node.
 fn is_first_into(hops: &[Hop], sets: &LinkSets, link: LinkId) -> bool
     requires link { link < length hops.now }
     requires sets { length sets.now.active ≡ length hops.now }
@@ -38,7 +39,7 @@ fn is_first_into(hops: &[Hop], sets: &LinkSets, link: LinkId) -> bool
     true
 }
 
-// The state of a link in the base pattern.
+// Returns the state of a link in the base pattern.
 fn base_state(hops: &[Hop], sets: &LinkSets, last: &Pattern, link: LinkId) -> Option<State>
     requires link { link < length hops.now }
     requires sets { length sets.now.active ≡ length hops.now }
@@ -56,9 +57,9 @@ fn base_state(hops: &[Hop], sets: &LinkSets, last: &Pattern, link: LinkId) -> Op
     }
 }
 
-/// The base pattern of a phase, from the pattern of the last phase. Each active link that is not resetting has a state, and no
-/// other link. It is that of the last pattern; where it had none there, it is Tight for the first active link, in link order,
-/// into a node that no resetting link enters, and Zero for any other.
+/// Returns the base pattern of a phase, from the pattern of the last phase. Exactly the active links that are not resetting have a state. A
+/// link with a state in the last pattern keeps it. Every other such link is Tight if it is the first active link, in link order, into a
+/// node that no resetting link enters. Otherwise it is Zero. Fails if an allocation fails.
 pub fn base(
     alloc: Global,
     nodes: u32,

@@ -5,7 +5,7 @@ ghost use Rattle.nf_pattern.specs.Successor.{change as change_of, fits as is_fit
 
 use nf_model::State;
 
-// Tight before Full before Zero, and before them no state.
+// Returns the rank of a state: no state, Tight, Full, Zero in this order.
 fn rank(state: Option<State>) -> u32
     ensures { result ≡ rank_of state }
 {
@@ -17,7 +17,7 @@ fn rank(state: Option<State>) -> u32
     }
 }
 
-// How many of this one link differ from the base.
+// Returns 1 if the link's state differs from its base state, and 0 otherwise.
 pub(crate) fn change(base: Option<State>, state: Option<State>) -> u32
     ensures value { result ≡ change_of base state }
     ensures small { result ≤ 1 }
@@ -25,7 +25,7 @@ pub(crate) fn change(base: Option<State>, state: Option<State>) -> u32
     if rank(base) == rank(state) { 0 } else { 1 }
 }
 
-// With this state of the link, so many changes can be made at it and at more links, of which so many may differ.
+// Returns whether exactly `changes` links from this one on can differ from the base, given `state` here and at most `more` later changes.
 fn fits(base: Option<State>, changes: u32, more: u32, state: Option<State>) -> bool
     ensures { result ≡ is_fit base changes more state }
 {
@@ -33,7 +33,7 @@ fn fits(base: Option<State>, changes: u32, more: u32, state: Option<State>) -> b
     change <= changes && changes - change <= more
 }
 
-// The first choice of the link that fits.
+// Returns the link's first choice that fits.
 pub(crate) fn first_choice(
     base: Option<State>,
     unbounded: bool,
@@ -61,7 +61,7 @@ pub(crate) fn first_choice(
     None
 }
 
-// With this state of the link, which comes after the one that it has, the changes can be made.
+// Returns whether `state` comes after the link's present state and fits.
 fn fits_after(
     base: Option<State>,
     now: Option<State>,
@@ -74,7 +74,7 @@ fn fits_after(
     rank(now) < rank(state) && fits(base, changes, more, state)
 }
 
-// The first choice of the link that fits and comes after the state that it has.
+// Returns the link's first choice that comes after its present state and fits.
 pub(crate) fn next_choice(
     base: Option<State>,
     unbounded: bool,

@@ -1,4 +1,4 @@
-// Which nodes are entered by a Tight, Full or resetting link.
+// Nodes entered by a Tight, Full or resetting link.
 ghost use Rattle.std.specs.Prelude.{◌≡◌, ◌≢◌, ◌^◌, ◌<◌, suc, length, List, Bool, Some, None, slice_get, MatchBool, IfOk};
 ghost use Rattle.nf_model.specs.Walk.{Hop as SeenHop, IsHop};
 ghost use Rattle.nf_graph.specs.Graph.{AreBelow};
@@ -8,7 +8,7 @@ use nf_graph::{Hop, LinkId, NodeId};
 use nf_model::State;
 use std::alloc::{AllocError, Global};
 
-// The link is resetting, Tight or Full.
+// Returns whether the link is resetting, Tight or Full.
 pub(crate) fn may_carry(states: &[Option<State>], resetting: &[bool], link: LinkId) -> bool
     requires states { link < length states.now }
     requires resetting { link < length resetting.now }
@@ -25,7 +25,7 @@ pub(crate) fn may_carry(states: &[Option<State>], resetting: &[bool], link: Link
     }
 }
 
-// No link after this one can enter the node, and this one leads to it.
+// Returns whether `link` is the last link that can enter the node.
 fn is_end(ends: &[usize], node: NodeId, link: LinkId) -> bool
     requires { node < length ends.now }
     ensures { MatchBool result (slice_get ends.now node ≡ Some (suc link)) (slice_get ends.now node ≡ Some (suc link) → ⊥) }
@@ -33,7 +33,8 @@ fn is_end(ends: &[usize], node: NodeId, link: LinkId) -> bool
     ends[node.index()] == link.index() + 1
 }
 
-// A link before this one enters the node that this one leads to. The links that lead there are gone through backward.
+// Returns whether a resetting, Tight or Full link before `link` enters `node`, the head of `link`. Follows the chain of links into `node`
+// backward from `link`.
 fn is_entered_before(
     hops: &[Hop],
     states: &[Option<State>],
@@ -61,7 +62,7 @@ fn is_entered_before(
     false
 }
 
-// The link enters nothing, and so a node but the source stays without a link that enters it.
+// Returns whether the head of `link` is not the source, no link up to `link` enters it, and no later link can.
 pub(crate) fn strands(
     hops: &[Hop],
     states: &[Option<State>],
@@ -94,7 +95,7 @@ pub(crate) fn strands(
     !is_entered_before(hops, states, resetting, link, head, chain)
 }
 
-// The last link before this one that leads to the same node. From then on this one is the last into that node.
+// Returns the last link before `link` with the same head, or `None`. Sets `last` at that head to `link`.
 fn chain_link(hops: &[Hop], link: usize, last: &mut [Option<LinkId>]) -> Option<LinkId>
     requires link { link < length hops.now }
     requires fewer { length hops.now < 2 ^ 32 }
@@ -110,7 +111,7 @@ fn chain_link(hops: &[Hop], link: usize, last: &mut [Option<LinkId>]) -> Option<
     before
 }
 
-/// Of each link, the last one before it that leads to the same node.
+/// Returns for each link the last link before it with the same head, or `None`. Fails if an allocation fails.
 pub(crate) fn chain(
     alloc: Global,
     nodes: u32,
@@ -130,7 +131,7 @@ pub(crate) fn chain(
     Ok(chain)
 }
 
-// The link is resetting, or may have a state.
+// Returns whether the link is resetting or has a state in the base.
 fn can_carry(base: &[Option<State>], resetting: &[bool], link: usize) -> bool
     requires base { link < length base.now }
     requires resetting { link < length resetting.now }
@@ -139,7 +140,7 @@ fn can_carry(base: &[Option<State>], resetting: &[bool], link: usize) -> bool
     resetting[link] || base[link].is_some()
 }
 
-// A link that can carry ends those into its head.
+// Sets `ends` at the link's head to `link + 1` if the link is resetting or has a state in the base.
 fn note_end(
     hops: &[Hop],
     base: &[Option<State>],
@@ -161,7 +162,7 @@ fn note_end(
     }
 }
 
-// Of each node, behind which link no later one can enter it.
+// Returns for each node the number after the last link that can enter it, or 0 if no link can. Fails if an allocation fails.
 pub(crate) fn ends(
     alloc: Global,
     nodes: u32,
@@ -182,7 +183,7 @@ pub(crate) fn ends(
     Ok(ends)
 }
 
-// No link can enter this node, and it isn't the source.
+// Returns whether the node is not the source and no link can enter it.
 fn is_lost_at(ends: &[usize], source: NodeId, node: usize) -> bool
     requires node { node < length ends.now }
     requires fewer { length ends.now < 2 ^ 32 }
@@ -192,7 +193,7 @@ fn is_lost_at(ends: &[usize], source: NodeId, node: usize) -> bool
     NodeId(node as u32) != source && ends[node] == 0
 }
 
-// Whether no link can enter a node but the source.
+// Returns whether no link can enter some node other than the source.
 pub(crate) fn is_lost(ends: &[usize], source: NodeId) -> bool
     requires { length ends.now < 2 ^ 32 }
     ensures { IsLost source ends.now result }

@@ -1,4 +1,4 @@
-// Links that hold no cycle among themselves. As long as no other Tight link was come by, none closes one.
+// Flags of jointly acyclic links. While all examined Tight links are flagged, none of them closes a cycle.
 ghost use Rattle.std.specs.Prelude.{◌≡◌, IfOk};
 ghost use Rattle.nf_model.specs.Pattern.{Pattern};
 ghost use Rattle.nf_pattern.specs.Firm.{AreCalm};
@@ -6,8 +6,8 @@ ghost use Rattle.nf_pattern.specs.Firm.{AreCalm};
 use nf_graph::{Hop, LinkId};
 use std::alloc::{AllocError, Global};
 
-// Of each link, whether it is firm: no firm link closes a cycle with firm ones before it. Of the links that were looked at, the Tight ones
-// before number `calm` are firm.
+// Jointly acyclic links, by a flag for each link: no flagged link closes a cycle with flagged links before it. `calm` is the first possible
+// exception: every examined Tight link before it is flagged.
 #[derive(Drop)]
 pub(crate) struct FirmLinks {
     flags: Vec<bool>,
@@ -21,7 +21,7 @@ impl FirmLinks {
     ghost use Rattle.nf_model.specs.Pattern.{Pattern};
     ghost use Rattle.nf_pattern.specs.Firm.{AreCalm};
 
-    // No link is firm.
+    // Returns flags of no link. Fails if an allocation fails.
     pub(crate) fn none(alloc: Global, hops: &[Hop]) -> Result<FirmLinks, AllocError>
         ensures count { IfOk result (λ firm. length firm.flags.items ≡ length hops.now) }
         ensures none { IfOk result (λ firm. (e : ℕ) → Has firm.flags.items e → ⊥) }
@@ -33,7 +33,7 @@ impl FirmLinks {
         })
     }
 
-    // The link is firm, and so are all Tight ones before it that were looked at.
+    // Returns whether the link and every examined Tight link before it are flagged. The answer false decides nothing.
     pub(crate) fn covers(&self, link: LinkId) -> bool
         requires { link < length self.now.flags.items }
         ensures { IsTrue result → (link ≤ self.now.calm) × Has self.now.flags.items link }
@@ -41,7 +41,7 @@ impl FirmLinks {
         self.calm >= link.index() && self.flags[link.index()]
     }
 
-    // A Tight link was looked at that may not be firm.
+    // Records that an examined Tight link may not be flagged.
     pub(crate) fn note(&mut self, link: LinkId)
         ensures { (hops : List SeenHop) (pattern : Pattern) → AreCalm hops pattern link self.old
             → AreCalm hops pattern (suc link) self.new }
@@ -51,7 +51,7 @@ impl FirmLinks {
         }
     }
 
-    // Back to where no link from this one on was looked at.
+    // Records that no link from `link` on is examined.
     pub(crate) fn retreat(&mut self, link: usize)
         ensures { (hops : List SeenHop) (pattern : Pattern) (n : ℕ) → n ≤ link → AreCalm hops pattern n self.old
             → AreCalm hops pattern n self.new }
@@ -61,7 +61,7 @@ impl FirmLinks {
         }
     }
 
-    // The link is called firm, or not.
+    // Sets the link's flag.
     pub(crate) fn mark(&mut self, link: LinkId, flag: bool)
         requires { link < length self.old.flags.items }
         ensures { self.new.flags.items ≡ slice_set self.old.flags.items link flag }

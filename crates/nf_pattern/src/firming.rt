@@ -1,4 +1,4 @@
-// Which links of a base are firm.
+// Jointly acyclic Tight links of a base.
 ghost use Rattle.std.specs.Prelude.{◌≡◌, ◌<◌, ◌^◌, length, IfOk};
 ghost use Rattle.nf_graph.specs.Graph.{AreBelow};
 ghost use Rattle.nf_model.specs.Pattern.{Pattern};
@@ -10,7 +10,7 @@ use nf_graph::{Hop, LinkId};
 use nf_model::State;
 use std::alloc::{AllocError, Global};
 
-/// The Tight links of a base before the first one that closes a cycle: none of them does.
+/// Returns the Tight links of a base before the first one that closes a cycle. They are jointly acyclic. Fails if an allocation fails.
 pub(crate) fn firm_links(
     alloc: Global,
     nodes: u32,

@@ -1,12 +1,13 @@
-// Theorems on listings, as contracts of functions that do nothing.
+// Theorems on listings, as contracts of functions without effect.
 ghost use Rattle.nf_pattern.specs.Front.{HaveListings, GivenAreFronts};
 
-/// Law: every question has a listing, in which each listed pattern stands once, in the order.
+/// Theorem: every question has a listing, which holds each listed pattern once, in order.
 pub fn questions_have_listings()
     ensures { HaveListings }
 {}
 
-/// Law: the patterns that `Patterns::next` gave are always a front of the listing, and all of it once none is left.
+/// Theorem: the patterns that `Patterns::next` has returned are a prefix of the listing. They are the whole listing once `next` returns
+/// `None`.
 pub fn given_are_fronts()
     ensures { GivenAreFronts }
 {}

@@ -1,5 +1,5 @@
-//! Patterns: a state for each active link that is not resetting, by which the thin flow of a phase is found (this project's own
-//! form of the cases of Cominetti, Correa and Larré 2015); the pattern that a phase begins with, and the list of those to try.
+//! Patterns: a state for each active link that is not resetting. The thin flow of a phase is found by its pattern. This is the project's
+//! own form of the cases of Cominetti, Correa and Larré 2015. The crate makes the base pattern of a phase, and lists the patterns to try.
 #![tactic(auto)]
 
 mod assignments;

@@ -1,10 +1,10 @@
-// Patterns as values.
+// Patterns: one optional state for each link.
 use nf_graph::LinkId;
 use nf_model::State;
 use std::alloc::{AllocError, Global};
 use std::marker::Model;
 
-/// Of each link, its state or none.
+/// A pattern: for each link its state, or none.
 #[derive(Drop)]
 pub struct Pattern {
     pub(crate) states: Vec<Option<State>>,
@@ -24,7 +24,7 @@ impl Model for Pattern {
 impl Pattern {
     ghost use Rattle.std.specs.Prelude.{◌≡◌, ◌<◌, length, replicate, slice_get, slice_set, Some, None, IfOk};
 
-    /// No link of so many has a state.
+    /// Returns a pattern of `links` links, none of which has a state. Fails if an allocation fails.
     pub fn none(alloc: Global, links: u32) -> Result<Pattern, AllocError>
         ensures { IfOk result (λ pattern. pattern ≡ replicate links None) }
     {
@@ -32,21 +32,21 @@ impl Pattern {
         Ok(Pattern { states })
     }
 
-    // These states, link by link.
+    // Returns the pattern of these states, link by link.
     pub(crate) fn of(states: Vec<Option<State>>) -> Pattern
         ensures { result ≡ states.items }
     {
         Pattern { states }
     }
 
-    // The states, link by link.
+    // Returns the states, link by link.
     pub(crate) fn states(&self) -> &[Option<State>]
         ensures { result.now ≡ self.now }
     {
         self.states.as_slice()
     }
 
-    /// The state of a link.
+    /// Returns the state of a link, or `None` if it has none.
     pub fn state(&self, link: LinkId) -> Option<State>
         requires { link < length self.now }
         ensures { slice_get self.now link ≡ Some result }
@@ -54,7 +54,7 @@ impl Pattern {
         self.states[link.index()]
     }
 
-    /// The link has this state from now on; the others keep theirs.
+    /// Sets the state of a link. The other links keep theirs.
     pub fn set(&mut self, link: LinkId, state: Option<State>)
         requires { link < length self.old }
         ensures { self.new ≡ slice_set self.old link state }
@@ -62,7 +62,7 @@ impl Pattern {
         self.states[link.index()] = state;
     }
 
-    /// An equal pattern.
+    /// Returns an equal pattern. Fails if an allocation fails.
     pub fn copy(&self, alloc: Global) -> Result<Pattern, AllocError>
         ensures { IfOk result (λ pattern. pattern ≡ self.now) }
     {

@@ -1,4 +1,4 @@
-// The listed patterns of a phase, one after the other.
+// The listed patterns of a phase, in order.
 use crate::assignments::Quiet;
 use crate::pattern::Pattern;
 use crate::question::{Question, Stand};
@@ -7,10 +7,10 @@ use nf_graph::{Hop, LinkSets, NodeId};
 use std::alloc::{AllocError, Global};
 use std::marker::Model;
 
-/// The listed patterns of a phase, in their order, and how far they have been given. A pattern has a state for exactly the active
-/// links that are not resetting, and Full for no unbounded one. It is listed where its Tight links, taken without direction, form
-/// a forest, and each node but the source is entered by a Tight, Full or resetting link. Patterns are ordered by the number of
-/// links whose state differs from that of a base, and then link by link, Tight before Full before Zero.
+/// An enumeration of the listed patterns of a phase, in order. A pattern has a state for exactly the active links that are not resetting,
+/// and Full for no unbounded link. It is listed if two conditions hold. Its Tight links, taken without direction, form a forest, and a
+/// Tight, Full or resetting link enters each node except the source. Patterns are ordered by the number of links whose state differs from a
+/// base. Equal numbers are ordered link by link, Tight before Full before Zero.
 #[derive(Drop)]
 pub struct Patterns {
     question: Question,
@@ -42,8 +42,9 @@ impl Patterns {
     ghost use Rattle.nf_pattern.specs.Given.{AtStart, Gives};
     ghost use Rattle.nf_pattern.specs.Giving.{GivesNext};
 
-    /// Before the first listed pattern. The base has a state for exactly the active links that are not resetting, and Full for no
-    /// unbounded one; there is one flag of each kind for each link.
+    /// Returns an enumeration that begins before the first listed pattern. Fails if an allocation fails. The base must have a state for
+    /// exactly the active links that are not resetting, and Full for no unbounded link. `sets` and `unbounded` must have one flag for each
+    /// link.
     pub fn new(
         alloc: Global,
         nodes: u32,
@@ -90,7 +91,7 @@ impl Patterns {
         })
     }
 
-    // On to the next listed pattern; whether there is one.
+    // Advances to the next listed pattern. Returns whether there is one.
     fn step(&mut self) -> bool
         ensures { MatchBool result ((pattern : SeenPattern) × Gives self.old (Some pattern) self.new) (Gives self.old None self.new) }
     {
@@ -109,7 +110,7 @@ impl Patterns {
         false
     }
 
-    /// The least listed pattern after those given before; None exactly at the end of the list. It takes no memory.
+    /// Returns the least listed pattern after those returned before, or `None` exactly if there is none. Does not allocate.
     pub fn next(&mut self) -> Option<&Pattern>
         ensures* { sem 𝓛 (GivesNext self.entry (option_copied result)) }
     {
@@ -120,7 +121,7 @@ impl Patterns {
         }
     }
 
-    /// How many patterns were given, or 2^64 - 1 where that is less.
+    /// Returns how many patterns `next` has returned, capped at 2^64 - 1.
     pub fn place(&self) -> u64
         ensures { result ≡ self.now.place }
     {

@@ -1,4 +1,4 @@
-// What a listing is of, and the way from one listed pattern to the next.
+// The question of a listing, and the step from one listed pattern to the next.
 ghost use Rattle.std.specs.Prelude.{◌≡◌, ◌^◌, ◌<◌, length, IfOk};
 
 use crate::assignments::{Quiet, advance};
@@ -10,7 +10,7 @@ use nf_model::State;
 use std::alloc::{AllocError, Global};
 use std::marker::Model;
 
-// The links, and the base whose links with a state are those that need one.
+// What a listing depends on. The base has a state for exactly the links that need one, and `stated` indexes these links.
 #[derive(Drop)]
 pub(crate) struct Question {
     nodes: u32,
@@ -23,7 +23,7 @@ pub(crate) struct Question {
     stated: StatedLinks,
 }
 
-// Where a listing stands: before the first listed pattern, at one, or behind the last.
+// The progress of a listing: before the first listed pattern, at a listed pattern, or after the last.
 #[derive(Clone, Copy)]
 pub(crate) enum Stand {
     Start,
@@ -59,7 +59,7 @@ impl Model for Question {
         × AreStated q.base q.stated };
 }
 
-// Of each link, whether it is active.
+// Returns for each link whether it is active. Fails if an allocation fails.
 fn active_flags(alloc: Global, sets: &LinkSets, links: usize) -> Result<Vec<bool>, AllocError>
     requires links { length sets.now.active ≡ links }
     requires fewer { links < 2 ^ 32 }
@@ -73,7 +73,7 @@ fn active_flags(alloc: Global, sets: &LinkSets, links: usize) -> Result<Vec<bool
     Ok(flags)
 }
 
-// Of each link, whether it is resetting.
+// Returns for each link whether it is resetting. Fails if an allocation fails.
 fn resetting_flags(alloc: Global, sets: &LinkSets, links: usize) -> Result<Vec<bool>, AllocError>
     requires active { length sets.now.active ≡ links }
     requires resetting { length sets.now.resetting ≡ links }
@@ -97,7 +97,7 @@ impl Question {
     ghost use Rattle.nf_pattern.specs.declared.question.Stand.TheVariants.{Start};
     ghost use Rattle.nf_pattern.specs.Stands.{last_of};
 
-    // The question of these values, kept in memory of its own.
+    // Returns the question of these values, copied. Fails if an allocation fails.
     pub(crate) fn new(
         alloc: Global,
         nodes: u32,
@@ -130,7 +130,7 @@ impl Question {
         })
     }
 
-    // A trail at the start.
+    // Returns a trail of no examined links. Fails if an allocation fails.
     pub(crate) fn trail(&self, alloc: Global) -> Result<Trail, AllocError>
         requires question { IsQuestion self.now }
         ensures { IfOk result (λ trail. IsTrailOf self.now self.now.base trail) }
@@ -145,7 +145,8 @@ impl Question {
         )
     }
 
-    // Up to which link the states keep every pattern from being listed; None where they are listed.
+    // Extends the trail along the states. Returns `None` if they are listed. Otherwise returns a number of links: no listed pattern has the
+    // same states at that many first links.
     fn failing(&self, states: &[Option<State>], trail: &mut Trail) -> Option<usize>
         requires question { IsQuestion self.now }
         requires assigned { IsAssignment self.now.base self.now.unbounded states.now }
@@ -169,8 +170,9 @@ impl Question {
         Some(trail.depth() + 1)
     }
 
-    // The next assignment that isn't the same up to this link, and a link up to which it is; None where there is none. `quiet` is
-    // kept up with it.
+    // Sets `states` to the next assignment with equally many changes that differs at one of the first `same` links. If there is none, sets
+    // them to the earliest assignment with one change more. Returns how many first links keep their states, or `None` if there is neither.
+    // Updates the unchanged suffix `quiet`.
     fn advance(&self, states: &mut [Option<State>], same: usize, quiet: &mut Quiet) -> Option<usize>
         requires assigned { IsAssignment self.now.base self.now.unbounded states.old }
         requires same { same ≤ length self.now.base }
@@ -193,7 +195,7 @@ impl Question {
         Some(raised.link)
     }
 
-    // The trail comes back to where these states are the same.
+    // Shortens the trail to the first `link` links, so that it is one of all states that agree with the present ones there.
     fn retreat(&self, link: usize, trail: &mut Trail)
         requires left { (before : SeenPattern) × IsAssignment self.now.base self.now.unbounded before
             × IsTrailOf self.now before trail.old }
@@ -203,7 +205,7 @@ impl Question {
         trail.retreat(&self.hops, link, &self.stated);
     }
 
-    // On to the first listed pattern from this assignment on; whether there is one.
+    // Advances `states` to the first listed pattern from this assignment on. Returns whether there is one.
     fn seek(&self, states: &mut [Option<State>], trail: &mut Trail, quiet: &mut Quiet) -> bool
         requires question { IsQuestion self.now }
         requires assigned { IsAssignment self.now.base self.now.unbounded states.old }
@@ -223,7 +225,7 @@ impl Question {
         true
     }
 
-    // From the base on to the first listed pattern; whether there is one.
+    // Advances `states` from the base to the first listed pattern. Returns whether there is one.
     fn first(&self, states: &mut [Option<State>], trail: &mut Trail, quiet: &mut Quiet) -> bool
         requires question { IsQuestion self.now }
         requires base { states.old ≡ self.now.base }
@@ -237,7 +239,7 @@ impl Question {
         self.seek(states, trail, quiet)
     }
 
-    // From a listed pattern on to the next one; whether there is one.
+    // Advances `states` from a listed pattern to the next one. Returns whether there is one.
     fn after(&self, states: &mut [Option<State>], trail: &mut Trail, quiet: &mut Quiet) -> bool
         requires question { IsQuestion self.now }
         requires assigned { IsAssignment self.now.base self.now.unbounded states.old }
@@ -258,7 +260,7 @@ impl Question {
         }
     }
 
-    // From where a listing stands on to the next listed pattern; whether there is one.
+    // Advances `states` to the next listed pattern, given the progress of the listing. Returns whether there is one.
     pub(crate) fn find(
         &self,
         stand: Stand,

@@ -1,18 +1,19 @@
-// Which links of a base have a state: the others are passed by.
+// An index of the links that have a state in a base; searches skip the others.
 ghost use Rattle.std.specs.Prelude.{◌≡◌, ◌<◌, ◌≤◌, ℕ, suc, length, Some, slice_get, IfOk};
 ghost use Rattle.nf_pattern.specs.Stated.{AreIdle, IsNextFrom, IsLastTo};
 
 use nf_model::State;
 use std::alloc::{AllocError, Global};
 
-// Of each link, the next one from it on that has a state, or how many links there are; and the last one up to it, or 0.
+// An index of the links with a state. `next` has for each link the next one from it on, or the number of links. `last` has the last one up
+// to it, or 0.
 #[derive(Drop)]
 pub(crate) struct StatedLinks {
     next: Vec<usize>,
     last: Vec<usize>,
 }
 
-// The link itself if it has a state, or else the next one behind it.
+// Returns the link itself if it has a state, and otherwise `behind`, the next such link after it.
 fn next_here(base: &[Option<State>], link: usize, behind: usize) -> usize
     requires link { link < length base.now }
     requires behind { IsNextFrom base.now (suc link) behind }
@@ -21,7 +22,7 @@ fn next_here(base: &[Option<State>], link: usize, behind: usize) -> usize
     if base[link].is_some() { link } else { behind }
 }
 
-// Of each link, the next one from it on.
+// Returns for each link the next link from it on that has a state, or the number of links. Fails if an allocation fails.
 fn next_stated(alloc: Global, base: &[Option<State>]) -> Result<Vec<usize>, AllocError>
     ensures count { IfOk result (λ next. length next.items ≡ length base.now) }
     ensures next { IfOk result (λ next. (e n : ℕ) → slice_get next.items e ≡ Some n → IsNextFrom base.now e n) }
@@ -38,7 +39,7 @@ fn next_stated(alloc: Global, base: &[Option<State>]) -> Result<Vec<usize>, Allo
     Ok(next)
 }
 
-// The link itself if it has a state, or else the last one before it.
+// Returns the link itself if it has a state, and otherwise `before`, the last such link before it.
 fn last_here(base: &[Option<State>], link: usize, before: usize) -> usize
     requires link { link < length base.now }
     requires before { (before ≤ link) × AreIdle base.now (suc before) link }
@@ -47,7 +48,7 @@ fn last_here(base: &[Option<State>], link: usize, before: usize) -> usize
     if base[link].is_some() { link } else { before }
 }
 
-// Of each link, the last one up to it.
+// Returns for each link the last link up to it that has a state, or 0. Fails if an allocation fails.
 fn last_stated(alloc: Global, base: &[Option<State>]) -> Result<Vec<usize>, AllocError>
     ensures count { IfOk result (λ last. length last.items ≡ length base.now) }
     ensures last { IfOk result (λ last. (e n : ℕ) → slice_get last.items e ≡ Some n → IsLastTo base.now e n) }
@@ -66,7 +67,7 @@ impl StatedLinks {
     ghost use Rattle.nf_model.specs.Pattern.{Pattern as SeenPattern};
     ghost use Rattle.nf_pattern.specs.Stated.{IsNextFrom, IsLastTo, AreStated};
 
-    // Those of a base.
+    // Returns the index of a base. Fails if an allocation fails.
     pub(crate) fn new(alloc: Global, base: &[Option<State>]) -> Result<StatedLinks, AllocError>
         ensures { IfOk result (λ stated. AreStated base.now stated) }
     {
@@ -75,7 +76,7 @@ impl StatedLinks {
         Ok(StatedLinks { next, last })
     }
 
-    // The next link from this one on that has a state, or how many links there are.
+    // Returns the next link from this one on that has a state, or the number of links.
     pub(crate) fn from(&self, link: usize) -> usize
         ensures { (p : SeenPattern) → AreStated p self.now → link ≤ length p → IsNextFrom p link result }
     {
@@ -86,7 +87,7 @@ impl StatedLinks {
         }
     }
 
-    // The last link up to this one that has a state, or 0.
+    // Returns the last link up to this one that has a state, or 0.
     pub(crate) fn up_to(&self, link: usize) -> usize
         ensures { (p : SeenPattern) → AreStated p self.now → IsLastTo p link result }
     {

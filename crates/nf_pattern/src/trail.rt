@@ -1,4 +1,4 @@
-// A trail along the links: how far the states of a pattern were looked at. It goes on from what two patterns have in common.
+// The examined prefix of a pattern. It is shortened to what two patterns have in common, and extended from there.
 use crate::entered::{chain, ends, is_lost, strands};
 use crate::firm::FirmLinks;
 use crate::firming::firm_links;
@@ -8,9 +8,9 @@ use nf_graph::{Hop, LinkId, NodeId};
 use nf_model::State;
 use std::alloc::{AllocError, Global};
 
-// The links before number `depth` were looked at, and the Tight ones among them can be walked along. Of each link it is known which
-// one before it is the last to lead to the same node, of each node behind which link no later one can enter it, and whether none can
-// enter some node.
+// The links before number `depth` are examined. `tight` holds the Tight ones among them, and `firm` flags jointly acyclic links. `chain`
+// has for each link the last link before it with the same head. `ends` has for each node the number after the last link that can enter it.
+// `lost` says whether no link can enter some node other than the source.
 #[derive(Drop)]
 pub(crate) struct Trail {
     depth: usize,
@@ -31,7 +31,7 @@ impl Trail {
     ghost use Rattle.nf_pattern.specs.Stated.{AreStated};
     ghost use Rattle.nf_pattern.specs.Trail.{Follows, IsLeft, IsLeftBy, IsOnWay};
 
-    // No link was looked at.
+    // Returns a trail of no examined links. Fails if an allocation fails.
     pub(crate) fn new(
         alloc: Global,
         nodes: u32,
@@ -64,21 +64,21 @@ impl Trail {
         })
     }
 
-    // How many links were looked at.
+    // Returns how many links are examined.
     pub(crate) fn depth(&self) -> usize
         ensures { result ≡ self.now.depth }
     {
         self.depth
     }
 
-    // Whether no link can enter a node but the source.
+    // Returns whether no link can enter some node other than the source.
     pub(crate) fn is_lost(&self) -> bool
         ensures { result ≡ self.now.lost }
     {
         self.lost
     }
 
-    // One link more; false where it closes a cycle, or a node can't be entered any longer.
+    // Examines the next link. Returns false, and keeps the depth, if the link closes a cycle or strands a node.
     fn enter(
         &mut self,
         hops: &[Hop],
@@ -120,7 +120,7 @@ impl Trail {
         true
     }
 
-    // On over links without a state; whether a link is left.
+    // Skips links without a state. Returns whether a link remains.
     fn pass(&mut self, hops: &[Hop], stated: &StatedLinks) -> bool
         ensures kept { (source : ℕ) (resetting : List Bool) (p : SeenPattern) → AreStated p stated.now → length p ≡ length hops.now
             → DoEndsCarry resetting p self.old.ends.items → Follows source hops.now resetting p self.old
@@ -132,8 +132,8 @@ impl Trail {
         self.depth < hops.len()
     }
 
-    // On to the last link, or to the first one that closes a cycle or strands a node; whether it is there. Those without a state are
-    // passed by.
+    // Extends the trail. Returns false before the first link that closes a cycle or strands a node, and true after the last link. Skips
+    // links without a state.
     pub(crate) fn extend(
         &mut self,
         hops: &[Hop],
@@ -162,7 +162,7 @@ impl Trail {
         true
     }
 
-    // The last link is taken back.
+    // Removes the last examined link.
     fn leave(&mut self, hops: &[Hop])
         requires fewer { length hops.now < 2 ^ 32 }
         requires left { IsLeft hops.now self.old }
@@ -177,7 +177,7 @@ impl Trail {
         self.tight.take_back(hops, link);
     }
 
-    // Back over links without a state, up to behind one that has a state or to behind the first.
+    // Removes links without a state from the end of the trail, but never the first link.
     fn pass_back(&mut self, stated: &StatedLinks)
         requires stated { (p : SeenPattern) × AreStated p stated.now }
         requires some { 0 < self.old.depth }
@@ -190,7 +190,7 @@ impl Trail {
         self.depth = stated.up_to(self.depth - 1) + 1;
     }
 
-    // Back until no link from this one on is left.
+    // Shortens the trail until no link from `link` on is examined.
     pub(crate) fn retreat(&mut self, hops: &[Hop], link: usize, stated: &StatedLinks)
         requires fewer { length hops.now < 2 ^ 32 }
         requires left { IsLeftBy hops.now stated.now self.old }

@@ -1,4 +1,4 @@
-// Walks along the Tight links that were looked at, each of them forward and backward: one hand on the wall.
+// Forest traversal along the examined Tight links, each crossed in both directions.
 ghost use Rattle.std.specs.Prelude.{◌<◌, length, MatchBool};
 ghost use Rattle.nf_model.specs.declared.State.TheVariants.{Tight};
 ghost use Rattle.nf_model.specs.Pattern.{HasState};
@@ -8,8 +8,8 @@ use nf_graph::{Hop, LinkId, NodeId};
 use nf_model::State;
 use std::alloc::{AllocError, Global};
 
-// The Tight links that were looked at, in such a way that the last one can be taken back: the last one at each node, and of each one
-// the one before it at its tail and at its head.
+// The examined Tight links, as a stack. `last` has the last one at each node. `tails` and `heads` have, for each of them, the one before it
+// at its tail and at its head.
 #[derive(Drop)]
 pub(crate) struct TightLinks {
     last: Vec<Option<LinkId>>,
@@ -17,14 +17,15 @@ pub(crate) struct TightLinks {
     heads: Vec<Option<LinkId>>,
 }
 
-// Where a walk is: at a node, with the link to go on by. With none, the links of the node are gone through.
+// The position of a traversal: a node, and the link to cross next. `None` ends the node's link chain: `step` restarts it, or ends the
+// traversal at its start node.
 #[derive(Clone, Copy)]
 pub(crate) struct Place {
     node: NodeId,
     link: Option<LinkId>,
 }
 
-// The link's state is Tight.
+// Returns whether the link's state is Tight.
 pub(crate) fn is_tight(states: &[Option<State>], link: LinkId) -> bool
     requires { link < length states.now }
     ensures { MatchBool result (HasState states.now link Tight) (HasState states.now link Tight → ⊥) }
@@ -45,7 +46,7 @@ impl TightLinks {
     ghost use Rattle.nf_pattern.specs.Firm.{AreCalm};
     ghost use Rattle.nf_pattern.specs.Walking.{last_at, ends_at, other_end, Holds, IsPlace, Goes};
 
-    // No link was looked at.
+    // Returns a stack of no links. Fails if an allocation fails.
     pub(crate) fn none(alloc: Global, nodes: u32, hops: &[Hop]) -> Result<TightLinks, AllocError>
         requires { AreBelow nodes hops.now }
         ensures holds { IfOk result (λ tight. (pattern : Pattern) → Holds hops.now pattern 0 tight) }
@@ -57,7 +58,7 @@ impl TightLinks {
         Ok(TightLinks { last, tails, heads })
     }
 
-    // From a node over a link, and on to the link before it at the node there.
+    // Crosses a link from a node. Returns the node at its other end, with the Tight link before this one there.
     fn cross(
         &self,
         hops: &[Hop],
@@ -73,7 +74,7 @@ impl TightLinks {
         ensures node { result.node ≡ other_end hops.now link node }
         ensures link { result.link ≡ last_at (ends_at hops.now states.now) link (other_end hops.now link node) }
     {
-        // For the proof: of which states the links are Tight, and how many were looked at.
+        // Proof: the contract reads `states` and `depth`.
         let _ = states;
         let _ = depth;
         let hop = &hops[link.index()];
@@ -90,7 +91,7 @@ impl TightLinks {
         }
     }
 
-    // One step of a walk; None at its end, where all links of the start are gone through.
+    // Makes one step of a traversal. Returns `None` at its end: at the start node, after all its links.
     fn step(
         &self,
         hops: &[Hop],
@@ -120,7 +121,8 @@ impl TightLinks {
         }
     }
 
-    // Whether the links join two nodes: walks from both in turn, until one is at its end or comes to the other's start.
+    // Returns whether the examined Tight links join two nodes. Two traversals alternate, one from each node, until one ends or reaches the
+    // start of the other.
     fn join(
         &self,
         hops: &[Hop],
@@ -163,7 +165,7 @@ impl TightLinks {
         false
     }
 
-    // A Tight link more: it becomes the last one at both ends, and which one was before it is kept.
+    // Pushes a Tight link. It becomes the last link at both its ends, and stores the previous last links.
     fn put(&mut self, hops: &[Hop], states: &[Option<State>], link: LinkId)
         requires holds { Holds hops.now states.now link self.old }
         requires link { link < length hops.now }
@@ -171,7 +173,7 @@ impl TightLinks {
         ensures holds { Holds hops.now states.now (suc link) self.new }
         ensures nodes { length self.new.last.items ≡ length self.old.last.items }
     {
-        // For the proof: of which states the links are Tight.
+        // Proof: the contract reads `states`.
         let _ = states;
         let hop = &hops[link.index()];
         let (tail, head) = (hop.tail, hop.head);
@@ -181,7 +183,7 @@ impl TightLinks {
         self.last[head.index()] = Some(link);
     }
 
-    // Whether the links before this one join its ends.
+    // Returns whether the Tight links before `link` join its ends.
     fn joins(&self, hops: &[Hop], states: &[Option<State>], link: LinkId) -> bool
         requires link { link < length hops.now }
         requires holds { Holds hops.now states.now link self.now }
@@ -192,7 +194,7 @@ impl TightLinks {
         self.join(hops, states, link.index(), hop.tail, hop.head)
     }
 
-    // One link more was looked at; false where it is Tight and closes a cycle with those before it.
+    // Pushes `link` if it is Tight. Returns false, and changes nothing, if it is Tight and closes a cycle with Tight links before it.
     pub(crate) fn enter_by_walk(
         &mut self,
         hops: &[Hop],
@@ -216,7 +218,8 @@ impl TightLinks {
         true
     }
 
-    // One Tight link more was looked at; false where it closes a cycle with those before it. No walk where it is firm and they are.
+    // Pushes a Tight link. Returns false, and changes nothing, if it closes a cycle with Tight links before it. Needs no traversal if the
+    // link and all Tight links before it are jointly acyclic by `firm`.
     pub(crate) fn enter(
         &mut self,
         hops: &[Hop],
@@ -246,7 +249,7 @@ impl TightLinks {
         true
     }
 
-    // The link is the last one at the node.
+    // Returns whether the link is the last one at the node.
     fn is_last_at(&self, node: NodeId, link: LinkId) -> bool
         requires { node < length self.now.last.items }
         ensures { MatchBool result (slice_get self.now.last.items node ≡ Some (Some link))
@@ -258,7 +261,7 @@ impl TightLinks {
         }
     }
 
-    // The last link is taken back. It was put there where it is still the last one at its tail.
+    // Removes the last examined link. It was pushed exactly if it is the last link at its tail.
     pub(crate) fn take_back(&mut self, hops: &[Hop], link: LinkId)
         requires link { link < length hops.now }
         requires tails { length self.old.tails.items ≡ length hops.now }

@@ -1,4 +1,4 @@
--- The listing of a network's patterns, as a search asks for it.
+-- The listing of a network's patterns, for a search.
 use Rattle.std.proofs.Common.{◌≡◌, subst, ap, ◌∙◌}
 use Rattle.nf_model.specs.Network.{Network, IsNetwork}
 use Rattle.nf_model.specs.ThinFlow.{Sets}
@@ -17,7 +17,7 @@ listed_in net sets q pattern good sets_are asked listed = record {
   pattern_is = (let l : IsListedBy (question_of net sets q.base) pattern = subst (λ (x : Question). IsListedBy x pattern) asked listed in l.states);
 }
 
--- so is the first one that is given
+-- The first enumerated pattern is one of the network's.
 pub given_in : (net : Network) (sets : Sets) (given after : Given) (pattern : Pattern) → IsNetwork net → AreSetsOf net sets → AsksOf net sets given → Gives given (Some pattern) after → IsPatternIn net sets pattern
 given_in net sets given after pattern good sets_are asks gives = listed_in net sets given.question pattern good sets_are asks.asked gives.0.listed
 
@@ -31,6 +31,6 @@ pub first_asked : (net : Network) (sets : Sets) (given after : Given) → AsksOf
 first_asked net sets given after asks (Some first) gives = subst (λ (q : Question). IsListedBy q first) asks.asked gives.0.listed
 first_asked net sets given after asks None gives = tt
 
--- what is asked is a question, whatever the base is called
+-- The listing's question is a question, for each base.
 pub question_asked : (net : Network) (sets : Sets) (base : Pattern) (given : Given) → AsksOf net sets given → given.question.base ≡ base → IsQuestion (question_of net sets base)
 question_asked net sets base given asks is_base = subst IsQuestion (asks.asked ∙ ap (question_of net sets) is_base) asks.is_question

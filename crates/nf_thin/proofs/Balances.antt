@@ -1,4 +1,4 @@
--- Of each node what the first links send out of it, one link after the other.
+-- The surplus of each node on the first links, link by link.
 use Rattle.std.proofs.Common.{◌≡◌, ◌≢◌, ℕ, zero, suc, ◌<◌, ◌≤◌, List, [], ◌∷◌, length, replicate, ⊎_elim, Bool, true, false, eqb, refl, sym, ap, subst, ◌∙◌, arith}
 use Rattle.std.specs.Prelude.{Some, slice_get, slice_set}
 use Rattle.std.proofs.lemmas.Bool.{true≢false}
@@ -36,7 +36,7 @@ eqb_other v w other = ⊎_elim
 pub test_other : (b : Bool) (v w : ℕ) → b ≡ eqb v w → b ≡ false → v ≢ w
 test_other b v w is told same = true≢false (sym (eqb_same v w same) ∙ (sym is ∙ told))
 
--- ---- of no link
+-- ---- no link
 replicated : {A : Type 0} (n k : ℕ) (x y : A) → slice_get (replicate n x) k ≡ Some y → x ≡ y
 replicated zero k x y h = absurd (none-some y h)
 replicated (suc n) zero x y h = same_Some x y h
@@ -47,7 +47,7 @@ pub each_first : (net : Network) (ranges nodes : List Range) (n : ℕ) (nothing 
 each_first net ranges nodes n nothing is none v range at flow within =
     subst (λ (r : Range). IsWithin r (surplus_of_first net flow v 0)) (replicated n v nothing range (sym (ap (λ (l : List Range). slice_get l v) is) ∙ at)) (none flow v)
 
--- of all links
+-- All links.
 pub each_last : (net : Network) (ranges nodes : List Range) (n : ℕ) (flow : ℕ → ℚ) → length net.links ≤ n → BoundEach net ranges n nodes → AreWithin ranges flow → AreSurpluses net nodes flow
 each_last net ranges nodes n flow all each within v range at = subst (IsWithin range) (surplus_of_all net flow v n all) (each v range at flow within)
 

@@ -1,4 +1,4 @@
--- A link at a node carries what the other links there leave to it.
+-- Conservation at a node determines a link's flow from those of the other links there.
 use Rattle.std.proofs.Common.{◌≡◌, ◌≢◌, ℕ, zero, suc, ◌<◌, List, [], ◌∷◌, length, ⊎_elim, Bool, true, false, eqb, refl, sym, ap, subst, ◌∙◌}
 use mathlib.Core.Bool.{beq}
 use Rattle.std.specs.Prelude.{if◌then◌else◌, Some, slice_get, slice_set, MatchBool}
@@ -14,7 +14,7 @@ use Rattle.nf_thin.specs.Ranges.{IsWithin}
 use Rattle.nf_thin.specs.Conserving.{AreWithin, surplus_by}
 use Rattle.nf_thin.proofs.Conserving.{other_false, other_true}
 
--- ---- what the links but one carry
+-- ---- the flows of all links but one
 abbrev pub but : ℕ → (ℕ → ℚ) → ℕ → ℚ
 but zero flow zero = 0ℚ
 but zero flow (suc k) = flow (suc k)
@@ -53,7 +53,7 @@ sum_in-but (l ∷ links) flow v zero link at = here_term (eqb l.head v) (flow 0)
     ∙ ap (λ (k : Link). sum_in (l ∷ links) (but 0 flow) v +ℚ (if eqb k.head v then flow 0 else 0ℚ)) (same_Some l link at)
 sum_in-but (l ∷ links) flow v (suc e) link at = other_term (eqb l.head v) (flow 0) _ _ _ (sum_in-but links (λ (i : ℕ). flow (suc i)) v e link at)
 
--- with what the link carries this is what the node needs
+-- With the link's flow, the sum is the surplus that the node needs.
 with_leaving : (o p i j x n : ℚ) → o ≡ p +ℚ x → i ≡ j +ℚ 0ℚ → o -ℚ i ≡ n → (p -ℚ j) +ℚ x ≡ n
 with_leaving o p i j x n e f h = linear_eq (o ∷ p ∷ i ∷ j ∷ x ∷ n ∷ []) (eq e ∷ eq f ∷ eq h ∷ []) (search reading_of depth 12) tt tt
 
@@ -82,19 +82,19 @@ within_set ranges e here flow below others is k range at = ⊎_elim
     (λ (other : k ≢ e). others k range other (sym (set_other ranges e k here other) ∙ at))
     (tell k e)
 
--- without the link, the others carry what they did
+-- Without the link, the others have the same flows.
 pub within_but : (ranges : List Range) (e : ℕ) (none : Range) (flow : ℕ → ℚ) → e < length ranges → AreWithin ranges flow → IsWithin none 0ℚ → AreWithin (slice_set ranges e none) (but e flow)
 within_but ranges e none flow below within is = within_set ranges e none (but e flow) below
     (λ k range other at. subst (λ (x : ℚ). IsWithin range x) (sym (but_other e k flow other)) (within k range at))
     (subst (λ (x : ℚ). IsWithin none x) (sym (but_here e flow)) is)
 
--- and with what is left for it
+-- With the flow left for the link.
 pub within_again : (ranges : List Range) (e : ℕ) (none here : Range) (flow : ℕ → ℚ) → e < length (slice_set ranges e none) → AreWithin ranges flow → IsWithin here (flow e)
     → AreWithin (slice_set (slice_set ranges e none) e here) flow
 within_again ranges e none here flow below within is = within_set (slice_set ranges e none) e here flow below
     (λ k range other at. within k range (sym (set_other ranges e k none other) ∙ at)) is
 
--- what is left for a link
+-- The flow left for a link.
 pub left_leaving : (x s needed : ℚ) → s +ℚ x ≡ needed → needed -ℚ s ≡ x
 left_leaving x s needed e = linear_eq (x ∷ s ∷ needed ∷ []) (eq e ∷ []) (search reading_of depth 12) tt tt
 

@@ -1,4 +1,4 @@
--- What the first links send out of a node, one link after the other; and what each may carry.
+-- The surplus of a node on the first links, link by link; and the ranges of the links' flows.
 use Rattle.std.proofs.Common.{◌≡◌, ◌≢◌, ℕ, zero, suc, ◌<◌, ◌≤◌, List, [], ◌∷◌, length, take, get_or, ⊎_elim, Bool, true, false, eqb, refl, sym, ap, subst, ◌∙◌}
 use mathlib.Core.Bool.{beq}
 use Rattle.std.specs.Prelude.{if◌then◌else◌, Option, Some, None, slice_get, unwrap_or, MatchBool}
@@ -46,7 +46,7 @@ sum_in-more [] f v n link h = absurd (none-some link h)
 sum_in-more (l ∷ links) f v zero link h = ap (λ (k : Link). if eqb k.head v then f 0 +ℚ 0ℚ else 0ℚ) (same_Some l link h) ∙ first_term (eqb link.head v) (f 0)
 sum_in-more (l ∷ links) f v (suc n) link h = later_term (eqb l.head v) (f 0) _ _ _ (sum_in-more links (λ e. f (suc e)) v n link h)
 
--- by whether the link leaves the node, and whether it enters it
+-- By cases: the link leaves the node or not, and enters it or not.
 both_or_none : (o p i j x : ℚ) (b : Bool) → o ≡ p +ℚ (if b then x else 0ℚ) → i ≡ j +ℚ (if b then x else 0ℚ) → p -ℚ j ≡ o -ℚ i
 both_or_none o p i j x b e f = linear_eq (o ∷ p ∷ i ∷ j ∷ (if b then x else 0ℚ) ∷ []) (eq e ∷ eq f ∷ []) (search reading_of depth 12) tt tt
 
@@ -87,18 +87,18 @@ module _ (net : Network) (flow : ℕ → ℚ) (v e : ℕ) (link : Link) (is_link
   pub lesser_surplus : eqb link.tail v ≡ false → eqb link.head v ≡ true → before -ℚ x ≡ surplus_of_first net flow v (suc e)
   lesser_surplus leaves enters = just_enters _ _ _ _ x (out_more false leaves) (in_more true enters)
 
--- of no link
+-- No link.
 pub none_sent : (net : Network) (flow : ℕ → ℚ) (v : ℕ) (nothing : ℚ) → nothing ≡ 0ℚ → (known : ℚ) → Some nothing ≡ Some known → surplus_of_first net flow v 0 ≡ known
 none_sent net flow v nothing none known at = less_itself 0ℚ ∙ (sym none ∙ same_Some nothing known at)
   where
     less_itself : (a : ℚ) → a -ℚ a ≡ 0ℚ
     less_itself a = linear_eq (a ∷ []) [] (search reading_of depth 12) tt tt
 
--- all links are the first ones
+-- The first links are all links.
 pub surplus_of_all : (net : Network) (flow : ℕ → ℚ) (v n : ℕ) → length net.links ≤ n → surplus_of_first net flow v n ≡ surplus_by net flow v
 surplus_of_all net flow v n all = ap (λ (links : List Link). sum_out links flow v -ℚ sum_in links flow v) (take_all n net.links all)
 
--- ---- what fills a link
+-- ---- the flow that fills a link
 full_fills : (passes : Passing) (capacity : Option ℚ) (head_slope most : ℚ) → full_of passes capacity head_slope ≡ Some most → Fills capacity most head_slope
 full_fills passes (Some capacity) head_slope most e = (capacity, refl, checked_is passes Product capacity head_slope most e)
 full_fills passes None head_slope most e = absurd (none-some most e)
@@ -119,7 +119,7 @@ full_count passes net slopes = length-map net.links (λ (l : Link). full_of pass
 pub full_read : (full : List (Option ℚ)) (count e i : ℕ) (most : Option ℚ) → length full ≡ count → e < count → i ≡ e → most ≡ get_or full i most → slice_get full e ≡ Some most
 full_read full count e i most same within index is = slice_get_read full count e most (sym same) within (is ∙ ap (λ (k : ℕ). get_or full k most) index)
 
--- ---- flows that there can be
+-- ---- possible flows
 module _ (passes : Passing) (net : Network) (sets : Sets) (rate : ℚ) (pattern : Pattern) (full : List (Option ℚ)) (flows : List ℚ) (can : CanFlow passes net sets rate pattern full flows) where
   pub meets_state : (e : ℕ) (link : Link) (state : Option State) (resetting : Bool) (most : Option ℚ) → IsLink net e link → slice_get pattern e ≡ Some state
       → slice_get sets.resetting e ≡ Some resetting → slice_get full e ≡ Some most
@@ -133,7 +133,7 @@ module _ (passes : Passing) (net : Network) (sets : Sets) (rate : ℚ) (pattern 
     inequality = can.meets.links e link state h at_state;
   }
 
-  -- each node sends out what it is to
+  -- Each node has the surplus that it needs.
   pub conserves : IsNetwork net → Conserves net rate (number_at flows)
   conserves good v within = ⊎_elim
       (λ (t : (eqb v net.sink ≡ true) × (v ≡ net.sink)). ap (surplus net flows) t.1
@@ -149,12 +149,12 @@ module _ (passes : Passing) (net : Network) (sets : Sets) (rate : ℚ) (pattern 
       other_sign : (r : ℚ) → 0ℚ -ℚ r ≡ neg_ℚ r
       other_sign r = linear_eq (r ∷ []) [] (search reading_of depth 12) tt tt
 
--- what lies in a range passes its test
+-- A number in a range satisfies the range's test.
 pub holds_true : {P : Type 0} (b : Bool) → MatchBool b P (P → ⊥) → P → b ≡ true
 holds_true true is p = refl
 holds_true false is p = absurd (is p)
 
--- ---- one link more, where what the ones before it send out is bounded
+-- ---- one more link, with bounded surplus on the links before it
 -- the link of a hop that is read
 pub link_read : (net : Network) (listed : List Hop) (e i : ℕ) (hop : Hop) → listed ≡ hops net → i ≡ e → e < length net.links → hop ≡ get_or listed i hop
     → (link : Link) × IsLink net e link × (link.tail ≡ hop.tail) × (link.head ≡ hop.head)
@@ -170,7 +170,7 @@ link_read net listed e i hop same index within is = go (slice_get net.links e) r
         let one : hop_of link ≡ hop = same_Some (hop_of link) hop (sym (slice_get-map hop_of net.links e ∙ ap (option_map hop_of) there) ∙ at) in
         (link, there, ap (λ (h : Hop). h.tail) one, ap (λ (h : Hop). h.head) one)
 
--- a test of an end of the hop is one of the link's
+-- A test of the hop's end is a test of the link's end.
 pub end_test : (b : Bool) (inside read here v : ℕ) → b ≡ eqb inside v → inside ≡ read → here ≡ read → eqb here v ≡ b
 end_test b inside read here v is same found = ap (λ (k : ℕ). eqb k v) (found ∙ sym same) ∙ sym is
 
@@ -193,7 +193,7 @@ other_true false true e t = refl
 other_true false false e t = sym e
 other_true true b e t = absurd (cc)
 
--- one that carries nothing changes nothing
+-- A link without flow changes nothing.
 pub bounds_idle : (net : Network) (ranges : List Range) (v e : ℕ) (range : Range) (link : Link) → IsLink net e link → BoundsFirst net ranges v e range
     → (here : Range) → slice_get ranges e ≡ Some here → ((x : ℚ) → IsWithin here x → x ≡ 0ℚ) → BoundsFirst net ranges v (suc e) range
 bounds_idle net ranges v e range link is_link so_far here at nothing flow within =

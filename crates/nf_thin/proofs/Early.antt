@@ -1,4 +1,4 @@
--- A pattern before which few assignments come stands within the budget.
+-- If few assignments come before a pattern, its rank is within the budget.
 use Rattle.std.proofs.Common.{◌≡◌, ⊎_elim, true, false, leb, ℕ, suc, ◌<◌, ◌≤◌, min, Bool, List, length, sym, subst, ◌∙◌, arith}
 use Rattle.std.specs.Prelude.{nat_lt}
 use Rattle.std.proofs.lemmas.Bool.{true≢false}

@@ -1,4 +1,4 @@
--- What a search by forced states answers.
+-- The answer of a search by forced states.
 use Rattle.std.proofs.Common.{◌≡◌, ℕ, List, sym, subst, ◌∙◌}
 use Rattle.std.specs.Prelude.{Some, Ok, Err}
 use Rattle.nf_rational.specs.Rational.{ℚ}

@@ -1,4 +1,4 @@
--- What is found is a thin flow, and its slopes are the only ones.
+-- The flow found is a thin flow, and its slopes are the only ones.
 use Rattle.std.proofs.Common.{◌≡◌, ℕ, ◌+◌, List, sym, subst, ◌∙◌, add-one}
 use Rattle.std.specs.Prelude.{Result, Ok, Err, IfOk}
 use Rattle.nf_rational.specs.Rational.{ℚ}
@@ -38,7 +38,7 @@ module _ (passes : Passing) (net : Network) (sets : Sets) (rate : ℚ) (base : P
   result_is_only (Ok thin) s = found_is_only thin.place thin.pattern thin.flows.items thin.labels.items s
   result_is_only (Err fault) s = tt
 
-  -- at whatever place it is found
+  -- The place does not matter.
   pub flow_is_thin : (result : Result ThinFlow SearchFault) → Finds (IsSearch passes net sets rate base budget) budget result → IfOk result (λ found. IsThinFlow net sets rate found.flows.items found.slopes.items)
   flow_is_thin (Ok found) s = found_is_thin s.0 found.pattern found.flows.items found.slopes.items s.1
   flow_is_thin (Err fault) s = tt

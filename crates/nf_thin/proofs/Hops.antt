@@ -1,4 +1,4 @@
--- Links as hops: how many there are, and that they stay within the nodes.
+-- Links as hops: their number, and that their ends are nodes.
 use Rattle.std.proofs.Common.{◌≡◌, ◌^◌, ◌<◌, length, subst, arith}
 use Rattle.std.specs.Prelude.{is_none}
 use Rattle.std.proofs.lemmas.List.{length-map}

@@ -1,4 +1,4 @@
--- Keepers of nodes, and the states that links may have with them.
+-- Keepers of nodes, and the combinable states of links by them.
 use Rattle.std.proofs.Common.{◌≡◌, ◌≢◌, ◌⊎◌, inl, inr, ℕ, ◌+◌, ◌<◌, Bool, true, not, List, ◌++◌, length, take, drop, sym, ap, subst, ◌∙◌, arith}
 use Rattle.std.specs.Prelude.{Option, Some, None, slice_get, map, is_some, is_none}
 use Rattle.std.proofs.Math.ListN.{drop_of_length-le}
@@ -75,12 +75,12 @@ module _ (net : Network) (sets : Sets) (listed : Pattern) (n node : ℕ) (old ne
     there = λ v e less may none. there_by v e (before_or_at e n less) may none;
   }
 
--- what a link may be
+-- The combinable states of a link.
 pub none_some : {A : Type 0} (o p : Option A) (b : Bool) → o ≡ p → is_some o ≡ b → b ≡ true → is_none p ≡ true → ⊥
 none_some None p b same is set none = true≢false (sym set ∙ sym is)
 none_some (Some x) p b same is set none = true≢false (sym none ∙ ap is_none (sym same))
 
--- with all keepers, states are firm
+-- With a keeper for each node, the states are freely combinable.
 module _ (net : Network) (sets : Sets) (listed : Pattern) (sets_are : AreSetsOf net sets) (is_listed : IsListedIn net sets listed) (keepers : List (Option ℕ)) (firm : List Firm)
     (are : AreKeepers net sets listed (length net.links) keepers) (count : length firm ≡ length net.links) (each : EachEntry (IsFirmOf net listed keepers) firm) where
   counts : (g : Firm → Bool) → length (map g firm) ≡ length sets.active
@@ -116,7 +116,7 @@ module _ (net : Network) (sets : Sets) (listed : Pattern) (sets_are : AreSetsOf 
     kept = kept;
   }
 
--- what one link may be
+-- The combinable states of one link.
 module _ (net : Network) (listed : Pattern) (keepers : List (Option ℕ)) (e : ℕ) (link : Link) (at_link : slice_get net.links e ≡ Some link) (head : ℕ) (head_is : link.head ≡ head)
     (state : Option State) (at : slice_get listed e ≡ Some state) (tight full keeper : Bool) (is_tight : tight ≡ true → state ≡ Some Tight)
     (is_full : full ≡ true → is_none link.capacity ≡ true → ⊥) (is_keeper : slice_get keepers head ≡ Some (Some e) → keeper ≡ true) where

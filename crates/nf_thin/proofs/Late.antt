@@ -1,4 +1,4 @@
--- A pattern before which as many listed assignments come as the budget has stands beyond it.
+-- If at least `budget` listed assignments come before a pattern, its rank is beyond the budget.
 use Rattle.std.proofs.Common.{◌≡◌, ℕ, ◌<◌, ◌≤◌, min, List, [], ◌∷◌, refl, ap, subst, arith}
 use Rattle.std.specs.Prelude.{map}
 use Rattle.nf_model.specs.Network.{Network, hops, unbounded}

@@ -1,4 +1,4 @@
--- The loop of the search over the patterns that a listing gives.
+-- The loop of the search over the patterns of a listing.
 use Rattle.std.proofs.Common.{◌≡◌, ℕ, ◌≤◌, List, sym, ap, subst, ◌∙◌, arith, ◌-◌, ◌<◌, suc}
 use Rattle.std.specs.Prelude.{Some, None, Result, Ok, Err}
 use Rattle.nf_rational.specs.Rational.{ℚ}
@@ -19,7 +19,7 @@ use Rattle.nf_pattern.specs.Front.{IsListingOf}
 use Rattle.nf_thin.proofs.Searched.{Vainly, none_tried, over_budget, found, vainly_more, search_ends, all_searched}
 use Rattle.nf_thin.proofs.Asking.{listed_in}
 
--- the listing that was asked for goes on, and its first patterns were tried in vain
+-- The listing advances, and its first patterns are rejected.
 abbrev pub InLoop : Passing → Network → Sets → ℚ → Question → ℕ → Given → Vain → Type 0
 InLoop passes net sets rate q budget given vain = (given.question ≡ q) × (vain.tried ≤ budget)
     × ((listing : List Pattern) → IsListingOf q listing → Vainly passes net sets rate listing given.last vain)

@@ -1,4 +1,4 @@
--- The loop over the patterns that are left where slopes force states.
+-- The loop over the patterns left without the forced links.
 use Rattle.std.proofs.Common.{◌≡◌, ⊎_elim, ℕ, suc, ◌<◌, List, length, true, false, refl, sym, ap, subst, ◌∙◌, arith}
 use Rattle.std.specs.Prelude.{Some, None, slice_get, Ok, Err}
 use Rattle.std.proofs.lemmas.Option.{same_Some}
@@ -26,7 +26,7 @@ use Rattle.nf_thin.specs.Finding.{NarrowFinds}
 use Rattle.nf_thin.specs.declared.pace.Pace.{Pace}
 use Rattle.nf_thin.specs.Keeping.{StaysBehind, IsInStep}
 
--- so many of the patterns that are left were given, and none of them is accepted
+-- The first patterns left are enumerated, and none of them is accepted.
 abbrev pub NarrowVainly : Passing → Network → Sets → ℚ → Pattern → Pattern → ℕ → Last → Type 0
 NarrowVainly passes net sets rate base forced tried last =
     (listing narrow : List Pattern) → Narrows net sets rate base forced listing narrow → GivenUpTo narrow tried last × NoneFilledBefore passes net sets rate forced narrow (suc tried)
@@ -34,7 +34,7 @@ NarrowVainly passes net sets rate base forced tried last =
 pub none_yet : (passes : Passing) (net : Network) (sets : Sets) (rate : ℚ) (base forced : Pattern) (last : Last) → last ≡ AtStart → NarrowVainly passes net sets rate base forced 0 last
 none_yet passes net sets rate base forced last start listing narrow n = (start, λ other p less at accepted. absurd (let e = at.1 in omega arith))
 
--- the whole listing, if it is gone through, is gone through as far as the last of the patterns that are left, with the forced states
+-- The full listing, if it is advanced, is at the last of these patterns, with the forced states.
 pub record IsWhole (net : Network) (sets : Sets) (base forced : Pattern) (last : Last) (all : Given) : Type 0 where
   pub part : Pattern
   pub listed : IsListedBy (question_left forced (question_of net sets base)) part
@@ -55,7 +55,7 @@ module _ (passes : Passing) (net : Network) (sets : Sets) (rate : ℚ) (base for
   pub whole_pattern : IsPatternIn net sets (filled forced p)
   whole_pattern = record { network = good; sets_are = sets_are.sets_are; bounded = sets_are.bounded; pattern_is = whole_listed.states }
 
-  -- so the next one comes later, and is reached in its turn
+  -- The next pattern is later, so the full listing is still before it.
   pub next_later : IsPattern sets (unbounded net) base → (pace : Pace) → KeepsUp net sets base forced given.last pace → StaysBehind (question_of net sets base) pace (filled forced p)
   next_later is_base pace keeps all is =
       let w = keeps all is in

@@ -28,7 +28,7 @@ none_round net sets none e walk v s = none (e ∷ walk) (record {
   allowed = all_active net sets (e ∷ walk) v v s;
 })
 
--- so an order of the nodes along them says that they hold no cycle
+-- So an order of the nodes along these links excludes cycles.
 pub ordered_round : {A : Type 0} (net : Network) (sets : Sets) (given : List Hop) (active : List Bool) (found : Option A) (order : A) → given ≡ hops net → active ≡ sets.active → found ≡ Some order
     → (IsNone found ↔ ((cycle : List ℕ) × IsChosenCycle given active cycle)) → HoldNoCycle net sets
 ordered_round {A = A} net sets given active found order same_hops same_flags is none =

@@ -1,4 +1,4 @@
--- Listed patterns that are tried, or seen not to be accepted, where the slopes of a thin flow are known.
+-- Listed patterns that are tried, or rejected without a table, for known slopes of a thin flow.
 use Rattle.std.proofs.Common.{◌≡◌, ℕ, List, sym, ap, ◌∙◌}
 use Rattle.std.specs.Prelude.{Option, Some, None, Result, Ok, Err}
 use Rattle.nf_rational.specs.Rational.{ℚ}
@@ -23,7 +23,7 @@ slopes_of_listed net sets rate slopes good are acyclic thin pattern flows other 
     slopes-same net sets rate thin.0 slopes pattern good are acyclic thin.1 listed flows other solves meets
 
 module _ (net : Network) (sets : Sets) (rate : ℚ) (pattern : Pattern) (listed : IsListedIn net sets pattern) (solvable : IsSolvable net sets rate pattern) where
-  -- flows of its solution are such as there can be
+  -- The flows of its solution are possible ones.
   pub can_flow : (passes : Passing) (slopes : List ℚ) (full : List (Option ℚ)) → AreSlopesOfListed net sets rate slopes → full ≡ full_by passes net slopes
       → CanFlow passes net sets rate pattern full solvable.flows
   can_flow passes slopes full only is = record {
@@ -33,7 +33,7 @@ module _ (net : Network) (sets : Sets) (rate : ℚ) (pattern : Pattern) (listed 
     meets = solvable.solution.meets;
   }
 
--- what is tried is counted
+-- A tried pattern is counted.
 pub tried_counts : (passes : Passing) (net : Network) (sets : Sets) (rate : ℚ) (budget : ℕ) (pattern : Pattern) (before after : Vain) (result : Result (Option Thin) SearchFault)
     → TriesNext passes net sets rate budget pattern before after result → SiftsNext passes net sets rate budget pattern before after result
 tried_counts passes net sets rate budget pattern before after (Ok None) t = (t.0, record { one_more = t.1.one_more; not_accepted = t.1.not_accepted })

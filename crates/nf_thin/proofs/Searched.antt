@@ -1,4 +1,4 @@
--- The search, pattern by pattern: what is known of those tried in vain, and what the search answers.
+-- The search, pattern by pattern: the record of rejected patterns, and the answer.
 use Rattle.std.proofs.Common.{◌≡◌, ℕ, suc, ◌<◌, ◌≤◌, List, length, ◌⊎◌, inl, inr, ⊎_elim, true, false, refl, sym, ap, subst, ◌∙◌, arith}
 use Rattle.std.specs.Prelude.{Option, Some, None, slice_get, Result, Ok, Err, IsOk}
 use Rattle.std.proofs.lemmas.Option.{same_Some, slice_get_within}
@@ -23,7 +23,7 @@ use Rattle.nf_narrow.proofs.Places.{given_next, given_all}
 use Rattle.nf_plain_laws.proofs.Naturals.{before_or_at}
 
 module _ (passes : Passing) (net : Network) (sets : Sets) (rate : ℚ) (listing : List Pattern) where
-  -- no operation of those tried passes, or this is the first that does
+  -- No operation of the rejected patterns passes, or this is the first that does.
   abbrev pub AllPass : ℕ → Type 0
   AllPass tried = (place : ℕ) (pattern : Pattern) → place < suc tried → HasPlace listing place pattern → IsOk (pattern_lists passes net sets rate pattern)
 
@@ -31,7 +31,7 @@ module _ (passes : Passing) (net : Network) (sets : Sets) (rate : ℚ) (listing 
   PassedBy tried None = AllPass tried
   PassedBy tried (Some (place, at)) = IsFirstPassing passes net sets rate listing place at
 
-  -- the first ones of the listing are not accepted, and it is known which is the first to pass
+  -- The first patterns of the listing are not accepted, and the first passing one is recorded.
   pub record Vainly (last : Last) (vain : Vain) : Type 0 where
     pub given : GivenUpTo listing vain.tried last
     pub none_accepted : NoneAcceptedBefore passes net sets rate listing (suc vain.tried)
@@ -89,7 +89,7 @@ module _ (passes : Passing) (net : Network) (sets : Sets) (rate : ℚ) (listing 
           (λ (same : place ≡ suc vain.tried). subst (λ (x : Pattern). IsOk (pattern_lists passes net sets rate x)) (sym (same_here place p same has)) ok)
           (before_or_here place less)
 
-      -- what is noted of those before
+      -- The record of the patterns before.
       still : (before : Option (ℕ × PassedAt ℚ)) → PassedBy vain.tried before → IsOk (pattern_lists passes net sets rate pattern) → PassedBy after.tried before
       still None all ok = all_more all ok
       still (Some (place, at)) first ok = first
@@ -142,7 +142,7 @@ module _ (passes : Passing) (net : Network) (sets : Sets) (rate : ℚ) (q : Ques
   all_searched (Err SearchFault.NoPattern) a = searched NoPattern a
   all_searched (Err SearchFault.Memory) a = tt
 
--- ---- what one try says
+-- ---- one step of the search
 module _ (passes : Passing) (net : Network) (sets : Sets) (rate : ℚ) (pattern : Pattern) where
   pub passing_not_accepted : (at : PassedAt ℚ) → pattern_lists passes net sets rate pattern ≡ Err at → IsAccepted passes net sets rate pattern → ⊥
   passing_not_accepted at e accepted = no (subst IsOk e accepted.none_passes)

@@ -60,7 +60,7 @@ none_with_sum one other a b is has none end at = (a, b, is, has, sym (same_Some 
 pub difference_with_none : (one other : Option ℚ) (a b : ℚ) → one ≡ Some a → other ≡ Some b → b ≡ 0ℚ → IsEndOfDifference one other (Some a)
 difference_with_none one other a b is has none end at = (a, b, is, has, sym (same_Some a end at) ∙ less_none a b none)
 
--- a sum, where it doesn't pass
+-- A sum that does not pass.
 kept_sum : (b : Bool) (p : Passed ℚ) (value end : ℚ) → result_ok (if b then Err p else Ok value) ≡ Some end → end ≡ value
 kept_sum true p value end e = absurd (none-some end e)
 kept_sum false p value end e = sym (same_Some value end e)
@@ -100,7 +100,7 @@ meeting least greatest end x is from up_to other at = ≤ℚ_trans other x end (
 pub within_just : (number : Option ℚ) (x : ℚ) → ((known : ℚ) → number ≡ Some known → x ≡ known) → IsWithin (record { least = number; greatest = number }) x
 within_just number x same = record { from = λ end at. ≤ℚ_of_same end x (sym (same end at)); up_to = λ end at. ≤ℚ_of_same x end (same end at) }
 
--- one that fills the link is that which is known to
+-- The flow that fills the link is the known one.
 pub same_fills : (full capacity : Option ℚ) (flow head_slope : ℚ) → ((most : ℚ) → full ≡ Some most → Fills capacity most head_slope) → Fills capacity flow head_slope
     → (known : ℚ) → full ≡ Some known → flow ≡ known
 same_fills full capacity flow head_slope fills now known at =

@@ -1,4 +1,4 @@
--- Whether flow can be conserved at a node by what its links may carry, where slopes are known.
+-- Conservation of flow at a node, by the ranges of its links' flows, for known slopes.
 use Rattle.std.specs.Prelude.{◌≡◌, ◌<◌, ℕ, Bool, true, List, map, take, Option, Some, slice_get, eqb, if◌then◌else◌}
 use Rattle.nf_rational.specs.Rational.{ℚ}
 use Rattle.nf_rational.specs.Operations.{0ℚ, ◌-ℚ◌, neg_ℚ}
@@ -11,11 +11,11 @@ use Rattle.nf_one_pattern.specs.Fulls.{full_of}
 use Rattle.nf_thin.specs.declared.ranges.Range.{Range}
 use Rattle.nf_thin.specs.Ranges.{IsWithin}
 
--- the flow that fills each link of a network, by these slopes of the nodes
+-- The flow that fills each link of a network at these slopes of the nodes.
 abbrev pub full_by : Passing → Network → List ℚ → List (Option ℚ)
 full_by passes net slopes = map (λ (link : Link). full_of passes link.capacity (number_at slopes link.head)) net.links
 
--- with the slopes that the full flows were found by, these flows solve the pattern and meet its inequalities
+-- These flows solve the pattern and meet its inequalities, with the slopes by which `full` was found.
 pub record CanFlow (passes : Passing) (net : Network) (sets : Sets) (rate : ℚ) (pattern : Pattern) (full : List (Option ℚ))
     (flows : List ℚ) : Type 0 where
   pub slopes : List ℚ
@@ -23,38 +23,38 @@ pub record CanFlow (passes : Passing) (net : Network) (sets : Sets) (rate : ℚ)
   pub solves : Solves net sets rate pattern flows slopes
   pub meets : Meets net pattern flows slopes
 
--- each link carries a number in its range
+-- Each link's flow is within its range.
 abbrev pub AreWithin : List Range → (ℕ → ℚ) → Type 0
 AreWithin ranges flow = (e : ℕ) (range : Range) → slice_get ranges e ≡ Some range → IsWithin range (flow e)
 
--- what a node sends out beyond what comes in, where links carry so much
+-- The surplus of a node, its outflow less its inflow, if links carry these flows.
 abbrev pub surplus_by : Network → (ℕ → ℚ) → ℕ → ℚ
 surplus_by net flow v = sum_out net.links flow v -ℚ sum_in net.links flow v
 
--- what the first links send out of a node beyond what they bring to it
+-- The surplus of a node on the first `count` links.
 abbrev pub surplus_of_first : Network → (ℕ → ℚ) → ℕ → ℕ → ℚ
 surplus_of_first net flow v count = sum_out (take count net.links) flow v -ℚ sum_in (take count net.links) flow v
 
--- it lies in this range, whatever the links carry in theirs
+-- The surplus of node v on the first `count` links is in this range, for all flows within the links' ranges.
 abbrev pub BoundsFirst : Network → List Range → ℕ → ℕ → Range → Type 0
 BoundsFirst net ranges v count range = (flow : ℕ → ℚ) → AreWithin ranges flow → IsWithin range (surplus_of_first net flow v count)
 
--- of each node it lies in the node's range
+-- The surplus of each node on the first `count` links is in the node's range, for all flows within the links' ranges.
 abbrev pub BoundEach : Network → List Range → ℕ → List Range → Type 0
 BoundEach net ranges count nodes = (v : ℕ) (range : Range) → slice_get nodes v ≡ Some range → BoundsFirst net ranges v count range
 
--- what each node sends out beyond what comes in lies in the node's range
+-- The surplus of each node is in the node's range.
 abbrev pub AreSurpluses : Network → List Range → (ℕ → ℚ) → Type 0
 AreSurpluses net nodes flow = (v : ℕ) (range : Range) → slice_get nodes v ≡ Some range → IsWithin range (surplus_by net flow v)
 
--- what a node is to send out beyond what comes in: the rate out of the source and into the sink, and nothing elsewhere
+-- The surplus that a node needs: `rate` at the source, minus `rate` at the sink, and 0 elsewhere.
 abbrev pub needed_at : Network → ℚ → ℕ → ℚ
 needed_at net rate v = if eqb v net.sink then neg_ℚ rate else (if eqb v net.source then rate else 0ℚ)
 
--- each node sends out what it is to
+-- Each node has the surplus that it needs.
 abbrev pub Conserves : Network → ℚ → (ℕ → ℚ) → Type 0
 Conserves net rate flow = (v : ℕ) → v < net.nodes → surplus_by net flow v ≡ needed_at net rate v
 
--- whatever the links carry in their ranges where flow is conserved, they carry in new ranges too, and it fits
+-- If a flow within the old ranges is conserved at every node, `fits` is true and the flow is within the new ranges.
 abbrev pub Keeps : Network → ℚ → List Range → List Range → Bool → Type 0
 Keeps net rate before after fits = (flow : ℕ → ℚ) → AreWithin before flow → Conserves net rate flow → (fits ≡ true) × AreWithin after flow

@@ -1,4 +1,4 @@
--- What a search comes to that goes through the listed patterns with forced states alone.
+-- The result of a search that tries only listed patterns with the forced states.
 use Rattle.std.specs.Prelude.{◌≡◌, ℕ, ◌<◌, ◌≤◌, List, Option, Some, None, Result, Ok, Err}
 use Rattle.nf_rational.specs.Rational.{ℚ}
 use Rattle.nf_work.specs.Passing.{Passing}
@@ -15,8 +15,8 @@ use Rattle.nf_thin.specs.declared.thin.ThinFlow.{ThinFlow}
 use Rattle.nf_thin.specs.declared.fault.SearchFault.{SearchFault}
 use Rattle.nf_thin.specs.Searching.{Searches}
 
--- the first pattern that is accepted with the forced states, at its place among those that are left; in the whole listing it stands
--- within the budget
+-- The thin flow is that of the first accepted pattern with the forced states, and its place is that among the patterns left. The pattern's
+-- rank in the whole listing is within the budget.
 pub record IsFirstFilled (passes : Passing) (net : Network) (sets : Sets) (rate : ℚ) (forced : Pattern) (listing narrow : List Pattern)
     (budget : ℕ) (thin : Thin) : Type 0 where
   pub part : Pattern
@@ -27,7 +27,7 @@ pub record IsFirstFilled (passes : Passing) (net : Network) (sets : Sets) (rate 
   pub first : NoneFilledBefore passes net sets rate forced narrow thin.place
   pub within : (there : ℕ) → HasPlace listing there (filled forced part) → there ≤ budget
 
--- a pattern stands beyond the budget in the whole listing, and of those that are left none before it is accepted
+-- A pattern's rank in the whole listing is beyond the budget, and no earlier pattern left is accepted.
 pub record GoesBeyond (passes : Passing) (net : Network) (sets : Sets) (rate : ℚ) (forced : Pattern) (listing narrow : List Pattern)
     (budget : ℕ) : Type 0 where
   pub place : ℕ
@@ -47,24 +47,24 @@ NarrowAnswers passes net sets rate forced listing narrow budget (Err (SearchFaul
 NarrowAnswers passes net sets rate forced listing narrow budget (Err SearchFault.NoPattern) = ⊥
 NarrowAnswers passes net sets rate forced listing narrow budget (Err SearchFault.Memory) = Unit {0}
 
--- whatever the listings are
+-- The narrow search has such an answer, for all listings of the two questions.
 abbrev pub NarrowFinds : Passing → Network → Sets → ℚ → Pattern → Pattern → ℕ → Result (Option Thin) SearchFault → Type 0
 NarrowFinds passes net sets rate base forced budget result =
     (listing narrow : List Pattern) → Narrows net sets rate base forced listing narrow
     → NarrowAnswers passes net sets rate forced listing narrow budget result
 
--- ---- the search whose pattern is found at some place
+-- ---- the search for a thin flow without its place
 
--- a thin flow without its place
+-- The thin flow without its place.
 abbrev pub flow_of : Thin → ThinFlow
 flow_of thin = record { flows = thin.flows; slopes = thin.labels; pattern = thin.pattern }
 
--- the answer of the definition, unless memory is wanting
+-- The result is the answer of the definition, at some place, unless an allocation failed.
 abbrev pub Finds : (SearchAnswer → Type 0) → ℕ → Result ThinFlow SearchFault → Type 0
 Finds Answers budget (Ok found) = (place : ℕ) × Answers (Found place found.pattern found.flows.items found.slopes.items)
 Finds Answers budget (Err fault) = Searches Answers budget (Err fault)
 
--- the answer of the definition, if the search by slopes has one
+-- The result is the answer of the definition if the search by slopes has one.
 abbrev pub FindsBy : (SearchAnswer → Type 0) → ℕ → Result (Option ThinFlow) SearchFault → Type 0
 FindsBy Answers budget (Ok (Some found)) = Finds Answers budget (Ok found)
 FindsBy Answers budget (Ok None) = Unit {0}

@@ -1,4 +1,4 @@
--- The states that links may have all at once, seen from a listed pattern.
+-- Freely combinable states of links, from a listed pattern.
 use Rattle.std.specs.Prelude.{◌≡◌, ◌⊎◌, ℕ, ◌<◌, true, List, length, map, Option, Some, None, slice_get}
 use Rattle.nf_model.specs.declared.State.TheVariants.{Tight, Full}
 use Rattle.nf_model.specs.Entries.{Has}
@@ -13,18 +13,18 @@ abbrev pub HaveFirm : Network → Sets → Pattern → List Firm → Type 0
 HaveFirm net sets listed firm = AreFirm net.nodes net.source (hops net) sets (unbounded net) listed
     (map (λ f. f.tight) firm) (map (λ f. f.full) firm) (map (λ f. f.zero) firm)
 
--- a Tight, Full or resetting link leads to a node
+-- Link e leads to node v, and is resetting, Tight or Full.
 abbrev pub MayKeep : Network → Sets → Pattern → ℕ → ℕ → Type 0
 MayKeep net sets listed e v = (hop : Hop) × IsHop (hops net) e hop × (hop.head ≡ v)
     × (Has sets.resetting e ⊎ (HasState listed e Tight ⊎ HasState listed e Full))
 
--- of each node such a link, if one before number n leads to it
+-- Each node has a keeper, a resetting, Tight or Full link into it, if there is one before number n.
 pub record AreKeepers (net : Network) (sets : Sets) (listed : Pattern) (n : ℕ) (keepers : List (Option ℕ)) : Type 0 where
   pub count : length keepers ≡ net.nodes
   pub keeps : (v e : ℕ) → slice_get keepers v ≡ Some (Some e) → MayKeep net sets listed e v
   pub there : (v e : ℕ) → e < n → MayKeep net sets listed e v → slice_get keepers v ≡ Some None → ⊥
 
--- what a link may be, with these keepers
+-- The link's combinable states: Tight only if the listed pattern has it, Full only if the link is bounded, Zero only if it is no keeper.
 pub record IsFirmOf (net : Network) (listed : Pattern) (keepers : List (Option ℕ)) (e : ℕ) (firm : Firm) : Type 0 where
   pub tight : firm.tight ≡ true → HasState listed e Tight
   pub full : firm.full ≡ true → Has (unbounded net) e → ⊥

@@ -1,15 +1,15 @@
--- The first of the patterns of which an operation passes, with its place.
+-- The first pattern of which an operation passes, with its place.
 use Rattle.std.specs.Prelude.{ℕ, Option, Some, None}
 use Rattle.nf_rational.specs.Rational.{ℚ}
 use Rattle.nf_work.specs.declared.PassedAt.{PassedAt}
 use Rattle.nf_thin.specs.declared.fault.SearchFault.{SearchFault}
 
--- the first that passes, where one has passed already
+-- The first recorded pattern stays; the present one is recorded if there is none.
 abbrev pub or_first : Option (ℕ × PassedAt ℚ) → ℕ × PassedAt ℚ → Option (ℕ × PassedAt ℚ)
 or_first (Some first) now = Some first
 or_first None now = Some now
 
--- why nothing was found
+-- The cause for which nothing was found.
 abbrev pub fault_of : Option (ℕ × PassedAt ℚ) → SearchFault
 fault_of (Some (place, at)) = SearchFault.Passed place at
 fault_of None = SearchFault.NoPattern

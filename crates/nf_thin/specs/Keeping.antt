@@ -1,4 +1,4 @@
--- How far a search by forced states has come in the whole listing.
+-- How far the full listing is advanced in a narrow search.
 use Rattle.std.specs.Prelude.{◌≡◌, ℕ, true, false, Some}
 use Rattle.nf_model.specs.Pattern.{Pattern}
 use Rattle.nf_pattern.specs.Given.{Question, Given}
@@ -6,16 +6,16 @@ use Rattle.nf_narrow.specs.Asking.{StandsWithin, IsBehind, StandsAt}
 use Rattle.nf_thin.specs.declared.standing.Standing.{Standing}
 use Rattle.nf_thin.specs.declared.pace.Pace.{Pace}
 
--- what is told of where a pattern stands
+-- The budget status of a pattern is right: within, beyond or unknown.
 abbrev pub Tells : Question → Pattern → ℕ → Standing → Type 0
 Tells question pattern budget Standing.Within = StandsWithin question pattern budget true
 Tells question pattern budget Standing.Beyond = StandsWithin question pattern budget false
 Tells question pattern budget Standing.Unknown = Unit {0}
 
--- the whole listing, if it is gone through, is not gone through as far as a pattern yet
+-- The full listing, if it is advanced, is still before this pattern.
 abbrev pub StaysBehind : Question → Pace → Pattern → Type 0
 StaysBehind question pace pattern = (all : Given) → pace.walk ≡ Some all → IsBehind question all pattern
 
--- and then just as far as that
+-- The full listing, if it is advanced, is exactly at this pattern.
 abbrev pub IsInStep : Question → Pace → Pattern → Type 0
 IsInStep question pace pattern = (all : Given) → pace.walk ≡ Some all → StandsAt question all pattern

@@ -1,4 +1,4 @@
--- A pattern that is known to be accepted.
+-- A pattern known to be accepted.
 use Rattle.std.specs.Prelude.{◌≡◌, ℕ, length}
 use Rattle.nf_rational.specs.Rational.{ℚ}
 use Rattle.nf_work.specs.Passing.{Passing}
@@ -9,13 +9,13 @@ use Rattle.nf_lists.specs.Accepted.{IsAccepted}
 use Rattle.nf_thin.specs.declared.thin.Thin.{Thin}
 use Rattle.nf_thin.specs.declared.known.Known.{Known}
 
--- a known pattern is accepted, with its flows and slopes as the solution
+-- The known pattern is accepted, and its flows and slopes are the solution.
 pub record IsKnown (passes : Passing) (net : Network) (sets : Sets) (rate : ℚ) (known : Known) : Type 0 where
   pub states : length known.pattern ≡ length net.links
   pub accepted : IsAccepted passes net sets rate known.pattern
   pub solution : IsSolution net sets rate known.pattern known.flows.items known.slopes.items
 
--- it is found at this place
+-- The thin flow is that of the known pattern, at this place.
 pub record IsThinAt (known : Known) (place : ℕ) (thin : Thin) : Type 0 where
   pub place_is : thin.place ≡ place
   pub pattern_is : thin.pattern ≡ known.pattern

@@ -1,4 +1,4 @@
--- What a search comes to, and one step of it.
+-- The result of a search, and one step of it.
 use Rattle.std.specs.Prelude.{◌≡◌, ◌⊎◌, ℕ, suc, ◌<◌, List, length, Option, Some, None, Result, Ok, Err, IsOk}
 use Rattle.nf_rational.specs.Rational.{ℚ}
 use Rattle.nf_work.specs.Passing.{Passing}
@@ -16,7 +16,7 @@ use Rattle.nf_thin.specs.declared.vain.Vain.{Vain}
 use Rattle.nf_thin.specs.declared.fault.SearchFault.{SearchFault}
 use Rattle.nf_thin.specs.FirstPassing.{or_first}
 
--- the answer of the definition that is given, unless memory is wanting
+-- The result is the answer of the definition, unless an allocation failed.
 abbrev pub Searches : (SearchAnswer → Type 0) → ℕ → Result Thin SearchFault → Type 0
 Searches Answers budget (Ok thin) = Answers (Found thin.place thin.pattern thin.flows.items thin.labels.items)
 Searches Answers budget (Err (SearchFault.Budget tried)) = (tried ≡ budget) × Answers OverBudget
@@ -24,26 +24,26 @@ Searches Answers budget (Err (SearchFault.Passed place at)) = Answers (PassesAt 
 Searches Answers budget (Err SearchFault.NoPattern) = Answers NoPattern
 Searches Answers budget (Err SearchFault.Memory) = Unit {0}
 
--- where active links hold no cycle, every thin flow has these slopes
+-- If the active links hold no cycle, every thin flow has these slopes.
 abbrev pub SlopesAreOnly : Network → Sets → ℚ → List ℚ → Type 0
 SlopesAreOnly net sets rate slopes = HoldNoCycle net sets → (flows other : List ℚ) → IsThinFlow net sets rate flows other → other ≡ slopes
 
--- ---- one pattern more
+-- ---- one step
 
 module _ (passes : Passing) (net : Network) (sets : Sets) (rate : ℚ) (pattern : Pattern) where
-  -- no operation passes, or the first of this pattern's that does is noted with its place
+  -- No operation of this pattern passes, or its first passing operation is recorded with its place, unless there is an earlier record.
   abbrev pub Noted : Option (ℕ × PassedAt ℚ) → Option (ℕ × PassedAt ℚ) → ℕ → Type 0
   Noted before after place =
       (IsOk (pattern_lists passes net sets rate pattern) × (after ≡ before))
       ⊎ ((at : PassedAt ℚ) × (pattern_lists passes net sets rate pattern ≡ Err at) × (after ≡ or_first before (place, at)))
 
-  -- tried in vain
+  -- The pattern is rejected.
   pub record InVain (before after : Vain) : Type 0 where
     pub one_more : after.tried ≡ suc before.tried
     pub not_accepted : IsAccepted passes net sets rate pattern → ⊥
     pub noted : Noted before.passed after.passed (suc before.tried)
 
-  -- accepted, at the next place
+  -- The pattern is accepted, at the next place.
   pub record IsFound (before : Vain) (thin : Thin) : Type 0 where
     pub place : thin.place ≡ suc before.tried
     pub pattern_is : thin.pattern ≡ pattern
@@ -60,24 +60,24 @@ TriesNext passes net sets rate budget pattern before after (Err (SearchFault.Pas
 TriesNext passes net sets rate budget pattern before after (Err SearchFault.NoPattern) = ⊥
 TriesNext passes net sets rate budget pattern before after (Err SearchFault.Memory) = Unit {0}
 
--- ---- the whole list
+-- ---- the whole listing
 
--- an unbounded link is not resetting
+-- No unbounded link is resetting.
 abbrev pub NoneResetsUnbounded : Network → Sets → Type 0
 NoneResetsUnbounded net sets = (e : ℕ) → Has (unbounded net) e → Has sets.resetting e → ⊥
 
--- one flag of each kind for each link of the network; resetting links are active, and an unbounded one is not resetting
+-- The sets have one flag of each kind for each link, resetting links are active, and no unbounded link is resetting.
 pub record AreSetsOf (net : Network) (sets : Sets) : Type 0 where
   pub sets_are : AreSets net sets
   pub count : length sets.resetting ≡ length net.links
   pub bounded : NoneResetsUnbounded net sets
 
--- what a listing of the network's patterns is of, for these sets and this base
+-- The question of the network's listing, for these sets and this base.
 abbrev pub question_of : Network → Sets → Pattern → Question
 question_of net sets base =
     record { nodes = net.nodes; source = net.source; hops = hops net; sets = sets; unbounded = unbounded net; base = base }
 
--- such a listing, of which nothing is given yet
+-- A listing of the network's patterns of which nothing is enumerated yet.
 pub record AsksOf (net : Network) (sets : Sets) (given : Given) : Type 0 where
   pub asked : given.question ≡ question_of net sets given.question.base
   pub is_question : IsQuestion given.question

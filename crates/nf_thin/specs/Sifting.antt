@@ -1,4 +1,4 @@
--- What slopes of a thin flow tell of listed patterns, and one step of the search by them.
+-- One step of the search by slopes of a thin flow.
 use Rattle.std.specs.Prelude.{◌≡◌, ℕ, suc, ◌<◌, Option, Some, None, Result, Ok, Err}
 use Rattle.nf_rational.specs.Rational.{ℚ}
 use Rattle.nf_work.specs.Passing.{Passing}
@@ -16,7 +16,7 @@ use Rattle.nf_thin.specs.Conserving.{full_by}
 use Rattle.nf_thin.specs.Knowing.{IsKnown}
 use Rattle.nf_thin.specs.Searching.{IsFound}
 
--- what a guide tells is so
+-- A guide is right: its pattern is accepted, the active links hold no cycle, and every solution of a listed pattern has its slopes.
 pub record Guides (passes : Passing) (net : Network) (sets : Sets) (rate : ℚ) (guide : Guide) : Type 0 where
   pub known : IsKnown passes net sets rate guide.known
   pub acyclic : HoldNoCycle net sets
@@ -24,7 +24,7 @@ pub record Guides (passes : Passing) (net : Network) (sets : Sets) (rate : ℚ) 
   pub slopes : AreSlopesOfListed net sets rate guide.known.slopes.items
   pub full : guide.full.items ≡ full_by passes net guide.known.slopes.items
 
--- one pattern more is counted, and it isn't accepted
+-- The pattern is counted, and it is not accepted.
 pub record IsCounted (passes : Passing) (net : Network) (sets : Sets) (rate : ℚ) (pattern : Pattern) (before after : Vain) : Type 0 where
   pub one_more : after.tried ≡ suc before.tried
   pub not_accepted : IsAccepted passes net sets rate pattern → ⊥

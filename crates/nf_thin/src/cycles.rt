@@ -1,4 +1,4 @@
-// Whether the active links hold no cycle: then all thin flows have the same slopes.
+// A test for cycles of active links. If there are none, all thin flows have the same slopes.
 ghost use Rattle.std.specs.Prelude.{◌≡◌, length, IsTrue, IfOk};
 ghost use Rattle.nf_thin_laws.specs.ActiveLinks.{HoldNoCycle};
 
@@ -6,7 +6,7 @@ use nf_graph::{LinkId, LinkSets, topological};
 use nf_net::Network;
 use std::alloc::{AllocError, Global};
 
-// Of each link, whether it is active.
+// Returns for each link whether it is active. Fails if an allocation fails.
 fn active_flags(alloc: Global, net: &Network, sets: &LinkSets) -> Result<Vec<bool>, AllocError>
     requires { length sets.now.active ≡ length net.now.net.links }
     ensures { IfOk result (λ flags. flags.items ≡ sets.now.active) }
@@ -18,7 +18,7 @@ fn active_flags(alloc: Global, net: &Network, sets: &LinkSets) -> Result<Vec<boo
     Ok(flags)
 }
 
-/// Whether the active links are known to hold no cycle.
+/// Returns whether the active links are known to hold no cycle. The answer false decides nothing. Fails if an allocation fails.
 pub(crate) fn hold_no_cycle(
     alloc: Global,
     net: &Network,

@@ -1,17 +1,18 @@
-// Why a search finds nothing.
+// The causes for which a search finds nothing.
 use nf_frac::{PassedAt, Q};
 use std::alloc::AllocError;
 
-/// Why no thin flow was found.
+/// The cause for which no thin flow was found.
 #[derive(Clone, Copy)]
 pub enum SearchFault {
-    /// The list is longer than the budget, and none of so many patterns is accepted.
+    /// The listing is longer than the budget, and none of its first `tried` patterns is accepted.
     Budget { tried: u64 },
-    /// None is accepted; the pattern at this place is the first of which an operation passes, with its first one that does.
+    /// No pattern is accepted, and an operation of some pattern passes. `place` is that of the first such pattern, and `at` its first
+    /// passing operation.
     Passed { place: u64, at: PassedAt<Q> },
-    /// None is accepted, and no operation passes.
+    /// No pattern is accepted, and no operation passes.
     NoPattern,
-    /// Memory is wanting.
+    /// An allocation failed.
     Memory,
 }
 

@@ -1,4 +1,4 @@
-// The search where slopes of a thin flow are known: among the listed patterns that have the states which they force.
+// The narrow search, by known slopes of a thin flow. It tries only listed patterns with the states that the slopes force.
 ghost use Rattle.std.specs.Prelude.{◌≡◌, IfOk, IfSome, None};
 ghost use Rattle.nf_work.specs.Passing.{passes_Q};
 ghost use Rattle.nf_model.specs.Network.{IsNetwork, unbounded as unbounded_of};
@@ -25,9 +25,9 @@ use nf_net::Network;
 use nf_pattern::{Pattern, Patterns};
 use std::alloc::{AllocError, Global};
 
-// The patterns that are left are gone through, with the forced states put in, until one is accepted, or stands beyond the budget in the
-// whole list; the place of what is found is that among them. The caller lends what is kept from one pattern to the next: `pace`, and in
-// `whole` the pattern with its forced states.
+// Tries the patterns left without the forced links, with the forced states put in, until one is accepted or its rank in the whole listing
+// is beyond the budget. The place in the result is that among the patterns left. The caller lends `pace` and `whole`, the current pattern
+// with its forced states.
 fn try_narrow(
     alloc: Global,
     net: &Network,
@@ -75,7 +75,7 @@ fn try_narrow(
     Ok(None)
 }
 
-// The same, from the start on.
+// Runs `try_narrow` from the start.
 fn go_narrow(
     alloc: Global,
     net: &Network,
@@ -107,7 +107,7 @@ fn go_narrow(
     )
 }
 
-// The listing of what is left where links have given states.
+// Returns the listing of the patterns left without the links that have forced states. Fails if an allocation fails.
 fn narrowed(
     alloc: Global,
     net: &Network,
@@ -139,7 +139,7 @@ fn narrowed(
     )
 }
 
-// The search by a guide, among the listed patterns that have the states which its slopes force. None where none of them is accepted.
+// Searches by a guide among the listed patterns with the states that its slopes force. Returns `None` if none of them is accepted.
 fn find_by(
     alloc: Global,
     net: &Network,
@@ -175,7 +175,7 @@ fn find_by(
     Ok(Some(thin.flow()))
 }
 
-// A guide that is guessed from the first listed pattern on.
+// Returns a guide guessed from the first listed pattern, or `None`. Fails if an allocation fails.
 fn guide_from_first(
     alloc: Global,
     net: &Network,
@@ -195,8 +195,9 @@ fn guide_from_first(
     guide_of(alloc, net, sets, rate, &first)
 }
 
-/// The search by the slopes of a thin flow, which are guessed from the first listed pattern on. None where it finds no answer; nothing is
-/// promised of when that is.
+/// Searches by the slopes of a thin flow, guessed from the first listed pattern. `rate` is the supply, an amount per unit of time. Every
+/// returned thin flow and refusal is the answer of `search`, except `Memory`, an allocation failure. Returns `None` if the slopes give no
+/// answer; the contract does not say when.
 pub fn find_by_slopes(
     alloc: Global,
     net: &Network,

@@ -1,4 +1,4 @@
-// The states that links may have all at once, seen from a listed pattern.
+// Freely combinable states of links, from a listed pattern. Every choice of such states, one for each link, is a listed pattern.
 ghost use Rattle.std.specs.Prelude.{◌≡◌, ◌⊎◌, ◌<◌, ℕ, true, length, IfOk, Option, Some, None, slice_get};
 ghost use Rattle.nf_model.specs.declared.State.TheVariants.{Tight, Full};
 ghost use Rattle.nf_model.specs.Pattern.{IsListedIn};
@@ -12,7 +12,7 @@ use nf_net::Network;
 use nf_pattern::Pattern;
 use std::alloc::{AllocError, Global};
 
-// Whether a link with this state leads to its head.
+// Returns whether the state is Tight or Full, so that the link enters its head.
 fn leads(state: Option<State>) -> bool
     ensures leads { result ≡ true → (state ≡ Some Tight) ⊎ (state ≡ Some Full) }
     ensures all { (state ≡ Some Tight) ⊎ (state ≡ Some Full) → result ≡ true }
@@ -20,14 +20,14 @@ fn leads(state: Option<State>) -> bool
     matches!(state, Some(State::Tight)) || matches!(state, Some(State::Full))
 }
 
-// Whether it is Tight.
+// Returns whether the state is Tight.
 fn is_tight(state: Option<State>) -> bool
     ensures { result ≡ true → state ≡ Some Tight }
 {
     matches!(state, Some(State::Tight))
 }
 
-// A link that leads to a node is its keeper, unless there is one; a resetting link in any case.
+// Makes the link the keeper of `node`, its head, if it is resetting. A Tight or Full link becomes the keeper if there is none.
 fn keep(keepers: &mut [Option<LinkId>], node: NodeId, link: LinkId, resets: bool, leads: bool)
     requires { node < length keepers.old }
     ensures count { length keepers.new ≡ length keepers.old }
@@ -41,7 +41,7 @@ fn keep(keepers: &mut [Option<LinkId>], node: NodeId, link: LinkId, resets: bool
     }
 }
 
-// Of each node a link that leads to it, where there is one.
+// Returns for each node its keeper, a resetting, Tight or Full link into it, or `None` if there is none. Fails if an allocation fails.
 fn keepers(
     alloc: Global,
     net: &Network,
@@ -62,7 +62,7 @@ fn keepers(
     Ok(keepers)
 }
 
-// Whether this link is the keeper of the node.
+// Returns whether the link is the keeper of the node.
 fn is_keeper(keepers: &[Option<LinkId>], node: NodeId, link: LinkId) -> bool
     requires { node < length keepers.now }
     ensures { slice_get keepers.now node ≡ Some (Some link) → result ≡ true }
@@ -73,8 +73,8 @@ fn is_keeper(keepers: &[Option<LinkId>], node: NodeId, link: LinkId) -> bool
     }
 }
 
-/// The states that links may all have at once, each as it likes: Tight where the listed pattern is, Full where they are bounded, and
-/// Zero unless they are a node's keeper.
+/// Returns for each link the states that it may have, such that all choices can be combined. A link may be Tight if it is Tight in the
+/// listed pattern, Full if it is bounded, and Zero if it is no node's keeper. Fails if an allocation fails.
 pub(crate) fn firm_states(
     alloc: Global,
     net: &Network,

@@ -1,4 +1,4 @@
-// The first listed pattern: a guess of slopes begins with it.
+// The first listed pattern, with which a guess of slopes begins.
 ghost use Rattle.std.specs.Prelude.{IfOk, IfSome};
 ghost use Rattle.nf_model.specs.Network.{IsNetwork, unbounded as unbounded_of};
 ghost use Rattle.nf_model.specs.Pattern.{IsPattern, IsListedIn};
@@ -12,7 +12,7 @@ use nf_net::Network;
 use nf_pattern::{Pattern, Patterns};
 use std::alloc::{AllocError, Global};
 
-// A copy of the next listed pattern, if there is one.
+// Returns a copy of the next listed pattern, or `None` if there is none. Fails if an allocation fails.
 fn copy_next(alloc: Global, patterns: &mut Patterns) -> Result<Option<Pattern>, AllocError>
     ensures { IfOk result (λ given. Gives patterns.old given patterns.new) }
 {
@@ -25,7 +25,7 @@ fn copy_next(alloc: Global, patterns: &mut Patterns) -> Result<Option<Pattern>, 
     }
 }
 
-/// A copy of the first listed pattern, if there is one.
+/// Returns a copy of the first listed pattern, or `None` if there is none. Fails if an allocation fails.
 pub(crate) fn first_listed(
     alloc: Global,
     net: &Network,

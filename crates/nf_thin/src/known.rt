@@ -1,4 +1,4 @@
-// A pattern that is known to be accepted: where it is listed, it is found without a table.
+// A pattern known to be accepted. If it is listed, the search finds it without a table.
 ghost use Rattle.std.specs.Prelude.{IfOk, IfSome};
 ghost use Rattle.nf_work.specs.Passing.{passes_Q};
 ghost use Rattle.nf_guess.specs.Guessing.{IsSolved};
@@ -14,7 +14,7 @@ use nf_one_pattern::{Outcome, each_is_led, judge_values};
 use nf_pattern::Pattern;
 use std::alloc::{AllocError, Global};
 
-/// A pattern that is accepted, with its flows and slopes.
+/// An accepted pattern, with the flow of each link and the slope of each node.
 #[derive(Drop)]
 pub(crate) struct Known {
     pub(crate) pattern: Pattern,
@@ -22,7 +22,8 @@ pub(crate) struct Known {
     pub(crate) slopes: Vec<Q>,
 }
 
-/// The guessed pattern with its flows and slopes, if it is accepted and each node is led to.
+/// Returns the guessed pattern with its flows and slopes, or `None`. The pattern is accepted, and each node is entered. Fails if an
+/// allocation fails.
 pub(crate) fn known_by(
     alloc: Global,
     net: &Network,
@@ -34,7 +35,7 @@ pub(crate) fn known_by(
     ensures known { IfOk result (λ found. IfSome found (λ known. IsKnown passes_Q net.now.net sets.now rate known)) }
     ensures thin { IfOk result (λ found. IfSome found (λ known. AreThinSlopes net.now.net sets.now rate known.slopes.items)) }
 {
-    // For the proof: the rate at which the values solve the pattern's table.
+    // Proof: the contract reads `rate`, at which the values solve the pattern's table.
     let _ = rate;
     let SolvedPattern { pattern, values } = last;
     if !each_is_led(net, sets, &pattern) {
@@ -52,7 +53,7 @@ pub(crate) fn known_by(
     }
 }
 
-/// A copy of the thin flow of the known pattern, which has this place.
+/// Returns a copy of the thin flow of the known pattern, with this place. Fails if an allocation fails.
 pub(crate) fn thin_at(alloc: Global, known: &Known, place: u64) -> Result<Thin, AllocError>
     ensures { IfOk result (λ thin. IsThinAt known.now place thin) }
 {

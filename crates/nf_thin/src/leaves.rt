@@ -1,5 +1,5 @@
-// What Tight links carry, where the slopes are known: at a node of which one link alone is left open, conservation of flow tells what
-// that one carries. So what all links of a forest carry comes out, from its leaves on.
+// A test of Tight links by conservation of flow, for known slopes. If all links but one at a node have a known flow, conservation
+// determines that of the last link. Applied from the leaves inward, conservation determines the flow of every link of a forest.
 ghost use Rattle.std.specs.Prelude.{◌≡◌, ◌<◌, ℕ, true, length, slice_get, slice_set, Some, None, IfOk, IfSome, MatchBool};
 ghost use Rattle.nf_rational.specs.Rational.{ℚ};
 ghost use Rattle.nf_rational.specs.Operations.{◌+ℚ◌, ◌-ℚ◌};
@@ -14,15 +14,15 @@ use nf_graph::{LinkId, NodeId};
 use nf_net::Network;
 use std::alloc::{AllocError, Global};
 
-// How many links at a node are open, not known to carry one number, and the sum of their numbers: where there is one, that is its number.
-// Nothing rests on it.
+// The undetermined links at a node: their number, and the sum of their link numbers. If there is one, the sum is its link number. No
+// contract depends on these counts.
 #[derive(Clone, Copy)]
 struct OpenAt {
     links: u32,
     sum: u32,
 }
 
-// A link more is open at a node.
+// Adds an undetermined link at a node.
 fn open_at(open: &mut Vec<OpenAt>, node: NodeId, link: u32) {
     if node.index() < open.len() {
         let here = open[node.index()];
@@ -33,7 +33,7 @@ fn open_at(open: &mut Vec<OpenAt>, node: NodeId, link: u32) {
     }
 }
 
-// It is no longer open there.
+// Removes a determined link from the undetermined links at a node.
 fn close_at(open: &mut Vec<OpenAt>, node: NodeId, link: u32) {
     if node.index() < open.len() {
         let here = open[node.index()];
@@ -44,7 +44,7 @@ fn close_at(open: &mut Vec<OpenAt>, node: NodeId, link: u32) {
     }
 }
 
-// The open links at each node.
+// Returns the undetermined links at each node. Fails if an allocation fails.
 fn open_links(alloc: Global, net: &Network, ranges: &[Range]) -> Result<Vec<OpenAt>, AllocError> {
     let none = OpenAt { links: 0, sum: 0 };
     let mut open = vec![in alloc; none; net.node_count() as usize]?;
@@ -59,7 +59,7 @@ fn open_links(alloc: Global, net: &Network, ranges: &[Range]) -> Result<Vec<Open
     Ok(open)
 }
 
-// The open link at a node; none where there is no such link, or more than one.
+// Returns the only undetermined link at a node, or `None` if there is none or more than one.
 fn only_open(net: &Network, open: &[OpenAt], node: NodeId) -> Option<LinkId>
     ensures { IfSome result (λ link. link < length net.now.net.links) }
 {
@@ -74,7 +74,8 @@ fn only_open(net: &Network, open: &[OpenAt], node: NodeId) -> Option<LinkId>
     }
 }
 
-// What is left for a link that leaves a node, or enters it, by what its other links send out of it beyond what they bring to it.
+// Returns the flow left for a link that leaves or enters a node. `needed` is the node's surplus, and `others` the surplus of its other
+// links.
 fn left_for(leaves: bool, needed: Q, others: Range) -> Range
     ensures { (x s : ℚ) → IsWithin others s → MatchBool leaves (s +ℚ x ≡ needed) (s -ℚ x ≡ needed) → IsWithin result x }
 {
@@ -86,7 +87,7 @@ fn left_for(leaves: bool, needed: Q, others: Range) -> Range
     }
 }
 
-// Of a link what it may carry becomes this.
+// Sets the range of a link's flow.
 fn put_range(ranges: &mut Vec<Range>, link: LinkId, range: Range)
     requires { link < length ranges.old.items }
     ensures { ranges.new.items ≡ slice_set ranges.old.items link range }
@@ -94,7 +95,7 @@ fn put_range(ranges: &mut Vec<Range>, link: LinkId, range: Range)
     ranges[link.index()] = range;
 }
 
-// A link carries what is left for it at a node; false where it can't.
+// Sets a link's flow to what conservation at a node leaves for it. Returns false if the link cannot carry that flow.
 fn close(net: &Network, rate: Q, ranges: &mut Vec<Range>, node: NodeId, link: LinkId) -> bool
     requires node { node < net.now.net.nodes }
     requires link { link < length net.now.net.links }
@@ -117,7 +118,7 @@ fn close(net: &Network, rate: Q, ranges: &mut Vec<Range>, node: NodeId, link: Li
     fits
 }
 
-// The other end of a link.
+// Returns the other end of a link.
 fn other_end(net: &Network, link: LinkId, node: NodeId) -> NodeId
     requires link { link < length net.now.net.links }
     ensures { result < net.now.net.nodes }
@@ -126,7 +127,7 @@ fn other_end(net: &Network, link: LinkId, node: NodeId) -> NodeId
     if hop.tail == node { hop.head } else { hop.tail }
 }
 
-// From a node on, as long as one link alone is open there, that one is closed; false where it can't be.
+// Determines links from a node on, while the current node has only one undetermined link. Returns false if a link cannot carry its flow.
 fn close_from(
     net: &Network,
     rate: Q,
@@ -155,7 +156,8 @@ fn close_from(
     true
 }
 
-/// Whether all links can carry what comes out for them from leaves on, and flow can then be conserved at each node.
+/// Determines flows from the leaves inward, and narrows `ranges` to them. Returns true if some flow within the old ranges is conserved at
+/// every node. Fails if an allocation fails.
 pub(crate) fn comes_out(
     alloc: Global,
     net: &Network,

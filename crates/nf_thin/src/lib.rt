@@ -1,4 +1,4 @@
-//! The search for a thin flow with resetting: the first listed pattern that is accepted.
+//! The search for a thin flow with resetting, by the first accepted pattern of the listing.
 #![tactic(auto)]
 
 mod cycles;

@@ -1,4 +1,4 @@
-// The listing of the patterns of a network, as a search asks for it.
+// The listing of a network's patterns, for a search.
 ghost use Rattle.std.specs.Prelude.{◌≡◌, IfOk};
 ghost use Rattle.nf_model.specs.Network.{IsNetwork, unbounded as unbounded_of};
 ghost use Rattle.nf_model.specs.Pattern.{IsPattern};
@@ -9,7 +9,7 @@ use nf_net::Network;
 use nf_pattern::{Pattern, Patterns};
 use std::alloc::{AllocError, Global};
 
-// Of each link, whether it is unbounded.
+// Returns for each link whether it is unbounded. Fails if an allocation fails.
 pub(crate) fn unbounded_flags(alloc: Global, net: &Network) -> Result<Vec<bool>, AllocError>
     ensures { IfOk result (λ flags. flags.items ≡ unbounded_of net.now.net) }
 {
@@ -21,7 +21,7 @@ pub(crate) fn unbounded_flags(alloc: Global, net: &Network) -> Result<Vec<bool>,
     Ok(flags)
 }
 
-/// The listing of the patterns of a network for these sets, from a base on.
+/// Returns the listing of a network's patterns for these sets, in the order by changes from `base`. Fails if an allocation fails.
 pub fn listing(
     alloc: Global,
     net: &Network,

@@ -1,5 +1,5 @@
-// Whether the links at each node can carry what conservation of flow asks there, where slopes are known: a pattern of which some can't
-// isn't accepted, and no table is needed to see it.
+// A test of a pattern for known slopes: whether the links at each node can carry what conservation of flow needs there. A pattern that
+// fails the test is not accepted, and needs no table.
 ghost use Rattle.std.specs.Prelude.{◌≡◌, ◌<◌, ℕ, suc, true, List, length, slice_get, slice_set, Some, None, IfOk};
 ghost use Rattle.nf_rational.specs.Rational.{ℚ};
 ghost use Rattle.nf_work.specs.Passing.{beyond, passes_Q};
@@ -16,7 +16,8 @@ use nf_one_pattern::{full_flow, surplus};
 use nf_pattern::Pattern;
 use std::alloc::{AllocError, Global};
 
-/// The flow that fills each link, by these slopes of the nodes, in link order. None where it is unbounded, or its product passes.
+/// Returns the flow that fills each link at these slopes of the nodes, an amount per unit of time, in link order. An entry is `None` if the
+/// link is unbounded or the product passes. Fails if an allocation fails.
 pub fn full_flows(alloc: Global, net: &Network, slopes: &[Q]) -> Result<Vec<Option<Q>>, AllocError>
     requires { length slopes.now ≡ net.now.net.nodes }
     ensures { IfOk result (λ full. full.items ≡ full_by passes_Q net.now.net slopes.now) }
@@ -30,7 +31,7 @@ pub fn full_flows(alloc: Global, net: &Network, slopes: &[Q]) -> Result<Vec<Opti
     Ok(full)
 }
 
-// What a link may carry.
+// Returns the range of a link's flow in its state.
 fn range_of(sets: &LinkSets, full: &[Option<Q>], pattern: &Pattern, link: LinkId) -> Range
     requires link { link < length pattern.now }
     requires sets { length sets.now.active ≡ length pattern.now }
@@ -45,7 +46,8 @@ fn range_of(sets: &LinkSets, full: &[Option<Q>], pattern: &Pattern, link: LinkId
     )
 }
 
-/// What each link may carry by its state, in link order, where `full` fills the links.
+/// Returns the range of each link's flow in its state, in link order. `full` has the flows that fill the links. Fails if an allocation
+/// fails.
 pub(crate) fn link_ranges(
     alloc: Global,
     net: &Network,
@@ -67,7 +69,7 @@ pub(crate) fn link_ranges(
     Ok(ranges)
 }
 
-/// What a link may carry.
+/// Returns the range of a link's flow.
 pub(crate) fn range_at(ranges: &[Range], link: LinkId) -> Range
     requires { link < length ranges.now }
     ensures { slice_get ranges.now link ≡ Some result }
@@ -75,7 +77,7 @@ pub(crate) fn range_at(ranges: &[Range], link: LinkId) -> Range
     ranges[link.index()]
 }
 
-// What the links before this one send out of a node beyond what they bring to it lies in the range; that with this one lies in the new one.
+// Adds a link to the range of a node's surplus. The range bounds the outflow less the inflow on the links before this one.
 fn add_link(range: &mut Range, net: &Network, ranges: &[Range], node: NodeId, link: LinkId)
     requires link { link < length net.now.net.links }
     requires ranges { length ranges.now ≡ length net.now.net.links }
@@ -99,7 +101,7 @@ fn add_link(range: &mut Range, net: &Network, ranges: &[Range], node: NodeId, li
     *range = range.difference(flow);
 }
 
-/// What all links send out of a node beyond what they bring to it, where they carry numbers in these ranges, lies in this one.
+/// Returns a range of the node's surplus, its outflow less its inflow, if every link's flow is within its range.
 pub(crate) fn surplus_range(net: &Network, ranges: &[Range], node: NodeId) -> Range
     requires ranges { length ranges.now ≡ length net.now.net.links }
     ensures { (flow : ℕ → ℚ) → AreWithin ranges.now flow → IsWithin result (surplus_by net.now.net flow node) }
@@ -111,7 +113,7 @@ pub(crate) fn surplus_range(net: &Network, ranges: &[Range], node: NodeId) -> Ra
     range
 }
 
-/// What a node is to send out beyond what comes in: the rate out of the source and into the sink, and nothing elsewhere.
+/// Returns the surplus that a node needs: `rate` at the source, minus `rate` at the sink, and 0 elsewhere.
 pub(crate) fn needed(net: &Network, rate: Q, node: NodeId) -> Q
     ensures { result ≡ needed_at net.now.net rate node }
 {
@@ -122,7 +124,7 @@ pub(crate) fn needed(net: &Network, rate: Q, node: NodeId) -> Q
     }
 }
 
-// Flow can be conserved at a node: its links can send out of it what they are to, beyond what they bring to it.
+// Returns whether the needed surplus of a node is within the range by its links. The answer false rules out a conserved flow.
 fn can_conserve_at(net: &Network, rate: Q, ranges: &[Range], node: NodeId) -> bool
     requires node { node < net.now.net.nodes }
     requires ranges { length ranges.now ≡ length net.now.net.links }
@@ -131,7 +133,7 @@ fn can_conserve_at(net: &Network, rate: Q, ranges: &[Range], node: NodeId) -> bo
     surplus_range(net, ranges, node).holds(needed(net, rate, node))
 }
 
-// What the first links send out of a node beyond what they bring to it.
+// Returns the range of a node's surplus.
 fn surplus_at(nodes: &[Range], node: NodeId) -> Range
     requires { node < length nodes.now }
     ensures { slice_get nodes.now node ≡ Some result }
@@ -139,7 +141,7 @@ fn surplus_at(nodes: &[Range], node: NodeId) -> Range
     nodes[node.index()]
 }
 
-// Of a node it becomes this.
+// Sets the range of a node's surplus.
 fn put_surplus(nodes: &mut Vec<Range>, node: NodeId, surplus: Range)
     requires { node < length nodes.old.items }
     ensures { nodes.new.items ≡ slice_set nodes.old.items node surplus }
@@ -147,7 +149,7 @@ fn put_surplus(nodes: &mut Vec<Range>, node: NodeId, surplus: Range)
     nodes[node.index()] = surplus;
 }
 
-// One link more: its tail sends out what it may carry, and its head gets that.
+// Adds a link's flow to the surplus of its tail, and subtracts it from that of its head.
 fn add_to_ends(nodes: &mut Vec<Range>, net: &Network, ranges: &[Range], link: LinkId)
     requires link { link < length net.now.net.links }
     requires ranges { length ranges.now ≡ length net.now.net.links }
@@ -171,7 +173,8 @@ fn add_to_ends(nodes: &mut Vec<Range>, net: &Network, ranges: &[Range], link: Li
     put_surplus(nodes, hop.head, kept.difference(flow));
 }
 
-// What all links send out of each node beyond what they bring to it, where they carry numbers in these ranges: one pass over the links.
+// Returns ranges of the surplus of each node, if every link's flow is within its range. Visits each link once. Fails if an allocation
+// fails.
 fn surplus_ranges(alloc: Global, net: &Network, ranges: &[Range]) -> Result<Vec<Range>, AllocError>
     requires ranges { length ranges.now ≡ length net.now.net.links }
     ensures count { IfOk result (λ nodes. length nodes.items ≡ net.now.net.nodes) }
@@ -185,7 +188,7 @@ fn surplus_ranges(alloc: Global, net: &Network, ranges: &[Range]) -> Result<Vec<
     Ok(nodes)
 }
 
-// A node can send out what it is to.
+// Returns whether the needed surplus of a node is within the range of its surplus.
 fn is_balanced(net: &Network, rate: Q, nodes: &[Range], node: NodeId) -> bool
     requires node { node < net.now.net.nodes }
     requires nodes { length nodes.now ≡ net.now.net.nodes }
@@ -194,7 +197,7 @@ fn is_balanced(net: &Network, rate: Q, nodes: &[Range], node: NodeId) -> bool
     surplus_at(nodes, node).holds(needed(net, rate, node))
 }
 
-// The first node that can't.
+// Returns the first node whose needed surplus is not within its range, or `None`.
 fn first_failing(net: &Network, rate: Q, nodes: &[Range]) -> Option<NodeId>
     requires { length nodes.now ≡ net.now.net.nodes }
     ensures { (flow : ℕ → ℚ) → AreSurpluses net.now.net nodes.now flow → Conserves net.now.net rate flow → result ≡ None }
@@ -207,7 +210,7 @@ fn first_failing(net: &Network, rate: Q, nodes: &[Range]) -> Option<NodeId>
     None
 }
 
-/// The first node at which flow can't be conserved, if there is one.
+/// Returns the first node that rules out a conserved flow, or `None`. Fails if an allocation fails.
 pub(crate) fn first_unbalanced(
     alloc: Global,
     net: &Network,
@@ -221,8 +224,8 @@ pub(crate) fn first_unbalanced(
     Ok(first_failing(net, rate, &nodes))
 }
 
-/// A node at which flow can't be conserved, if there is one. This node is looked at first: patterns that follow each other mostly fail
-/// at the same node.
+/// Returns a node that rules out a conserved flow, or `None`. Tests the node `first` before the others. Successive patterns mostly fail at
+/// the same node. Fails if an allocation fails.
 pub(crate) fn unbalanced_node(
     alloc: Global,
     net: &Network,
@@ -239,7 +242,8 @@ pub(crate) fn unbalanced_node(
     first_unbalanced(alloc, net, rate, ranges)
 }
 
-/// Whether flow can be conserved at each node, by what its links may carry in their states.
+/// Returns whether flow can be conserved at each node, by the ranges of the links' flows in their states. The answer false rules the
+/// pattern out, and the answer true decides nothing. Fails if an allocation fails.
 pub fn can_conserve(
     alloc: Global,
     net: &Network,

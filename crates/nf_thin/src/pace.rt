@@ -1,4 +1,4 @@
-// How far the narrow search has come in the whole list.
+// The budget status of the patterns that the narrow search tries, one after the other.
 ghost use Rattle.nf_model.specs.Network.{unbounded as unbounded_of};
 ghost use Rattle.nf_model.specs.Pattern.{IsPattern, IsListedIn};
 ghost use Rattle.nf_pattern.specs.Given.{IsQuestion};
@@ -13,12 +13,12 @@ use nf_net::Network;
 use nf_pattern::{Pattern, Patterns};
 use std::alloc::{AllocError, Global};
 
-// The whole list is gone through once so many patterns were in vain: before that, the next numbers of assignments often tell.
+// The full listing is advanced only after this many rejected patterns. Before that, the next bounds often decide.
 const WALK_AFTER: u64 = 255;
 
-/// After how many patterns in vain it is asked next whether so few assignments come before a pattern that it stands within the budget, or
-/// so many listed ones that it stands beyond; and, once many patterns were in vain and neither tells, the whole list, which is gone through
-/// as far as the last pattern.
+/// What a narrow search keeps for the budget status of its patterns. `asked` is the number of rejected patterns at which the bounds on a
+/// pattern's rank are computed next. `walk` is the full listing, advanced to the last pattern. It is `None` until many patterns are
+/// rejected and the bounds do not decide.
 #[derive(Drop)]
 pub(crate) struct Pace {
     pub(crate) asked: u64,
@@ -29,7 +29,7 @@ impl Pace {
     ghost use Rattle.std.specs.Prelude.{◌≡◌, IfOk};
     ghost use Rattle.nf_thin.specs.declared.standing.Standing.TheVariants.{Beyond};
 
-    // The whole list, if it is gone through, goes on to a pattern.
+    // Advances the full listing to a pattern, and returns the pattern's budget status. Returns `Unknown` if there is no full listing.
     fn go_on(
         &mut self,
         net: &Network,
@@ -55,8 +55,8 @@ impl Pace {
         }
     }
 
-    /// Where the next pattern stands, which comes later than the last one: told by the assignments before it, after 0, 1, 3, 7 and so on
-    /// in vain, or by the whole list once it is gone through.
+    /// Returns the budget status of the next pattern, which is later than the last one. Fails if an allocation fails. Bounds on its rank
+    /// decide, computed after 0, 1, 3, 7 and so on rejected patterns, or the full listing once that is advanced.
     pub(crate) fn keep_up(
         &mut self,
         alloc: Global,

@@ -1,4 +1,4 @@
-//! Parts of the search, for those who look at them one by one.
+//! Parts of the search, for tests and measurements of each.
 pub use crate::finding::find_by_slopes;
 pub use crate::listings::listing;
 pub use crate::node_test::{can_conserve, full_flows};

@@ -1,4 +1,4 @@
-// Ranges of numbers, and what range the flow of a link has by its state.
+// Ranges of numbers, and the range of a link's flow by its state.
 ghost use Rattle.std.specs.Prelude.{◌≡◌, MatchBool, Bool, true, Option, Some};
 ghost use Rattle.nf_rational.specs.Rational.{ℚ};
 ghost use Rattle.nf_rational.specs.Operations.{0ℚ, ◌+ℚ◌, ◌-ℚ◌};
@@ -9,7 +9,7 @@ use nf_frac::Q;
 use nf_model::State;
 use std::alloc::AllocError;
 
-/// The numbers from a least to a greatest one. Where one of these is wanting, there is no bound on its side.
+/// The numbers from `least` to `greatest`. `None` means no bound on that side.
 #[derive(Copy)]
 pub(crate) struct Range {
     pub(crate) least: Option<Q>,
@@ -24,7 +24,7 @@ impl Clone for Range {
     }
 }
 
-// The sum of two ends, if both are known and it doesn't pass.
+// Returns the sum of two ends, or `None` if one is unknown or the sum passes.
 fn end_of_sum(one: Option<Q>, other: Option<Q>) -> Option<Q>
     ensures { IsEndOfSum one other result }
 {
@@ -39,7 +39,7 @@ fn end_of_sum(one: Option<Q>, other: Option<Q>) -> Option<Q>
     end.sum(more).ok()
 }
 
-// The difference of two ends, if both are known and it doesn't pass.
+// Returns the difference of two ends, or `None` if one is unknown or the difference passes.
 fn end_of_difference(one: Option<Q>, other: Option<Q>) -> Option<Q>
     ensures { IsEndOfDifference one other result }
 {
@@ -51,7 +51,7 @@ fn end_of_difference(one: Option<Q>, other: Option<Q>) -> Option<Q>
     end.difference(less).ok()
 }
 
-// A number is at least this end, if there is one.
+// Returns whether a number is at least this end, or there is no end.
 fn is_from(least: Option<Q>, number: Q) -> bool
     ensures { MatchBool result (IsFrom least number) (IsFrom least number → ⊥) }
 {
@@ -61,7 +61,7 @@ fn is_from(least: Option<Q>, number: Q) -> bool
     }
 }
 
-// A number is at most this end, if there is one.
+// Returns whether a number is at most this end, or there is no end.
 fn is_up_to(greatest: Option<Q>, number: Q) -> bool
     ensures { MatchBool result (IsUpTo greatest number) (IsUpTo greatest number → ⊥) }
 {
@@ -71,7 +71,7 @@ fn is_up_to(greatest: Option<Q>, number: Q) -> bool
     }
 }
 
-// A number can be at least one end and at most another, as far as they are known.
+// Returns whether the lower end is at most the upper end, or one of them is unknown.
 fn ends_meet(least: Option<Q>, greatest: Option<Q>) -> bool
     ensures { (x : ℚ) → IsFrom least x → IsUpTo greatest x → result ≡ true }
 {
@@ -81,7 +81,7 @@ fn ends_meet(least: Option<Q>, greatest: Option<Q>) -> bool
     }
 }
 
-// An end is known to be 0.
+// Returns whether the end is known to be 0.
 fn is_zero_end(end: Option<Q>) -> bool
     ensures { result ≡ true → end ≡ Some 0ℚ }
 {
@@ -92,7 +92,7 @@ fn is_zero_end(end: Option<Q>) -> bool
 }
 
 impl Range {
-    /// One number alone, if it is known, and else any.
+    /// Returns the range of one number if it is known, and of all numbers otherwise.
     pub(crate) fn just(number: Option<Q>) -> Range
         ensures { (x : ℚ) → ((known : ℚ) → number ≡ Some known → x ≡ known) → IsWithin result x }
     {
@@ -103,7 +103,7 @@ impl Range {
         }
     }
 
-    // The numbers from 0 to this one, if it is known, and else any from 0 on.
+    // Returns the range from 0 to this number if it is known, and from 0 on otherwise.
     fn up_to(number: Option<Q>) -> Range
         ensures { (x : ℚ) → 0ℚ ≤ℚ x → IsUpTo number x → IsWithin result x }
     {
@@ -113,7 +113,7 @@ impl Range {
         }
     }
 
-    /// The sums of a number of this range and one of another.
+    /// Returns a range that holds the sum of any number of this range and any of `other`.
     pub(crate) fn sum(self, other: Range) -> Range
         ensures { (x y : ℚ) → IsWithin self x → IsWithin other y → IsWithin result (x +ℚ y) }
     {
@@ -123,7 +123,7 @@ impl Range {
         }
     }
 
-    /// The differences of a number of this range and one of another.
+    /// Returns a range that holds the difference of any number of this range and any of `other`.
     pub(crate) fn difference(self, other: Range) -> Range
         ensures { (x y : ℚ) → IsWithin self x → IsWithin other y → IsWithin result (x -ℚ y) }
     {
@@ -133,7 +133,7 @@ impl Range {
         }
     }
 
-    /// Whether a number can lie in it and in another one.
+    /// Returns whether some number can be in both ranges. The answer false means that none is.
     pub(crate) fn meets(&self, other: &Range) -> bool
         ensures { (x : ℚ) → IsWithin self.now x → IsWithin other.now x → result ≡ true }
     {
@@ -143,7 +143,7 @@ impl Range {
         ends_meet(other.least, self.greatest)
     }
 
-    /// Whether 0 alone lies in it; `false` tells nothing.
+    /// Returns whether the range holds 0 alone. The answer false decides nothing.
     pub(crate) fn is_nothing(&self) -> bool
         ensures { result ≡ true → (x : ℚ) → IsWithin self.now x → x ≡ 0ℚ }
     {
@@ -153,7 +153,7 @@ impl Range {
         is_zero_end(self.least)
     }
 
-    /// Whether one number alone lies in it. Nothing rests on it.
+    /// Returns whether the range holds one number alone. No contract depends on it.
     pub(crate) fn is_one(self) -> bool {
         match (self.least, self.greatest) {
             (Some(least), Some(greatest)) => least == greatest,
@@ -161,7 +161,7 @@ impl Range {
         }
     }
 
-    /// Whether a number lies in it.
+    /// Returns whether a number is in the range.
     pub(crate) fn holds(self, number: Q) -> bool
         ensures { MatchBool result (IsWithin self number) (IsWithin self number → ⊥) }
     {
@@ -169,8 +169,8 @@ impl Range {
     }
 }
 
-// What a link may carry in a state, where `full` fills it, if that is known: anything up to that where it is Tight, just that where it is
-// Full, and nothing where it is Zero.
+// Returns the range of a link's flow in a state. `full` is the flow that fills the link, if it is known. A Tight link carries 0 to `full`,
+// a Full link `full`, and a Zero link 0.
 fn range_in(state: State, full: Option<Q>) -> Range
     ensures { (resetting : Bool) (capacity : Option ℚ) (flow tail_slope head_slope : ℚ)
         → MeetsState (Some state) resetting full capacity flow tail_slope head_slope → IsWithin result flow }
@@ -182,7 +182,8 @@ fn range_in(state: State, full: Option<Q>) -> Range
     }
 }
 
-/// What any link may carry: by its state, as above; without one, what fills it where it is resetting, and else nothing.
+/// Returns the range of a link's flow, an amount per unit of time. `full` is the flow that fills the link, if it is known. A Tight link
+/// carries 0 to `full`, a Full or resetting link `full`, and any other link 0.
 pub(crate) fn flow_range(state: Option<State>, resetting: bool, full: Option<Q>) -> Range
     ensures { (capacity : Option ℚ) (flow tail_slope head_slope : ℚ) → MeetsState state resetting full capacity flow tail_slope head_slope
         → IsWithin result flow }

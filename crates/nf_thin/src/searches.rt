@@ -1,4 +1,4 @@
-// The search for a thin flow: the first accepted pattern of the list, and its thin flow.
+// The search for a thin flow, by the first accepted pattern of the listing.
 ghost use Rattle.std.specs.Prelude.{◌≡◌, IfOk};
 ghost use Rattle.nf_work.specs.Passing.{passes_Q};
 ghost use Rattle.nf_model.specs.Network.{IsNetwork, unbounded as unbounded_of};
@@ -20,7 +20,7 @@ use nf_net::Network;
 use nf_pattern::{Pattern, Patterns};
 use std::alloc::Global;
 
-// The list is gone through, from its start on.
+// Tries the patterns of a listing from its start, until one is accepted.
 fn go_through(
     alloc: Global,
     net: &Network,
@@ -48,11 +48,17 @@ fn go_through(
     Err(vain.fault())
 }
 
-/// The search for a thin flow with resetting: the listed patterns are tried in their order, from a base on, until one is accepted. It
-/// is where its equations have exactly one solution, which meets its inequalities, and no operation of its table and its
-/// verdict passes. Budget comes exactly where the list is longer than the budget and none of so many patterns is accepted;
-/// Passed and NoPattern exactly where the list isn't longer and none is accepted, Passed with the first that passes. The base has a
-/// state for exactly the active links that are not resetting, Full for no unbounded one, and no unbounded link is resetting.
+/// Searches for a thin flow with resetting. Tries the listed patterns in their order by changes from `base`, until one is accepted. A
+/// pattern is accepted if its equations have exactly one solution, this solution meets its inequalities, and no operation of its table and
+/// verdict passes. `rate` is the supply, an amount per unit of time.
+///
+/// - `Budget`: exactly if the listing is longer than the budget and none of its first `budget` patterns is accepted.
+/// - `Passed`: exactly if the listing is not longer, none is accepted, and an operation passes. It names the first such pattern.
+/// - `NoPattern`: exactly if the listing is not longer, none is accepted, and no operation passes.
+/// - `Memory`: an allocation failed.
+///
+/// The base must have a state for exactly the active links that are not resetting, and Full for no unbounded link. No unbounded link may be
+/// resetting.
 pub fn search(
     alloc: Global,
     net: &Network,
@@ -71,7 +77,7 @@ pub fn search(
     go_through(alloc, net, sets, rate, &mut patterns, budget)
 }
 
-// The search by the slopes of a thin flow, or the plain one where that finds no answer.
+// Searches by the slopes of a thin flow, and by `search` if that finds no answer.
 fn find_or_search(
     alloc: Global,
     net: &Network,
@@ -91,9 +97,8 @@ fn find_or_search(
     Ok(thin.flow())
 }
 
-/// The thin flow that `search` finds, without its place, mostly with no need of the whole list: where the slopes of a thin flow are
-/// known, only the listed patterns that have the states which the slopes force are gone through. It refuses where `search` does, with the
-/// same cause.
+/// Returns the thin flow that `search` finds, without its place. Refuses if `search` does, with the same cause, or if an allocation fails.
+/// If slopes of a thin flow are known, only the listed patterns with the states that the slopes force are tried.
 pub fn find_thin(
     alloc: Global,
     net: &Network,
@@ -108,7 +113,7 @@ pub fn find_thin(
     ensures thin { IfOk result (λ found. IsThinFlow net.now.net sets.now rate found.flows.items found.slopes.items) }
     ensures only { IfOk result (λ found. SlopesAreOnly net.now.net sets.now rate found.slopes.items) }
 {
-    // For the proof: the network is well formed.
+    // Proof: the network is well formed.
     let _ = net.hops();
     find_or_search(alloc, net, sets, rate, base, budget)
 }

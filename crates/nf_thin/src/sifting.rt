@@ -1,4 +1,4 @@
-// What slopes of a thin flow tell of listed patterns: some are seen not to be accepted without a table.
+// Sifting of listed patterns by slopes of a thin flow: some are rejected without a table.
 ghost use Rattle.std.specs.Prelude.{◌≡◌, ◌≤◌, List, length, None, IfOk, IfSome};
 ghost use Rattle.nf_rational.specs.Rational.{ℚ};
 ghost use Rattle.nf_work.specs.Passing.{passes_Q};
@@ -25,15 +25,15 @@ use nf_one_pattern::is_one_pattern;
 use nf_pattern::Pattern;
 use std::alloc::{AllocError, Global};
 
-/// A pattern that is known to be accepted, with the slopes of its thin flow, and the flows that fill links at these slopes.
+/// A pattern known to be accepted, with its flows and slopes, and the flows that fill the links at these slopes.
 #[derive(Drop)]
 pub(crate) struct Guide {
     pub(crate) known: Known,
     pub(crate) full: Vec<Option<Q>>,
 }
 
-// A node to look at first the next time, where the pattern is seen not to be accepted: by what links may carry in their states, flow can't
-// be conserved at each node.
+// Returns a node to test first for the next pattern if this one is rejected, and `None` otherwise. A pattern is rejected if no flow within
+// the ranges of its states is conserved at every node. Fails if an allocation fails.
 fn ruled_out_at(
     alloc: Global,
     net: &Network,
@@ -60,8 +60,9 @@ fn ruled_out_at(
     }
 }
 
-/// The next pattern is found without a table where it is the known one, passed over where flow can't be conserved at a node, and else
-/// tried. What passes is not noted of those that are passed over.
+/// Sifts the next pattern. Returns its thin flow without a table if it is the known pattern. Otherwise rejects it if no flow within its
+/// ranges is conserved at every node, and tries it if one may be. `sift_next` does not record passing operations of skipped patterns.
+/// Refuses if the budget is spent.
 pub(crate) fn sift_next(
     alloc: Global,
     net: &Network,
@@ -93,8 +94,8 @@ pub(crate) fn sift_next(
     Ok(None)
 }
 
-/// The guide by a pattern that is guessed from a first one on, if it is accepted and leads to each node, and the active links hold no
-/// cycle.
+/// Returns the guide by a pattern guessed from `first`, or `None`. A returned guide's pattern is accepted, each node is entered, and the
+/// active links hold no cycle. Fails if an allocation fails.
 pub(crate) fn guide_of(
     alloc: Global,
     net: &Network,

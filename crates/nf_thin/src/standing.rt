@@ -1,4 +1,4 @@
-// Whether a listed pattern stands within a budget.
+// The budget status of a listed pattern: whether its rank in the listing is within the budget.
 ghost use Rattle.std.specs.Prelude.{◌≡◌, true, false, length, IfOk};
 ghost use Rattle.nf_model.specs.Network.{unbounded as unbounded_of};
 ghost use Rattle.nf_model.specs.Pattern.{IsPattern};
@@ -15,7 +15,7 @@ use nf_net::Network;
 use nf_pattern::Pattern;
 use std::alloc::{AllocError, Global};
 
-/// What is known of where a listed pattern stands: within the budget, or beyond it.
+/// The budget status of a listed pattern, as far as it is known: its rank is within the budget, or beyond it.
 #[derive(Clone, Copy)]
 pub(crate) enum Standing {
     Within,
@@ -23,7 +23,8 @@ pub(crate) enum Standing {
     Unknown,
 }
 
-/// Whether the number of assignments before the pattern tells that it stands within the budget; `false` tells nothing.
+/// Returns whether `ways_before`, a bound from above, shows that the pattern's rank is within the budget. The answer false decides nothing.
+/// Fails if an allocation fails.
 pub(crate) fn is_early(
     alloc: Global,
     net: &Network,
@@ -43,7 +44,8 @@ pub(crate) fn is_early(
     Ok(ways < budget)
 }
 
-/// Whether so many listed patterns come before the pattern that it stands beyond the budget; `false` tells nothing.
+/// Returns whether `firm_ways_before`, a bound from below, shows that the rank is beyond the budget. The answer false decides nothing.
+/// Fails if an allocation fails.
 pub(crate) fn is_late(
     alloc: Global,
     net: &Network,
@@ -65,7 +67,8 @@ pub(crate) fn is_late(
     Ok(ways >= budget)
 }
 
-/// Whether a listed pattern is one of so many first ones. Where too many assignments come before it to tell, the list is gone through.
+/// Returns whether a listed pattern is one of the first `budget` patterns. Bounds on its rank decide. If they do not, the listing is
+/// enumerated up to the pattern or the budget. Fails if an allocation fails.
 pub fn is_within(
     alloc: Global,
     net: &Network,
@@ -93,14 +96,15 @@ impl Standing {
     ghost use Rattle.std.specs.Prelude.{MatchBool};
     ghost use Rattle.nf_thin.specs.declared.standing.Standing.TheVariants.{Beyond};
 
-    /// Whether it is known to stand beyond the budget.
+    /// Returns whether the rank is known to be beyond the budget.
     pub(crate) fn is_beyond(self) -> bool
         ensures { MatchBool result (self ≡ Beyond) (self ≡ Beyond → ⊥) }
     {
         matches!(self, Standing::Beyond)
     }
 
-    /// Whether the pattern stands within the budget: as is known, or else the list is gone through.
+    /// Returns whether the pattern's rank is within the budget. Calls the function `is_within` if the status is unknown. Fails if an
+    /// allocation fails.
     pub(crate) fn is_within(
         self,
         alloc: Global,

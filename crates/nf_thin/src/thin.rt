@@ -1,9 +1,9 @@
-// What a search finds.
+// The results of a search.
 use nf_frac::Q;
 use nf_pattern::Pattern;
 
-/// A thin flow with resetting: of each link its flow, an amount per unit of time, and of each node the slope of its label; and the
-/// pattern that it was found by, with its place in the list, counted from 1.
+/// A thin flow with resetting, with its pattern. `flows` has the flow of each link, an amount per unit of time. `labels` has the slope of
+/// each node's label. `place` is the pattern's rank in the listing, counted from 1.
 #[derive(Drop)]
 pub struct Thin {
     pub flows: Vec<Q>,
@@ -12,7 +12,7 @@ pub struct Thin {
     pub place: u64,
 }
 
-/// A thin flow with resetting, and the pattern that it was found by, wherever that stands in the list.
+/// A thin flow with resetting, with its pattern, as in `Thin` but without the place. `slopes` has the slope of each node's label.
 #[derive(Drop)]
 pub struct ThinFlow {
     pub flows: Vec<Q>,
@@ -24,7 +24,7 @@ impl Thin {
     ghost use Rattle.std.specs.Prelude.{◌≡◌};
     ghost use Rattle.nf_thin.specs.Finding.{flow_of};
 
-    /// The thin flow, whose place isn't asked for.
+    /// Returns the thin flow without its place.
     pub(crate) fn flow(self) -> ThinFlow
         ensures { result ≡ flow_of self }
     {

@@ -1,4 +1,4 @@
-// One pattern more is tried, within the budget.
+// One step of the search, within the budget.
 ghost use Rattle.std.specs.Prelude.{◌≤◌};
 ghost use Rattle.nf_work.specs.Passing.{passes_Q};
 ghost use Rattle.nf_equation_laws.specs.Equations.{IsPatternIn};
@@ -14,7 +14,7 @@ use nf_one_pattern::{Outcome, try_one};
 use nf_pattern::Pattern;
 use std::alloc::Global;
 
-/// The next pattern is tried: its thin flow, or none.
+/// Tries the next pattern. Returns its thin flow, or `None` if the pattern is not accepted. Refuses if the budget is spent.
 pub(crate) fn try_next(
     alloc: Global,
     net: &Network,

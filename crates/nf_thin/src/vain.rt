@@ -1,10 +1,10 @@
-// Patterns that were tried in vain.
+// Rejected patterns.
 use crate::fault::SearchFault;
 use nf_frac::{PassedAt, Q};
 use nf_graph::NodeId;
 
-/// Patterns tried in vain: how many, and the first of them of which an operation passes, with its place; and the node that ruled out the
-/// last one for which no table was needed.
+/// The record of rejected patterns. `tried` is their number. `passed` has the place of the first one of which an operation passes, and its
+/// first passing operation. `node` is the node that rejected the last pattern without a table.
 #[derive(Clone, Copy)]
 pub(crate) struct Vain {
     pub(crate) tried: u64,
@@ -16,7 +16,7 @@ impl Vain {
     ghost use Rattle.std.specs.Prelude.{◌≡◌};
     ghost use Rattle.nf_thin.specs.FirstPassing.{or_first, fault_of};
 
-    /// An operation of the last pattern passes.
+    /// Records that an operation of the last pattern passes, unless an earlier pattern is recorded.
     pub(crate) fn note(&mut self, at: PassedAt<Q>)
         ensures passed { self.new.passed ≡ or_first self.old.passed (self.old.tried, at) }
         ensures tried { self.new.tried ≡ self.old.tried }
@@ -26,7 +26,7 @@ impl Vain {
         }
     }
 
-    /// Why nothing was found, where no pattern is left.
+    /// Returns the cause for which nothing was found, if no pattern is left.
     pub(crate) fn fault(self) -> SearchFault
         ensures { result ≡ fault_of self.passed }
     {

@@ -17,8 +17,8 @@ use Rattle.nf_thin_laws.proofs.Flags.{entry_beyond, number_at-beyond, flag}
 use Rattle.nf_thin_laws.proofs.ExitSlopes.{exit_resetting, exit_full, exit_tight, exit_zero}
 use Rattle.nf_thin_laws.proofs.Patterns.{Stands, with_state, resets, inactive, stands, Leads, by_tight, by_full, by_reset, led}
 
--- ---- what a pattern says of an active link: its exit slope is the slope of its head, or it is a link that carries nothing, and
--- its exit slope is at least that
+-- ---- an active link in a pattern: its exit slope is the slope of its head, or it carries nothing and its exit slope is
+-- at least that slope
 data Exits (exit t x : ℚ) : Type 0 where
   just : exit ≡ t → Exits exit t x
   idle : t ≤ℚ exit → x ≡ 0ℚ → Exits exit t x
@@ -87,7 +87,7 @@ module _ (net : Network) (sets : Sets) (rate : ℚ) (pattern : Pattern) (flows s
       go None p = number_at-beyond flows e
           (let c : length flows ≡ length net.links = solves.flow_count in let n : length net.links ≤ e = entry_beyond net.links e p in omega arith)
 
-  -- ---- each node but the source is entered by a link of that exit slope
+  -- ---- each node except the source is entered by a link whose exit slope is the node's slope
   leads_just : (e : ℕ) (link : Link) → IsLink net e link → Leads pattern sets e → Just e link
   leads_just e link p (by_tight h f) = tight_just e link p h f
   leads_just e link p (by_full h f) = full_just e link p h f

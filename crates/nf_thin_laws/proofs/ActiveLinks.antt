@@ -19,7 +19,7 @@ use Rattle.nf_model_laws.proofs.Ways.{way_back}
 use Rattle.nf_thin_laws.specs.ActiveLinks.{AreSets, IsActiveWalk, HoldNoCycle, EachIsEntered, NoneEntersSource}
 
 -- ---- the sets of labels
--- where a flag of the one test is set, so is that of the other
+-- A flag set by one test is set by the other.
 weaker_flags : (strict weak : ℚ → Bool) → ((x : ℚ) → strict x ≡ true → weak x ≡ true) → (xs : List ℚ) (e : ℕ) → Has (map strict xs) e → Has (map weak xs) e
 weaker_flags strict weak w [] e h = absurd (cc)
 weaker_flags strict weak w (x ∷ xs) zero h = ap Some (w x (first _ h))
@@ -43,7 +43,7 @@ AreSets-sets_at net labels = record {
   resetting = λ e h. weaker_flags (lt_ℚ 0ℚ) (le_ℚ 0ℚ) above_is_not_below (slacks_of (hops net) labels) e h;
 }
 
--- ---- along active links the labels grow by the transit times
+-- ---- along active links, labels grow by the transit times
 none : (a b : ℚ) → a ≡ b → a +ℚ 0ℚ ≤ℚ b
 none a b e = linear_le (a ∷ b ∷ []) (eq e ∷ []) (search reading_of depth 12) tt
 
@@ -67,21 +67,20 @@ module _ (net : Network) (labels : List ℚ) where
   pub HoldNoCycle-sets_at : IsNetwork net → HoldNoCycle net (sets_at net labels)
   HoldNoCycle-sets_at good e walk v t = closed (number_at labels v) _ (sum_of (e ∷ walk) v v t) (good.cycles e walk v (IsWalk-active net (sets_at net labels) (e ∷ walk) v v t))
 
--- ---- going back along active links from any node one comes to the source
+-- ---- from each node, active links lead backward to the source
 module _ (net : Network) (sets : Sets) where
   abbrev pub Way : ℕ → ℕ → Type 0
   Way v w = (walk : List ℕ) × IsActiveWalk net sets walk v w
 
-  -- one active link more before a way
+  -- One more active link before a walk.
   pub way_more : (v w e : ℕ) (link : Link) → Enters net sets v e link → Way v w → Way link.tail w
   way_more v w e link n way = (e ∷ way.0, (link, n.is_link, n.active, refl, subst (λ (k : ℕ). IsActiveWalk net sets way.0 k w) (sym n.head) way.1))
 
-  -- no way leads from the head of an active link to its tail
+  -- No walk leads from the head of an active link to its tail.
   pub no_way_round : HoldNoCycle net sets → (v e : ℕ) (link : Link) → Enters net sets v e link → Way v link.tail → ⊥
   no_way_round acyclic v e link n way = acyclic e way.0 link.tail (link, n.is_link, n.active, refl, subst (λ (k : ℕ). IsActiveWalk net sets way.0 k link.tail) (sym n.head) way.1)
 
-  -- A property of nodes that goes back along an active link from each node that has it, is that of no node: it would go back for
-  -- ever.
+  -- A property that each node passes on backward along an active link holds at no node. Otherwise an infinite backward walk would exist.
   pub none_first : IsNetwork net → HoldNoCycle net sets → (Inside : ℕ → Type 0)
       → ((v : ℕ) → v < net.nodes → Inside v → (e : ℕ) × (link : Link) × Enters net sets v e link × Inside link.tail) → (v : ℕ) → v < net.nodes → Inside v → ⊥
   none_first good acyclic Inside back v h i = (way_back net.nodes Inside (λ _. ⊥) Way (λ v. ([], refl)) step v h i).1
@@ -100,7 +99,7 @@ module _ (net : Network) (sets : Sets) where
         inr (b.1.tail, good.tails b.0 b.1 b.2.is_link, tt, (λ w way. way_more v w b.0 b.1 b.2 way), (λ way. no_way_round acyclic v b.0 b.1 b.2 way)))
         (eqb_tells v net.source)
 
-    -- a way of active links leads from the source to each node
+    -- A walk along active links leads from the source to each node.
     pub active_way : (v : ℕ) → v < net.nodes → Way net.source v
     active_way v h =
         let r : (u : ℕ) × (u ≡ net.source) × Way u v = way_back net.nodes (λ _. Unit {0}) (λ u. u ≡ net.source) Way (λ v. ([], refl)) back v h tt in

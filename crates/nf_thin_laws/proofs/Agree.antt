@@ -16,7 +16,7 @@ AreStartLabels-unique net labels others p q = same_entries 0ℚ labels others (p
     (λ v h. let k : v < net.nodes = subst (λ (n : ℕ). v < n) p.count h in IsLeastTransit-unique (hops net) net.source v _ _ (p.each v k) (q.each v k))
 
 module _ (net : Network) (horizon : ℚ) (good : IsNetwork net) where
-  -- the slopes of a phase are one, hence its length, hence where it leads
+  -- A phase has only one vector of slopes, so only one length and one end.
   pub IsPhase-unique : (old new other : ℚ × List ℚ) → IsPhase net horizon old new → IsPhase net horizon old other → new ≡ other
   IsPhase-unique old new other p q =
       let s : p.slopes ≡ q.slopes = slopes-unique net (sets_at net old.1) (rate_at net old.0) good (HoldNoCycle-sets_at net old.1 good) p.flows p.slopes q.flows q.slopes p.thin q.thin in

@@ -1,4 +1,4 @@
--- Flows across a set of nodes: on the falls of a potential of 0 and 1.
+-- Flows across a set of nodes, by a potential of 0 and 1.
 use Rattle.std.proofs.Common.{◌≡◌, ◌≢◌, ℕ, suc, ◌<◌, List, [], ◌∷◌, ⊎_elim, true, false, eqb, sym, ap, refl, ◌∙◌}
 use Rattle.std.proofs.lemmas.Bool.Decides.{eqb_tells}
 use Rattle.nf_rational.specs.Rational.{ℚ}
@@ -9,7 +9,7 @@ use Rattle.nf_rational_laws.proofs.Linear.{le, eq, eq_times, linear_le, linear_e
 use Rattle.nf_model.specs.Network.{Link, Network, IsNetwork}
 use Rattle.nf_model_laws.proofs.Potential.{carried, carried-is, EndsBelow, out_less_in, sum_to-same}
 
--- ---- x and y are what two flows carry, a and b the potentials of tail and head
+-- ---- x and y are two flows on a link, and a and b the potentials of its tail and head
 pub fall_none : (x y a b : ℚ) → a ≡ b → x *ℚ (a -ℚ b) ≤ℚ y *ℚ (a -ℚ b)
 fall_none x y a b e = linear_le (x ∷ y ∷ a ∷ b ∷ []) (eq_times x e ∷ eq_times y e ∷ []) (search reading_of depth 12) tt
 
@@ -25,7 +25,7 @@ fall_same x y a b e = linear_le (x ∷ y ∷ a ∷ b ∷ []) (eq_times (a -ℚ b
 pub into_equal : (x y a b : ℚ) → a ≡ 0ℚ → b ≡ 1ℚ → x *ℚ (a -ℚ b) ≡ y *ℚ (a -ℚ b) → x ≡ y
 into_equal x y a b e f h = linear_eq (x ∷ y ∷ a ∷ b ∷ []) (eq_times x e ∷ eq_times y e ∷ eq_times x f ∷ eq_times y f ∷ eq h ∷ []) (search reading_of depth 12) tt tt
 
--- ---- a potential may be moved by a constant
+-- ---- a potential shifted by a constant
 pub carried-shift : (w : ℕ → ℚ) (c : ℚ) (links : List Link) (f : ℕ → ℚ) → carried (λ v. w v -ℚ c) links f ≡ carried w links f
 carried-shift w c [] f = refl
 carried-shift w c (link ∷ links) f = one (f 0) (w link.tail) (w link.head) c _ _ (carried-shift w c links (λ e. f (suc e)))
@@ -52,7 +52,7 @@ module _ (net : Network) (w x y : ℕ → ℚ) (good : IsNetwork net) (same : (v
       (λ (s : (eqb v net.sink ≡ false) × (v ≢ net.sink)). ap (λ (z : ℚ). shifted v *ℚ z) (same v h s.1))
       (eqb_tells v net.sink)
 
-  -- two flows that send the same out of each node but the sink, beyond what comes in, carry the same along a potential
+  -- Two flows with equal surplus at each node except the sink carry the same along a potential.
   pub same_carried : carried w net.links x ≡ carried w net.links y
   same_carried =
       sym (carried-shift w (w net.sink) net.links x) ∙ carried-is net.nodes shifted net.links x (EndsBelow-net net good)

@@ -21,7 +21,7 @@ quotient_is x c t h e = same_from_times c (x /ℚ c) t h (swapped x c (x /ℚ c)
 quotient_below : (x c t : ℚ) → 0ℚ <ℚ c → x ≤ℚ c *ℚ t → x /ℚ c ≤ℚ t
 quotient_below x c t h e = le_from_times c (x /ℚ c) t h (subst (λ (z : ℚ). z ≤ℚ c *ℚ t) (sym (swapped x c (x /ℚ c) (quotient-times x c h))) e)
 
--- a resetting link, and one that is full
+-- The link is resetting, or is Full.
 pub exit_resetting : (capacity : Option ℚ) (x s t : ℚ) → IsPositive capacity → Fills capacity x t → exit_slope true capacity x s ≡ t
 exit_resetting None x s t positive f = absurd (cc)
 exit_resetting (Some c) x s t positive f = quotient_is x c t (positive c refl) (f.2 ∙ ap (λ (z : ℚ). z *ℚ t) (same_rate c f.0 f.1))
@@ -38,12 +38,12 @@ exit_full (Some c) x s t positive f h =
     let q : x /ℚ c ≡ t = exit_resetting (Some c) x s t positive f in
     ap (max_ℚ s) q ∙ max_is_right s t h
 
--- a link whose ends move alike
+-- The slopes of the link's ends are equal.
 pub exit_tight : (capacity : Option ℚ) (x s t : ℚ) → IsPositive capacity → t ≡ s → ((rate : ℚ) → capacity ≡ Some rate → x ≤ℚ rate *ℚ t) → exit_slope false capacity x s ≡ t
 exit_tight None x s t positive e h = sym e
 exit_tight (Some c) x s t positive e h = max_is_left s (x /ℚ c) (subst (λ (z : ℚ). x /ℚ c ≤ℚ z) e (quotient_below x c t (positive c refl) (h c refl))) ∙ sym e
 
--- one that carries nothing
+-- The link carries nothing.
 pub exit_zero : (capacity : Option ℚ) (x s t : ℚ) → t ≤ℚ s → t ≤ℚ exit_slope false capacity x s
 exit_zero None x s t h = h
 exit_zero (Some c) x s t h = ≤ℚ_trans _ _ _ h (max_left s (x /ℚ c))

@@ -18,7 +18,7 @@ entry_beyond {A} xs e h = go (slice_get_cases xs e).1
 pub number_at-beyond : (xs : List ℚ) (e : ℕ) → length xs ≤ e → number_at xs e ≡ 0ℚ
 number_at-beyond xs e h = ap (λ (o : Option ℚ). unwrap_or o 0ℚ) (slice_get_past xs e h)
 
--- ---- a flag is set or not
+-- ---- a flag is set, or it is not
 abbrev pub flag : List Bool → ℕ → Bool
 flag flags e = unwrap_or (slice_get flags e) false
 

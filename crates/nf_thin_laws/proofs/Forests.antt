@@ -1,5 +1,5 @@
--- A flow on a forest that sends nothing out of any node, beyond what comes in, is 0. For where a link carries something, some link
--- brings as much to where it leads from, and so on: these links, each taken in the direction of its flow, close a trail.
+-- A flow on a forest with surplus 0 at each node is 0. If a link carries flow, some link carries as much into the node where it starts,
+-- and so on. These links, each crossed in the direction of its flow, close a trail.
 use Rattle.std.proofs.Common.{◌≡◌, ◌≢◌, ℕ, zero, suc, ◌+◌, ◌<◌, ◌≤◌, List, [], ◌∷◌, length, map, ◌⊎◌, inl, inr, ⊎_elim, Bool, true, false, if◌then◌else◌, ◌||◌, eqb, Some, slice_get, sym, ap, subst, refl, ◌∙◌, arith}
 use Rattle.std.specs.Prelude.{Contains}
 use Rattle.std.specs.List.{IsDistinct, list_any}
@@ -33,7 +33,7 @@ IsDistinct-differ : (xs : List ℕ) → AllDiffer xs → IsDistinct eqb xs
 IsDistinct-differ [] a = distinct_none
 IsDistinct-differ (x ∷ xs) a = distinct_more x xs (not_any x xs a.0) (IsDistinct-differ xs a.1)
 
--- ---- a node that something leaves is one that something enters: d is what each link carries forward
+-- ---- if something leaves a node, something enters it: d is each link's flow forward
 module _ (links : List Link) (d : ℕ → ℚ) (v : ℕ) (balanced : out_less_in links d v ≡ 0ℚ)
     (none_in : (e : ℕ) (link : Link) → slice_get links e ≡ Some link → link.head ≡ v → d e ≤ℚ 0ℚ)
     (none_back : (e : ℕ) (link : Link) → slice_get links e ≡ Some link → link.tail ≡ v → 0ℚ ≤ℚ d e) where
@@ -69,7 +69,7 @@ module _ (links : List Link) (d : ℕ → ℚ) (v : ℕ) (balanced : out_less_in
       (subst (λ (z : ℚ). z ≤ℚ sum_in links (λ k. max_ℚ 0ℚ (backward k)) v) (max_is_right 0ℚ (backward e) (backward_nn (d e) (≤ℚ_of_lt _ _ h)))
       (sum_in-each links (λ k. max_ℚ 0ℚ (backward k)) v (λ k. max_left 0ℚ (backward k)) e link p at)))
 
--- a property of some link or of none
+-- Some link has a property, or none has it.
 find_link : (links : List Link) (P : ℕ → Link → Type 0) → ((e : ℕ) (link : Link) → P e link ⊎ (P e link → ⊥))
     → ((e : ℕ) × (link : Link) × (slice_get links e ≡ Some link) × P e link) ⊎ ((e : ℕ) (link : Link) → slice_get links e ≡ Some link → P e link → ⊥)
 find_link [] P test = inr (λ e link p _. none e link p)
@@ -92,7 +92,7 @@ find_link (l ∷ links) P test = ⊎_elim
     apart n m (suc e) link p q = m e link p q
 
 module _ (net : Network) (d : ℕ → ℚ) where
-  -- link e carries something from u to v: forward where the flag is set, else backward
+  -- Link e carries flow from u to v: forward if the flag is set, and backward otherwise.
   abbrev pub Carries : Bool → ℚ → Type 0
   Carries true x = 0ℚ <ℚ x
   Carries false x = x <ℚ 0ℚ
@@ -110,7 +110,7 @@ module _ (net : Network) (d : ℕ → ℚ) where
   one_way false true x h k = absurd (not_both_ℚ _ _ h (≤ℚ_of_lt _ _ k))
   one_way false false x h k = refl
 
-  -- a link carries in one direction alone
+  -- A link carries flow in one direction only.
   Dart-start : (e : ℕ) (a b : Bool) (u v s t : ℕ) → Dart e a u v → Dart e b s t → u ≡ s
   Dart-start e a b u v s t p q =
       let l : p.link ≡ q.link = IsLink-unique net e p.link q.link p.is_link q.is_link in
@@ -192,7 +192,7 @@ module _ (net : Network) (d : ℕ → ℚ) where
       rest true b p e = absurd (cc)
       rest false b p e = e
 
-  -- the part of a trail before it takes link f, which begins at u: or it doesn't take f
+  -- The beginning of a trail, up to the first step along link f, which starts at u; or the trail does not cross f.
   record Before (f : ℕ) (steps : List (ℕ × Bool)) (v u : ℕ) : Type 0 where
     front : List (ℕ × Bool)
     trail : IsFlowTrail front v u

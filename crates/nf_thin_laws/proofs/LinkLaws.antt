@@ -1,4 +1,4 @@
--- What a thin flow says of an active link, and how two thin flows compare on it.
+-- Properties of a thin flow on an active link, and a comparison of two thin flows on the link.
 use Rattle.std.proofs.Common.{◌≡◌, [], ◌∷◌, ◌⊎◌, inl, inr, ⊎_elim, Bool, true, false, Option, Some, None, sym, subst, refl, ◌∙◌}
 use Rattle.nf_rational.specs.Rational.{ℚ}
 use Rattle.nf_rational.specs.Operations.{0ℚ, ◌*ℚ◌, ◌/ℚ◌}
@@ -19,7 +19,7 @@ pub record BoundedLaw (resets : Bool) (x c s t : ℚ) : Type 0 where
   pub upper : resets ≡ false → (t ≤ℚ s) ⊎ (c *ℚ t ≤ℚ x)
   pub used : resets ≡ false → 0ℚ <ℚ x → (s ≤ℚ t) × (x ≤ℚ c *ℚ t)
 
--- of an unbounded link
+-- The link is unbounded.
 pub record UnboundedLaw (x s t : ℚ) : Type 0 where
   pub upper : t ≤ℚ s
   pub used : 0ℚ <ℚ x → s ≡ t
@@ -63,7 +63,7 @@ BoundedLaw-of false x c s t h n m l u = record {
     at_most : q ≤ℚ t → x ≤ℚ c *ℚ t
     at_most k = linear_le (x ∷ c ∷ t ∷ (x /ℚ c) ∷ []) (eq (quotient-times x c h) ∷ le_times low k ∷ []) (search reading_of depth 12) tt
 
--- where the exit slope is at least the slope of the head, and is it where there is flow
+-- The exit slope is at least the slope of the head, and equals it if there is flow.
 pub LinkLaw-of : (resets : Bool) (capacity : Option ℚ) (x s t : ℚ) → IsPositive capacity → 0ℚ ≤ℚ x → 0ℚ ≤ℚ t → t ≤ℚ exit_slope resets capacity x s
     → (0ℚ <ℚ x → exit_slope resets capacity x s ≡ t) → LinkLaw resets capacity x s t
 LinkLaw-of resets None x s t p n m l u = record { upper = l; used = u }
@@ -73,7 +73,7 @@ LinkLaw-of resets (Some c) x s t p n m l u = BoundedLaw-of resets x c s t (p c r
 grows : (c s t : ℚ) → 0ℚ <ℚ c → s <ℚ t → c *ℚ s <ℚ c *ℚ t
 grows c s t h k = ⊎_elim (λ (l : c *ℚ s <ℚ c *ℚ t). l) (λ (l : c *ℚ t ≤ℚ c *ℚ s). absurd (not_both_ℚ _ _ k (le_from_times c t s h l))) (lt_or_le_ℚ (c *ℚ s) (c *ℚ t))
 
--- into the nodes where the first slopes are greater
+-- The link leads into the nodes where the first slopes are greater.
 into_positive : (x y c s t u v : ℚ) → 0ℚ <ℚ c → BoundedLaw false x c s t → BoundedLaw false y c u v → s ≤ℚ u → v <ℚ t → 0ℚ <ℚ y → y <ℚ x
 into_positive x y c s t u v h p q i j k =
     let b : (u ≤ℚ v) × (y ≤ℚ c *ℚ v) = q.used refl k in
@@ -99,7 +99,7 @@ into_le false (Some c) x y s t u v h n p q i j = ⊎_elim
     (λ (k : 0ℚ <ℚ y). ≤ℚ_of_lt _ _ (into_positive x y c s t u v (h c refl) p q i j k))
     (λ (k : y ≤ℚ 0ℚ). ≤ℚ_trans _ _ _ k n) (lt_or_le_ℚ 0ℚ y)
 
--- out of those nodes
+-- The link leads out of those nodes.
 out_bounded : (x y c s t u v : ℚ) → 0ℚ <ℚ c → BoundedLaw false x c s t → BoundedLaw false y c u v → u <ℚ s → t ≤ℚ v → 0ℚ <ℚ x → x ≤ℚ y
 out_bounded x y c s t u v h p q i j k =
     let low : 0ℚ ≤ℚ c = ≤ℚ_of_lt _ _ h in
@@ -127,7 +127,7 @@ out_le false (Some c) x y s t u v h n p q i j = ⊎_elim
     (λ (k : 0ℚ <ℚ x). out_bounded x y c s t u v (h c refl) p q i j k)
     (λ (k : x ≤ℚ 0ℚ). ≤ℚ_trans _ _ _ k n) (lt_or_le_ℚ 0ℚ x)
 
--- ---- no link from elsewhere into those nodes carries equal flows and has, with the second, the exit slope of its head
+-- ---- no link into those nodes from outside has equal flows and, by the second flow, the exit slope of its head
 stuck_bounded : (x y c s t u v : ℚ) → 0ℚ <ℚ c → 0ℚ ≤ℚ y → 0ℚ ≤ℚ v → BoundedLaw false x c s t → BoundedLaw false y c u v → s ≤ℚ u → v <ℚ t → x ≡ y → u ≤ℚ v → ⊥
 stuck_bounded x y c s t u v h m n p q i j e k = ⊎_elim
     (λ (l : 0ℚ <ℚ y). not_both_ℚ _ _ (into_positive x y c s t u v h p q i j l) (≤ℚ_of_same _ _ e))

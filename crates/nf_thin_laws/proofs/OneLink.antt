@@ -40,7 +40,7 @@ module _ (transit : ℚ) (capacity : Option ℚ) (pieces : List Piece) where
   abbrev the_hop : Hop
   the_hop = record { tail = 0; head = 1; transit = transit }
 
-  -- what is said of the one link is said of each
+  -- A property of the one link is a property of each link.
   by_link : (P : ℕ → Link → Type 0) (e : ℕ) (link : Link) → IsLink net e link → P 0 the_link → P e link
   by_link P zero link p x = subst (λ (l : Link). P 0 l) (same the_link link p) x
     where
@@ -111,7 +111,7 @@ module _ (transit : ℚ) (capacity : Option ℚ) (pieces : List Piece) where
       no_full zero u h = none h u
       no_full (suc e) u h = no_state e Full h
 
-  -- one link is a forest: a trail of two steps takes it twice, and one of one step leads elsewhere
+  -- One link is a forest: a trail of two steps crosses it twice, and a trail of one step does not return.
   zero_one : ◌≡◌ {A = ℕ} 0 1 → ⊥
   zero_one e = absurd (omega arith)
 

@@ -1,4 +1,4 @@
--- What a listed pattern says of the links of a network.
+-- Properties of a listed pattern on the links of a network.
 use Rattle.std.proofs.Common.{◌≡◌, ◌≢◌, ℕ, ◌<◌, length, ◌⊎◌, inl, inr, ⊎_elim, Bool, true, false, Option, Some, None, slice_get, unwrap_or, sym, ap, ◌∙◌, arith}
 use Rattle.std.proofs.lemmas.Option.{slice_get_within}
 use Rattle.nf_rational.specs.Rational.{ℚ}
@@ -19,7 +19,7 @@ use Rattle.nf_thin_laws.specs.PatternLaws.{EachIsLed}
 use Rattle.nf_thin_laws.proofs.Flags.{flag, flag-cases}
 use Rattle.nf_plain_laws.proofs.Entries.{entry}
 
--- a link that is filled has a capacity; two flows that fill it, do so by that
+-- A filled link has a capacity, and two flows that fill it do so by this capacity.
 pub record FillBoth (x t y v : ℚ) : Type 0 where
   pub rate : ℚ
   pub positive : 0ℚ <ℚ rate
@@ -37,13 +37,13 @@ FillBoth-of capacity x t y v positive f g = record {
     same_rate : (a b : ℚ) → Some a ≡ Some b → a ≡ b
     same_rate a b e = cc
 
--- how a link stands in a pattern: it has a state, or it is resetting, or it is neither active nor resetting
+-- The cases of a link in a pattern: it has a state, is resetting, or is neither active nor resetting.
 pub data Stands (pattern : Pattern) (sets : Sets) (e : ℕ) : Type 0 where
   with_state : (state : State) → HasState pattern e state → flag sets.resetting e ≡ false → Has sets.active e → Stands pattern sets e
   resets : slice_get pattern e ≡ Some None → flag sets.resetting e ≡ true → Has sets.active e → Stands pattern sets e
   inactive : slice_get pattern e ≡ Some None → flag sets.resetting e ≡ false → (Has sets.active e → ⊥) → Stands pattern sets e
 
--- and one that enters a node so that the pattern is listed
+-- A link by which a node is entered, so that the pattern is listed.
 pub data Leads (pattern : Pattern) (sets : Sets) (e : ℕ) : Type 0 where
   by_tight : HasState pattern e Tight → flag sets.resetting e ≡ false → Leads pattern sets e
   by_full : HasState pattern e Full → flag sets.resetting e ≡ false → Leads pattern sets e
@@ -78,7 +78,7 @@ module _ (net : Network) (sets : Sets) (pattern : Pattern) (are : AreSets net se
       (λ (w : (flag sets.resetting e ≡ false) × (Has sets.resetting e → ⊥)). w.0)
       (flag-cases sets.resetting e)
 
-  -- each node but the source is entered by an active link that leads there
+  -- Each node except the source is entered by an active link into it.
   abbrev pub Led : ℕ → Type 0
   Led v = (e : ℕ) × (link : Link) × Enters net sets v e link × Leads pattern sets e
 

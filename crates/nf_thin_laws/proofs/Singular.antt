@@ -1,7 +1,8 @@
--- The equations of a listed pattern have at most one solution, where the active links hold no cycle. Of two solutions take the
--- nodes at which the slope of the first is greater: Tight links do not lead into them or out of them, links without flow do not
--- count, and a filled link carries more into them, and not more out of them; conservation makes both equal, so that none leads into
--- them. But going back from such a node along the links that the pattern is listed by one would have to come in.
+-- The equations of a listed pattern have at most one solution, if the active links hold no cycle.
+-- Of two solutions, take the nodes at which the slope of the first is greater. Tight links do not lead into or out of these nodes.
+-- Links without flow do not count. A filled link carries more into the nodes, and not more out of them.
+-- Conservation makes both equal, so no filled link leads into the nodes. But backward along the links by which the pattern is listed, one
+-- must.
 use Rattle.std.proofs.Common.{◌≡◌, ◌≢◌, ℕ, ◌<◌, ◌≤◌, List, [], ◌∷◌, length, ◌⊎◌, inl, inr, ⊎_elim, Bool, true, false, if◌then◌else◌, eqb, Option, Some, None, slice_get, sym, ap, subst, refl, ◌∙◌, arith}
 use Rattle.std.proofs.lemmas.Bool.{cases_lt}
 use Rattle.std.proofs.lemmas.Bool.Decides.{eqb_tells}
@@ -77,7 +78,7 @@ module _ (net : Network) (sets : Sets) (pattern : Pattern) (good : IsNetwork net
     compared_leads e link p (by_reset h f) = resetting_filled e link p h f
 
     module _ (same_source : l net.source ≡ m net.source) (same_nodes : (v : ℕ) → v < net.nodes → v ≢ net.sink → out_less_in net.links x v ≡ out_less_in net.links y v) where
-      -- 1 where the first slope is the greater one, else 0
+      -- 1 if the first slope is greater, and 0 otherwise.
       abbrev side : ℕ → ℚ
       side v = if lt_ℚ (m v) (l v) then 1ℚ else 0ℚ
 
@@ -93,7 +94,7 @@ module _ (net : Network) (sets : Sets) (pattern : Pattern) (good : IsNetwork net
           (λ (w : (lt_ℚ (m v) (l v) ≡ false) × NotGreater v). inr (ap (λ (b : Bool). if b then 1ℚ else 0ℚ) w.0, w.1))
           (lt_ℚ_cases (m v) (l v))
 
-      -- a Tight link has both ends on one side
+      -- Both ends of a Tight link are in the set, or neither is.
       apart : (a b c d : ℚ) → a ≡ b → c ≡ d → c <ℚ a → b ≤ℚ d → ⊥
       apart a b c d e f h k = linear_false (a ∷ b ∷ c ∷ d ∷ []) (eq e ∷ eq f ∷ lt h ∷ le k ∷ []) (search reading_of depth 12) tt
 
@@ -131,7 +132,7 @@ module _ (net : Network) (sets : Sets) (pattern : Pattern) (good : IsNetwork net
       each_same : (e : ℕ) (link : Link) → IsLink net e link → x e *ℚ fall side link ≡ y e *ℚ fall side link
       each_same e link p = carried-each side net.links x y each_le (≤ℚ_of_same _ _ (sym (same_carried net side x y good same_nodes))) e link p
 
-      -- a link that the pattern is listed by comes from that side too
+      -- A link by which the pattern is listed also comes from the set.
       tail_greater : (e : ℕ) (link : Link) → IsLink net e link → Compared e link → Greater link.head → Greater link.tail
       tail_greater e link p c g = ⊎_elim
           (λ (w : (side link.tail ≡ 1ℚ) × Greater link.tail). w.1)
@@ -163,7 +164,7 @@ module _ (net : Network) (sets : Sets) (pattern : Pattern) (good : IsNetwork net
     pub same_slopes : (v : ℕ) → v < net.nodes → l v ≡ m v
     same_slopes v h = ≤ℚ_antisymm _ _ (at_most x l y m first second same_source same_nodes v h) (at_most y m x l second first (sym same_source) (λ k i o. sym (same_nodes k i o)) v h)
 
-    -- ---- so the flows are the same but on Tight links, and those form a forest
+    -- ---- so the flows differ only on Tight links, which form a forest
     abbrev difference : ℕ → ℚ
     difference e = x e +ℚ y e *ℚ (0ℚ -ℚ 1ℚ)
 

@@ -41,7 +41,7 @@ module _ (net : Network) (sets : Sets) (rate : ℚ) (good : IsNetwork net) (acyc
       other h = NoneEntersSource-thin x l t e link (record { is_link = p; active = a; head = h })
 
   module _ (x l y m : List ℚ) (p : IsThinFlow net sets rate x l) (q : IsThinFlow net sets rate y m) where
-    -- 1 where the first slope is the greater one, else 0
+    -- 1 if the first slope is greater, and 0 otherwise.
     abbrev side : ℕ → ℚ
     side v = if lt_ℚ (number_at m v) (number_at l v) then 1ℚ else 0ℚ
 
@@ -57,8 +57,8 @@ module _ (net : Network) (sets : Sets) (rate : ℚ) (good : IsNetwork net) (acyc
         (λ (w : (lt_ℚ (number_at m v) (number_at l v) ≡ false) × NotGreater v). inr (ap (λ (b : Bool). if b then 1ℚ else 0ℚ) w.0, w.1))
         (lt_ℚ_cases (number_at m v) (number_at l v))
 
-    -- along an active link into the nodes of greater slope the first flow carries at least as much as the second, and along one
-    -- out of them at most as much
+    -- Along an active link into the nodes where the first slope is greater, the first flow carries at least as much as the second.
+    -- Along an active link out of these nodes, it carries at most as much.
     active_le : (e : ℕ) (link : Link) → IsLink net e link → Has sets.active e → number_at x e *ℚ fall side link ≤ℚ number_at y e *ℚ fall side link
     active_le e link s a = ⊎_elim
         (λ (v : (side link.tail ≡ 1ℚ) × Greater link.tail). ⊎_elim
@@ -85,11 +85,11 @@ module _ (net : Network) (sets : Sets) (rate : ℚ) (good : IsNetwork net) (acyc
         (λ (o : (eqb v net.source ≡ false) × (v ≢ net.source)). p.inner v h o.1 other ∙ sym (q.inner v h o.1 other))
         (eqb_tells v net.source)
 
-    -- so both carry the same
+    -- So both flows carry the same.
     each_same : (e : ℕ) (link : Link) → IsLink net e link → number_at x e *ℚ fall side link ≡ number_at y e *ℚ fall side link
     each_same e link s = carried-each side net.links (number_at x) (number_at y) each_le (≤ℚ_of_same _ _ (sym (same_carried net side (number_at x) (number_at y) good same_at))) e link s
 
-    -- where the first slope is greater, so it is at the tail of a link that the second slope comes from
+    -- If the first slope is greater at a node, it is greater at the tail of a link that attains the second slope there.
     tail_greater : (v e : ℕ) (link : Link) → Greater v → Enters net sets v e link → exit_slope_at sets y m e link ≡ number_at m v → Greater link.tail
     tail_greater v e link g n r = ⊎_elim
         (λ (w : (side link.tail ≡ 1ℚ) × Greater link.tail). w.1)

@@ -1,4 +1,4 @@
--- Thin flows and phases of the network of one link, so that their definitions have members.
+-- Thin flows and phases of the network of one link, as members of their definitions.
 use Rattle.std.specs.Prelude.{◌≡◌, true, false, List, [], ◌∷◌, Option, Some}
 use Rattle.nf_rational.specs.Rational.{ℚ}
 use Rattle.nf_rational.specs.Operations.{0ℚ, 1ℚ, ◌/ℚ◌}
@@ -11,16 +11,16 @@ use Rattle.nf_model.specs.Phases.{moved, IsPhaseSequence}
 use Rattle.nf_model_laws.specs.Capacity.{IsPositive}
 use Rattle.nf_model_laws.specs.MemberLaws.{one_link, at_rate}
 
--- the labels of departure 0, and their sets: the link is active, and not resetting
+-- The labels of departure 0. By their sets, the link is active and not resetting.
 abbrev pub first_labels : ℚ → List ℚ
 first_labels transit = 0ℚ ∷ transit ∷ []
 
 abbrev pub first_sets : Sets
 first_sets = record { active = true ∷ []; resetting = false ∷ [] }
 
--- Where the link can carry the rate, the pattern in which it is Tight is listed, and its equations have one solution, which meets
--- its inequalities; and where the rate is at least its capacity, that in which it is Full. A thin flow at the rate, whatever it is, makes a phase up to any
--- horizon, where the supply has this one rate from time 0 on.
+-- If the link can carry the rate, the pattern with Tight is listed, and its equations have one solution, which meets its inequalities. If
+-- the rate is at least the capacity, the same holds for the pattern with Full. A thin flow at the rate makes a phase up to any horizon, if
+-- the supply has only this rate from time 0 on.
 pub record OneLinkHasPhase : Type 0 where
   pub sets : (transit : ℚ) (capacity : Option ℚ) (pieces : List Piece)
       → sets_at (one_link transit capacity pieces) (first_labels transit) ≡ first_sets

@@ -7,46 +7,45 @@ ghost use Rattle.nf_thin_laws.specs.PatternLaws.{AcceptedPatternIsThin, SlopesAl
 ghost use Rattle.nf_thin_laws.specs.MemberLaws.{OneLinkHasPhase};
 ghost use Rattle.nf_thin_laws.specs.SlopeLaws.{SlopesAreUnique, PhaseSequencesAgree, ThinFlowComesToSink};
 
-/// The active links of labels hold no cycle; and where such links lead to each node but the source, none leads to the source.
+/// The active links of labels hold no cycle. If the active links hold no cycle and lead to each node except the source, none leads to the
+/// source.
 pub fn active_links_hold_no_cycle()
     ensures { ActiveLinksHoldNoCycle }
 {}
 
-/// What a search for a thin flow accepts is a thin flow: a solution of the equations of a listed pattern that meets its
-/// inequalities.
+/// An accepted pattern gives a thin flow: the solution of a listed pattern's equations that meets its inequalities.
 pub fn accepted_pattern_is_thin()
     ensures { AcceptedPatternIsThin }
 {}
 
-/// The thin flows for one rate, with active links that hold no cycle, all have the same slopes (Cominetti, Correa and Larré
-/// 2015).
+/// All thin flows for one rate have the same slopes, if the active links hold no cycle (Cominetti, Correa and Larré 2015).
 pub fn slopes_are_unique()
     ensures { SlopesAreUnique }
 {}
 
-/// From a time with its labels one phase leads to one pair of a time and labels alone, and phase sequences of a network to one
-/// horizon that are equally long are equal.
+/// From a time with its labels, a phase leads to only one later time with its labels. Phase sequences of a network to one horizon are equal
+/// if they are equally long.
 pub fn phase_sequences_agree()
     ensures { PhaseSequencesAgree }
 {}
 
-/// What a thin flow sends out of the source comes to the sink.
+/// The flow that a thin flow sends out of the source enters the sink.
 pub fn thin_flow_comes_to_sink()
     ensures { ThinFlowComesToSink }
 {}
 
-/// The equations of a listed pattern have at most one solution, where the active links hold no cycle.
+/// The equations of a listed pattern have at most one solution, if the active links hold no cycle.
 pub fn no_listed_pattern_is_singular()
     ensures { NoListedPatternIsSingular }
 {}
 
-/// The slopes of a thin flow allow each state of a listed pattern that is solvable, where the active links hold no cycle; so a
-/// pattern with a state that they don't allow is not accepted.
+/// The slopes of a thin flow allow each state of a listed and solvable pattern, if the active links hold no cycle. So a pattern with
+/// another state is not accepted.
 pub fn slopes_allow_states()
     ensures { SlopesAllowStates }
 {}
 
-/// The definitions of listed and solvable patterns and of phase sequences have members: on a network of one link.
+/// The definitions of listed and solvable patterns and of phase sequences have members: those of a network of one link.
 pub fn one_link_has_phase()
     ensures { OneLinkHasPhase }
 {}

@@ -4,7 +4,7 @@ use Rattle.nf_narrow.specs.Rows.{most, Tells}
 use Rattle.nf_narrow.proofs.Stepping.{ways_from, earlier_from}
 use Rattle.nf_narrow.proofs.row.count_earlier.Given as goal
 
--- the row tells the ways from this link on, and those that are earlier are counted
+-- The row counts the assignments from this link on, and the earlier ones are counted.
 abbrev pub invariant-loop-e : goal.invariant-loop-e
 invariant-loop-e l = record {
   within : l.e ≤ length l.base;

@@ -3,7 +3,7 @@ use Rattle.nf_narrow.specs.Asking.{GoesThrough}
 use Rattle.nf_narrow.proofs.Going.{IsAhead}
 use Rattle.nf_narrow.proofs.within.goes_on_to.Given as goal
 
--- so many patterns were given, and this one isn't among them
+-- The first patterns are enumerated, and this pattern is not among them.
 abbrev pub invariant-loop-patterns : goal.invariant-loop-patterns
 invariant-loop-patterns l = record {
   through : GoesThrough l.fn.patterns.question l.patterns;

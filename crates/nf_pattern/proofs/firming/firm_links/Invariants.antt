@@ -4,7 +4,7 @@ use Rattle.nf_pattern.specs.Walking.{Holds}
 use Rattle.nf_pattern.proofs.Calming.{AreMarked}
 use Rattle.nf_pattern.proofs.firming.firm_links.Given as goal
 
--- the links so far close no cycle, and the Tight ones are firm
+-- The links so far close no cycle, and the Tight ones are flagged.
 abbrev pub invariant-loop-e : goal.invariant-loop-e
 invariant-loop-e l = record {
   holds : Holds l.fn.hops l.fn.base l.e l.tight;

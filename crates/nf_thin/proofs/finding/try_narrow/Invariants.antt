@@ -3,7 +3,7 @@ use Rattle.nf_work.specs.Passing.{passes_Q}
 use Rattle.nf_thin.proofs.Narrowing.{NarrowVainly, KeepsUp}
 use Rattle.nf_thin.proofs.finding.try_narrow.Given as goal
 
--- so many were gone through in vain
+-- The first patterns left are rejected.
 abbrev pub invariant-loop-part : goal.invariant-loop-part
 invariant-loop-part l = record {
   same : l.patterns.question ≡ l.fn.patterns.question;

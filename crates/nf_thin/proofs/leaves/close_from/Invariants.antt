@@ -3,7 +3,7 @@ use Rattle.nf_rational.specs.Rational.{ℚ}
 use Rattle.nf_thin.specs.Conserving.{AreWithin, Conserves}
 use Rattle.nf_thin.proofs.leaves.close_from.Given as goal
 
--- what there can be so far
+-- Each possible flow is within the ranges so far.
 abbrev pub invariant-loop : goal.invariant-loop
 invariant-loop l = record {
   node : l.node < l.net.net.nodes;

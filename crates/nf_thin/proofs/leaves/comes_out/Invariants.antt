@@ -3,7 +3,7 @@ use Rattle.nf_rational.specs.Rational.{ℚ}
 use Rattle.nf_thin.specs.Conserving.{AreWithin, Conserves}
 use Rattle.nf_thin.proofs.leaves.comes_out.Given as goal
 
--- what there can be so far
+-- Each possible flow is within the ranges so far.
 abbrev pub invariant-loop-v : goal.invariant-loop-v
 invariant-loop-v l = record {
   count : length l.ranges.items ≡ length l.net.net.links;

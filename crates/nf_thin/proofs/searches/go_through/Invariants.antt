@@ -3,7 +3,7 @@ use Rattle.nf_work.specs.Passing.{passes_Q}
 use Rattle.nf_thin.proofs.Looping.{InLoop}
 use Rattle.nf_thin.proofs.searches.go_through.Given as goal
 
--- the first patterns of the listing were tried in vain
+-- The first patterns of the listing are rejected.
 abbrev pub invariant-loop-pattern : goal.invariant-loop-pattern
 invariant-loop-pattern l = InLoop passes_Q l.net.net l.sets l.rate l.fn.patterns.question l.budget l.patterns l.vain
 

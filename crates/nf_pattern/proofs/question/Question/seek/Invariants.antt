@@ -4,7 +4,7 @@ use Rattle.nf_pattern.proofs.Ranging.{left_after}
 use Rattle.nf_pattern.proofs.Seeking.{IsSought}
 use Rattle.nf_pattern.proofs.question.Question.seek.Given as goal
 
--- no listed pattern is left behind
+-- No listed pattern is skipped.
 abbrev pub invariant-loop-same : goal.invariant-loop-same
 invariant-loop-same l = record { sought : IsSought l.self l.initial.states l.states; trail : IsTrailOf l.self l.states l.trail; quiet : IsQuiet l.self.base l.quiet l.states }
 

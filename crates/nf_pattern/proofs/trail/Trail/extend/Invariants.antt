@@ -3,7 +3,7 @@ use Rattle.nf_pattern.specs.Entered.{DoEndsCarry}
 use Rattle.nf_pattern.specs.Trail.{Follows, IsOnWay}
 use Rattle.nf_pattern.proofs.trail.Trail.extend.Given as goal
 
--- the links so far were looked at
+-- The links so far are examined.
 abbrev pub invariant-loop-source : goal.invariant-loop-source
 invariant-loop-source l = record {
   follows : Follows l.fn.source l.hops l.resetting l.states l.self;

@@ -4,7 +4,7 @@ use Rattle.nf_pattern.specs.Stated.{AreStated}
 use Rattle.nf_pattern.specs.Trail.{Follows, IsLeftBy, IsOnWay}
 use Rattle.nf_pattern.proofs.trail.Trail.retreat.Given as goal
 
--- what the trail followed at first, it follows still
+-- The trail is still an examined prefix of each pattern of which it was one.
 abbrev pub invariant-loop-self : goal.invariant-loop-self
 invariant-loop-self l = record {
   left : IsLeftBy l.hops l.stated l.self;

@@ -2,7 +2,7 @@ use Rattle.std.proofs.Common.{length}
 use Rattle.nf_pattern.proofs.Steps.{Stands, left, whole}
 use Rattle.nf_pattern.proofs.walking.TightLinks.join.Given as goal
 
--- both walks are on their way, and haven't come to each other's start
+-- Both traversals continue, and neither has reached the other's start.
 abbrev pub invariant-loop-next : goal.invariant-loop-next
 invariant-loop-next l = record {
   near : Stands l.hops l.states l.depth l.tail l.head (length l.self.last.items) l.near.node l.near.link;
