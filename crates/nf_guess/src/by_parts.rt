@@ -30,7 +30,7 @@ fn slopes_and_flows(
 /// Returns the values that solve a pattern's table: slopes in node order, and then flows of active links in link order. Flows are amounts
 /// per unit of time. Returns `None` if the table does not have exactly one solution, or an operation passes. No contract promises this.
 /// Fails if an allocation fails.
-pub fn part_values(
+pub(crate) fn part_values(
     alloc: Global,
     net: &Network,
     sets: &LinkSets,

@@ -13,5 +13,4 @@ mod repairs;
 mod reverting;
 mod tight_flows;
 
-pub use by_parts::part_values;
 pub use guessing::{SolvedPattern, guess};

@@ -198,7 +198,7 @@ fn guide_from_first(
 /// Searches by the slopes of a thin flow, guessed from the first listed pattern. `rate` is the supply, an amount per unit of time. Every
 /// returned thin flow and refusal is the answer of `search`, except `Memory`, an allocation failure. Returns `None` if the slopes give no
 /// answer; the contract does not say when.
-pub fn find_by_slopes(
+pub(crate) fn find_by_slopes(
     alloc: Global,
     net: &Network,
     sets: &LinkSets,

@@ -11,7 +11,6 @@ mod leaves;
 mod listings;
 mod node_test;
 mod pace;
-pub mod parts;
 mod ranges;
 mod searches;
 mod sifting;

@@ -22,7 +22,7 @@ pub(crate) fn unbounded_flags(alloc: Global, net: &Network) -> Result<Vec<bool>,
 }
 
 /// Returns the listing of a network's patterns for these sets, in the order by changes from `base`. Fails if an allocation fails.
-pub fn listing(
+pub(crate) fn listing(
     alloc: Global,
     net: &Network,
     sets: &LinkSets,

@@ -18,7 +18,7 @@ use std::alloc::{AllocError, Global};
 
 /// Returns the flow that fills each link at these slopes of the nodes, an amount per unit of time, in link order. An entry is `None` if the
 /// link is unbounded or the product passes. Fails if an allocation fails.
-pub fn full_flows(alloc: Global, net: &Network, slopes: &[Q]) -> Result<Vec<Option<Q>>, AllocError>
+pub(crate) fn full_flows(alloc: Global, net: &Network, slopes: &[Q]) -> Result<Vec<Option<Q>>, AllocError>
     requires { length slopes.now ≡ net.now.net.nodes }
     ensures { IfOk result (λ full. full.items ≡ full_by passes_Q net.now.net slopes.now) }
 {
@@ -240,25 +240,4 @@ pub(crate) fn unbalanced_node(
         return Ok(Some(first));
     }
     first_unbalanced(alloc, net, rate, ranges)
-}
-
-/// Returns whether flow can be conserved at each node, by the ranges of the links' flows in their states. The answer false rules the
-/// pattern out, and the answer true decides nothing. Fails if an allocation fails.
-pub fn can_conserve(
-    alloc: Global,
-    net: &Network,
-    sets: &LinkSets,
-    rate: Q,
-    full: &[Option<Q>],
-    pattern: &Pattern,
-) -> Result<bool, AllocError>
-    requires network { IsNetwork net.now.net }
-    requires sets { length sets.now.active ≡ length net.now.net.links }
-    requires full { length full.now ≡ length net.now.net.links }
-    requires states { length pattern.now ≡ length net.now.net.links }
-    ensures { IfOk result (λ can. (flows : List ℚ) → CanFlow passes_Q net.now.net sets.now rate pattern.now full.now flows → can ≡ true) }
-{
-    let ranges = link_ranges(alloc, net, sets, full, pattern)?;
-    let found = first_unbalanced(alloc, net, rate, &ranges)?;
-    Ok(found.is_none())
 }

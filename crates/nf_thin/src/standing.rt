@@ -69,7 +69,7 @@ pub(crate) fn is_late(
 
 /// Returns whether a listed pattern is one of the first `budget` patterns. Bounds on its rank decide. If they do not, the listing is
 /// enumerated up to the pattern or the budget. Fails if an allocation fails.
-pub fn is_within(
+pub(crate) fn is_within(
     alloc: Global,
     net: &Network,
     sets: &LinkSets,
