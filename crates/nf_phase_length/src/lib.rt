@@ -1,5 +1,5 @@
-//! The data of a phase before a run is extended by it: its greatest length, its length up to a horizon with the labels at its end, and the
-//! data of each link.
+//! The data of a phase before a run is extended by it: its greatest length, its length up to a horizon with the labels at its end, and
+//! the data of each link.
 #![tactic(auto)]
 
 mod advancing;

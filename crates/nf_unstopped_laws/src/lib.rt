@@ -1,6 +1,6 @@
-//! That no run ends for want of a thin flow: theorems between definitions, each the contract of a public function with an empty body.
-//! Each phase has a thin flow (`nf_existence_laws`), and where no listed pattern is solvable there is none (`nf_complete_laws`); so
-//! some pattern is always solvable, and a run ends at the horizon, in a phase that never ends, or at a bound.
+//! Theorems between definitions: a run always ends at the horizon, in a phase that never ends, or at a bound, never because no thin flow
+//! exists. Each phase has a thin flow (`nf_existence_laws`). If no listed pattern is solvable, there is none (`nf_complete_laws`). So some
+//! pattern is always solvable. Each theorem is the contract of a public function with an empty body.
 #![tactic(auto)]
 
 ghost use Rattle.nf_unstopped_laws.specs.ThinFlows.{LabelsHaveThinFlow};
