@@ -103,10 +103,14 @@ fn outcome(alloc: Global, run: &Run, end: End) -> Result<Forever, AllocError>
 /// Solves a network without a horizon. Each phase has the first accepted pattern and its extension length, from departure 0 on. The run
 /// ends with a phase that never ends, with the budget of phases, or before a phase that fails. The flow up to there is an equilibrium (a
 /// Nash flow over time: Koch and Skutella 2011). A phase that never ends is the tail, and isn't counted as a phase: the budget is tested
-/// before it. The flow that is extended by the tail is an equilibrium up to every departure. `grows`: labels then grow at the slopes of the
-/// tail. Travel times stay constant exactly if the capacity of each static cut is at least the last supply rate. Otherwise a unit of
-/// departure adds to them that rate over the least capacity, minus 1 (Cominetti, Correa, Olver 2017). A phase fails only if an operation
-/// exceeds its bound, or if more patterns than allowed are needed: each phase has a thin flow. Refuses only if memory can't be allocated.
+/// before it. The flow that is extended by the tail is an equilibrium up to every departure.
+///
+/// `grows`: labels then grow at the slopes of the tail. Travel times stay constant exactly if the capacity of each static cut is at least
+/// the last supply rate. Otherwise a unit of departure adds to them that rate over the least capacity, minus 1 (Cominetti, Correa, Olver
+/// 2017).
+///
+/// A phase fails only if an operation exceeds its bound, or if more patterns than allowed are needed: each phase has a thin flow. Returns
+/// `AllocError` only if an allocation fails.
 pub fn solve_forever(alloc: Global, net: &Network, budgets: Budgets) -> Result<Forever, AllocError>
     ensures run { IfOk result (λ f. IsForever passes_Q net.now.net budgets.phases budgets.patterns (forever_in f)) }
     ensures form { IfOk result (λ f. HasForm net.now.net (forever_in f)) }

@@ -80,10 +80,13 @@ fn restart(alloc: Global, net: &Network, report: &Report) -> Result<Run, Halt<Q>
 /// phases as allowed, or if no phase can be computed. The resulting flow is an equilibrium (a Nash flow over time: Koch and Skutella 2011),
 /// and has the report's values up to where the report's flow ends. Each phase has a thin flow, so it can't be computed only if an operation
 /// exceeds its bound or more patterns than allowed are needed. If the run that wrote the report stopped within a phase, the first phase is
-/// the remainder of that phase. The report must be a well-formed one of the network. Refuses with Earlier exactly if the horizon is before
-/// the departure reached. Otherwise refuses with No if the flow is no equilibrium. Refuses with Passed at the first operation of
-/// `resume_list` that exceeds its bound: an operation of the check, or, with part Curve, of cutting the flow at the departure reached and
-/// of the slopes of its last pieces. Refuses with Memory only if memory can't be allocated.
+/// the remainder of that phase. The report must be a well-formed one of the network.
+///
+/// - `Earlier`: exactly if the horizon is before the departure reached. This refusal comes first.
+/// - `No`: if the flow is no equilibrium; has the answer of the check.
+/// - `Passed`: at the first operation of `resume_list` that exceeds its bound. The operations are those of the check, then with part Curve
+///   those of cutting the flow at the departure reached and of the slopes of its last pieces.
+/// - `Memory`: only if memory can't be allocated.
 pub fn resume(
     alloc: Global,
     net: &Network,
