@@ -161,6 +161,6 @@ pub some_there : (way : List ℕ) → (length way == 0) ≡ false → way ≡ []
 some_there [] e f = absurd (cc)
 some_there (x ∷ way) e f = absurd (cc)
 
--- At most this many walks.
+-- Numbers below n are below m if n equals m.
 pub within_as : (n m : ℕ) (xs ys : List ℕ) → n ≡ m → xs ≡ ys → AllByRecursion (λ (e : ℕ). e < n) xs → AllByRecursion (λ (e : ℕ). e < m) ys
 within_as n m xs ys e f a = subst (λ (l : List ℕ). AllByRecursion (λ (e : ℕ). e < m) l) f (subst (λ (k : ℕ). AllByRecursion (λ (e : ℕ). e < k) xs) e a)

@@ -82,7 +82,7 @@ again (Some old) way = by_test (is_better way old) refl
     by_test true e = either (is_better way way) way
     by_test false e = ap (λ (b : Bool). if b then way else old) e
 
--- A path worse than the known one is also worse than any better known one.
+-- A path that doesn't replace the known one doesn't replace a better one either.
 at_most : (old way : Reach) → better_of (Some old) way ≡ old → IsAtMost old way
 at_most old way e = by_test (is_better way old) refl
   where
