@@ -40,7 +40,7 @@ pub record IsLeastCapacity (net : Network) (least : ℚ) : Type 0 where
   pub attained : (cut : Cut) × IsStaticCut net cut × (cut_capacity net cut ≡ least)
   pub bound : (cut : Cut) → IsStaticCut net cut → least ≤ℚ cut_capacity net cut
 
--- ---- Theorems
+-- ---- theorems
 
 -- The capacity of each static cut is above 0, since some walk leads from the source to the sink.
 abbrev pub CutsHaveCapacity : Type 0

@@ -38,7 +38,7 @@ pub record GrowsByLeastCut (net : Network) (rate : ℚ) (slopes : List ℚ) : Ty
   pub bottleneck : 1ℚ <ℚ number_at slopes net.sink → IsLeastCapacity net (cut_capacity net (slower_than_sink net slopes))
   pub slope : (least : ℚ) → IsLeastCapacity net least → number_at slopes net.sink ≡ max_ℚ 1ℚ (rate /ℚ least)
 
--- ---- Theorems
+-- ---- theorems
 
 -- `sets`: if active links hold no cycle, the slopes of a thin flow that preserve the sets grow by the cuts. `kept`: the slopes of a phase
 -- that never ends preserve the sets of its labels. `phase`: the slopes of a phase that never ends grow by the cuts.

@@ -31,7 +31,7 @@ abbrev pub queue_then : Option ℚ → ℚ → ℚ
 queue_then None slack = 0ℚ
 queue_then (Some capacity) slack = capacity *ℚ max_ℚ 0ℚ slack
 
--- ---- One more point, if the label of the curve's node rises
+-- ---- one more point, if the label of the curve's node rises
 
 abbrev pub with_end : Bool → List Point → Point → List Point
 with_end true points point = points ++ point ∷ []
@@ -67,7 +67,7 @@ module _ (while : ℚ) (slopes labels : List ℚ) where
       (number_at labels link.tail, queue_then link.capacity (slack labels (hop_of link))) ∷ queues_with_end links curves
   queues_with_end links curves = []
 
--- ---- The flow up to a departure after the one that it reached
+-- ---- the flow up to a departure after the one that it reached
 abbrev pub extended_with : Network → Flow → Tail → ℚ → List ℚ → Flow
 extended_with net flow tail until labels = record {
   reached = until;

@@ -33,7 +33,7 @@ module _ (passes : Passing) where
     length ← extend_list passes net slacks slopes time
     end_after time length
 
--- ---- One phase
+-- ---- one phase
 module _ (passes : Passing) (net : Network) (patterns : ℕ) where
   -- No operation of the slack list exceeds its bound, so a pattern is searched for the sets of the slacks and the rate.
   pub record SeeksOn (s : Standing) (answer : SearchAnswer) : Type 0 where
@@ -68,7 +68,7 @@ module _ (passes : Passing) (net : Network) (patterns : ℕ) where
         → phase_lists passes net end s pattern flows slopes ≡ Err p
         → FailsOn s (Cause.Passed (suc s.made) None p)
 
--- ---- Phase by phase
+-- ---- phase by phase
 
 -- The end of a run: a stop, or a tail with its pattern.
 pub data End : Type 0 where
@@ -90,7 +90,7 @@ module _ (passes : Passing) (net : Network) (phases patterns : ℕ) where
     pub start : IsStart net first
     pub runs : RunsForever first last end
 
--- ---- The result
+-- ---- the result
 
 -- The flow up to the departure reached, the number of phases not counting the tail, the pattern of the last one, and why the run stopped or
 -- the tail.

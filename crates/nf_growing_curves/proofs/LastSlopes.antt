@@ -48,7 +48,7 @@ module _ (passes : Passing) where
   pub last_slope_there : (points : List Point) (k j : ℕ) (p q : Point) → slice_get points k ≡ Some p → slice_get points j ≡ Some q → j ≡ k + 1 → length points ≡ k + 2 → last_slope passes points ≡ slope_of p q
   last_slope_there points k j p q h i e count = slope_at points k p q h (next_at points k j q e i) count
 
--- ---- The last point after the others
+-- ---- the last point after the others
 pub taken_with_last : (points : List Point) (k : ℕ) (p : Point) → slice_get points k ≡ Some p → length points ≡ k + 1 → take k points ++ p ∷ [] ≡ points
 taken_with_last [] k p h e = absurd (omega arith)
 taken_with_last (x ∷ []) zero p h e = ap (λ (q : Point). q ∷ []) (sym (same_Some x p h))

@@ -102,7 +102,7 @@ module _ (passes : Passing) (inflows outflows : List Trace) (queues : List (List
       ∙ ap (λ (l : List LinkCurves). Ok l) (ap (λ (l : List Trace). link_curves_of l outflows (map (λ c. c.queue) front)) (sym by_inflows)
       ∙ ap (λ (l : List Trace). link_curves_of (map (λ c. c.inflow) front) l (map (λ c. c.queue) front)) (sym by_outflows) ∙ again front)
 
--- ---- Lists that grow by one value
+-- ---- lists that grow by one value
 pub mapped_pushed : {A B : Type 0} (f : A → B) (xs : List A) (ys pushed : List B) (i : ℕ) (x : A) (y : B) → slice_get xs i ≡ Some x → ys ≡ map f (take i xs) → y ≡ f x → pushed ≡ ys ++ y ∷ []
     → pushed ≡ map f (take (i + 1) xs)
 mapped_pushed {A = A} {B = B} f xs ys pushed i x y at is e more =

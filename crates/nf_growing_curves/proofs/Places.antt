@@ -12,7 +12,7 @@ use Rattle.nf_lists.specs.ReportCurves.{LinkCurves}
 use Rattle.nf_growing_curves.specs.Growing.{Roomy, HasRoom, AllHaveRoom, all_grown}
 use Rattle.nf_plain_laws.proofs.Naturals.{before_or_at}
 
--- ---- Indices of lists
+-- ---- indices of lists
 
 module _ {A : Type 0} where
   at_set : (xs : List A) (i : ℕ) (y : A) → i < length xs → slice_get (set xs i y) i ≡ Some y
@@ -35,7 +35,7 @@ module _ {A : Type 0} where
   each_same (x ∷ xs) (y ∷ ys) count same =
       ap (λ (z : A). z ∷ xs) (same_Some x y (same 0 (omega arith))) ∙ ap (λ (l : List A). y ∷ l) (each_same xs ys (omega arith) (λ k b. same (suc k) (omega arith)))
 
--- ---- The grown values below an index, if a list was changed only there
+-- ---- the grown values below an index, if a list was changed only there
 module _ {A : Type 0} where
   grown_at : (several : List (Roomy A)) (k : ℕ) (r : Roomy A) → slice_get several k ≡ Some r → slice_get (all_grown several) k ≡ Some r.grown
   grown_at several k r h = slice_get-map (λ (r : Roomy A). r.grown) several k ∙ ap (option_map (λ (r : Roomy A). r.grown)) h

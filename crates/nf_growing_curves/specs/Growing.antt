@@ -15,7 +15,7 @@ use Rattle.nf_lists.specs.Ends.{end_of}
 use Rattle.nf_curve.specs.Points.{last_time}
 use Rattle.nf_growing_curves.specs.declared.growing.End.{End}
 
--- ---- A grown value, and the number of further corners with reserved memory
+-- ---- a grown value, and the number of further corners with reserved memory
 pub record Roomy (A : Type 0) : Type 0 where
   pub grown : A
   pub spare : ℕ
@@ -31,7 +31,7 @@ all_grown several = map (λ r. r.grown) several
 abbrev pub AllHaveRoom : {A : Type 0} → List (Roomy A) → Type 0
 AllHaveRoom {A} several = (i : ℕ) (r : Roomy A) → slice_get several i ≡ Some r → HasRoom r
 
--- ---- Corners and the moving end
+-- ---- corners and the moving end
 abbrev pub points_to : List Point → Option End → List Point
 points_to corners None = corners
 points_to corners (Some end) = corners ++ (end.time, end.value) ∷ []
@@ -53,7 +53,7 @@ IsAfter corners (Some end) = last_time corners <ℚ end.time
 abbrev pub end_value : List Point → ℚ
 end_value points = option_map_or (λ point. point.1) (last_or None points) 0ℚ
 
--- ---- The rates between corners; none if the curve has one point only
+-- ---- the rates between corners; none if the curve has one point only
 abbrev pub AreBefore : List ℚ → Option ℚ → Type 0
 AreBefore rates None = rates ≡ []
 AreBefore rates (Some rate) = Unit {0}
@@ -71,7 +71,7 @@ step_of step = option_map (λ s. record { size = s.0; slope = s.1 }) step
 abbrev pub AllEndBefore : ℚ → List GrowingCurve → Type 0
 AllEndBefore time curves = (v : ℕ) (curve : GrowingCurve) → slice_get curves v ≡ Some curve → end_of curve.points <ℚ time
 
--- ---- Injective codes of these values
+-- ---- injective codes of these values
 abbrev pub coded_roomy : {A : Type 0} → Coded A → Coded (Roomy A)
 coded_roomy {A} code = code_by (A × ℕ) (coded× code coded_ℕ) (λ r. (r.grown, r.spare))
     (λ p. record { grown = p.0; spare = p.1 }) (λ _. refl)

@@ -31,12 +31,12 @@ use Rattle.nf_phase.proofs.Stepped.{equilibrium_reached, reaches_step, begin_ste
 use Rattle.nf_phase_laws.proofs.Phases.{IsPhaseLength-within}
 use Rattle.nf_lists_laws.proofs.OneRun.{fails_below}
 
--- ---- No phase extends beyond the horizon
+-- ---- no phase extends beyond the horizon
 module _ (passes : Passing) (net : Network) where
   pub goes_within : (horizon : ℚ) (patterns : ℕ) (s t : Standing) → Goes passes net horizon patterns s t → t.time ≤ℚ horizon
   goes_within horizon patterns s t g = subst (λ (n : Standing). n.time ≤ℚ horizon) (sym g.new_is) (IsPhaseLength-within net (slacks_of (hops net) s.labels) g.slopes s.time horizon g.step.length g.is_length)
 
--- ---- The end of a run
+-- ---- the end of a run
 pub record EndsWell (passes : Passing) (net : Network) (horizon : ℚ) (last : Standing) (stop : Option (Cause ℚ)) : Type 0 where
   pub reaches : Reaches passes net last
   pub within : last.time ≤ℚ horizon
@@ -67,7 +67,7 @@ module _ (passes : Passing) (net : Network) (good : IsNetwork net) (bounds : Bou
         (λ e link p none full. stands.no_full e (slice_get-map (λ (l : Link). is_none l.capacity) net.links e ∙ ap (option_map (λ (l : Link). is_none l.capacity)) p
         ∙ ap (λ (c : Option ℚ). Some (is_none c)) none) full)
 
-    -- ---- The result
+    -- ---- the result
     finished_of : passes ≡ passes_Q → (phases : ℕ) (report : Report) → phases ≡ last.made → report ≡ report_of bounds.horizon last stop → IsFinished net bounds first phases report
     finished_of bound phases report count is = record {
       last = last;

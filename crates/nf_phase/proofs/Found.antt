@@ -37,7 +37,7 @@ use Rattle.nf_phase.specs.Faults.{of_halt, of_search}
 use Rattle.nf_phase.specs.Stepping.{StandsFor}
 use Rattle.nf_phase.specs.Finding.{FindsNone, at_slack, at_search, ListsPass, at_lists}
 
--- ---- An operation of a part exceeds its bound
+-- ---- an operation of a part exceeds its bound
 pub part_err : {A : Type 0} (part : Part) (r : Checked A) (at : PassedAt ℚ) → at_part part r ≡ Err at → (p : Passed ℚ) × (r ≡ Err p) × (placed part p ≡ at)
 part_err part (Ok x) at h = absurd (cc)
 part_err part (Err p) at h = (p, refl, same (placed part p) at h)
@@ -53,7 +53,7 @@ slacks_found passes net labels slacks h =
     let exact = slacks_exact passes (hops net) labels slacks list in
     (exact, list ∙ ap (λ (l : List ℚ). Ok l) exact)
 
--- ---- The fault with which a call ends
+-- ---- the fault with which a call ends
 pub by_fault : {A E : Type 0} (r : Result A E) (e : E) (P : E → Type 0) → IsErrAnd r (λ x. x ≡ e) → P e → IfErr r P
 by_fault (Ok x) e P h p = tt
 by_fault (Err x) e P h p = subst P (sym h) p
@@ -100,7 +100,7 @@ module _ (passes : Passing) (net : Network) (patterns : ℕ) (s : Standing) wher
     search_cause SearchFault.NoPattern h = at_search NoPattern _ (seeks_here NoPattern h) refl
     search_cause SearchFault.Memory h = tt
 
-  -- ---- With a horizon and without one
+  -- ---- with a horizon and without one
   pub seeks_below : (horizon : ℚ) (a : SearchAnswer) → s.time <ℚ horizon → SeeksOn passes net patterns s a → Seeks passes net horizon patterns s a
   seeks_below horizon a below h = record { below = below; slacks = h.slacks; search = record { base = h.base; is_base = h.is_base; is_search = h.is_search } }
 
@@ -178,7 +178,7 @@ module _ (passes : Passing) (net : Network) (horizon : ℚ) (s : Standing) (patt
       pub lists_made : (links : List LinkStep) → curve end ≡ Ok links → phase_lists passes net horizon s pattern flows slopes ≡ Ok (record { length = end.length; labels = end.labels; links = links })
       lists_made links h = to_curve ∙ then_same (curve end) (Ok links) (from_curve end) h
 
--- ---- The length of the phase
+-- ---- the length of the phase
 module _ (passes : Passing) (net : Network) (slacks labels slopes : List ℚ) (time horizon : ℚ) where
   cut_is : (extension : Option ℚ) (length : ℚ) → MatchOption extension (IsUnending net slacks slopes time) (IsExtension net slacks slopes time) → length ≡ cut_at (horizon -ℚ time) extension
       → IsPhaseLength net slacks slopes time horizon length

@@ -60,7 +60,7 @@ module _ (passes : Passing) (net : Network) (bounds : Bounds) (first : Standing)
       ends = λ last stop runs. gone.ends last stop (steps (may_go may) g runs);
     }
 
-    -- ---- The end of all phases
+    -- ---- the end of all phases
     pub ends_after_all : (stop : Option (Cause ℚ)) → stop ≡ stop_after (lt_ℚ s.time bounds.horizon) s.made → phases ≡ bounds.phases → RunsOn passes net bounds first s stop
     ends_after_all stop e all = ⊎_elim
         (λ (w : (lt_ℚ s.time bounds.horizon ≡ true) × (s.time <ℚ bounds.horizon)).
@@ -69,7 +69,7 @@ module _ (passes : Passing) (net : Network) (bounds : Bounds) (first : Standing)
         subst (RunsOn passes net bounds first s) (sym (e ∙ ap (λ (b : Bool). stop_after b s.made) w.0)) (ends_at_horizon w.1))
         (lt_ℚ_cases s.time bounds.horizon)
 
-    -- ---- The next phase is not computed
+    -- ---- the next phase is not computed
     ended : phases < bounds.phases → (fault : StepFault) → IsCause passes net bounds.horizon bounds.patterns s fault → (stop : Option (Cause ℚ)) → stop ≡ cause_of (suc s.made) fault → IsSome stop
         → RunsOn passes net bounds first s stop
     ended may fault h None e some = absurd (cc)

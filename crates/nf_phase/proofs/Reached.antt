@@ -91,7 +91,7 @@ module _ (passes : Passing) (net : Network) (good : IsNetwork net) where
       let there : Stands net before = Stands-reached before earlier in
       Stands-last horizon patterns before t there (Stands-goes horizon patterns before t g there)
 
--- ---- The preconditions of the search
+-- ---- the preconditions of the search
 module _ (net : Network) (good : IsNetwork net) (s : Standing) (stands : Stands net s) where
   pub none_resets : NoneResetsUnbounded net (sets_at net s.labels)
   none_resets e u r =

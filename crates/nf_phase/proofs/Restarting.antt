@@ -55,7 +55,7 @@ cut_at_end (x ∷ rest) last c short e =
       ends = record { front = w.1; same = w.2 ∙ ap (λ (p : Point). w.1 ++ p ∷ []) (point_is w.0 last (value (x ∷ rest) last) time (sym (on last (≤ℚ_refl last)))); curve = c };
     }
 
--- ---- A flow that ends at its labels equals its restriction to the departure reached
+-- ---- a flow that ends at its labels equals its restriction to the departure reached
 module _ (net : Network) (flow : Flow) (is : Equilibrium net flow) (ends : EndsAtItsLabels net flow) (short : IsShortFlow net flow) where
   within : (e : ℕ) (link : Link) → IsLink net e link → e < length net.links
   within e link p = slice_get_within net.links e link p
@@ -108,7 +108,7 @@ parts_of passes flow last s e =
     let b = then_ok (each (growing passes) flow.queues) _ s a.next in
     record { label_curves = a.between; queues = b.between; by_labels = a.first; by_queues = b.first; is = same_Ok _ _ b.next }
 
--- ---- If no slope is recorded, the curve has one point only
+-- ---- if no slope is recorded, the curve has one point only
 module _ (passes : Passing) where
   some_none : (k : ℚ) → ◌≡◌ {A = Checked (Option ℚ)} (Ok (Some k)) (Ok None) → ⊥
   some_none k e = cc

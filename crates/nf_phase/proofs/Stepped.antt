@@ -31,7 +31,7 @@ use Rattle.nf_phase.specs.Finding.{step_in, after_phase, LeadsOn}
 use Rattle.nf_growing_curves.specs.LinkGrowth.{AllLinksEndBefore}
 use Rattle.nf_phase.proofs.Reached.{Stands, Stands-reached}
 
--- ---- Every reachable run state
+-- ---- every reachable run state
 module _ (passes : Passing) (net : Network) (good : IsNetwork net) (s : Standing) (reaches : Reaches passes net s) where
   abbrev stands : Stands net s
   stands = Stands-reached passes net good s reaches
@@ -112,7 +112,7 @@ module _ (passes : Passing) (net : Network) (good : IsNetwork net) (horizon : �
   pub step_count : length phase.steps.items ≡ length net.links
   step_count = steps-length passes net (sets_at net s.labels) phase.pattern phase.length leads.flows phase.slopes.items phase.labels.items _ phase.steps.items parts.links
 
-  -- ---- The labels at the end of the phase
+  -- ---- the labels at the end of the phase
   pub source_next : number_at phase.labels.items net.source ≡ s.time +ℚ phase.length
   source_next = source_label_at net good next there.well
 
@@ -136,7 +136,7 @@ module _ (passes : Passing) (net : Network) (good : IsNetwork net) (horizon : �
             (queue_steps passes net s phase.pattern leads.flows phase.slopes.items (step_in phase) parts count some e link p step one queue is);
       }
 
-  -- ---- The run after the phase
+  -- ---- the run after the phase
   pub new_standing : (reached : ℚ) (label_curves : List GrowingCurve) (link_curves : List LinkCurves) (made : ℕ) (last : Pattern) → reached ≡ s.time +ℚ phase.length
       → label_curves ≡ label_curves_after reached phase.labels.items phase.slopes.items s.label_curves → link_curves ≡ link_curves_after phase.labels.items net.links s.link_curves phase.steps.items
       → made ≡ suc s.made → last ≡ phase.pattern

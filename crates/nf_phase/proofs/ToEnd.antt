@@ -20,13 +20,13 @@ use Rattle.nf_phase.specs.Stepping.{StandsFor, IsCauseOn, tail_of}
 use Rattle.nf_phase.specs.Finding.{step_in, after_phase, IsFound, FindsNone, ListsPass, LeadsOn}
 use Rattle.nf_phase.proofs.Found.{part_err, by_fault, stands_as, none_on, extend_on, lists_on}
 
--- ---- The cause for which there is no thin flow
+-- ---- the cause for which there is no thin flow
 pub found_none_on : (passes : Passing) (net : Network) (patterns : ℕ) (s : Standing) {A : Type 0} (result : Result A StepFault) (fault : StepFault) → IsErrAnd result (λ f. f ≡ fault)
     → StandsFor (FindsNone passes net patterns s) (suc s.made) fault → IfErr result (IsCauseOn passes net patterns s)
 found_none_on passes net patterns s result fault e h =
     by_fault result fault (IsCauseOn passes net patterns s) e (stands_as (FindsNone passes net patterns s) (FailsOn passes net patterns s) (suc s.made) fault (none_on passes net patterns s) h)
 
--- ---- With a thin flow
+-- ---- with a thin flow
 module _ (passes : Passing) (net : Network) (patterns : ℕ) (s : Standing) (found : PhaseStart) (is : IsFound passes net patterns s found)
     (slacks slopes : List ℚ) (time : ℚ) (same_slacks : slacks ≡ found.slacks.items) (same_slopes : slopes ≡ found.thin.slopes.items) (same_time : time ≡ s.time) where
   abbrev ends : List ℚ → Checked (Option ℚ)

@@ -25,7 +25,7 @@ step_in phase = record { length = phase.length; labels = phase.labels.items; lin
 abbrev pub after_phase : Network → Standing → Phase → Standing
 after_phase net s phase = standing_after net s phase.pattern phase.slopes.items (step_in phase)
 
--- ---- The search, which doesn't depend on the horizon
+-- ---- the search, which doesn't depend on the horizon
 module _ (passes : Passing) (net : Network) (patterns : ℕ) (s : Standing) where
   -- The slacks, their sets, and the found thin flow with its pattern, at some rank in the listing.
   pub record IsFound (found : code.PhaseStart) : Type 0 where
@@ -39,7 +39,7 @@ module _ (passes : Passing) (net : Network) (patterns : ℕ) (s : Standing) wher
     at_search : (answer : SearchAnswer) (cause : Cause ℚ) → SeeksOn passes net patterns s answer
         → cause_of_search (suc s.made) patterns answer ≡ Some cause → FindsNone cause
 
--- ---- The operation sequences of a phase
+-- ---- the operation sequences of a phase
 -- The cause is their first operation that exceeds its bound.
 pub data ListsPass (passes : Passing) (net : Network) (horizon : ℚ) (s : Standing) (pattern : Pattern) (flows slopes : List ℚ) : Cause ℚ
     → Type 0 where

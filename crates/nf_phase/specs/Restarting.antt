@@ -16,7 +16,7 @@ use Rattle.nf_resume_lists.specs.Open.{with_last}
 use Rattle.nf_phase.specs.declared.phase.Phase.{Phase}
 use Rattle.nf_phase.specs.Finding.{after_phase}
 
--- ---- A flow by which a run can be restored
+-- ---- a flow by which a run can be restored
 
 -- Each label curve ends at the departure reached. Each inflow and queue ends at the label of the link's tail there, each outflow at the
 -- label of its head.
@@ -43,7 +43,7 @@ pub record IsRestored (passes : Passing) (net : Network) (s : Standing) : Type 0
   pub no_full : NoneFull net last
   pub stands : restore_list passes flow last ≡ Ok s
 
--- ---- Tests whether a run is mid-phase
+-- ---- tests whether a run is mid-phase
 
 -- No piece starts at this time.
 abbrev pub none_starts : List Piece → ℚ → Bool

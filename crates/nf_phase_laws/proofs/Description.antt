@@ -192,7 +192,7 @@ module _ (net : Network) (amount label : ℕ → ℚ → ℚ) (until length rate
         goes.queue_before e link time p (sooner link.tail time (step.good.tails e link p) n) ∙ describes.queues_early e link time p n;
   }
 
--- ---- The theorems by lists
+-- ---- the theorems by lists
 pub DescribesLinks-start : (net : Network) (labels : List ℚ) (amount label outflow queue : ℕ → ℚ → ℚ) → IsNetwork net → AreStartLabels net labels → IsStart net labels amount label
     → ((e : ℕ) (link : Link) (time : ℚ) → IsLink net e link → 0ℚ ≤ℚ time → outflow e time ≡ 0ℚ) → ((e : ℕ) (link : Link) (time : ℚ) → IsLink net e link → 0ℚ ≤ℚ time → queue e time ≡ 0ℚ)
     → DescribesLinks net amount label outflow queue 0ℚ

@@ -19,7 +19,7 @@ use Rattle.nf_phase_laws.specs.DescriptionCurves.{DescriptionStands, Description
 use Rattle.nf_phase_laws.proofs.CurveSteps.{ends_at, GoesOnTo-slope, LastPoint-at}
 use Rattle.nf_rational_laws.proofs.Chains.{≤ℚ_refl}
 
--- ---- An extended curve while time increases: from a on for l d, to the value z
+-- ---- an extended curve while time increases: from a on for l d, to the value z
 module _ (points points' : List Point) (a z l d : ℚ) (not_back : 0ℚ ≤ℚ l) (stand : LastPoint points (a, value points a))
     (go : 0ℚ <ℚ l → GoesOnTo points points' (a, value points a) (a +ℚ l *ℚ d, z)) (stay : l ≡ 0ℚ → points' ≡ points) where
   by_slope : (P : List Point → Type 0) → (0ℚ <ℚ l → P points') → (l ≡ 0ℚ → P points) → P points'

@@ -105,7 +105,7 @@ module _ (net : Network) (amount label : ℕ → ℚ → ℚ) (until : ℚ) (goo
   pub labels_earliest : (v : ℕ) (departure : ℚ) → v < net.nodes → Within 0ℚ until departure → IsEarliest net amount v departure (label v departure)
   labels_earliest v departure h w = IsEarliest-label net amount departure (λ v. label v departure) good holds.amount_rises (AreLabels-at departure w) v h
 
-  -- ---- Outflows: the amount that entered by a departure has left by the label of the head
+  -- ---- outflows: the amount that entered by a departure has left by the label of the head
   slack_start : (e : ℕ) (link : Link) → IsLink net e link → link_slack label link 0ℚ ≤ℚ 0ℚ
   slack_start e link p = wait_none link.capacity (amount e) (label link.tail 0ℚ) _ (positive e link p) (amount_rises e link p) (amount_starts e link p)
       (sym (sent-is net amount label e link 0ℚ p) ∙ holds.sent_starts e link p) (λ none. holds.unbounded e link 0ℚ p none first) (holds.queue e link 0ℚ p first)
@@ -144,7 +144,7 @@ module _ (net : Network) (amount label : ℕ → ℚ → ℚ) (until : ℚ) (goo
       (λ (l : link_slack label link departure ≤ℚ 0ℚ). outflow_unused e link departure p w l)
       (lt_or_le_ℚ 0ℚ (link_slack label link departure))
 
-  -- ---- Before the first arrival at a link's head nothing leaves it
+  -- ---- before the first arrival at a link's head nothing leaves it
   pub none_yet : (e : ℕ) (link : Link) (time : ℚ) → IsLink net e link → 0ℚ ≤ℚ time → time ≤ℚ label link.tail 0ℚ → amount e time ≡ 0ℚ
   none_yet e link time p h k = ≤ℚ_antisymm _ _
       (subst (λ (x : ℚ). amount e time ≤ℚ x) (sym (sent-is net amount label e link 0ℚ p) ∙ holds.sent_starts e link p) (amount_rises e link p time (label link.tail 0ℚ) h k))

@@ -21,7 +21,7 @@ max0_cases s m e f g = ⊎_elim
     (λ (w : (max_ℚ 0ℚ s ≡ s) × (0ℚ ≤ℚ s)). f (e ∙ w.0) w.1)
     (λ (w : (max_ℚ 0ℚ s ≡ 0ℚ) × (s <ℚ 0ℚ)). g (e ∙ w.0) w.1) (max_ℚ_cases 0ℚ s)
 
--- ---- A particle that meets the queue of a slack waits for the slack
+-- ---- a particle that meets the queue of a slack waits for the slack
 times-quotient : (c m : ℚ) → 0ℚ <ℚ c → c *ℚ m /ℚ c ≡ m
 times-quotient c m h = same_from_times c _ m h (turn (c *ℚ m /ℚ c) c (c *ℚ m) (quotient-times (c *ℚ m) c h))
   where

@@ -15,7 +15,7 @@ use Rattle.nf_model_laws.proofs.Affine.{<_≤_trans, quotient-times}
 use Rattle.nf_rational_laws.proofs.Chains.{≤ℚ_trans}
 use Rattle.nf_rational_laws.proofs.Extremes.{min_left, min_right, min_keeps}
 
--- ---- If each entry of a list allows some time, some time is allowed by all of them
+-- ---- if each entry of a list allows some time, some time is allowed by all of them
 pub record Fitting {A : Type 0} (xs : List A) (Fits : ℕ → A → ℚ → Type 0) : Type 0 where
   pub time : ℚ
   pub some : 0ℚ <ℚ time
@@ -43,7 +43,7 @@ fits_all {A} (x ∷ xs) Fits shorter each =
         same u v e = cc
     by_place y a b c f g h k (suc i) z p = shorter (suc i) z b c (g i z p) k
 
--- ---- A line that begins away from 0 stays on its side for some time
+-- ---- a line that begins away from 0 stays on its side for some time
 ps_quotient : (x y : ℚ) → 0ℚ <ℚ x → 0ℚ <ℚ y → 0ℚ <ℚ x /ℚ y
 ps_quotient x y h k = subst (λ (z : ℚ). 0ℚ <ℚ z) (sym (/ℚ_is x y)) (ps_times _ _ h (ps_inv y k))
 
@@ -86,7 +86,7 @@ keeps_side z k = ⊎_elim
     over : (w : ℚ) → w *ℚ (0ℚ -ℚ k) ≤ℚ z → 0ℚ ≤ℚ z +ℚ w *ℚ k
     over w e = linear_le (z ∷ k ∷ w ∷ []) (le e ∷ []) (search reading_of depth 12) tt
 
--- ---- A phase can last for some time
+-- ---- a phase can last for some time
 module _ (net : Network) (slacks slopes : List ℚ) (time : ℚ) where
   abbrev LinkFits : ℕ → Link → ℚ → Type 0
   LinkFits e link length = KeepsSide (number_at slacks e) (number_at slopes link.head -ℚ number_at slopes link.tail) length

@@ -192,7 +192,7 @@ module _ (net : Network) (amount label : ℕ → ℚ → ℚ) (until length rate
     above = λ h. subst (λ (n : ℚ). 0ℚ ≤ℚ n) (sym (slack_after e link t p w)) (step.above e link t p h w);
   }
 
-  -- ---- The amounts sent
+  -- ---- the amounts sent
   past : (e : ℕ) (link : Link) (t : ℚ) → Within 0ℚ length t → label link.tail until ≤ℚ label link.tail until +ℚ slope link.tail *ℚ t
   past e link t w = after_start (label link.tail until) (slope link.tail) t _ (step.thin.slope_nn link.tail) w.0 refl
 
@@ -284,7 +284,7 @@ module _ (net : Network) (amount label : ℕ → ℚ → ℚ) (until length rate
       (λ time w. entered_before v time w (step.holds.entered v time h other w))
       (λ t w. entered_after v t w (step.thin.entered v h other)) time w
 
-  -- ---- A link that isn't used
+  -- ---- a link that isn't used
   unused : (e : ℕ) (link : Link) (t : ℚ) → IsLink net e link → Within 0ℚ length t → link_slack label' link (until +ℚ t) <ℚ 0ℚ → (link_slack label link until ≤ℚ 0ℚ) × (x e ≡ 0ℚ)
   unused e link t p w n = unused_below link.capacity _ _ (x e) (slope link.tail) (slope link.head) t (link_step e link t p w) n
 
@@ -326,7 +326,7 @@ module _ (net : Network) (amount label : ℕ → ℚ → ℚ) (until length rate
   idle : (e : ℕ) (link : Link) (time : ℚ) → IsLink net e link → Within 0ℚ (until +ℚ length) time → IdleAt e link time
   idle e link time p w = by_time (λ time. IdleAt e link time) (λ time w. idle_before e link time p w) (λ t w. idle_after e link t p w) time w
 
-  -- ---- An empty queue stays empty without inflow
+  -- ---- an empty queue stays empty without inflow
   idle_from : (e : ℕ) (link : Link) (t start z : ℚ) → IsLink net e link → Within 0ℚ length t → link_slack label link until ≤ℚ 0ℚ → x e ≡ 0ℚ
       → 0ℚ ≤ℚ start → label link.head until -ℚ link.transit ≤ℚ start → start ≤ℚ z → z ≤ℚ label link.tail until +ℚ slope link.tail *ℚ t
       → IsQueue link.capacity (amount' e) start 0ℚ → IsQueue link.capacity (amount' e) z 0ℚ
@@ -367,7 +367,7 @@ module _ (net : Network) (amount label : ℕ → ℚ → ℚ) (until length rate
       (queue_after e link t p w)))
       (lt_or_le_ℚ (link_slack label' link (until +ℚ t)) 0ℚ)
 
-  -- ---- A used link is active
+  -- ---- a used link is active
   with_flow : (e : ℕ) (link : Link) (t : ℚ) → IsLink net e link → Within 0ℚ length t → 0ℚ <ℚ x e → 0ℚ ≤ℚ link_slack label' link (until +ℚ t)
   with_flow e link t p w f = ⊎_elim
       (λ (n : link_slack label' link (until +ℚ t) <ℚ 0ℚ). absurd (not_both_ℚ _ _ f (≤ℚ_of_same _ _ (unused e link t p w n).1)))

@@ -48,7 +48,7 @@ IsPhaseLength-within net slacks slopes time horizon length (inl (x, _, e)) =
     up_to t h m l e k = linear_le (t ∷ h ∷ m ∷ l ∷ []) (eq e ∷ le k ∷ []) (search reading_of depth 12) tt
 IsPhaseLength-within net slacks slopes time horizon length (inr (_, e)) = linear_le (time ∷ horizon ∷ length ∷ []) (eq e ∷ []) (search reading_of depth 12) tt
 
--- ---- Facts on a flow built phase by phase
+-- ---- facts on a flow built phase by phase
 pub record Stands (net : Network) (until : ℚ) (labels : List ℚ) (amount label : ℕ → ℚ → ℚ) : Type 0 where
   pub holds : HoldsUpTo net amount label until
   pub same : LabelsAre net label until labels

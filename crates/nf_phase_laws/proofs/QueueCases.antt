@@ -108,7 +108,7 @@ by_case c f a end r l x t q n pos e line h k before (stays i d) = subst (λ (y :
     times_none : (c m : ℚ) → m ≡ 0ℚ → 0ℚ ≡ c *ℚ m
     times_none c m e = linear_eq (c ∷ m ∷ []) (eq_times c e ∷ []) (search reading_of depth 12) tt tt
 
--- ---- The queue that a particle meets stays that of the slack
+-- ---- the queue that a particle meets stays that of the slack
 pub IsQueue-by_slack : (capacity : Option ℚ) (f : ℚ → ℚ) (a end r s n x l m t : ℚ) → LinkStep capacity s n x l m t → r *ℚ l ≡ x → IsAffine f a end r → a ≤ℚ a +ℚ l *ℚ t → a +ℚ l *ℚ t ≤ℚ end
     → IsQueue capacity f a (queue_by_slack capacity s) → IsQueue capacity f (a +ℚ l *ℚ t) (queue_by_slack capacity n)
 IsQueue-by_slack None f a end r s n x l m t k e line h j before = IsQueue-none f (a +ℚ l *ℚ t)

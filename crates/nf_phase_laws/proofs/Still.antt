@@ -23,7 +23,7 @@ use Rattle.nf_model_laws.proofs.Sums.{sum_out-each, sum_in-some}
 use Rattle.nf_model_laws.proofs.Totals.{IsThinFlow-sink}
 use Rattle.nf_rational_laws.proofs.Chains.{≤ℚ_trans}
 
--- ---- A link with flow whose exit slope is 0 is unbounded, and the label of its tail is constant
+-- ---- a link with flow whose exit slope is 0 is unbounded, and the label of its tail is constant
 no_quotient : (x c q : ℚ) → 0ℚ <ℚ c → 0ℚ <ℚ x → q *ℚ c ≡ x → q ≤ℚ 0ℚ → ⊥
 no_quotient x c q h k e l = let low : 0ℚ ≤ℚ c = ≤ℚ_of_lt _ _ h in linear_false (x ∷ c ∷ q ∷ []) (lt k ∷ eq e ∷ le_times low l ∷ []) (search reading_of depth 12) tt
 

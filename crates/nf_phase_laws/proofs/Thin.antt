@@ -104,7 +104,7 @@ pub record IsThinBy (net : Network) (slack : Link → ℚ) (rate : ℚ) (x slope
   pub supplied : sum_in net.links x net.source +ℚ rate ≡ sum_out net.links x net.source
   pub drained : sum_in net.links x net.sink ≡ sum_out net.links x net.sink +ℚ rate
 
--- ---- A walk takes at least its transit times
+-- ---- a walk takes at least its transit times
 Arrives-after : (net : Network) (amount : ℕ → ℚ → ℚ) → IsNetwork net → (walk : List ℕ) (time arrival : ℚ) → Arrives net amount walk time arrival → time +ℚ transit_sum (hops net) walk ≤ℚ arrival
 Arrives-after net amount good [] time arrival a = none time arrival a
   where

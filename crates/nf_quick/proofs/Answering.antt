@@ -28,7 +28,7 @@ module _ (passes : Passing) (net : Network) (amount : ℚ) (augments : ℕ) wher
     ap (λ (b : Bool). at_part Part.Quick (quickest_of passes net amount b augments)) t ∙ ap (λ (q : Quick). Ok (FoundQuick q)) (sym e),
   )
 
-  -- ---- Another amount; each walk from source to sink has a link with a capacity
+  -- ---- another amount; each walk from source to sink has a link with a capacity
   module _ (some : le_ℚ amount 0ℚ ≡ false) (limited : IsLimited net) where
     abbrev pushes : Checked Pushed
     pushes = push_up_to passes net amount augments (start_of net)
@@ -68,13 +68,13 @@ module _ (passes : Passing) (net : Network) (amount : ℚ) (augments : ℕ) wher
       pub finish_answered : (quick : Quick) → at_part Part.Quick finished ≡ Ok quick → IsAnswered passes net amount augments (Ok quick)
       finish_answered quick e = (inr limited, ap (at_part Part.Quick) (then_finish ∙ goes_on finished found quick e))
 
-  -- ---- The answer is a quickest flow
+  -- ---- the answer is a quickest flow
   pub answered_is_quick : IsNetwork net → 0ℚ ≤ℚ amount → (result : Result Quick QuickFault) → IsAnswered passes net amount augments result → IfOk result (IsQuickFlow net amount)
   answered_is_quick good h (Ok quick) answered =
       IsQuickFlow-list net good passes amount augments quick h answered.0 (ok_of_part (quickest_list passes net amount augments) (FoundQuick quick) answered.1)
   answered_is_quick good h (Err fault) answered = tt
 
-  -- ---- The answer results from walks pushed in order
+  -- ---- the answer results from walks pushed in order
   pub answered_in_order : IsNetwork net → 0ℚ ≤ℚ amount → 1 ≤ augments → (result : Result Quick QuickFault) → IsAnswered passes net amount augments result → IsInOrder net amount augments result
   answered_in_order good h some (Ok quick) answered =
       (IsMade-list net good passes amount augments quick h answered.0 (ok_of_part (quickest_list passes net amount augments) (FoundQuick quick) answered.1)).1

@@ -48,7 +48,7 @@ module _ (passes : Passing) (time : ℚ) (from_source from_sink : List (Option �
             (ap (λ (o : Option ℚ). at_part Part.Quick (node_time passes time here o)) (sym also) ∙ sym e);
       }
 
--- ---- The value of a cut: the remaining links give the result of all links
+-- ---- the value of a cut: the remaining links give the result of all links
 abbrev pub ValuesOn : Passing → List Link → List ℚ → ℚ → ℕ → Type 0
 ValuesOn passes links cut value k = FoldsOn (value_after passes cut) links 0ℚ value k
 

@@ -23,7 +23,7 @@ pub some_sum : (passes : Passing) (so_far rate all : ℚ) → 0ℚ ≤ℚ so_far
 some_sum passes so_far rate all h k e =
     subst (λ (x : ℚ). 0ℚ <ℚ x) (sym (checked-ok passes Sum so_far rate all (ok_of_part (checked passes Sum so_far rate) all (sym e)))) (nn_plus_ps so_far rate h k)
 
--- ---- The next walk, from the shortest one
+-- ---- the next walk, from the shortest one
 module _ (passes : Passing) (net : Network) (amount : ℚ) (s : QuickStanding) (flows : List ℚ) (flows_are : flows ≡ s.flows) (found next : Option Walk) (is : next ≡ next_of passes net amount s found) where
   pub next_listed : at_part Part.Quick (shortest_list passes net flows) ≡ Ok found → at_part Part.Quick (next_list passes net amount s) ≡ Ok next
   next_listed e = ap (at_part Part.Quick)
@@ -40,7 +40,7 @@ module _ (passes : Passing) (net : Network) (amount : ℚ) (s : QuickStanding) (
   pub next_shortest : IsShortest net flows found → IfSome next (IsShortestWalk net s.flows)
   next_shortest h = subst (λ (l : List ℚ). IfSome next (IsShortestWalk net l)) flows_are (subst (λ (o : Option Walk). IfSome o (IsShortestWalk net flows)) (sym is) (of_found found h))
 
--- ---- A push that stops
+-- ---- a push that stops
 module _ (passes : Passing) (net : Network) (amount : ℚ) (s t : QuickStanding) (w v : Walk) (same : s ≡ t) (walk_is : w ≡ v) where
   abbrev moved : Checked (List ℚ)
   moved = push_list passes v.steps w.room s.flows

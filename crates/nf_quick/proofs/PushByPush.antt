@@ -37,7 +37,7 @@ module _ (passes : Passing) (net : Network) (amount : ℚ) (augments : ℕ) wher
     abbrev next : Checked (Option Walk)
     next = next_list passes net amount s
 
-    -- ---- Another walk can be pushed
+    -- ---- another walk can be pushed
     module _ (b : k < augments) where
       abbrev onward : Option Walk → Checked Pushed
       onward found = push_and passes net amount (λ new. push_up_to passes net amount (augments - (k + 1)) new) s found
@@ -67,7 +67,7 @@ module _ (passes : Passing) (net : Network) (amount : ℚ) (augments : ℕ) wher
         pub pushes_more : (new : QuickStanding) → at_part Part.Quick pushed ≡ Ok new → IsSound net new.flows → 0ℚ ≤ℚ new.rate → PushesOn passes net amount augments new (k + 1)
         pushes_more new e sound rate = record { same = sym (one ∙ goes_on pushed later new e); sound = sound; rate = rate }
 
-    -- ---- The budget of pushes is used up
+    -- ---- the budget of pushes is used up
     module _ (b : augments ≤ k) where
       abbrev last : Option Walk → Checked Pushed
       last found = Ok (ended passes net amount s found)

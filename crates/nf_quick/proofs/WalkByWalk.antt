@@ -24,7 +24,7 @@ use Rattle.nf_quick.specs.Spent.{is_out}
 pub flow_more : (all so_far next : List ℚ) (k : ℕ) (x : ℚ) → k < length all → so_far ≡ take k all → x ≡ number_at all k → next ≡ so_far ++ x ∷ [] → next ≡ take (k + 1) all
 flow_more all so_far next k x h e is made = made ∙ ap (λ (y : ℚ). so_far ++ y ∷ []) (is ∙ unwrap_or-slice_get all k 0ℚ) ∙ ap (λ (l : List ℚ). l ++ get_or all k 0ℚ ∷ []) e ∙ sym (take_more all k 0ℚ h)
 
--- ---- The first link out: the remaining links give the result of all links
+-- ---- the first link out: the remaining links give the result of all links
 pub record LooksOn (links : List Link) (v : ℕ) (flows : List ℚ) (k : ℕ) : Type 0 where
   pub same : first_out k (drop k links) v flows ≡ first_out 0 links v flows
 
@@ -49,7 +49,7 @@ module _ (links : List Link) (v : ℕ) (flows : List ℚ) where
             ∙ sym (here ∙ ap (λ (b : Bool). if b then Some k else first_out (suc k) (drop (k + 1) links) v flows) f);
       }
 
--- ---- A path from the source: the links so far and the later ones make the whole path
+-- ---- a path from the source: the links so far and the later ones make the whole path
 pub record LeadsOut (net : Network) (flows : List ℚ) (way : List ℕ) (node k : ℕ) : Type 0 where
   pub same : way ++ way_from (net.nodes - k) net flows node ≡ way_out net flows
   pub within : AllByRecursion (λ e. e < length net.links) way
@@ -86,7 +86,7 @@ module _ (net : Network) (flows : List ℚ) where
     way_goes b e link next head f is h made there = subst (λ (v : ℕ). LeadsOut net flows next v (k + 1)) (sym there)
         (subst (λ (w : List ℕ). LeadsOut net flows w link.head (k + 1)) (sym made) (way_more b e link (sym f) is h))
 
--- ---- Walk by walk: the walks so far and the later ones make the whole list
+-- ---- walk by walk: the walks so far and the later ones make the whole list
 pub record TakesOn (passes : Passing) (net : Network) (all : List ℚ) (walks : List Fed) (flows : List ℚ) (k : ℕ) : Type 0 where
   pub same : with_front walks (walks_off passes (length net.links - k) net flows) ≡ walks_off passes (length net.links) net all
   pub count : length flows ≡ length net.links

@@ -28,7 +28,7 @@ number_at-scaled c cut v = ap (λ (o : Option ℚ). unwrap_or o 0ℚ) (slice_get
     by_entry None = times_none c
     by_entry (Some a) = refl
 
--- ---- If t is at most s + r, then c t is at most c s + r, for a factor c from 0 to 1.
+-- ---- if t is at most s + r, then c t is at most c s + r, for a factor c from 0 to 1
 -- For a factor from 0 to 1, scaling shortens the time that the transit time leaves.
 shorter : (c s t r x y : ℚ) → 0ℚ ≤ℚ c → c ≤ℚ 1ℚ → 0ℚ ≤ℚ r → x ≡ c *ℚ s → y ≡ c *ℚ t → t ≤ℚ s +ℚ r → y ≤ℚ x +ℚ r
 shorter c s t r x y n m h e f k = linear_le (c ∷ s ∷ t ∷ r ∷ x ∷ y ∷ []) (le_times n k ∷ le_times h m ∷ eq e ∷ eq f ∷ []) (search reading_of depth 12) tt

@@ -84,7 +84,7 @@ before_self (x ∷ walk) later =
     ∙ one_same (nat_lt (place x) (place x)) (place x == place x) (before_then walk walk later) (itself (place x)) (equal_not_less (place x) (place x) (itself (place x)))
     ∙ before_self walk later
 
--- ---- Two paths compared back from their last steps, k steps so far
+-- ---- two paths compared back from their last steps, k steps so far
 pub record ComparesOn (tree : List Twig) (way : ℕ) (step : Step) (other here there : ℕ) (decided : Bool) (k : ℕ) : Type 0 where
   pub same : are_before ((way_at tree way).steps ++ step ∷ []) (way_at tree other).steps
       ≡ before_then (steps_back ((twig_at tree way).count - k) tree here) (steps_back ((twig_at tree way).count - k) tree there) decided
@@ -137,7 +137,7 @@ module _ (tree : List Twig) (way : ℕ) (step : Step) (other : ℕ) where
         let none : count - k ≡ 0 = omega arith in
         sym (on.same ∙ ap (λ (n : ℕ). before_then (steps_back n tree here) (steps_back n tree there) decided) none)
 
--- ---- Paths with different numbers of steps
+-- ---- paths with different numbers of steps
 longer_by_one : (tree : List Twig) (way : ℕ) (step : Step) → length ((way_at tree way).steps ++ step ∷ []) ≡ (twig_at tree way).count + 1
 longer_by_one tree way step = length_push (way_at tree way).steps step ∙ ap (λ (n : ℕ). n + 1) (steps_are (twig_at tree way).count tree way)
 
@@ -165,7 +165,7 @@ module _ (tree : List Twig) (way : ℕ) (step : Step) (other : ℕ) where
       unequal false true r f = absurd (clash true refl f)
       unequal false false r f = refl
 
--- ---- Paths of different lengths
+-- ---- paths of different lengths
 module _ (a b : Reach) where
   abbrev by_tests : Bool → Bool → Bool
   by_tests less greater = less || (not greater && are_fewer_or_before a.steps b.steps)

@@ -22,7 +22,7 @@ pub bind_same : {A B : Type 0} (r : Checked A) (f g : A → Checked B) → ((x :
 bind_same (Ok x) f g e = e x
 bind_same (Err p) f g e = refl
 
--- ---- A round over the arcs
+-- ---- a round over the arcs
 module _ (passes : Passing) (flows : List ℚ) (before : Known) where
   abbrev goes : Known → Leg → Checked Known
   goes = along_leg passes before
@@ -52,7 +52,7 @@ module _ (passes : Passing) (flows : List ℚ) (before : Known) where
   unfolding round_list
   round_along links legs is = sym (ap (λ (l : List Leg). fold_checked goes before l) is ∙ as_steps 0 links before)
 
--- ---- The arcs begin and end at nodes
+-- ---- the arcs begin and end at nodes
 none_led : (nodes : ℕ) → AreLegs nodes []
 none_led nodes k leg e = absurd (cc)
 

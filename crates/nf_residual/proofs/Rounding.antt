@@ -28,7 +28,7 @@ lt_or_ge zero (suc k) = inl (omega arith)
 lt_or_ge (suc j) zero = inr (omega arith)
 lt_or_ge (suc j) (suc k) = ⊎_elim (λ (h : j < k). inl (omega arith)) (λ (h : k ≤ j). inr (omega arith)) (lt_or_ge j k)
 
--- ---- Arc by arc: the remaining arcs give the result of the whole round, and processed arcs offer nothing new
+-- ---- arc by arc: the remaining arcs give the result of the whole round, and processed arcs offer nothing new
 abbrev IsOld : ℕ → Places → Leg → Type 0
 IsOld fresh places leg = (way : ℕ) × (place_at places leg.begin ≡ Some way) × (way < fresh)
 
@@ -218,7 +218,7 @@ module _ (passes : Passing) (legs : List Leg) (fresh : ℕ) (old : List Twig) (b
             nothing None at = after_way None at
             nothing (Some way) at = leg_settled good within way at (h way at)
 
--- ---- Round by round: the remaining rounds give the result of all rounds
+-- ---- round by round: the remaining rounds give the result of all rounds
 pub record RoundsOn (passes : Passing) (net : Network) (flows : List ℚ) (from : ℕ) (known : Known) (k : ℕ) : Type 0 where
   pub same : rounds_list passes (net.nodes - k) net.links flows known ≡ reaches_list passes net flows from
   pub count : length known ≡ net.nodes
@@ -266,7 +266,7 @@ module _ (passes : Passing) (net : Network) (flows : List ℚ) (from : ℕ) wher
             let fixed : round_list passes net.links flows known ≡ Ok known = ap (λ (x : Known). round_list passes net.links flows x) (sym is) ∙ ok_of_part one_round next came ∙ ap Ok (e ∙ is) in
             ap (at_part Part.Quick) (sym on.same ∙ still known fixed (net.nodes - k))
 
--- ---- With the arcs and the known paths
+-- ---- with the arcs and the known paths
 pub record SearchOn (passes : Passing) (net : Network) (flows : List ℚ) (from : ℕ) (legs : List Leg) (fresh : ℕ) (tree : List Twig) (places : Places) (k : ℕ) : Type 0 where
   pub rounds : RoundsOn passes net flows from (known_by tree places) k
   pub good : IsTree tree

@@ -19,7 +19,7 @@ use Rattle.nf_residual.specs.Legs.{along_leg}
 use Rattle.nf_residual.specs.Ways.{longer}
 use Rattle.nf_residual.proofs.Offering.{same_set, set_here, set_elsewhere}
 
--- ---- Two paths that are at most each other are equal
+-- ---- two paths that are at most each other are equal
 one_step : (link other : ℕ) (forward back : Bool) → place (record { link = link; forward = forward }) ≡ place (record { link = other; forward = back })
     → ◌≡◌ {A = Step} (record { link = link; forward = forward }) (record { link = other; forward = back })
 one_step link other true true e = ap (λ (l : ℕ). record { link = l; forward = true }) (halves link other e)
@@ -68,7 +68,7 @@ one_way a b (inr f) (inl g) = absurd (less_and_same b.distance a.distance g f.0)
 one_way a b (inr f) (inr g) =
     ap (λ (d : ℚ). record { distance = d; steps = a.steps }) f.0 ∙ ap (λ (s : List Step). record { distance = b.distance; steps = s }) (same_walk a.steps b.steps f.1 g.1)
 
--- ---- The better of two paths
+-- ---- the better of two paths
 either : (b : Bool) (way : Reach) → (if b then way else way) ≡ way
 either true way = refl
 either false way = refl
@@ -133,7 +133,7 @@ offered_then known v w way other h e =
         lost_by (offered known w other) v way (better_of (Some old) other) inside here (lost_still old way other lost)
     by_node inside old at lost (inr k) = lost_by (offered known w other) v way old inside (set_elsewhere known w v _ k.1 ∙ at) lost
 
--- ---- Along residual arcs
+-- ---- along residual arcs
 bound : {A B : Type 0} (r : Checked A) (f : A → B) (y : B) → (r >>= λ x. Ok (f x)) ≡ Ok y → (x : A) × (r ≡ Ok x) × (f x ≡ y)
 bound r f y e = let b = bind_ok r (λ x. Ok (f x)) y e in (b.0, b.1, same_Ok (f b.0) y b.2)
 

@@ -73,7 +73,7 @@ order_is a b = ap₂ int_cmp (one a b) (one b a)
     one : (a b : ℤ) → a ≡ (whole a).num *ℤ pos (whole b).den
     one a b = sym (ap₂ (λ (z : ℤ) (k : ℕ). z *ℤ pos k) (num_whole a) (den_whole b) ∙ times_one a)
 
--- ---- Numbers as the code has them
+-- ---- numbers as the code has them
 -- A value held as a whole number.
 pub counted_is : (q : ℚ) (number d : ℤ) (m : ℕ) → number ≡ q.num → nat_abs number ≤ bound_of 127 → d ≡ pos q.den → SFits w128 d → of_z w128 d ≡ 1 → m ≡ nat_abs (bits_of number) → m ≤ most
     → (nat_abs (to_z w64 (of_z w64 (bits_of number))) ≤ most) × (whole (to_z w64 (of_z w64 (bits_of number))) ≡ q)

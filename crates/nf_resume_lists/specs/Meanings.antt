@@ -44,7 +44,7 @@ pub record IsResumedReport (passes : Passing) (net : Network) (bounds : Bounds) 
   pub made : last.made ≡ phases
   pub report_is : report ≡ report_of bounds.horizon last stop
 
--- ---- No operation of a table or verdict list exceeds its bound
+-- ---- no operation of a table or verdict list exceeds its bound
 -- In a phase: for each pattern that is tried.
 abbrev pub NonePassesIn : (passes : Passing) (net : Network) (horizon : ℚ) (patterns : ℕ) (s t : Standing)
     → Goes passes net horizon patterns s t → Type 0

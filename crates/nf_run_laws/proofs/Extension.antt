@@ -71,7 +71,7 @@ module _ (slacks slopes : List ℚ) where
       (fold_limits (Both P (LinkKeeps k link)) links (k + 1) one.0 next
       (after_limits P (is_zero (number_at slacks k)) least one.0 (number_at slacks k) (number_at slopes link.tail) (number_at slopes link.head) refl p one.1) one.2)
 
--- ---- The next change of the inflow rate
+-- ---- the next change of the inflow rate
 fits : (t x y l : ℚ) → x ≤ℚ y → l ≤ℚ x -ℚ t → (t +ℚ l) ≤ℚ y
 fits t x y l h k = linear_le (t ∷ x ∷ y ∷ l ∷ []) (le h ∷ le k ∷ []) (search reading_of depth 12) tt
 

@@ -20,7 +20,7 @@ use Rattle.nf_lists.specs.PhaseRun.{Standing, PhaseStep}
 use Rattle.nf_lists_laws.proofs.Ending.{number-moved, PhaseParts}
 use Rattle.nf_run_laws.proofs.StepValues.{rate_value, queue_value, step_value, step_value_at, positive_of}
 
--- ---- The source of a rate
+-- ---- the source of a rate
 none_some : {A : Type 0} (x : A) → None ≡ Some x → ⊥
 none_some x e = cc
 

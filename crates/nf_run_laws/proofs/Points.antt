@@ -49,7 +49,7 @@ front_of {A = A} (x ∷ xs) y =
     let e : suc (length (xs ++ y ∷ [])) - 1 ≡ suc (length (xs ++ y ∷ []) - 1) = omega arith in
     ap (λ (k : ℕ). take k (x ∷ xs ++ y ∷ [])) e ∙ ap (λ (l : List A). x ∷ l) (front_of xs y)
 
--- ---- The slope of the last piece of a curve
+-- ---- the slope of the last piece of a curve
 pub record EndsWithSlope (points : List Point) (r : ℚ) : Type 0 where
   pub front : List Point
   pub before : Point
@@ -94,7 +94,7 @@ taken front before last new =
     ∙ ap (λ (ps : List Point). ps ++ new ∷ []) (front_of (front ++ before ∷ []) last)
     ∙ append_assoc front (before ∷ []) (new ∷ [])
 
--- ---- An extended curve whose last piece has this slope
+-- ---- an extended curve whose last piece has this slope
 pub record Went (points points' : List Point) (last new : Point) (r : ℚ) : Type 0 where
   pub goes : GoesOnTo points points' last new
   pub slopes : EndsWithSlope points' r

@@ -24,7 +24,7 @@ use Rattle.nf_run_laws.proofs.Run.{WellRun-goes}
 use Rattle.nf_run_laws.proofs.Standing.{grown_at, label_count_at}
 use Rattle.nf_plain_laws.proofs.Entries.{entry}
 
--- ---- The properties
+-- ---- the properties
 pub record AreShort (curves : LinkCurves) : Type 0 where
   pub inflow : IsShort curves.inflow.points
   pub outflow : IsShort curves.outflow.points
@@ -58,7 +58,7 @@ ShortRun-start net s h = record {
       subst AreShort w.2 (first_short s.labels w.0));
 }
 
--- ---- The curve before a phase
+-- ---- the curve before a phase
 record LabelBefore (time : ℚ) (curves : List GrowingCurve) (v : ℕ) (after : GrowingCurve) : Type 0 where
   pub before : GrowingCurve
   pub at : slice_get curves v ≡ Some before
@@ -121,7 +121,7 @@ module _ (net : Network) (s : Standing) (pattern : Pattern) (slopes : List ℚ) 
   pub ShortRun-after : ShortRun (standing_after net s pattern slopes step)
   ShortRun-after = record { labels = label_short; links = link_short }
 
--- ---- The flow of a run state
+-- ---- the flow of a run state
 pub IsShortFlow-run : (net : Network) (s : Standing) → WellRun net s → ShortRun s → IsShortFlow net (flow_of s)
 IsShortFlow-run net s well short = record {
   labels = λ v h. (let c = entry s.label_curves v (let n = well.label_count in omega arith) in subst IsShort (sym (label_points s v c.0 c.1)) (short.labels v c.0 c.1).short);

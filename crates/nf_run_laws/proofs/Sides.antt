@@ -71,7 +71,7 @@ module _ (s c x : ℚ) (meets : x *ℚ c ≡ 0ℚ -ℚ s) where
       (λ (k : w ≤ℚ x). k)
       (lt_or_le_ℚ x w)
 
--- ---- The direction of a slack
+-- ---- the direction of a slack
 -- The slack moves towards 0, from one of its sides.
 abbrev pub Opposite : ℚ → ℚ → Type 0
 Opposite s c = ((s <ℚ 0ℚ) × (0ℚ <ℚ c)) ⊎ ((0ℚ <ℚ s) × (c <ℚ 0ℚ))
@@ -115,7 +115,7 @@ away_of s c e = record {
 zero_of : (s : ℚ) → is_zero s ≡ true → s ≡ 0ℚ
 zero_of s e = ≤ℚ_antisymm s 0ℚ (le_of_test s 0ℚ (and_parts (le_ℚ s 0ℚ) (le_ℚ 0ℚ s) e).0) (le_of_test 0ℚ s (and_parts (le_ℚ s 0ℚ) (le_ℚ 0ℚ s) e).1)
 
--- ---- The time for which a link stays on its side
+-- ---- the time for which a link stays on its side
 pub keeps_at_zero : (s c : ℚ) → is_zero s ≡ true → HoldsAlways (KeepsSide s c)
 keeps_at_zero s c e length h = record {
   inactive = λ while below w. absurd (not_less (zero_of s e) below);

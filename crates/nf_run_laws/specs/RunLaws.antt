@@ -38,7 +38,7 @@ abbrev pub RunReportIsEquilibrium : Type 0
 RunReportIsEquilibrium = (passes : Passing) (net : Network) (bounds : Bounds) (report : Report) → IsNetwork net
     → IsRunReport passes net bounds report → Equilibrium net report.flow
 
--- ---- Short form
+-- ---- short form
 
 -- The curves of a run are in short form, and so are those of its report.
 pub record RunIsShort : Type 0 where
@@ -48,7 +48,7 @@ pub record RunIsShort : Type 0 where
   pub report : (passes : Passing) (net : Network) (bounds : Bounds) (report : Report) → IsNetwork net → IsRunReport passes net bounds report
       → IsShortFlow net report.flow
 
--- ---- Labels
+-- ---- labels
 
 -- The labels of a run state are the values of the label curves at the departure reached.
 pub record KeepsLabels (net : Network) (s : Standing) : Type 0 where
@@ -71,7 +71,7 @@ pub record RunLabelsAreEarliest : Type 0 where
       → (v : ℕ) (departure : ℚ) → v < net.nodes → Within 0ℚ report.flow.reached departure
       → IsEarliest net (inflow report.flow) v departure (label report.flow v departure)
 
--- ---- Phases of a run
+-- ---- phases of a run
 
 -- The value of the extend list is the extension length, the greatest length of the phase. None implies that every length is possible.
 pub record ExtendListIsExtension : Type 0 where

@@ -62,7 +62,7 @@ module _ (net : Network) (labels : List ℚ) (good : IsNetwork net) (least : Are
       let grown : Grown net 0ℚ labels curves = grown_by net 0ℚ labels curves good (begin labels curves least first) in
       record { inflows = curves.inflows; label_curves = curves.labels; stands = grown.stands; curves_stand = grown.curves_stand }
 
--- ---- After one more phase
+-- ---- after one more phase
 module _ (net : Network) (horizon time time' : ℚ) (labels labels' : List ℚ) (good : IsNetwork net) (phase : IsPhase net horizon (time, labels) (time', labels'))
     (c : HasCome net time labels) where
   abbrev flow : ℕ → ℚ

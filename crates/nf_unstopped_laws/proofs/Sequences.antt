@@ -54,7 +54,7 @@ module _ (net : Network) (good : IsNetwork net) where
   }
 
   module _ (horizon : ℚ) where
-    -- ---- At each point
+    -- ---- at each point
     pub thin_at_place : (old : ℚ × List ℚ) (rest : List (ℚ × List ℚ)) (place : ℕ) (departure : ℚ) (labels : List ℚ) → HasCome net old.0 old.1 → PhasesFrom net horizon old rest
         → slice_get (old ∷ rest) place ≡ Some (departure, labels) → HasThinFlow net departure labels
     thin_at_place old rest zero departure labels c phases here =
@@ -69,7 +69,7 @@ module _ (net : Network) (good : IsNetwork net) where
     thin_in_sequence (first ∷ rest) place departure labels is here =
         thin_at_place first rest place departure labels (subst (λ (t : ℚ). HasCome net t first.1) (sym is.0) (HasCome-start net first.1 good is.1)) is.2 here
 
-    -- ---- Any number of phases
+    -- ---- any number of phases
     abbrev Ends : ℕ → ℚ × List ℚ → List (ℚ × List ℚ) → Type 0
     Ends many old rest = (length rest ≡ many) ⊎ ((suc (length rest) ≤ many) × ComesTo horizon (old ∷ rest))
 

@@ -43,7 +43,7 @@ pub never_run : (passes : Passing) (net : Network) (bounds : Bounds) (last : Sta
 never_run passes net bounds last stop good run =
     never_report passes net bounds (report_of bounds.horizon last stop) good (record { last = last; stop = stop; run = run; report_is = refl })
 
--- ---- Runs from a given run state
+-- ---- runs from a given run state
 pub never_on : (passes : Passing) (net : Network) (bounds : Bounds) (first last : Standing) (stop : Option (Cause ℚ)) → IsNetwork net → WellRun net first → RunsOn passes net bounds first last stop
     → NeverNoPattern stop
 never_on passes net bounds first last stop good well runs = never_of net (flow_of last) stop good (Equilibrium-well net good last (well_on passes net good bounds first last stop well runs))
