@@ -28,7 +28,7 @@ travel_time net flow tail departure = label (flow_until net flow tail departure)
 -- `labels`: from the departure reached on, the label of each node grows at the slope of the node in the tail.
 -- `cuts`, `least_cut`: these slopes grow by the cuts and by the least cut, with the last supply rate.
 -- `settles`: travel times stay constant exactly if the capacity of each static cut is at least the last supply rate.
--- `travel`: a unit of departure adds to the travel time the last supply rate over the least capacity, less 1, or 0 if that is more.
+-- `travel`: a unit of departure adds to the travel time the last supply rate over the least capacity, minus 1, or 0 if that is more.
 pub record TailGrows (net : Network) (flow : Flow) (tail : Tail) : Type 0 where
   pub labels : (v : ℕ) (departure : ℚ) → v < net.nodes → flow.reached ≤ℚ departure
       → label (flow_until net flow tail departure) v departure

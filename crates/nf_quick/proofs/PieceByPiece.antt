@@ -154,13 +154,13 @@ departure_least passes net amount good some found e =
     IsDeparture-list amount passes (checked_supply passes net) net.pieces good (exact passes net amount good) found some
     (ok_of_part (departure_list passes (checked_supply passes net) amount net.pieces) found e)
 
--- for the amount 0
+-- For the amount 0.
 pub departure_of_none : (passes : Passing) (net : Network) (amount time : ℚ) → ArePieces net.pieces → 0ℚ ≤ℚ amount → le_ℚ amount 0ℚ ≡ true → time ≡ 0ℚ → IsDeparture net amount (Some time)
 unfolding departure_list
 departure_of_none passes net amount time good some t e = departure_least passes net amount good some (Some time)
     (ap (λ (b : Bool). at_part Part.Quick (departure_of passes (checked_supply passes net) amount b net.pieces)) t ∙ ap (λ (x : ℚ). Ok (Some x)) (sym e))
 
--- for another one
+-- For an amount above 0.
 pub departure_found : (passes : Passing) (net : Network) (amount : ℚ) (r : Result (Option ℚ) (PassedAt ℚ)) → ArePieces net.pieces → 0ℚ ≤ℚ amount → le_ℚ amount 0ℚ ≡ false
     → r ≡ at_part Part.Quick (departs passes (checked_supply passes net) amount 0ℚ net.pieces) → IfOk r (IsDeparture net amount)
 unfolding departure_list

@@ -20,7 +20,7 @@ use Rattle.nf_quick_lists.specs.Walks.{first_out, head_of, way_from, way_out, le
 use Rattle.nf_residual.proofs.Stopping.{stopped, goes_on}
 use Rattle.nf_quick.specs.Spent.{is_out}
 
--- ---- the flows of the links, one more
+-- ---- the flows of the links, with one more
 pub flow_more : (all so_far next : List ℚ) (k : ℕ) (x : ℚ) → k < length all → so_far ≡ take k all → x ≡ number_at all k → next ≡ so_far ++ x ∷ [] → next ≡ take (k + 1) all
 flow_more all so_far next k x h e is made = made ∙ ap (λ (y : ℚ). so_far ++ y ∷ []) (is ∙ unwrap_or-slice_get all k 0ℚ) ∙ ap (λ (l : List ℚ). l ++ get_or all k 0ℚ ∷ []) e ∙ sym (take_more all k 0ℚ h)
 

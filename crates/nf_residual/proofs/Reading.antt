@@ -35,7 +35,7 @@ pub way_within : (count : ℕ) (places : Places) (v : ℕ) (place : Option ℕ) 
 way_within count places v None within e = tt
 way_within count places v (Some way) within e = within v way (sym e)
 
--- ---- the places of what is known, as they are lent
+-- ---- the indices of known paths, as the code borrows them
 module _ (tree : List Twig) (places lent : Places) (known : Known) (v i : ℕ) (view : known_by tree places ≡ known) (same : lent ≡ places) (at : i ≡ v) where
   pub place_there : v < length known → i < length lent
   place_there h =

@@ -101,7 +101,7 @@ module _ (net : Network) (flow : Flow) (good : IsNetwork net) (is : Equilibrium 
       (eqb_tells link.head net.source)
 
   -- ---- at the time of a departure
-  -- the three kinds of nodes, each with what is supplied
+  -- The three kinds of nodes, each with its supply.
   by_node : (P : ℕ → ℚ → ℚ → Type 0) (u : ℚ) → P net.source u 0ℚ → P net.sink 0ℚ u → ((v : ℕ) → v < net.nodes → v ≢ net.source → v ≢ net.sink → P v 0ℚ 0ℚ)
       → (v : ℕ) → v < net.nodes → P v (only_at net.source u v) (only_at net.sink u v)
   by_node P u at_source at_sink inner v h = ⊎_elim

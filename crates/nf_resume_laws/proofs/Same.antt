@@ -32,7 +32,7 @@ in_time a b r h = linear_le (a ∷ b ∷ r ∷ []) (le h ∷ []) (search reading
 less : (b d r : ℚ) → b ≡ d → b -ℚ r ≡ d -ℚ r
 less b d r e = linear_eq (b ∷ d ∷ r ∷ []) (eq e ∷ []) (search reading_of depth 12) tt tt
 
--- two flows agree on what leaves the source up to a departure
+-- Two flows agree on everything that leaves the source up to a departure.
 pub record AgreeUpTo (net : Network) (amount label amount' label' : ℕ → ℚ → ℚ) (until : ℚ) : Type 0 where
   pub labels : (v : ℕ) (departure : ℚ) → v < net.nodes → Within 0ℚ until departure → label' v departure ≡ label v departure
   pub amounts : (e : ℕ) (link : Link) (time : ℚ) → IsLink net e link → Within 0ℚ (label link.tail until) time → amount' e time ≡ amount e time

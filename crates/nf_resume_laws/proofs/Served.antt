@@ -49,7 +49,7 @@ module _ (transit : ℚ) (capacity : Option ℚ) (amount : ℚ → ℚ) (positiv
           let g : IsLeast (λ since. amount since +ℚ rate *ℚ (time -ℚ transit -ℚ since)) 0ℚ (time -ℚ transit) out = p.bounded rate l e in
           nn_later _ rate time transit g.taken.0 out (amount-nn g.taken.0 g.taken.1.0) (positive rate e) g.taken.1.1 g.taken.2
 
-  -- no more has left than had entered one transit time before
+  -- At most what had entered one transit time before has left.
   pub outflow-entered : (time out : ℚ) → transit ≤ℚ time → IsOutflow transit capacity amount time out → out ≤ℚ amount (time -ℚ transit)
   outflow-entered time out l p = by capacity refl
     where
