@@ -88,12 +88,16 @@ fn work_out(alloc: Global, net: &Network, amount: Q, augments: u64) -> Result<Qu
 
 /// Returns the quickest flow of an amount of at least 0 from source to sink. Walks fed at their rates deliver the amount by the time. No
 /// feasible flow over time delivers it earlier. The value of the cut over time is the amount. For the amount 0 the time is 0, there are no
-/// walks, and the cut is 0 everywhere. For an amount above 0, shortest residual walks are pushed with their whole room (after Ford and
-/// Fulkerson 1958). The pushes end if no walk is left or the next is at least as long as the time. Refuses with Unbounded exactly if the
-/// amount is above 0 and a walk of unbounded links leads from source to sink; it carries such a walk. Refuses with Budget exactly if
-/// `augments` walks, at least 1, were pushed and the next is shorter than the time; it carries the pushed walks. Refuses with Passed, of
-/// the part Quick, at the first operation that exceeds its bound: of the pushes, then of the walks, of the distances from source and sink,
-/// of the cut, and of its value. Refuses with Memory only if memory can't be allocated.
+/// walks, and the cut is 0 everywhere.
+///
+/// For an amount above 0, shortest residual walks are pushed with their whole room (after Ford and Fulkerson 1958). The pushes end if no
+/// walk is left or the next is at least as long as the time. `augments` is the greatest number of pushes, at least 1.
+///
+/// - `Unbounded`: exactly if the amount is above 0 and a walk of unbounded links leads from source to sink; has such a walk.
+/// - `Budget`: exactly if `augments` walks were pushed and the next is shorter than the time; has the pushed walks.
+/// - `Passed`: at the first operation that exceeds its bound, with part Quick: of the pushes, then of the walks, of the distances from
+///   source and sink, of the cut, and of its value.
+/// - `Memory`: only if memory can't be allocated.
 pub fn quickest(alloc: Global, net: &Network, amount: Q, augments: u64) -> Result<Quick, QuickFault>
     requires amount { 0ℚ ≤ℚ amount }
     requires augments { 1 ≤ augments }

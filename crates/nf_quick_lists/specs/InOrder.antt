@@ -14,7 +14,7 @@ use Rattle.nf_quick_lists.specs.Pushed.{IsPushed}
 use Rattle.nf_quick_lists.specs.Through.{through}
 use Rattle.nf_quick_lists.specs.NodeTimes.{AreNodeTimes}
 
--- ---- Repetition of a static flow over time
+-- ---- repetition of a static flow over time
 -- The amount that a static flow, repeated until `time`, delivers to the sink by then: time times value, minus cost.
 abbrev pub repeated : Network → List ℚ → ℚ → ℚ
 repeated net flows time = time *ℚ value_of net flows -ℚ cost_of net flows
@@ -28,7 +28,7 @@ pub record IsTimeOf (net : Network) (amount : ℚ) (flows : List ℚ) (time : �
 abbrev pub IsEarly : Network → ℚ → List ℚ → ℚ → Type 0
 IsEarly net amount flows length = (time : ℚ) → IsTimeOf net amount flows time → length <ℚ time
 
--- ---- Walks pushed in order
+-- ---- walks pushed in order
 abbrev pub no_flow : Network → List ℚ
 no_flow net = replicate (length net.links) 0ℚ
 
@@ -45,7 +45,7 @@ ArePushed net amount flows [] last = flows ≡ last
 ArePushed net amount flows (augment ∷ walks) last = (next : List ℚ) × IsFullPush net amount flows augment next
     × ArePushed net amount next walks last
 
--- ---- The results
+-- ---- the results
 -- A quickest flow that results from the flow 0 by at most `augments` pushes. No residual walk from source to sink is shorter than its time.
 -- Repeating the static flow delivers the amount by that time. The walks of the quickest flow carry the whole static flow. The cut times
 -- follow from its residual distances.

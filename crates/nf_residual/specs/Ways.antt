@@ -28,7 +28,7 @@ pub record IsTree (tree : List Twig) : Type 0 where
   pub fewer : (i n : ℕ) → (twig_at tree i).count ≡ suc n → (twig_at tree (twig_at tree i).before).count ≡ n
   pub few : (i : ℕ) → (twig_at tree i).count ≤ i
 
--- ---- A path extended by a step, of the given length
+-- ---- a path extended by a step, of the given length
 abbrev pub longer : Reach → Step → ℚ → Reach
 longer way step distance = record { distance = distance; steps = way.steps ++ step ∷ [] }
 
@@ -44,7 +44,7 @@ gains way (Some known) = is_better way known
 abbrev pub one_before : Step → Step → Bool → Bool
 one_before here there later = if place here == place there then later else nat_lt (place here) (place there)
 
--- ---- For each node the index of the best path to it
+-- ---- for each node the index of the best path to it
 abbrev pub Places : Type 0
 Places = List (Option ℕ)
 
