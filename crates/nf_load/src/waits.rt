@@ -1,4 +1,4 @@
-// Moments of a link: what has entered and what waits, and when what enters then leaves.
+// Moments of a link: amounts entered and waiting, and exits.
 use nf_frac::Q;
 use std::marker::Model;
 
@@ -23,7 +23,7 @@ impl Model for Waits {
     ghost inverse = { λ w. record { time = w.time; amount = w.amount; queue = w.queue } };
 }
 
-/// A moment, and the time at which what enters then leaves the link.
+/// A moment, and the exit time of what enters then.
 #[derive(Clone, Copy)]
 pub(crate) struct Leaves {
     pub waits: Waits,
