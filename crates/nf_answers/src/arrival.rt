@@ -1,14 +1,14 @@
-// The arrival beside a quickest flow.
+// The arrival in an equilibrium, printed with a quickest flow.
 use nf_curve::Stop;
 use nf_frac::Q;
 
-/// When the flow arrives of which an amount is to be supplied, in an equilibrium.
+/// The time by which an amount arrives at the sink in an equilibrium.
 #[derive(Clone, Copy)]
 pub enum Arrival {
     /// The amount is never supplied.
     Never,
     /// The arrival at the sink, a time.
     At(Q),
-    /// The run ended before the departure.
+    /// The run ended before the departure by which the amount is supplied.
     Stopped(Stop),
 }
