@@ -99,8 +99,7 @@ fn know_traces(traces: &[Trace])
 ///
 /// `No` holds the first broken rule, the first node or link that breaks it, a time, and two different values. For C1 and C2 the time is
 /// that of the first point that breaks the rule. For C3 to C7 the time is the first corner at which two curves differ; they may also differ
-/// earlier, between two corners. For C8 the time is a departure in the first interval on which a link takes flow although its exit is not
-/// the label of its head.
+/// earlier, between two corners. For C8 the time is a departure in the first interval on which a link off the shortest routes takes flow.
 ///
 /// The flow has a label for each node, and an inflow, an outflow and a queue for each link. Its traces have one rate fewer than points, and
 /// the departure reached is at least 0. Returns `Passed` exactly at the first operation of its operation sequence that passes, with part

@@ -1,4 +1,4 @@
--- Stored exits of links by departure, in short form.
+-- Stored exits of links, by departure.
 use Rattle.std.specs.Prelude.{◌≡◌, ◌⊎◌, ℕ, List, length, set, Option, Some, slice_get, Ok, IfSome}
 use Rattle.nf_rational.specs.Rational.{ℚ}
 use Rattle.nf_work.specs.Passing.{Passing, passes_Q}

@@ -1,4 +1,4 @@
--- Three curves of a link by departure: amount entered, exits, and head labels.
+-- Three curves of a link, by departure.
 use Rattle.std.specs.Prelude.{◌≡◌, ℕ, ◌≤◌, List, length, if◌then◌else◌, ◌+◌, Ok}
 use Rattle.nf_rational.specs.Rational.{ℚ}
 use Rattle.nf_rational.specs.Order.{lt_ℚ}

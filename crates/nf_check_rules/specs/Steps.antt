@@ -29,11 +29,11 @@ compared_by passes rule subject left right last = do
   difference ← in_part Check (checked_difference passes left right last)
   unless rule subject difference
 
--- what enters a node, with the supply at the source
+-- the inflow of a node, with the supply at the source
 abbrev pub with_supply_by : Passing → Network → List Point → ℕ → List Point → Checked (List Point)
 with_supply_by passes net supplied v total = if v == net.source then checked_sum passes total supplied else Ok total
 
--- compares what has entered the sink by an arrival with what has left it plus the supply up to the departure
+-- compares the amount that has entered the sink by an arrival with the amount that has left it plus the supply up to the departure
 abbrev pub stays_by : Passing → ℕ → List Point → List Point → List Point → List Point → ℚ → Trial (Unit {0})
 stays_by passes sink label comes goes supplied reached = do
   come ← in_part Check (checked_composed passes comes label reached)

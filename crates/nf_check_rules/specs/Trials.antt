@@ -1,4 +1,4 @@
--- Results of the code, compared with trials of the definitions.
+-- Results of the code, and trials.
 use Rattle.std.specs.Prelude.{◌≡◌, Result, Ok, Err}
 use Rattle.nf_rational.specs.Rational.{ℚ}
 use Rattle.nf_work.specs.declared.Halt.{Halt}
@@ -18,7 +18,7 @@ EndsAs (Ended.AtLink rule link sides) said = said ≡ Err (Breaks rule (Link lin
 EndsAs (Ended.Passed p) said = said ≡ Err (Passes p)
 EndsAs Ended.Memory said = Unit {0}
 
--- the code returned what the trial says, or an allocation failed
+-- the code returned the result of the trial, or an allocation failed
 abbrev pub Tries : {X A : Type 0} → (X → A) → Result X Ended → Trial A → Type 0
 Tries value (Ok x) said = said ≡ Ok (value x)
 Tries value (Err e) said = EndsAs e said

@@ -28,7 +28,7 @@ use nf_load::cumulative;
 use nf_net::Network;
 use std::alloc::Global;
 
-// Adds the supply to what enters the node, if the node is the source.
+// Adds the supply to the node's inflow, if the node is the source.
 fn with_supply(
     alloc: Global,
     net: &Network,
@@ -61,7 +61,7 @@ fn end_at(net: &Network, flow: &Flow, worked: &Worked, node: NodeId) -> Q
     }
 }
 
-// Tests C6 at a node: what enters it has left it.
+// Tests C6 at a node: its inflow, with the supply, equals its outflow.
 fn check_balance(
     alloc: Global,
     net: &Network,
@@ -134,8 +134,8 @@ fn check_stays(
     compare(CheckRule::C7, Subject::Node(sink), &come, &total, reached)
 }
 
-// Tests C7. Up to the first arrival, what enters the sink leaves it. From then on, the amount entered by an arrival is the amount left plus
-// the supply up to the departure.
+// Tests C7. Up to the first arrival, the sink's inflow equals its outflow. From then on, the amount entered by an arrival is the amount
+// left plus the supply up to the departure.
 fn check_sink(
     alloc: Global,
     net: &Network,
@@ -163,7 +163,7 @@ fn check_sink(
     check_stays(alloc, sink, label, &comes, &goes, supplied, flow.reached)
 }
 
-/// Tests C6 at all nodes except the sink, and then C7 at the sink. Returns the first difference as an error.
+/// Tests C6 at all nodes except the sink, and then C7 at the sink. Returns an error with the first difference, if there is one.
 #[tactic(auto, unfolding(crate::specs::Steps::balances_list))]
 pub fn check_balances(
     alloc: Global,

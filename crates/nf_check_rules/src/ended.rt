@@ -12,7 +12,7 @@ use nf_frac::{Halt, PassedAt, Q};
 use nf_graph::{LinkId, NodeId};
 use std::alloc::{AllocError, AllocFailed};
 
-/// The reason why a check ended before all rules were tested.
+/// The reason why a check ended early.
 #[derive(Clone, Copy)]
 pub enum Ended {
     /// A node breaks a rule, with two different values.

@@ -8,7 +8,7 @@ use nf_graph::LinkId;
 use nf_net::Network;
 use std::alloc::{AllocError, Global};
 
-/// For each link, its stored exits by departure, if there are any. A departure enters a link at the label of the link's tail.
+/// Stored exits by departure: for each link a curve or none. A departure enters a link at the label of the link's tail.
 #[derive(Drop)]
 pub struct Exits {
     pub kept: Vec<Option<Curve>>,

@@ -1,4 +1,4 @@
-// Loading of the inflows by the law of the point queue.
+// Loading of a flow's inflows.
 ghost use Rattle.std.specs.Prelude.{◌≡◌, ◌<◌, ℕ, length};
 ghost use Rattle.nf_work.specs.Passing.{passes_Q};
 ghost use Rattle.nf_work.specs.Checked.{each};

@@ -1,4 +1,5 @@
-// Point counts of curves: the number of points at or before a time. They advance with the time, so each point is read few times.
+// Point counts of curves. The count of a time is the number of points at or before it. A search starts at the count of a near time, so it
+// reads few points.
 ghost use Rattle.std.specs.Prelude.{◌≡◌, ◌≤◌, length};
 ghost use Rattle.nf_rational.specs.Operations.{0ℚ};
 ghost use Rattle.nf_rational.specs.Order.{◌≤ℚ◌};
@@ -47,7 +48,7 @@ pub(crate) fn place_near(curve: &Curve, from: usize, time: Q) -> usize
     place_up(curve, down, time)
 }
 
-/// Returns the value at a time, given the number of points at or before it.
+/// Returns the value at a time. `place` must be the count of that time.
 pub(crate) fn value_at(curve: &Curve, place: usize, time: Q) -> Result<Q, PassedAt<Q>>
     requires time { 0ℚ ≤ℚ time }
     requires place { place ≡ place_of time curve.now.points }

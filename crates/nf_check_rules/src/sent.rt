@@ -1,4 +1,4 @@
-// Three curves of a link by departure: amount entered, exits, and head labels.
+// Three curves of a link, by departure.
 ghost use Rattle.std.specs.Prelude.{◌≡◌, IfOk, IfSome, Ok};
 ghost use Rattle.nf_rational.specs.Rational.{ℚ};
 ghost use Rattle.nf_rational.specs.Operations.{0ℚ};
@@ -19,7 +19,8 @@ use nf_curve::{Curve, Difference};
 use nf_frac::{Halt, Part, PassedAt, Q};
 use std::alloc::{AllocError, Global};
 
-/// Three curves of a link by departure, in short form: the amount that has entered the link, its exits, and the labels of its head.
+/// Three curves of a link by departure, in short form. `taken` is the amount that has entered the link, `exits` holds its exits, and
+/// `labels` holds the labels of its head.
 #[derive(Drop)]
 pub(crate) struct Sent {
     pub taken: Curve,
@@ -27,7 +28,7 @@ pub(crate) struct Sent {
     pub labels: Curve,
 }
 
-/// The number of points of each curve at or before a departure.
+/// The point counts of a departure, for each curve.
 #[derive(Clone, Copy)]
 pub(crate) struct Places {
     pub taken: usize,
@@ -92,8 +93,8 @@ impl Sent {
         })
     }
 
-    /// Computes the three curves of a link up to the departure `last`, from its inflow, its exits and the labels of its ends. Reuses
-    /// `kept`, the exits by departure in short form, if it is there.
+    /// Computes the three curves of a link up to the departure `last`, from its inflow, its exits and the labels of its ends. Reuses the
+    /// exits by departure in short form, if `kept` holds them.
     pub(crate) fn along(
         alloc: Global,
         inflow: &Curve,
@@ -140,7 +141,7 @@ impl Sent {
         }
     }
 
-    /// Returns the exit and the head label at a departure, given its point counts.
+    /// Returns the exit and the head label at a departure, from its point counts.
     pub(crate) fn sides_at(&self, places: &Places, time: Q) -> Result<Difference, PassedAt<Q>>
         requires time { 0ℚ ≤ℚ time }
         requires places { ArePlaces self.now time places.now }

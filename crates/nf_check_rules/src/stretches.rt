@@ -1,4 +1,4 @@
-// Intervals of departures between consecutive times of three curves, tested for flow off the shortest routes.
+// Tests for flow off the shortest routes. Each tests an interval of departures between consecutive times of three curves.
 ghost use Rattle.std.specs.Prelude.{◌≡◌, true, pos, option_map, IfOk, OnOk};
 ghost use Rattle.std.specs.List.{AllByRecursion};
 ghost use Rattle.nf_rational.specs.Operations.{0ℚ, whole};
@@ -100,8 +100,8 @@ fn at_middle(
     Ok(Some(sides))
 }
 
-// Returns where exit and head label first differ on an interval on which flow enters the link. The result is the start, or else the middle
-// if they differ at the end.
+// Returns a difference of exit and head label on an interval on which flow enters the link. Tests the start first. If they agree there and
+// differ at the end, returns their values in the middle.
 fn on_rising(
     sent: &Sent,
     here: &Departure,
@@ -127,7 +127,7 @@ fn on_rising(
     }
 }
 
-// Returns where exit and head label first differ on an interval, if flow enters the link there.
+// Returns a difference of exit and head label on an interval, if flow enters the link there.
 fn on_stretch(
     sent: &Sent,
     here: &Departure,
@@ -148,8 +148,8 @@ fn on_stretch(
     }
 }
 
-/// Returns the first departure from which on flow enters the link while exit and head label differ. Tests the intervals between the given
-/// times. The values at the end of an interval are reused at the start of the next.
+/// Returns the first departure from which on flow enters the link while exit and head label differ. Tests the intervals between consecutive
+/// `times`. The values at the end of an interval are reused at the start of the next.
 pub(crate) fn first_detour(sent: &Sent, times: &[Q]) -> Result<Option<Difference>, PassedAt<Q>>
     requires { AllByRecursion (λ time. 0ℚ ≤ℚ time) times.now }
     ensures { seen_at (option_map difference_of) (λ q. q) result ≡

@@ -1,4 +1,4 @@
-// Times of the points of curves, in rising order.
+// Times of curves, in rising order.
 ghost use Rattle.std.specs.Prelude.{◌≡◌, ◌+◌, ◌^◌, ◌<◌, IfOk};
 ghost use Rattle.nf_rational.specs.Rational.{ℚ};
 ghost use Rattle.nf_rational.specs.Order.{cmp_ℚ, min_ℚ};
@@ -22,7 +22,7 @@ pub(crate) fn times_of(alloc: Global, curve: &Curve) -> Result<Vec<Q>, AllocErro
     Ok(times)
 }
 
-// Returns the earlier of two times, given their order.
+// Returns the earlier of two times in the order `order`.
 fn earlier(order: Ordering, here: Q, there: Q) -> Q
     ensures { order ≡ cmp_ℚ here there → result ≡ min_ℚ here there }
 {

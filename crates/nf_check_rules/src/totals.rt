@@ -1,4 +1,4 @@
-// Amounts that enter and leave a node, by time.
+// Total inflow and outflow of a node.
 ghost use Rattle.std.specs.Prelude.{◌≡◌, ◌<◌, length};
 ghost use Rattle.nf_work.specs.declared.Part.TheVariants.{Check};
 ghost use Rattle.nf_work.specs.Passing.{passes_Q};

@@ -1,4 +1,4 @@
-// The greatest, first and last value of a curve.
+// The greatest, first and last value.
 ghost use Rattle.std.specs.Prelude.{◌≡◌};
 ghost use Rattle.std.specs.List.{AllByRecursion};
 ghost use Rattle.nf_rational.specs.Operations.{0ℚ};

@@ -1,4 +1,4 @@
-// Labels and loadings computed from a flow; curves by number.
+// Labels and loadings computed from a flow.
 ghost use Rattle.std.specs.Prelude.{◌≡◌, ◌<◌, length, map, slice_get, Some};
 ghost use Rattle.nf_model.specs.Equilibrium.{points_at, points_of};
 ghost use Rattle.nf_check_lists.specs.CheckList.{trace_of as trace_in};
@@ -11,7 +11,7 @@ use nf_curve::{Curve, Trace};
 use nf_graph::LinkId;
 use nf_load::Loaded;
 
-/// Values computed from a flow: its labels up to the departure reached, and the loading of each link.
+/// Curves computed from a flow. `labels` holds its labels up to the departure reached, and `loaded` the loading of each link.
 #[derive(Drop)]
 pub struct Worked {
     pub labels: Vec<Curve>,

@@ -1,4 +1,4 @@
--- The remaining operation sequence of a link's loading, after each of its steps.
+-- Remainders of a loading's operation sequence.
 use Rattle.std.specs.Prelude.{◌≡◌, List, Option, Ok, map}
 use Rattle.nf_rational.specs.Rational.{ℚ}
 use Rattle.nf_work.specs.Passing.{Passing}

@@ -25,7 +25,7 @@ fn end_of(later: &[Piece], last: Q) -> Q
     }
 }
 
-// Adds to the amount so far the amount of a piece from its start to `end`.
+// Adds the amount of a piece from its start to `end` to the amount so far.
 fn with_piece(so_far: Q, piece: &Piece, end: Q) -> Result<Q, PassedAt<Q>>
     ensures { result ≡ at_part Load (lists.with_piece passes_Q so_far piece.now end) }
 {

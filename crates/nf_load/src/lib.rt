@@ -1,4 +1,4 @@
-//! Loads links with given inflows. Computes the amounts that pieces supply, and the queue, outflow and exits by the law of the point queue
+//! Loads links with their inflows. Computes the amounts that pieces supply, and the queue, outflow and exits by the law of the point queue
 //! (Vickrey 1969). Times, amounts and rates are exact fractions. The crate `nf_loads_file` reads loads files; this crate re-exports it.
 #![tactic(auto)]
 

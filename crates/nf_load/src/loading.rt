@@ -1,4 +1,4 @@
-// Loading of a link with a given inflow.
+// Loading of a link with its inflow.
 ghost use Rattle.std.specs.Prelude.{◌≡◌, IfOk};
 ghost use Rattle.nf_rational.specs.Operations.{0ℚ};
 ghost use Rattle.nf_rational.specs.Order.{◌≤ℚ◌};

@@ -1,4 +1,4 @@
-// The queue of a link over the pieces of its inflow.
+// The queue over the pieces of an inflow.
 ghost use Rattle.std.specs.Prelude.{◌≡◌, ◌&&◌, [], ◌∷◌, ◌++◌, Some, true, IfOk, OnOk, IsTrue};
 ghost use Rattle.nf_rational.specs.Rational.{ℚ};
 ghost use Rattle.nf_rational.specs.Operations.{0ℚ};
@@ -89,7 +89,7 @@ fn drained(capacity: Q, rate: Q, queue: Q, start: Q) -> Result<Q, PassedAt<Q>>
     Ok(time)
 }
 
-// Returns the queue at the end of the piece. It changes at the rate less the capacity.
+// Returns the queue at the end of the piece. The queue changes at the rate less the capacity.
 fn grow(capacity: Q, rate: Q, before: &Waits, end: &Point) -> Result<Over, PassedAt<Q>>
     ensures list { seen_at over_list (λ q. q) result ≡ at_part Load (lists.grows passes_Q capacity rate before.now end.now) }
     ensures end { IfOk result (λ over. over.end.time ≡ end.now.0) }
@@ -195,8 +195,7 @@ fn put(all: &mut Vec<Waits>, over: &Over) -> Result<(), AllocError>
     Ok(())
 }
 
-/// Returns the moments of the queue: time 0, the end of each piece of the inflow, and each time within a piece at which the queue drains to
-/// 0.
+/// Returns the queue's moments: time 0, the end of each piece of the inflow, and each time at which the queue drains to 0.
 pub(crate) fn all_waits(
     alloc: Global,
     capacity: &Option<Q>,

@@ -16,8 +16,8 @@ pub record IsCumulative (pieces : List Piece) (last : ℚ) (points : List (ℚ �
   pub values : (time : ℚ) → Within 0ℚ last time → value points time ≡ supplied pieces time
   pub after : (time : ℚ) → last ≤ℚ time → value points time ≡ supplied pieces last
 
--- The curves follow the law of the point queue for the inflow: queue and exit up to `last`, the outflow up to one transit time later. All
--- three are in short form.
+-- The curves follow the law of the point queue for the inflow, and are in short form. Queue and exit do up to `last`, and the outflow does
+-- up to one transit time later.
 pub record IsLoaded (transit : ℚ) (capacity : Option ℚ) (inflow : List (ℚ × ℚ)) (last : ℚ) (loaded : Loaded) : Type 0 where
   pub queue_curve : IsCurve loaded.queue
   pub outflow_curve : IsCurve loaded.outflow

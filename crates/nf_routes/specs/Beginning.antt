@@ -1,4 +1,4 @@
--- The start and the result of the loading of all links.
+-- Start and result of the whole loading.
 use Rattle.std.specs.Prelude.{◌≡◌, ℕ, List, [], length, map, Option, Some, None, slice_get}
 use Rattle.nf_rational.specs.Rational.{ℚ}
 use Rattle.nf_work.specs.Passing.{Passing}

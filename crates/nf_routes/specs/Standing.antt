@@ -12,7 +12,7 @@ use Rattle.nf_routes.specs.declared.so_far.SoFar.{SoFar}
 abbrev pub seen_so_far : SoFar → lists.SoFar
 seen_so_far s = record { links = s.links.items; entries = s.entries.items }
 
--- `P` holds for each route and what it has sent, and both lists have equal lengths
+-- `P` holds for each route and its entries, and both lists have equal lengths
 abbrev pub Along : (Route → List (List Point) → Type 0) → List Route → List (List (List Point)) → Type 0
 Along P [] [] = Unit {0}
 Along P [] (sent ∷ rest) = ⊥

@@ -1,4 +1,4 @@
-// The amounts that routes send into and through a link.
+// Amounts that routes send through a link.
 ghost use Rattle.std.specs.Prelude.{◌≡◌, ◌∷◌, [], length};
 ghost use Rattle.nf_rational.specs.Operations.{0ℚ};
 ghost use Rattle.nf_rational.specs.Order.{◌≤ℚ◌};
@@ -88,7 +88,7 @@ pub(crate) fn begin_all(
     Ok(())
 }
 
-// Returns the sum so far. Adds what the route sends into the link, if the route contains the link.
+// Adds the route's entry into the link to `total`, if the route contains the link.
 fn with_entry(
     alloc: Global,
     total: Curve,
@@ -107,7 +107,7 @@ fn with_entry(
     }
 }
 
-/// Returns the inflow of a link by time: the sum of what the routes over it send into it.
+/// Returns the inflow of a link by time: the sum of the entries of the routes over it.
 pub(crate) fn inflow_of(
     alloc: Global,
     routes: &[Route],

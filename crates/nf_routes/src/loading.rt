@@ -20,7 +20,7 @@ use nf_net::{LinkId, Network};
 use nf_routes_file::{Route, loading_order};
 use std::alloc::Global;
 
-// Loads a link up to its end with what the routes over it send into it. Records the loading, and sends the routes' amounts on.
+// Loads a link up to its end with the entries of the routes over it. Records the loading, and sends the routes' amounts on.
 fn load_here(
     alloc: Global,
     net: &Network,

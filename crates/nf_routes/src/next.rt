@@ -1,4 +1,4 @@
-// The amount that a route sends on through a link.
+// Amounts that a route sends on.
 ghost use Rattle.std.specs.Prelude.{◌≡◌, ◌∷◌, map, IfOk};
 ghost use Rattle.nf_rational.specs.Rational.{ℚ};
 ghost use Rattle.nf_rational.specs.Operations.{0ℚ};
@@ -50,11 +50,11 @@ fn next_points(alloc: Global, all: &[Sides]) -> Result<Vec<Point>, AllocError>
     Ok(points)
 }
 
-/// Returns what a route sends into its next link, or what has arrived behind its last link. The curve is an amount by time, in short form.
-/// What the route sent into the link by an entry, it has sent on by the exit of that entry. Exits may be constant while flow does not
-/// enter; the first entry of such an interval determines the point. `exit` holds the exits of the link by the time of entry. `entry` holds
-/// the amount that the route has sent into the link. Returns `Passed` exactly at the first operation of its operation sequence that passes,
-/// with part Load.
+/// Returns the amount that a route has sent into its next link by each time, in short form. After the last link of a route, this is the
+/// amount that has arrived. `exit` holds the exits of the link by the time of entry. `entry` holds the amount that the route has sent into
+/// the link. The route has sent on the amount of each entry by the exit of that entry. If exits are constant on an interval, no flow enters
+/// there, and the first entry of the interval determines the point. Returns `Passed` exactly at the first operation of its operation
+/// sequence that passes, with part Load.
 pub(crate) fn next_entry(alloc: Global, exit: &Curve, entry: &Curve) -> Result<Curve, Halt<Q>>
     requires exits { AreExits exit.now.points }
     requires amount { IsAmount entry.now.points }

@@ -24,8 +24,8 @@ use nf_net::Network;
 use nf_routes_file::Routes;
 use std::alloc::{AllocError, Global};
 
-/// The result of loading a network along routes, all by time. `ends` and `links` are indexed by link: each link is loaded up to its end,
-/// with queue, outflow and exits. The other fields are indexed by route. `entries` holds what the route has sent into each of its links, in
+/// The loading of a network along routes, by time. `ends` and `links` are indexed by link: each link is loaded up to its end, with queue,
+/// outflow and exits. The other fields are indexed by route. `entries` holds the amount that the route has sent into each of its links, in
 /// route order. `arrivals` holds the amount that has arrived. `travels` holds the arrival time of each departure. Amounts count departures
 /// up to the horizon.
 #[derive(Drop)]
@@ -54,7 +54,7 @@ fn ended(alloc: Global, links: Vec<Option<LoadedLink>>) -> Result<(Vec<Q>, Vec<L
     Ok((ends, all))
 }
 
-// Splits the routes' stages: returns what each sent into its links, and what has arrived.
+// Splits the routes' stages: returns the entries into the links of each route, and the amount that has arrived.
 fn parted(alloc: Global, entries: Vec<Stages>) -> Result<(Vec<Vec<Curve>>, Vec<Curve>), AllocError>
     requires { HaveSent entries.items }
     ensures entries { IfOk result

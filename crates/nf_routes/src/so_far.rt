@@ -1,4 +1,4 @@
-// The links loaded and the amounts sent so far.
+// Progress of a loading.
 ghost use Rattle.std.specs.Prelude.{◌≡◌, IfOk};
 ghost use Rattle.nf_routes_lists.specs.RoutesFile.{routes_of};
 ghost use Rattle.nf_routes.specs.Beginning.{nothing_loaded, nothing_sent};
@@ -30,7 +30,7 @@ impl Model for LoadedLink {
     ghost view = { λ l. record { end = l.end; loaded = loaded_of l.loaded } };
 }
 
-/// Progress of a loading: each link's loading, if it is loaded, and what each route has sent so far.
+/// Progress of a loading. `links` holds the loading of each loaded link. `entries` holds the amounts that each route has sent so far.
 #[derive(Drop)]
 pub struct SoFar {
     pub links: Vec<Option<LoadedLink>>,

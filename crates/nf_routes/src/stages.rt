@@ -7,8 +7,8 @@ use nf_curve::Curve;
 use std::alloc::{AllocError, Global};
 use std::marker::Model;
 
-/// The amounts by time that a route has sent into its loaded links, in route order. If all links of the route are loaded, the last curve is
-/// the amount that has arrived.
+/// Amounts that a route has sent, by time. There is one for each loaded link of the route, in route order. If all links of the route are
+/// loaded, the last curve is the amount that has arrived.
 #[derive(Drop)]
 pub struct Stages {
     curves: Vec<Curve>,
@@ -62,7 +62,7 @@ impl Stages {
         &self.curves[self.curves.len() - 1]
     }
 
-    /// Returns all amounts but the last, and the last. Never returns `None`, because at least one amount is required.
+    /// Returns all amounts but the last, and the last. Never returns `None`: at least one amount is a precondition.
     pub fn end(self) -> Option<(Vec<Curve>, Curve)>
         requires { 0 < length self }
         ensures some { IsSome result }

@@ -44,8 +44,8 @@ fn travel(alloc: Global, links: &[Loaded], route: &Route, horizon: Q) -> Result<
     Curve::short(alloc, &travel, Part::Load)
 }
 
-/// Returns for each route the arrival time of each departure up to the horizon. The arrival composes the exits of the route's links, in
-/// order.
+/// Returns for each route the arrival time of each departure up to the horizon. The arrival time is the composition of the exits of the
+/// route's links, in order.
 pub(crate) fn travels(
     alloc: Global,
     links: &[Loaded],

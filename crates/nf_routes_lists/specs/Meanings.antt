@@ -14,7 +14,7 @@ use Rattle.nf_routes_lists.specs.RoutesList.{Routed}
 abbrev pub link_loaded : Routed → ℕ → Loaded
 link_loaded routed e = unwrap_or (slice_get routed.links e) (record { queue = []; outflow = []; exit = [] })
 
--- the exit of what enters a link at a time
+-- the exit of flow that enters a link at a time
 abbrev pub exit_by : Routed → ℕ → ℚ → ℚ
 exit_by routed e time = value (link_loaded routed e).exit time
 
@@ -48,7 +48,8 @@ sent_by_routes entered e (route ∷ routes) = sent_along (entered 0) e route.lin
 abbrev pub inflow_by : List Route → Routed → ℕ → ℚ → ℚ
 inflow_by routes routed e time = sent_by_routes (λ r place. sent_by routed r place time) e routes
 
--- The end of a link: the greatest of the horizon and the exits of the links directly before it, each taken at its own end.
+-- The end of a link: the greatest of the horizon and the end exits of the links directly before it. The end exit of a link is its exit at
+-- its own end.
 pub record IsEnd (routes : List Route) (horizon : ℚ) (routed : Routed) (e : ℕ) (end : ℚ) : Type 0 where
   pub horizon_by : horizon ≤ℚ end
   pub before : (f : ℕ) → IsBefore routes f e → exit_by routed f (number_at routed.ends f) ≤ℚ end
@@ -94,7 +95,7 @@ pub record IsRouted (net : Network) (routes : List Route) (horizon : ℚ) (route
       → IsExit link.transit link.capacity (inflow_by routes routed e) time (exit_by routed e time)
   pub outflows : (e : ℕ) (link : Link) (time : ℚ) → IsLink net e link → Within 0ℚ (number_at routed.ends e +ℚ link.transit) time
       → IsOutflow link.transit link.capacity (inflow_by routes routed e) time (value (link_loaded routed e).outflow time)
-  -- what a route has sent into a link by an entry, it has sent into its next link by the exit of that entry
+  -- a route has sent the amount of each entry into its next link by the exit of that entry
   pub next : (r place e : ℕ) (route : Route) (time : ℚ) → slice_get routes r ≡ Some route → slice_get route.links place ≡ Some e
       → Within 0ℚ (number_at routed.ends e) time → sent_by routed r (suc place) (exit_by routed e time) ≡ sent_by routed r place time
   pub next_before : (r place e : ℕ) (route : Route) (time : ℚ) → slice_get routes r ≡ Some route → slice_get route.links place ≡ Some e
