@@ -1,4 +1,4 @@
--- The answers of the program: their statuses, and the texts on output and standard error.
+-- The answers of the program, with statuses and texts.
 use Rattle.std.specs.Prelude.{ℕ, List, [], Option, Some, None}
 use Rattle.nf_rational.specs.Rational.{ℚ}
 use Rattle.nf_work.specs.declared.PassedAt.{PassedAt}

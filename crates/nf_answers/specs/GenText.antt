@@ -1,4 +1,4 @@
--- The printed answer of `gen`: a summary of a run in a generated ladder.
+-- The printed answer of `gen`.
 use Rattle.std.specs.Prelude.{ℕ, List, [], ◌∷◌, ◌++◌, length, flat_map, Option, codes}
 use Rattle.nf_rational.specs.Rational.{ℚ}
 use Rattle.nf_numerals.specs.Digits.{digits_of}

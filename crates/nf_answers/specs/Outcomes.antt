@@ -31,9 +31,9 @@ answer_with net (Computed.Generated ladder horizon s arrival) = Generated ladder
 answer_with net (Computed.Settled settled) = Settled net settled.pattern settled.flows.items
 answer_with net (Computed.Distributed routes horizon routed) = Distributed net routes horizon (routed_of routed)
 
--- The result has what its text needs. A report, and a run without a horizon, are well formed. The canonical text is that of the network.
--- There is a loading for each link. The text of a quickest flow holds all but the arrival. The arrival of a generated run is that of the
--- last departure. Settled flows and their pattern have an entry for each link. A loading by route has curves for each link and for each
+-- The result satisfies the conditions of its text. A report, and a run without a horizon, are well formed. The canonical text is that of
+-- the network. Each link has a loading. The text of a quickest flow holds all but the arrival. The arrival of a generated run is that of
+-- the last departure. Settled flows and their pattern have an entry for each link. A loading by route has curves for each link and for each
 -- route.
 abbrev pub HasTextWith : Named → Computed → Type 0
 HasTextWith net (Computed.Solved horizon s) = IsWellFormed net.net (report_in horizon s)

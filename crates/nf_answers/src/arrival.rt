@@ -1,8 +1,8 @@
-// The arrival in an equilibrium, printed with a quickest flow.
+// Arrivals in an equilibrium.
 use nf_curve::Stop;
 use nf_frac::Q;
 
-/// The time by which an amount arrives at the sink in an equilibrium.
+/// The arrival of an amount in an equilibrium.
 #[derive(Clone, Copy)]
 pub enum Arrival {
     /// The amount is never supplied.

@@ -86,8 +86,8 @@ fn write_broken_rule<O: Sink>(
     )
 }
 
-/// Writes the line of a verdict: `yes`, or `no` with the first broken rule, the node or link that breaks it, the time, and two different
-/// values. Allocates nothing.
+/// Writes the line of a verdict. A `no` holds the first broken rule, the node or link that breaks it, the time, and two different values.
+/// Allocates nothing.
 ///
 /// The first fault ends the writing; the sink then took a proper prefix of the line.
 pub fn write_verdict<O: Sink>(out: &mut O, net: &Network, verdict: &Answer) -> Result<(), SinkFault>

@@ -18,7 +18,7 @@ use nf_numerals::write_count;
 use nf_phase::Solution;
 use nf_report::{write_line, write_stop};
 
-/// A generated ladder: its number, and its number of rungs.
+/// The number and the rungs of a generated ladder.
 #[derive(Clone, Copy)]
 pub struct Ladder {
     pub number: u64,
@@ -93,8 +93,9 @@ fn write_end<O: Sink>(out: &mut O, stop: Option<&Stop>, arrival: Q) -> Result<()
     write_number(out, b"arrival", arrival)
 }
 
-/// Writes the summary of a run in a ladder: the ladder, the size of the network, the number of phases, the departure reached, the cause of
-/// the run's end, and `arrival`. `arrival` is the time at which the last departure reaches the sink. Allocates nothing.
+/// Writes the summary of a run in a ladder. The summary holds the ladder, the size of the network, the number of phases and the departure
+/// reached. The cause of the run's end and `arrival` follow. `arrival` is the time at which the last departure reaches the sink. Allocates
+/// nothing.
 ///
 /// The first fault ends the writing; the sink then took a proper prefix of the text.
 pub fn write_summary<O: Sink>(

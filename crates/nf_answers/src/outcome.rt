@@ -37,23 +37,23 @@ pub enum Computed {
         horizon: Q,
         links: Vec<Loaded>,
     },
-    /// The verdict on the flow of a report: an equilibrium, or the first rule that it breaks.
+    /// The verdict on the flow of a report.
     Checked {
         verdict: Answer,
     },
-    /// A quickest flow with its text, and the arrival in an equilibrium.
+    /// A quickest flow with its text and arrival.
     Quickest {
         quick: Quick,
         arrival: Arrival,
         text: Vec<u8>,
     },
-    /// The walks pushed for a quickest flow that is not finished, as many as allowed, with their text.
+    /// The quickest flow exceeds its budget of walks. `walks` holds the pushed walks, as many as allowed, and `text` is their text.
     TooManyWalks {
         augments: u64,
         walks: Vec<Augment>,
         text: Vec<u8>,
     },
-    /// The run in a ladder up to a horizon, and the arrival of the last departure at the sink.
+    /// The run in a ladder up to a horizon. `arrival` is the arrival of the last departure at the sink.
     Generated {
         ladder: Ladder,
         horizon: Q,
@@ -92,7 +92,7 @@ impl Computed {
     }
 }
 
-/// A network, and the result of a request in it.
+/// A network, and a request's result in it.
 #[derive(Drop)]
 pub struct Outcome {
     pub net: Network,

@@ -1,4 +1,4 @@
-// The text of a quickest flow and of an arrival.
+// The texts of quickest flows and arrivals.
 ghost use Rattle.std.specs.Prelude.{◌≡◌, ◌<◌, [], ◌∷◌, ◌++◌, length, flat_map, map, OnOk, IfOk};
 ghost use Rattle.std.specs.List.{enumerate_from};
 ghost use Rattle.nf_numerals.specs.Printed.{printed};
@@ -81,8 +81,8 @@ fn put_cut(text: &mut Vec<u8>, net: &Network, cut: &[Q]) -> Result<(), AllocErro
     Ok(())
 }
 
-/// Returns the text of a quickest flow: its time, its walks with their rates, a time for each node (its cut), and the cut's value, an
-/// amount. Refuses only if an allocation fails.
+/// Returns the text of a quickest flow: its time, its walks with their rates, its cut and the cut's value. The cut has a time for each
+/// node, and the value is an amount. Refuses only if an allocation fails.
 pub fn flow_text(alloc: Global, net: &Network, quick: &Quick) -> Result<Vec<u8>, AllocError>
     requires { length quick.now.cut ≡ net.now.net.nodes }
     ensures { IfOk result (λ text. text.items ≡ flow_text net.now quick.now) }

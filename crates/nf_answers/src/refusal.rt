@@ -14,7 +14,7 @@ use nf_report::{ReportFault, ReportRule};
 use nf_routes_file::{RoutesFault, RoutesRule};
 use std::alloc::AllocError;
 
-/// The reason why a run has no text for the output.
+/// A reason to write no text to the output.
 #[derive(Clone, Copy)]
 pub enum Refusal {
     /// An allocation failed.
@@ -25,15 +25,15 @@ pub enum Refusal {
     ShelfFailed,
     /// A file has too many bytes.
     ShelfTooLong,
-    /// The first rule that the network file breaks, with its line.
+    /// The network file breaks `rule` first, in `line`.
     Malformed { rule: NetRule, line: u32 },
-    /// The first rule that the loads file breaks, with its line.
+    /// The loads file breaks `rule` first, in `line`.
     MalformedLoads { rule: LoadRule, line: u32 },
-    /// The first rule that the flows file breaks, with its line.
+    /// The flows file breaks `rule` first, in `line`.
     MalformedFlows { rule: FlowsRule, line: u32 },
-    /// The first rule that the routes file breaks, with its line.
+    /// The routes file breaks `rule` first, in `line`.
     MalformedRoutes { rule: RoutesRule, line: u32 },
-    /// The first rule that the report breaks, with its line.
+    /// The report breaks `rule` first, in `line`.
     MalformedReport { rule: ReportRule, line: u32 },
     /// An operation passes the bound.
     Passes(PassedAt<Q>),

@@ -44,8 +44,8 @@ fn write_routes<O: Sink>(out: &mut O, routes: &Routes, routed: &Routed) -> Resul
     Ok(())
 }
 
-/// Writes a loading by route up to a horizon, a time: the queue, outflow and exit curves of each link, and the arrival and travel curves of
-/// each route. Allocates nothing.
+/// Writes a loading by route up to a horizon, a time. The queue, outflow and exit curves of each link come first. The arrival and travel
+/// curves of each route follow. Allocates nothing.
 ///
 /// The first fault ends the writing; the sink then took a proper prefix of the text.
 pub fn write_routed<O: Sink>(

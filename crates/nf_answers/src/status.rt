@@ -27,7 +27,7 @@ pub enum Status {
     Output,
     /// The flow of the report is not an equilibrium.
     NotEquilibrium,
-    /// As many walks as allowed were pushed for a quickest flow, and the next walk is shorter than the flow's time.
+    /// A quickest flow pushed as many walks as allowed, and the next walk is shorter than the flow's time.
     Augments,
     /// A run without a horizon made as many phases as allowed.
     Events,

@@ -1,4 +1,4 @@
-// The text of the walks pushed for a quickest flow.
+// The text of pushed walks.
 ghost use Rattle.std.specs.Prelude.{◌≡◌, [], ◌∷◌, ◌++◌, flat_map, map, OnOk, IfOk};
 ghost use Rattle.nf_report.specs.Written.{after_words};
 ghost use Rattle.nf_answers.specs.QuickText.{step_word, augment_line, augments_text};

@@ -1,4 +1,4 @@
-// Words of a line that is built in memory.
+// Words of lines built in memory.
 ghost use Rattle.std.specs.Prelude.{◌≡◌, ◌∷◌, ◌++◌, OnOk};
 ghost use Rattle.nf_numerals.specs.Printed.{printed};
 ghost use Rattle.nf_formats.specs.Names.{name_at};

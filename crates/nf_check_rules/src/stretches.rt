@@ -1,4 +1,4 @@
-// Tests for flow off the shortest routes. Each tests an interval of departures between consecutive times of three curves.
+// Tests for flow off the shortest routes, interval by interval. An interval of departures lies between consecutive times of three curves.
 ghost use Rattle.std.specs.Prelude.{◌≡◌, true, pos, option_map, IfOk, OnOk};
 ghost use Rattle.std.specs.List.{AllByRecursion};
 ghost use Rattle.nf_rational.specs.Operations.{0ℚ, whole};

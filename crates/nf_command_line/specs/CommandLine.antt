@@ -32,7 +32,7 @@ abbrev pub with_options : List Text → App → App
 with_options [] app = app
 with_options (name ∷ names) app = with_options names (with_rule app (option_rule name))
 
--- the options with one value: those of a run, of a quickest flow, and of a ladder
+-- the options with one value
 abbrev pub options : List Text
 options =
     codes "horizon"

@@ -9,7 +9,7 @@ use clap::error::ErrorKind;
 use clap::{Arg, ArgAction, ArgMatches, Command};
 use std::alloc::{AllocError, Global};
 
-/// The options with one value: those of a run, of a quickest flow, and of a ladder.
+/// The options with one value.
 pub(crate) static OPTIONS: [&str; 7] = [
     "horizon", "phases", "patterns", "amount", "augments", "number", "rungs",
 ];

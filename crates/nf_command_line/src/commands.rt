@@ -1,4 +1,4 @@
-// The commands of the command line, with their files and options.
+// The commands, with their files and options.
 ghost use Rattle.std.specs.Prelude.{◌≡◌, ◌&&◌, map};
 ghost use Rattle.nf_command_line.specs.CommandLine.{options};
 ghost use Rattle.nf_command_line.specs.Commands.{are_met, commands, first_task, fits, is_met, is_named, need_of};
@@ -33,7 +33,7 @@ pub enum Task {
     Routes,
 }
 
-/// Whether a command requires one of its options or flags.
+/// The need of an option or flag of a command: the command requires it, or allows it.
 #[derive(Clone, Copy)]
 pub(crate) enum Need {
     Required,
@@ -173,8 +173,8 @@ fn options_met(matches: &ArgMatches, wanted: &[(&'static str, Need)]) -> bool
     are_met(matches, wanted, OPTIONS.as_slice())
 }
 
-// Returns whether the words fit the row: the number of files agrees, each required option is given, and no option is given that the command
-// does not have.
+// Returns whether the words fit the row. The number of files must agree, and each required option must be given. No option may be given
+// that the command does not have.
 #[tactic(auto, unfolding(crate::specs::Commands::fits))]
 fn fits(matches: &ArgMatches, line: &Line) -> bool
     ensures { result ≡ fits (line_of line.now) (rows_in matches.now) }

@@ -1,4 +1,4 @@
-// The numbers of the command line: horizon, amount and counts.
+// The numbers of the command line.
 ghost use Rattle.std.specs.Prelude.{◌≡◌, ◌≤◌, IfSome};
 ghost use Rattle.nf_numerals.specs.Digits.{are_digits};
 ghost use Rattle.nf_command_line.specs.MatchViews.{rows_in};

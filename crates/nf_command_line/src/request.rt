@@ -15,43 +15,43 @@ use nf_frac::Q;
 /// A request, with files by name.
 #[derive(Clone, Copy)]
 pub enum Request<'w> {
-    /// The report of a run in a network, from time 0 to `horizon`, which is at least 0. The run has at most `phases` phases, each of which
-    /// tries at most `patterns` patterns. Both are at least 1.
+    /// Asks for the report of a run in a network, from time 0 to `horizon`, which is at least 0. The run has at most `phases` phases, each
+    /// of which tries at most `patterns` patterns. Both are at least 1.
     Solve {
         file: &'w str,
         horizon: Q,
         phases: u64,
         patterns: u64,
     },
-    /// A run in a network from time 0 without a horizon. The run has at most `phases` phases, each of which tries at most `patterns`
-    /// patterns. Both are at least 1.
+    /// Asks for a run in a network from time 0 without a horizon. The run has at most `phases` phases, each of which tries at most
+    /// `patterns` patterns. Both are at least 1.
     SolveForever {
         file: &'w str,
         phases: u64,
         patterns: u64,
     },
-    /// The canonical text of a network.
+    /// Asks for the canonical text of a network.
     Show {
         file: &'w str,
     },
-    /// The loading of each link of a network by a given inflow, up to `horizon`, which is at least 0.
+    /// Asks for the loading of each link of a network by the inflows of a loads file, up to `horizon`, which is at least 0.
     Load {
         file: &'w str,
         loads: &'w str,
         horizon: Q,
     },
-    /// The test of whether the flow of a report is an equilibrium of a network.
+    /// Asks whether the flow of a report is an equilibrium of a network.
     Check {
         file: &'w str,
         report: &'w str,
     },
-    /// The quickest flow of `amount`, at least 0, in a network. At most `augments` walks are pushed, at least 1.
+    /// Asks for the quickest flow of `amount`, at least 0, in a network. At most `augments` walks are pushed, at least 1.
     Quick {
         file: &'w str,
         amount: Q,
         augments: u64,
     },
-    /// The summary of a run as in `Solve`, in the generated ladder of a number with 1 to 30 rungs.
+    /// Asks for the summary of a run as in `Solve`, in the generated ladder of a number with 1 to 30 rungs.
     Gen {
         number: u64,
         rungs: u32,
@@ -59,13 +59,13 @@ pub enum Request<'w> {
         phases: u64,
         patterns: u64,
     },
-    /// The settled form of a flows file's thin flow, for the sets of the labels at departure 0 of a network.
+    /// Asks for the settled form of a flows file's thin flow, for the sets of the labels at departure 0 of a network.
     Settle {
         file: &'w str,
         flows: &'w str,
     },
-    /// The report of the run that continues another report's flow up to `horizon`, which is at least 0. The run has at most `phases`
-    /// further phases, each of which tries at most `patterns` patterns. Both are at least 1.
+    /// Asks for the report of the run that continues another report's flow up to `horizon`, which is at least 0. The run has at most
+    /// `phases` further phases, each of which tries at most `patterns` patterns. Both are at least 1.
     Resume {
         file: &'w str,
         report: &'w str,
@@ -73,7 +73,7 @@ pub enum Request<'w> {
         phases: u64,
         patterns: u64,
     },
-    /// The loading along given routes of a network, up to `horizon`, which is at least 0.
+    /// Asks for the loading along the routes of a routes file, up to `horizon`, which is at least 0.
     Routes {
         file: &'w str,
         routes: &'w str,

@@ -1,4 +1,4 @@
--- Results of the test and of the settling of a thin flow.
+-- Results of testing and settling thin flows.
 use Rattle.std.specs.Prelude.{◌≡◌, Bool, List, Result, Ok, Err, IsOk}
 use Rattle.nf_rational.specs.Rational.{ℚ}
 use Rattle.nf_work.specs.Passing.{Passing}

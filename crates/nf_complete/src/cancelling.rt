@@ -1,4 +1,4 @@
-// Cancelling a cycle: the room of each link, and the flows after it.
+// Cancelling a cycle.
 ghost use Rattle.std.specs.Prelude.{◌≡◌, ◌<◌, ◌^◌, length, Some, None, unwrap_or, slice_get};
 ghost use Rattle.nf_rational.specs.Operations.{0ℚ};
 ghost use Rattle.nf_work.specs.declared.Part.TheVariants.{Verdict};

@@ -79,7 +79,7 @@ fn with_lowest_forward(
     Ok(steps)
 }
 
-/// A cycle, and its highest link, which closes it.
+/// A cycle. `last` is its highest link, which closes the cycle.
 #[derive(Drop)]
 pub(crate) struct Cycle {
     pub steps: Vec<Step>,

@@ -1,4 +1,4 @@
-// Active links into a node, and tests on them.
+// Tests on active links into a node.
 ghost use Rattle.std.specs.Prelude.{◌≡◌, ◌<◌, length, MatchBool};
 ghost use Rattle.nf_complete.specs.ThinParts.{LeadsInto, IsLevelAt, Brings};
 

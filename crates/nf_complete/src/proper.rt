@@ -1,4 +1,4 @@
-// Conditions of a thin flow that need no operation on numbers.
+// Conditions of a thin flow without operations.
 ghost use Rattle.std.specs.Prelude.{◌≡◌, ◌<◌, not, length, MatchBool};
 ghost use Rattle.nf_rational.specs.Operations.{0ℚ, 1ℚ};
 ghost use Rattle.nf_rational.specs.Order.{le_ℚ};

@@ -2,7 +2,8 @@
 use nf_frac::Q;
 use nf_pattern::Pattern;
 
-/// The flow of each link, an amount per unit of time, and the state of each link that needs one.
+/// A settled thin flow. `flows` holds the flow of each link, an amount per unit of time. `pattern` holds the state of each link that needs
+/// one.
 #[derive(Drop)]
 pub struct Settled {
     pub flows: Vec<Q>,

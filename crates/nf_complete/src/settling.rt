@@ -84,9 +84,9 @@ fn cancelled(
 /// They must be a thin flow of these sets (`is_thin` tests it). The active links must hold no cycle, and no resetting link may be
 /// unbounded.
 ///
-/// The operations are those of `Settles` (nf_complete_lists/specs/Cancelling.antt): the flow that fills each link, and then for each cycle
-/// the room of each link and its new flow. Returns `Passed` exactly at the first of them that passes, with the part Verdict. Otherwise
-/// fails only if an allocation fails.
+/// The operations are those of `Settles` (nf_complete_lists/specs/Cancelling.antt). First the flow that fills each link is computed. Then
+/// for each cycle the room of each link and its new flow are computed. Returns `Passed` exactly at the first of them that passes, with the
+/// part Verdict. Otherwise fails only if an allocation fails.
 pub fn settle(
     alloc: Global,
     net: &Network,

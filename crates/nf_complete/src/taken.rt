@@ -7,8 +7,8 @@ use nf_frac::Q;
 use nf_graph::{LinkId, LinkSets, NodeId};
 use nf_net::Network;
 
-// Returns whether a node takes its slope from the link: the link is active, enters the node, and is resetting, carries flow or has equal
-// slopes at its ends.
+// Returns whether a node takes its slope from the link. The link must be active and enter the node. The link must also be resetting, carry
+// flow, or have equal slopes at its ends.
 fn takes(
     net: &Network,
     sets: &LinkSets,

@@ -20,7 +20,7 @@ use nf_net::Network;
 /// resetting link may be unbounded.
 ///
 /// The operations are those of `thin_list` (nf_complete_lists/specs/ThinList.antt). For each node the flows of the active links into it are
-/// summed. Then the flows of the active links out of it are summed, at the sink with the rate. After all nodes, each active link's capacity
+/// summed. The flows of the active links out of it are summed next, at the sink with the rate. After all nodes, each active link's capacity
 /// is multiplied by the slope of its head. Returns `Passed` exactly at the first of these operations that passes, whatever the answer would
 /// be, with the part Verdict. Allocates nothing.
 pub fn is_thin(

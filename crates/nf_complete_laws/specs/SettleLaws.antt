@@ -51,7 +51,7 @@ pub record SettlingHasOneAnswer : Type 0 where
       → IsThinFlow net sets rate flows slopes
       → IsSettledPattern net sets flows slopes pattern → IsSettledPattern net sets flows slopes other → pattern ≡ other
 
--- a run that stopped because no pattern was left, stopped where there is no thin flow
+-- if a run stopped because no pattern was left, there is no thin flow at the departure reached
 abbrev pub StoppedRunHasNoThinFlow : Type 0
 StoppedRunHasNoThinFlow = (passes : Passing) (net : Network) (bounds : Bounds) (report : Report) → IsNetwork net
     → IsRunReport passes net bounds report → StopsForNoThinFlow net report.stop report.flow

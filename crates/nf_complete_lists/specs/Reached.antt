@@ -16,6 +16,6 @@ abbrev pub NoThinFlowFrom : Network → Flow → Type 0
 NoThinFlowFrom net flow = (flows slopes : List ℚ)
     → IsThinFlow net (sets_at net (labels_reached net flow)) (rate_at net flow.reached) flows slopes → ⊥
 
--- a run that stopped with this flow because no pattern was left, stopped where there is no thin flow
+-- if the run stopped with this flow because no pattern was left, there is no thin flow at the departure reached
 abbrev pub StopsForNoThinFlow : Network → Option (Cause ℚ) → Flow → Type 0
 StopsForNoThinFlow net stop flow = (phase : ℕ) → stop ≡ Some (Cause.NoPattern phase) → NoThinFlowFrom net flow

@@ -1,4 +1,4 @@
--- The entry of a line, as a value of the definitions.
+-- Entries, as values of the definitions.
 use Rattle.std.specs.Prelude.{◌<◌, length}
 use Rattle.nf_formats.specs.Named.{Named}
 use Rattle.nf_complete_lists.specs.FlowsFile as file

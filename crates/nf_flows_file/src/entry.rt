@@ -1,4 +1,4 @@
-// The entry of a single line of a flows file.
+// Single lines of a flows file.
 ghost use Rattle.std.specs.Prelude.{◌≡◌, ℕ, ◌<◌, length, drop, IfOk};
 ghost use Rattle.std.specs.Result.{result_ok};
 ghost use Rattle.nf_rational.specs.Rational.{ℚ};
@@ -14,7 +14,7 @@ use nf_frac::Q;
 use nf_net::{LinkId, Network, NodeId};
 use nf_side_files::{ReadLine, is_word, link_of, node_of, number_of};
 
-/// The entry of a line: the flow of a link, the slope of a node, or the end.
+/// The entry of a line. `Flow` is the flow of a link, `Slope` is the slope of a node, and `End` is the `end` line.
 #[derive(Clone, Copy)]
 pub enum Entry {
     Flow(LinkId, Q),

@@ -8,7 +8,7 @@ use nf_side_files::TextFault;
 use std::alloc::AllocError;
 use thiserror::Error;
 
-/// The reason why a text is not a flows file.
+/// A reason to refuse a flows file.
 #[derive(Clone, Copy, Debug, Error)]
 pub enum FlowsFault {
     /// `rule` is the first broken rule, found in `line`; line 0 means the whole file.

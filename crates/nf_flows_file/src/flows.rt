@@ -1,8 +1,8 @@
 // The content of a flows file.
 use nf_frac::Q;
 
-/// The flow of each link of a network, a rate, and the slope of each node, the growth of its label per unit of time. No number is negative.
-/// A number that the file does not name is 0.
+/// Flows and slopes of a network. The flow of a link is a rate. The slope of a node is the growth of its label per unit of departure time.
+/// No number is negative. A number that the file does not name is 0.
 #[derive(Drop)]
 pub struct Flows {
     pub flows: Vec<Q>,

@@ -1,5 +1,5 @@
-// Ends of links. A link is loaded up to its end: the greatest of the horizon and the end exits of the links that directly precede it on a
-// route. The end exit of a link is its exit at its own end.
+// Ends of links. A link is loaded up to its end. That time is the greatest of the horizon and the end exits of the links directly before it
+// on a route. The end exit of a link is its exit at its own end.
 ghost use Rattle.std.specs.Prelude.{◌≡◌, slice_get};
 ghost use Rattle.nf_check_lists.specs.Curves.{last_value as last_by};
 ghost use Rattle.nf_routes_lists.specs.Routes.{pairs_of, all_pairs};

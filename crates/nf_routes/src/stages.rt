@@ -7,8 +7,8 @@ use nf_curve::Curve;
 use std::alloc::{AllocError, Global};
 use std::marker::Model;
 
-/// Amounts that a route has sent, by time. There is one for each loaded link of the route, in route order. If all links of the route are
-/// loaded, the last curve is the amount that has arrived.
+/// Amounts that a route has sent, by time. Each loaded link of the route has one, in route order. If all links of the route are loaded, the
+/// last curve is the amount that has arrived.
 #[derive(Drop)]
 pub struct Stages {
     curves: Vec<Curve>,

@@ -1,4 +1,4 @@
--- The parser state, as a value of the definitions.
+-- Parser states, as values of the definitions.
 use Rattle.std.specs.Prelude.{List, Result}
 use Rattle.nf_work.specs.Checked.{◌>>=◌}
 use Rattle.nf_formats.specs.Named.{Named}

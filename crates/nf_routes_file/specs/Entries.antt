@@ -1,4 +1,4 @@
--- The entry of a line, as a value of the definitions.
+-- Entries, as values of the definitions.
 use Rattle.std.specs.Prelude.{◌≡◌, ℕ, ◌<◌, true, false, List, [], length, map, All, Result, Ok, Err, MatchResult}
 use Rattle.std.specs.List.{list_all}
 use Rattle.nf_formats.specs.Names.{Name, has_name, place_of}

@@ -122,8 +122,8 @@ impl Draft {
         Ok(())
     }
 
-    /// Returns the routes, or the first broken rule of G16 and G17. G16 requires an `end` line. G17 requires that the loading order takes
-    /// every link.
+    /// Returns the routes, or the first broken rule of G16 and G17. G16 is broken if there was no `end` line. G17 is broken if the loading
+    /// order omits a link.
     pub fn close(self, alloc: Global, net: &Network) -> Result<Routes, RoutesFault>
         requires { AreSound net.now.net self.routes.items }
         ensures { MatchResult result (λ routes. routes_closed net.now (seen_draft self) ≡ Ok routes)

@@ -1,4 +1,4 @@
-// The entry of a single line of a routes file.
+// Single lines of a routes file.
 ghost use Rattle.std.specs.Prelude.{◌≡◌, ℕ, ◌<◌, ◌≤◌, true, false, length, drop, position, MatchOption, IfSome, IfOk, MatchResult};
 ghost use Rattle.std.specs.Str.{bytes_eq};
 ghost use Rattle.nf_formats.specs.Names as names;
@@ -15,7 +15,7 @@ use nf_routes_lists::RoutesRule;
 use nf_side_files::{ReadLine, is_name, is_word, link_of, number_of};
 use std::alloc::Global;
 
-/// The entry of a line: a route without pieces, a piece for the route at an index, or the end.
+/// The entry of a line. `Route` is a route without pieces, `Rate` is a piece for the route at an index, and `End` is the `end` line.
 #[derive(Drop)]
 pub enum Entry {
     Route(Route),

@@ -9,7 +9,7 @@ use nf_side_files::TextFault;
 use std::alloc::{AllocError, AllocFailed};
 use thiserror::Error;
 
-/// The reason why a text is not a routes file.
+/// A reason to refuse a routes file.
 #[derive(Clone, Copy, Debug, Error)]
 pub enum RoutesFault {
     /// `rule` is the first broken rule, found in `line`; line 0 means the whole file.
@@ -46,7 +46,7 @@ impl From<AllocError> for RoutesFault {
     }
 }
 
-/// The reason why a line is not added.
+/// A reason to refuse a line.
 #[derive(Clone, Copy)]
 pub enum RoutesLineFault {
     Broken(RoutesRule),

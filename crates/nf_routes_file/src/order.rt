@@ -1,5 +1,4 @@
-// The loading order of the links of routes. It repeatedly takes the lowest remaining link whose direct predecessors on all routes were
-// taken.
+// The loading order of links. The lowest remaining link whose direct predecessors on all routes were taken is taken next.
 ghost use Rattle.std.specs.Prelude.{◌≡◌, ◌<◌, ◌||◌, ◌==◌, not, IfOk, IfSome};
 ghost use Rattle.std.specs.List.{list_all, range_with_len};
 ghost use Rattle.nf_routes_lists.specs.Routes.{pairs_of, all_pairs, is_taken as is_taken_by, is_free as is_free_by, first_free, loading_order as order_by, takes_all as takes_all_by};
@@ -60,8 +59,8 @@ fn next_free(routes: &[Route], taken: &[LinkId], link_count: u32) -> Option<Link
     None
 }
 
-/// Returns the loading order of the links. It repeatedly takes the lowest remaining link whose direct predecessors on all routes were
-/// taken. It omits the links of circles, and the links after them.
+/// Returns the loading order of the links. The lowest remaining link whose direct predecessors on all routes were taken is taken next. The
+/// order omits the links of circles and the links after them.
 pub fn loading_order(
     alloc: Global,
     link_count: u32,
@@ -79,8 +78,8 @@ pub fn loading_order(
     Ok(order)
 }
 
-/// Returns whether the loading order takes every link. It does exactly if the routes hold no circle: links, each directly before the next
-/// on a route, that start and end with the same link.
+/// Returns whether the loading order takes every link. Every link is taken exactly if the routes hold no circle. A circle is a sequence of
+/// links, each directly before the next on a route, that starts and ends with the same link.
 pub(crate) fn takes_all(
     alloc: Global,
     link_count: u32,

@@ -6,8 +6,8 @@ use nf_net::Piece;
 use std::alloc::{AllocError, Global};
 use std::marker::Model;
 
-/// A route with its name, its links in order, and the pieces of its inflow in the order of their lines. A piece has a rate (an amount per
-/// unit of time) from its start until the next start.
+/// A route with its name and its links in order. `pieces` holds its inflow, in the order of the rate lines. A piece has a rate (an amount
+/// per unit of time) from its start until the next start.
 #[derive(Drop)]
 pub struct Route {
     name: String,

@@ -9,9 +9,9 @@ use nf_graph::LinkId;
 use nf_net::Piece;
 use std::marker::Model;
 
-/// The routes of a routes file, in the order of their lines. A file has at most 100 routes, with different names of 1 to 24 letters,
-/// digits, `_`, `-` and `.`. Each has at least one link and at most 200 pieces. The pieces of a route have rising starts, and no negative
-/// start or rate. The routes hold no circle: no links, each directly before the next on some route, start and end with the same link.
+/// The routes of a routes file, in order. A file has at most 100 routes, with different names of 1 to 24 letters, digits, `_`, `-` and `.`.
+/// Each has at least one link and at most 200 pieces. The pieces of a route have rising starts, and no negative start or rate. The routes
+/// hold no circle: no links, each directly before the next on some route, start and end with the same link.
 #[derive(Drop)]
 pub struct Routes {
     list: Vec<Route>,

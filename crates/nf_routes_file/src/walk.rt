@@ -1,4 +1,4 @@
-// The test for a walk from source to sink.
+// Walks from source to sink.
 ghost use Rattle.std.specs.Prelude.{◌≡◌, ◌<◌, length, All};
 ghost use Rattle.nf_routes_lists.specs.RoutesFile.{is_walk as is_walk_by};
 

@@ -14,8 +14,8 @@ use Rattle.nf_routes_lists.specs.Meanings.{IsRouted, RoutesArrive}
 abbrev pub NoneBeyond : List Point → ℚ → Type 0
 NoneBeyond points last = (front rest : List Point) (p : Point) → points ≡ front ++ p ∷ rest → p.0 ≤ℚ last
 
--- The entry is what a route sends into a link up to `last`, and `exit` holds the link's exits. The exits never fall, and the first is at
--- least 0. If two exits are equal, nothing was sent between their entries.
+-- `entry` is the amount that a route sends into a link up to `last`, and `exit` holds the link's exits. The exits never fall, and the first
+-- is at least 0. If two exits are equal, nothing was sent between their entries.
 pub record CanShare (exit entry : List Point) (last : ℚ) : Type 0 where
   pub entry_curve : IsCurve entry
   pub exit_curve : IsCurve exit
@@ -28,8 +28,8 @@ pub record CanShare (exit entry : List Point) (last : ℚ) : Type 0 where
   pub shares : (earlier later : ℚ) → 0ℚ ≤ℚ earlier → earlier ≤ℚ later → later ≤ℚ last → value exit earlier ≡ value exit later
       → value entry earlier ≡ value entry later
 
--- What the route sends into its next link: by each exit, the amount sent by its entry. The amount is 0 until the first exit, and constant
--- after the last.
+-- `next` is the amount that the route sends into its next link. By each exit the amount sent by its entry is sent on. The amount is 0 until
+-- the first exit, and constant after the last.
 pub record IsNext (exit entry : List Point) (last : ℚ) (next : List Point) : Type 0 where
   pub curve : IsCurve next
   pub form : IsShort next

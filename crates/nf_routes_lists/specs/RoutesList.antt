@@ -1,4 +1,4 @@
--- The operation sequence of loading by route. It loads the links in loading order, and then computes the travels.
+-- The operation sequence of loading by route. Links are loaded in loading order, then the travels are computed.
 use Rattle.std.specs.Prelude.{ℕ, Bool, true, false, ◌==◌, if◌then◌else◌, List, [], ◌∷◌, ◌++◌, length, map, set, Option, Some, None, slice_get, Ok}
 use Rattle.std.specs.List.{list_any}
 use Rattle.nf_rational.specs.Rational.{ℚ}
