@@ -4,8 +4,7 @@ ghost use Rattle.std.specs.Prelude.{◌≡◌};
 /// The status with which the program ends.
 #[derive(Clone, Copy, Debug, PartialEq, Eq)]
 pub enum Status {
-    /// The whole text was written. For `solve`, `resume` and `gen`, the horizon was also reached. A run without a horizon continues
-    /// forever.
+    /// The whole text was written. A run of `solve`, `resume` or `gen` also reached its horizon. A run without a horizon continues forever.
     Ok,
     /// An allocation failed.
     Memory,

@@ -101,9 +101,9 @@ fn know_traces(traces: &[Trace])
 /// that of the first point that breaks the rule. For C3 to C7 the time is the first corner at which two curves differ; they may also differ
 /// earlier, between two corners. For C8 the time is a departure in the first interval on which a link off the shortest routes takes flow.
 ///
-/// The flow has a label for each node, and an inflow, an outflow and a queue for each link. Its traces have one rate fewer than points, and
-/// the departure reached is at least 0. Returns `Passed` exactly at the first operation of its operation sequence that passes, with part
-/// Check or Load.
+/// The flow must have a label for each node, and an inflow, an outflow and a queue for each link. Its traces must have one rate fewer than
+/// points. The departure reached must be at least 0. Returns `Passed` exactly at the first operation of its operation sequence that passes,
+/// with part Check or Load.
 pub fn check(alloc: Global, net: &Network, flow: &Flow) -> Result<Answer, Halt<Q>>
     requires labels { length flow.now.labels.items ≡ net.now.net.nodes }
     requires inflows { length flow.now.inflows.items ≡ length net.now.net.links }

@@ -24,7 +24,7 @@ pub data Request : Type 0 where
   Resume : Text → Text → ℚ → ℕ → ℕ → Request
   Routes : Text → Text → ℚ → Request
 
--- A count is within its limits: at least 1 and at most `most`.
+-- A horizon and an amount are at least 0. Phases, patterns, pushed walks and rungs are at least 1 and at most their limit.
 abbrev pub IsWithin : ℕ → ℕ → Type 0
 IsWithin most count = (1 ≤ count) × (count ≤ most)
 

@@ -150,8 +150,8 @@ fn amount(room: Option<Q>) -> Q
 }
 
 /// Cancels a cycle: returns the flows after its forward links grow and its backward links shrink by one amount. The amount is the greatest
-/// for which each flow stays between 0 and the flow that fills its link. Returns `Passed` exactly at the first operation that passes, with
-/// part Verdict. Otherwise refuses only if an allocation fails.
+/// for which each flow stays between 0 and the flow that fills its link, or 0 if no link limits it. Returns `Passed` exactly at the first
+/// operation that passes, with part Verdict. Otherwise refuses only if an allocation fails.
 #[tactic(auto, unfolding(nf_complete_lists::specs::Cancelling::cancel_list))]
 pub fn cancel(
     alloc: Global,
