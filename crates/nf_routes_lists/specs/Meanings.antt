@@ -68,7 +68,7 @@ pub record IsRouted (net : Network) (routes : List Route) (horizon : ℚ) (route
   pub entries_count : length routed.entries ≡ length routes
   pub arrival_count : length routed.arrivals ≡ length routes
   pub travel_count : length routed.travels ≡ length routes
-  -- the entry curves are in short form
+  -- the entries, the travels, and the links' queues, outflows and exits are curves in short form
   pub curves : (r place : ℕ) (route : Route) → slice_get routes r ≡ Some route → place < suc (length route.links)
       → IsCurve (entry_at routed r place) × IsShort (entry_at routed r place)
   pub link_curves : (e : ℕ) → e < length net.links
