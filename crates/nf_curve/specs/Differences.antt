@@ -1,4 +1,4 @@
--- The values of two curves at a time at which they differ, as the lists of operations have them.
+-- Conversion of a `Difference` to the pair of values that the operation sequences use.
 use Rattle.nf_curve_lists.specs.Lines.{Sides}
 use Rattle.nf_curve.specs.declared.curve.Difference.{Difference}
 

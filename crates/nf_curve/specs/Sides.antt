@@ -1,4 +1,4 @@
--- The values of two curves at a time, as the lists of operations have them.
+-- Conversion of `Sides` to the pair of values that the operation sequences use.
 use Rattle.nf_curve_lists.specs.Lines as lists
 use Rattle.nf_curve.specs.declared.lines.Sides.{Sides}
 

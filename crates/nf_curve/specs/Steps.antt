@@ -1,4 +1,4 @@
--- Steps of the walks along curves.
+-- Single steps of the loops over curves.
 use Rattle.std.specs.Prelude.{Bool, false, List, [], ◌∷◌, ◌++◌, Option, Some, None, if◌then◌else◌, Ok}
 use Rattle.nf_rational.specs.Rational.{ℚ}
 use Rattle.nf_work.specs.Passing.{Passing}
@@ -9,19 +9,19 @@ use Rattle.nf_curve_lists.specs.Sums.{sides_at}
 use Rattle.nf_curve_lists.specs.Differences.{do_differ, turn_at, differ_at}
 use Rattle.nf_curve_lists.specs.Least.{is_crossed, least_point, crossing}
 
--- what comes next, behind what is there
+-- the next points, appended to `front`
 abbrev pub behind : List Point → Checked (List Point) → Checked (List Point)
 behind front next = do
   more ← next
   Ok (front ++ more)
 
--- the points of the lesser curve from one time to the next, behind those before
+-- `front`, followed by the points of the pointwise minimum after the time of `before`, up to the time of `now`
 abbrev pub lesser_step : Passing → List Point → Sides → Sides → Checked (List Point)
 lesser_step passes front before now = do
   between ← crossing passes (is_crossed before now) before now
   Ok (front ++ (between ++ least_point now ∷ []))
 
--- whether the slopes before and after the middle one of three points differ
+-- whether the slopes before and after the middle one of three points differ; false without a first or middle point
 abbrev pub turn_between : Passing → Option Point → Option Point → Option Point → Checked Bool
 turn_between passes (Some p) (Some q) None = turn_at passes p q []
 turn_between passes (Some p) (Some q) (Some r) = turn_at passes p q (r ∷ [])
