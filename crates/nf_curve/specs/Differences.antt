@@ -1,4 +1,4 @@
--- Conversion of a `Difference` to the pair of values that the operation sequences use.
+-- Converts a `Difference` to the `Sides` of the operation sequences.
 use Rattle.nf_curve_lists.specs.Lines.{Sides}
 use Rattle.nf_curve.specs.declared.curve.Difference.{Difference}
 

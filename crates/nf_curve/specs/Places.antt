@@ -1,4 +1,4 @@
--- Point counts: the number of points of a curve at or before a time. Also the times of two curves after a time.
+-- Counts of the points at or before a time. `times_after` lists the times of two curves after a time.
 use Rattle.std.specs.Prelude.{◌≡◌, ℕ, zero, suc, if◌then◌else◌, List, [], ◌∷◌, Option, Some, None, Ok}
 use Rattle.nf_rational.specs.Rational.{ℚ}
 use Rattle.nf_rational.specs.Operations.{0ℚ}
@@ -10,12 +10,12 @@ use Rattle.nf_lists.specs.Signs.{is_same}
 use Rattle.nf_curve_lists.specs.Lines.{checked_line}
 use Rattle.nf_curve_lists.specs.Times.{merged, times_of}
 
--- the number of leading points at or before a time
+-- counts the leading points at or before a time
 abbrev pub place_of : ℚ → List Point → ℕ
 place_of time [] = zero
 place_of time (p ∷ rest) = if lt_ℚ time p.0 then zero else suc (place_of time rest)
 
--- the value at a time, from the last point at or before it and the next point
+-- computes the value at a time from the last point at or before it and the next point
 abbrev pub value_between : Passing → ℚ → Option Point → Option Point → Checked ℚ
 value_between passes time None next = Ok 0ℚ
 value_between passes time (Some p) None = Ok p.1
@@ -30,14 +30,14 @@ later time (p ∷ rest) = if lt_ℚ time p.0 then p ∷ rest else later time res
 abbrev pub times_after : ℚ → List Point → List Point → List ℚ
 times_after time left right = merged (times_of (later time left)) (times_of (later time right))
 
--- the earlier of two times, or the only one
+-- returns the earlier of two times, or the only one
 abbrev pub earlier_of : Option ℚ → Option ℚ → Option ℚ
 earlier_of None None = None
 earlier_of (Some s) None = Some s
 earlier_of None (Some t) = Some t
 earlier_of (Some s) (Some t) = Some (min_ℚ s t)
 
--- the next time of the merge after a time: None if no later time is left, else the first one, followed by the times after it
+-- states that the given time is the first one of the merge after `time`, or that none is left
 abbrev pub ComesNext : ℚ → List Point → List Point → Option ℚ → Type 0
 ComesNext time left right None = times_after time left right ≡ []
 ComesNext time left right (Some next) = (time <ℚ next) × (times_after time left right ≡ next ∷ times_after next left right)

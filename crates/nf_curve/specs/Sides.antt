@@ -1,4 +1,4 @@
--- Conversion of `Sides` to the pair of values that the operation sequences use.
+-- Converts the code's `Sides` to those of the operation sequences.
 use Rattle.nf_curve_lists.specs.Lines as lists
 use Rattle.nf_curve.specs.declared.lines.Sides.{Sides}
 

@@ -222,7 +222,7 @@ impl Curve {
     }
 }
 
-/// The values of two curves, `left` and `right`, at a time at which they differ.
+/// A time at which two curves differ, with both values.
 #[derive(Clone, Copy)]
 pub struct Difference {
     pub time: Q,

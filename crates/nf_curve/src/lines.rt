@@ -1,4 +1,4 @@
-// Pieces of curves, from one point to a later one: slope, value at a time, time of a value, and crossing of two pieces.
+// Operations on pieces of curves. A piece leads from one point to a later one.
 ghost use Rattle.std.specs.Prelude.{◌≡◌, ◌≢◌, true};
 ghost use Rattle.nf_rational.specs.Order.{◌<ℚ◌};
 ghost use Rattle.nf_work.specs.Passing.{passes_Q};
@@ -9,10 +9,10 @@ ghost use Rattle.nf_curve.specs.Sides.{sides_of};
 
 use nf_frac::{Part, PassedAt, Q, at};
 
-/// A point of a curve: a time and the value there.
+/// A point: a time and a value.
 pub type Point = (Q, Q);
 
-/// The values of two curves at one time, each in the unit of its curve.
+/// The values of two curves at one time. Each value has the unit of its curve.
 #[derive(Clone, Copy)]
 pub struct Sides {
     pub time: Q,

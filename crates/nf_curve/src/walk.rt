@@ -1,4 +1,4 @@
-// A merge of the times of two curves: the times of the points of either, in increasing order.
+// The merge of two curves' times. It lists the times of the points of either, in increasing order.
 ghost use Rattle.std.specs.Prelude.{◌≡◌, ◌∷◌, slice_get, option_map, IfSome, IfOk};
 ghost use Rattle.nf_rational.specs.Operations.{0ℚ};
 ghost use Rattle.nf_rational.specs.Order.{◌<ℚ◌};
@@ -15,7 +15,7 @@ use crate::lines::{Point, Sides};
 use crate::places::{place_up, value_at};
 use nf_frac::{Part, PassedAt, Q};
 
-/// A time in the merge of two curves' times, in their unit of time. `left` and `right` count the points of each curve at or before it.
+/// A time in the merge of two curves' times. The fields `left` and `right` hold the number of points of each curve at or before it.
 #[derive(Clone, Copy)]
 pub struct Moment {
     pub time: Q,
