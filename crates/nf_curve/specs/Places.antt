@@ -1,4 +1,4 @@
--- Counts of the points at or before a time. `times_after` lists the times of two curves after a time.
+-- Counts of points at or before a time.
 use Rattle.std.specs.Prelude.{◌≡◌, ℕ, zero, suc, if◌then◌else◌, List, [], ◌∷◌, Option, Some, None, Ok}
 use Rattle.nf_rational.specs.Rational.{ℚ}
 use Rattle.nf_rational.specs.Operations.{0ℚ}

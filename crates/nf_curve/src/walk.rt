@@ -1,4 +1,4 @@
-// The merge of two curves' times. It lists the times of the points of either, in increasing order.
+// The merge of two curves' times lists the times of the points of either, in increasing order.
 ghost use Rattle.std.specs.Prelude.{◌≡◌, ◌∷◌, slice_get, option_map, IfSome, IfOk};
 ghost use Rattle.nf_rational.specs.Operations.{0ℚ};
 ghost use Rattle.nf_rational.specs.Order.{◌<ℚ◌};
