@@ -30,7 +30,7 @@ pub record Conserves (net : Network) (amount label : ℕ → ℚ → ℚ) (until
   -- at the sink, what stays by an arrival is the supply up to its departure
   pub sink : (departure : ℚ) → Within 0ℚ until departure → Balances net amount net.sink (label net.sink departure) 0ℚ (supply net departure)
 
--- Link e out of the node `tail` takes flow just after a departure: each later departure up to `until` has a greater cumulative inflow of
+-- Link e out of the node `tail` takes flow just after a departure. Each later departure, up to `until`, has a greater cumulative of
 -- the link at its arrival at `tail`.
 abbrev pub TakesFlow : (ℕ → ℚ → ℚ) → (ℕ → ℚ → ℚ) → ℚ → ℕ → ℕ → ℚ → Type 0
 TakesFlow amount label until e tail departure =
@@ -44,7 +44,7 @@ OnlyShortest net amount label until =
     → TakesFlow amount label until e link.tail departure
     → IsExit link.transit link.capacity (amount e) (label link.tail departure) (label link.head departure)
 
--- A Nash flow over time, for all flow that leaves the source up to `until`. The links are empty at time 0, and cumulative inflows never
+-- The flow is a Nash flow over time, for all flow that leaves the source up to `until`. The links are empty at time 0, and cumulative inflows never
 -- fall. The labels are the earliest arrivals, flow is conserved, and flow takes shortest routes only.
 pub record IsNashFlow (net : Network) (amount label : ℕ → ℚ → ℚ) (until : ℚ) : Type 0 where
   pub starts : (e : ℕ) → e < length net.links → amount e 0ℚ ≡ 0ℚ
@@ -55,12 +55,12 @@ pub record IsNashFlow (net : Network) (amount label : ℕ → ℚ → ℚ) (unti
 
 -- ---- the flow of a report
 
--- a curve with the printed slopes: from each point to the next
+-- `rates` holds the printed slopes, each from a point to the next
 pub record Trace : Type 0 where
   pub points : List (ℚ × ℚ)
   pub rates : List ℚ
 
--- A reported flow, for departures up to `reached`. It has the label curve of each node by departure, and for each link by time the
+-- A reported flow, for departures up to `reached`. The record has the label curve of each node by departure, and for each link by time the
 -- cumulative inflow, the cumulative outflow and the queue.
 pub record Flow : Type 0 where
   pub reached : ℚ
@@ -76,7 +76,7 @@ points_at curves i = unwrap_or (slice_get curves i) []
 abbrev pub points_of : List Trace → List (List (ℚ × ℚ))
 points_of traces = map (λ trace. trace.points) traces
 
--- the values that the flow has for a node or link at a time
+-- the values of the flow for a node or link
 abbrev pub label : Flow → ℕ → ℚ → ℚ
 label flow v departure = value (points_at flow.labels v) departure
 
@@ -94,7 +94,7 @@ pub record AreCurves (many : ℕ) (curves : List (List (ℚ × ℚ))) : Type 0 w
   pub count : length curves ≡ many
   pub each : (i : ℕ) → i < many → IsCurve (points_at curves i)
 
--- one curve of each kind for each node or link
+-- the flow has one curve of each kind for each node or link
 pub record HasShape (net : Network) (flow : Flow) : Type 0 where
   pub labels : AreCurves net.nodes flow.labels
   pub inflows : AreCurves (length net.links) (points_of flow.inflows)

@@ -24,7 +24,7 @@ moved labels slopes while = []
 abbrev pub slack_after : List ℚ → List ℚ → ℕ → Link → ℚ → ℚ
 slack_after slacks slopes e link while = number_at slacks e +ℚ while *ℚ (number_at slopes link.head -ℚ number_at slopes link.tail)
 
--- A phase that begins at `time`, with these slacks and slopes, may last for `length`. During the phase, each inactive link keeps a slack
+-- A phase that begins at `time`, with these slacks and slopes, may last for `length`. During the phase, each inactive link has a slack
 -- of at most 0, and each resetting link a slack of at least 0. No inflow change occurs strictly within the phase.
 pub record Lasts (net : Network) (slacks slopes : List ℚ) (time length : ℚ) : Type 0 where
   pub not_negative : 0ℚ ≤ℚ length

@@ -32,12 +32,12 @@ pub record IsFeasible (net : Network) (entered left : ℕ → ℚ → ℚ) : Typ
 abbrev pub delivered : Network → (ℕ → ℚ → ℚ) → (ℕ → ℚ → ℚ) → ℚ → ℚ
 delivered net entered left time = sum_in net.links (λ e. left e time) net.sink -ℚ sum_out net.links (λ e. entered e time) net.sink
 
--- a feasible flow that delivers at least this amount by a time
+-- the flow is feasible and delivers at least this amount by a time
 pub record Delivers (net : Network) (entered left : ℕ → ℚ → ℚ) (amount time : ℚ) : Type 0 where
   pub feasible : IsFeasible net entered left
   pub enough : amount ≤ℚ delivered net entered left time
 
--- The least time by which a feasible flow delivers the amount. Some flow delivers the amount by this time. No flow delivers it by an
+-- This is the least time by which a feasible flow delivers the amount. Some flow delivers the amount by this time. No flow delivers it by an
 -- earlier time that is at least 0.
 pub record IsQuickest (net : Network) (amount time : ℚ) : Type 0 where
   pub not_negative : 0ℚ ≤ℚ time
@@ -75,7 +75,7 @@ cut_value net cut = cut_sum net.links cut
 -- ---- temporally repeated flows: walks from source to sink, each fed at its rate from time 0 on, as long as the flow can
 -- ---- still arrive by the end
 
--- a walk with the rate at which it is fed
+-- a walk and the rate of its feed
 pub record Fed : Type 0 where
   pub rate : ℚ
   pub walk : List ℕ

@@ -54,7 +54,7 @@ pub record Enters (net : Network) (sets : Sets) (v e : ℕ) (link : Link) : Type
   pub active : Has sets.active e
   pub head : link.head ≡ v
 
--- A thin flow with resetting: a static flow of value `rate` from source to sink on active links alone, and the slope of each node's label
+-- A thin flow with resetting consists of a static flow of value `rate` on active links alone, and of the slope of each node's label
 -- by departure. The slope of the source is 1. The slope of each other node is the least exit slope of the active links into it, of which
 -- there is at least one. Each of these links with positive flow has exactly this exit slope.
 pub record IsThinFlow (net : Network) (sets : Sets) (rate : ℚ) (flows slopes : List ℚ) : Type 0 where
