@@ -44,8 +44,8 @@ OnlyShortest net amount label until =
     → TakesFlow amount label until e link.tail departure
     → IsExit link.transit link.capacity (amount e) (label link.tail departure) (label link.head departure)
 
--- The flow is a Nash flow over time, for all flow that leaves the source up to `until`. The links are empty at time 0, and cumulative inflows never
--- fall. The labels are the earliest arrivals, flow is conserved, and flow takes shortest routes only.
+-- The flow is a Nash flow over time, for all flow that leaves the source up to `until`. The links are empty at time 0, and cumulative
+-- inflows never fall. The labels are the earliest arrivals, flow is conserved, and flow takes shortest routes only.
 pub record IsNashFlow (net : Network) (amount label : ℕ → ℚ → ℚ) (until : ℚ) : Type 0 where
   pub starts : (e : ℕ) → e < length net.links → amount e 0ℚ ≡ 0ℚ
   pub rises : (e : ℕ) → e < length net.links → NeverFalls (amount e)

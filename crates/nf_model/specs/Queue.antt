@@ -23,8 +23,9 @@ pub record IsExit (transit : ℚ) (capacity : Option ℚ) (amount : ℚ → ℚ)
   pub is_queue : IsQueue capacity amount time queue
   pub is_sum : exit ≡ time +ℚ transit +ℚ waiting capacity queue
 
--- The cumulative outflow at a time. Before the transit time it is 0. Later it is the least of these sums, over moments up to one transit time
--- before: the inflow by that moment plus the service possible since then. On an unbounded link it is the inflow one transit time before.
+-- The cumulative outflow at a time. Before the transit time it is 0. Later it is the least of these sums, over moments up to one transit
+-- time before: the inflow by that moment plus the service possible since then. On an unbounded link it is the inflow one transit time
+-- before.
 pub record IsOutflow (transit : ℚ) (capacity : Option ℚ) (amount : ℚ → ℚ) (time out : ℚ) : Type 0 where
   pub early : time <ℚ transit → out ≡ 0ℚ
   pub unbounded : transit ≤ℚ time → capacity ≡ None → out ≡ amount (time -ℚ transit)

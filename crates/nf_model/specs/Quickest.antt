@@ -37,8 +37,8 @@ pub record Delivers (net : Network) (entered left : ℕ → ℚ → ℚ) (amount
   pub feasible : IsFeasible net entered left
   pub enough : amount ≤ℚ delivered net entered left time
 
--- This is the least time by which a feasible flow delivers the amount. Some flow delivers the amount by this time. No flow delivers it by an
--- earlier time that is at least 0.
+-- This is the least time by which a feasible flow delivers the amount. Some flow delivers the amount by this time. No flow delivers it by
+-- an earlier time that is at least 0.
 pub record IsQuickest (net : Network) (amount time : ℚ) : Type 0 where
   pub not_negative : 0ℚ ≤ℚ time
   pub entered : ℕ → ℚ → ℚ

@@ -10,8 +10,8 @@ use Rattle.nf_model.specs.Network.{Piece, IsPiece, ArePieces, supplied, rate_fro
 abbrev pub NoStartBetween : List Piece → ℚ → ℚ → Type 0
 NoStartBetween pieces time later = (i : ℕ) (piece : Piece) → IsPiece pieces i piece → time <ℚ piece.start → later ≤ℚ piece.start
 
--- The supply is 0 at time 0. Between two times without a start strictly between, it grows at the rate of the first. The supply never falls, and
--- no rate is negative.
+-- The supply is 0 at time 0. Between two times without a start strictly between, it grows at the rate of the first. The supply never
+-- falls, and no rate is negative.
 pub record SupplyGoesOn : Type 0 where
   pub begins : (pieces : List Piece) → ArePieces pieces → supplied pieces 0ℚ ≡ 0ℚ
   pub step : (pieces : List Piece) (time later : ℚ) → ArePieces pieces → time ≤ℚ later → NoStartBetween pieces time later

@@ -125,7 +125,8 @@ pub fn tight_link_equilibrium()
     ensures { TightLinkEquilibrium }
 {}
 
-/// Some network has an equilibrium beyond time 0. The network is one link of transit time 1 and capacity 1, supplied at rate 2 from time 0 to 2, up to time 2.
+/// Some network has an equilibrium beyond time 0. The network is one link of transit time 1 and capacity 1, supplied at rate 2 from time
+/// 0 to 2, up to time 2.
 pub fn equilibrium_has_member()
     ensures { HasMember }
 {}
