@@ -30,8 +30,8 @@ pub record Conserves (net : Network) (amount label : ℕ → ℚ → ℚ) (until
   -- at the sink, what stays by an arrival is the supply up to its departure
   pub sink : (departure : ℚ) → Within 0ℚ until departure → Balances net amount net.sink (label net.sink departure) 0ℚ (supply net departure)
 
--- Link e out of the node `tail` takes flow just after a departure. Each later departure, up to `until`, has a greater cumulative of
--- the link at its arrival at `tail`.
+-- Link e out of the node `tail` takes flow just after a departure. Each later departure, up to `until`, has a greater cumulative inflow
+-- of the link at its arrival at `tail`.
 abbrev pub TakesFlow : (ℕ → ℚ → ℚ) → (ℕ → ℚ → ℚ) → ℚ → ℕ → ℕ → ℚ → Type 0
 TakesFlow amount label until e tail departure =
     (later : ℚ) → departure <ℚ later → later ≤ℚ until → amount e (label tail departure) <ℚ amount e (label tail later)
