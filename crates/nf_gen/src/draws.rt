@@ -7,7 +7,7 @@ use std::marker::Model;
 /// The modulus. Each value of the generator is less than it.
 const MODULUS: u64 = 65_537;
 
-/// A linear congruential generator. It stores one value, which each draw replaces by the next one.
+/// A linear congruential generator. Each draw replaces its value by the next one.
 #[derive(Drop)]
 pub struct Draws {
     value: u64,

@@ -11,7 +11,7 @@ mod rails;
 
 pub use generating::generated;
 
-/// A ladder of K rungs, from 1 to 30, is a network within the limits of a file. It has 2 K + 2 nodes and 3 K + 2 links.
+/// A ladder of K rungs, from 1 to 30, is a network within the limits of a file. The network has 2 K + 2 nodes and 3 K + 2 links.
 pub fn ladder_is_named()
     ensures { LadderIsNamed }
 {}
