@@ -1,5 +1,5 @@
 // Steps of finding a phase: linear systems, slacks, link sets, patterns, verdicts and searches. Each line asks for one step, and its
-// answer is answer is a line. `|` separates the fields of a line:
+// answer is a line. `|` separates the fields of a line:
 //
 //     table|SIZE|NUMBERS, grid|SIZE|NUMBERS    the solution of a system, computed with or without allocation
 //     small|SIZE|NUMBERS                       the solution of a system, over small numbers

@@ -1,4 +1,5 @@
-//! This program prints answers of libraries that no command shows. The input is cases in the form of `case_lines`. The question states
+//! This program prints answers of libraries that no command shows. The input is cases in the form of `case_lines`. The question of a
+//! case determines its kind:
 //!
 //!     nothing                a subject with questions, one on each line; the module `subjects` lists them
 //!     lines                  a text

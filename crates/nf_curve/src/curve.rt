@@ -29,8 +29,9 @@ use nf_frac::{Halt, Part, PassedAt, Q};
 use std::alloc::{AllocError, Global};
 use std::marker::Model;
 
-/// A piecewise linear function of time from time 0 on. Points (time, value) define the curve. Their times increase strictly. It is linear
-/// between neighbouring points and constant after the last one. Times and values are exact fractions, in units that the caller chooses.
+/// A piecewise linear function of time from time 0 on. Its points (time, value) have times that increase strictly from 0. The function is
+/// linear between neighbouring points and constant after the last one. Times and values are exact fractions, in units that the caller
+/// chooses.
 ///
 /// Each computing call takes a `Part` and performs one operation sequence in order. The clause `list` of its contract names the
 /// sequence's definition, in nf_curve_lists. The call returns `Passed` exactly if one of these operations passes the bound. `Passed`

@@ -82,8 +82,8 @@ pub fn next_moment(left: &[Point], right: &[Point], now: &Moment) -> Option<Mome
     })
 }
 
-/// Returns both values at the time `now` of the merge, each in the unit of its curve. Returns `PassedAt` exactly if one of its operations
-/// passes: the first one, with `part`. Does not allocate.
+/// Returns both values at the time `now` of the merge, each in the unit of its curve. Returns `PassedAt` exactly if an operation of
+/// `sides_at` (nf_curve_lists/specs/Sums.antt) passes: the first one, with `part`. Does not allocate.
 pub fn sides_at(
     left: &[Point],
     right: &[Point],

@@ -86,7 +86,7 @@ pub record IsFirstInto (hops : List Hop) (sets : Sets) (e : ℕ) (hop : Hop) : T
   pub first : (other : ℕ) (before : Hop) → other < e → IsHop hops other before → before.head ≡ hop.head → Has sets.active other → ⊥
   pub no_reset : (other : ℕ) (before : Hop) → IsHop hops other before → before.head ≡ hop.head → Has sets.resetting other → ⊥
 
--- A link that needs a state keeps its state of the last phase. If it had none, it is Tight if it is the first active link into a node
+-- A link that needs a state has its state of the last phase. If it had none, it is Tight if it is the first active link into a node
 -- that no resetting link enters. Otherwise it is Zero.
 pub record IsBase (hops : List Hop) (sets : Sets) (last base : Pattern) : Type 0 where
   pub count : length base ≡ length sets.active

@@ -5,8 +5,8 @@ use Rattle.nf_rational.specs.Operations.{0ℚ, ◌+ℚ◌, ◌-ℚ◌, ◌*ℚ�
 use Rattle.nf_rational.specs.Order.{◌≤ℚ◌, ◌<ℚ◌}
 use Rattle.nf_model.specs.Curve.{IsGreatest, IsLeast}
 
--- The queue at a time. For each earlier moment in [0, `time`], the inflow since then exceeds the service possible since then by some
--- amount. The queue is the greatest of these amounts. On an unbounded link the queue is 0.
+-- The queue at a time is the greatest difference, over the moments in [0, `time`], of two amounts: the inflow since the moment, and the
+-- service that the capacity allows since then. On an unbounded link the queue is 0.
 pub record IsQueue (capacity : Option ℚ) (amount : ℚ → ℚ) (time queue : ℚ) : Type 0 where
   pub unbounded : capacity ≡ None → queue ≡ 0ℚ
   pub bounded : (rate : ℚ) → capacity ≡ Some rate
@@ -23,9 +23,9 @@ pub record IsExit (transit : ℚ) (capacity : Option ℚ) (amount : ℚ → ℚ)
   pub is_queue : IsQueue capacity amount time queue
   pub is_sum : exit ≡ time +ℚ transit +ℚ waiting capacity queue
 
--- The cumulative outflow at a time. Before the transit time it is 0. Later it is the least of these sums, over moments up to one transit
--- time before: the inflow by that moment plus the service possible since then. On an unbounded link it is the inflow one transit time
--- before.
+-- The cumulative outflow at a time. Before the transit time it is 0. Later it is the least sum, over the moments up to one transit time
+-- before, of two amounts: the inflow by the moment, and the service that the capacity allows from then until one transit time before.
+-- On an unbounded link it is the inflow by one transit time before.
 pub record IsOutflow (transit : ℚ) (capacity : Option ℚ) (amount : ℚ → ℚ) (time out : ℚ) : Type 0 where
   pub early : time <ℚ transit → out ≡ 0ℚ
   pub unbounded : transit ≤ℚ time → capacity ≡ None → out ≡ amount (time -ℚ transit)
