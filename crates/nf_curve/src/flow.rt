@@ -10,8 +10,8 @@ pub struct Trace {
     pub rates: Vec<Q>,
 }
 
-/// A flow over time, for flow that leaves the source up to `reached`. `labels` gives the earliest arrival time at each node
-/// by departure time. `inflows`, `outflows` and `queues` give, for each link by time, the amounts that entered, left and wait.
+/// A flow over time, up to departure `reached`. `labels` gives the earliest arrival time at each node by departure time. `inflows`,
+/// `outflows` and `queues` give, for each link by time, the amounts that entered, left and wait.
 #[derive(Drop)]
 pub struct Flow {
     pub reached: Q,

@@ -15,8 +15,8 @@ pub record NamedLink : Type 0 where
   pub transit : ℚ
   pub capacity : Option ℚ
 
--- A network with the names of its nodes and links, in order. `idle_nodes` are nodes that no walk from the source reaches, and
--- `idle_links` are links whose tails are unreached. No flow ever enters them.
+-- A network with its names, in order. `idle_nodes` are nodes that no walk from the source reaches, and `idle_links` are links whose tails
+-- are unreached. No flow ever enters them.
 pub record Named : Type 0 where
   pub version : ℕ
   pub net : Network

@@ -20,7 +20,7 @@ is_name name = nat_le 1 (length name) && (nat_le (length name) longest_name && l
 abbrev pub has_name : List Name → Name → Bool
 has_name names name = list_any (bytes_eq name) names
 
--- the index of the first appearance of a name, or the length of the list without one
+-- returns the index of the first appearance of a name, or the length of the list without one
 abbrev pub place_of : List Name → Name → ℕ
 place_of names name = position_or_len (bytes_eq name) names
 

@@ -1,4 +1,4 @@
--- A network file as a whole: the rules N17 to N22, and the network that it stands for.
+-- A network file as a whole.
 use Rattle.std.specs.Prelude.{◌≡◌, ◌⊎◌, ℕ, ◌<◌, Bool, true, false, not, ◌||◌, ◌==◌, List, [], ◌∷◌, length, map, is_none, unwrap_or}
 use Rattle.std.specs.Bool.{Decides, MatchBool}
 use Rattle.std.specs.List.{AllByRecursion, AllZip}

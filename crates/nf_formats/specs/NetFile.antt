@@ -1,4 +1,4 @@
--- The network file: the network that a text stands for, or the first rule that it breaks, with its line.
+-- A text stands for a network, or breaks a first rule in some line.
 use Rattle.std.specs.Prelude.{◌≡◌, ℕ, List, Option, Some, None, Result, Ok, Err}
 use Rattle.std.specs.List.{AllByRecursion}
 use Rattle.nf_formats.specs.declared.NetRule.TheVariants.{N1, N2}

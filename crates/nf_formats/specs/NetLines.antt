@@ -1,4 +1,4 @@
--- The lines of a network file: the meaning of each line, and the first line that breaks one of the rules N3 to N16.
+-- The lines of a network file. Each line has a meaning, or breaks one of the rules N3 to N16.
 use Rattle.std.specs.Prelude.{ℕ, Bool, true, false, ◌&&◌, ◌||◌, nat_lt, nat_le, if◌then◌else◌, List, [], ◌∷◌, ◌++◌, length, Option, Some, None, is_some, Result, Ok, Err, codes}
 use Rattle.std.specs.List.{last_or}
 use Rattle.std.specs.Str.{bytes_eq}

@@ -17,7 +17,7 @@ use Rattle.nf_formats.specs.Names.{Name, name_at}
 use Rattle.nf_formats.specs.Named.{Named}
 use Rattle.nf_formats.specs.Causes.{cause_words}
 
--- A run to a horizon: its flow up to the time reached, the cause of a stop before the horizon, and the pattern of the last phase. The
+-- A report of a run has its flow up to the time reached, the cause of a stop before the horizon, and the pattern of the last phase. The
 -- pattern has an entry for each link.
 pub record Report : Type 0 where
   pub horizon : ℚ
@@ -83,7 +83,8 @@ state_lines n pattern e = state_line (name_at n.link_names e) (unwrap_or (slice_
 abbrev pub for_each : ℕ → (ℕ → List (List (List ℕ))) → List (List (List ℕ))
 for_each count lines_of = flat_map lines_of (range_with_len 0 count)
 
--- The lines: the head, the labels of the nodes, the unreached nodes, the curves of the links, the states of the links, and the end.
+-- lists the words of the lines: the head, the labels of the nodes, the unreached nodes, the curves of the links, the states of the links,
+-- and the end.
 abbrev pub report_lines : Named → Report → List (List (List ℕ))
 report_lines n report = (codes "report" ∷ digits_of n.version ∷ [])
     ∷ (codes "horizon" ∷ printed report.horizon ∷ [])

@@ -17,7 +17,7 @@ use Rattle.nf_formats.specs.Limits.{most_nodes, most_links, most_pieces}
 abbrev pub IsFraction : ℚ → Type 0
 IsFraction q = is_wide greatest q ≡ false
 
--- a positive fraction, or from version 2 on also no capacity
+-- the capacity is a positive fraction, or from version 2 on also missing
 abbrev pub IsCapacity : ℕ → Option ℚ → Type 0
 IsCapacity version None = version ≢ 1
 IsCapacity version (Some capacity) = IsFraction capacity × (0ℚ <ℚ capacity)

@@ -57,7 +57,7 @@ pub enum NetRule {
     N22,
 }
 
-/// The cause of a stop before the horizon, as a report's `cause` line states it. Phases and patterns are counted from 1.
+/// The cause of a stop before the horizon. A report's `cause` line states it. Phases and patterns are counted from 1.
 #[derive(Copy)]
 pub enum Cause<S> {
     /// The run made as many phases as allowed.

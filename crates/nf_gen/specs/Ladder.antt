@@ -59,7 +59,7 @@ links_down rungs = map rung_at (range_with_len 1 rungs)
 abbrev pub links_out : ℕ → List Ends
 links_out rungs = link_from (codes "ut") (upper rungs) (codes "t") ∷ link_from (codes "lt") (lower rungs) (codes "t") ∷ []
 
--- the links into both rails, along them from each rung to the next, down each rung, and out of both rails
+-- lists the links into both rails, along them from each rung to the next, down each rung, and out of both rails
 abbrev pub ladder_ends : ℕ → List Ends
 ladder_ends rungs = links_in ++ links_along rungs ++ links_down rungs ++ links_out rungs
 

@@ -1,4 +1,4 @@
--- The lines of a ladder, written in order, by the current value of the generator.
+-- Writing a ladder line by line.
 use Rattle.std.specs.Prelude.{◌≡◌, ℕ, ◌+◌, ◌%◌, List, [], ◌∷◌, ◌++◌, map, flat_map, Some, pos}
 use Rattle.nf_rational.specs.Operations.{whole}
 use Rattle.nf_model.specs.Network.{Piece}

@@ -1,4 +1,4 @@
-// Functions that append lines of a network file to a text.
+// Appending lines of a network file to a text.
 ghost use Rattle.std.specs.Prelude.{◌≡◌, [], ◌∷◌, ◌++◌, codes, OnOk};
 ghost use Rattle.nf_numerals.specs.Digits.{digits_of};
 ghost use Rattle.nf_lines.specs.Words.{line_of_words};

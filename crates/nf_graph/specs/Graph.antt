@@ -1,4 +1,4 @@
--- Hops between nodes below a number, and the nodes that walks along them reach.
+-- Hops, and the nodes that they reach.
 use Rattle.std.specs.Prelude.{◌≡◌, ℕ, ◌<◌, ◌↔◌, Bool, List, length}
 use Rattle.nf_model.specs.Entries.{Has}
 use Rattle.nf_model.specs.Walk.{Hop, IsHop, IsWalk}

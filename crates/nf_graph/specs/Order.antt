@@ -16,7 +16,7 @@ pub record IsOrder (nodes : ℕ) (hops : List Hop) (chosen : List Bool) (order :
   pub once : (i j v : ℕ) → IsAt order i v → IsAt order j v → i ≡ j
   pub later : (e i j : ℕ) (hop : Hop) → IsHop hops e hop → Has chosen e → IsAt order i hop.tail → IsAt order j hop.head → i < j
 
--- a closed walk of at least one hop, each of which is allowed
+-- the walk is closed and has at least one hop; each hop is allowed
 pub record IsCycle (hops : List Hop) (Allowed : ℕ → Type 0) (walk : List ℕ) : Type 0 where
   pub node : ℕ
   pub some : 0 < length walk

@@ -26,14 +26,14 @@ IsNearer (Some best) None nearer = nearer ≡ Some best
 IsNearer (Some best) (Some offered) nearer =
     ((nearer ≡ Some best) × (best.sum ≤ℚ offered.sum)) ⊎ ((nearer ≡ Some offered) × (offered.sum ≤ℚ best.sum))
 
--- the least offer of the links before number `count`, whose sums do not pass
+-- `best` is the least offer of the links before number `count`, and no sum along them passes
 pub record IsNearestBefore (hops : List Hop) (sums : List (Option ℚ)) (count : ℕ) (best : Option Step) : Type 0 where
   pub given : (step : Step) → best ≡ Some step → Offers hops sums step.node step.sum
   pub least : (v : ℕ) (sum : ℚ) (o : Offers hops sums v sum) → o.number < count → (step : Step) × (best ≡ Some step) × (step.sum ≤ℚ sum)
   pub fits : (e : ℕ) (hop : Hop) (before : ℚ) → e < count → IsHop hops e hop → HasSum sums hop.tail before
       → SumPasses before hop.transit → ⊥
 
--- the least offer of all links, whose sums do not pass
+-- `best` is the least offer of all links, and no sum along them passes
 pub record IsNearest (hops : List Hop) (sums : List (Option ℚ)) (best : Option Step) : Type 0 where
   pub given : (step : Step) → best ≡ Some step → Offers hops sums step.node step.sum
   pub least : (v : ℕ) (sum : ℚ) → Offers hops sums v sum → (step : Step) × (best ≡ Some step) × (step.sum ≤ℚ sum)

@@ -13,7 +13,7 @@ pub data LineFault : Type 0 where
 abbrev pub is_allowed : ℕ → Bool
 is_allowed b = b == 9 || (nat_le 32 b && nat_le b 126)
 
--- the greatest number of bytes of a line, without its ending
+-- a line has at most this number of bytes, without its ending
 abbrev pub longest_line : ℕ
 longest_line = 1000
 

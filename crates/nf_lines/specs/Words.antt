@@ -23,7 +23,7 @@ words bytes = parts_with_bytes (slice_split is_blank (without_comment bytes))
 abbrev pub line_of_words : List (List ℕ) → List ℕ
 line_of_words words = join_with_byte 32 words ++ 10 ∷ []
 
--- a line is plain if it is equal to the line of its words: it has no comment, no CR and no superfluous blanks
+-- a line is plain if it is equal to the line of its words: it has no comment and no superfluous blanks, and ends with LF alone
 abbrev pub is_plain : TextLine → Bool
 is_plain line = bytes_eq (line.bytes ++ line.ending) (line_of_words (words line.bytes))
 

@@ -1,4 +1,4 @@
--- Piecewise linear functions of time, and properties of functions of time.
+-- Curves, and properties of functions of time.
 use Rattle.std.specs.Prelude.{◌≡◌, ◌≢◌, ◌⊎◌, if◌then◌else◌, List, [], ◌∷◌, Any}
 use Rattle.nf_rational.specs.Rational.{ℚ}
 use Rattle.nf_rational.specs.Operations.{0ℚ, ◌+ℚ◌, ◌-ℚ◌, ◌*ℚ◌, ◌/ℚ◌}
@@ -75,6 +75,6 @@ TurnsAt time (p ∷ q ∷ []) = (time ≡ q.0) × (slope p q ≢ 0ℚ)
 TurnsAt time (p ∷ q ∷ r ∷ rest) = ((time ≡ q.0) × (slope p q ≢ slope q r)) ⊎ TurnsAt time (q ∷ r ∷ rest)
 TurnsAt time points = ⊥
 
--- a corner of some curves in [0, `last`]: time 0, `last`, or a time between at which the slope of one of them changes
+-- the time is a corner of some curves in [0, `last`]: it is 0, `last`, or a time between at which the slope of one of them changes
 abbrev pub IsCorner : List (List (ℚ × ℚ)) → ℚ → ℚ → Type 0
 IsCorner curves last time = (time ≡ 0ℚ) ⊎ ((time ≡ last) ⊎ ((0ℚ <ℚ time) × (time <ℚ last) × Any (TurnsAt time) curves))

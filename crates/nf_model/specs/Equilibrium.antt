@@ -1,4 +1,4 @@
--- Nash flows over time (Koch and Skutella 2011; Cominetti, Correa and Larré 2015), and the flow that a report describes.
+-- Nash flows over time (Koch and Skutella 2011; Cominetti, Correa and Larré 2015). A report describes a flow.
 use Rattle.std.specs.Prelude.{◌≡◌, ◌≢◌, ℕ, ◌<◌, List, [], length, Some, slice_get, unwrap_or, map}
 use Rattle.nf_rational.specs.Rational.{ℚ}
 use Rattle.nf_rational.specs.Operations.{0ℚ, ◌+ℚ◌}
@@ -18,7 +18,7 @@ pub record Balances (net : Network) (amount : ℕ → ℚ → ℚ) (v : ℕ) (ti
   pub outflows : (e : ℕ) (link : Link) → IsLink net e link → link.head ≡ v → IsOutflow link.transit link.capacity (amount e) time (outs e)
   pub sums : sum_in net.links outs v +ℚ extra_in ≡ sum_out net.links (λ e. amount e time) v +ℚ extra_out
 
--- Flow is conserved, for all flow that leaves the source up to `until`.
+-- All flow that leaves the source up to `until` is conserved.
 pub record Conserves (net : Network) (amount label : ℕ → ℚ → ℚ) (until : ℚ) : Type 0 where
   -- at each node except source and sink, up to the arrival of the last departure
   pub inner : (v : ℕ) (time : ℚ) → v < net.nodes → v ≢ net.source → v ≢ net.sink → Within 0ℚ (label v until) time
@@ -76,7 +76,7 @@ points_at curves i = unwrap_or (slice_get curves i) []
 abbrev pub points_of : List Trace → List (List (ℚ × ℚ))
 points_of traces = map (λ trace. trace.points) traces
 
--- the values of the flow for a node or link
+-- the values of the flow for a node or link at a time
 abbrev pub label : Flow → ℕ → ℚ → ℚ
 label flow v departure = value (points_at flow.labels v) departure
 

@@ -80,7 +80,7 @@ abbrev pub time_in : ℚ → List Piece → ℚ → ℚ
 time_in start [] time = max_ℚ 0ℚ (time -ℚ start)
 time_in start (next ∷ later) time = max_ℚ 0ℚ (min_ℚ time next.start -ℚ start)
 
--- sums, over the pieces, the rate times the duration during which the piece is the latest one started
+-- adds, over the pieces, the rate times the duration during which the piece is the latest one started
 abbrev pub supplied : List Piece → ℚ → ℚ
 supplied [] time = 0ℚ
 supplied (piece ∷ later) time = piece.rate *ℚ time_in piece.start later time +ℚ supplied later time
@@ -89,12 +89,12 @@ supplied (piece ∷ later) time = piece.rate *ℚ time_in piece.start later time
 abbrev pub supply : Network → ℚ → ℚ
 supply net time = supplied net.pieces time
 
--- the rate of the last of these pieces that starts at or before `time`, or `before` if none does
+-- returns the rate of the last of these pieces that starts at or before `time`, or `before` if none does
 abbrev pub rate_from : ℚ → List Piece → ℚ → ℚ
 rate_from before [] time = before
 rate_from before (piece ∷ later) time = if le_ℚ piece.start time then rate_from piece.rate later time else before
 
--- the rate at which the source is supplied from `time` on
+-- returns the rate at which the source is supplied from `time` on
 abbrev pub rate_at : Network → ℚ → ℚ
 rate_at net time = rate_from 0ℚ net.pieces time
 

@@ -1,4 +1,4 @@
--- Patterns of link states, by which thin flows are found (this project's own form of the cases of a thin flow).
+-- Patterns of link states are used to find thin flows (this project's own form of the cases of a thin flow).
 use Rattle.std.specs.Prelude.{◌≡◌, ◌≢◌, ◌⊎◌, ◌↔◌, ℕ, suc, ◌<◌, Bool, true, false, ◌==◌, if◌then◌else◌, List, [], ◌∷◌, length, Option, Some, None, slice_get, unwrap_or, map, Contains}
 use Rattle.nf_rational.specs.Rational.{ℚ}
 use Rattle.nf_rational.specs.Operations.{0ℚ, 1ℚ, ◌*ℚ◌}
@@ -29,7 +29,7 @@ pub record IsPattern (sets : Sets) (unbounded : List Bool) (pattern : Pattern) :
 
 -- ---- listed patterns
 
--- steps along these hops only, each forward or backward, that lead from v to w
+-- the steps lead from v to w along these hops only, each forward or backward
 abbrev pub IsTrail : List Hop → (ℕ → Type 0) → List (ℕ × Bool) → ℕ → ℕ → Type 0
 IsTrail hops Allowed [] v w = v ≡ w
 IsTrail hops Allowed ((e, forward) ∷ steps) v w = (hop : Hop) × IsHop hops e hop × Allowed e
@@ -136,7 +136,7 @@ pub record Meets (net : Network) (pattern : Pattern) (flows slopes : List ℚ) :
   pub links : (e : ℕ) (link : Link) (state : Option State) → IsLink net e link → slice_get pattern e ≡ Some state
       → Inequality state link.capacity (number_at flows e) (number_at slopes link.tail) (number_at slopes link.head)
 
--- the only solution of the equations, which also satisfies the inequalities
+-- flows and slopes are the only solution of the equations, and satisfy the inequalities
 pub record IsSolution (net : Network) (sets : Sets) (rate : ℚ) (pattern : Pattern) (flows slopes : List ℚ) : Type 0 where
   pub solves : Solves net sets rate pattern flows slopes
   pub only : (other_flows other_slopes : List ℚ) → Solves net sets rate pattern other_flows other_slopes

@@ -20,7 +20,7 @@ abbrev pub moved : List ℚ → List ℚ → ℚ → List ℚ
 moved (label ∷ labels) (slope ∷ slopes) while = (label +ℚ while *ℚ slope) ∷ moved labels slopes while
 moved labels slopes while = []
 
--- the slack of a link after the labels of its ends move at their slopes for the duration `while`
+-- returns the slack of a link after the labels of its ends move at their slopes for the duration `while`
 abbrev pub slack_after : List ℚ → List ℚ → ℕ → Link → ℚ → ℚ
 slack_after slacks slopes e link while = number_at slacks e +ℚ while *ℚ (number_at slopes link.head -ℚ number_at slopes link.tail)
 

@@ -17,7 +17,7 @@ abbrev pub waiting : Option ℚ → ℚ → ℚ
 waiting None queue = 0ℚ
 waiting (Some rate) queue = queue /ℚ rate
 
--- the exit time of what enters the link at `time`: the sum of that time, the transit time and the waiting time
+-- the exit time, for entry at `time`, is the sum of that time, the transit time and the waiting time
 pub record IsExit (transit : ℚ) (capacity : Option ℚ) (amount : ℚ → ℚ) (time exit : ℚ) : Type 0 where
   pub queue : ℚ
   pub is_queue : IsQueue capacity amount time queue

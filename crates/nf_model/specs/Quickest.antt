@@ -11,14 +11,14 @@ use Rattle.nf_model.specs.Network.{Link, Network, IsLink, sum_in, sum_out}
 
 -- ---- feasible flows: `entered e time` and `left e time` are the amounts that entered and left link e by a time
 
--- an amount that is 0 up to time 0 and never falls; from time 0 on it is a curve
+-- f is an amount: f is 0 up to time 0, never falls, and is a curve from time 0 on
 pub record IsAmount (f : ℚ → ℚ) : Type 0 where
   pub before : (time : ℚ) → time ≤ℚ 0ℚ → f time ≡ 0ℚ
   pub rises : NeverFalls f
   pub has_curve : HasCurve f
 
--- A feasible flow. What leaves a link entered it at least one transit time before. A link lets out at most its capacity per unit of time.
--- No more leaves a node other than the source than has arrived there.
+-- The flow is feasible. Flow leaves a link no earlier than one transit time after its entry. A link lets out at most its capacity per
+-- unit of time. No more leaves a node other than the source than has arrived there.
 pub record IsFeasible (net : Network) (entered left : ℕ → ℚ → ℚ) : Type 0 where
   pub amounts_entered : (e : ℕ) → e < length net.links → IsAmount (entered e)
   pub amounts_left : (e : ℕ) → e < length net.links → IsAmount (left e)
@@ -49,8 +49,8 @@ pub record IsQuickest (net : Network) (amount time : ℚ) : Type 0 where
 
 -- ---- cuts over time
 
--- A cut over time: one time for each node, 0 at the source and `time` at the sink. Along an unbounded link the node time grows by at most
--- the transit time.
+-- A cut over time has one time for each node, 0 at the source and `time` at the sink. Along an unbounded link the node time grows by at
+-- most the transit time.
 pub record IsCut (net : Network) (time : ℚ) (cut : List ℚ) : Type 0 where
   pub count : length cut ≡ net.nodes
   pub source : number_at cut net.source ≡ 0ℚ
@@ -58,7 +58,7 @@ pub record IsCut (net : Network) (time : ℚ) (cut : List ℚ) : Type 0 where
   pub unbounded : (e : ℕ) (link : Link) → IsLink net e link → link.capacity ≡ None
       → number_at cut link.head ≤ℚ (number_at cut link.tail +ℚ link.transit)
 
--- The greatest amount that a link passes on between the times of its ends. The amount is the capacity times the duration by which the
+-- returns the greatest amount that a link passes on between the times of its ends: 0, or the capacity times the duration by which the
 -- head's time exceeds the tail's time plus the transit time. On an unbounded link of a cut the amount is 0.
 abbrev pub let_through : Option ℚ → ℚ → ℚ → ℚ → ℚ
 let_through None transit tail_time head_time = 0ℚ
@@ -80,22 +80,22 @@ pub record Fed : Type 0 where
   pub rate : ℚ
   pub walk : List ℕ
 
--- the amount arrived by `time`, fed at `rate` during [0, `length`] and delayed by `delay`
+-- returns the amount arrived by `time`, fed at `rate` during [0, `length`] and delayed by `delay`
 abbrev pub come : ℚ → ℚ → ℚ → ℚ → ℚ
 come rate length delay time = rate *ℚ max_ℚ 0ℚ (min_ℚ length (time -ℚ delay))
 
--- the amount along one walk that entered link e by `time`, if flow reaches the first of these links after `delay`
+-- returns the amount along one walk that entered link e by `time`, if flow reaches the first of these links after `delay`
 abbrev pub entered_along : List Hop → ℚ → ℚ → ℕ → List ℕ → ℚ → ℚ → ℚ
 entered_along hops rate length e [] delay time = 0ℚ
 entered_along hops rate length e (f ∷ walk) delay time =
     (if f == e then come rate length delay time else 0ℚ) +ℚ entered_along hops rate length e walk (delay +ℚ transit_of hops f) time
 
--- the amount along all walks together that entered link e by `time`, if the flow ends at `until`
+-- returns the amount along all walks together that entered link e by `time`, if the flow ends at `until`
 abbrev pub entered_by : List Hop → List Fed → ℚ → ℕ → ℚ → ℚ
 entered_by hops [] until e time = 0ℚ
 entered_by hops (fed ∷ rest) until e time =
     entered_along hops fed.rate (until -ℚ transit_sum hops fed.walk) e fed.walk 0ℚ time +ℚ entered_by hops rest until e time
 
--- the amount along all walks together that left link e by `time`: what entered it one transit time before
+-- returns the amount along all walks together that left link e by `time`: what entered it one transit time before
 abbrev pub left_by : List Hop → List Fed → ℚ → ℕ → ℚ → ℚ
 left_by hops walks until e time = entered_by hops walks until e (time -ℚ transit_of hops e)

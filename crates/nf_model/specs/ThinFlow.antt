@@ -9,7 +9,7 @@ use Rattle.nf_model.specs.Network.{Link, Network, IsLink, hops, sum_in, sum_out}
 
 -- ---- slacks and sets
 
--- the label of the head, less the label of the tail plus the transit time
+-- the slack is the label of the head, less the sum of the tail's label and the transit time
 abbrev pub slack : List ℚ → Hop → ℚ
 slack labels hop = number_at labels hop.head -ℚ (number_at labels hop.tail +ℚ hop.transit)
 
@@ -25,13 +25,13 @@ pub record Sets : Type 0 where
 abbrev pub sets_of : List ℚ → Sets
 sets_of slacks = record { active = map (le_ℚ 0ℚ) slacks; resetting = map (lt_ℚ 0ℚ) slacks }
 
--- the active and resetting links of a network at these labels
+-- returns the active and resetting links of a network at these labels
 abbrev pub sets_at : Network → List ℚ → Sets
 sets_at net labels = sets_of (slacks_of (hops net) labels)
 
 -- ---- thin flows
 
--- the outflow of a node less its inflow, in a static flow
+-- subtracts the inflow of a node from its outflow, in a static flow
 abbrev pub surplus : Network → List ℚ → ℕ → ℚ
 surplus net flows v = sum_out net.links (number_at flows) v -ℚ sum_in net.links (number_at flows) v
 

@@ -5,7 +5,7 @@ use Rattle.nf_rational.specs.Operations.{0ℚ, ◌+ℚ◌}
 use Rattle.nf_rational.specs.Order.{◌≤ℚ◌}
 use Rattle.nf_model.specs.Entries.{number_at}
 
--- A hop leads from its tail to its head in its transit time. It represents a link without its capacity.
+-- A hop leads from its tail to its head in its transit time. A hop represents a link without its capacity.
 pub record Hop : Type 0 where
   pub tail : ℕ
   pub head : ℕ

@@ -9,7 +9,7 @@ use Rattle.nf_model.specs.Queue.{IsQueue, IsExit, IsOutflow}
 use Rattle.nf_model.specs.Equilibrium.{Trace, Flow, label, inflow, outflow, queue, HasShape, HasSlopes, Equilibrium}
 use Rattle.nf_model_laws.specs.Capacity.{IsPositive}
 
--- the network of one link, from the source to the sink
+-- returns the network of one link, from the source to the sink
 abbrev pub one_link : ℚ → Option ℚ → List Piece → Network
 one_link transit capacity pieces = record {
   nodes = 2;
@@ -46,7 +46,7 @@ OneLinkEquilibrium = (transit : ℚ) (capacity : Option ℚ) (pieces : List Piec
 abbrev pub NotBefore : ℚ → List Piece → Type 0
 NotBefore horizon pieces = (i : ℕ) (piece : Piece) → IsPiece pieces i piece → horizon ≤ℚ piece.start
 
--- the pieces of a supply at this rate from time 0 on, followed by later pieces
+-- lists the pieces of a supply at this rate from time 0 on, followed by later pieces
 abbrev pub at_rate : ℚ → List Piece → List Piece
 at_rate rate later = record { start = 0ℚ; rate = rate } ∷ later
 

@@ -75,20 +75,20 @@ pub fn extremes_are_unique()
     ensures { ExtremesAreUnique }
 {}
 
-/// If the inflows never fall, labels that satisfy the conditions on links and nodes are the earliest arrivals over all walks. Conversely,
-/// earliest arrivals satisfy these conditions.
+/// If the inflows never fall, the earliest arrivals over all walks satisfy two conditions, and no other labels do. No link leads to its
+/// head before the head's label. Some link leads to each node except the source exactly at its label.
 pub fn labels_are_earliest()
     ensures { LabelsAreEarliest }
 {}
 
-/// If the inflows of a report never fall, its labels for a departure from 0 on are the earliest arrivals exactly if they satisfy the
-/// conditions on links and nodes.
+/// If the inflows of a report never fall, its labels for a departure from 0 on are the earliest arrivals exactly under two conditions. No
+/// link leads to its head before the head's label. Some link leads to each node except the source exactly at its label.
 pub fn report_labels_are_earliest()
     ensures { ReportLabelsAreEarliest }
 {}
 
-/// Labels are the least transit sums from the source exactly if no link makes a label smaller, and some link attains it,
-/// at each node except the source.
+/// Labels are the least transit sums over all walks from the source exactly under two conditions. The label of a link's head never exceeds
+/// the tail's label plus the transit time. Some link into each node except the source attains equality.
 pub fn least_transit_by_links()
     ensures { LeastTransitByLinks }
 {}
@@ -108,8 +108,8 @@ pub fn first_in_first_out()
     ensures { FirstInFirstOut }
 {}
 
-/// On a network of one link, a flow is an equilibrium exactly under three conditions. The whole supply enters the link at once,
-/// the sink's label is the exit, and outflow and queue are those of this inflow.
+/// On a network of one link, a flow is an equilibrium exactly under three conditions. The whole supply enters the link at once, the
+/// sink's label is the exit, and outflow and queue are those of this inflow.
 pub fn one_link_equilibrium()
     ensures { OneLinkEquilibrium }
 {}

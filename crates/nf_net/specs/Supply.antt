@@ -13,7 +13,7 @@ abbrev pub end_before : List Piece → ℚ → ℚ
 end_before [] time = time
 end_before (next ∷ later) time = min_ℚ time next.start
 
--- the amount so far plus the amount of a piece from its start to `end`
+-- adds the amount of a piece from its start to `end` to the amount so far
 abbrev pub with_piece : Passing → ℚ → Piece → ℚ → Checked ℚ
 with_piece passes so_far piece end = do
   length ← checked passes Difference end piece.start

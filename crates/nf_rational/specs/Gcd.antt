@@ -1,4 +1,4 @@
--- The greatest common divisor by Euclid's algorithm, and lemmas for reduced fractions.
+-- The greatest common divisor, by Euclid's algorithm.
 use Rattle.std.proofs.Common.{◌≡◌, ℕ, zero, suc, ◌*◌, ◌/◌, ◌%◌, ◌<◌, refl, sym, ◌∙◌, subst, arith}
 use native.Mathlib.Nat.{dvd_antisymm, dvd-mul_right, mul-dvd-mul_left, dvd_of_mul-dvd-mul_left, mod-lt, zero-lt-suc, mul-div_cancel', mul-one, eq_of_mul-eq-mul_left}
 use Rattle.std.specs.Int.{IsGcd}

@@ -1,4 +1,4 @@
--- The order of the rational numbers, by cross products, and tests that decide it.
+-- The order of the rational numbers.
 use Rattle.std.specs.Prelude.{Bool, not, if◌then◌else◌, pos, ◌*ℤ◌, ◌≤ℤ◌, ◌<ℤ◌, int_le}
 use Rattle.std.specs.Ordering.{int_cmp}
 use Rattle.std.specs.declared.cmp.Ordering.{Ordering}

@@ -18,7 +18,7 @@ seen_stage Body = lines.InBody
 seen_stage End = lines.AtEnd
 
 -- ---- curves, by the keys of their numbers
--- a curve with its rates, or no points for an idle node
+-- returns a curve with its rates, or no points for an idle node
 abbrev pub seen_curve : CurveKey → Option Trace → ReadCurve
 seen_curve key None = record { key = key; points = []; rates = [] }
 seen_curve key (Some trace) = record { key = key; points = trace.curve.points; rates = trace.rates.items }

@@ -1,4 +1,4 @@
--- The meaning of a line of a report, and the parser state after it.
+-- Lines of a report, and their effects.
 use Rattle.std.specs.Prelude.{◌≡◌, suc, ◌<◌, true, List, [], ◌∷◌, ◌++◌, length, set, Option, Some, None, IsSome, Result, Ok, Err}
 use Rattle.std.specs.List.{last_or}
 use Rattle.nf_formats.specs.Named.{Named}

@@ -13,7 +13,7 @@ abbrev pub IfBroken : ReportFault → (ReportBroken → Type 0) → Type 0
 IfBroken (ReportFault.Broken rule line) P = P (record { rule = rule; line = line })
 IfBroken ReportFault.Memory P = Unit {0}
 
--- the report of the parser state at the end of the text
+-- returns the report of the parser state at the end of the text
 abbrev pub closed_by : Result ReportDraft ReportBroken → Result formats.Report ReportBroken
 closed_by read = read >>= λ draft. if_at_end draft.stage draft
 

@@ -17,7 +17,7 @@ use nf_net::{LinkId, Network};
 use nf_pattern::Pattern;
 use std::alloc::{AllocError, Global};
 
-/// The expected line: one of the head, one after the head, or none after `end`.
+/// The expected line is one of the head, one after the head, or none after `end`.
 #[derive(Clone, Copy)]
 pub enum Stage {
     Version,

@@ -4,14 +4,14 @@ use nf_frac::Q;
 use nf_model::State;
 use nf_net::LinkId;
 
-/// The curve that a line extends: `GoesOn` for the current one, `Begins` for the next one.
+/// The curve that a line extends. `GoesOn` means the current curve, and `Begins` the next one.
 #[derive(Clone, Copy)]
 pub enum Opening {
     GoesOn,
     Begins,
 }
 
-/// A point of a curve, with the rate up to the next point, if the line has one.
+/// A point of a curve. `rate` is the slope to the next point, if the line has one.
 #[derive(Clone, Copy)]
 pub struct RatedPoint {
     pub time: Q,

@@ -17,7 +17,7 @@ pub enum Kind {
     Queue,
 }
 
-/// The kind of a curve, and the name of its node or link.
+/// The key of a curve. `name` is the name of its node or link.
 #[derive(Clone, Copy)]
 pub struct Key<'a> {
     pub kind: Kind,

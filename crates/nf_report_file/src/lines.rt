@@ -1,4 +1,4 @@
-// A line of a report, and its effect on the parser state.
+// A line of a report changes the parser state.
 ghost use Rattle.std.specs.Prelude.{◌≡◌, ◌<◌, length, IfOk, OnOk, IsErr, MatchResult};
 ghost use Rattle.std.specs.Option.{option_copied};
 ghost use Rattle.nf_formats.specs.Named.{Named};

@@ -1,4 +1,4 @@
-// The curve that a line extends, and the condition on its time.
+// The curve that a line extends.
 ghost use Rattle.std.specs.Prelude.{◌≡◌, IfOk};
 ghost use Rattle.std.specs.List.{last_or};
 ghost use Rattle.nf_readings.specs.ReportLines as lines;

@@ -6,7 +6,7 @@ ghost use Rattle.nf_readings.specs.ReportCauses.{printed_number as number_by};
 
 use nf_frac::Q;
 
-// The greatest number that can take one more digit within 64 bits.
+// A number of at most `ROOM` has room for one more digit in 64 bits.
 const ROOM: u64 = 1_844_674_407_370_955_160;
 
 // The least denominator of a printed form.

@@ -17,8 +17,7 @@ use nf_pattern::Pattern;
 use nf_readings::ReportRule;
 use std::alloc::{AllocError, Global};
 
-/// A report of a run. `stopped` is the cause of a stop before the horizon, and `last` holds the
-/// states of the links in the last phase.
+/// A report of a run. `stopped` is the cause of a stop before the horizon, and `last` holds the states of the links in the last phase.
 #[derive(Drop)]
 pub struct Report {
     pub horizon: Q,

@@ -1,4 +1,4 @@
--- The answers of a checker for equilibria and reports of runs. The rule of shortest routes is never the first broken rule.
+-- A checker answers yes for equilibria and reports of runs. The rule of shortest routes is never the first broken rule.
 use Rattle.std.specs.Prelude.{◌≡◌, ◌≢◌, ◌↔◌, ℕ, ◌<◌, length, Ok}
 use Rattle.nf_rational.specs.Rational.{ℚ}
 use Rattle.nf_work.specs.Passing.{Passing, passes_Q}

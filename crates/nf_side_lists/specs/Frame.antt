@@ -1,4 +1,4 @@
--- A side file as a whole. Rules of bytes precede the first line, the other lines in order, and the whole.
+-- A side file as a whole. Its reading tests the rules of bytes, then the first line, then each other line, then the whole file.
 use Rattle.std.specs.Prelude.{ℕ, if◌then◌else◌, List, [], ◌∷◌, Option, Some, None, Result, Ok, Err}
 use Rattle.nf_work.specs.Checked.{◌>>=◌}
 use Rattle.nf_lines.specs.Words.{ReadLine, read_lines, content_lines}

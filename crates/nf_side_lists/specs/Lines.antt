@@ -1,4 +1,4 @@
--- The meanings of single lines of a side file, with the rules for them.
+-- Single lines of a side file.
 use Rattle.std.specs.Prelude.{ℕ, Bool, false, ◌&&◌, ◌||◌, nat_le, if◌then◌else◌, List, [], ◌∷◌, length, Option, Some, None, Result, Ok, Err, codes}
 use Rattle.std.specs.List.{last_or}
 use Rattle.std.specs.Result.{result_ok}

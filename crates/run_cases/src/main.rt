@@ -1,4 +1,4 @@
-//! This program runs `nf_app` over files and sinks in memory. It reads its input line by line:
+//! This program runs `nf_app` over files and sinks in memory. The program reads its input line by line:
 //!
 //!     == NAME        begins the file NAME, which replaces an earlier one of that name
 //!     ++ COUNT       appends COUNT bytes `#` to the file
