@@ -53,7 +53,7 @@ pub enum NetRule {
     N20,
     /// Some links of transit time 0 form a cycle.
     N21,
-    /// The sum of a least transit sum and the transit time of a link behind it passes the bound.
+    /// For some link, the least transit sum of its tail plus its own transit time passes the bound.
     N22,
 }
 

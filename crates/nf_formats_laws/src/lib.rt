@@ -16,13 +16,13 @@ pub fn reads_once()
     ensures { ReadsOnce }
 {}
 
-/// The network of each accepted file is a network of the model, its names and numbers satisfy the limits, and its further nodes and links
+/// The network of each accepted file is a network of the model, its names and numbers satisfy the limits, and its idle nodes and links
 /// are unreached.
 pub fn accepted_is_named()
     ensures { AcceptedIsNamed }
 {}
 
-/// Reading the canonical text of such a network returns that network, with the same names.
+/// Reading the canonical text of the network of an accepted file returns that network, with the same names.
 pub fn canonical_reads_back()
     ensures { CanonicalReadsBack }
 {}

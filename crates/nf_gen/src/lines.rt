@@ -6,7 +6,7 @@ ghost use Rattle.nf_lines.specs.Words.{line_of_words};
 use nf_numerals::{TextBuf, write_count};
 use std::alloc::AllocError;
 
-/// Appends the bytes. If the allocation fails, the call returns an error.
+/// Appends the bytes. Fails only if an allocation fails.
 pub fn push_bytes(out: &mut Vec<u8>, bytes: &[u8]) -> Result<(), AllocError>
     ensures { OnOk result (out.new.items ≡ out.old.items ++ bytes.now) }
 {

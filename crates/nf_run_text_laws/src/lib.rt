@@ -11,7 +11,8 @@ pub fn run_report_is_readable()
     ensures { RunReportIsReadable }
 {}
 
-/// Reading the text of this report returns the report. No other readable report has this text.
+/// Reading the text of the report of a phase run returns that report, if the horizon is a fraction and the budgets have at most 64 bits.
+/// No other readable report has the same text.
 pub fn run_report_reads_back()
     ensures { RunReportReadsBack }
 {}
