@@ -10,7 +10,7 @@ use Rattle.nf_report_file.specs.declared.entry.Opening.TheVariants.{GoesOn, Begi
 use Rattle.nf_report_file.specs.declared.entry.Entry.{Entry}
 use Rattle.nf_report_file.specs.declared.entry.Entry.TheVariants.{Version, Horizon, Reached, Cause, OfCurve, Never, OfLink, End}
 
--- applies f to the meaning of a line, and keeps a broken rule
+-- applies f to the meaning of a line, and returns a broken rule unchanged
 abbrev pub said_by : {A B : Type 0} → (A → B) → Result A ReportRule → Result B ReportRule
 said_by f (Ok x) = Ok (f x)
 said_by f (Err rule) = Err rule

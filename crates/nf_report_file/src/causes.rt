@@ -51,7 +51,7 @@ fn op_named(word: &[u8]) -> Option<Op>
     }
 }
 
-// Reads a part of the work. Fails with P9.
+// Reads a part of the work. Otherwise fails with P9.
 fn read_part(word: &[u8]) -> Result<Part, ReportRule>
     ensures { result ≡ or_rule P9 (part_of word.now) }
 {
@@ -61,7 +61,7 @@ fn read_part(word: &[u8]) -> Result<Part, ReportRule>
     }
 }
 
-// Reads an operation. Fails with P9.
+// Reads an operation. Otherwise fails with P9.
 fn read_op(word: &[u8]) -> Result<Op, ReportRule>
     ensures { result ≡ or_rule P9 (op_of word.now) }
 {

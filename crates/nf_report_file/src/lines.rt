@@ -18,7 +18,7 @@ use nf_readings::ReportRule;
 use nf_text::ReadLine;
 use std::alloc::Global;
 
-// Reads `report` and the version. Fails with P4.
+// Reads `report` and the version. Otherwise fails with P4.
 fn read_version(net: &Network, line: &ReadLine) -> Result<Entry, ReportRule>
     ensures says { (draft : ReportDraft) → version_line net.now draft line.now.words ≡ said_by (drafted net.now draft) result }
     ensures fits { (draft : ReportDraft) → IfOk result (λ entry. Fits net.now draft entry) }

@@ -42,7 +42,7 @@ fn printed_number(word: &[u8]) -> Option<Q>
     }
 }
 
-/// Returns the number whose printed form is the word. Fails with P8.
+/// Returns the number whose printed form is the word. Otherwise fails with P8.
 pub fn read_number(word: &[u8]) -> Result<Q, ReportRule>
     ensures { result ≡ or_rule P8 (number_by word.now) }
 {
@@ -52,7 +52,7 @@ pub fn read_number(word: &[u8]) -> Result<Q, ReportRule>
     }
 }
 
-/// Returns the count that the word writes. Fails with P8.
+/// Returns the count that the word writes. Otherwise fails with P8.
 pub fn read_count(word: &[u8]) -> Result<u64, ReportRule>
     ensures { result ≡ or_rule P8 (count_of word.now) }
 {
@@ -62,7 +62,7 @@ pub fn read_count(word: &[u8]) -> Result<u64, ReportRule>
     }
 }
 
-/// Returns the count that the word writes, or None if the word is `-`. Fails with P8.
+/// Returns the count that the word writes, or None if the word is `-`. Otherwise fails with P8.
 pub fn read_place(word: &[u8]) -> Result<Option<u64>, ReportRule>
     ensures { result ≡ or_rule P8 (place_in word.now) }
 {
@@ -73,7 +73,7 @@ pub fn read_place(word: &[u8]) -> Result<Option<u64>, ReportRule>
     Ok(Some(place))
 }
 
-/// Returns the rate that the word writes, or None if the word is `-`. Fails with P8.
+/// Returns the rate that the word writes, or None if the word is `-`. Otherwise fails with P8.
 pub fn read_rate(word: &[u8]) -> Result<Option<Q>, ReportRule>
     ensures { result ≡ rate_word word.now }
 {

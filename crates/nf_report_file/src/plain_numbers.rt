@@ -109,7 +109,7 @@ fn plain_parts(word: &[u8]) -> Option<(i128, u64)>
     Some((num, den))
 }
 
-/// Returns the number whose printed form is the word. Numerator and denominator must be at most ten times `ROOM` plus 9 in magnitude.
+/// Returns the number whose printed form is the word, if numerator and denominator are at most ten times `ROOM` plus 9 in magnitude.
 /// None does not mean that the word is no printed form.
 pub(crate) fn plain_number(word: &[u8]) -> Option<Q>
     ensures { IfSome result (λ q. number_by word.now ≡ Some q) }
