@@ -1,4 +1,5 @@
-//! This crate reads cases from the input of a program, and prints what several programs print alike. The input is a list of cases:
+//! This crate reads cases from the input of a program, and contains printing functions that several programs share. The input is a list
+//! of cases:
 //!
 //!     == TITLE       begins a case
 //!     ++ WORDS       states a question about the case

@@ -39,7 +39,7 @@ hop_of link = record { tail = link.tail; head = link.head; transit = link.transi
 abbrev pub hops : Network → List Hop
 hops net = map hop_of net.links
 
--- tells, for each link, whether it is unbounded
+-- states, for each link, whether it is unbounded
 abbrev pub unbounded : Network → List Bool
 unbounded net = map (λ link. is_none link.capacity) net.links
 

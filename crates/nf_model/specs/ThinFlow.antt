@@ -16,7 +16,7 @@ slack labels hop = number_at labels hop.head -ℚ (number_at labels hop.tail +�
 abbrev pub slacks_of : List Hop → List ℚ → List ℚ
 slacks_of hops labels = map (slack labels) hops
 
--- tells, for each link, whether it is active, and whether it is resetting
+-- the sets state, for each link, whether it is active, and whether it is resetting
 pub record Sets : Type 0 where
   pub active : List Bool
   pub resetting : List Bool
