@@ -1,4 +1,4 @@
-// Files that stand in the input.
+// Files that the input contains.
 use crate::line::add_line;
 use std::alloc::{AllocError, Global};
 

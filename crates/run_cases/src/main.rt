@@ -1,18 +1,18 @@
-//! Cases of the program and of its libraries, and what they answer. The input is read line by line:
+//! This program runs `nf_app` over files and sinks in memory, and answers questions about libraries. It reads its input line by line:
 //!
-//!     == NAME        begins the file NAME, in the place of an earlier one of that name
-//!     ++ COUNT       adds so many `#` to the file
-//!     LINE           any other line is a line of the file
+//!     == NAME        begins the file NAME, which replaces an earlier one of that name
+//!     ++ COUNT       appends COUNT bytes `#` to the file
+//!     LINE           any other line belongs to the file
 //!     ?? SUBJECT     answers questions of the last file: `numbers`, `ladders` or `edges`, one a line; or `lines`, the whole file
-//!     !! out CALL    in the next run `out` takes a byte a write, and the write of this number fails
-//!     !! err CALL    the same of `err`
-//!     !! fetch CALL  in the next run the fetch of this number fails
-//!     $$ WORD ..     runs the program on these words, separated by single spaces
+//!     !! out CALL    in the next run each write to `out` accepts one byte, and the write with number CALL fails
+//!     !! err CALL    the same for `err`
+//!     !! fetch CALL  in the next run the fetch with number CALL fails
+//!     $$ WORD ..     runs the program on these words, which are separated by single spaces
 //!
-//! In a line of a file `\` and two hexadecimal digits stand for the byte of that number, and a `\` at the end says that no LF follows.
+//! In a line of a file `\` and two hexadecimal digits give the byte of that number. A `\` at the end of a line drops its LF.
 //!
-//! The program prints for each run its line, then what `out` took, each line of what `err` took behind `! `, and the status behind `= `.
-//! Bytes that don't end with LF are followed by `\` and LF. For each question it prints the file's name, and the answers.
+//! For each run, the program prints the line, the bytes in `out`, the lines in `err` after `! `, and the status after `= `. If bytes
+//! do not end with LF, `\` and LF follow. For each question it prints the name of the file, and the answers.
 #![tactic(auto)]
 
 mod edges;
