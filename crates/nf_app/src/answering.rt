@@ -45,7 +45,7 @@ fn solve_to(alloc: Global, net: &Network, horizon: Q, budgets: Budgets) -> Resul
     requires { 0ℚ ≤ℚ horizon }
     ensures { (file text : List ℕ) → IsGiving net.now text (Solve file horizon budgets.phases budgets.patterns) result }
 {
-    // For the proof: the network is that of an accepted file, and the parts of the horizon are within the bound.
+    // Proof: the network is that of an accepted file, and the parts of the horizon are within the bound.
     net.recall();
     let _ = horizon.numer();
     let _ = horizon.denom();
@@ -57,7 +57,7 @@ fn solve_to(alloc: Global, net: &Network, horizon: Q, budgets: Budgets) -> Resul
 fn solve_on(alloc: Global, net: &Network, budgets: Budgets) -> Result<Computed, Refusal>
     ensures { (file text : List ℕ) → IsGiving net.now text (SolveForever file budgets.phases budgets.patterns) result }
 {
-    // For the proof: the network is that of an accepted file.
+    // Proof: the network is that of an accepted file.
     net.recall();
     let forever = solve_forever(alloc, net, budgets)?;
     Ok(Computed::SolvedForever { forever })
@@ -74,7 +74,7 @@ fn sum_up(
     requires { 0ℚ ≤ℚ horizon }
     ensures { (text : List ℕ) → IsGiving net.now text (Gen ladder.number ladder.rungs horizon budgets.phases budgets.patterns) result }
 {
-    // For the proof: the network is that of an accepted file.
+    // Proof: the network is that of an accepted file.
     net.recall();
     let solution = solve(alloc, net, horizon, budgets)?;
     let (_, arrival) = last_label(&solution.flow, net.sink());
@@ -100,7 +100,7 @@ fn load_to(alloc: Global, net: &Network, loads: &[u8], horizon: Q) -> Result<Com
     requires within { length loads.now ≤ longest_text }
     ensures { (file name : List ℕ) → IsGiving net.now loads.now (Load file name horizon) result }
 {
-    // For the proof: the network is that of an accepted file.
+    // Proof: the network is that of an accepted file.
     net.recall();
     let loads = parse_loads(alloc, net, loads)?;
     let links = load_links(alloc, net, &loads, horizon)?;
@@ -112,7 +112,7 @@ fn check_report(alloc: Global, net: &Network, text: &[u8]) -> Result<Computed, R
     requires { length text.now ≤ report_limit }
     ensures { (file name : List ℕ) → IsGiving net.now text.now (Check file name) result }
 {
-    // For the proof: the network is that of an accepted file.
+    // Proof: the network is that of an accepted file.
     net.recall();
     let report = parse_report(alloc, net, text)?;
     let verdict = check(alloc, net, &report.flow)?;
@@ -155,7 +155,7 @@ fn resume_to(
     requires { length text.now ≤ report_limit }
     ensures { (file name : List ℕ) → IsGiving net.now text.now (Resume file name horizon budgets.phases budgets.patterns) result }
 {
-    // For the proof: the network is that of an accepted file, and the parts of the horizon are within the bound.
+    // Proof: the network is that of an accepted file, and the parts of the horizon are within the bound.
     net.recall();
     let _ = horizon.numer();
     let _ = horizon.denom();
@@ -326,7 +326,7 @@ fn answer_request<S: Shelf>(
     ensures never_falls { S.faults shelf.old ≤ S.faults shelf.new }
 {
     let (net, other) = gather(alloc, request, shelf)?;
-    // For the proof: the network is that of an accepted file.
+    // Proof: the network is that of an accepted file.
     net.recall();
     with_net(find(alloc, request, &net, &other), net)
 }

@@ -47,7 +47,7 @@ fn arrival_at(alloc: Global, net: &Network, departs: Q) -> Result<Arrival, Alloc
     requires { 0ℚ ≤ℚ departs }
     ensures { IfOk result (ArrivesIn net.now.net departs) }
 {
-    // For the proof: a network has its source among its nodes.
+    // Proof: a network has its source among its nodes.
     net.recall();
     let budgets = usual_budgets();
     let solution = solve(alloc, net, departs, budgets)?;

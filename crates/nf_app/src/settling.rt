@@ -32,7 +32,7 @@ pub(crate) fn settle_at_start(
     requires slopes { length flows.now.slopes.items ≡ net.now.net.nodes }
     ensures { SettlesAtStart net.now.net (given_of flows.now) result }
 {
-    // For the proof: the network is that of an accepted file.
+    // Proof: the network is that of an accepted file.
     net.recall();
     let sets = start_sets(alloc, net)?;
     let rate = net.rate_at(Q::zero());

@@ -44,7 +44,7 @@ impl Draft {
         ensures nothing { IfOk result (λ draft. seen_draft draft ≡ empty_loads net.now) }
         ensures links { IfOk result (λ draft. HasLinks net.now draft) }
     {
-        // For the proof: each link has a name.
+        // Proof: each link has a name.
         net.recall();
         let mut pieces = Vec::new(alloc);
         for _ in 0..net.link_count() {

@@ -54,7 +54,7 @@ pub fn parse_loads(alloc: Global, net: &Network, text: &[u8]) -> Result<Loads, L
         (λ fault. IfBroken fault (λ broken. loads_in net.now text.now ≡ Err broken)) }
     ensures links { IfOk result (λ loads. length loads ≡ length net.now.net.links) }
 {
-    // For the proof: each link has a name.
+    // Proof: each link has a name.
     net.recall();
     let lines = match contents(alloc, text) {
         Ok(lines) => lines,

@@ -104,7 +104,7 @@ fn leaves_unreached(version: u32, flags: &[bool], sink: NodeId) -> bool
     }
 }
 
-/// For the proof: each value of this type is a fraction that fits.
+/// Proof: each value of this type is a fraction that fits.
 pub fn is_fraction(value: Q)
     ensures { is_wide greatest value ≡ false }
 {

@@ -37,7 +37,7 @@ fn first_content(text: &[u8], lines: &[Line]) -> usize
     ensures first { IsFirstContent text.now lines.now result }
     ensures within { result ≤ length lines.now }
 {
-    // For the proof: the clause speaks of the text that the words stand in.
+    // Proof: the clause speaks of the text that the words stand in.
     let _ = text;
     for (index, line) in lines.iter().enumerate() {
         if line.words.len() > 0 {

@@ -197,7 +197,7 @@ pub fn fill<T: System>(table: &mut T, net: &Network, sets: &LinkSets, rate: Q, p
     requires numbers { HoldsNumbers T.takes net.now.net rate }
     ensures { T.rows_of table.new ≡ equations net.now.net sets.now rate pattern.now }
 {
-    // For the proof: the network is well formed.
+    // Proof: the network is well formed.
     let _ = net.hops();
     table.set(0, net.source().0, Q::one());
     table.set_right(0, Q::one());

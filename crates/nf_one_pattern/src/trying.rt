@@ -236,7 +236,7 @@ pub fn try_pattern(
     requires slopes { length slopes.old ≡ net.now.net.nodes }
     ensures { TriesInto passes_Q net.now.net sets.now rate pattern.now flows.new slopes.new result }
 {
-    // For the proof: every network is well formed.
+    // Proof: every network is well formed.
     net.recall();
     let count = unknown_count(net, sets);
     let mut room = [Q::zero(); 32];

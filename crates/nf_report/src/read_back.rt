@@ -36,7 +36,7 @@ pub fn written_reads_back(
         ≡ report_text net.now other
         → record { horizon = horizon; flow = flow_of flow.now; stop = option_copied stopped.entry; last = last.now } ≡ other }
 {
-    // For the proof: the network is that of an accepted file.
+    // Proof: the network is that of an accepted file.
     net.recall();
     is_fraction(horizon);
     is_fraction(flow.reached);

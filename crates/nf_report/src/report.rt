@@ -251,7 +251,7 @@ pub fn write_report<O: Sink>(
         (report_text net.now (record { horizon = horizon; flow = flow_of flow.now; stop = option_copied stopped.entry; last = last.now }))
         ≡ Ok (record { horizon = horizon; flow = flow_of flow.now; stop = option_copied stopped.entry; last = last.now }) }
 {
-    // For the proof: all numbers and counts of the report can be read.
+    // Proof: all numbers and counts of the report can be read.
     written_reads_back(net, horizon, flow, stopped, last);
     let mut page = Page::new();
     put_report(out, &mut page, net, horizon, flow, stopped, last)?;

@@ -17,7 +17,7 @@ use nf_text::is_word;
 pub fn link_of(net: &Network, word: &[u8]) -> Option<LinkId>
     ensures { MatchOption result (has_name net.now.link_names word.now ≡ false) (λ link. IsNameAt net.now.link_names word.now link) }
 {
-    // For the proof: names of links differ.
+    // Proof: names of links differ.
     net.recall();
     match std::str::from_utf8(word) {
         Ok(name) => net.link_named(name),
@@ -30,7 +30,7 @@ pub fn link_of(net: &Network, word: &[u8]) -> Option<LinkId>
 pub fn link_near(net: &Network, word: &[u8], near: LinkId) -> Option<LinkId>
     ensures { MatchOption result (has_name net.now.link_names word.now ≡ false) (λ link. IsNameAt net.now.link_names word.now link) }
 {
-    // For the proof: names of links differ.
+    // Proof: names of links differ.
     net.recall();
     if near.0 < net.link_count() {
         let name = net.link_name(near);
@@ -46,7 +46,7 @@ pub fn link_near(net: &Network, word: &[u8], near: LinkId) -> Option<LinkId>
 pub fn node_of(net: &Network, word: &[u8]) -> Option<NodeId>
     ensures { MatchOption result (has_name net.now.node_names word.now ≡ false) (λ node. IsNameAt net.now.node_names word.now node) }
 {
-    // For the proof: names of nodes differ.
+    // Proof: names of nodes differ.
     net.recall();
     match std::str::from_utf8(word) {
         Ok(name) => net.node_named(name),
