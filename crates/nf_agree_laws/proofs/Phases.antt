@@ -1,6 +1,6 @@
--- The labels of an equilibrium in a phase that begins with them: over each stretch on which no label turns they move at the slopes of the
--- phase's thin flow, since that is still one at the beginning of the stretch, and slopes are unique. So they do in the whole phase, and in
--- one phase after the other.
+-- The labels of an equilibrium in a phase that begins with them. On each interval on which all labels are lines, they change at the slopes
+-- of the phase's thin flow: it is still a thin flow at the beginning of the interval, and slopes are unique. So the labels do so in the
+-- whole phase, and in one phase after the other.
 use Rattle.std.proofs.Common.{◌≡◌, ℕ, zero, suc, ◌<◌, List, [], ◌∷◌, length, Some, slice_get, ⊎_elim, Bool, true, false, if◌then◌else◌, sym, ap, subst, refl, ◌∙◌}
 use Rattle.nf_rational.specs.Rational.{ℚ}
 use Rattle.nf_rational.specs.Operations.{0ℚ, ◌+ℚ◌, ◌-ℚ◌, ◌*ℚ◌}
@@ -34,7 +34,7 @@ use Rattle.nf_unique_laws.proofs.Moves.{goes-by_thin_flow}
 use Rattle.nf_unique_laws.proofs.Begins.{least_at_first}
 use Rattle.nf_agree_laws.proofs.Staying.{IsThinFlow-stays}
 
--- ---- the rate stays where no piece starts
+-- ---- the rate is constant while no piece starts
 rate-stays : (pieces : List Piece) (before t u : ℚ) → t ≤ℚ u → ((i : ℕ) (piece : Piece) → IsPiece pieces i piece → t <ℚ piece.start → u <ℚ piece.start)
     → rate_from before pieces u ≡ rate_from before pieces t
 rate-stays [] before t u h none = refl
@@ -79,7 +79,7 @@ within_length t u l h = linear_lt (t ∷ u ∷ l ∷ []) (lt h ∷ []) (search r
 whole_length : (t u l : ℚ) → u ≡ t +ℚ l → u -ℚ t ≡ l
 whole_length t u l e = linear_eq (t ∷ u ∷ l ∷ []) (eq e ∷ []) (search reading_of depth 12) tt tt
 
--- a phase ends no earlier than it begins
+-- A phase ends no earlier than it begins.
 phase-later : (net : Network) (horizon : ℚ) (old new : ℚ × List ℚ) → IsPhase net horizon old new → old.0 ≤ℚ new.0
 phase-later net horizon old new phase = ≤ℚ_of_lt _ _ (IsPhase-some net horizon old new phase)
 
@@ -108,7 +108,7 @@ module _ (net : Network) (good : IsNetwork net) (flow : Flow) (is : Equilibrium 
     same-first : Same old.0
     same-first v h = not_yet _ (number_at old.1 v) (number_at slopes v) old.0 (same v h) ∙ sym (moved-at old.1 slopes (old.0 -ℚ old.0) v counts)
 
-    -- over a stretch on which no label turns
+    -- An interval on which all labels are lines.
     module _ (a b : ℚ) (from : old.0 ≤ℚ a) (o : a <ℚ b) (in_phase : b ≤ℚ old.0 +ℚ phase.length) (described : b ≤ℚ flow.reached) (none : NoneBetween (all_times flow.labels) a b) (now : Same a) where
       a_nn : 0ℚ ≤ℚ a
       a_nn = ≤ℚ_trans _ _ _ begins from
@@ -181,7 +181,7 @@ module _ (net : Network) (good : IsNetwork net) (flow : Flow) (is : Equilibrium 
     end-count = ap length phase.labels ∙ length-moved old.1 slopes phase.length counts ∙ count
 
   -- ---- one phase after the other
-  -- none of those that follow ends earlier
+  -- None of the later phases ends earlier.
   later_on : (old : ℚ × List ℚ) (rest : List (ℚ × List ℚ)) (i : ℕ) (at : ℚ × List ℚ) → PhasesFrom net horizon old rest → slice_get rest i ≡ Some at → old.0 ≤ℚ at.0
   later_on old [] i at phases p = absurd (cc)
   later_on old (new ∷ rest) zero at phases p = subst (λ (z : ℚ × List ℚ). old.0 ≤ℚ z.0) (same_Some new at p) (phase-later net horizon old new phases.0)

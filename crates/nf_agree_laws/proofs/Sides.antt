@@ -11,7 +11,7 @@ use Rattle.nf_rational_laws.proofs.Linear.{le, lt, le_times, linear_le, linear_l
 use Rattle.nf_rational_laws.proofs.Chains.{≤ℚ_trans}
 use Rattle.nf_model.specs.ThinFlow.{exit_slope}
 
--- ---- a slack s that changes at c: what is below 0 at first and not above it at y is below it at d between
+-- ---- a slack s that changes at c: if it is below 0 at first and at most 0 at y, it is below 0 at d between
 pub below_between : (s c d y : ℚ) → s <ℚ 0ℚ → 0ℚ ≤ℚ d → d <ℚ y → s +ℚ y *ℚ c ≤ℚ 0ℚ → s +ℚ d *ℚ c <ℚ 0ℚ
 below_between s c d y h i j k = ⊎_elim
     (λ (l : s +ℚ d *ℚ c <ℚ 0ℚ). l)
@@ -29,7 +29,7 @@ above_between s c d y h i j k =
     let m : (0ℚ -ℚ s) +ℚ d *ℚ (0ℚ -ℚ c) <ℚ 0ℚ = below_between (0ℚ -ℚ s) (0ℚ -ℚ c) d y below i j under in
     linear_lt (s ∷ c ∷ d ∷ []) (lt m ∷ []) (search reading_of depth 12) tt
 
--- ---- where the head's label moves faster than the tail's, it moves as the filled link makes it
+-- ---- if the head's label rises faster than the tail's, its slope is that of the filled link
 pub reset_least : (capacity : Option ℚ) (x l m : ℚ) → l <ℚ m → m ≤ℚ exit_slope false capacity x l → m ≤ℚ exit_slope true capacity x l
 reset_least None x l m h k = k
 reset_least (Some c) x l m h k = ⊎_elim

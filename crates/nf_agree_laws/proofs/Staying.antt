@@ -1,5 +1,5 @@
--- The thin flow of a phase stays one for the sets of the slacks at each time of the phase before its end. A slack that isn't 0 keeps its side.
--- A link with slack 0 whose head's label falls behind carries nothing; and one whose head's label gets ahead is filled.
+-- The thin flow of a phase stays a thin flow for the sets of the slacks at each time of the phase before its end. A nonzero slack keeps its
+-- side. A link with slack 0 whose head's label falls behind carries nothing. One whose head's label gets ahead is filled.
 use Rattle.std.proofs.Common.{◌≡◌, ◌≢◌, ℕ, ◌<◌, List, [], ◌∷◌, length, ◌⊎◌, inl, inr, ⊎_elim, Bool, true, false, sym, ap, subst, refl, ◌∙◌}
 use Rattle.std.proofs.lemmas.Option.{slice_get_within}
 use Rattle.nf_rational.specs.Rational.{ℚ}
@@ -21,7 +21,7 @@ use Rattle.nf_thin_laws.proofs.Flags.{flag, flag-cases}
 use Rattle.nf_thin_laws.proofs.Slopes.{NoneEntersSource-thin}
 use Rattle.nf_agree_laws.proofs.Sides.{below_between, above_between, reset_least, reset_equal}
 
--- ---- a slack z at first 0 that changes at c is w after a while
+-- ---- a slack z, at first 0, that changes at c is w later
 gets_above : (z c d w : ℚ) → w ≡ z +ℚ d *ℚ c → 0ℚ <ℚ w → z ≤ℚ 0ℚ → 0ℚ ≤ℚ d → 0ℚ <ℚ c
 gets_above z c d w e h i j = ⊎_elim
     (λ (k : 0ℚ <ℚ c). k)
@@ -80,7 +80,7 @@ module _ (net : Network) (good : IsNetwork net) (rate : ℚ) (labels flows slope
         (λ (h : 0ℚ ≤ℚ s link). h)
         (lt_or_le_ℚ (s link) 0ℚ))
 
-    -- it is resetting as then, or its head's label has got ahead
+    -- It was resetting then, or its head's label has got ahead.
     abbrev Kept : Type 0
     Kept = (flag after.resetting e ≡ flag before.resetting e) ⊎ ((flag after.resetting e ≡ true) × (flag before.resetting e ≡ false) × (l link <ℚ m link))
 
@@ -125,7 +125,7 @@ module _ (net : Network) (good : IsNetwork net) (rate : ℚ) (labels flows slope
         by (inl k) = ap exit_by k ∙ h
         by (inr k) = ap exit_by k.0 ∙ reset_equal link.capacity (number_at flows e) (l link) (m link) k.2 (ap exit_by (sym k.1) ∙ h)
 
-    -- one whose exit slope is that of its head stays active
+    -- A link whose exit slope is that of its head stays active.
     stays_active : Has before.active e → exit_slope_at before flows slopes e link ≡ m link → Has after.active e
     stays_active a h = active_of_slack net later e link p (⊎_elim
         (λ (b : (flag before.resetting e ≡ true) × Has before.resetting e). ≤ℚ_of_lt _ _ (stays_above (slack_of_resetting net labels e link p b.1)))
@@ -134,7 +134,7 @@ module _ (net : Network) (good : IsNetwork net) (rate : ℚ) (labels flows slope
         (subst (λ (z : ℚ). l link ≤ℚ z) (ap exit_by (sym b.0) ∙ h) (exit_slope-tail link.capacity (number_at flows e) (l link))))
         (flag-cases before.resetting e))
 
-    -- one that is no longer active carries nothing
+    -- A link that is not active carries nothing.
     carries_none : Has before.active e → (Has after.active e → ⊥) → number_at flows e ≡ 0ℚ
     carries_none a n = ⊎_elim
         (λ (some : 0ℚ <ℚ number_at flows e). absurd (n (stays_active a (thin.used link.head e link (good.heads e link p) elsewhere enters some))))

@@ -1,5 +1,4 @@
--- Equilibria of networks that differ in their supply after a departure alone: up to that departure the one is an equilibrium of the other's
--- network.
+-- Equilibria of networks whose supplies differ only after a departure: up to that departure each is an equilibrium of the other's network.
 use Rattle.std.proofs.Common.{◌≡◌, ℕ, suc, ◌<◌, List, [], ◌∷◌, ◌++◌, sym, ap, subst, refl, ◌∙◌}
 use Rattle.nf_rational.specs.Rational.{ℚ}
 use Rattle.nf_rational.specs.Operations.{0ℚ, ◌+ℚ◌, ◌-ℚ◌, ◌*ℚ◌}
@@ -64,7 +63,7 @@ module _ (net : Network) (pieces : List Piece) (flow : Flow) (alike : SupplyAlik
 module _ (net : Network) (pieces : List Piece) (until : ℚ) (one other : Flow) (good : IsNetwork net) (are : ArePieces pieces) (alike : SupplyAlike net.pieces pieces until)
     (is_one : Equilibrium net one) (is_other : Equilibrium (supplied_by net pieces) other) (departure : ℚ) (w : Within 0ℚ until departure) (x : Within 0ℚ one.reached departure)
     (y : Within 0ℚ other.reached departure) where
-  -- both flows up to the departure, in the other's network
+  -- Both flows up to the departure, in the other's network.
   is_one_there : Equilibrium (supplied_by net pieces) (up_to one departure)
   is_one_there = Equilibrium-supplied_by net pieces (up_to one departure) (λ time v. alike time (v.0, ≤ℚ_trans _ _ _ v.1 w.1)) (Equilibrium-before net one departure good is_one w.0 x.1)
 
@@ -91,7 +90,7 @@ module _ (net : Network) (pieces : List Piece) (until : ℚ) (one other : Flow) 
 rest-from : (piece : Piece) (rest : List Piece) (until : ℚ) → StartFrom (piece ∷ rest) until → StartFrom rest until
 rest-from piece rest until h i next p = h (suc i) next p
 
--- how long a piece is the latest one, before pieces that start later than the time
+-- How long a piece is the latest one, before pieces that start later than the time.
 time_in-later : (start : ℚ) (pieces : List Piece) (time : ℚ) → StartFrom pieces time → time_in start pieces time ≡ max_ℚ 0ℚ (time -ℚ start)
 time_in-later start [] time h = refl
 time_in-later start (next ∷ rest) time h = ap (λ (t : ℚ). max_ℚ 0ℚ (t -ℚ start)) (min_is_left time next.start (h 0 next refl))

@@ -1,4 +1,4 @@
--- The labels of an equilibrium, beside those of phases.
+-- The labels of an equilibrium, compared with those of phases.
 use Rattle.std.specs.Prelude.{◌≡◌, ℕ, List, length, Some, slice_get}
 use Rattle.nf_rational.specs.Rational.{ℚ}
 use Rattle.nf_rational.specs.Operations.{0ℚ, ◌-ℚ◌}
@@ -9,8 +9,8 @@ use Rattle.nf_model.specs.Phases.{moved, IsPhase, IsPhaseSequence}
 use Rattle.nf_model.specs.Equilibrium.{Flow, label, Equilibrium}
 use Rattle.nf_phase_laws.specs.Invariant.{LabelsAre}
 
--- An equilibrium whose labels are those at which a phase begins goes by that phase, as far as both go: each label moves at its slope. So at
--- each time of a phase sequence that it describes it has the labels of the sequence.
+-- If an equilibrium has the labels at which a phase begins, each of its labels changes at the slope of the phase, as far as both reach. So
+-- it has the labels of a phase sequence at each departure of the sequence that it describes.
 pub record LabelsFollowPhases : Type 0 where
   pub phase : (net : Network) (horizon : ℚ) (old new : ℚ × List ℚ) (phase : IsPhase net horizon old new) (flow : Flow) (departure : ℚ)
       → IsNetwork net → Equilibrium net flow

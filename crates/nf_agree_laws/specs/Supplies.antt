@@ -1,4 +1,4 @@
--- Networks that differ in their supply alone.
+-- Networks that differ only in their supply.
 use Rattle.std.specs.Prelude.{◌≡◌, ℕ, ◌<◌, List, ◌++◌}
 use Rattle.nf_rational.specs.Rational.{ℚ}
 use Rattle.nf_rational.specs.Operations.{0ℚ}
@@ -7,20 +7,21 @@ use Rattle.nf_model.specs.Curve.{Within}
 use Rattle.nf_model.specs.Network.{Link, Piece, Network, IsNetwork, ArePieces, IsLink, IsPiece, supplied}
 use Rattle.nf_model.specs.Equilibrium.{Flow, label, queue, Equilibrium}
 
--- the network with these pieces of supply
+-- The network with these pieces of supply.
 abbrev pub supplied_by : Network → List Piece → Network
 supplied_by net pieces = record { nodes = net.nodes; source = net.source; sink = net.sink; links = net.links; pieces = pieces }
 
--- up to a time they supply the same
+-- The two supplies agree up to `until`.
 abbrev pub SupplyAlike : List Piece → List Piece → ℚ → Type 0
 SupplyAlike pieces others until = (time : ℚ) → Within 0ℚ until time → supplied pieces time ≡ supplied others time
 
--- none of them starts before a time
+-- No piece starts before `until`.
 abbrev pub StartFrom : List Piece → ℚ → Type 0
 StartFrom pieces until = (i : ℕ) (piece : Piece) → IsPiece pieces i piece → until ≤ℚ piece.start
 
--- What is supplied after a departure moves no label of it or before, and no queue up to its arrival at the link's tail. So it is where the
--- networks differ only in pieces that start at the departure or later.
+-- If two networks' supplies agree up to `until`, their equilibria have equal labels for departures up to `until`. They have equal queues up
+-- to the arrival of such a departure at the link's tail. Supplies agree up to `until` if they differ only in pieces that start at `until`
+-- or later.
 pub record LaterSupplyIsUnfelt : Type 0 where
   pub labels : (net : Network) (pieces : List Piece) (until : ℚ) (one other : Flow) → IsNetwork net → ArePieces pieces
       → SupplyAlike net.pieces pieces until

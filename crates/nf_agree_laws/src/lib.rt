@@ -5,14 +5,14 @@
 ghost use Rattle.nf_agree_laws.specs.PhaseLabels.{LabelsFollowPhases};
 ghost use Rattle.nf_agree_laws.specs.Supplies.{LaterSupplyIsUnfelt};
 
-/// At each time of a phase sequence that an equilibrium describes, whoever made it, its labels are those of the sequence; and within a
-/// phase they move at the slopes of its thin flow.
+/// Proves that any equilibrium has the labels of a phase sequence at each departure of the sequence that it describes. Within a phase its
+/// labels change at the slopes of the phase's thin flow.
 pub fn labels_follow_phases()
     ensures { LabelsFollowPhases }
 {}
 
-/// Equilibria of networks that differ in their supply after a departure alone have the same labels up to it, and the same queues up to its
-/// arrival at the link's tail.
+/// Proves that equilibria of networks whose supplies differ only after a departure have the same labels up to it, and the same queues up to
+/// its arrival at the link's tail.
 pub fn later_supply_is_unfelt()
     ensures { LaterSupplyIsUnfelt }
 {}

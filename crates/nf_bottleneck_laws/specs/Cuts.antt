@@ -21,7 +21,7 @@ pub record IsStaticCut (net : Network) (cut : Cut) : Type 0 where
   pub sink : cut net.sink ≡ false
   pub unbounded : (e : ℕ) (link : Link) → IsLink net e link → link.capacity ≡ None → LeadsOut cut link → ⊥
 
--- What a link adds to the capacity of a cut: its capacity if its tail is in the set and its head is not, and else 0.
+-- The outward capacity of a link: its capacity if its tail is in the set and its head is not, and 0 otherwise.
 abbrev pub outward_capacity : Bool → Bool → Option ℚ → ℚ
 outward_capacity true false (Some capacity) = capacity
 outward_capacity tail head capacity = 0ℚ
@@ -40,7 +40,7 @@ pub record IsLeastCapacity (net : Network) (least : ℚ) : Type 0 where
   pub attained : (cut : Cut) × IsStaticCut net cut × (cut_capacity net cut ≡ least)
   pub bound : (cut : Cut) → IsStaticCut net cut → least ≤ℚ cut_capacity net cut
 
--- ---- laws
+-- ---- theorems
 
 -- The capacity of each static cut is above 0, since some walk leads from the source to the sink.
 abbrev pub CutsHaveCapacity : Type 0

@@ -1,4 +1,4 @@
--- How labels grow in a phase that never ends (Cominetti, Correa and Olver 2017; Olver, Sering and Vargas Koch 2021).
+-- The growth of labels in a phase that never ends (Cominetti, Correa and Olver 2017; Olver, Sering and Vargas Koch 2021).
 use Rattle.std.specs.Prelude.{◌≡◌, ◌↔◌, ℕ, ◌<◌, List}
 use Rattle.nf_rational.specs.Rational.{ℚ}
 use Rattle.nf_rational.specs.Operations.{1ℚ, ◌*ℚ◌, ◌/ℚ◌}
@@ -38,10 +38,10 @@ pub record GrowsByLeastCut (net : Network) (rate : ℚ) (slopes : List ℚ) : Ty
   pub bottleneck : 1ℚ <ℚ number_at slopes net.sink → IsLeastCapacity net (cut_capacity net (slower_than_sink net slopes))
   pub slope : (least : ℚ) → IsLeastCapacity net least → number_at slopes net.sink ≡ max_ℚ 1ℚ (rate /ℚ least)
 
--- ---- laws
+-- ---- theorems
 
--- `sets`: if active links hold no cycle, the slopes of a thin flow that keep the sets grow by the cuts. `kept`: the slopes of a phase that
--- never ends keep the sets of its labels. `phase`: the slopes of a phase that never ends grow by the cuts.
+-- `sets`: if active links hold no cycle, the slopes of a thin flow that preserve the sets grow by the cuts. `kept`: the slopes of a phase
+-- that never ends preserve the sets of its labels. `phase`: the slopes of a phase that never ends grow by the cuts.
 pub record EndlessPhaseGrowsByCuts : Type 0 where
   pub sets : (net : Network) (sets : Sets) (rate : ℚ) (flows slopes : List ℚ) → IsNetwork net → HoldNoCycle net sets
       → IsThinFlow net sets rate flows slopes → KeepsSets net sets slopes → GrowsByCuts net rate slopes

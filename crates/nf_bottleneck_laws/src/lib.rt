@@ -7,29 +7,31 @@
 ghost use Rattle.nf_bottleneck_laws.specs.Cuts.{CutsHaveCapacity, LeastCapacityExists, OneLinkIsLeastCut};
 ghost use Rattle.nf_bottleneck_laws.specs.Growth.{EndlessPhaseGrowsByCuts, GrowthIsByLeastCut};
 
-/// The capacity of each static cut is above 0.
+/// Proves that the capacity of each static cut is above 0.
 pub fn cuts_have_capacity()
     ensures { CutsHaveCapacity }
 {}
 
-/// A network that has static cuts has one of the least capacity.
+/// Proves that a network with static cuts has one of least capacity.
 pub fn least_capacity_exists()
     ensures { LeastCapacityExists }
 {}
 
-/// In a phase that never ends each slope is at least 1. The supply rate is at most the slope of the sink times the capacity of any static
-/// cut. If the slope of the sink is above 1, the rate is that slope times the capacity of one cut: the nodes of lesser slope.
+/// Proves three facts on a phase that never ends. Each slope is at least 1. The supply rate is at most the slope of the sink times the
+/// capacity of any static cut. If the slope of the sink is above 1, the rate is that slope times the capacity of one cut: the nodes of
+/// lesser slope.
 pub fn endless_phase_grows_by_cuts()
     ensures { EndlessPhaseGrowsByCuts }
 {}
 
-/// The slope of the sink is the supply rate over the least capacity of a static cut, or 1 if that is more. If the slope is above 1, the
-/// nodes of lesser slope are a cut of the least capacity. The slope is 1 exactly if the capacity of each static cut is at least the rate.
+/// Proves that the slope of the sink is the supply rate over the least capacity of a static cut, or 1 if that is more. If the slope is
+/// above 1, the nodes of lesser slope are a cut of least capacity. The slope is 1 exactly if the capacity of each static cut is at least
+/// the rate.
 pub fn growth_is_by_least_cut()
     ensures { GrowthIsByLeastCut }
 {}
 
-/// In the network of one link the least capacity is that of the link. If the link is unbounded, there is no static cut.
+/// Proves that the least capacity of a network of one link is that of the link. If the link is unbounded, there is no static cut.
 pub fn one_link_is_least_cut()
     ensures { OneLinkIsLeastCut }
 {}

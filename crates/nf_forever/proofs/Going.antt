@@ -1,4 +1,4 @@
--- A run without a horizon that has gone on so far, and what it takes for it to end.
+-- The loop invariant of a run without a horizon, and the end of the loop.
 use Rattle.std.proofs.Common.{◌≡◌, ℕ, suc, ◌+◌, ◌<◌, add-one, refl, sym, ap, subst, ◌∙◌}
 use Rattle.std.specs.Prelude.{Option, Some, None, IsSome, MatchOption, Result, Ok, Err, IfOk}
 use Rattle.nf_rational.specs.Rational.{ℚ}
@@ -14,7 +14,7 @@ use Rattle.nf_forever_lists.specs.ForeverRun.{GoesToEnd, GoesForever, FailsOn, E
 use Rattle.nf_forever.specs.declared.solving.End.{End as Told}
 use Rattle.nf_forever.specs.Ends.{end_in, IsStopBy}
 
--- from the start it has gone on to here in so many phases, and what ends it here ends it from the start on
+-- From the start the run has reached this state after this many phases, and an end from here is an end from the start.
 pub record GoneOn (passes : Passing) (net : Network) (phases patterns : ℕ) (first : Standing) (count : ℕ) (s : Standing) : Type 0 where
   pub reaches : Reaches passes net s
   pub made : s.made ≡ count
@@ -38,17 +38,17 @@ module _ (passes : Passing) (net : Network) (phases patterns : ℕ) (first : Sta
       ends = λ last end runs. gone.ends last end (goes (may_go may) g runs);
     }
 
-    -- where no thin flow is answered, a phase was made
+    -- If no thin flow is returned, a phase was added.
     pub gone_further : count < phases → (answer : Option ThinFlow) → answer ≡ None → (t : Standing) → Reaches passes net t
         → MatchOption answer (GoesToEnd passes net patterns s t) (λ thin. GoesForever passes net patterns s thin.pattern (tail_of thin)) → GoneOn passes net phases patterns first (count + 1) t
     gone_further may answer is t reaches g =
         further may t reaches (subst (λ (o : Option ThinFlow). MatchOption o (GoesToEnd passes net patterns s t) (λ thin. GoesForever passes net patterns s thin.pattern (tail_of thin))) is g)
 
-    -- ---- where it ends
+    -- ---- the end of the run
     pub ends_at_phases : count ≡ phases → (made : ℕ) → made ≡ s.made → IsForeverRun passes net phases patterns s (Stops (Cause.Phases made))
     ends_at_phases all made e = subst (λ (n : ℕ). IsForeverRun passes net phases patterns s (Stops (Cause.Phases n))) (sym e) (run_of (Stops (Cause.Phases s.made)) (at_phases (gone.made ∙ all)))
 
-    -- by the thin flow that is answered where no phase is made
+    -- The returned thin flow, if no phase is added.
     pub ends_never : count < phases → (answer : Option ThinFlow) (thin : ThinFlow) → answer ≡ Some thin → (after : Standing)
         → MatchOption answer (GoesToEnd passes net patterns s after) (λ thin. GoesForever passes net patterns s thin.pattern (tail_of thin)) → (IsSome answer → after ≡ s)
         → IsForeverRun passes net phases patterns after (NeverEnds thin.pattern (tail_of thin))

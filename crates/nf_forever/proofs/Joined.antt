@@ -1,8 +1,8 @@
--- Lines in parts, joined in another order.
+-- Lists of lines, concatenated in another grouping.
 use Rattle.std.proofs.Common.{◌≡◌, List, ◌++◌, ap, ◌∙◌, append_assoc}
 use Rattle.nf_report.proofs.Gathering.{right_first}
 
--- two parts, of which the second is itself of three
+-- Two parts, of which the second has three parts.
 pub one_by_one : {A : Type 0} (head flow states tail end : List A) → head ++ flow ++ (states ++ tail ++ end) ≡ head ++ (flow ++ states ++ tail ++ end)
 one_by_one {A} head flow states tail end =
     append_assoc head flow (states ++ tail ++ end)

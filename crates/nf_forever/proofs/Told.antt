@@ -1,4 +1,4 @@
--- What is told of a run without a horizon: that it can be written, and that its flow and the flow that goes on are equilibria.
+-- The result of a run without a horizon can be written; its flow and the flow extended by its tail are equilibria.
 use Rattle.std.proofs.Common.{◌≡◌, ◌↔◌, ℕ, length, sym, subst, refl, ◌∙◌}
 use Rattle.std.specs.Prelude.{Option, Some, None, IfSome, IsSome, Result, Ok, Err, IfOk, option_map}
 use Rattle.std.proofs.lemmas.Option.{none-some}
@@ -29,7 +29,7 @@ use Rattle.nf_forever.specs.declared.forever.Tail as code
 use Rattle.nf_forever.specs.declared.forever.Forever as told
 use Rattle.nf_forever.specs.Seen.{tail_in, forever_in}
 
--- ---- how many states, slopes and flows there are
+-- ---- the number of states, slopes and flows
 abbrev HasCounts : Network → Standing → End → Type 0
 HasCounts net last (Stops cause) = length last.last ≡ length net.links
 HasCounts net last (NeverEnds pattern tail) = (length pattern ≡ length net.links) × (length tail.slopes ≡ net.nodes) × (length tail.flows ≡ length net.links)
@@ -48,7 +48,7 @@ module _ (passes : Passing) (net : Network) (phases patterns : ℕ) where
   counts_on s last end knows (never_ends {pattern = p} {tail = t} may g) = tail_counts s p t g
   counts_on s last end knows (goes {new = t} may g rest) = counts_on t last end (goes_knows passes net g.end patterns s t g.goes) rest
 
--- ---- what is told, by how the run ends
+-- ---- the result, by the end of the run
 module _ (net : Network) (good : IsNetwork net) (last : Standing) (well : WellRun net last) where
   form_of : (end : End) → HasCounts net last end → HasForm net (forever_of last end)
   form_of (Stops cause) counts = record {
@@ -70,7 +70,7 @@ equilibrium_of : (net : Network) (last : Standing) (end : End) → Equilibrium n
 equilibrium_of net last (Stops cause) h = h
 equilibrium_of net last (NeverEnds pattern tail) h = h
 
--- the flow that goes on is an equilibrium up to every departure
+-- The flow extended by the tail is an equilibrium up to every departure.
 abbrev pub GoesOn : Network → Forever → Type 0
 GoesOn net forever = IfSome forever.tail (λ tail. (until : ℚ) → 0ℚ ≤ℚ until → Equilibrium net (flow_until net forever.flow tail until))
 
@@ -106,7 +106,7 @@ module _ (passes : Passing) (net : Network) (good : IsNetwork net) (phases patte
     pub stop_told : StopsOrNot forever
     stop_told = subst StopsOrNot (sym is.forever_is) (stops_or_not is.last is.end)
 
--- ---- the values that are answered
+-- ---- the returned values
 tail_seen : (tail : Option code.Tail) (P : Tail → Type 0) → IfSome (option_map tail_in tail) P → IfSome tail (λ t. P (tail_in t))
 tail_seen (Some t) P h = h
 tail_seen None P h = tt
@@ -115,7 +115,7 @@ some_seen : (tail : Option code.Tail) (stop : Option (Cause ℚ)) → IsSome (op
 some_seen (Some t) stop h = h
 some_seen None stop h = h
 
--- the contract of solving, by what is answered
+-- The contract of solving, by the returned value.
 module _ (passes : Passing) (net : Network) (good : IsNetwork net) (phases patterns : ℕ) (last : Standing) (end : End) (run : IsForeverRun passes net phases patterns last end) where
   abbrev Answered : {E : Type 0} → Result told.Forever E → Type 0
   Answered result = IfOk result (λ f. forever_in f ≡ forever_of last end)

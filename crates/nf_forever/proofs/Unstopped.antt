@@ -1,4 +1,4 @@
--- What is told is a run without a horizon, which never stops since no pattern is left.
+-- The result is a run without a horizon, which never stops because no pattern is left.
 use Rattle.std.specs.Prelude.{ℕ, Result, Ok, Err, IfOk}
 use Rattle.nf_work.specs.Passing.{passes_Q}
 use Rattle.nf_model.specs.Network.{Network, IsNetwork}

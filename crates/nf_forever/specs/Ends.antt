@@ -1,4 +1,4 @@
--- How a run without a horizon ends, as this crate tells it.
+-- The end of a run without a horizon, as the definitions state it.
 use Rattle.std.specs.Prelude.{◌≡◌, ℕ, Some}
 use Rattle.nf_phase.specs.declared.fault.StepFault.{StepFault}
 use Rattle.nf_phase.specs.Solution.{cause_of}
@@ -11,7 +11,7 @@ abbrev pub end_in : Told → End
 end_in (told.Stops stop) = Stops stop
 end_in (told.NeverEnds thin) = NeverEnds thin.pattern (tail_of thin)
 
--- by the stop for which the phase of this number isn't made
+-- The run ends by the stop at phase number `phase`, which is not computed.
 abbrev pub IsStopBy : ℕ → StepFault → End → Type 0
 IsStopBy phase fault (Stops stop) = cause_of phase fault ≡ Some stop
 IsStopBy phase fault (NeverEnds pattern tail) = ⊥

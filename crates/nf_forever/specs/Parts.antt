@@ -10,11 +10,11 @@ use Rattle.nf_report.specs.Written.{Line}
 use Rattle.nf_forever_lists.specs.ForeverRun.{Forever}
 use Rattle.nf_forever_lists.specs.ForeverText.{tail_lines}
 
--- how far it went, and why it stopped
+-- The first lines: the departure reached, and why the run stopped.
 abbrev pub head_lines : ℚ → Option (Cause ℚ) → List Line
 head_lines reached stop = (codes "forever" ∷ codes "1" ∷ []) ∷ (codes "reached" ∷ printed reached ∷ [])
     ∷ (codes "cause" ∷ cause_words stop) ∷ []
 
--- the states of the links, the tail, and the end
+-- The last lines: the states of the links, the tail, and the end.
 abbrev pub end_lines : Named → Forever → List Line
 end_lines n forever = for_each (length n.net.links) (state_lines n forever.last) ++ tail_lines n forever.tail ++ (codes "end" ∷ []) ∷ []

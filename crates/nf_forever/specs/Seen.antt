@@ -1,4 +1,4 @@
--- The run without a horizon that a value of this crate stands for.
+-- The result of a run without a horizon that a value of this crate represents.
 use Rattle.std.specs.Prelude.{option_map}
 use Rattle.nf_curve.specs.Flows.{flow_of}
 use Rattle.nf_forever_lists.specs.Tails as lists

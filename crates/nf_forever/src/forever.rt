@@ -1,19 +1,19 @@
-// What a run without a horizon comes to.
+// The result of a run without a horizon.
 use nf_curve::{Flow, Stop};
 use nf_frac::Q;
 use nf_pattern::Pattern;
 
-/// How labels and flows go on in a last phase that never ends: of each node the slope of its label, and of each link its flow, an
-/// amount per unit of time of departure (Cominetti, Correa and Larré 2015: long term behaviour).
+/// The change of labels and flows in a last phase that never ends: the slope of each node's label, and the flow of each link, an amount per
+/// unit of time of departure (Cominetti, Correa and Larré 2015: long term behaviour).
 #[derive(Drop)]
 pub struct Tail {
     pub slopes: Vec<Q>,
     pub flows: Vec<Q>,
 }
 
-/// What a run without a horizon comes to: the flow up to the departure that was reached; how many phases were made, beside the tail;
-/// of each link its state in the tail, or in the last phase where there is none; and why the run stopped, or the tail by which the flow
-/// goes on for ever.
+/// The result of a run without a horizon. It has the flow up to the departure reached, and the number of phases, not counting the tail.
+/// `last` has the state of each link in the tail, or in the last phase if there is no tail. Exactly one of `stopped` and `tail` is present:
+/// why the run stopped, or the tail by which the flow continues forever.
 #[derive(Drop)]
 pub struct Forever {
     pub flow: Flow,

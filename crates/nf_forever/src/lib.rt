@@ -1,5 +1,5 @@
 //! Runs without a horizon: a network is solved phase by phase until a last phase that never ends, its tail, or until a stop; and the
-//! text of what this comes to.
+//! text of the result.
 #![tactic(auto)]
 
 mod forever;

@@ -1,4 +1,4 @@
-// Solving without a horizon: a run, phase by phase, until it ends.
+// Runs without a horizon, phase by phase.
 ghost use Rattle.std.specs.Prelude.{◌≡◌, ◌↔◌, None, IfOk, IfSome, IsSome};
 ghost use Rattle.nf_rational.specs.Rational.{ℚ};
 ghost use Rattle.nf_rational.specs.Operations.{0ℚ};
@@ -23,14 +23,14 @@ use nf_phase::{Budgets, Run, StepFault, stop_by};
 use nf_thin::ThinFlow;
 use std::alloc::{AllocError, Global};
 
-// How a run ends: by a stop, or in a phase that never ends, with its thin flow.
+// The end of a run: a stop, or a phase that never ends, with its thin flow.
 #[derive(Drop)]
 enum End {
     Stops(Stop),
     NeverEnds(ThinFlow),
 }
 
-// The run ends where the phase of this number isn't made.
+// Returns the end of a run whose phase number `phase` is not computed. Refuses only if memory can't be allocated.
 fn stopped_by(phase: u64, fault: StepFault) -> Result<End, AllocError>
     ensures { IfOk result (λ end. IsStopBy phase fault (end_in end)) }
 {
@@ -40,8 +40,7 @@ fn stopped_by(phase: u64, fault: StepFault) -> Result<End, AllocError>
     }
 }
 
-// The run goes on until it ends, each phase for as long as it may last. As many phases as allowed end it also where the next one
-// would never end.
+// Extends the run until it ends, by phases of greatest length. The budget of phases ends the run even if the next phase would never end.
 fn go(run: &mut Run, alloc: Global, net: &Network, budgets: Budgets) -> Result<End, AllocError>
     requires { IsStart net.now.net run.old }
     ensures { IfOk result (λ end. IsForeverRun passes_Q net.now.net budgets.phases budgets.patterns run.new (end_in end)) }
@@ -56,7 +55,7 @@ fn go(run: &mut Run, alloc: Global, net: &Network, budgets: Budgets) -> Result<E
     Ok(End::Stops(Stop::Phases { made: run.phases() }))
 }
 
-// What a run that has stopped comes to.
+// Returns the result of a stopped run.
 fn stopped(alloc: Global, run: &Run, stop: Stop) -> Result<Forever, AllocError>
     ensures { IfOk result (λ f. forever_in f ≡ forever_of run.now (Stops stop)) }
 {
@@ -71,7 +70,7 @@ fn stopped(alloc: Global, run: &Run, stop: Stop) -> Result<Forever, AllocError>
     })
 }
 
-// What a run comes to whose next phase never ends.
+// Returns the result of a run whose next phase never ends.
 fn endless(alloc: Global, run: &Run, thin: ThinFlow) -> Result<Forever, AllocError>
     ensures { IfOk result (λ f. forever_in f ≡ forever_of run.now (NeverEnds thin.pattern (tail_of thin))) }
 {
@@ -91,7 +90,7 @@ fn endless(alloc: Global, run: &Run, thin: ThinFlow) -> Result<Forever, AllocErr
     })
 }
 
-// What a run comes to that has ended so.
+// Returns the result of a run with this end.
 fn outcome(alloc: Global, run: &Run, end: End) -> Result<Forever, AllocError>
     ensures { IfOk result (λ f. forever_in f ≡ forever_of run.now (end_in end)) }
 {
@@ -102,13 +101,16 @@ fn outcome(alloc: Global, run: &Run, end: End) -> Result<Forever, AllocError>
 }
 
 /// Solves a network without a horizon. Each phase has the first accepted pattern and its extension length, from departure 0 on. The run
-/// ends with a phase that never ends, with the budget of phases, or before a phase that fails. The flow up to there is an equilibrium
-/// (a Nash flow over time: Koch and Skutella 2011). A phase that never ends is the tail, and isn't counted as a phase: the budget is tested
+/// ends with a phase that never ends, with the budget of phases, or before a phase that fails. The flow up to there is an equilibrium (a
+/// Nash flow over time: Koch and Skutella 2011). A phase that never ends is the tail, and isn't counted as a phase: the budget is tested
 /// before it. The flow that is extended by the tail is an equilibrium up to every departure.
+///
 /// `grows`: labels then grow at the slopes of the tail. Travel times stay constant exactly if the capacity of each static cut is at least
-/// the last supply rate. Else a unit of departure adds to them that rate over the least capacity, less 1 (Cominetti, Correa, Olver 2017).
-/// A phase fails only if an operation exceeds the bound, or if more patterns than allowed would have to be tried: each phase has a thin
-/// flow. Returns `AllocError` only if an allocation fails.
+/// the last supply rate. Otherwise a unit of departure adds to them that rate over the least capacity, minus 1 (Cominetti, Correa, Olver
+/// 2017).
+///
+/// A phase fails only if an operation exceeds its bound, or if more patterns than allowed are needed: each phase has a thin flow. Returns
+/// `AllocError` only if an allocation fails.
 pub fn solve_forever(alloc: Global, net: &Network, budgets: Budgets) -> Result<Forever, AllocError>
     ensures run { IfOk result (λ f. IsForever passes_Q net.now.net budgets.phases budgets.patterns (forever_in f)) }
     ensures form { IfOk result (λ f. HasForm net.now.net (forever_in f)) }
@@ -119,7 +121,7 @@ pub fn solve_forever(alloc: Global, net: &Network, budgets: Budgets) -> Result<F
     ensures stop { IfOk result (λ f. IsSome f.tail ↔ (f.stopped ≡ None)) }
     ensures never_no_pattern { IfOk result (λ f. NeverNoPattern f.stopped) }
 {
-    // For the proof: the network is that of an accepted file.
+    // Proof: the network is that of an accepted file.
     net.recall();
     let mut run = Run::start(alloc, net)?;
     let end = go(&mut run, alloc, net, budgets)?;

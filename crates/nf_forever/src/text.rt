@@ -80,11 +80,12 @@ fn put_forever<O: Sink>(
     put_end(out, page, net, forever)
 }
 
-/// Writes the text of a run without a horizon: the flow up to the departure reached, why the run stopped if it did, the links' states, and
-/// the tail by which the flow goes on for ever if it didn't. Times, amounts and rates are exact fractions. Allocates nothing.
+/// Writes the text of a run without a horizon: the flow up to the departure reached, why the run stopped if it did, the states of the
+/// links, and the tail by which the flow continues forever if there is one. Times, amounts and rates are exact fractions. Allocates
+/// nothing.
 ///
-/// The run must have the network's form: a curve, a state, a slope and a flow for each node or link of the network. The first fault ends
-/// the writing; the sink then took a proper prefix of the text.
+/// The run must have the form of the network: a curve, a state, a slope and a flow for each node or link of the network. The first fault
+/// ends the writing; the sink then took a proper prefix of the text.
 pub fn write_forever<O: Sink>(
     net: &Network,
     forever: &Forever,

@@ -1,5 +1,5 @@
--- An equilibrium up to a departure is one up to each earlier departure. What takes flow just after a departure, for all that leaves the
--- source up to the earlier one, does so for all that leaves it later: neither labels nor inflows ever fall.
+-- An equilibrium up to a departure is one up to each earlier departure. A link that receives flow just after a departure, in the flow up to
+-- the earlier departure, does so in the flow up to the later one: labels and inflows never fall.
 use Rattle.std.proofs.Common.{ℕ, ◌<◌, List, [], ◌∷◌, ⊎_elim, subst}
 use Rattle.std.proofs.lemmas.Option.{slice_get_within}
 use Rattle.nf_rational.specs.Rational.{ℚ}

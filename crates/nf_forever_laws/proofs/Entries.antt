@@ -1,4 +1,4 @@
--- The lists of a flow that goes on by a tail, entry by entry.
+-- The lists of a flow extended by a tail, entry by entry.
 use Rattle.std.proofs.Common.{◌≡◌, ℕ, zero, suc, List, [], ◌∷◌, ◌++◌, length, ap, refl, ◌∙◌, arith}
 use Rattle.std.specs.Prelude.{Some, slice_get}
 use Rattle.std.proofs.lemmas.Option.{none-some, same_Some}

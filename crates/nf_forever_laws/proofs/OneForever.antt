@@ -1,4 +1,4 @@
--- A run without a horizon has one end. Its phases take time.
+-- A run without a horizon has a unique end. Its phases have positive length.
 use Rattle.std.proofs.Common.{◌≡◌, ℕ, List, [], ◌∷◌, length, sym, ap, subst, refl, ◌∙◌, arith}
 use Rattle.std.specs.Prelude.{Option, Some, None, Ok}
 use Rattle.nf_rational.specs.Rational.{ℚ}
@@ -46,7 +46,7 @@ ends_later passes net slacks slopes time end pieces h = by b.0 b.1 b.2
         let c = bind_ok (checked passes Sum time length) (λ end. Ok (Some end)) (Some end) k in
         later end length (IsExtension-some net slacks slopes time length (extension_is net slacks slopes time passes length pieces e)) (sym (same_end c.0 end c.2) ∙ checked-is passes Sum time length c.0 c.1)
 
--- ---- one end
+-- ---- the unique end
 moves_not_ends : (t : Standing) (p : Pattern) (tail : Tail) → Moves t ≡ Ends p tail → ⊥
 moves_not_ends t p tail h = cc
 

@@ -28,7 +28,7 @@ use Rattle.nf_forever_lists.specs.Extended.{extended, up_to, flow_until}
 use Rattle.nf_forever_laws.proofs.Before.{Equilibrium-before}
 use Rattle.nf_forever_laws.proofs.Tails.{Equilibrium-extended}
 
--- ---- a phase ends at no departure only where it has no length
+-- ---- a phase without an end has no greatest length
 ok_err : {A E : Type 0} (e : E) (x : A) → ◌≡◌ {A = Result A E} (Err e) (Ok x) → ⊥
 ok_err e x h = cc
 

@@ -1,4 +1,4 @@
--- A run without a horizon that stopped since no pattern was left, stopped where there is no thin flow.
+-- If a run without a horizon stopped because no pattern was left, there is no thin flow where it stopped.
 use Rattle.std.proofs.Common.{◌≡◌, ℕ, suc, List, refl, sym, ap, subst, ◌∙◌}
 use Rattle.std.specs.Prelude.{Some}
 use Rattle.std.proofs.lemmas.Option.{none-some, same_Some}
@@ -49,7 +49,7 @@ module _ (passes : Passing) (net : Network) (good : IsNetwork net) (phases patte
   none_runs s last end c phase e w well (never_ends {pattern = p} {tail = t} may g) = absurd (no_tail p t c e)
   none_runs s last end c phase e w well (goes {new = t} may g rest) = none_runs t last end c phase e w well rest
 
--- what a run tells where it ends so
+-- The result of a run with this end.
 stop_of : (last : Standing) (end : End) (phase : ℕ) → (forever_of last end).stop ≡ Some (Cause.NoPattern phase) → end ≡ Stops (Cause.NoPattern phase)
 stop_of last (Stops c) phase h = ap Stops (same_Some _ _ h)
 stop_of last (NeverEnds pattern tail) phase h = absurd (none-some _ h)

@@ -1,4 +1,4 @@
--- A flow of phases that goes on by a tail is one of phases, with one more that lasts up to the departure that is looked at.
+-- A flow of phases extended by a tail is a flow of phases, with one more that lasts up to the departure considered.
 use Rattle.std.proofs.Common.{◌≡◌, ℕ, ◌<◌, List, [], ◌∷◌, ◌++◌, length, inr, sym, ap, subst, refl, ◌∙◌, arith}
 use Rattle.std.specs.Prelude.{Option, Some, None, slice_get, unwrap_or}
 use Rattle.std.proofs.lemmas.Option.{same_Some, slice_get_within}

@@ -1,4 +1,4 @@
--- What a run without a horizon says of the network.
+-- Properties of the network that a run without a horizon implies.
 use Rattle.std.specs.Prelude.{◌≡◌, ℕ, List, length, Some, Ok}
 use Rattle.nf_rational.specs.Rational.{ℚ}
 use Rattle.nf_rational.specs.Operations.{0ℚ}
@@ -16,38 +16,38 @@ use Rattle.nf_forever_lists.specs.Tails.{Tail}
 use Rattle.nf_forever_lists.specs.ForeverRun.{end_list, SeeksOn, GoesToEnd, FailsOn, End, NeverEnds, IsForeverRun, Forever, IsForever}
 use Rattle.nf_forever_lists.specs.Extended.{up_to, flow_until}
 
--- however it ends, its flow is an equilibrium up to the departure reached
+-- However the run ends, its flow is an equilibrium up to the departure reached.
 abbrev pub ForeverRunIsEquilibrium : Type 0
 ForeverRunIsEquilibrium = (passes : Passing) (net : Network) (phases patterns : ℕ) (last : Standing) (end : End) → IsNetwork net
     → IsForeverRun passes net phases patterns last end → Equilibrium net (flow_of last)
 
--- where it ends in a tail, the flow that goes on by it is an equilibrium up to every departure from 0 on
+-- If the run ends in a tail, the flow extended by the tail is an equilibrium up to every departure from 0 on.
 abbrev pub TailGoesOn : Type 0
 TailGoesOn = (passes : Passing) (net : Network) (phases patterns : ℕ) (last : Standing) (pattern : Pattern) (tail : Tail) (until : ℚ)
     → IsNetwork net
     → IsForeverRun passes net phases patterns last (NeverEnds pattern tail) → 0ℚ ≤ℚ until
     → Equilibrium net (flow_until net (flow_of last) tail until)
 
--- an equilibrium up to a departure is one up to each earlier one
+-- An equilibrium up to a departure is an equilibrium up to each earlier departure.
 abbrev pub EquilibriumHoldsBefore : Type 0
 EquilibriumHoldsBefore = (net : Network) (flow : Flow) (until : ℚ) → IsNetwork net → Equilibrium net flow → 0ℚ ≤ℚ until
     → until ≤ℚ flow.reached
     → Equilibrium net (up_to flow until)
 
--- two runs without a horizon, of one network and with the same budgets, have the same result
+-- Two runs without a horizon of the same network with the same budgets have the same result.
 abbrev pub ForeverHasOneResult : Type 0
 ForeverHasOneResult = (passes : Passing) (net : Network) (phases patterns : ℕ) (forever other : Forever)
     → IsForever passes net phases patterns forever
     → IsForever passes net phases patterns other → forever ≡ other
 
--- one that stopped since no pattern was left, stopped where there is no thin flow
+-- If a run stopped because no pattern was left, there is no thin flow where it stopped.
 abbrev pub StoppedForeverHasNoThinFlow : Type 0
 StoppedForeverHasNoThinFlow = (passes : Passing) (net : Network) (phases patterns : ℕ) (forever : Forever) → IsNetwork net
     → IsForever passes net phases patterns forever
     → StopsForNoThinFlow net forever.stop forever.flow
 
--- Where a phase is found, and when it ends, its end is later; and a phase of a run to this end as horizon is one of the run without
--- a horizon, as is the cause for which there is none.
+-- The end of a phase is later than its beginning. With that end as horizon, the phase of a run is a phase of the run without a horizon, and
+-- a cause for which there is none is a cause there too.
 pub record StepsAgree : Type 0 where
   pub later : (passes : Passing) (net : Network) (slacks slopes : List ℚ) (time end : ℚ) → IsNetwork net
       → end_list passes net slacks slopes time ≡ Ok (Some end) → time <ℚ end

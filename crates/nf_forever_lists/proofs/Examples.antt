@@ -1,4 +1,4 @@
--- A flow that goes on by computation: two links from source to sink, of transit times 1 and 3 and capacity 1, supplied at rate 3. At
+-- A computed example of an extended flow: two links from source to sink, of transit times 1 and 3 and capacity 1, supplied at rate 3. At
 -- departure 1 both take 3/2, and the label of the sink has slope 3/2 from there on.
 use Rattle.std.specs.Prelude.{◌≡◌, List, [], ◌∷◌, Option, Some, None, Ok, Err, map, pos, refl}
 use Rattle.nf_rational.specs.Gcd.{gcd}
@@ -26,7 +26,7 @@ end_of (Ok None) = Some None
 end_of (Ok (Some x)) = Some (Some (parts_of x))
 end_of (Err p) = None
 
--- the first phase ends at 1, where the second link becomes active; the second never ends
+-- The first phase ends at 1, where the second link becomes active; the second phase never ends.
 first_ends : end_of (end_list in_127_bits two_links (n 0 ∷ (n 0 -ℚ n 2) ∷ []) (n 1 ∷ n 3 ∷ []) (n 0)) ≡ Some (Some (i 1))
 unfolding end_list extend_list checked beyond whole ratio gcd neg_ℚ inv_ℚ ◌+ℚ◌ ◌-ℚ◌ ◌*ℚ◌ ◌/ℚ◌ le_ℚ lt_ℚ min_ℚ
 first_ends = refl
@@ -56,7 +56,7 @@ curves_in curves = map points_in curves
 abbrev traces_in : List Trace → List (List (Parts × Parts) × List Parts)
 traces_in traces = map (λ t. (points_in t.points, map parts_of t.rates)) traces
 
--- up to departure 4 it is the flow of a run to the horizon 4
+-- Up to departure 4 it is the flow of a run to the horizon 4.
 labels_to_4 : curves_in (extended two_links flow_to_1 tail_from_1 (n 4)).labels ≡ ((i 0, i 0) ∷ (i 1, i 1) ∷ (i 4, i 4) ∷ []) ∷ ((i 0, i 1) ∷ (i 1, i 4) ∷ (i 4, (pos 17, 2)) ∷ []) ∷ []
 unfolding whole ratio gcd neg_ℚ inv_ℚ ◌+ℚ◌ ◌-ℚ◌ ◌*ℚ◌ ◌/ℚ◌ le_ℚ lt_ℚ max_ℚ
 labels_to_4 = refl

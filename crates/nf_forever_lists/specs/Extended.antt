@@ -1,4 +1,4 @@
--- A flow that goes on by a tail from the departure that it reached.
+-- A flow extended by a tail from the departure that it reached.
 use Rattle.std.specs.Prelude.{if◌then◌else◌, Bool, true, false, List, [], ◌∷◌, ◌++◌, Option, Some, None}
 use Rattle.std.specs.List.{last_or}
 use Rattle.std.specs.Option.{option_map_or}
@@ -13,25 +13,25 @@ use Rattle.nf_model.specs.Equilibrium.{Trace, Flow}
 use Rattle.nf_lists.specs.Signs.{is_positive}
 use Rattle.nf_forever_lists.specs.Tails.{Tail}
 
--- the last point of a curve
+-- The last point of a curve.
 abbrev pub last_point : List Point → Point
 last_point points = option_map_or (λ point. point) (last_or None points) (0ℚ, 0ℚ)
 
--- its value, and so much more
+-- The last value of the curve plus the growth at `rate` over `while`.
 abbrev pub value_after : List Point → ℚ → ℚ → ℚ
 value_after points while rate = (last_point points).1 +ℚ while *ℚ rate
 
--- the labels a while after the curves of the labels end
+-- The labels at `while` after the end of the label curves.
 abbrev pub labels_then : ℚ → List ℚ → List (List Point) → List ℚ
 labels_then while (rate ∷ slopes) (points ∷ curves) = value_after points while rate ∷ labels_then while slopes curves
 labels_then while slopes curves = []
 
--- the queue in which one waits for the time of a slack, if the slack is above 0; on an unbounded link nothing waits
+-- The queue whose waiting time is the slack, if the slack is above 0; 0 for an unbounded link.
 abbrev pub queue_then : Option ℚ → ℚ → ℚ
 queue_then None slack = 0ℚ
 queue_then (Some capacity) slack = capacity *ℚ max_ℚ 0ℚ slack
 
--- ---- one point more, where the label of the node moves at which the curve is
+-- ---- one more point, if the label of the curve's node rises
 
 abbrev pub with_end : Bool → List Point → Point → List Point
 with_end true points point = points ++ point ∷ []
@@ -42,12 +42,12 @@ trace_with_end true trace point = record
     { points = trace.points ++ point ∷ []; rates = trace.rates ++ slope (last_point trace.points) point ∷ [] }
 trace_with_end false trace point = trace
 
--- of each node its label, at the departure `until`
+-- The label curve of each node, extended to the departure `until`.
 abbrev pub labels_with_end : ℚ → List ℚ → List (List Point) → List (List Point)
 labels_with_end until (label ∷ labels) (points ∷ curves) = (points ++ (until, label) ∷ []) ∷ labels_with_end until labels curves
 labels_with_end until labels curves = []
 
--- of each link its inflow at the label of the tail, its outflow at that of the head, and its queue at that of the tail
+-- For each link the inflow extended to the label of the tail, the outflow to that of the head, and the queue to that of the tail.
 module _ (while : ℚ) (slopes labels : List ℚ) where
   abbrev pub inflows_with_end : List Link → List ℚ → List Trace → List Trace
   inflows_with_end (link ∷ links) (flow ∷ flows) (trace ∷ traces) =
@@ -80,10 +80,10 @@ extended_with net flow tail until labels = record {
 abbrev pub extended : Network → Flow → Tail → ℚ → Flow
 extended net flow tail until = extended_with net flow tail until (labels_then (until -ℚ flow.reached) tail.slopes flow.labels)
 
--- the same curves, looked at up to an earlier departure
+-- The same curves, restricted to an earlier departure.
 abbrev pub up_to : Flow → ℚ → Flow
 up_to flow until = record { reached = until; labels = flow.labels; inflows = flow.inflows; outflows = flow.outflows; queues = flow.queues }
 
--- the flow up to any departure
+-- The flow up to any departure.
 abbrev pub flow_until : Network → Flow → Tail → ℚ → Flow
 flow_until net flow tail until = if lt_ℚ flow.reached until then extended net flow tail until else up_to flow until

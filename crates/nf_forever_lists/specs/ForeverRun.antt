@@ -1,5 +1,5 @@
--- The run without a horizon: from departure 0 on, phase by phase, each by the first accepted pattern and for as long as it may last;
--- until a stop, or a phase that may last for any length.
+-- The run without a horizon, phase by phase from departure 0. Each phase has the first accepted pattern and the greatest length. The run
+-- ends by a stop, or by a phase that can have any length.
 use Rattle.std.specs.Prelude.{◌≡◌, ℕ, suc, ◌<◌, List, Option, Some, None, Ok, Err}
 use Rattle.nf_rational.specs.Rational.{ℚ}
 use Rattle.nf_work.specs.Passing.{Passing}
@@ -20,14 +20,14 @@ use Rattle.nf_lists.specs.PhaseRun.{Standing, IsStart, Goes, cause_of_search, ph
 use Rattle.nf_forever_lists.specs.Tails.{Tail}
 
 module _ (passes : Passing) where
-  -- the departure at which a phase ends that begins at this time and may last so long; none where it may last for any length
+  -- The departure at which a phase of greatest length ends, or None if it can have any length.
   abbrev pub end_after : ℚ → Option ℚ → Checked (Option ℚ)
   end_after time None = Ok None
   end_after time (Some length) = do
     end ← checked passes Sum time length
     Ok (Some end)
 
-  -- the extend list of a run without a horizon: how long the phase may last, and then when it ends
+  -- The extend list of a run without a horizon: the greatest length of the phase, and then its end.
   unfoldable pub end_list : Network → List ℚ → List ℚ → ℚ → Checked (Option ℚ)
   end_list net slacks slopes time = do
     length ← extend_list passes net slacks slopes time
@@ -35,26 +35,26 @@ module _ (passes : Passing) where
 
 -- ---- one phase
 module _ (passes : Passing) (net : Network) (patterns : ℕ) where
-  -- no operation of the slack list passes, so a pattern is sought: by the sets of the slacks and the rate
+  -- No operation of the slack list exceeds its bound, so a pattern is searched for the sets of the slacks and the rate.
   pub record SeeksOn (s : Standing) (answer : SearchAnswer) : Type 0 where
     pub slacks : slack_list passes (hops net) s.labels ≡ Ok (slacks_of (hops net) s.labels)
     pub base : Pattern
     pub is_base : IsBase (hops net) (sets_at net s.labels) s.last base
     pub is_search : IsSearch passes net (sets_at net s.labels) (rate_at net s.time) base patterns answer
 
-  -- A phase is made for as long as it may last: to the horizon at which it ends.
+  -- A phase of greatest length is added: one to the horizon at which it ends.
   pub record GoesToEnd (s new : Standing) : Type 0 where
     pub end : ℚ
     pub goes : Goes passes net end patterns s new
     pub is_end : end_list passes net (slacks_of (hops net) s.labels) goes.slopes s.time ≡ Ok (Some end)
 
-  -- A phase is the tail: it may last for any length.
+  -- The next phase is the tail: it can have any length.
   pub record GoesForever (s : Standing) (pattern : Pattern) (tail : Tail) : Type 0 where
     pub place : ℕ
     pub finds : SeeksOn s (Found place pattern tail.flows tail.slopes)
     pub no_end : end_list passes net (slacks_of (hops net) s.labels) tail.slopes s.time ≡ Ok None
 
-  -- the first cause for which no phase can be made, as with a horizon
+  -- The first cause for which no phase can be computed, as with a horizon.
   pub data FailsOn (s : Standing) : Cause ℚ → Type 0 where
     at_slack : (p : Passed ℚ) → slack_list passes (hops net) s.labels ≡ Err p → FailsOn s (Cause.Passed (suc s.made) None (placed Slack p))
     at_search : (answer : SearchAnswer) (cause : Cause ℚ) → SeeksOn s answer → cause_of_search (suc s.made) patterns answer ≡ Some cause
@@ -70,13 +70,13 @@ module _ (passes : Passing) (net : Network) (patterns : ℕ) where
 
 -- ---- phase by phase
 
--- how a run ends: by a stop, or by a tail with its pattern
+-- The end of a run: a stop, or a tail with its pattern.
 pub data End : Type 0 where
   Stops : Cause ℚ → End
   NeverEnds : Pattern → Tail → End
 
 module _ (passes : Passing) (net : Network) (phases patterns : ℕ) where
-  -- from here on, the run ends there
+  -- The run from one state until it ends.
   pub data RunsForever : Standing → Standing → End → Type 0 where
     at_phases : {s : Standing} → s.made ≡ phases → RunsForever s s (Stops (Cause.Phases s.made))
     fails : {s : Standing} {cause : Cause ℚ} → s.made < phases → FailsOn passes net patterns s cause → RunsForever s s (Stops cause)
@@ -90,10 +90,10 @@ module _ (passes : Passing) (net : Network) (phases patterns : ℕ) where
     pub start : IsStart net first
     pub runs : RunsForever first last end
 
--- ---- what is told of it
+-- ---- the result
 
--- the flow up to the departure reached, how many phases were made beside the tail, the pattern of the last one, and why the run
--- stopped or how it goes on
+-- The flow up to the departure reached, the number of phases not counting the tail, the pattern of the last one, and why the run stopped or
+-- the tail.
 pub record Forever : Type 0 where
   pub flow : Flow
   pub phases : ℕ

@@ -1,4 +1,4 @@
--- The labels of a link's ends, read from the list, and curves that end before them.
+-- The labels of a link's ends, read from the list, and curves that end before these labels.
 use Rattle.std.proofs.Common.{◌≡◌, ℕ, ◌<◌, List, length, get_or, refl, sym, ap, subst, ◌∙◌}
 use Rattle.std.specs.Prelude.{Option, Some, None, IsSome, unwrap_or}
 use Rattle.std.proofs.lemmas.Bool.{false≢true}

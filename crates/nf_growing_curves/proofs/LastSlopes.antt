@@ -1,4 +1,4 @@
--- The slope of the last piece of a curve, and the curve that goes on with it.
+-- The slope of the last piece of a curve, and the curve extended with it.
 use Rattle.std.proofs.Common.{◌≡◌, ℕ, zero, suc, ◌+◌, ◌<◌, ◌≤◌, List, [], ◌∷◌, ◌++◌, length, take, refl, sym, ap, subst, ◌∙◌, arith}
 use Rattle.std.specs.Prelude.{◌↔◌, Option, Some, None, IsSome, slice_get, Ok}
 use Rattle.std.specs.Option.{option_to_list}
@@ -48,7 +48,7 @@ module _ (passes : Passing) where
   pub last_slope_there : (points : List Point) (k j : ℕ) (p q : Point) → slice_get points k ≡ Some p → slice_get points j ≡ Some q → j ≡ k + 1 → length points ≡ k + 2 → last_slope passes points ≡ slope_of p q
   last_slope_there points k j p q h i e count = slope_at points k p q h (next_at points k j q e i) count
 
--- ---- the last point behind the others
+-- ---- the last point after the others
 pub taken_with_last : (points : List Point) (k : ℕ) (p : Point) → slice_get points k ≡ Some p → length points ≡ k + 1 → take k points ++ p ∷ [] ≡ points
 taken_with_last [] k p h e = absurd (omega arith)
 taken_with_last (x ∷ []) zero p h e = ap (λ (q : Point). q ∷ []) (sym (same_Some x p h))
@@ -64,7 +64,7 @@ rate_count (p ∷ []) (x ∷ rates) h = absurd h
 rate_count (p ∷ q ∷ rest) [] h = absurd h
 rate_count (p ∷ q ∷ rest) (x ∷ rates) h = let k = rate_count (q ∷ rest) rates h.1 in omega arith
 
--- a curve has two points where it has a rate
+-- A curve with a rate has two points.
 pub two_points : (points : List Point) (rates before : List ℚ) (last : Option ℚ) → AreSlopes points rates → rates ≡ before ++ option_to_list last → IsSome last → 2 ≤ length points
 two_points points rates before None h e some = absurd (cc)
 two_points points rates before (Some r) h e some =
@@ -76,7 +76,7 @@ two_points points rates before (Some r) h e some =
     pushed [] = refl
     pushed (x ∷ before) = let k = pushed before in omega arith
 
--- without a last rate there is none before it
+-- Without a last rate there is no earlier one.
 pub none_before : (rates before : List ℚ) (last : Option ℚ) (count : ℕ) → length rates ≡ count → rates ≡ before ++ option_to_list last → IsSome last ↔ (0 < count) → AreBefore before last
 none_before rates before (Some r) count n e v = tt
 none_before rates [] None count n e v = refl

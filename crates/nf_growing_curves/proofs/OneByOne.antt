@@ -1,4 +1,4 @@
--- Curves that are restored one after the other: what is there so far stands before what comes of the rest.
+-- Curves restored one after the other: the curves so far precede the remaining ones.
 use Rattle.std.proofs.Common.{◌≡◌, ℕ, suc, ◌+◌, ◌≤◌, List, [], ◌∷◌, ◌++◌, length, take, drop, map, refl, sym, ap, subst, ◌∙◌, arith}
 use Rattle.std.specs.Prelude.{Some, slice_get, Result, Ok, Err}
 use Rattle.std.proofs.Math.ListN.{drop_of_length-le}
@@ -102,21 +102,21 @@ module _ (passes : Passing) (inflows outflows : List Trace) (queues : List (List
       ∙ ap (λ (l : List LinkCurves). Ok l) (ap (λ (l : List Trace). link_curves_of l outflows (map (λ c. c.queue) front)) (sym by_inflows)
       ∙ ap (λ (l : List Trace). link_curves_of (map (λ c. c.inflow) front) l (map (λ c. c.queue) front)) (sym by_outflows) ∙ again front)
 
--- ---- lists that are pushed to: one value more
+-- ---- lists that grow by one value
 pub mapped_pushed : {A B : Type 0} (f : A → B) (xs : List A) (ys pushed : List B) (i : ℕ) (x : A) (y : B) → slice_get xs i ≡ Some x → ys ≡ map f (take i xs) → y ≡ f x → pushed ≡ ys ++ y ∷ []
     → pushed ≡ map f (take (i + 1) xs)
 mapped_pushed {A = A} {B = B} f xs ys pushed i x y at is e more =
     more ∙ ap (λ (l : List B). l ++ y ∷ []) is ∙ ap (λ (z : B). map f (take i xs) ++ z ∷ []) e ∙ sym (map-append f (take i xs) (x ∷ []))
     ∙ ap (map f) (take_pushed xs (take i xs) (take i xs ++ x ∷ []) i x at refl refl)
 
--- of one that grows
+-- A list that grows.
 pub grown_pushed : {A B : Type 0} (f : A → B) (xs : List (Roomy A)) (ys pushed : List B) (i : ℕ) (x : Roomy A) (y : B) → slice_get xs i ≡ Some x → ys ≡ map f (all_grown (take i xs)) → y ≡ f x.grown → pushed ≡ ys ++ y ∷ []
     → pushed ≡ map f (all_grown (take (i + 1) xs))
 grown_pushed {A = A} {B = B} f xs ys pushed i x y at is e more =
     more ∙ ap (λ (l : List B). l ++ y ∷ []) is ∙ ap (λ (z : B). map f (all_grown (take i xs)) ++ z ∷ []) e ∙ sym (map-append f (all_grown (take i xs)) (x.grown ∷ []))
     ∙ ap (map f) (mapped_pushed (λ (r : Roomy A). r.grown) xs (all_grown (take i xs)) (all_grown (take i xs) ++ x.grown ∷ []) i x x.grown at refl refl refl)
 
--- the same of a list that is taken apart
+-- The same for a list that is taken apart.
 pub yielded_pushed : {A B : Type 0} (f : A → B) (xs : List (Roomy A)) (ys pushed : List B) (x : Roomy A) (y : B) → ys ≡ map f (all_grown xs) → y ≡ f x.grown → pushed ≡ ys ++ y ∷ []
     → pushed ≡ map f (all_grown (xs ++ x ∷ []))
 yielded_pushed {A = A} {B = B} f xs ys pushed x y is e more =

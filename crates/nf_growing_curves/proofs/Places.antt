@@ -1,4 +1,4 @@
--- Curves that are changed place by place.
+-- Curves that are changed index by index.
 use Rattle.std.proofs.Common.{◌≡◌, ◌≢◌, ℕ, zero, suc, ◌+◌, ◌<◌, ◌≤◌, List, [], ◌∷◌, ◌++◌, length, set, refl, sym, ap, subst, ◌∙◌, inl, inr, arith}
 use Rattle.std.specs.Prelude.{◌⊎◌, Some, map, slice_get, Result, Ok, Err}
 use Rattle.std.specs.Result.{IsErr, OnOk, OnErr}
@@ -12,7 +12,7 @@ use Rattle.nf_lists.specs.ReportCurves.{LinkCurves}
 use Rattle.nf_growing_curves.specs.Growing.{Roomy, HasRoom, AllHaveRoom, all_grown}
 use Rattle.nf_plain_laws.proofs.Naturals.{before_or_at}
 
--- ---- places of lists
+-- ---- indices of lists
 
 module _ {A : Type 0} where
   at_set : (xs : List A) (i : ℕ) (y : A) → i < length xs → slice_get (set xs i y) i ≡ Some y
@@ -27,7 +27,7 @@ module _ {A : Type 0} where
   beside_set (x ∷ xs) (suc i) zero y apart = refl
   beside_set (x ∷ xs) (suc i) (suc k) y apart = beside_set xs i k y (omega arith)
 
-  -- lists that are equal at each place
+  -- Lists equal at each index.
   each_same : (xs ys : List A) → length xs ≡ length ys → ((k : ℕ) → k < length xs → slice_get xs k ≡ slice_get ys k) → xs ≡ ys
   each_same [] [] count same = refl
   each_same [] (y ∷ ys) count same = absurd (omega arith)
@@ -35,7 +35,7 @@ module _ {A : Type 0} where
   each_same (x ∷ xs) (y ∷ ys) count same =
       ap (λ (z : A). z ∷ xs) (same_Some x y (same 0 (omega arith))) ∙ ap (λ (l : List A). y ∷ l) (each_same xs ys (omega arith) (λ k b. same (suc k) (omega arith)))
 
--- ---- what has grown at the places below one, of a list that was changed there alone
+-- ---- the grown values below an index, if a list was changed only there
 module _ {A : Type 0} where
   grown_at : (several : List (Roomy A)) (k : ℕ) (r : Roomy A) → slice_get several k ≡ Some r → slice_get (all_grown several) k ≡ Some r.grown
   grown_at several k r h = slice_get-map (λ (r : Roomy A). r.grown) several k ∙ ap (option_map (λ (r : Roomy A). r.grown)) h
@@ -44,12 +44,12 @@ module _ {A : Type 0} where
   grown_pushed [] r = refl
   grown_pushed (x ∷ several) r = ap (λ (l : List A). x.grown ∷ l) (grown_pushed several r)
 
-  -- it is that of another list
+  -- It is the value of another list.
   pub record GrownBelow (whole : List A) (before now : List (Roomy A)) (i : ℕ) : Type 0 where
     pub done : (k : ℕ) → k < i → slice_get (all_grown now) k ≡ slice_get whole k
     pub rest : (k : ℕ) → i ≤ k → slice_get now k ≡ slice_get before k
 
-  -- what had grown at the place that comes next
+  -- The grown value at the next index.
   pub grown_before : (whole : List A) (before now : List (Roomy A)) (i : ℕ) (r : Roomy A) → slice_get now i ≡ Some r → GrownBelow whole before now i → slice_get (all_grown before) i ≡ Some r.grown
   grown_before whole before now i r at h = grown_at before i r (sym (h.rest i (omega arith)) ∙ at)
 
@@ -74,7 +74,7 @@ module _ {A : Type 0} where
       let long : length (all_grown now) ≡ length now = length-map now (λ (r : Roomy A). r.grown) in
       each_same (all_grown now) whole (omega arith) (λ k b. h.done k (omega arith))
 
-  -- it is what it was, and there is room
+  -- The value is unchanged, and memory is reserved.
   pub record RoomBelow (before now : List (Roomy A)) (i : ℕ) : Type 0 where
     pub same : all_grown now ≡ all_grown before
     pub room : (k : ℕ) (r : Roomy A) → k < i → slice_get now k ≡ Some r → HasRoom r
@@ -115,7 +115,7 @@ pub record AreLists (entering leaving : List Trace) (waiting : List (List Point)
   pub outflows : leaving ≡ map (λ c. c.outflow) links
   pub queues : waiting ≡ map (λ c. c.queue.points) links
 
--- a call that fails gives nothing, and what holds anyway holds where it fails
+-- A failed call returns nothing, and facts that always hold also hold then.
 pub nothing_given : {T E : Type 0} (r : Result T E) (P : Type 0) → IsErr r → OnOk r P
 nothing_given {E = E} (Ok x) P h = IfOk-from_err {E = E} (Ok x) (λ _. P) h
 nothing_given (Err e) P h = tt

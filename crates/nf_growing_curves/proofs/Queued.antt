@@ -1,4 +1,4 @@
--- What the step of a queue comes to where its slope passes, and that of a link where one of its rates or its queue does.
+-- The result of a queue step if its slope exceeds the bound, and of a link step if a rate or its queue does.
 use Rattle.std.proofs.Common.{◌≡◌, sym, ap, ◌∙◌}
 use Rattle.std.specs.Prelude.{Bool, Option, Some, Ok, Err}
 use Rattle.nf_rational.specs.Rational.{ℚ}

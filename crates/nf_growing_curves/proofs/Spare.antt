@@ -1,4 +1,4 @@
--- The least of what three parts have room for.
+-- The least reserved memory of three parts.
 use Rattle.std.proofs.Common.{ℕ, ◌<◌, ◌≤◌, min, arith}
 
 pub three_kept : (a b c x y z : ℕ) → a ≤ x → b ≤ y → c ≤ z → min a (min b c) ≤ min x (min y z)

@@ -1,4 +1,4 @@
--- Curves that grow, and how contracts see them.
+-- Growing curves and their views in contracts.
 use Rattle.std.specs.Prelude.{◌≡◌, ℕ, ◌<◌, Bool, true, false, List, [], ◌∷◌, ◌++◌, Option, Some, None, map, slice_get, refl}
 use Rattle.std.specs.List.{last_or}
 use Rattle.std.specs.Option.{option_map, option_map_or, option_to_list}
@@ -15,7 +15,7 @@ use Rattle.nf_lists.specs.Ends.{end_of}
 use Rattle.nf_curve.specs.Points.{last_time}
 use Rattle.nf_growing_curves.specs.declared.growing.End.{End}
 
--- ---- what has grown so far, and for how many further corners memory is reserved
+-- ---- a grown value, and the number of further corners with reserved memory
 pub record Roomy (A : Type 0) : Type 0 where
   pub grown : A
   pub spare : ℕ
@@ -23,15 +23,15 @@ pub record Roomy (A : Type 0) : Type 0 where
 abbrev pub HasRoom : {A : Type 0} → Roomy A → Type 0
 HasRoom r = 0 < r.spare
 
--- what has grown, of several
+-- The grown values of several curves.
 abbrev pub all_grown : {A : Type 0} → List (Roomy A) → List A
 all_grown several = map (λ r. r.grown) several
 
--- memory is reserved for a further corner of each
+-- Memory is reserved for one more corner of each curve.
 abbrev pub AllHaveRoom : {A : Type 0} → List (Roomy A) → Type 0
 AllHaveRoom {A} several = (i : ℕ) (r : Roomy A) → slice_get several i ≡ Some r → HasRoom r
 
--- ---- corners, and the end that still moves
+-- ---- corners and the moving end
 abbrev pub points_to : List Point → Option End → List Point
 points_to corners None = corners
 points_to corners (Some end) = corners ++ (end.time, end.value) ∷ []
@@ -39,39 +39,39 @@ points_to corners (Some end) = corners ++ (end.time, end.value) ∷ []
 abbrev pub end_slope : Option End → Option ℚ
 end_slope end = option_map (λ e. e.slope) end
 
--- the corners once the end became one, unless the curve goes on with its slope
+-- The corners after an extension; the end is among them unless the extension has the slope of the last piece.
 abbrev pub corners_by : Bool → List Point → Option End → List Point
 corners_by true corners end = corners
 corners_by false corners end = points_to corners end
 
--- the end is later than the corners
+-- The end is later than the corners.
 abbrev pub IsAfter : List Point → Option End → Type 0
 IsAfter corners None = Unit {0}
 IsAfter corners (Some end) = last_time corners <ℚ end.time
 
--- the value of the last point
+-- The value of the last point.
 abbrev pub end_value : List Point → ℚ
 end_value points = option_map_or (λ point. point.1) (last_or None points) 0ℚ
 
--- ---- the rates between corners: none where the curve has but one point
+-- ---- the rates between corners; none if the curve has one point only
 abbrev pub AreBefore : List ℚ → Option ℚ → Type 0
 AreBefore rates None = rates ≡ []
 AreBefore rates (Some rate) = Unit {0}
 
--- the rates once that of the last piece became one of them, unless the curve goes on with it
+-- The rates after an extension; that of the last piece is among them unless the extension has that rate.
 abbrev pub rates_by : Bool → List ℚ → Option ℚ → List ℚ
 rates_by true rates last = rates
 rates_by false rates last = rates ++ option_to_list last
 
--- how a queue goes on, by what is in it and by its slope
+-- The queue step with this size and slope.
 abbrev pub step_of : Option (ℚ × ℚ) → Option QueueStep
 step_of step = option_map (λ s. record { size = s.0; slope = s.1 }) step
 
--- the curves end before a time
+-- The curves end before `time`.
 abbrev pub AllEndBefore : ℚ → List GrowingCurve → Type 0
 AllEndBefore time curves = (v : ℕ) (curve : GrowingCurve) → slice_get curves v ≡ Some curve → end_of curve.points <ℚ time
 
--- ---- how these values are told apart
+-- ---- injective codes of these values
 abbrev pub coded_roomy : {A : Type 0} → Coded A → Coded (Roomy A)
 coded_roomy {A} code = code_by (A × ℕ) (coded× code coded_ℕ) (λ r. (r.grown, r.spare))
     (λ p. record { grown = p.0; spare = p.1 }) (λ _. refl)

@@ -1,4 +1,4 @@
--- The list of restoring, link by link.
+-- The restoring operations, link by link.
 use Rattle.std.specs.Prelude.{List, Ok}
 use Rattle.nf_work.specs.Passing.{Passing}
 use Rattle.nf_work.specs.Checked.{Checked, each, ◌>>=◌}

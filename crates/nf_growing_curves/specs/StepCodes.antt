@@ -1,4 +1,4 @@
--- How what the curve list gives is told apart, which the types of code that are seen so rest on.
+-- Injective codes of the results of the curve list, on which the models of the code types depend.
 use Rattle.std.specs.Prelude.{Option, refl}
 use Rattle.std.specs.Coded.{Coded, code_by, coded×, coded_option}
 use Rattle.nf_rational.specs.Rational.{ℚ, coded_ℚ}

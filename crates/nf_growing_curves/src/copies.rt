@@ -5,7 +5,7 @@ ghost use Rattle.nf_model.specs.Curve.{IsCurve};
 use nf_curve::Curve;
 use std::alloc::{AllocError, Global};
 
-/// The first points of a curve, so many of them.
+/// Returns a curve of the first `count` points. Refuses only if memory can't be allocated.
 pub(crate) fn first_points(alloc: Global, curve: &Curve, count: usize) -> Result<Curve, AllocError>
     requires curve { IsCurve curve.now.points }
     requires some { 0 < count }
@@ -21,7 +21,7 @@ pub(crate) fn first_points(alloc: Global, curve: &Curve, count: usize) -> Result
     Ok(points)
 }
 
-/// An equal curve.
+/// Returns an equal curve. Refuses only if memory can't be allocated.
 pub(crate) fn copy_of(alloc: Global, curve: &Curve) -> Result<Curve, AllocError>
     ensures { IfOk result (λ c. c.points ≡ curve.now.points) }
 {

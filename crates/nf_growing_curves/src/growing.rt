@@ -1,4 +1,4 @@
-// A curve that grows: its corners, and the end that still moves.
+// A growing curve: its corners, and the end that still moves.
 ghost use Rattle.std.specs.Prelude.{◌≡◌, ◌<◌, ◌≤◌, length, IfOk, OnOk, IsSome};
 ghost use Rattle.nf_rational.specs.Order.{◌<ℚ◌};
 ghost use Rattle.nf_work.specs.declared.Part.TheVariants.{Curve as CurvePart};
@@ -17,7 +17,7 @@ use nf_frac::{Halt, Q};
 use std::alloc::{AllocError, Global};
 use std::marker::Model;
 
-// The last point of a curve, with the slope by which the curve came to it.
+// The last point of a curve, with the slope of the last piece.
 #[derive(Clone, Copy)]
 struct End {
     time: Q,
@@ -25,8 +25,8 @@ struct End {
     slope: Q,
 }
 
-/// A curve that grows, in short form. While it goes on with one slope its end moves; where the slope changes, the end becomes a
-/// corner. No end: the curve has but one point.
+/// A growing curve in short form. An extension with the slope of the last piece moves the end. An extension with another slope turns the
+/// end into a corner. Without an end the curve has its corners only.
 #[derive(Drop)]
 pub struct GrowingCurve {
     corners: Curve,
@@ -49,7 +49,7 @@ impl Model for GrowingCurve {
     ghost invariant = { λ a. IsAfter a.corners.points a.end };
 }
 
-// A curve that came to its last point with a slope goes on with the same.
+// Returns whether the slope of the last piece is known and equals `slope`.
 fn goes_on_from(before: Option<Q>, slope: Q) -> bool
     ensures { result ≡ goes_on_by before slope }
 {
@@ -59,7 +59,7 @@ fn goes_on_from(before: Option<Q>, slope: Q) -> bool
     }
 }
 
-// The end becomes a corner, unless the curve goes on with its slope.
+// Appends the end to the corners, unless the extension has the slope of the last piece.
 fn close_unless(goes: bool, corners: &mut Curve, end: Option<End>)
     requires room { 0 < corners.old.spare }
     requires after { IsAfter corners.old.points end }
@@ -76,7 +76,7 @@ fn close_unless(goes: bool, corners: &mut Curve, end: Option<End>)
     }
 }
 
-// The corners, and then the end, if there is one.
+// Returns the corners followed by the end, if there is one.
 fn with_end(mut corners: Curve, end: Option<End>) -> Result<Curve, AllocError>
     requires { IsAfter corners.points end }
     ensures { IfOk result (λ c. c.points ≡ points_to corners.points end) }
@@ -89,7 +89,7 @@ fn with_end(mut corners: Curve, end: Option<End>) -> Result<Curve, AllocError>
 }
 
 impl GrowingCurve {
-    /// The curve of this one value, at time 0.
+    /// Returns the curve with this value at time 0 as its only point.
     pub(crate) fn start(alloc: Global, value: Q) -> Result<GrowingCurve, AllocError>
         ensures { IfOk result (λ c. c.grown ≡ first_label_curve value) }
     {
@@ -99,7 +99,7 @@ impl GrowingCurve {
         })
     }
 
-    /// A curve at the node of which this is the label of departure 0: it begins with 0, and stays 0 until then.
+    /// Returns the curve that is 0 from time 0 until `label`, the label of departure 0 at its node.
     pub(crate) fn first_queue(alloc: Global, label: Q) -> Result<GrowingCurve, AllocError>
         ensures { IfOk result (λ c. c.grown ≡ queue_at_start (is_positive label) label) }
     {
@@ -118,7 +118,7 @@ impl GrowingCurve {
         })
     }
 
-    // A curve that came to its last point with this slope; None where it isn't known, or there is but one point.
+    // Returns the curve with this slope of its last piece. None means that the slope is unknown or there is one point only.
     pub(crate) fn ended(
         alloc: Global,
         curve: &Curve,
@@ -142,8 +142,8 @@ impl GrowingCurve {
         Ok(GrowingCurve { corners, end })
     }
 
-    /// A curve that goes on where another one ends. Passed comes exactly at the first operation of its list that passes, and has part
-    /// Curve.
+    /// Returns the growing curve with the points of `curve`. Refuses with Passed, of the part Curve, at the first operation of its list
+    /// that exceeds its bound. Refuses with Memory only if memory can't be allocated.
     pub(crate) fn of(alloc: Global, curve: &Curve) -> Result<GrowingCurve, Halt<Q>>
         ensures { Gives (λ c. c.grown) (λ q. q) result (at_part CurvePart (growing_by passes_Q curve.now.points)) }
     {
@@ -152,7 +152,7 @@ impl GrowingCurve {
         Ok(grown)
     }
 
-    /// Afterwards there is room for one more corner. The curve stays, also where memory is wanting.
+    /// Reserves memory for one more corner. The curve is unchanged, also if memory can't be allocated.
     pub(crate) fn reserve(&mut self) -> Result<(), AllocError>
         ensures same { self.new.grown ≡ self.old.grown }
         ensures room { OnOk result (HasRoom self.new) }
@@ -161,7 +161,7 @@ impl GrowingCurve {
         self.corners.reserve(1)
     }
 
-    /// The slope with which it came to its last point, where it has more points than one.
+    /// Returns the slope of the last piece, or None if it is unknown or there is none.
     pub(crate) fn slope(&self) -> Option<Q>
         ensures { result ≡ self.now.grown.slope }
     {
@@ -171,7 +171,7 @@ impl GrowingCurve {
         }
     }
 
-    /// The value of its last point.
+    /// Returns the value of the last point.
     pub(crate) fn value(&self) -> Q
         ensures { result ≡ end_value self.now.grown.points }
     {
@@ -184,14 +184,14 @@ impl GrowingCurve {
         }
     }
 
-    /// Whether the curve would go on with the slope with which it came to its last point.
+    /// Returns whether an extension with this slope has the slope of the last piece.
     pub(crate) fn goes_on(&self, slope: Q) -> bool
         ensures { result ≡ goes_on_by self.now.grown.slope slope }
     {
         goes_on_from(self.slope(), slope)
     }
 
-    /// The curve goes on to a point, with this slope.
+    /// Extends the curve to a later point, with this slope. Memory for a corner must be reserved.
     pub(crate) fn go_on(&mut self, time: Q, value: Q, slope: Q)
         requires room { HasRoom self.old }
         requires later { end_of self.old.grown.points <ℚ time }
@@ -202,7 +202,8 @@ impl GrowingCurve {
         self.end = Some(End { time, value, slope });
     }
 
-    /// The queue of a link goes on until the label of its tail: to this size, with this slope. No step: the label stands still.
+    /// Extends the queue of a link until the label of its tail, to a size and with a slope. None means that the label is constant and the
+    /// queue unchanged.
     pub(crate) fn wait(&mut self, label: Q, step: Option<(Q, Q)>)
         requires room { HasRoom self.old }
         requires later { IsSome step → end_of self.old.grown.points <ℚ label }
@@ -213,7 +214,7 @@ impl GrowingCurve {
         }
     }
 
-    /// The curve as it is now.
+    /// Returns the curve so far. Refuses only if memory can't be allocated.
     pub(crate) fn finish(self) -> Result<Curve, AllocError>
         ensures { IfOk result (λ c. c.points ≡ self.grown.points) }
     {
@@ -221,7 +222,7 @@ impl GrowingCurve {
         with_end(corners, end)
     }
 
-    /// A copy of the curve as it is now.
+    /// Returns a copy of the curve so far. Refuses only if memory can't be allocated.
     pub(crate) fn copy(&self, alloc: Global) -> Result<Curve, AllocError>
         ensures { IfOk result (λ c. c.points ≡ self.now.grown.points) }
     {

@@ -1,4 +1,4 @@
-// The curves of all nodes and links, as they grow.
+// The growing curves of all nodes and links.
 ghost use Rattle.std.specs.Prelude.{◌≡◌, [], ◌∷◌, ◌++◌, length, map, IfOk, OnOk};
 ghost use Rattle.nf_work.specs.declared.Part.TheVariants.{Curve as CurvePart};
 ghost use Rattle.nf_work.specs.Passing.{passes_Q};
@@ -14,8 +14,8 @@ use nf_curve::{Curve, Flow, Trace};
 use nf_frac::{Halt, Q};
 use std::alloc::{AllocError, Global};
 
-/// The curves of the nodes before the first phase, with these labels of departure 0, which are times. Refused only where memory is
-/// wanting.
+/// Returns the curves of the nodes before the first phase, where `labels` are the labels of departure 0, times. Refuses only if memory
+/// can't be allocated.
 pub fn first_labels(alloc: Global, labels: &[Q]) -> Result<Vec<GrowingCurve>, AllocError>
     ensures { IfOk result (λ curves. all_grown curves.items ≡ map first_label_curve labels.now) }
 {
@@ -26,7 +26,8 @@ pub fn first_labels(alloc: Global, labels: &[Q]) -> Result<Vec<GrowingCurve>, Al
     Ok(curves)
 }
 
-/// Curves that go on where these end. Passed comes exactly at the first operation of their list that passes, and has part Curve.
+/// Returns growing curves with the points of these curves. Refuses with Passed, of the part Curve, at the first operation of their list
+/// that exceeds its bound. Refuses with Memory only if memory can't be allocated.
 pub fn restore_labels(alloc: Global, curves: &[Curve]) -> Result<Vec<GrowingCurve>, Halt<Q>>
     ensures { Gives (λ grown. all_grown grown.items) (λ q. q) result
         (at_part CurvePart (each (growing passes_Q) (map (λ c. c.points) curves.now))) }
@@ -39,7 +40,7 @@ pub fn restore_labels(alloc: Global, curves: &[Curve]) -> Result<Vec<GrowingCurv
     Ok(grown)
 }
 
-/// Afterwards there is room for one more corner of each curve. The curves stay, also where memory is wanting.
+/// Reserves memory for one more corner of each curve. The curves are unchanged, also if memory can't be allocated.
 pub fn reserve_labels(curves: &mut [GrowingCurve]) -> Result<(), AllocError>
     ensures same { all_grown curves.new ≡ all_grown curves.old }
     ensures room { OnOk result (AllHaveRoom curves.new) }
@@ -50,7 +51,7 @@ pub fn reserve_labels(curves: &mut [GrowingCurve]) -> Result<(), AllocError>
     Ok(())
 }
 
-/// Afterwards there is room for one more corner of each curve of each link. The curves stay, also where memory is wanting.
+/// Reserves memory for one more corner of each curve of each link. The curves are unchanged, also if memory can't be allocated.
 pub fn reserve_links(curves: &mut [LinkCurves]) -> Result<(), AllocError>
     ensures same { all_grown curves.new ≡ all_grown curves.old }
     ensures room { OnOk result (AllHaveRoom curves.new) }
@@ -61,7 +62,8 @@ pub fn reserve_links(curves: &mut [LinkCurves]) -> Result<(), AllocError>
     Ok(())
 }
 
-/// The label curves go on until a departure, to these labels there, with these slopes.
+/// Extends the label curves to departure `time`, to these labels there, with these slopes. Memory for a corner of each curve must be
+/// reserved, and the curves must end before `time`. Cannot fail.
 pub fn labels_go_on(curves: &mut [GrowingCurve], time: Q, labels: &[Q], slopes: &[Q])
     requires labels { length labels.now ≡ length curves.old }
     requires slopes { length slopes.now ≡ length curves.old }
@@ -74,7 +76,7 @@ pub fn labels_go_on(curves: &mut [GrowingCurve], time: Q, labels: &[Q], slopes: 
     }
 }
 
-/// The label curves at the end of a run. Refused only where memory is wanting.
+/// Returns the label curves at the end of a run. Refuses only if memory can't be allocated.
 pub fn finish_labels(alloc: Global, growing: Vec<GrowingCurve>) -> Result<Vec<Curve>, AllocError>
     ensures { IfOk result (λ curves. map (λ c. c.points) curves.items ≡ map (λ c. c.points) (all_grown growing.items)) }
 {
@@ -94,7 +96,7 @@ pub struct FinishedLinks {
 }
 
 impl FinishedLinks {
-    // No link yet.
+    // Returns the collection without links.
     fn none(alloc: Global) -> FinishedLinks
         ensures inflows { result.inflows.items ≡ [] }
         ensures outflows { result.outflows.items ≡ [] }
@@ -107,7 +109,7 @@ impl FinishedLinks {
         }
     }
 
-    /// The flow up to a departure, with these curves of the nodes.
+    /// Returns the flow up to the departure `reached`, with these curves of the nodes.
     pub fn flow(self, reached: Q, labels: Vec<Curve>) -> Flow
         ensures reached { result.reached ≡ reached }
         ensures labels { result.labels.items ≡ labels.items }
@@ -124,7 +126,7 @@ impl FinishedLinks {
         }
     }
 
-    // One more link.
+    // Appends the curves of a link. Refuses only if memory can't be allocated.
     fn add(&mut self, inflow: Trace, outflow: Trace, queue: Curve) -> Result<(), AllocError>
         ensures inflows { OnOk result (map trace_of self.new.inflows.items ≡ map trace_of self.old.inflows.items ++ trace_of inflow ∷ []) }
         ensures outflows { OnOk result
@@ -138,7 +140,7 @@ impl FinishedLinks {
         Ok(())
     }
 
-    // One more link, whose curves end here.
+    // Appends the curves of a link and ends their growth. Refuses only if memory can't be allocated.
     fn push(&mut self, link: LinkCurves) -> Result<(), AllocError>
         ensures inflows { OnOk result
             (map trace_of self.new.inflows.items ≡ map trace_of self.old.inflows.items ++ link.grown.inflow ∷ []) }
@@ -151,7 +153,7 @@ impl FinishedLinks {
         self.add(inflow, outflow, queue)
     }
 
-    // One more link, whose curves may go on.
+    // Appends copies of the curves of a link, which can grow further. Refuses only if memory can't be allocated.
     fn push_copy(&mut self, alloc: Global, link: &LinkCurves) -> Result<(), AllocError>
         ensures inflows { OnOk result
             (map trace_of self.new.inflows.items ≡ map trace_of self.old.inflows.items ++ link.now.grown.inflow ∷ []) }
@@ -165,7 +167,7 @@ impl FinishedLinks {
     }
 }
 
-/// The finished curves of all links. Refused only where memory is wanting.
+/// Returns the finished curves of all links. Refuses only if memory can't be allocated.
 pub fn finish_links(alloc: Global, growing: Vec<LinkCurves>) -> Result<FinishedLinks, AllocError>
     ensures inflows { IfOk result (λ links. map trace_of links.inflows.items ≡ map (λ c. c.inflow) (all_grown growing.items)) }
     ensures outflows { IfOk result (λ links. map trace_of links.outflows.items ≡ map (λ c. c.outflow) (all_grown growing.items)) }
@@ -178,7 +180,7 @@ pub fn finish_links(alloc: Global, growing: Vec<LinkCurves>) -> Result<FinishedL
     Ok(links)
 }
 
-/// Copies of the label curves, as they are now. Refused only where memory is wanting.
+/// Returns copies of the label curves so far. Refuses only if memory can't be allocated.
 pub fn copy_labels(alloc: Global, growing: &[GrowingCurve]) -> Result<Vec<Curve>, AllocError>
     ensures { IfOk result (λ curves. map (λ c. c.points) curves.items ≡ map (λ c. c.points) (all_grown growing.now)) }
 {
@@ -189,7 +191,7 @@ pub fn copy_labels(alloc: Global, growing: &[GrowingCurve]) -> Result<Vec<Curve>
     Ok(curves)
 }
 
-/// Copies of those of all links. Refused only where memory is wanting.
+/// Returns copies of the curves of all links so far. Refuses only if memory can't be allocated.
 pub fn copy_links(alloc: Global, growing: &[LinkCurves]) -> Result<FinishedLinks, AllocError>
     ensures inflows { IfOk result (λ links. map trace_of links.inflows.items ≡ map (λ c. c.inflow) (all_grown growing.now)) }
     ensures outflows { IfOk result (λ links. map trace_of links.outflows.items ≡ map (λ c. c.outflow) (all_grown growing.now)) }

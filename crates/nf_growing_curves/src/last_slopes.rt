@@ -1,4 +1,4 @@
-// The slope with which a curve came to its last point.
+// The slope of the last piece of a curve.
 ghost use Rattle.std.specs.Prelude.{◌≡◌, ◌≤◌, length, IfOk, IsSome};
 ghost use Rattle.nf_work.specs.declared.Part.TheVariants.{Curve as CurvePart};
 ghost use Rattle.nf_work.specs.Passing.{passes_Q};
@@ -8,8 +8,8 @@ ghost use Rattle.nf_resume_lists.specs.Restoring.{last_slope as last_slope_by};
 use nf_curve::{Curve, slope};
 use nf_frac::{Part, PassedAt, Q};
 
-/// The slope of the last piece of a curve; None where it has but one point. Passed comes exactly at the first operation of its list
-/// that passes, and has part Curve. Takes no memory.
+/// Returns the slope of the last piece of a curve, or None if the curve has one point only. Refuses with Passed, of the part Curve, exactly
+/// at the first operation of its list that exceeds its bound. Allocates nothing.
 pub(crate) fn last_slope(curve: &Curve) -> Result<Option<Q>, PassedAt<Q>>
     ensures list { result ≡ at_part CurvePart (last_slope_by passes_Q curve.now.points) }
     ensures some { IfOk result (λ slope. IsSome slope → 2 ≤ length curve.now.points) }

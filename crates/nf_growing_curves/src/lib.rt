@@ -1,5 +1,5 @@
-//! Curves that grow in short form, phase by phase: those of nodes and links, from the start or from where others end, and how those of
-//! each link go on in a phase. What may want memory is asked for beforehand, so that going on can't fail.
+//! Growing curves of nodes and links in short form, from the start or from the end of other curves, and the steps of the links in a
+//! phase. `reserve_labels` and `reserve_links` allocate first, so `labels_go_on` and `links_go_on` cannot fail.
 #![tactic(auto)]
 
 mod copies;

@@ -1,4 +1,4 @@
-// The three curves of a link, as they grow.
+// The three growing curves of a link.
 ghost use Rattle.std.specs.Prelude.{◌≡◌, ◌≤◌, IfOk, OnOk, IsSome};
 ghost use Rattle.nf_rational.specs.Order.{◌<ℚ◌};
 ghost use Rattle.nf_work.specs.declared.Part.TheVariants.{Curve as CurvePart};
@@ -19,7 +19,7 @@ use nf_frac::{Halt, Q};
 use std::alloc::{AllocError, Global};
 use std::marker::Model;
 
-/// What has entered a link and what waits in it, by the time at its tail, and what has left it, by the time at its head.
+/// The inflow and the queue of a link, by the time at its tail, and its outflow, by the time at its head.
 #[derive(Drop)]
 pub struct LinkCurves {
     inflow: GrowingTrace,
@@ -43,7 +43,8 @@ impl Model for LinkCurves {
 }
 
 impl LinkCurves {
-    /// Before the first phase, with these labels of departure 0 at the ends of the link.
+    /// Returns the curves before the first phase, with these labels of departure 0 at the ends of the link. Refuses only if memory can't be
+    /// allocated.
     pub(crate) fn first(
         alloc: Global,
         tail_label: Q,
@@ -65,8 +66,8 @@ impl LinkCurves {
         })
     }
 
-    /// Curves of a link that go on where these end. Passed comes exactly at the first operation of the list of the queue that passes, and
-    /// has part Curve.
+    /// Returns the growing curves of a link with the points of these curves. Refuses with Passed, of the part Curve, at the first operation
+    /// of the list of the queue that exceeds its bound. Refuses with Memory only if memory can't be allocated.
     pub(crate) fn of(
         alloc: Global,
         inflow: &Trace,
@@ -88,7 +89,7 @@ impl LinkCurves {
         })
     }
 
-    /// Afterwards there is room for one more corner of each. The curves stay, also where memory is wanting.
+    /// Reserves memory for one more corner of each curve. The curves are unchanged, also if memory can't be allocated.
     pub(crate) fn reserve(&mut self) -> Result<(), AllocError>
         ensures same { self.new.grown ≡ self.old.grown }
         ensures room { OnOk result (HasRoom self.new) }
@@ -99,14 +100,14 @@ impl LinkCurves {
         self.queue.reserve()
     }
 
-    /// What has entered the link so far.
+    /// Returns the amount that has entered the link so far.
     pub(crate) fn amount(&self) -> Q
         ensures { result ≡ amount_so_far self.now.grown }
     {
         self.inflow.amount()
     }
 
-    /// They go on until the labels of the link's ends. No rate and no step: there the label stands still.
+    /// Extends the curves until the labels of the link's ends. No rate and no step mean that the label is constant and the curve unchanged.
     pub(crate) fn go_on(
         &mut self,
         tail_label: Q,
@@ -129,7 +130,7 @@ impl LinkCurves {
         self.queue.wait(tail_label, queue);
     }
 
-    /// The curves as they are now: inflow, outflow, and queue.
+    /// Returns the curves so far: inflow, outflow and queue. Refuses only if memory can't be allocated.
     pub(crate) fn finish(self) -> Result<(Trace, Trace, Curve), AllocError>
         ensures inflow { IfOk result (λ c. trace_of c.0 ≡ self.grown.inflow) }
         ensures outflow { IfOk result (λ c. trace_of c.1 ≡ self.grown.outflow) }
@@ -143,7 +144,7 @@ impl LinkCurves {
         Ok((inflow.finish()?, outflow.finish()?, queue.finish()?))
     }
 
-    /// A copy of the curves as they are now: inflow, outflow, and queue.
+    /// Returns copies of the curves so far: inflow, outflow and queue. Refuses only if memory can't be allocated.
     pub(crate) fn copy(&self, alloc: Global) -> Result<(Trace, Trace, Curve), AllocError>
         ensures inflow { IfOk result (λ c. trace_of c.0 ≡ self.now.grown.inflow) }
         ensures outflow { IfOk result (λ c. trace_of c.1 ≡ self.now.grown.outflow) }

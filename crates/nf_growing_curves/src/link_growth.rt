@@ -1,4 +1,4 @@
-// The curves of all links, as they grow.
+// The growing curves of all links.
 ghost use Rattle.std.specs.Prelude.{◌≡◌, ◌<◌, length, map, IfOk};
 ghost use Rattle.nf_work.specs.declared.Part.TheVariants.{Curve as CurvePart};
 ghost use Rattle.nf_work.specs.Passing.{passes_Q};
@@ -17,7 +17,7 @@ use nf_frac::{Halt, Q};
 use nf_net::{Link, LinkId, Network};
 use std::alloc::{AllocError, Global};
 
-/// The amount that has entered each link so far. Refused only where memory is wanting.
+/// Returns the amount that has entered each link so far. Refuses only if memory can't be allocated.
 pub fn amounts(alloc: Global, curves: &[LinkCurves]) -> Result<Vec<Q>, AllocError>
     ensures { IfOk result (λ amounts. amounts.items ≡ map amount_so_far (all_grown curves.now)) }
 {
@@ -28,7 +28,7 @@ pub fn amounts(alloc: Global, curves: &[LinkCurves]) -> Result<Vec<Q>, AllocErro
     Ok(amounts)
 }
 
-// The first curves of one link, with these labels of departure 0.
+// Returns the first curves of a link, where `labels` are the labels of departure 0.
 fn first_of(alloc: Global, link: &Link, labels: &[Q]) -> Result<LinkCurves, AllocError>
     requires tail { link.now.tail < length labels.now }
     requires head { link.now.head < length labels.now }
@@ -38,7 +38,8 @@ fn first_of(alloc: Global, link: &Link, labels: &[Q]) -> Result<LinkCurves, Allo
     LinkCurves::first(alloc, tail, head)
 }
 
-/// The curves of departure 0, with these labels, which are times. Refused only where memory is wanting.
+/// Returns the curves of all links before the first phase, where `labels` are the labels of departure 0, times. Refuses only if memory
+/// can't be allocated.
 pub fn first_links(
     alloc: Global,
     net: &Network,
@@ -56,8 +57,8 @@ pub fn first_links(
     Ok(curves)
 }
 
-/// Curves that go on where these end, link by link. Passed comes exactly at the first operation of the list of the queues that passes,
-/// and has part Curve.
+/// Returns growing curves of all links with the points of these curves. Refuses with Passed, of the part Curve, at the first operation of
+/// the list of the queues that exceeds its bound. Refuses with Memory only if memory can't be allocated.
 pub fn restore_links(
     alloc: Global,
     inflows: &[Trace],
@@ -79,7 +80,7 @@ pub fn restore_links(
     Ok(curves)
 }
 
-// The curves of one link go on to these labels.
+// Extends the curves of a link to these labels.
 fn link_goes_on(curves: &mut LinkCurves, link: &Link, labels: &[Q], step: &LinkStep)
     requires tail { link.now.tail < length labels.now }
     requires head { link.now.head < length labels.now }
@@ -102,7 +103,8 @@ fn link_goes_on(curves: &mut LinkCurves, link: &Link, labels: &[Q], step: &LinkS
     );
 }
 
-/// The curves of all links go on to these labels, by the links' steps.
+/// Extends the curves of all links to these labels, by the steps of the links. Memory for a corner of each curve must be reserved, and the
+/// curves must end before the labels. Cannot fail.
 pub fn links_go_on(curves: &mut [LinkCurves], net: &Network, labels: &[Q], steps: &[LinkStep])
     requires labels { length labels.now ≡ net.now.net.nodes }
     requires curves { length curves.old ≡ length net.now.net.links }

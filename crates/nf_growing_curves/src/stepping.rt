@@ -1,4 +1,4 @@
-// How the curves of links go on in a phase.
+// The steps by which a phase extends the curves of the links.
 ghost use Rattle.std.specs.Prelude.{◌≡◌, ◌≢◌, ◌<◌, length as count_of, true};
 ghost use Rattle.nf_rational.specs.Operations.{0ℚ};
 ghost use Rattle.nf_work.specs.declared.Part.TheVariants.{Curve};
@@ -17,7 +17,7 @@ use nf_phase_length::{LinkPhase, link_phase};
 use std::alloc::Global;
 use std::marker::Model;
 
-/// How a queue goes on: what is in it at the phase's end, and its slope until then, by the time at the tail.
+/// The step of a queue: its size at the end of the phase, an amount, and its slope until then, by the time at the tail.
 #[derive(Clone, Copy)]
 pub struct QueueStep {
     pub size: Q,
@@ -37,9 +37,9 @@ impl Model for QueueStep {
     ghost inverse = { λ s. record { size = s.size; slope = s.slope } };
 }
 
-/// How a link goes on in a phase: what has entered it by the phase's end; the rates at which flow enters it, by the time at its
-/// tail, and leaves it, by the time at its head; and its queue. Where the label of the tail stands still there is no inflow rate
-/// and no step of the queue, and where that of the head does, no outflow rate.
+/// The step of a link in a phase. `amount` has entered the link by the end of the phase. `inflow_rate` is by the time at its tail,
+/// `outflow_rate` by the time at its head. If the label of the tail is constant, there is no inflow rate and no queue step. If the label of
+/// the head is constant, there is no outflow rate.
 #[derive(Clone, Copy)]
 pub struct LinkStep {
     pub amount: Q,
@@ -67,7 +67,7 @@ fn is_positive(number: Q) -> bool
     Q::zero().is_below(number)
 }
 
-// The flow over a slope that is above 0.
+// Returns the flow divided by the slope if the slope is above 0, and None otherwise.
 fn rate_over(above: bool, flow: Q, slope: Q) -> Result<Option<Q>, PassedAt<Q>>
     requires { above ≡ true → slope ≢ 0ℚ }
     ensures { result ≡ at_part Curve (rate_over_by passes_Q above flow slope) }
@@ -79,7 +79,7 @@ fn rate_over(above: bool, flow: Q, slope: Q) -> Result<Option<Q>, PassedAt<Q>>
     Ok(Some(rate))
 }
 
-// What is in the queue of a link with this slack: nothing, where the link is unbounded or the slack not above 0.
+// Returns the size of the queue of a link with this slack; 0 if the link is unbounded or the slack is at most 0.
 fn size_at(above: bool, capacity: Option<Q>, slack: Q) -> Result<Q, PassedAt<Q>>
     ensures { result ≡ at_part Curve (size_at_by passes_Q above capacity slack) }
 {
@@ -95,7 +95,7 @@ fn size_at(above: bool, capacity: Option<Q>, slack: Q) -> Result<Q, PassedAt<Q>>
     }
 }
 
-// The slope of a queue into which flow enters at this rate.
+// Returns the slope of a queue that flow enters at this rate; 0 if the flow doesn't fill the link or the link is unbounded.
 fn slope_at(filled: bool, capacity: Option<Q>, rate: Q) -> Result<Q, PassedAt<Q>>
     ensures { result ≡ at_part Curve (slope_at_by passes_Q filled capacity rate) }
 {
@@ -111,7 +111,7 @@ fn slope_at(filled: bool, capacity: Option<Q>, rate: Q) -> Result<Q, PassedAt<Q>
     }
 }
 
-// How the queue of a link goes on, where there is an inflow rate.
+// Returns the queue step of a link, or None if there is no inflow rate.
 fn queue_step(link: &LinkPhase, rate: Option<Q>) -> Result<Option<QueueStep>, PassedAt<Q>>
     ensures { result ≡ at_part Curve (queue_step_by passes_Q link.now rate) }
 {
@@ -127,7 +127,7 @@ fn queue_step(link: &LinkPhase, rate: Option<Q>) -> Result<Option<QueueStep>, Pa
     }
 }
 
-// How a link goes on in a phase of this length, into which so much had entered at its beginning.
+// Returns the step of a link in a phase of this length, where `so_far` had entered the link by its beginning.
 fn link_step(length: Q, so_far: Q, link: &LinkPhase) -> Result<LinkStep, PassedAt<Q>>
     ensures { result ≡ at_part Curve (link_step_by passes_Q length so_far link.now) }
 {
@@ -143,7 +143,7 @@ fn link_step(length: Q, so_far: Q, link: &LinkPhase) -> Result<LinkStep, PassedA
     })
 }
 
-// One phase more of the link of a number.
+// Returns the step of link number `link` in a phase.
 fn step_of(
     net: &Network,
     sets: &LinkSets,
@@ -171,9 +171,9 @@ fn step_of(
     link_step(length, amounts[link.index()], &here)
 }
 
-/// Link by link, how the curves go on in a phase of this length: with these flows of the links and slopes of the nodes, the labels
-/// at the phase's end, and what had entered each link at its beginning. Passed comes exactly at the first operation of the curve
-/// list that passes, and has part Curve.
+/// Returns the steps of all links in a phase of this length. Given are the flows of the links, the slopes of the nodes, the labels at the
+/// end of the phase, and the amount that had entered each link by its beginning. Refuses with Passed, of the part Curve, at the first
+/// operation of the curve list that exceeds its bound. Refuses with Memory only if memory can't be allocated.
 pub fn link_steps(
     alloc: Global,
     net: &Network,

@@ -1,4 +1,4 @@
-// A trace that grows: a curve with its rates.
+// A growing trace: a curve with its rates.
 ghost use Rattle.std.specs.Prelude.{◌≡◌, ◌<◌, ◌≤◌, ◌++◌, IfOk, OnOk, IsSome, vec_len, vec_capacity};
 ghost use Rattle.std.specs.Option.{option_to_list};
 ghost use Rattle.nf_rational.specs.Order.{◌<ℚ◌};
@@ -15,8 +15,8 @@ use nf_frac::Q;
 use std::alloc::{AllocError, Global};
 use std::marker::Model;
 
-/// A trace that grows, in short form: its curve, and the rates of the pieces between its corners. The rate of the last piece is
-/// the slope of the curve's end.
+/// A growing trace in short form: its curve, and the rates of the pieces between its corners. The rate of the last piece is the slope of
+/// the curve's end.
 #[derive(Drop)]
 pub(crate) struct GrowingTrace {
     curve: GrowingCurve,
@@ -41,7 +41,7 @@ impl Model for GrowingTrace {
     ghost invariant = { λ a. AreBefore a.rates.items a.curve.grown.slope };
 }
 
-// The rate of the last piece becomes that of a piece between corners, unless the curve goes on with it.
+// Appends the rate of the last piece to the rates, unless the extension has that rate.
 fn close_unless(goes: bool, rates: &mut Vec<Q>, last: Option<Q>)
     requires { vec_len rates.old < vec_capacity rates.old }
     ensures { rates.new.items ≡ rates_by goes rates.old.items last }
@@ -57,7 +57,7 @@ fn close_unless(goes: bool, rates: &mut Vec<Q>, last: Option<Q>)
     }
 }
 
-// The rates with that of the last piece, if there is one.
+// Returns the rates with that of the last piece, if there is one.
 fn with_last(mut rates: Vec<Q>, last: Option<Q>) -> Result<Vec<Q>, AllocError>
     ensures { IfOk result (λ all. all.items ≡ rates.items ++ option_to_list last) }
 {
@@ -69,7 +69,7 @@ fn with_last(mut rates: Vec<Q>, last: Option<Q>) -> Result<Vec<Q>, AllocError>
 }
 
 impl GrowingTrace {
-    /// A trace at the node of which this is the label of departure 0: nothing moves before.
+    /// Returns the trace that is 0 from time 0 until `label`, the label of departure 0 at its node.
     pub(crate) fn first(alloc: Global, label: Q) -> Result<GrowingTrace, AllocError>
         ensures { IfOk result (λ t. t.grown ≡ first_trace (is_positive label) label) }
     {
@@ -79,7 +79,7 @@ impl GrowingTrace {
         })
     }
 
-    /// A trace that goes on where another one ends.
+    /// Returns the growing trace with the points and rates of `trace`. Refuses only if memory can't be allocated.
     pub(crate) fn of(alloc: Global, trace: &Trace) -> Result<GrowingTrace, AllocError>
         requires { AreSlopes (trace_of trace.now).points (trace_of trace.now).rates }
         ensures { IfOk result (λ t. t.grown ≡ trace_of trace.now) }
@@ -90,7 +90,7 @@ impl GrowingTrace {
         Ok(GrowingTrace { curve, rates })
     }
 
-    /// Afterwards there is room for one more corner. The trace stays, also where memory is wanting.
+    /// Reserves memory for one more corner. The trace is unchanged, also if memory can't be allocated.
     pub(crate) fn reserve(&mut self) -> Result<(), AllocError>
         ensures same { self.new.grown ≡ self.old.grown }
         ensures room { OnOk result (HasRoom self.new) }
@@ -100,14 +100,14 @@ impl GrowingTrace {
         self.rates.reserve(1)
     }
 
-    /// The amount at its last point.
+    /// Returns the amount at the last point.
     pub(crate) fn amount(&self) -> Q
         ensures { result ≡ end_value self.now.grown.points }
     {
         self.curve.value()
     }
 
-    /// The trace goes on to a point, at this rate.
+    /// Extends the trace to a later point, at this rate. Memory for a corner must be reserved.
     pub(crate) fn go_on(&mut self, time: Q, amount: Q, rate: Q)
         requires room { HasRoom self.old }
         requires later { end_of self.old.grown.points <ℚ time }
@@ -119,7 +119,8 @@ impl GrowingTrace {
         self.curve.go_on(time, amount, rate);
     }
 
-    /// The trace goes on until the label of its node: to this amount, at this rate. No rate: the label stands still.
+    /// Extends the trace until the label of its node, to this amount and at this rate. None means that the label is constant and the trace
+    /// unchanged.
     pub(crate) fn pass(&mut self, label: Q, amount: Q, rate: Option<Q>)
         requires room { HasRoom self.old }
         requires later { IsSome rate → end_of self.old.grown.points <ℚ label }
@@ -130,7 +131,7 @@ impl GrowingTrace {
         }
     }
 
-    /// The trace as it is now.
+    /// Returns the trace so far. Refuses only if memory can't be allocated.
     pub(crate) fn finish(self) -> Result<Trace, AllocError>
         ensures { IfOk result (λ t. trace_of t ≡ self.grown) }
     {
@@ -140,7 +141,7 @@ impl GrowingTrace {
         Ok(Trace { curve, rates })
     }
 
-    /// A copy of the trace as it is now.
+    /// Returns a copy of the trace so far. Refuses only if memory can't be allocated.
     pub(crate) fn copy(&self, alloc: Global) -> Result<Trace, AllocError>
         ensures { IfOk result (λ t. trace_of t ≡ self.now.grown) }
     {

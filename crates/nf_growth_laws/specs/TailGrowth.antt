@@ -1,4 +1,4 @@
--- How labels and travel times grow in the last phase of a run without a horizon, which never ends.
+-- The growth of labels and travel times in the last phase of a run without a horizon, which never ends.
 use Rattle.std.specs.Prelude.{◌≡◌, ◌↔◌, ℕ, ◌<◌, None, IfSome}
 use Rattle.std.specs.List.{last_or}
 use Rattle.std.specs.Option.{option_map_or}
@@ -28,7 +28,7 @@ travel_time net flow tail departure = label (flow_until net flow tail departure)
 -- `labels`: from the departure reached on, the label of each node grows at the slope of the node in the tail.
 -- `cuts`, `least_cut`: these slopes grow by the cuts and by the least cut, with the last supply rate.
 -- `settles`: travel times stay constant exactly if the capacity of each static cut is at least the last supply rate.
--- `travel`: a unit of departure adds to the travel time the last supply rate over the least capacity, less 1, or 0 if that is more.
+-- `travel`: a unit of departure adds to the travel time the last supply rate over the least capacity, minus 1, or 0 if that is more.
 pub record TailGrows (net : Network) (flow : Flow) (tail : Tail) : Type 0 where
   pub labels : (v : ℕ) (departure : ℚ) → v < net.nodes → flow.reached ≤ℚ departure
       → label (flow_until net flow tail departure) v departure
@@ -41,7 +41,7 @@ pub record TailGrows (net : Network) (flow : Flow) (tail : Tail) : Type 0 where
       → travel_time net flow tail departure
       ≡ travel_time net flow tail flow.reached +ℚ (departure -ℚ flow.reached) *ℚ (max_ℚ 1ℚ (last_rate net /ℚ least) -ℚ 1ℚ)
 
--- `run`: a run without a horizon whose last phase never ends grows so. `told`: the same for the result that is made of the run.
+-- `run`: a run without a horizon whose last phase never ends grows in this way. `told`: the same for the result of the run.
 pub record TailGrowsByCuts : Type 0 where
   pub run : (passes : Passing) (net : Network) (phases patterns : ℕ) (last : Standing) (pattern : Pattern) (tail : Tail) → IsNetwork net
       → IsForeverRun passes net phases patterns last (NeverEnds pattern tail) → TailGrows net (flow_of last) tail

@@ -4,8 +4,9 @@
 
 ghost use Rattle.nf_growth_laws.specs.TailGrowth.{TailGrowsByCuts};
 
-/// From the departure reached on, each label grows at the slope of the tail. Travel times stay constant exactly if the capacity of each
-/// static cut is at least the last supply rate. Else a unit of departure adds to them that rate over the least capacity, less 1.
+/// Proves that from the departure reached on each label grows at the slope of the tail. Travel times stay constant exactly if the capacity
+/// of each static cut is at least the last supply rate. Otherwise a unit of departure adds to them that rate over the least capacity, minus
+/// 1.
 pub fn tail_grows_by_cuts()
     ensures { TailGrowsByCuts }
 {}

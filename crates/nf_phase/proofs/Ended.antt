@@ -1,4 +1,4 @@
--- What a run that has ended is.
+-- The result of a run that has ended.
 use Rattle.std.proofs.Common.{◌≡◌, ℕ, suc, ◌↔◌, length, sym, ap, subst, refl, ◌∙◌, arith}
 use Rattle.std.specs.Prelude.{Option, Some, None, is_none, Result, Ok, Err, IfOk}
 use Rattle.std.specs.Option.{option_map}
@@ -31,12 +31,12 @@ use Rattle.nf_phase.proofs.Stepped.{equilibrium_reached, reaches_step, begin_ste
 use Rattle.nf_phase_laws.proofs.Phases.{IsPhaseLength-within}
 use Rattle.nf_lists_laws.proofs.OneRun.{fails_below}
 
--- ---- no phase goes beyond the horizon
+-- ---- no phase extends beyond the horizon
 module _ (passes : Passing) (net : Network) where
   pub goes_within : (horizon : ℚ) (patterns : ℕ) (s t : Standing) → Goes passes net horizon patterns s t → t.time ≤ℚ horizon
   goes_within horizon patterns s t g = subst (λ (n : Standing). n.time ≤ℚ horizon) (sym g.new_is) (IsPhaseLength-within net (slacks_of (hops net) s.labels) g.slopes s.time horizon g.step.length g.is_length)
 
--- ---- where a run ends
+-- ---- the end of a run
 pub record EndsWell (passes : Passing) (net : Network) (horizon : ℚ) (last : Standing) (stop : Option (Cause ℚ)) : Type 0 where
   pub reaches : Reaches passes net last
   pub within : last.time ≤ℚ horizon
@@ -67,7 +67,7 @@ module _ (passes : Passing) (net : Network) (good : IsNetwork net) (bounds : Bou
         (λ e link p none full. stands.no_full e (slice_get-map (λ (l : Link). is_none l.capacity) net.links e ∙ ap (option_map (λ (l : Link). is_none l.capacity)) p
         ∙ ap (λ (c : Option ℚ). Some (is_none c)) none) full)
 
-    -- ---- what it came to
+    -- ---- the result
     finished_of : passes ≡ passes_Q → (phases : ℕ) (report : Report) → phases ≡ last.made → report ≡ report_of bounds.horizon last stop → IsFinished net bounds first phases report
     finished_of bound phases report count is = record {
       last = last;
@@ -90,7 +90,7 @@ module _ (passes : Passing) (net : Network) (good : IsNetwork net) (bounds : Bou
 
 -- ---- from departure 0 on
 module _ (net : Network) (good : IsNetwork net) (bounds : Bounds) where
-  -- one that goes on with no phase cut short is a phase run
+  -- A run without the remainder of an interrupted phase is a phase run.
   runs_begun : (passes : Passing) (s last : Standing) (stop : Option (Cause ℚ)) → (Continues net s → ⊥) → RunsOn passes net bounds s last stop → Runs passes net bounds s last stop
   runs_begun passes s last stop none (at_horizon e) = at_horizon_of_run e
   runs_begun passes s last stop none (at_phases below e) = at_phases_of_run below e

@@ -1,4 +1,4 @@
--- From the answers of a search and of the lists to what a phase is found to be, or why it isn't.
+-- From the results of the search and of the operation sequences to the phase found, or to the cause for which there is none.
 use Rattle.std.proofs.Common.{◌≡◌, ℕ, suc, inl, inr, List, length, sym, ap, subst, refl, ◌∙◌}
 use Rattle.std.specs.Prelude.{Option, Some, None, map, Result, Ok, Err, MatchOption, IfErr}
 use Rattle.std.specs.Result.{IsErrAnd}
@@ -37,7 +37,7 @@ use Rattle.nf_phase.specs.Faults.{of_halt, of_search}
 use Rattle.nf_phase.specs.Stepping.{StandsFor}
 use Rattle.nf_phase.specs.Finding.{FindsNone, at_slack, at_search, ListsPass, at_lists}
 
--- ---- what passes in a part
+-- ---- an operation of a part exceeds its bound
 pub part_err : {A : Type 0} (part : Part) (r : Checked A) (at : PassedAt ℚ) → at_part part r ≡ Err at → (p : Passed ℚ) × (r ≡ Err p) × (placed part p ≡ at)
 part_err part (Ok x) at h = absurd (cc)
 part_err part (Err p) at h = (p, refl, same (placed part p) at h)
@@ -53,12 +53,12 @@ slacks_found passes net labels slacks h =
     let exact = slacks_exact passes (hops net) labels slacks list in
     (exact, list ∙ ap (λ (l : List ℚ). Ok l) exact)
 
--- ---- the fault that a call ends with
+-- ---- the fault with which a call ends
 pub by_fault : {A E : Type 0} (r : Result A E) (e : E) (P : E → Type 0) → IsErrAnd r (λ x. x ≡ e) → P e → IfErr r P
 by_fault (Ok x) e P h p = tt
 by_fault (Err x) e P h p = subst P (sym h) p
 
--- causes of one kind are causes of another
+-- Causes of one kind are causes of another.
 pub stands_as : (C D : Cause ℚ → Type 0) (phase : ℕ) (fault : StepFault) → ((cause : Cause ℚ) → C cause → D cause) → StandsFor C phase fault → StandsFor D phase fault
 stands_as C D phase (StepFault.Search (SearchFault.Budget tried)) f h = f _ h
 stands_as C D phase (StepFault.Search (SearchFault.Passed place at)) f h = f _ h
@@ -100,7 +100,7 @@ module _ (passes : Passing) (net : Network) (patterns : ℕ) (s : Standing) wher
     search_cause SearchFault.NoPattern h = at_search NoPattern _ (seeks_here NoPattern h) refl
     search_cause SearchFault.Memory h = tt
 
-  -- ---- to a horizon, and without one
+  -- ---- with a horizon and without one
   pub seeks_below : (horizon : ℚ) (a : SearchAnswer) → s.time <ℚ horizon → SeeksOn passes net patterns s a → Seeks passes net horizon patterns s a
   seeks_below horizon a below h = record { below = below; slacks = h.slacks; search = record { base = h.base; is_base = h.is_base; is_search = h.is_search } }
 
@@ -178,7 +178,7 @@ module _ (passes : Passing) (net : Network) (horizon : ℚ) (s : Standing) (patt
       pub lists_made : (links : List LinkStep) → curve end ≡ Ok links → phase_lists passes net horizon s pattern flows slopes ≡ Ok (record { length = end.length; labels = end.labels; links = links })
       lists_made links h = to_curve ∙ then_same (curve end) (Ok links) (from_curve end) h
 
--- ---- how long the phase is
+-- ---- the length of the phase
 module _ (passes : Passing) (net : Network) (slacks labels slopes : List ℚ) (time horizon : ℚ) where
   cut_is : (extension : Option ℚ) (length : ℚ) → MatchOption extension (IsUnending net slacks slopes time) (IsExtension net slacks slopes time) → length ≡ cut_at (horizon -ℚ time) extension
       → IsPhaseLength net slacks slopes time horizon length

@@ -1,4 +1,4 @@
--- A run that has gone on so far, and what it takes for it to end.
+-- The loop invariant of a run, and the end of the loop.
 use Rattle.std.proofs.Common.{◌≡◌, ℕ, suc, ◌+◌, ◌<◌, add-one, Bool, true, false, ⊎_elim, sym, ap, subst, ◌∙◌}
 use Rattle.std.specs.Prelude.{Option, Some, None, IsSome, Result, Ok, Err, IfOk, not, MatchBool}
 use Rattle.nf_rational.specs.Rational.{ℚ}
@@ -17,14 +17,14 @@ use Rattle.nf_phase.proofs.Ended.{step_within}
 use Rattle.nf_phase.proofs.Stepped.{reaches_step}
 use Rattle.nf_phase.proofs.Stopping.{stands_stop}
 
--- it has gone on to here in so many phases, and what ends it here ends it from where it began
+-- The run has reached this state after this many phases, and an end from here is an end from the first state.
 pub record GoneTo (passes : Passing) (net : Network) (bounds : Bounds) (first : Standing) (phases : ℕ) (s : Standing) : Type 0 where
   pub reaches : Reaches passes net s
   pub made : s.made ≡ phases
   pub within : s.time ≤ℚ bounds.horizon
   pub ends : (last : Standing) (stop : Option (Cause ℚ)) → RunsOn passes net bounds s last stop → RunsOn passes net bounds first last stop
 
--- whether it has reached the horizon
+-- Whether the run has reached the horizon.
 pub at_or_below : (below : Bool) (time horizon : ℚ) → below ≡ lt_ℚ time horizon → MatchBool (not below) (horizon ≤ℚ time) (time <ℚ horizon)
 at_or_below below time horizon e = ⊎_elim
     (λ (w : (lt_ℚ time horizon ≡ true) × (time <ℚ horizon)). subst (λ (b : Bool). MatchBool (not b) (horizon ≤ℚ time) (time <ℚ horizon)) (sym (e ∙ w.0)) w.1)
@@ -60,7 +60,7 @@ module _ (passes : Passing) (net : Network) (bounds : Bounds) (first : Standing)
       ends = λ last stop runs. gone.ends last stop (steps (may_go may) g runs);
     }
 
-    -- ---- at the end of all phases
+    -- ---- the end of all phases
     pub ends_after_all : (stop : Option (Cause ℚ)) → stop ≡ stop_after (lt_ℚ s.time bounds.horizon) s.made → phases ≡ bounds.phases → RunsOn passes net bounds first s stop
     ends_after_all stop e all = ⊎_elim
         (λ (w : (lt_ℚ s.time bounds.horizon ≡ true) × (s.time <ℚ bounds.horizon)).
@@ -69,7 +69,7 @@ module _ (passes : Passing) (net : Network) (bounds : Bounds) (first : Standing)
         subst (RunsOn passes net bounds first s) (sym (e ∙ ap (λ (b : Bool). stop_after b s.made) w.0)) (ends_at_horizon w.1))
         (lt_ℚ_cases s.time bounds.horizon)
 
-    -- ---- where the next phase isn't made
+    -- ---- the next phase is not computed
     ended : phases < bounds.phases → (fault : StepFault) → IsCause passes net bounds.horizon bounds.patterns s fault → (stop : Option (Cause ℚ)) → stop ≡ cause_of (suc s.made) fault → IsSome stop
         → RunsOn passes net bounds first s stop
     ended may fault h None e some = absurd (cc)

@@ -1,4 +1,4 @@
--- Whether a run is open, by tests.
+-- The tests whether a run is mid-phase.
 use Rattle.std.proofs.Common.{◌≡◌, ◌≢◌, ◌⊎◌, inl, inr, ℕ, zero, suc, ◌+◌, ◌<◌, Bool, true, false, List, [], ◌∷◌, length, refl, sym, ap, subst, ◌∙◌}
 use Rattle.std.specs.Prelude.{◌↔◌, if◌then◌else◌, not, IsTrue, Option, Some, None, slice_get, unwrap_or, MatchBool}
 use Rattle.std.proofs.lemmas.Option.{slice_get_within}

@@ -1,4 +1,4 @@
--- The operations of a phase, as the code does them: what stops it, and that the phase leads on.
+-- The operations of a phase in the order of the code: failures, and the extension of the run.
 use Rattle.std.proofs.Common.{◌≡◌, ℕ, suc, List, length, sym, ap, subst, refl, ◌∙◌}
 use Rattle.std.specs.Prelude.{Option, map, Result, Ok, Err, MatchOption, IfErr}
 use Rattle.std.specs.Result.{IsErrAnd}
@@ -39,7 +39,7 @@ pub found_here : (passes : Passing) (net : Network) (patterns : ℕ) (s : Standi
     → ((place : ℕ) × IsSearchHere passes net horizon patterns s (Found place found.thin.pattern found.thin.flows.items found.thin.slopes.items)) → IsFound passes net patterns s found
 found_here passes net patterns s list horizon found slacks sets h = record { slacks = slacks; sets = sets; seeks = (h.0, seeks_here passes net patterns s list horizon _ h.1) }
 
--- ---- how many there are
+-- ---- lengths of lists
 module _ (passes : Passing) (net : Network) (patterns : ℕ) (s : Standing) (found : PhaseStart) (is : IsFound passes net patterns s found) where
   pub slack_count : (slacks : List ℚ) → slacks ≡ found.slacks.items → length slacks ≡ length net.links
   slack_count slacks e = ap (λ (l : List ℚ). length l) (e ∙ is.slacks) ∙ length-map (hops net) (slack s.labels) ∙ length-map net.links hop_of
@@ -76,7 +76,7 @@ module _ (passes : Passing) (net : Network) (good : IsNetwork net) (horizon : �
   pub amounts_count : (amounts : List ℚ) (curves : List LinkCurves) → amounts ≡ map amount_so_far curves → curves ≡ s.link_curves → length amounts ≡ length net.links
   amounts_count amounts curves e f = ap (λ (l : List ℚ). length l) e ∙ length-map curves amount_so_far ∙ ap (λ (l : List LinkCurves). length l) f ∙ stands.well.link_count
 
-  -- ---- the phase that is put together
+  -- ---- the assembled phase
   abbrev with_links : List LinkStep → Advanced → PhaseStep
   with_links links end = record { length = end.length; labels = end.labels; links = links }
 

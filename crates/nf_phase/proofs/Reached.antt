@@ -1,4 +1,4 @@
--- What holds wherever a run comes to, and what the search of the next phase needs of it.
+-- Facts on every reachable run state, and the preconditions of the search for the next phase.
 use Rattle.std.proofs.Common.{◌≡◌, ℕ, List, length, true, sym, ap, subst, refl, ◌∙◌}
 use Rattle.std.specs.Prelude.{Option, Some, None, is_none}
 use Rattle.std.proofs.lemmas.List.{length-map, length-replicate}
@@ -27,7 +27,7 @@ use Rattle.nf_phase.specs.Restarting.{IsRestored}
 use Rattle.nf_phase.specs.Stepping.{Reaches, starts, restored, goes_on, keeps_on}
 use Rattle.nf_phase.proofs.Restarting.{well_restored, last_restored}
 
--- its curves are those of a run, and its last pattern is one of the network's links
+-- The curves are those of a run, and the last pattern is a pattern of the network's links.
 pub record Stands (net : Network) (s : Standing) : Type 0 where
   pub well : WellRun net s
   pub last_count : length s.last ≡ length net.links
@@ -44,7 +44,7 @@ none_of : (capacity : Option ℚ) → is_none capacity ≡ true → capacity ≡
 none_of None h = refl
 none_of (Some x) h = absurd (cc)
 
--- which link an unbounded one is
+-- An unbounded link by its number.
 unbounded_link : (net : Network) (e : ℕ) → Has (unbounded net) e → (link : Link) × IsLink net e link × (link.capacity ≡ None)
 unbounded_link net e u = let l = from_map (λ (link : Link). is_none link.capacity) net.links e true u in (l.0, l.1, none_of l.0.capacity l.2)
 
@@ -75,7 +75,7 @@ module _ (passes : Passing) (net : Network) (good : IsNetwork net) where
         no_full = λ e u full. listed.states.no_full e u (subst (λ (n : Standing). HasState n.last e Full) g.new_is full);
       }
 
-  -- the last pattern may be that of an earlier phase
+  -- The last pattern may be that of an earlier phase.
   Stands-last : (horizon : ℚ) (patterns : ℕ) (s t : Standing) → Stands net s → Stands net t → Stands net (with_last s.last t)
   Stands-last horizon patterns s t before after = record {
     well = WellRun-last passes net good (record { horizon = horizon; phases = 0; patterns = patterns }) s.last t after.well;
@@ -91,7 +91,7 @@ module _ (passes : Passing) (net : Network) (good : IsNetwork net) where
       let there : Stands net before = Stands-reached before earlier in
       Stands-last horizon patterns before t there (Stands-goes horizon patterns before t g there)
 
--- ---- what the search needs
+-- ---- the preconditions of the search
 module _ (net : Network) (good : IsNetwork net) (s : Standing) (stands : Stands net s) where
   pub none_resets : NoneResetsUnbounded net (sets_at net s.labels)
   none_resets e u r =

@@ -1,4 +1,4 @@
--- What holds of a run that is restored from a flow.
+-- Facts on a run restored from a flow.
 use Rattle.std.proofs.Common.{◌≡◌, ℕ, ◌<◌, List, [], ◌∷◌, ◌++◌, length, sym, ap, subst, refl, ◌∙◌, arith}
 use Rattle.std.specs.Prelude.{Option, Some, None, slice_get, Ok}
 use Rattle.std.proofs.lemmas.Option.{slice_get_within}
@@ -55,7 +55,7 @@ cut_at_end (x ∷ rest) last c short e =
       ends = record { front = w.1; same = w.2 ∙ ap (λ (p : Point). w.1 ++ p ∷ []) (point_is w.0 last (value (x ∷ rest) last) time (sym (on last (≤ℚ_refl last)))); curve = c };
     }
 
--- ---- a flow that ends at its labels is what is left of it up to the departure reached
+-- ---- a flow that ends at its labels equals its restriction to the departure reached
 module _ (net : Network) (flow : Flow) (is : Equilibrium net flow) (ends : EndsAtItsLabels net flow) (short : IsShortFlow net flow) where
   within : (e : ℕ) (link : Link) → IsLink net e link → e < length net.links
   within e link p = slice_get_within net.links e link p
@@ -75,7 +75,7 @@ module _ (net : Network) (flow : Flow) (is : Equilibrium net flow) (ends : EndsA
     outflow_rates = is.outflow_rates;
   }
 
--- an equilibrium that is cut at the departure that it reached ends at its labels
+-- An equilibrium cut at the departure that it reached ends at its labels.
 end_of_cut : (points short : List Point) (last : ℚ) → IsShortCut points last short → end_of short ≡ last
 end_of_cut points short last c = ap end_of c.ends.same ∙ end-append c.ends.front (last, value short last)
 
@@ -108,7 +108,7 @@ parts_of passes flow last s e =
     let b = then_ok (each (growing passes) flow.queues) _ s a.next in
     record { label_curves = a.between; queues = b.between; by_labels = a.first; by_queues = b.first; is = same_Ok _ _ b.next }
 
--- ---- where no slope is recorded, the curve has but one point
+-- ---- if no slope is recorded, the curve has one point only
 module _ (passes : Passing) where
   some_none : (k : ℚ) → ◌≡◌ {A = Checked (Option ℚ)} (Ok (Some k)) (Ok None) → ⊥
   some_none k e = cc

@@ -1,4 +1,4 @@
--- Where a run stands after a phase that is no rest of one that was cut short.
+-- The run state after a phase that is no remainder of an interrupted phase.
 use Rattle.std.proofs.Common.{◌≡◌, Bool, true, false, refl, sym}
 use Rattle.std.proofs.lemmas.Bool.{false≢true}
 use Rattle.nf_model.specs.Network.{Network}

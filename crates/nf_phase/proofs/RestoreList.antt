@@ -1,4 +1,4 @@
--- The list of restoring, from those of the labels and of the links, and the parts of the flow that it is given.
+-- The restoring operations, composed of those of the labels and of the links, and the parts of the given flow.
 use Rattle.std.proofs.Common.{◌≡◌, List, [], ◌∷◌, length, map, refl, sym, ap, ◌∙◌}
 use Rattle.std.specs.Prelude.{Result, Ok, Err}
 use Rattle.std.proofs.lemmas.List.{length-map}
@@ -50,7 +50,7 @@ module _ (passes : Passing) (flow : Flow) (last : Pattern) where
         ∙ after_ok Curve (each (growing passes) flow.queues) _ w.0 (ap (at_part Curve) w.1)
         ∙ ap (λ (l : List LinkCurves). Ok (stands_with label_curves l)) w.2
 
--- ---- what the parts of a flow come to
+-- ---- the results of the parts of a flow
 pub ends_same : (curves : List Grown) → map value_at_end (map (λ (g : Grown). g.points) curves) ≡ map (λ (g : Grown). value_at_end g.points) curves
 ends_same [] = refl
 ends_same (g ∷ curves) = ap (λ (l : List ℚ). value_at_end g.points ∷ l) (ends_same curves)

@@ -1,17 +1,17 @@
--- Standings that are equal, part by part.
+-- Equality of run states, part by part.
 use Rattle.std.proofs.Common.{◌≡◌, List, ap, ◌∙◌}
 use Rattle.nf_rational.specs.Rational.{ℚ}
 use Rattle.nf_model.specs.Pattern.{Pattern}
 use Rattle.nf_lists.specs.ReportCurves.{GrowingCurve, LinkCurves}
 use Rattle.nf_lists.specs.PhaseRun.{Standing}
 
--- labels that are the same
+-- Equal labels.
 pub same_parts : (time : ℚ) (labels other : List ℚ) (label_curves : List GrowingCurve) (link_curves : List LinkCurves) (last : Pattern) → labels ≡ other
     → ◌≡◌ {A = Standing} (record { time = time; labels = labels; label_curves = label_curves; link_curves = link_curves; made = 0; last = last })
     (record { time = time; labels = other; label_curves = label_curves; link_curves = link_curves; made = 0; last = last })
 same_parts time labels other label_curves link_curves last e = λ i. record { time = time; labels = e i; label_curves = label_curves; link_curves = link_curves; made = 0; last = last }
 
--- a standing whose curves are what they were
+-- A run state with unchanged curves.
 pub same_standing : (now before : Standing) (label_curves : List GrowingCurve) (link_curves : List LinkCurves) → label_curves ≡ now.label_curves → link_curves ≡ now.link_curves → now ≡ before
     → record { time = now.time; labels = now.labels; label_curves = label_curves; link_curves = link_curves; made = now.made; last = now.last } ≡ before
 same_standing now before label_curves link_curves labels links same =

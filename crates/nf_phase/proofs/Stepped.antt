@@ -1,4 +1,4 @@
--- A phase that is found leads on: what making it needs, and what it comes to.
+-- A found phase extends the run: the preconditions of the extension, and its result.
 use Rattle.std.proofs.Common.{◌≡◌, ℕ, suc, List, [], ◌∷◌, length, sym, ap, subst, refl, ◌∙◌}
 use Rattle.std.specs.Prelude.{Bool, true, false, Some, slice_get, MatchBool}
 use Rattle.nf_rational.specs.Rational.{ℚ}
@@ -31,7 +31,7 @@ use Rattle.nf_phase.specs.Finding.{step_in, after_phase, LeadsOn}
 use Rattle.nf_growing_curves.specs.LinkGrowth.{AllLinksEndBefore}
 use Rattle.nf_phase.proofs.Reached.{Stands, Stands-reached}
 
--- ---- wherever a run comes to
+-- ---- every reachable run state
 module _ (passes : Passing) (net : Network) (good : IsNetwork net) (s : Standing) (reaches : Reaches passes net s) where
   abbrev stands : Stands net s
   stands = Stands-reached passes net good s reaches
@@ -56,7 +56,7 @@ module _ (passes : Passing) (net : Network) (good : IsNetwork net) (s : Standing
   only_step horizon patterns _ (continues {t = t} c g) = only_phase horizon patterns t g
   only_step horizon patterns t (begins c g) = only_phase horizon patterns t g
 
--- one that goes on with none that was cut short is a phase of the run
+-- A phase that is no remainder of an interrupted phase is a phase of the run.
 pub begin_step : (passes : Passing) (net : Network) (horizon : ℚ) (patterns : ℕ) (s t : Standing) → (Continues net s → ⊥) → Steps passes net horizon patterns s t → Goes passes net horizon patterns s t
 begin_step passes net horizon patterns s _ apart (continues c g) = absurd (apart c)
 begin_step passes net horizon patterns s t apart (begins c g) = g
@@ -112,7 +112,7 @@ module _ (passes : Passing) (net : Network) (good : IsNetwork net) (horizon : �
   pub step_count : length phase.steps.items ≡ length net.links
   step_count = steps-length passes net (sets_at net s.labels) phase.pattern phase.length leads.flows phase.slopes.items phase.labels.items _ phase.steps.items parts.links
 
-  -- ---- the labels move on
+  -- ---- the labels at the end of the phase
   pub source_next : number_at phase.labels.items net.source ≡ s.time +ℚ phase.length
   source_next = source_label_at net good next there.well
 
@@ -136,7 +136,7 @@ module _ (passes : Passing) (net : Network) (good : IsNetwork net) (horizon : �
             (queue_steps passes net s phase.pattern leads.flows phase.slopes.items (step_in phase) parts count some e link p step one queue is);
       }
 
-  -- ---- the run after it
+  -- ---- the run after the phase
   pub new_standing : (reached : ℚ) (label_curves : List GrowingCurve) (link_curves : List LinkCurves) (made : ℕ) (last : Pattern) → reached ≡ s.time +ℚ phase.length
       → label_curves ≡ label_curves_after reached phase.labels.items phase.slopes.items s.label_curves → link_curves ≡ link_curves_after phase.labels.items net.links s.link_curves phase.steps.items
       → made ≡ suc s.made → last ≡ phase.pattern

@@ -1,4 +1,4 @@
--- From the fault of a step to the cause for which a run stops.
+-- From the fault of a step to the cause that stops the run.
 use Rattle.std.proofs.Common.{◌≡◌, ℕ, subst}
 use Rattle.std.specs.Prelude.{Some}
 use Rattle.std.proofs.lemmas.Option.{same_Some}

@@ -1,4 +1,4 @@
--- A phase for as long as it may last: when it ends, and what it comes to.
+-- A phase of greatest length: its end and its result.
 use Rattle.std.proofs.Common.{◌≡◌, ℕ, suc, List, refl, sym, subst, ◌∙◌}
 use Rattle.std.specs.Prelude.{Option, Some, None, Result, Ok, Err, IfErr}
 use Rattle.std.specs.Result.{IsErrAnd}
@@ -20,13 +20,13 @@ use Rattle.nf_phase.specs.Stepping.{StandsFor, IsCauseOn, tail_of}
 use Rattle.nf_phase.specs.Finding.{step_in, after_phase, IsFound, FindsNone, ListsPass, LeadsOn}
 use Rattle.nf_phase.proofs.Found.{part_err, by_fault, stands_as, none_on, extend_on, lists_on}
 
--- ---- why there is no thin flow
+-- ---- the cause for which there is no thin flow
 pub found_none_on : (passes : Passing) (net : Network) (patterns : ℕ) (s : Standing) {A : Type 0} (result : Result A StepFault) (fault : StepFault) → IsErrAnd result (λ f. f ≡ fault)
     → StandsFor (FindsNone passes net patterns s) (suc s.made) fault → IfErr result (IsCauseOn passes net patterns s)
 found_none_on passes net patterns s result fault e h =
     by_fault result fault (IsCauseOn passes net patterns s) e (stands_as (FindsNone passes net patterns s) (FailsOn passes net patterns s) (suc s.made) fault (none_on passes net patterns s) h)
 
--- ---- by a thin flow
+-- ---- with a thin flow
 module _ (passes : Passing) (net : Network) (patterns : ℕ) (s : Standing) (found : PhaseStart) (is : IsFound passes net patterns s found)
     (slacks slopes : List ℚ) (time : ℚ) (same_slacks : slacks ≡ found.slacks.items) (same_slopes : slopes ≡ found.thin.slopes.items) (same_time : time ≡ s.time) where
   abbrev ends : List ℚ → Checked (Option ℚ)
@@ -43,11 +43,11 @@ module _ (passes : Passing) (net : Network) (patterns : ℕ) (s : Standing) (fou
       (subst (λ (at : PassedAt ℚ). FailsOn passes net patterns s (Cause.Passed (suc s.made) None at)) p.2
       (extend_on passes net patterns s is.seeks.0 found.thin.pattern found.thin.flows.items found.thin.slopes.items is.seeks.1 p.0 (ends_is ∙ p.1)))
 
-  -- there is no end
+  -- The phase can have any length.
   pub goes_forever : Ok None ≡ at_part Extend (end_list passes net slacks slopes time) → GoesForever passes net patterns s found.thin.pattern (tail_of found.thin)
   goes_forever h = record { place = is.seeks.0; finds = is.seeks.1; no_end = ends_is ∙ part_ok Extend (end_list passes net slacks slopes time) None h }
 
-  -- this is the end
+  -- This is the end of the phase.
   module _ (end : ℚ) (ended : Ok (Some end) ≡ at_part Extend (end_list passes net slacks slopes time)) where
     end_is : ends found.thin.slopes.items ≡ Ok (Some end)
     end_is = ends_is ∙ part_ok Extend (end_list passes net slacks slopes time) (Some end) ended

@@ -1,4 +1,4 @@
--- The flow of a run may be given out, and a run restored from it. (That its curves are in short form is `short_reached`.)
+-- The contracts on the flow of a run, and on a run restored from it. (`short_reached` states that its curves are in short form.)
 use Rattle.std.proofs.Common.{◌≡◌, ℕ, ◌<◌, ap, ◌∙◌, arith}
 use Rattle.std.specs.Prelude.{Some, slice_get}
 use Rattle.std.proofs.lemmas.Option.{slice_get_within}

@@ -1,4 +1,4 @@
--- A run never stops since no pattern is left, from wherever it goes on.
+-- A run never stops because no pattern is left, from any state.
 use Rattle.std.proofs.Common.{sym, ap, subst}
 use Rattle.std.specs.Prelude.{Result, Ok, Err, IfOk}
 use Rattle.nf_work.specs.Passing.{passes_Q}

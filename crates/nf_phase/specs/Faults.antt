@@ -1,4 +1,4 @@
--- Which fault of a step the faults of its parts are.
+-- The fault of a step for each fault of its parts.
 use Rattle.nf_rational.specs.Rational.{ℚ}
 use Rattle.nf_work.specs.declared.Halt.{Halt}
 use Rattle.nf_thin.specs.declared.fault.SearchFault.{SearchFault}

@@ -1,4 +1,4 @@
--- What a phase is found to be, before it is made.
+-- The result of the search for a phase, before the run is extended by it.
 use Rattle.std.specs.Prelude.{◌≡◌, ℕ, suc, List, Some, None, Ok, Err}
 use Rattle.nf_rational.specs.Rational.{ℚ}
 use Rattle.nf_work.specs.Passing.{Passing}
@@ -21,32 +21,32 @@ use Rattle.nf_phase.specs.declared.phase.Phase.{Phase}
 abbrev pub step_in : Phase → PhaseStep
 step_in phase = record { length = phase.length; labels = phase.labels.items; links = phase.steps.items }
 
--- where a run stands after a phase
+-- The run state after a phase.
 abbrev pub after_phase : Network → Standing → Phase → Standing
 after_phase net s phase = standing_after net s phase.pattern phase.slopes.items (step_in phase)
 
--- ---- the search, which asks for no horizon
+-- ---- the search, which doesn't depend on the horizon
 module _ (passes : Passing) (net : Network) (patterns : ℕ) (s : Standing) where
-  -- the slacks and their sets, and the thin flow that is found, by a pattern that stands at some place
+  -- The slacks, their sets, and the found thin flow with its pattern, at some rank in the listing.
   pub record IsFound (found : code.PhaseStart) : Type 0 where
     pub slacks : found.slacks.items ≡ slacks_of (hops net) s.labels
     pub sets : found.sets ≡ sets_at net s.labels
     pub seeks : (place : ℕ) × SeeksOn passes net patterns s (Found place found.thin.pattern found.thin.flows.items found.thin.slopes.items)
 
-  -- why there is none: an operation of the slack list passes, or no pattern is found
+  -- The cause for which no thin flow is found: an operation of the slack list exceeds its bound, or the search finds no pattern.
   pub data FindsNone : Cause ℚ → Type 0 where
     at_slack : (p : Passed ℚ) → slack_list passes (hops net) s.labels ≡ Err p → FindsNone (Cause.Passed (suc s.made) None (placed Slack p))
     at_search : (answer : SearchAnswer) (cause : Cause ℚ) → SeeksOn passes net patterns s answer
         → cause_of_search (suc s.made) patterns answer ≡ Some cause → FindsNone cause
 
--- ---- the lists of a phase
--- an operation of theirs passes, this one first
+-- ---- the operation sequences of a phase
+-- The cause is their first operation that exceeds its bound.
 pub data ListsPass (passes : Passing) (net : Network) (horizon : ℚ) (s : Standing) (pattern : Pattern) (flows slopes : List ℚ) : Cause ℚ
     → Type 0 where
   at_lists : (p : PassedAt ℚ) → phase_lists passes net horizon s pattern flows slopes ≡ Err p
       → ListsPass passes net horizon s pattern flows slopes (Cause.Passed (suc s.made) None p)
 
--- the phase leads on from here, by the first accepted pattern
+-- The phase extends the run state, by the first accepted pattern.
 pub record LeadsOn (passes : Passing) (net : Network) (horizon : ℚ) (patterns : ℕ) (s : Standing) (phase : Phase) : Type 0 where
   pub place : ℕ
   pub flows : List ℚ

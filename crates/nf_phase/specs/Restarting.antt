@@ -1,4 +1,4 @@
--- A run that is restored from a flow, and which of its phases goes on with one that was cut short.
+-- Restored runs, and the test whether a run is mid-phase.
 use Rattle.std.specs.Prelude.{◌≡◌, ◌≢◌, ℕ, ◌<◌, Bool, true, false, if◌then◌else◌, List, [], ◌∷◌, length, Some, None, Ok, slice_get}
 use Rattle.nf_rational.specs.Rational.{ℚ}
 use Rattle.nf_rational.specs.Operations.{0ℚ}
@@ -16,10 +16,10 @@ use Rattle.nf_resume_lists.specs.Open.{with_last}
 use Rattle.nf_phase.specs.declared.phase.Phase.{Phase}
 use Rattle.nf_phase.specs.Finding.{after_phase}
 
--- ---- a flow by which a run may be restored
+-- ---- a flow by which a run can be restored
 
--- A label ends at the departure that was reached; an inflow and a queue end at the label of the link's tail there, and an outflow at
--- that of its head.
+-- Each label curve ends at the departure reached. Each inflow and queue ends at the label of the link's tail there, each outflow at the
+-- label of its head.
 pub record EndsAtItsLabels (net : Network) (flow : Flow) : Type 0 where
   pub labels : (v : ℕ) → v < net.nodes → end_of (points_at flow.labels v) ≡ flow.reached
   pub inflows : (e : ℕ) (link : Link) → IsLink net e link
@@ -28,11 +28,11 @@ pub record EndsAtItsLabels (net : Network) (flow : Flow) : Type 0 where
       → end_of (points_at (points_of flow.outflows) e) ≡ label flow link.head flow.reached
   pub queues : (e : ℕ) (link : Link) → IsLink net e link → end_of (points_at flow.queues e) ≡ label flow link.tail flow.reached
 
--- no unbounded link is Full
+-- No unbounded link is Full.
 abbrev pub NoneFull : Network → Pattern → Type 0
 NoneFull net last = (e : ℕ) (link : Link) → IsLink net e link → link.capacity ≡ None → HasState last e Full → ⊥
 
--- a run is restored from an equilibrium that ends at its labels and is in short form, and from a pattern of the network's links
+-- The run state is restored from an equilibrium that is in short form and ends at its labels, and from a pattern of the network's links.
 pub record IsRestored (passes : Passing) (net : Network) (s : Standing) : Type 0 where
   pub flow : Flow
   pub last : Pattern
@@ -43,21 +43,21 @@ pub record IsRestored (passes : Passing) (net : Network) (s : Standing) : Type 0
   pub no_full : NoneFull net last
   pub stands : restore_list passes flow last ≡ Ok s
 
--- ---- tests of an open run
+-- ---- tests whether a run is mid-phase
 
--- no piece starts at this time
+-- No piece starts at this time.
 abbrev pub none_starts : List Piece → ℚ → Bool
 none_starts [] time = true
 none_starts (piece ∷ pieces) time = if is_same piece.start time then false else none_starts pieces time
 
--- a link has a state, or a slack other than 0
+-- Link e has a state or a nonzero slack.
 abbrev pub ApartAt : List ℚ → Pattern → ℕ → Type 0
 ApartAt slacks last e = slice_get last e ≡ Some None → number_at slacks e ≢ 0ℚ
 
 abbrev pub AreApart : List ℚ → Pattern → Type 0
 AreApart slacks last = (e : ℕ) → ApartAt slacks last e
 
--- where a run stands after a phase, which may be the rest of one that was cut short: then the last pattern stays
+-- The run state after a phase. If the phase is the remainder of an interrupted one, the last pattern stays.
 abbrev pub after_rest : Bool → Network → Standing → Phase → Standing
 after_rest true net s phase = with_last s.last (after_phase net s phase)
 after_rest false net s phase = after_phase net s phase

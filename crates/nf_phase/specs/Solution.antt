@@ -1,4 +1,4 @@
--- What solving to a horizon answers.
+-- The result of solving to a horizon.
 use Rattle.std.specs.Prelude.{◌≡◌, ℕ, suc, Bool, if◌then◌else◌, List, length, Option, Some, None, slice_get}
 use Rattle.nf_rational.specs.Rational.{ℚ}
 use Rattle.nf_work.specs.Passing.{passes_Q}
@@ -17,11 +17,11 @@ use Rattle.nf_phase.specs.declared.fault.StepFault.{StepFault}
 use Rattle.nf_phase.specs.declared.solution.Budgets.{Budgets}
 use Rattle.nf_phase.specs.declared.solution.Solution.{Solution}
 
--- how far a run goes with these budgets
+-- The limits of a run with these budgets.
 abbrev pub bounds_of : ℚ → Budgets → Bounds
 bounds_of horizon budgets = record { horizon = horizon; phases = budgets.phases; patterns = budgets.patterns }
 
--- why a run stops where the phase of this number isn't made; wanting memory is no cause
+-- Why a run stops at this phase; an allocation failure is no cause.
 abbrev pub cause_of : ℕ → StepFault → Option (Cause ℚ)
 cause_of phase (StepFault.Search (SearchFault.Budget tried)) = Some (Cause.Patterns phase tried)
 cause_of phase (StepFault.Search (SearchFault.Passed place at)) = Some (Cause.Passed phase (Some place) at)
@@ -30,22 +30,22 @@ cause_of phase (StepFault.Search SearchFault.Memory) = None
 cause_of phase (StepFault.Passed at) = Some (Cause.Passed phase None at)
 cause_of phase StepFault.Memory = None
 
--- why it stops after all phases that it may make: only where it is below the horizon
+-- Why a run stops after all phases that it may perform: only if it is below the horizon.
 abbrev pub stop_after : Bool → ℕ → Option (Cause ℚ)
 stop_after below made = if below then Some (Cause.Phases made) else None
 
--- the report of a solution
+-- The report of a solution.
 abbrev pub report_in : ℚ → Solution → Report
 report_in horizon s = record { horizon = horizon; flow = flow_of s.flow; stop = s.stopped; last = s.last }
 
--- every phase sequence to the horizon with as many phases ends with the departure and the labels that are reached
+-- Every phase sequence to the horizon with as many phases ends with the departure and the labels reached.
 abbrev pub EndsAll : Network → ℚ → Standing → Type 0
 EndsAll net horizon last = (phases : List (ℚ × List ℚ)) → IsPhaseSequence net horizon phases → length phases ≡ suc last.made
     → slice_get phases last.made ≡ Some (reached_by last)
 
--- The report describes a flow which is an equilibrium up to the time reached, and it is the report of the phase run: so it reaches
--- the horizon, or it has the cause that stopped the run there. The run made so many phases, and the labels that it keeps are the values of
--- the label curves at the end. The curves are in short form, and end at the departure reached or at the labels there.
+-- The report describes a flow that is an equilibrium up to the departure reached. It is the report of the phase run, so it reaches the
+-- horizon or has the cause that stopped the run. The run has `phases` phases, and its labels are the last values of the label curves. The
+-- curves are in short form, and end at the departure reached or at the labels there.
 pub record IsSolution (net : Network) (bounds : Bounds) (phases : ℕ) (report : Report) : Type 0 where
   pub well_formed : IsWellFormed net report
   pub equilibrium : Equilibrium net report.flow
@@ -56,8 +56,9 @@ pub record IsSolution (net : Network) (bounds : Bounds) (phases : ℕ) (report :
   pub short : IsShortFlow net report.flow
   pub curves_end : EndsAtItsLabels net report.flow
 
--- From where a run stood it went on to the horizon, or to the cause that stopped it, with so many phases since it was restored. The
--- report describes a flow that is an equilibrium up to the time reached, with curves in short form that end there or at the labels there.
+-- The run went from state `first` to the horizon, or to the cause that stopped it, with `phases` phases since it was restored. The report
+-- describes a flow that is an equilibrium up to the departure reached. Its curves are in short form, and end at that departure or at the
+-- labels there.
 pub record IsFinished (net : Network) (bounds : Bounds) (first : Standing) (phases : ℕ) (report : Report) : Type 0 where
   pub last : Standing
   pub stop : Option (Cause ℚ)

@@ -1,4 +1,4 @@
--- How standings of runs are told apart.
+-- Injective codes of run states.
 use Rattle.std.specs.Prelude.{ℕ, List, refl}
 use Rattle.std.specs.Coded.{Coded, code_by, coded×, coded_ℕ, coded_list}
 use Rattle.nf_rational.specs.Rational.{ℚ, coded_ℚ}

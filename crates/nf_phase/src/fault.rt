@@ -1,4 +1,4 @@
-// Why no further phase is made.
+// Refusals of a phase.
 ghost use Rattle.std.specs.Prelude.{◌≡◌};
 ghost use Rattle.nf_phase.specs.Faults.{of_search, of_halt};
 ghost use Rattle.nf_phase.specs.declared.fault.StepFault.TheVariants as StepFault;
@@ -7,14 +7,14 @@ use nf_frac::{Halt, PassedAt, Q};
 use nf_thin::SearchFault;
 use std::alloc::AllocError;
 
-/// Why a phase wasn't made.
+/// Why a phase could not be computed.
 #[derive(Clone, Copy)]
 pub enum StepFault {
-    /// The search for its thin flow found none. It never carries that memory is wanting.
+    /// The search for its thin flow found none. The payload is never `SearchFault::Memory`.
     Search(SearchFault),
-    /// Another operation of the phase passes.
+    /// An operation of the phase outside the search exceeds its bound.
     Passed(PassedAt<Q>),
-    /// Memory is wanting.
+    /// Memory can't be allocated.
     Memory,
 }
 

@@ -1,4 +1,4 @@
-// The search of a phase: the thin flow by which the run goes on.
+// The search for the thin flow of the next phase.
 ghost use Rattle.std.specs.Prelude.{◌≡◌, suc, Ok, IfOk, OnOk, IfErr};
 ghost use Rattle.nf_rational.specs.Rational.{ℚ};
 ghost use Rattle.nf_work.specs.Passing.{passes_Q};
@@ -21,7 +21,7 @@ use nf_sets::{sets, slacks};
 use nf_thin::{SearchFault, ThinFlow, find_thin};
 use std::alloc::Global;
 
-// What a phase begins with: the slacks of the links, which of them are active and resetting, and a thin flow for these.
+// The data at the start of a phase: the slacks of the links, the active and resetting links, and a thin flow for them.
 #[derive(Drop)]
 pub(crate) struct PhaseStart {
     pub(crate) slacks: Vec<Q>,
@@ -30,7 +30,8 @@ pub(crate) struct PhaseStart {
 }
 
 impl Run {
-    // The slacks of the links.
+    // Returns the slacks of the links, times. Refuses if an operation exceeds its bound, with the first one, or if memory can't be
+    // allocated.
     fn slacks(&self, alloc: Global, net: &Network, patterns: u64) -> Result<Vec<Q>, StepFault>
         requires reaches { Reaches passes_Q net.now.net self.now }
         ensures named { IsNamed net.now }
@@ -43,7 +44,7 @@ impl Run {
         Ok(slacks)
     }
 
-    // A thin flow for the sets of the slacks, from the base pattern on.
+    // Returns a thin flow for the sets that the slacks define. The search starts at the base pattern.
     fn thin(
         &self,
         alloc: Global,
@@ -59,7 +60,7 @@ impl Run {
         find_thin(alloc, net, sets, net.rate_at(self.reached), &base, patterns)
     }
 
-    // The thin flow of the phase that begins here.
+    // Returns the start of the next phase: slacks, link sets and thin flow. Refuses with the first cause for which there is none.
     pub(crate) fn find(
         &self,
         alloc: Global,

@@ -1,4 +1,4 @@
-//! Phases of a flow over time (Koch and Skutella 2011): how long one may last, and the run that goes on phase by phase to a
+//! Phases of a flow over time (Koch and Skutella 2011): the length of a phase, and runs that are extended phase by phase to a
 //! horizon.
 #![tactic(auto)]
 

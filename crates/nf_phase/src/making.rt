@@ -1,4 +1,4 @@
-// A phase is made: the run goes on by it.
+// The extension of a run by a phase.
 ghost use Rattle.std.specs.Prelude.{◌≡◌, ◌<◌, ◌^◌, ◌-◌, length, OnOk, OnErr};
 ghost use Rattle.nf_work.specs.Passing.{passes_Q};
 ghost use Rattle.nf_model.specs.Entries.{number_at};
@@ -14,7 +14,7 @@ use nf_growing_curves::{labels_go_on, links_go_on, reserve_labels, reserve_links
 use nf_net::Network;
 use std::alloc::{AllocError, Global};
 
-// The label of the source is the departure.
+// Returns the label of the source, which equals the departure.
 fn departure_in(net: &Network, labels: &[Q]) -> Q
     requires { length labels.now ≡ net.now.net.nodes }
     ensures { result ≡ number_at labels.now net.now.net.source }
@@ -23,7 +23,7 @@ fn departure_in(net: &Network, labels: &[Q]) -> Q
 }
 
 impl Run {
-    // The run goes on to the end of a phase, which leads on from here to a horizon. Where memory is wanting the run stays as it was.
+    // Extends the run by a phase. Refuses only if memory can't be allocated; the run is then unchanged.
     pub(crate) fn make(
         &mut self,
         net: &Network,
@@ -55,7 +55,8 @@ impl Run {
         Ok(())
     }
 
-    // The run goes on by a phase that may be the rest of one that was cut short: then the last pattern stays.
+    // Extends the run by a phase. If the phase is the remainder of an interrupted one, the last pattern stays. Refuses only if memory can't
+    // be allocated; the run is then unchanged.
     pub(crate) fn go_on_by(
         &mut self,
         alloc: Global,

@@ -1,4 +1,4 @@
-// Whether the next phase of a run goes on with one that was cut short.
+// The test whether the next phase of a run is the remainder of an interrupted phase.
 ghost use Rattle.std.specs.Prelude.{◌≡◌, ◌<◌, length, MatchBool};
 ghost use Rattle.nf_work.specs.Passing.{passes_Q};
 ghost use Rattle.nf_model.specs.Network.{hops as hops_of};
@@ -14,7 +14,7 @@ use nf_graph::LinkId;
 use nf_net::{Network, Piece};
 use nf_pattern::Pattern;
 
-// No piece of the inflow starts at this time.
+// Returns whether no piece of the inflow starts at this time.
 fn none_starts(pieces: &[Piece], time: Q) -> bool
     ensures { result ≡ none_starts_by pieces.now time }
 {
@@ -26,7 +26,7 @@ fn none_starts(pieces: &[Piece], time: Q) -> bool
     true
 }
 
-// A link has a state, or a slack other than 0.
+// Returns whether the link has a state or a nonzero slack.
 fn is_apart(slacks: &[Q], last: &Pattern, link: LinkId) -> bool
     requires slacks { link < length slacks.now }
     requires last { link < length last.now }
@@ -38,7 +38,7 @@ fn is_apart(slacks: &[Q], last: &Pattern, link: LinkId) -> bool
     }
 }
 
-// So it is with each link.
+// Returns whether every link has a state or a nonzero slack.
 fn are_apart(net: &Network, slacks: &[Q], last: &Pattern) -> bool
     requires slacks { length slacks.now ≡ length net.now.net.links }
     requires last { length last.now ≡ length net.now.net.links }
@@ -53,7 +53,7 @@ fn are_apart(net: &Network, slacks: &[Q], last: &Pattern) -> bool
 }
 
 impl Run {
-    // The run is open where it stands.
+    // Returns whether the run is mid-phase: no supply piece starts at the departure reached, and every link has a state or a nonzero slack.
     fn is_open(&self, net: &Network, slacks: &[Q]) -> bool
         requires reaches { Reaches passes_Q net.now.net self.now }
         requires named { IsNamed net.now }
@@ -65,7 +65,8 @@ impl Run {
         starts && apart
     }
 
-    // The phase that begins here is the rest of one that was cut short: none was made since the run was restored, and it is open.
+    // Returns whether the next phase is the remainder of an interrupted one: the run is mid-phase, and no phase was added since it was
+    // restored.
     pub(crate) fn continues(&self, net: &Network, slacks: &[Q]) -> bool
         requires reaches { Reaches passes_Q net.now.net self.now }
         requires named { IsNamed net.now }

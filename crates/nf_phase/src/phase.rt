@@ -1,4 +1,4 @@
-// One phase of a run, before it is made: how long it lasts, and how the labels and the links go on in it.
+// A phase before the run is extended by it: its length, and the changes of labels and links.
 ghost use Rattle.std.specs.Prelude.{◌≡◌, suc, Ok, IfOk, IfErr, MatchBool};
 ghost use Rattle.nf_rational.specs.Order.{◌<ℚ◌};
 ghost use Rattle.nf_work.specs.Passing.{passes_Q};
@@ -22,8 +22,8 @@ use nf_phase_length::{Advanced, advance, extension};
 use nf_thin::ThinFlow;
 use std::alloc::Global;
 
-// A phase: its length, the labels at its end, the slopes at which they move, how each link goes on, and the pattern by which the
-// thin flow was found.
+// A phase: its length, the labels at its end, the slopes of the labels, the step of each link, and the pattern by which the thin flow was
+// found.
 #[derive(Drop)]
 pub(crate) struct Phase {
     pub(crate) length: Q,
@@ -33,7 +33,7 @@ pub(crate) struct Phase {
     pub(crate) pattern: Pattern,
 }
 
-// A phase, and whether it is the rest of one that was cut short.
+// A phase, and whether it is the remainder of an interrupted one.
 #[derive(Drop)]
 pub(crate) struct NextPhase {
     pub(crate) rests: bool,
@@ -41,7 +41,8 @@ pub(crate) struct NextPhase {
 }
 
 impl Run {
-    // How long a phase by a thin flow lasts with the labels at its end, and how each link goes on in it.
+    // Returns the length of a phase by a thin flow with the labels at its end, and the step of each link in it. Refuses at the first
+    // operation that exceeds its bound.
     fn lists(
         &self,
         alloc: Global,
@@ -87,7 +88,7 @@ impl Run {
         Ok((end, steps))
     }
 
-    // The phase by a thin flow.
+    // Returns the phase by a thin flow. Refuses at the first operation that exceeds its bound, or if memory can't be allocated.
     pub(crate) fn phase_by(
         &self,
         alloc: Global,
@@ -127,7 +128,7 @@ impl Run {
         })
     }
 
-    // The phase that begins here, and whether it is the rest of one that was cut short.
+    // Returns the next phase, and whether it is the remainder of an interrupted one. Refuses with the first cause for which there is none.
     pub(crate) fn phase(
         &self,
         alloc: Global,

@@ -1,4 +1,4 @@
-// A run that goes on where a flow ends.
+// Runs restored from a flow.
 ghost use Rattle.std.specs.Prelude.{◌≡◌, length, map, IfOk};
 ghost use Rattle.nf_work.specs.declared.Part.TheVariants.{Curve as CurvePart};
 ghost use Rattle.nf_work.specs.Passing.{passes_Q};
@@ -20,7 +20,7 @@ use nf_net::Network;
 use nf_pattern::Pattern;
 use std::alloc::{AllocError, Global};
 
-// The values at which these curves end.
+// Returns the last values of these curves.
 fn end_values(alloc: Global, curves: &[Curve]) -> Result<Vec<Q>, AllocError>
     ensures { IfOk result (λ values. values.items ≡ map (λ c. value_at_end c.points) curves.now) }
 {
@@ -33,10 +33,11 @@ fn end_values(alloc: Global, curves: &[Curve]) -> Result<Vec<Q>, AllocError>
 }
 
 impl Run {
-    /// The run that stands where a flow ends, with no phase made since. The flow is an equilibrium whose curves are in short form and end
-    /// at its labels at the departure reached, and `last` has of each link its state or none, and never Full of an unbounded link. The
-    /// run's labels are those of the flow there, and its curves end at them. It keeps the slopes of the last pieces of labels and queues:
-    /// Passed comes exactly at the first operation of their list that passes, node by node and then link by link, and has part Curve.
+    /// Returns the run at the end of a flow, with no phase added since. The flow is an equilibrium whose curves are in short form and end
+    /// at its labels at the departure reached. `last` has for each link its state or none, and never Full for an unbounded link. The labels
+    /// of the run are those of the flow at the departure reached, and its curves end at them. The run stores the slopes of the last pieces
+    /// of labels and queues. Refuses with Passed, of the part Curve, at the first operation that exceeds its bound, node by node and then
+    /// link by link. Refuses with Memory only if memory can't be allocated.
     pub fn restore(alloc: Global, net: &Network, flow: Flow, last: Pattern) -> Result<Run, Halt<Q>>
         requires equilibrium { Equilibrium net.now.net (flow_in flow) }
         requires ends { EndsAtItsLabels net.now.net (flow_in flow) }
@@ -51,7 +52,7 @@ impl Run {
         ensures fresh { IfOk result (λ run. run.made ≡ 0) }
         ensures last { IfOk result (λ run. run.last ≡ last) }
     {
-        // For the proof: the network is that of an accepted file.
+        // Proof: the network is that of an accepted file.
         net.recall();
         let labels = end_values(alloc, &flow.labels)?;
         let label_curves = restore_labels(alloc, &flow.labels)?;

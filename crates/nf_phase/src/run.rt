@@ -1,4 +1,4 @@
-// Runs: a flow over time that goes on phase by phase.
+// Runs: flows over time that are extended phase by phase.
 ghost use Rattle.std.specs.Prelude.{◌≡◌, ◌<◌, ◌^◌, ◌-◌, MatchOption, IsSome, IfOk, OnOk, OnErr, IfErr};
 ghost use Rattle.nf_rational.specs.Order.{◌<ℚ◌};
 ghost use Rattle.nf_work.specs.Passing.{passes_Q};
@@ -26,8 +26,8 @@ use nf_thin::ThinFlow;
 use std::alloc::{AllocError, Global};
 use std::marker::Model;
 
-/// A run in a network: the flow of all that leaves the source up to the departure that it has reached, with the labels of the
-/// nodes there (the earliest arrivals), how many phases were made, and the pattern of the last one.
+/// A run in a network. It has the flow that leaves the source up to the departure reached, and the node labels there (the earliest
+/// arrivals). It also has the number of phases and the pattern of the last one.
 #[derive(Drop)]
 pub struct Run {
     pub(crate) reached: Q,
@@ -58,7 +58,8 @@ impl Model for Run {
 }
 
 impl Run {
-    /// The run before its first phase: at departure 0, with the least transit sums from the source as labels.
+    /// Returns the run before its first phase, at departure 0. Its labels are the least transit sums from the source. Refuses only if
+    /// memory can't be allocated.
     pub fn start(alloc: Global, net: &Network) -> Result<Run, AllocError>
         ensures starts { IfOk result (IsStart net.now.net) }
         ensures reaches { IfOk result (Reaches passes_Q net.now.net) }
@@ -67,7 +68,7 @@ impl Run {
         ensures labels { IfOk result (KeepsLabels net.now.net) }
         ensures short { IfOk result (λ run. IsShortFlow net.now.net (flow_of run)) }
     {
-        // For the proof: the network is that of an accepted file.
+        // Proof: the network is that of an accepted file.
         net.recall();
         let labels = start_labels(alloc, net)?;
         let label_curves = first_labels(alloc, &labels)?;
@@ -83,10 +84,10 @@ impl Run {
         })
     }
 
-    /// One phase more, as long as it may last, but to the horizon at most: by the first accepted pattern, of so many at most. Its
-    /// curves, up to the departure that is reached, stay an equilibrium in short form, and end at its labels. Where it is the first
-    /// since the run was restored, and goes on with a phase that was cut short, the last pattern stays. It is refused exactly where
-    /// the phase can't be made, by the first cause for that, or where memory is wanting; then the run is as it was.
+    /// Extends the run by one phase, which is as long as possible but ends at `horizon` at the latest. The phase has the first accepted
+    /// pattern, of at most `patterns` patterns. The curves up to the departure reached stay an equilibrium in short form, and end at its
+    /// labels. The last pattern stays if the phase is the remainder of an interrupted one, that is, the first after the run was restored.
+    /// Refuses if no phase can be computed, with the first cause, or if memory can't be allocated. The run is then unchanged.
     pub fn step(
         &mut self,
         alloc: Global,
@@ -114,11 +115,11 @@ impl Run {
         Ok(())
     }
 
-    /// One phase more, for as long as it may last: by the first accepted pattern, of so many at most. Where it may last for any
-    /// length no phase is made, and its thin flow is answered: by that the flow goes on from here. Its curves, up to the departure
-    /// that is reached, stay an equilibrium in short form, and end at its labels. It is refused exactly where there is no such phase,
-    /// or it can't be made, by the first cause for that, or where memory is wanting. Where no phase is made the run is as it was. The
-    /// last pattern is that of the phase, also in a restored run.
+    /// Extends the run by one phase, which is as long as possible. The phase has the first accepted pattern, of at most `patterns`
+    /// patterns. If its length is unlimited, returns its thin flow instead, by which the flow continues forever; the run is then unchanged.
+    /// The curves up to the departure reached stay an equilibrium in short form, and end at its labels. The last pattern becomes that of
+    /// the phase, also in a restored run. Refuses if no phase can be computed, with the first cause, or if memory can't be allocated. The
+    /// run is then unchanged.
     pub fn step_to_end(
         &mut self,
         alloc: Global,
@@ -152,36 +153,37 @@ impl Run {
         Ok(None)
     }
 
-    /// The departure that the run has reached.
+    /// Returns the departure that the run has reached, a time.
     pub fn reached(&self) -> Q
         ensures { result ≡ self.now.time }
     {
         self.reached
     }
 
-    /// How many phases were made.
+    /// Returns the number of phases since departure 0 or since the run was restored.
     pub fn phases(&self) -> u64
         ensures { result ≡ self.now.made }
     {
         self.made
     }
 
-    /// The labels of the nodes at the departure reached: the earliest arrivals there of what leaves the source then.
+    /// Returns the labels of the nodes at the departure reached: the earliest arrivals there of particles that leave the source then.
     pub fn labels(&self) -> &[Q]
         ensures { result.now ≡ self.now.labels }
     {
         &self.labels
     }
 
-    /// The states of the links by which the base of the next phase is found: those in the last phase that was made, or those that the run
-    /// was restored with. A run before its first phase has none.
+    /// Returns the link states that determine the base pattern of the next phase: those of the last phase, or those with which the run was
+    /// restored. Before the first phase no link has a state.
     pub fn last(&self) -> &Pattern
         ensures { result.now ≡ self.now.last }
     {
         &self.last
     }
 
-    /// The flow up to the departure reached. The run stays as it is, and may go on.
+    /// Returns the flow up to the departure reached. The run is unchanged and can be extended further. Refuses only if memory can't be
+    /// allocated.
     pub fn flow(&self, alloc: Global) -> Result<Flow, AllocError>
         ensures { IfOk result (λ flow. flow_in flow ≡ flow_of self.now) }
     {

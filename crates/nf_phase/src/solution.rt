@@ -1,16 +1,16 @@
-// What is asked of a run, and what it comes to.
+// The request to a run, and its result.
 use nf_curve::{Flow, Stop};
 use nf_pattern::Pattern;
 
-/// How much a run may take: so many phases, and so many patterns in each.
+/// The limits of a run: the number of phases, and the number of patterns in each phase.
 #[derive(Clone, Copy)]
 pub struct Budgets {
     pub phases: u64,
     pub patterns: u64,
 }
 
-/// What a run comes to: the flow up to the time that was reached, how many phases were made, of each link its state in the last
-/// one, and why the run ended before the horizon, if it did.
+/// The result of a run: the flow up to the departure reached, the number of phases, and the state of each link in the last phase. `stopped`
+/// is the reason why the run ended before the horizon, if it did.
 #[derive(Drop)]
 pub struct Solution {
     pub flow: Flow,

@@ -1,4 +1,4 @@
-// Solving to a horizon: a run, phase by phase, until it ends.
+// Runs to a horizon, phase by phase.
 ghost use Rattle.std.specs.Prelude.{◌≡◌, IfOk, MatchBool};
 ghost use Rattle.nf_rational.specs.Operations.{0ℚ};
 ghost use Rattle.nf_rational.specs.Order.{◌≤ℚ◌, ◌<ℚ◌, lt_ℚ};
@@ -21,14 +21,14 @@ use nf_net::Network;
 use std::alloc::{AllocError, Global};
 
 impl Run {
-    // The run has reached the horizon.
+    // Returns whether the run has reached the horizon.
     pub(crate) fn is_at(&self, horizon: Q) -> bool
         ensures { MatchBool result (horizon ≤ℚ self.now.time) (self.now.time <ℚ horizon) }
     {
         !self.reached.is_below(horizon)
     }
 
-    // Why the run stops after as many phases as allowed; None where it has reached the horizon.
+    // Returns why the run stops after as many phases as allowed, or None if it has reached the horizon.
     fn stop_after_all(&self, horizon: Q) -> Option<Stop>
         ensures { result ≡ stop_after (lt_ℚ self.now.time horizon) self.now.made }
     {
@@ -39,7 +39,7 @@ impl Run {
         }
     }
 
-    // The run goes on until it ends, and says why it stops, if it does so below the horizon.
+    // Extends the run until it ends. Returns why it stops, or None if it reaches the horizon.
     fn go(
         &mut self,
         alloc: Global,
@@ -64,7 +64,7 @@ impl Run {
         Ok(self.stop_after_all(horizon))
     }
 
-    // What the run came to.
+    // Returns the result of the run.
     fn solution(self, alloc: Global, stopped: Option<Stop>) -> Result<Solution, AllocError>
         ensures flow { IfOk result (λ s. flow_in s.flow ≡ flow_of self) }
         ensures phases { IfOk result (λ s. s.phases ≡ self.made) }
@@ -89,10 +89,10 @@ impl Run {
         })
     }
 
-    /// The run goes on phase by phase from where it stands, each by the first accepted pattern, until the horizon is reached, as many
-    /// phases as allowed were made, or one can't be made. No phase was made yet, since departure 0 or since the run was restored, and
-    /// the horizon isn't before the departure reached. The flow up to there is an equilibrium. Each phase has a thin flow, so one can't be
-    /// made only where an operation passes or more patterns than allowed would have to be tried.
+    /// Extends a run phase by phase, each phase by its first accepted pattern. The run ends at the horizon, after as many phases as
+    /// allowed, or if no phase can be computed. No phase may have been added since departure 0 or since the run was restored. The horizon
+    /// is a time, not before the departure reached. The resulting flow is an equilibrium. Each phase has a thin flow, so it can't be
+    /// computed only if an operation exceeds its bound or more patterns than allowed are needed. Refuses only if memory can't be allocated.
     pub fn finish(
         self,
         alloc: Global,
@@ -106,7 +106,7 @@ impl Run {
         ensures finished { IfOk result (λ s. IsFinished net.now.net (bounds_of horizon budgets) self s.phases (report_in horizon s)) }
         ensures never_no_pattern { IfOk result (λ s. NeverNoPattern s.stopped) }
     {
-        // For the proof: the network is that of an accepted file.
+        // Proof: the network is that of an accepted file.
         net.recall();
         let mut run = self;
         let stopped = run.go(alloc, net, horizon, budgets)?;
@@ -114,10 +114,10 @@ impl Run {
     }
 }
 
-/// Solves a network: goes on phase by phase from departure 0, each by the first accepted pattern, until the horizon is reached,
-/// as many phases as allowed were made, or one can't be made. The flow up to there is an equilibrium (a Nash flow over time:
-/// Koch and Skutella 2011). Each phase has a thin flow, so one can't be made only where an operation passes or more patterns than
-/// allowed would have to be tried. The horizon is a time of at least 0.
+/// Solves a network phase by phase from departure 0, each phase by its first accepted pattern. The run ends at the horizon, after as many
+/// phases as allowed, or if no phase can be computed. The resulting flow is an equilibrium (a Nash flow over time: Koch and Skutella 2011).
+/// Each phase has a thin flow, so it can't be computed only if an operation exceeds its bound or more patterns than allowed are needed. The
+/// horizon is a time of at least 0. Refuses only if memory can't be allocated.
 pub fn solve(
     alloc: Global,
     net: &Network,
@@ -128,7 +128,7 @@ pub fn solve(
     ensures solution { IfOk result (λ s. IsSolution net.now.net (bounds_of horizon budgets) s.phases (report_in horizon s)) }
     ensures never_no_pattern { IfOk result (λ s. NeverNoPattern s.stopped) }
 {
-    // For the proof: the network is that of an accepted file.
+    // Proof: the network is that of an accepted file.
     net.recall();
     let run = Run::start(alloc, net)?;
     run.finish(alloc, net, horizon, budgets)

@@ -1,4 +1,4 @@
-// Why a run ends where a phase isn't made.
+// The reasons why a run ends at a phase that can't be computed.
 ghost use Rattle.std.specs.Prelude.{◌≡◌, IfOk, IsSome};
 ghost use Rattle.nf_phase.specs.Solution.{cause_of};
 
@@ -7,7 +7,7 @@ use nf_curve::Stop;
 use nf_thin::SearchFault;
 use std::alloc::AllocError;
 
-/// Why a run stops where the phase of this number isn't made; None where memory is wanting.
+/// Returns why a run stops at phase number `phase`, or None if memory can't be allocated.
 pub fn stop_by(phase: u64, fault: StepFault) -> Option<Stop>
     ensures { result ≡ cause_of phase fault }
 {
@@ -29,7 +29,7 @@ pub fn stop_by(phase: u64, fault: StepFault) -> Option<Stop>
     }
 }
 
-/// The run ends where the phase of this number isn't made.
+/// Returns why a run stops at phase number `phase`. Refuses exactly if the fault is that memory can't be allocated.
 pub fn ended_by(phase: u64, fault: StepFault) -> Result<Option<Stop>, AllocError>
     ensures cause { IfOk result (λ stop. stop ≡ cause_of phase fault) }
     ensures some { IfOk result IsSome }

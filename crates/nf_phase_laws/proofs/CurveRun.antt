@@ -1,4 +1,4 @@
--- The curves that grow phase by phase from the start are those of an equilibrium.
+-- The curves built phase by phase from the start are those of an equilibrium.
 use Rattle.std.proofs.Common.{◌≡◌, ℕ, ◌<◌, List, [], ◌∷◌, if◌then◌else◌, Bool, true, false, ⊎_elim, sym, ap, subst, refl, ◌∙◌}
 use Rattle.nf_rational.specs.Rational.{ℚ}
 use Rattle.nf_rational.specs.Operations.{0ℚ, ◌+ℚ◌, ◌-ℚ◌, ◌*ℚ◌}
@@ -65,7 +65,7 @@ first_stands : (points : List Point) (l z : ℚ) → points ≡ first_points l �
 first_stands points l z e f h = subst (λ (ps : List Point). LastPoint ps (z, value ps z)) (sym e)
     (subst (λ (y : ℚ). LastPoint (first_points l) (z, y)) (sym (first_value l z)) (subst (λ (a : ℚ). LastPoint (first_points l) (a, 0ℚ)) (sym f) (first_last l h)))
 
--- ---- what is known of curves that grow by phases
+-- ---- facts on curves built phase by phase
 pub record Grown (net : Network) (until : ℚ) (labels : List ℚ) (curves : Curves) : Type 0 where
   pub stands : Stands net until labels (at curves.inflows) (at curves.labels)
   pub curves_stand : CurvesStand net curves.inflows curves.labels until

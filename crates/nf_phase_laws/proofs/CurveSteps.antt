@@ -1,4 +1,4 @@
--- Curves that go on by one point each over a phase are a flow that goes on.
+-- Extending the curves over a phase by one point each extends the flow.
 use Rattle.std.proofs.Common.{◌≡◌, ℕ, ◌<◌, List, [], ◌∷◌, ◌++◌, ⊎_elim, sym, ap, subst, refl, ◌∙◌, append_assoc}
 use Rattle.nf_rational.specs.Rational.{ℚ}
 use Rattle.nf_rational.specs.Operations.{0ℚ, ◌+ℚ◌, ◌-ℚ◌, ◌*ℚ◌}
@@ -22,7 +22,7 @@ ends_at points p l = record { front = l.front; same = l.same; curve = l.curve }
 last_point : (points : List Point) (p : Point) → EndsAt points p → LastPoint points p
 last_point points p e = record { front = e.front; same = e.same; curve = e.curve }
 
--- the last point of a curve is its value then
+-- The last point of a curve gives its value at that time.
 pub LastPoint-at : (points : List Point) (q : Point) (z : ℚ) → LastPoint points q → q.0 ≡ z → LastPoint points (z, value points z)
 LastPoint-at points q z l d = subst (λ (r : Point). LastPoint points r) (same_point q.0 q.1 z (value points z) d (sym (EndsAt-value points q z (ends_at points q l) (≤ℚ_of_same _ _ d)))) l
   where
@@ -44,7 +44,7 @@ GoesOnTo-appended points p q l h = record {
     start : value (points ++ q ∷ []) p.0 ≡ p.1
     start = EndsAt-push_before points p q p.0 e h (EndsAt-nn points p e) (≤ℚ_refl p.0) ∙ EndsAt-value points p p.0 e (≤ℚ_refl p.0)
 
--- ---- one that takes the place of the last
+-- ---- a point that replaces the last one
 pub GoesOnTo-replaced : (front : List Point) (before last new : Point) → LastPoint (front ++ before ∷ last ∷ []) last → last.0 <ℚ new.0 → slope before last ≡ slope last new
     → GoesOnTo (front ++ before ∷ last ∷ []) (front ++ before ∷ new ∷ []) last new
 GoesOnTo-replaced front o p q l h e = record {
@@ -64,7 +64,7 @@ GoesOnTo-replaced front o p q l h e = record {
     same : (t : ℚ) → 0ℚ ≤ℚ t → value ((front ++ o ∷ p ∷ []) ++ q ∷ []) t ≡ value (front ++ o ∷ q ∷ []) t
     same t i = value-push_or_merge front o p q t appended.ends.curve e i
 
--- ---- what a curve that goes on gives: from (a, y) on for the length d, by l in time and by x in value
+-- ---- the facts that an extension gives: from (a, y) on for the length d, by l in time and by x in value
 pub GoesOnTo-slope : (points points' : List Point) (a y l x d : ℚ) → 0ℚ <ℚ d → GoesOnTo points points' (a, y) (a +ℚ l *ℚ d, y +ℚ x *ℚ d) → slope (a, y) (a +ℚ l *ℚ d, y +ℚ x *ℚ d) *ℚ l ≡ x
 GoesOnTo-slope points points' a y l x d h g = same_from_times d _ x h (by_length (slope (a, y) (a +ℚ l *ℚ d, y +ℚ x *ℚ d)) (slope-times (a, y) (a +ℚ l *ℚ d, y +ℚ x *ℚ d) g.later))
   where
@@ -94,7 +94,7 @@ module _ (net : Network) (inflows labels : ℕ → List Point) (until length : �
       (label_before v until h (until_nn v h, ≤ℚ_refl until))
       (label_slope until (at labels v until) (slope v) length _ some (slope-times (until, at labels v until) (until +ℚ length, at labels v until +ℚ slope v *ℚ length) g.later))
 
-  -- ---- inflows: where the tail's label moves and where it stands still
+  -- ---- inflows: the tail's label rises, or is constant
   by_tail : (e : ℕ) (link : Link) (P : List Point → Type 0) → IsLink net e link
       → (0ℚ <ℚ slope link.tail → P (inflows' e)) → (slope link.tail ≡ 0ℚ → P (inflows e)) → P (inflows' e)
   by_tail e link P p f g = ⊎_elim
@@ -145,7 +145,7 @@ module _ (net : Network) (inflows labels : ℕ → List Point) (until length : �
   pub GoesOn-curves : GoesOn net (at inflows) (at labels) until length flow slope (at inflows') (at labels')
   GoesOn-curves = record { label_before = label_before; label_after = label_after; amount_before = amount_before; amount_after = amount_after; amount_ends = amount_ends }
 
-  -- ---- where the new curves end
+  -- ---- the ends of the new curves
   stays_there : (a l : ℚ) → l ≡ 0ℚ → a ≡ a +ℚ l *ℚ length
   stays_there a l e = linear_eq (a ∷ l ∷ length ∷ []) (eq_times length e ∷ []) (search reading_of depth 12) tt tt
 

@@ -1,4 +1,4 @@
--- Outflows and queues that are described by departure are the outflows and queues of the links.
+-- Outflows and queues described by departure are the outflows and queues of the links.
 use Rattle.std.proofs.Common.{◌≡◌, ℕ, ◌<◌, List, [], ◌∷◌, ⊎_elim, Option, Some, None, sym, ap, subst, ◌∙◌}
 use Rattle.nf_rational.specs.Rational.{ℚ}
 use Rattle.nf_rational.specs.Operations.{0ℚ, ◌+ℚ◌, ◌-ℚ◌, ◌*ℚ◌}
@@ -129,7 +129,7 @@ module _ (net : Network) (amount label : ℕ → ℚ → ℚ) (until length rate
       (g (time -ℚ until) (linear_le (until ∷ time ∷ []) (le l ∷ []) (search reading_of depth 12) tt, linear_le (until ∷ time ∷ length ∷ []) (le w.1 ∷ []) (search reading_of depth 12) tt)))
       (lt_or_le_ℚ time until)
 
-  -- the label of a node up to the beginning of the phase, in the range in which nothing changes
+  -- The label of a node up to the beginning of the phase, where nothing changes.
   so_far : (v : ℕ) (time : ℚ) → v < net.nodes → Within 0ℚ until time → Within 0ℚ (label v until) (label v time)
   so_far v time h w = (held.label_not_negative net amount label until step.good step.holds v time h w, rises_on net amount label until length rate x slope amount' label' step v time h w)
 
@@ -192,7 +192,7 @@ module _ (net : Network) (amount label : ℕ → ℚ → ℚ) (until length rate
         goes.queue_before e link time p (sooner link.tail time (step.good.tails e link p) n) ∙ describes.queues_early e link time p n;
   }
 
--- ---- the laws by lists
+-- ---- the theorems by lists
 pub DescribesLinks-start : (net : Network) (labels : List ℚ) (amount label outflow queue : ℕ → ℚ → ℚ) → IsNetwork net → AreStartLabels net labels → IsStart net labels amount label
     → ((e : ℕ) (link : Link) (time : ℚ) → IsLink net e link → 0ℚ ≤ℚ time → outflow e time ≡ 0ℚ) → ((e : ℕ) (link : Link) (time : ℚ) → IsLink net e link → 0ℚ ≤ℚ time → queue e time ≡ 0ℚ)
     → DescribesLinks net amount label outflow queue 0ℚ

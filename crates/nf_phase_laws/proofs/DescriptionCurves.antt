@@ -1,4 +1,4 @@
--- Outflow and queue curves that go on by one point each over a phase are a description that goes on.
+-- Extending outflow and queue curves over a phase by one point each extends the description.
 use Rattle.std.proofs.Common.{◌≡◌, ℕ, List, [], ◌∷◌, ⊎_elim, sym, ap, subst, refl, ◌∙◌}
 use Rattle.nf_rational.specs.Rational.{ℚ}
 use Rattle.nf_rational.specs.Operations.{0ℚ, ◌+ℚ◌, ◌-ℚ◌, ◌*ℚ◌}
@@ -19,7 +19,7 @@ use Rattle.nf_phase_laws.specs.DescriptionCurves.{DescriptionStands, Description
 use Rattle.nf_phase_laws.proofs.CurveSteps.{ends_at, GoesOnTo-slope, LastPoint-at}
 use Rattle.nf_rational_laws.proofs.Chains.{≤ℚ_refl}
 
--- ---- a curve that goes on while time does: from a on for l d, to the value z
+-- ---- an extended curve while time increases: from a on for l d, to the value z
 module _ (points points' : List Point) (a z l d : ℚ) (not_back : 0ℚ ≤ℚ l) (stand : LastPoint points (a, value points a))
     (go : 0ℚ <ℚ l → GoesOnTo points points' (a, value points a) (a +ℚ l *ℚ d, z)) (stay : l ≡ 0ℚ → points' ≡ points) where
   by_slope : (P : List Point → Type 0) → (0ℚ <ℚ l → P points') → (l ≡ 0ℚ → P points) → P points'
@@ -81,7 +81,7 @@ module _ (net : Network) (amount label amount' label' : ℕ → ℚ → ℚ) (un
   whole : Within 0ℚ length length
   whole = (≤ℚ_of_lt _ _ some, ≤ℚ_refl length)
 
-  -- where the tail's label stands still, so does the queue
+  -- If the tail's label is constant, the queue is constant.
   slack_now : (b a d c r : ℚ) → b ≡ d → a ≡ c → b -ℚ (a +ℚ r) ≡ d -ℚ (c +ℚ r)
   slack_now b a d c r e f = linear_eq (b ∷ a ∷ d ∷ c ∷ r ∷ []) (eq e ∷ eq f ∷ []) (search reading_of depth 12) tt tt
 

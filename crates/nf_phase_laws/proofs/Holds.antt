@@ -1,4 +1,4 @@
--- A flow of which the invariant of phases holds is a Nash flow over time.
+-- A flow that satisfies the invariant of phases is a Nash flow over time.
 use Rattle.std.proofs.Common.{◌≡◌, ◌≢◌, ℕ, ◌<◌, ◌≤◌, [], ◌∷◌, length, get_or, slice_get, ⊎_elim, Option, Some, None, sym, ap, subst, refl, ◌∙◌, arith}
 use Rattle.std.proofs.lemmas.Option.{slice_get_within, slice_get_cases}
 use Rattle.nf_rational.specs.Rational.{ℚ}
@@ -23,7 +23,7 @@ use Rattle.nf_phase_laws.specs.Invariant.{link_slack, queue_by_slack, tail_or, s
 use Rattle.nf_phase_laws.proofs.Idle.{max0_cases, waiting-by_slack, IsQueue-before_any}
 use Rattle.nf_rational_laws.proofs.Chains.{≤ℚ_refl, ≤ℚ_trans}
 
--- what is sent into a link, by its tail
+-- The amount sent into a link, by its tail.
 pub sent-is : (net : Network) (amount label : ℕ → ℚ → ℚ) (e : ℕ) (link : Link) (departure : ℚ) → IsLink net e link → sent net amount label e departure ≡ amount e (label link.tail departure)
 sent-is net amount label e link departure p = ap (λ (o : Option Link). amount e (label (tail_or o) departure)) p
 
@@ -45,7 +45,7 @@ just_then a b r m e h = max0_cases (b -ℚ (a +ℚ r)) m e
     (λ f _. linear_eq (a ∷ b ∷ r ∷ m ∷ []) (eq f ∷ []) (search reading_of depth 12) tt tt)
     (λ f k. absurd (not_both_ℚ _ _ k h))
 
--- nothing has entered, so nothing waits: f, g and z the amounts at a, at t and at 0, c the capacity
+-- Nothing has entered, so nothing waits: f, g and z are the amounts at a, at t and at 0, and c is the capacity.
 empty : (f g z c a t m : ℚ) → f ≡ 0ℚ → z ≡ 0ℚ → z ≤ℚ g → 0ℚ ≤ℚ c → t ≤ℚ a → f -ℚ g -ℚ c *ℚ (a -ℚ t) ≡ c *ℚ m → c *ℚ m ≤ℚ c *ℚ 0ℚ
 empty f g z c a t m d e h low k i = linear_le (f ∷ g ∷ z ∷ c ∷ a ∷ t ∷ m ∷ []) (eq d ∷ eq e ∷ le h ∷ le_times low k ∷ eq i ∷ []) (search reading_of depth 12) tt
 
@@ -105,7 +105,7 @@ module _ (net : Network) (amount label : ℕ → ℚ → ℚ) (until : ℚ) (goo
   pub labels_earliest : (v : ℕ) (departure : ℚ) → v < net.nodes → Within 0ℚ until departure → IsEarliest net amount v departure (label v departure)
   labels_earliest v departure h w = IsEarliest-label net amount departure (λ v. label v departure) good holds.amount_rises (AreLabels-at departure w) v h
 
-  -- ---- outflows: what entered by a departure has come out by the label of the head
+  -- ---- outflows: the amount that entered by a departure has left by the label of the head
   slack_start : (e : ℕ) (link : Link) → IsLink net e link → link_slack label link 0ℚ ≤ℚ 0ℚ
   slack_start e link p = wait_none link.capacity (amount e) (label link.tail 0ℚ) _ (positive e link p) (amount_rises e link p) (amount_starts e link p)
       (sym (sent-is net amount label e link 0ℚ p) ∙ holds.sent_starts e link p) (λ none. holds.unbounded e link 0ℚ p none first) (holds.queue e link 0ℚ p first)
@@ -144,7 +144,7 @@ module _ (net : Network) (amount label : ℕ → ℚ → ℚ) (until : ℚ) (goo
       (λ (l : link_slack label link departure ≤ℚ 0ℚ). outflow_unused e link departure p w l)
       (lt_or_le_ℚ 0ℚ (link_slack label link departure))
 
-  -- ---- before the first arrival at a link's head nothing comes out
+  -- ---- before the first arrival at a link's head nothing leaves it
   pub none_yet : (e : ℕ) (link : Link) (time : ℚ) → IsLink net e link → 0ℚ ≤ℚ time → time ≤ℚ label link.tail 0ℚ → amount e time ≡ 0ℚ
   none_yet e link time p h k = ≤ℚ_antisymm _ _
       (subst (λ (x : ℚ). amount e time ≤ℚ x) (sym (sent-is net amount label e link 0ℚ p) ∙ holds.sent_starts e link p) (amount_rises e link p time (label link.tail 0ℚ) h k))

@@ -21,7 +21,7 @@ max0_cases s m e f g = ⊎_elim
     (λ (w : (max_ℚ 0ℚ s ≡ s) × (0ℚ ≤ℚ s)). f (e ∙ w.0) w.1)
     (λ (w : (max_ℚ 0ℚ s ≡ 0ℚ) × (s <ℚ 0ℚ)). g (e ∙ w.0) w.1) (max_ℚ_cases 0ℚ s)
 
--- ---- who meets the queue of a slack waits for the slack
+-- ---- a particle that meets the queue of a slack waits for the slack
 times-quotient : (c m : ℚ) → 0ℚ <ℚ c → c *ℚ m /ℚ c ≡ m
 times-quotient c m h = same_from_times c _ m h (turn (c *ℚ m /ℚ c) c (c *ℚ m) (quotient-times (c *ℚ m) c h))
   where
@@ -52,7 +52,7 @@ IsQueue-stays_empty None amount start time c h same q = IsQueue-none amount time
 IsQueue-stays_empty (Some rate) amount start time c h same q =
     IsQueue-step_empty rate amount start time 0ℚ 0ℚ (record { line = λ t i j. level _ _ start t (same t i j) }) q time h (≤ℚ_refl time) (empties rate time start (≤ℚ_of_lt _ _ (c rate refl)) h)
 
--- where nothing has entered so far, nothing waits
+-- If nothing has entered so far, nothing waits.
 pub IsQueue-before_any : (capacity : Option ℚ) (amount : ℚ → ℚ) (time : ℚ) → IsPositive capacity → 0ℚ ≤ℚ time
     → ((t : ℚ) → 0ℚ ≤ℚ t → t ≤ℚ time → amount t ≡ amount 0ℚ) → IsQueue capacity amount time 0ℚ
 IsQueue-before_any capacity amount time c h same = IsQueue-stays_empty capacity amount 0ℚ time c h same (IsQueue-at_0 capacity amount)

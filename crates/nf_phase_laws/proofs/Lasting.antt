@@ -1,4 +1,4 @@
--- A phase by lists: its thin flow, its length and the supply during it, in the form that the step takes.
+-- A phase by lists: its thin flow, its length and the supply during it, in the form that the step theorem requires.
 use Rattle.std.proofs.Common.{◌≡◌, ℕ, List, [], ◌∷◌, sym, subst, ◌∙◌}
 use Rattle.nf_rational.specs.Rational.{ℚ}
 use Rattle.nf_rational.specs.Operations.{0ℚ, ◌+ℚ◌, ◌-ℚ◌, ◌*ℚ◌}
@@ -17,7 +17,7 @@ use Rattle.nf_phase_laws.proofs.Thin.{slack-is, IsThinBy-of}
 use Rattle.nf_phase_laws.proofs.Phase.{PhaseStep, HoldsUpTo-phase}
 use Rattle.nf_rational_laws.proofs.Chains.{≤ℚ_trans}
 
--- the supply grows at its rate, as long as no piece starts
+-- The supply grows at its rate while no piece starts.
 pub supply-lasts : (net : Network) (slacks slopes : List ℚ) (until length : ℚ) → IsNetwork net → Lasts net slacks slopes until length → (t : ℚ) → Within 0ℚ length t
     → supply net (until +ℚ t) ≡ supply net until +ℚ rate_at net until *ℚ t
 supply-lasts net slacks slopes until length good lasts t w =

@@ -1,4 +1,4 @@
--- Phases take time: from any slacks and slopes on a phase may last for some time.
+-- Phases have positive length: from any slacks and slopes on a phase can last for some time.
 use Rattle.std.proofs.Common.{◌≡◌, ℕ, zero, suc, List, [], ◌∷◌, inl, inr, ⊎_elim, Some, slice_get, sym, subst, refl}
 use Rattle.nf_rational.specs.Rational.{ℚ}
 use Rattle.nf_rational.specs.Operations.{0ℚ, 1ℚ, ◌+ℚ◌, ◌-ℚ◌, ◌*ℚ◌, ◌/ℚ◌}
@@ -15,7 +15,7 @@ use Rattle.nf_model_laws.proofs.Affine.{<_≤_trans, quotient-times}
 use Rattle.nf_rational_laws.proofs.Chains.{≤ℚ_trans}
 use Rattle.nf_rational_laws.proofs.Extremes.{min_left, min_right, min_keeps}
 
--- ---- some time that fits each entry of a list fits all of them
+-- ---- if each entry of a list allows some time, some time is allowed by all of them
 pub record Fitting {A : Type 0} (xs : List A) (Fits : ℕ → A → ℚ → Type 0) : Type 0 where
   pub time : ℚ
   pub some : 0ℚ <ℚ time
@@ -86,7 +86,7 @@ keeps_side z k = ⊎_elim
     over : (w : ℚ) → w *ℚ (0ℚ -ℚ k) ≤ℚ z → 0ℚ ≤ℚ z +ℚ w *ℚ k
     over w e = linear_le (z ∷ k ∷ w ∷ []) (le e ∷ []) (search reading_of depth 12) tt
 
--- ---- a phase may last for some time
+-- ---- a phase can last for some time
 module _ (net : Network) (slacks slopes : List ℚ) (time : ℚ) where
   abbrev LinkFits : ℕ → Link → ℚ → Type 0
   LinkFits e link length = KeepsSide (number_at slacks e) (number_at slopes link.head -ℚ number_at slopes link.tail) length

@@ -1,4 +1,4 @@
--- One phase keeps the invariant: what holds up to a time holds up to the end of a phase that begins then.
+-- A phase preserves the invariant: if it holds up to a departure, it holds up to the end of a phase that begins there.
 use Rattle.std.proofs.Common.{◌≡◌, ◌≢◌, ℕ, ◌<◌, [], ◌∷◌, ⊎_elim, Option, None, sym, ap, subst, refl, ◌∙◌}
 use Rattle.std.proofs.lemmas.Option.{slice_get_within}
 use Rattle.nf_rational.specs.Rational.{ℚ}
@@ -26,7 +26,7 @@ use Rattle.nf_phase_laws.proofs.QueueCases.{LinkStep, IsQueue-by_slack, unused_b
 use Rattle.nf_phase_laws.proofs.Rising.{NeverFalls-goes_on}
 use Rattle.nf_rational_laws.proofs.Chains.{≤ℚ_refl, ≤ℚ_trans}
 
--- what is known of a phase
+-- Facts on a phase.
 pub record PhaseStep (net : Network) (amount label : ℕ → ℚ → ℚ) (until length rate : ℚ) (x slope : ℕ → ℚ) (amount' label' : ℕ → ℚ → ℚ) : Type 0 where
   pub good : IsNetwork net
   pub holds : HoldsUpTo net amount label until
@@ -62,7 +62,7 @@ on_the_line f v a l t r x y e i g = linear_eq (f ∷ v ∷ a ∷ l ∷ t ∷ r �
 still_nn : (s m l t : ℚ) → 0ℚ ≤ℚ s → l ≤ℚ m → 0ℚ ≤ℚ t → 0ℚ ≤ℚ s +ℚ (m -ℚ l) *ℚ t
 still_nn s m l t h k j = linear_le (s ∷ m ∷ l ∷ t ∷ []) (le h ∷ le_times j k ∷ []) (search reading_of depth 12) tt
 
--- without flow the amount stays what it is
+-- Without flow the amount is constant.
 flat : (f y r a l t z : ℚ) → f ≡ y +ℚ r *ℚ (z -ℚ a) → r *ℚ l ≡ 0ℚ → 0ℚ ≤ℚ l → a <ℚ z → z ≤ℚ a +ℚ l *ℚ t → f ≡ y
 flat f y r a l t z e g n h k = ⊎_elim
     (λ (u : 0ℚ <ℚ l). let d : r ≡ 0ℚ = same_from_times l r 0ℚ u (linear_eq (r ∷ l ∷ []) (eq g ∷ []) (search reading_of depth 12) tt tt) in
@@ -97,7 +97,7 @@ has_flow y x s t a b n e f h = ⊎_elim (λ (k : 0ℚ <ℚ x). k)
 lt_along : (a b c d : ℚ) → a ≡ b → c ≡ d → a <ℚ c → b <ℚ d
 lt_along a b c d e f h = linear_lt (a ∷ b ∷ c ∷ d ∷ []) (eq e ∷ eq f ∷ lt h ∷ []) (search reading_of depth 12) tt
 
--- both sides of a sum that is kept: i and o at first, j and k by time, and u and r beside them
+-- Both sides of a preserved sum: i and o at first, j and k by time, and u and r beside them.
 both_inner : (i' o' i o j k t : ℚ) → i' ≡ i +ℚ j *ℚ t → o' ≡ o +ℚ k *ℚ t → i ≡ o → j ≡ k → i' ≡ o'
 both_inner i' o' i o j k t a b c d = linear_eq (i' ∷ o' ∷ i ∷ o ∷ j ∷ k ∷ t ∷ []) (eq a ∷ eq b ∷ eq c ∷ eq_times t d ∷ []) (search reading_of depth 12) tt tt
 
@@ -192,7 +192,7 @@ module _ (net : Network) (amount label : ℕ → ℚ → ℚ) (until length rate
     above = λ h. subst (λ (n : ℚ). 0ℚ ≤ℚ n) (sym (slack_after e link t p w)) (step.above e link t p h w);
   }
 
-  -- ---- what is sent
+  -- ---- the amounts sent
   past : (e : ℕ) (link : Link) (t : ℚ) → Within 0ℚ length t → label link.tail until ≤ℚ label link.tail until +ℚ slope link.tail *ℚ t
   past e link t w = after_start (label link.tail until) (slope link.tail) t _ (step.thin.slope_nn link.tail) w.0 refl
 
@@ -250,7 +250,7 @@ module _ (net : Network) (amount label : ℕ → ℚ → ℚ) (until length rate
   queue : (e : ℕ) (link : Link) (time : ℚ) → IsLink net e link → Within 0ℚ (until +ℚ length) time → QueueAt e link time
   queue e link time p w = by_time (λ time. QueueAt e link time) (λ time w. queue_before e link time p w) (λ t w. queue_after e link t p w) time w
 
-  -- no slack of an unbounded link gets above 0
+  -- No slack of an unbounded link rises above 0.
   unbounded : (e : ℕ) (link : Link) (time : ℚ) → IsLink net e link → link.capacity ≡ None → Within 0ℚ (until +ℚ length) time → link_slack label' link time ≤ℚ 0ℚ
   unbounded e link time p none w = by_time (λ time. link_slack label' link time ≤ℚ 0ℚ)
       (λ time w. subst (λ (s : ℚ). s ≤ℚ 0ℚ) (sym (slack_before e link time p w)) (step.holds.unbounded e link time p none w))
@@ -284,11 +284,11 @@ module _ (net : Network) (amount label : ℕ → ℚ → ℚ) (until length rate
       (λ time w. entered_before v time w (step.holds.entered v time h other w))
       (λ t w. entered_after v t w (step.thin.entered v h other)) time w
 
-  -- ---- where a link isn't used
+  -- ---- a link that isn't used
   unused : (e : ℕ) (link : Link) (t : ℚ) → IsLink net e link → Within 0ℚ length t → link_slack label' link (until +ℚ t) <ℚ 0ℚ → (link_slack label link until ≤ℚ 0ℚ) × (x e ≡ 0ℚ)
   unused e link t p w n = unused_below link.capacity _ _ (x e) (slope link.tail) (slope link.head) t (link_step e link t p w) n
 
-  -- from the time on from which a link without flow would have to be used
+  -- From the time on from which a link without flow would have to be used.
   idle_amount : (e : ℕ) (link : Link) (t z : ℚ) → IsLink net e link → Within 0ℚ length t → link_slack label link until ≤ℚ 0ℚ → x e ≡ 0ℚ
       → 0ℚ ≤ℚ z → label link.head until -ℚ link.transit ≤ℚ z → z ≤ℚ label link.tail until +ℚ slope link.tail *ℚ t → amount' e z ≡ old_sent e until
   idle_amount e link t z p w s f h i j = ⊎_elim
@@ -326,7 +326,7 @@ module _ (net : Network) (amount label : ℕ → ℚ → ℚ) (until length rate
   idle : (e : ℕ) (link : Link) (time : ℚ) → IsLink net e link → Within 0ℚ (until +ℚ length) time → IdleAt e link time
   idle e link time p w = by_time (λ time. IdleAt e link time) (λ time w. idle_before e link time p w) (λ t w. idle_after e link t p w) time w
 
-  -- ---- a queue that is empty stays so without inflow
+  -- ---- an empty queue stays empty without inflow
   idle_from : (e : ℕ) (link : Link) (t start z : ℚ) → IsLink net e link → Within 0ℚ length t → link_slack label link until ≤ℚ 0ℚ → x e ≡ 0ℚ
       → 0ℚ ≤ℚ start → label link.head until -ℚ link.transit ≤ℚ start → start ≤ℚ z → z ≤ℚ label link.tail until +ℚ slope link.tail *ℚ t
       → IsQueue link.capacity (amount' e) start 0ℚ → IsQueue link.capacity (amount' e) z 0ℚ
@@ -367,7 +367,7 @@ module _ (net : Network) (amount label : ℕ → ℚ → ℚ) (until length rate
       (queue_after e link t p w)))
       (lt_or_le_ℚ (link_slack label' link (until +ℚ t)) 0ℚ)
 
-  -- ---- what is used is active
+  -- ---- a used link is active
   with_flow : (e : ℕ) (link : Link) (t : ℚ) → IsLink net e link → Within 0ℚ length t → 0ℚ <ℚ x e → 0ℚ ≤ℚ link_slack label' link (until +ℚ t)
   with_flow e link t p w f = ⊎_elim
       (λ (n : link_slack label' link (until +ℚ t) <ℚ 0ℚ). absurd (not_both_ℚ _ _ f (≤ℚ_of_same _ _ (unused e link t p w n).1)))

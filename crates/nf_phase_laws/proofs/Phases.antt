@@ -1,4 +1,4 @@
--- Phase by phase the invariant is kept.
+-- Each phase preserves the invariant.
 use Rattle.std.proofs.Common.{◌≡◌, ℕ, List, [], ◌∷◌, length, inl, inr, ⊎_elim, sym, ap, subst, ◌∙◌}
 use Rattle.nf_rational.specs.Rational.{ℚ}
 use Rattle.nf_rational.specs.Operations.{0ℚ, ◌+ℚ◌, ◌-ℚ◌, ◌*ℚ◌}
@@ -20,7 +20,7 @@ use Rattle.nf_phase_laws.proofs.Lasting.{HoldsUpTo-lasts}
 use Rattle.nf_rational_laws.proofs.Chains.{≤ℚ_refl, ≤ℚ_trans}
 use Rattle.nf_rational_laws.proofs.Extremes.{min_left}
 
--- what may last for a length may last for less
+-- If a phase can have a length, it can have each smaller one.
 pub Lasts-shorter : (net : Network) (slacks slopes : List ℚ) (time long short : ℚ) → Lasts net slacks slopes time long → 0ℚ ≤ℚ short → short ≤ℚ long → Lasts net slacks slopes time short
 Lasts-shorter net slacks slopes time long short l h k = record {
   not_negative = h;
@@ -29,7 +29,7 @@ Lasts-shorter net slacks slopes time long short l h k = record {
   supply = λ i piece p a. ≤ℚ_trans _ _ _ (linear_le (time ∷ long ∷ short ∷ []) (le k ∷ []) (search reading_of depth 12) tt) (l.supply i piece p a);
 }
 
--- a phase may last for its length
+-- A phase can have its length.
 pub Lasts-phase : (net : Network) (slacks slopes : List ℚ) (time horizon length : ℚ) → time <ℚ horizon → IsPhaseLength net slacks slopes time horizon length → Lasts net slacks slopes time length
 Lasts-phase net slacks slopes time horizon length b (inl (x, x_is, e)) = ⊎_elim
     (λ (w : (min_ℚ (horizon -ℚ time) x ≡ horizon -ℚ time) × (horizon -ℚ time ≤ℚ x)).
@@ -39,7 +39,7 @@ Lasts-phase net slacks slopes time horizon length b (inl (x, x_is, e)) = ⊎_eli
     (min_ℚ_cases (horizon -ℚ time) x)
 Lasts-phase net slacks slopes time horizon length b (inr (u, e)) = u length (linear_le (time ∷ horizon ∷ length ∷ []) (eq e ∷ lt b ∷ []) (search reading_of depth 12) tt)
 
--- no phase goes beyond its horizon
+-- No phase extends beyond its horizon.
 pub IsPhaseLength-within : (net : Network) (slacks slopes : List ℚ) (time horizon length : ℚ) → IsPhaseLength net slacks slopes time horizon length → time +ℚ length ≤ℚ horizon
 IsPhaseLength-within net slacks slopes time horizon length (inl (x, _, e)) =
     up_to time horizon (min_ℚ (horizon -ℚ time) x) length e (min_left (horizon -ℚ time) x)
@@ -48,7 +48,7 @@ IsPhaseLength-within net slacks slopes time horizon length (inl (x, _, e)) =
     up_to t h m l e k = linear_le (t ∷ h ∷ m ∷ l ∷ []) (eq e ∷ le k ∷ []) (search reading_of depth 12) tt
 IsPhaseLength-within net slacks slopes time horizon length (inr (_, e)) = linear_le (time ∷ horizon ∷ length ∷ []) (eq e ∷ []) (search reading_of depth 12) tt
 
--- ---- what is known of a flow that goes by phases
+-- ---- facts on a flow built phase by phase
 pub record Stands (net : Network) (until : ℚ) (labels : List ℚ) (amount label : ℕ → ℚ → ℚ) : Type 0 where
   pub holds : HoldsUpTo net amount label until
   pub same : LabelsAre net label until labels

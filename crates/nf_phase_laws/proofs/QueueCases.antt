@@ -1,5 +1,5 @@
--- The queue of a link over one phase. Here c is the capacity, s the slack at the beginning and n after the time t by departure, l and
--- m the slopes at the tail and the head, x the flow by departure and r by time.
+-- The queue of a link over one phase. Here c is the capacity, s the slack at the beginning and n the slack after the time t by departure.
+-- The slopes at tail and head are l and m; the flow is x by departure and r by time.
 use Rattle.std.proofs.Common.{◌≡◌, [], ◌∷◌, ◌⊎◌, ⊎_elim, Option, Some, None, sym, subst, refl}
 use Rattle.nf_rational.specs.Rational.{ℚ}
 use Rattle.nf_rational.specs.Operations.{0ℚ, ◌+ℚ◌, ◌-ℚ◌, ◌*ℚ◌}
@@ -24,7 +24,7 @@ queue_goal r c l x q t y e f a = linear_eq (r ∷ c ∷ l ∷ x ∷ q ∷ t ∷ 
 queue_goal_le : (r c l x q t : ℚ) → r *ℚ l ≡ x → q +ℚ (x -ℚ c *ℚ l) *ℚ t ≤ℚ 0ℚ → (a : ℚ) → q +ℚ (r -ℚ c) *ℚ ((a +ℚ l *ℚ t) -ℚ a) ≤ℚ 0ℚ
 queue_goal_le r c l x q t e f a = linear_le (r ∷ c ∷ l ∷ x ∷ q ∷ t ∷ a ∷ []) (eq_times t e ∷ le f ∷ []) (search reading_of depth 12) tt
 
--- the queue q either goes on by x - c l, and is c n at least 0; or it is 0, with n at most 0
+-- The queue q changes by x - c l and is c n, at least 0; or it is 0, and n is at most 0.
 data QueueCase (c l x q t n : ℚ) : Type 0 where
   runs : 0ℚ ≤ℚ n → c *ℚ n ≡ q +ℚ (x -ℚ c *ℚ l) *ℚ t → QueueCase c l x q t n
   stays : n ≤ℚ 0ℚ → q +ℚ (x -ℚ c *ℚ l) *ℚ t ≤ℚ 0ℚ → QueueCase c l x q t n
@@ -53,7 +53,7 @@ tight_used c s l m x t n h j d e u v w = ⊎_elim
     same : x ≡ c *ℚ m → c *ℚ n ≡ c *ℚ s +ℚ (x -ℚ c *ℚ l) *ℚ t
     same g = linear_eq (c ∷ s ∷ l ∷ m ∷ x ∷ t ∷ n ∷ []) (eq_times t g ∷ eq_times c e ∷ []) (search reading_of depth 12) tt tt
 
--- and without
+-- A link with slack 0, without flow.
 tight_unused : (c s l m x t n : ℚ) → 0ℚ <ℚ c → 0ℚ ≤ℚ l → 0ℚ ≤ℚ t → s ≡ 0ℚ → n ≡ s +ℚ (m -ℚ l) *ℚ t → x ≡ 0ℚ → (m ≤ℚ l) ⊎ (c *ℚ m ≤ℚ x) → QueueCase c l x (c *ℚ s) t n
 tight_unused c s l m x t n h i j d e f w =
     queue_inactive c (c *ℚ s) l x t n (≤ℚ_of_lt _ _ h) i j (linear_eq (c ∷ s ∷ []) (eq_times c d ∷ []) (search reading_of depth 12) tt tt) f
@@ -69,7 +69,7 @@ queue_tight c s l m x t n h i j k d e p = ⊎_elim
     (λ (g : x ≤ℚ 0ℚ). tight_unused c s l m x t n h i j d e (≤ℚ_antisymm _ _ g k) (p.upper c refl (≤ℚ_of_same _ _ d)))
     (lt_or_le_ℚ 0ℚ x)
 
--- what is known of a link over a phase
+-- Facts on a link over a phase.
 pub record LinkStep (capacity : Option ℚ) (s n x l m t : ℚ) : Type 0 where
   pub positive : IsPositive capacity
   pub slope_nn : 0ℚ ≤ℚ l
@@ -108,7 +108,7 @@ by_case c f a end r l x t q n pos e line h k before (stays i d) = subst (λ (y :
     times_none : (c m : ℚ) → m ≡ 0ℚ → 0ℚ ≡ c *ℚ m
     times_none c m e = linear_eq (c ∷ m ∷ []) (eq_times c e ∷ []) (search reading_of depth 12) tt tt
 
--- ---- the queue that is met stays that of the slack
+-- ---- the queue that a particle meets stays that of the slack
 pub IsQueue-by_slack : (capacity : Option ℚ) (f : ℚ → ℚ) (a end r s n x l m t : ℚ) → LinkStep capacity s n x l m t → r *ℚ l ≡ x → IsAffine f a end r → a ≤ℚ a +ℚ l *ℚ t → a +ℚ l *ℚ t ≤ℚ end
     → IsQueue capacity f a (queue_by_slack capacity s) → IsQueue capacity f (a +ℚ l *ℚ t) (queue_by_slack capacity n)
 IsQueue-by_slack None f a end r s n x l m t k e line h j before = IsQueue-none f (a +ℚ l *ℚ t)

@@ -11,7 +11,7 @@ use Rattle.nf_model_laws.specs.Affine.{IsAffine}
 use Rattle.nf_model_laws.proofs.Affine.{le_from_times}
 use Rattle.nf_rational_laws.proofs.Chains.{≤ℚ_refl, ≤ℚ_trans}
 
--- over plain numbers: from a on at the rate r for the time l d, where r l = x
+-- Plain numbers: from a on at the rate r for the time l d, where r l = x.
 rate_nn : (r l x : ℚ) → 0ℚ <ℚ l → r *ℚ l ≡ x → 0ℚ ≤ℚ x → 0ℚ ≤ℚ r
 rate_nn r l x h e n = le_from_times l 0ℚ r h (linear_le (r ∷ l ∷ x ∷ []) (eq e ∷ le n ∷ []) (search reading_of depth 12) tt)
 

@@ -41,7 +41,7 @@ module _ (net : Network) (labels : List ℚ) (amount label : ℕ → ℚ → ℚ
       let l : IsLeastTransit (hops net) net.source v (number_at labels v) = least.each v h in
       subst (λ (a : ℚ). 0ℚ ≤ℚ a) (l.taken.2 ∙ sym (start.labels_are v h)) (transit_sum-not_negative net good l.taken.0 net.source v l.taken.1)
 
-  -- the only departure so far
+  -- The only departure so far.
   pub at_first : (P : ℚ → Type 0) → P 0ℚ → (departure : ℚ) → Within 0ℚ 0ℚ departure → P departure
   at_first P p departure w = subst P (≤ℚ_antisymm _ _ w.0 w.1) p
 

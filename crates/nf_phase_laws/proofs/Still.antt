@@ -1,5 +1,5 @@
--- In a thin flow a node whose label stands still is passed by no flow. Else flow would come in, and on an unbounded link alone, whose
--- tail's label stands still too; and so back without end along active links, which close no circle.
+-- In a thin flow no flow passes a node with a constant label. Otherwise flow would enter it, and only on an unbounded link, whose tail also
+-- has a constant label. Repeating this leads back along active links without end, but these close no cycle.
 use Rattle.std.proofs.Common.{◌≡◌, ◌≢◌, ℕ, ◌<◌, List, [], ◌∷◌, ◌⊎◌, inr, ⊎_elim, Bool, true, false, eqb, Option, Some, None, slice_get, sym, ap, subst, refl, ◌∙◌}
 use Rattle.std.proofs.lemmas.Bool.Decides.{eqb_tells}
 use Rattle.nf_rational.specs.Rational.{ℚ}
@@ -23,7 +23,7 @@ use Rattle.nf_model_laws.proofs.Sums.{sum_out-each, sum_in-some}
 use Rattle.nf_model_laws.proofs.Totals.{IsThinFlow-sink}
 use Rattle.nf_rational_laws.proofs.Chains.{≤ℚ_trans}
 
--- ---- a link with flow whose exit stands still is unbounded, and its tail stands still
+-- ---- a link with flow whose exit slope is 0 is unbounded, and the label of its tail is constant
 no_quotient : (x c q : ℚ) → 0ℚ <ℚ c → 0ℚ <ℚ x → q *ℚ c ≡ x → q ≤ℚ 0ℚ → ⊥
 no_quotient x c q h k e l = let low : 0ℚ ≤ℚ c = ≤ℚ_of_lt _ _ h in linear_false (x ∷ c ∷ q ∷ []) (lt k ∷ eq e ∷ le_times low l ∷ []) (search reading_of depth 12) tt
 

@@ -1,4 +1,4 @@
--- A thin flow for the sets of the slacks, link by link, in the form that a phase takes.
+-- A thin flow for the sets of the slacks, link by link, in the form that a phase requires.
 use Rattle.std.proofs.Common.{◌≡◌, ◌≢◌, ℕ, ◌<◌, List, [], ◌∷◌, ◌⊎◌, inl, inr, ⊎_elim, Bool, true, false, Option, Some, None, slice_get, sym, ap, subst, refl, ◌∙◌}
 use Rattle.std.specs.Prelude.{unwrap_or}
 use Rattle.nf_rational.specs.Rational.{ℚ}
@@ -86,7 +86,7 @@ LinkLaw-of resets None s x l m h n i above_0 none low u = record {
 }
 LinkLaw-of resets (Some c) s x l m h n i above_0 none low u = LinkLaw-bounded resets c s x l m (h c refl) n i above_0 none low u
 
--- on a link that is not resetting the exit slope is at least that of the tail
+-- On a link that is not resetting the exit slope is at least the tail's slope.
 pub exit_slope-tail : (capacity : Option ℚ) (x l : ℚ) → l ≤ℚ exit_slope false capacity x l
 exit_slope-tail None x l = ≤ℚ_refl l
 exit_slope-tail (Some c) x l = max_left l (x /ℚ c)
@@ -104,7 +104,7 @@ pub record IsThinBy (net : Network) (slack : Link → ℚ) (rate : ℚ) (x slope
   pub supplied : sum_in net.links x net.source +ℚ rate ≡ sum_out net.links x net.source
   pub drained : sum_in net.links x net.sink ≡ sum_out net.links x net.sink +ℚ rate
 
--- ---- who walks takes the transit times at least
+-- ---- a walk takes at least its transit times
 Arrives-after : (net : Network) (amount : ℕ → ℚ → ℚ) → IsNetwork net → (walk : List ℕ) (time arrival : ℚ) → Arrives net amount walk time arrival → time +ℚ transit_sum (hops net) walk ≤ℚ arrival
 Arrives-after net amount good [] time arrival a = none time arrival a
   where
@@ -121,7 +121,7 @@ module _ (net : Network) (amount label : ℕ → ℚ → ℚ) (until : ℚ) (lab
   now : Within 0ℚ until until
   now = (holds.begun, ≤ℚ_refl until)
 
-  -- no active link leads into the source: else a walk there and back would take no time
+  -- No active link leads into the source: otherwise a walk to its tail and back would take no time.
   no_time : (a b u r q t : ℚ) → b ≡ u → 0ℚ ≤ℚ b -ℚ (a +ℚ r) → u +ℚ t ≤ℚ a → q ≡ r → 0ℚ <ℚ q +ℚ t → ⊥
   no_time a b u r q t e h k f c = linear_false (a ∷ b ∷ u ∷ r ∷ q ∷ t ∷ []) (eq e ∷ le h ∷ le k ∷ eq f ∷ lt c ∷ []) (search reading_of depth 12) tt
 

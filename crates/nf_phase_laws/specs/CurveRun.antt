@@ -1,4 +1,4 @@
--- Curves that grow phase by phase from the start.
+-- Curves that are extended phase by phase from the start.
 use Rattle.std.specs.Prelude.{◌≡◌, ℕ, ◌<◌, if◌then◌else◌, List, [], ◌∷◌}
 use Rattle.nf_rational.specs.Rational.{ℚ}
 use Rattle.nf_rational.specs.Operations.{0ℚ}
@@ -11,26 +11,26 @@ use Rattle.nf_model.specs.Equilibrium.{Flow, points_at, points_of, HasShape, Has
 use Rattle.nf_phase_laws.specs.CurveSteps.{at, CurvesGoOn}
 use Rattle.nf_phase_laws.specs.DescriptionCurves.{DescriptionCurvesGoOn}
 
--- the curves of the nodes and of the links, by their numbers
+-- The curves of the nodes and links, by their numbers.
 pub record Curves : Type 0 where
   pub labels : ℕ → List Point
   pub inflows : ℕ → List Point
   pub outflows : ℕ → List Point
   pub queues : ℕ → List Point
 
--- a curve at a node begins with 0 at time 0, and stays 0 until the label of departure 0 there
+-- The first curve of an inflow, outflow or queue: 0 from time 0 until the label of departure 0.
 abbrev pub first_points : ℚ → List Point
 first_points label = if lt_ℚ 0ℚ label then (0ℚ, 0ℚ) ∷ (label, 0ℚ) ∷ [] else (0ℚ, 0ℚ) ∷ []
 
--- before the first phase, with these labels of departure 0
+-- The curves before the first phase, where `labels` are the labels of departure 0.
 pub record FirstCurves (net : Network) (labels : List ℚ) (curves : Curves) : Type 0 where
   pub label_curves : (v : ℕ) → v < net.nodes → curves.labels v ≡ (0ℚ, number_at labels v) ∷ []
   pub inflows : (e : ℕ) (link : Link) → IsLink net e link → curves.inflows e ≡ first_points (number_at labels link.tail)
   pub outflows : (e : ℕ) (link : Link) → IsLink net e link → curves.outflows e ≡ first_points (number_at labels link.head)
   pub queues : (e : ℕ) (link : Link) → IsLink net e link → curves.queues e ≡ first_points (number_at labels link.tail)
 
--- Curves up to a time, with the labels then: first those of the least transit sums; and in each phase, to a horizon of its own, each
--- curve goes on by a point, as the phase's thin flow and length say.
+-- The curves up to a departure, with the labels there. The first labels are the least transit sums. Each phase, with its own horizon,
+-- extends each curve by one point, according to its thin flow and length.
 pub data GrowByPhases (net : Network) : ℚ → List ℚ → Curves → Type 0 where
   begin : (labels : List ℚ) (curves : Curves) → AreStartLabels net labels → FirstCurves net labels curves
       → GrowByPhases net 0ℚ labels curves
@@ -42,7 +42,7 @@ pub data GrowByPhases (net : Network) : ℚ → List ℚ → Curves → Type 0 w
       (number_at phase.flows) (number_at phase.slopes) curves'.outflows curves'.queues
       → GrowByPhases net time' labels' curves'
 
--- the curves of a flow
+-- The curves of a flow.
 abbrev pub curves_of : Flow → Curves
 curves_of flow = record {
   labels = points_at flow.labels;
@@ -51,7 +51,7 @@ curves_of flow = record {
   queues = points_at flow.queues;
 }
 
--- a flow whose curves grow phase by phase, and have their form and rates, is an equilibrium
+-- A flow is an equilibrium if its curves are built phase by phase from the start, and its curves and rates are well-formed.
 abbrev pub PhasesMakeEquilibrium : Type 0
 PhasesMakeEquilibrium = (net : Network) (labels : List ℚ) (flow : Flow) → IsNetwork net
     → GrowByPhases net flow.reached labels (curves_of flow)

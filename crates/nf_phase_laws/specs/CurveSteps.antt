@@ -1,4 +1,4 @@
--- How the curves of a flow go on over a phase, by one point each.
+-- Extensions of the curves of a flow over a phase, by one point each.
 use Rattle.std.specs.Prelude.{◌≡◌, ℕ, ◌<◌, List, [], ◌∷◌, ◌++◌}
 use Rattle.nf_rational.specs.Rational.{ℚ}
 use Rattle.nf_rational.specs.Operations.{0ℚ, ◌+ℚ◌, ◌*ℚ◌}
@@ -8,22 +8,21 @@ use Rattle.nf_model.specs.Network.{Link, Network, IsNetwork, IsLink}
 use Rattle.nf_model_laws.specs.Affine.{IsAffine}
 use Rattle.nf_phase_laws.specs.Invariant.{GoesOn}
 
--- a curve with this last point
+-- A curve with this last point.
 pub record LastPoint (points : List Point) (last : Point) : Type 0 where
   pub front : List Point
   pub same : points ≡ front ++ last ∷ []
   pub curve : IsCurve points
 
--- A curve goes on from its last point along a line to a later one, which is its last then; before that nothing changes. Whether the
--- point between remains a point of the curve doesn't matter.
+-- The curve is extended from its last point along a line to a later point, the new last point. Up to the old last point its values stay.
+-- The old last point may or may not remain a point of the curve.
 pub record GoesOnTo (points points' : List Point) (last new : Point) : Type 0 where
   pub later : last.0 <ℚ new.0
   pub before : (time : ℚ) → Within 0ℚ last.0 time → value points' time ≡ value points time
   pub line : IsAffine (value points') last.0 new.0 (slope last new)
   pub ends : LastPoint points' new
 
--- so it goes on where the point is appended, and also where it takes the place of a last point that the curve reached with the same
--- slope
+-- Appending the point is such an extension. Replacing the last point is one too, if the curve reached it with the slope of the extension.
 pub record PointsGoOn : Type 0 where
   pub appended : (points : List Point) (last new : Point) → LastPoint points last → last.0 <ℚ new.0
       → GoesOnTo points (points ++ new ∷ []) last new
@@ -31,18 +30,18 @@ pub record PointsGoOn : Type 0 where
       → slope before last ≡ slope last new
       → GoesOnTo (front ++ before ∷ last ∷ []) (front ++ before ∷ new ∷ []) last new
 
--- the functions of curves
+-- The values of the curves as functions of time.
 abbrev pub at : (ℕ → List Point) → ℕ → ℚ → ℚ
 at curves i time = value (curves i) time
 
--- the curves of a flow up to a departure: each label's ends there, and each inflow's at the label of its link's tail
+-- The curves of a flow up to a departure: each label curve ends there, and each inflow ends at the label of its link's tail.
 pub record CurvesStand (net : Network) (inflows labels : ℕ → List Point) (until : ℚ) : Type 0 where
   pub labels_end : (v : ℕ) → v < net.nodes → LastPoint (labels v) (until, at labels v until)
   pub inflows_end : (e : ℕ) (link : Link) → IsLink net e link
       → LastPoint (inflows e) (at labels link.tail until, at inflows e (at labels link.tail until))
 
--- Over a phase of this length each label goes on at its slope, and each inflow takes the flow by departure. Where the label of the tail
--- stands still, the inflow stays as it is.
+-- Over a phase of this length each label curve is extended at its slope. Each inflow is extended by the flow per departure, while the label
+-- of the tail rises. If the label of the tail is constant, the inflow is unchanged.
 pub record CurvesGoOn (net : Network) (inflows labels : ℕ → List Point) (until length : ℚ) (flow slope : ℕ → ℚ)
     (inflows' labels' : ℕ → List Point) : Type 0 where
   pub labels_go : (v : ℕ) → v < net.nodes
@@ -52,8 +51,8 @@ pub record CurvesGoOn (net : Network) (inflows labels : ℕ → List Point) (unt
       (at labels link.tail until +ℚ slope link.tail *ℚ length, at inflows e (at labels link.tail until) +ℚ flow e *ℚ length)
   pub inflows_stay : (e : ℕ) (link : Link) → IsLink net e link → slope link.tail ≡ 0ℚ → inflows' e ≡ inflows e
 
--- then the flow of the curves goes on so, where none is sent into a link whose tail's label stands still, and the new curves stand at the
--- end of the phase
+-- The flow of the curves is then extended in the same way, if no flow enters a link whose tail has a constant label. The new curves end
+-- where the phase ends.
 pub record CurvesMakeFlow : Type 0 where
   pub flow : (net : Network) (inflows labels : ℕ → List Point) (until length : ℚ) (flow slope : ℕ → ℚ) (inflows' labels' : ℕ → List Point)
       → IsNetwork net

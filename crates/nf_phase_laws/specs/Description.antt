@@ -1,4 +1,4 @@
--- What a flow says of its links beside their inflow: their outflow and their queue, by time.
+-- The outflow and the queue of each link over time, described by departure.
 use Rattle.std.specs.Prelude.{◌≡◌, ℕ, List}
 use Rattle.nf_rational.specs.Rational.{ℚ}
 use Rattle.nf_rational.specs.Operations.{0ℚ, ◌+ℚ◌, ◌*ℚ◌}
@@ -13,8 +13,8 @@ use Rattle.nf_model.specs.Phases.{Lasts, AreStartLabels}
 use Rattle.nf_model_laws.specs.Affine.{IsAffine}
 use Rattle.nf_phase_laws.specs.Invariant.{link_slack, queue_by_slack, sent, HoldsUpTo, LabelsAre, IsStart, GoesOn}
 
--- By departure, what comes out of a link by the label of its head is what was sent into it, and what waits at the label of its tail
--- is the queue of the slack. Before the labels of departure 0 both are 0.
+-- For each departure, the outflow by the label of the head equals the amount sent into the link. The queue at the label of the tail is the
+-- queue of the slack. Before the labels of departure 0 both are 0.
 pub record DescribesLinks (net : Network) (amount label outflow queue : ℕ → ℚ → ℚ) (until : ℚ) : Type 0 where
   pub outflows : (e : ℕ) (link : Link) (departure : ℚ) → IsLink net e link → Within 0ℚ until departure
       → outflow e (label link.head departure) ≡ sent net amount label e departure
@@ -23,8 +23,8 @@ pub record DescribesLinks (net : Network) (amount label outflow queue : ℕ → 
       → queue e (label link.tail departure) ≡ queue_by_slack link.capacity (link_slack label link departure)
   pub queues_early : (e : ℕ) (link : Link) (time : ℚ) → IsLink net e link → Within 0ℚ (label link.tail 0ℚ) time → queue e time ≡ 0ℚ
 
--- A description goes on over a phase: up to then nothing changes. While the head's label moves the outflow has one rate, so much that
--- by departure it is `flow`; and while the tail's label moves the queue changes at one rate, up to that of the slack at the end.
+-- The extension of a description over a phase. Values before the phase stay. While the head's label rises, the outflow has one rate, which
+-- per departure is `flow`. While the tail's label rises, the queue changes at one rate, up to the queue of the slack at the end.
 pub record DescriptionGoesOn (net : Network) (label : ℕ → ℚ → ℚ) (until length : ℚ) (flow slope : ℕ → ℚ)
     (label' outflow queue outflow' queue' : ℕ → ℚ → ℚ) : Type 0 where
   pub outflow_before : (e : ℕ) (link : Link) (time : ℚ) → IsLink net e link → Within 0ℚ (label link.head until) time
@@ -39,7 +39,7 @@ pub record DescriptionGoesOn (net : Network) (label : ℕ → ℚ → ℚ) (unti
       → queue' e (label link.tail until +ℚ slope link.tail *ℚ length)
       ≡ queue_by_slack link.capacity (link_slack label' link (until +ℚ length))
 
--- such a description is right: where the invariant of phases holds, these are the outflow and the queue
+-- A description is correct: if the invariant of phases holds, it gives the outflow and the queue of each link.
 pub record DescriptionIsRight : Type 0 where
   pub outflows : (net : Network) (amount label outflow queue : ℕ → ℚ → ℚ) (until : ℚ) → IsNetwork net → HoldsUpTo net amount label until
       → DescribesLinks net amount label outflow queue until
@@ -50,7 +50,7 @@ pub record DescriptionIsRight : Type 0 where
       → (e : ℕ) (link : Link) (time : ℚ) → IsLink net e link → Within 0ℚ (label link.tail until) time
       → IsQueue link.capacity (amount e) time (queue e time)
 
--- the description begins with 0, and each phase keeps it
+-- The description holds at the start, where outflows and queues are 0, and each phase preserves it.
 pub record PhasesKeepDescription : Type 0 where
   pub begins : (net : Network) (labels : List ℚ) (amount label outflow queue : ℕ → ℚ → ℚ) → IsNetwork net → AreStartLabels net labels
       → IsStart net labels amount label
@@ -67,8 +67,8 @@ pub record PhasesKeepDescription : Type 0 where
       → DescriptionGoesOn net label until length (number_at flows) (number_at slopes) label' outflow queue outflow' queue'
       → DescribesLinks net amount' label' outflow' queue' (until +ℚ length)
 
--- So a flow of a report is an equilibrium where the invariant holds of its inflows and labels, its outflows and queues are described
--- by departure, and its curves and rates have their form.
+-- A flow of a report is an equilibrium under three conditions. The invariant holds for its inflows and labels. Its outflows and queues are
+-- described by departure. Its curves and rates are well-formed.
 abbrev pub DescriptionMakesEquilibrium : Type 0
 DescriptionMakesEquilibrium = (net : Network) (flow : Flow) → IsNetwork net → HoldsUpTo net (inflow flow) (label flow) flow.reached
     → DescribesLinks net (inflow flow) (label flow) (outflow flow) (queue flow) flow.reached → HasShape net flow → HasSlopes flow.inflows

@@ -1,4 +1,4 @@
--- How the curves of a description go on over a phase, by one point each.
+-- Extensions of the curves of a description over a phase, by one point each.
 use Rattle.std.specs.Prelude.{◌≡◌, ℕ, List}
 use Rattle.nf_rational.specs.Rational.{ℚ}
 use Rattle.nf_rational.specs.Operations.{0ℚ, ◌+ℚ◌, ◌*ℚ◌}
@@ -9,15 +9,15 @@ use Rattle.nf_phase_laws.specs.Invariant.{link_slack, queue_by_slack, HoldsUpTo,
 use Rattle.nf_phase_laws.specs.Description.{DescribesLinks, DescriptionGoesOn}
 use Rattle.nf_phase_laws.specs.CurveSteps.{LastPoint, GoesOnTo, at}
 
--- each outflow ends at the label of its link's head, and each queue at that of its tail
+-- Each outflow ends at the label of its link's head, and each queue at the label of its link's tail.
 pub record DescriptionStands (net : Network) (label : ℕ → ℚ → ℚ) (outflows queues : ℕ → List Point) (until : ℚ) : Type 0 where
   pub outflows_end : (e : ℕ) (link : Link) → IsLink net e link
       → LastPoint (outflows e) (label link.head until, at outflows e (label link.head until))
   pub queues_end : (e : ℕ) (link : Link) → IsLink net e link
       → LastPoint (queues e) (label link.tail until, at queues e (label link.tail until))
 
--- Over a phase of this length the outflow takes the flow by departure, while the label of the head moves; and the queue goes to that of
--- the slack at the end, while the label of the tail moves. Else they stay as they are.
+-- Over a phase of this length each outflow is extended by the flow per departure, if the label of the head rises. Each queue is extended to
+-- the queue of the slack at the end, if the label of the tail rises. Otherwise the curve is unchanged.
 pub record DescriptionCurvesGoOn (net : Network) (label label' : ℕ → ℚ → ℚ) (outflows queues : ℕ → List Point) (until length : ℚ)
     (flow slope : ℕ → ℚ)
     (outflows' queues' : ℕ → List Point) : Type 0 where
@@ -30,8 +30,8 @@ pub record DescriptionCurvesGoOn (net : Network) (label label' : ℕ → ℚ →
       (label link.tail until +ℚ slope link.tail *ℚ length, queue_by_slack link.capacity (link_slack label' link (until +ℚ length)))
   pub queues_stay : (e : ℕ) (link : Link) → IsLink net e link → slope link.tail ≡ 0ℚ → queues' e ≡ queues e
 
--- then the description goes on so, where the invariant holds at the beginning and at the end and no flow comes to a node whose label
--- stands still, and the new curves stand at the end
+-- The description is then extended in the same way, if the invariant holds at the start and at the end, and no flow reaches a node with a
+-- constant label. The new curves end where the phase ends.
 pub record CurvesMakeDescription : Type 0 where
   pub description : (net : Network) (amount label amount' label' : ℕ → ℚ → ℚ) (until length : ℚ) (flow slope : ℕ
       → ℚ) (outflows queues outflows' queues' : ℕ → List Point) → IsNetwork net

@@ -1,4 +1,4 @@
--- A law of the lengths of phases.
+-- A theorem on the lengths of phases.
 use Rattle.std.specs.Prelude.{List}
 use Rattle.nf_rational.specs.Rational.{ℚ}
 use Rattle.nf_rational.specs.Operations.{0ℚ}
@@ -6,8 +6,8 @@ use Rattle.nf_rational.specs.Order.{◌<ℚ◌}
 use Rattle.nf_model.specs.Network.{Network}
 use Rattle.nf_model.specs.Phases.{IsExtension, IsPhaseLength, IsPhase}
 
--- Each phase takes time: from any slacks and slopes on a phase may last for some time, so that the extension length, the length of a
--- phase that begins before the horizon, and what a phase adds to the time are above 0.
+-- Each phase has positive length: the extension length, the length of a phase that begins before the horizon, and the difference of
+-- departures are above 0.
 pub record PhasesTakeTime : Type 0 where
   pub extension : (net : Network) (slacks slopes : List ℚ) (time length : ℚ) → IsExtension net slacks slopes time length → 0ℚ <ℚ length
   pub length : (net : Network) (slacks slopes : List ℚ) (time horizon length : ℚ) → time <ℚ horizon

@@ -1,4 +1,4 @@
--- Flows that go on phase by phase from the start.
+-- Flows built phase by phase from the start.
 use Rattle.std.specs.Prelude.{ℕ, List}
 use Rattle.nf_rational.specs.Rational.{ℚ}
 use Rattle.nf_rational.specs.Operations.{0ℚ}
@@ -7,8 +7,8 @@ use Rattle.nf_model.specs.Network.{Network}
 use Rattle.nf_model.specs.Phases.{AreStartLabels, IsPhase}
 use Rattle.nf_phase_laws.specs.Invariant.{IsStart, GoesOn}
 
--- The flow of a phase sequence up to a time, with the labels then: at first nothing has entered a link, and the labels are the least
--- transit sums; and in each phase the flow goes on by the phase's thin flow for the phase's length.
+-- The flow of a phase sequence up to a departure, with the labels there. At first nothing has entered a link, and the labels are the least
+-- transit sums. Each phase extends the flow by its thin flow for its length.
 pub data GoesByPhases (net : Network) (horizon : ℚ) : ℚ → List ℚ → (ℕ → ℚ → ℚ) → (ℕ → ℚ → ℚ) → Type 0 where
   begins : (labels : List ℚ) (amount label : ℕ → ℚ → ℚ) → AreStartLabels net labels → IsStart net labels amount label
       → GoesByPhases net horizon 0ℚ labels amount label

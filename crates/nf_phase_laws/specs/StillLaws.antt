@@ -1,4 +1,4 @@
--- A law of labels that stand still.
+-- A theorem on nodes with constant labels.
 use Rattle.std.specs.Prelude.{◌≡◌, ℕ, List}
 use Rattle.nf_rational.specs.Rational.{ℚ}
 use Rattle.nf_rational.specs.Operations.{0ℚ}
@@ -7,7 +7,7 @@ use Rattle.nf_model.specs.Entries.{number_at}
 use Rattle.nf_model.specs.Network.{Link, Network, IsNetwork, IsLink}
 use Rattle.nf_model.specs.ThinFlow.{sets_at, IsThinFlow}
 
--- In a thin flow for the sets of slacks, a node whose label stands still is passed by no flow: none comes in, and none goes out.
+-- In a thin flow for the sets of slacks, no flow enters or leaves a node whose label is constant.
 pub record StillNodesCarryNoFlow : Type 0 where
   pub leaves : (net : Network) (labels : List ℚ) (rate : ℚ) (flows slopes : List ℚ) → IsNetwork net → 0ℚ ≤ℚ rate
       → IsThinFlow net (sets_at net labels) rate flows slopes

@@ -1,4 +1,4 @@
--- A phase that has an end goes on to a later departure.
+-- A phase that has an end reaches a later departure.
 use Rattle.std.proofs.Common.{◌≡◌, List, [], ◌∷◌, sym, ◌∙◌}
 use Rattle.std.specs.Prelude.{Option, Some, None, Result, Ok, Err, IfOk, IfSome, MatchOption}
 use Rattle.nf_rational.specs.Rational.{ℚ}

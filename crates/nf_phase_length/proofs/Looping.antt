@@ -22,7 +22,7 @@ module _ (passes : Passing) (net : Network) (slacks slopes : List ℚ) where
   abbrev step : Option ℚ → ℕ × Link → Checked (Option ℚ)
   step = least_after passes slacks slopes
 
-  -- what is left of the list gives what the whole list gives
+  -- The remaining links give the result of the whole list.
   abbrev pub SoFar : Option ℚ → ℕ → Type 0
   SoFar least e = fold_checked step None whole ≡ fold_checked step least (drop e whole)
 

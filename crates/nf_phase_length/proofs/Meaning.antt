@@ -1,4 +1,4 @@
--- What the extend list gives is the extension length.
+-- The value of the extend list is the extension length.
 use Rattle.std.proofs.Common.{◌≡◌, List, sym, ap, ◌∙◌}
 use Rattle.std.specs.Prelude.{Option, Some, None, Result, Ok, Err, IfOk, MatchOption}
 use Rattle.nf_rational.specs.Rational.{ℚ}
@@ -25,7 +25,7 @@ module _ (passes : Passing) (net : Network) (slacks slopes : List ℚ) (time : �
   length_means (Ok length) h = one_means length (part_ok Extend (extend_list passes net slacks slopes time) length h)
   length_means (Err p) h = tt
 
--- the links, and then the next inflow change
+-- The links, and then the next change of the inflow rate.
 pub whole_list : (passes : Passing) (net : Network) (slacks slopes : List ℚ) (time : ℚ) (least change : Option ℚ) (result : Result (Option ℚ) (PassedAt ℚ)) → Ok least ≡ at_part Extend (after_all passes net slacks slopes)
     → change ≡ next_change net time → result ≡ at_part Extend (until_change passes least time change) → result ≡ at_part Extend (extend_list passes net slacks slopes time)
 unfolding extend_list

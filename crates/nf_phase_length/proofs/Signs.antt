@@ -1,4 +1,4 @@
--- What goes towards 0 changes, and what is above 0 is not 0.
+-- A slack that moves towards 0 changes, and a number above 0 is not 0.
 use Rattle.std.proofs.Common.{◌≡◌, ◌≢◌, ⊎_elim, Bool, true, false, ◌&&◌, ap, ◌∙◌}
 use Rattle.std.specs.Prelude.{◌||◌}
 use Rattle.nf_rational.specs.Rational.{ℚ}

@@ -7,6 +7,6 @@ use Rattle.nf_work.specs.Checked.{Checked, fold_checked}
 use Rattle.nf_model.specs.Network.{Network}
 use Rattle.nf_lists.specs.Extend.{least_after}
 
--- the least length after which a link changes sides
+-- The least length after which the slack of a link reaches 0.
 abbrev pub after_all : Passing → Network → List ℚ → List ℚ → Checked (Option ℚ)
 after_all passes net slacks slopes = fold_checked (least_after passes slacks slopes) None (enumerate_from 0 net.links)

@@ -1,4 +1,4 @@
--- How what the advance list gives and what the curve list reads are told apart, which the types of code that are seen so rest on.
+-- Injective codes of an advance result and of a link's data in a phase, on which the models of the code types depend.
 use Rattle.std.specs.Prelude.{Bool, List, Option, refl}
 use Rattle.std.specs.Coded.{Coded, code_by, coded×, coded_bool, coded_list, coded_option}
 use Rattle.nf_rational.specs.Rational.{ℚ, coded_ℚ}

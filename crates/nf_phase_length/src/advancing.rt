@@ -9,7 +9,7 @@ use nf_frac::{Halt, Part, PassedAt, Q, at};
 use std::alloc::Global;
 use std::marker::Model;
 
-/// A phase's length, and of each node the label at its end.
+/// The length of a phase, a time, and the label of each node at its end.
 #[derive(Drop)]
 pub struct Advanced {
     pub length: Q,
@@ -27,7 +27,7 @@ impl Model for Advanced {
     ghost view = { λ a. record { length = a.length; labels = a.labels.items } };
 }
 
-// An extension length, where there is one, but no more than what is left to the horizon.
+// Returns the lesser of the extension length and the time left to the horizon, or the time left if there is no extension length.
 fn cut(left: Q, extension: Option<Q>) -> Q
     ensures { result ≡ cut_at left extension }
 {
@@ -37,7 +37,7 @@ fn cut(left: Q, extension: Option<Q>) -> Q
     }
 }
 
-// The label of a node after a phase of this length.
+// Returns the label of a node after a phase of this length.
 fn label_after(length: Q, slopes: &[Q], node: usize, label: Q) -> Result<Q, PassedAt<Q>>
     requires { node < count_of slopes.now }
     ensures { result ≡ at_part Advance (label_after_by passes_Q length slopes.now (node, label)) }
@@ -47,7 +47,7 @@ fn label_after(length: Q, slopes: &[Q], node: usize, label: Q) -> Result<Q, Pass
     Ok(moved)
 }
 
-// The labels of all nodes after a phase of this length.
+// Returns the labels of all nodes after a phase of this length.
 fn labels_after(alloc: Global, length: Q, labels: &[Q], slopes: &[Q]) -> Result<Vec<Q>, Halt<Q>>
     requires { count_of slopes.now ≡ count_of labels.now }
     ensures { Gives (λ moved. moved.items) (λ q. q) result
@@ -61,8 +61,9 @@ fn labels_after(alloc: Global, length: Q, labels: &[Q], slopes: &[Q]) -> Result<
     Ok(moved)
 }
 
-/// The length of a phase that begins at this time, which is the extension length cut at the horizon, and the labels at its end.
-/// Passed comes exactly at the first operation of the advance list that passes, and has part Advance.
+/// Returns the length of a phase that begins at `time`, and the labels at its end. The length is the extension length, but ends at the
+/// horizon at the latest. Refuses with Passed, of the part Advance, at the first operation of the advance list that exceeds its bound.
+/// Refuses with Memory only if memory can't be allocated.
 #[tactic(auto, unfolding(nf_lists::specs::Advance::advance_list))]
 pub fn advance(
     alloc: Global,

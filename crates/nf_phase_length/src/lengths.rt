@@ -1,4 +1,4 @@
-// How long a phase may last.
+// The greatest length of a phase.
 ghost use Rattle.std.specs.Prelude.{◌≡◌, ◌≢◌, ◌<◌, length, true, MatchOption, IfOk, IfSome};
 ghost use Rattle.nf_rational.specs.Operations.{0ℚ};
 ghost use Rattle.nf_rational.specs.Order.{◌<ℚ◌};
@@ -16,14 +16,14 @@ use nf_frac::{Part, PassedAt, Q, at};
 use nf_graph::LinkId;
 use nf_net::Network;
 
-// One is above 0 and the other below.
+// Returns whether one number is above 0 and the other below 0.
 fn are_opposite(x: Q, y: Q) -> bool
     ensures { result ≡ are_opposite_by x y }
 {
     x.is_below(Q::zero()) && Q::zero().is_below(y) || Q::zero().is_below(x) && y.is_below(Q::zero())
 }
 
-// The lesser of the lengths so far and one more.
+// Returns the lesser of the length so far, if there is one, and another length.
 fn lesser(least: Option<Q>, length: Q) -> Option<Q>
     ensures { result ≡ lesser_of least length }
 {
@@ -33,7 +33,7 @@ fn lesser(least: Option<Q>, length: Q) -> Option<Q>
     }
 }
 
-// How long a slack takes to become 0, if it goes towards it.
+// Returns the least length, including the time in which a slack reaches 0 if it moves towards 0.
 fn to_zero(goes: bool, least: Option<Q>, slack: Q, change: Q) -> Result<Option<Q>, PassedAt<Q>>
     requires { goes ≡ true → change ≢ 0ℚ }
     ensures { result ≡ at_part Extend (to_zero_by passes_Q goes least slack change) }
@@ -46,7 +46,7 @@ fn to_zero(goes: bool, least: Option<Q>, slack: Q, change: Q) -> Result<Option<Q
     Ok(lesser(least, length))
 }
 
-// After how long a link changes sides, with these slopes of its ends.
+// Returns the least length, including the time in which the slack of a link reaches 0 with these slopes of its ends.
 #[tactic(auto, using(crate::proofs::Signs::opposite_apart))]
 fn after_link(
     least: Option<Q>,
@@ -63,7 +63,7 @@ fn after_link(
     to_zero(are_opposite(slack, change), least, slack, change)
 }
 
-// After how long the link of a number changes sides, if that is before the least length so far.
+// Returns the least length, including the time in which the slack of this link reaches 0.
 fn after(
     net: &Network,
     slacks: &[Q],
@@ -86,7 +86,7 @@ fn after(
     )
 }
 
-// The least length after which a link changes sides.
+// Returns the least time in which the nonzero slack of a link reaches 0, or None if none does.
 fn after_links(net: &Network, slacks: &[Q], slopes: &[Q]) -> Result<Option<Q>, PassedAt<Q>>
     requires slacks { length slacks.now ≡ length net.now.net.links }
     requires slopes { length slopes.now ≡ net.now.net.nodes }
@@ -99,7 +99,7 @@ fn after_links(net: &Network, slacks: &[Q], slopes: &[Q]) -> Result<Option<Q>, P
     Ok(least)
 }
 
-// And until the next inflow change, if there is one.
+// Returns the least length, including the time until the next change of the inflow rate, if there is one.
 fn until_change(least: Option<Q>, time: Q, change: Option<Q>) -> Result<Option<Q>, PassedAt<Q>>
     ensures { result ≡ at_part Extend (until_change_by passes_Q least time change) }
 {
@@ -112,20 +112,20 @@ fn until_change(least: Option<Q>, time: Q, change: Option<Q>) -> Result<Option<Q
     }
 }
 
-// The next inflow change after a time; the pieces of a network are in order.
+// Returns the next change of the inflow rate after a time, or None if there is none. The pieces of a network are in order.
 fn next_change(net: &Network, time: Q) -> Option<Q>
     ensures change { result ≡ change_of net.now.net time }
     ensures pieces { ArePieces net.now.net.pieces }
 {
-    // For the proof: the network is that of an accepted file, so its pieces are in order.
+    // Proof: the network is that of an accepted file, so its pieces are in order.
     let _ = net.pieces();
     net.next_change(time)
 }
 
-/// The extension length of a phase that begins at this time, with these slacks of the links and slopes of the nodes: the greatest
-/// length for which each inactive link keeps a slack of at most 0 and each resetting one a slack of at least 0, and no inflow
-/// change comes before the end. None exactly where no length is too long. Passed comes exactly at the first operation of the
-/// extend list that passes, and has part Extend. Takes no memory (Koch and Skutella 2011).
+/// Returns the extension length of a phase that begins at `time`, for these slacks of the links and slopes of the nodes (Koch and Skutella
+/// 2011). It is the greatest length for which each inactive link has slack at most 0, each resetting link has slack at least 0, and no
+/// change of the inflow rate comes before the end. Returns None exactly if every length is possible. Refuses with Passed, of the part
+/// Extend, exactly at the first operation of the extend list that exceeds its bound. Allocates nothing.
 #[tactic(auto, unfolding(nf_lists::specs::Extend::extend_list))]
 pub fn extension(
     net: &Network,
@@ -143,7 +143,7 @@ pub fn extension(
     until_change(least, time, next_change(net, time))
 }
 
-// The departure after so long a time, where there is an end to it.
+// Returns the departure after this length, or None if the length is unlimited.
 fn end_after(time: Q, length: Option<Q>) -> Result<Option<Q>, PassedAt<Q>>
     ensures { result ≡ at_part Extend (end_after_by passes_Q time length) }
 {
@@ -156,9 +156,9 @@ fn end_after(time: Q, length: Option<Q>) -> Result<Option<Q>, PassedAt<Q>>
     }
 }
 
-/// The departure at which a phase ends that begins at this time, with these slacks of the links and slopes of the nodes, and lasts
-/// as long as it may. None exactly where no length is too long. Passed comes exactly at the first operation that passes of the
-/// extend list of a run without a horizon, and has part Extend. Takes no memory.
+/// Returns the departure at which a phase of greatest length ends. The phase begins at `time`, with these slacks of the links and slopes of
+/// the nodes. Returns None exactly if every length is possible. Refuses with Passed, of the part Extend, exactly at the first operation of
+/// the extend list without a horizon that exceeds its bound. Allocates nothing.
 #[tactic(auto, unfolding(nf_forever_lists::specs::ForeverRun::end_list))]
 pub fn end_of(net: &Network, slacks: &[Q], slopes: &[Q], time: Q) -> Result<Option<Q>, PassedAt<Q>>
     requires slacks { length slacks.now ≡ length net.now.net.links }

@@ -1,5 +1,5 @@
-//! A phase from where it begins, before it is made: how long it may last, its length up to a horizon with the labels at its end, and what
-//! each link is in it.
+//! The data of a phase before a run is extended by it: its greatest length, its length up to a horizon with the labels at its end, and
+//! the data of each link.
 #![tactic(auto)]
 
 mod advancing;

@@ -1,4 +1,4 @@
-// What the curve list reads of a link.
+// The data of a link in a phase, as the curve list reads it.
 ghost use Rattle.std.specs.Prelude.{◌≡◌, ◌<◌, length};
 ghost use Rattle.nf_model.specs.Network.{Link as SeenLink, IsLink};
 ghost use Rattle.nf_lists.specs.CurveList.{is_filled as is_filled_by, link_phase as link_phase_of};
@@ -10,8 +10,8 @@ use nf_net::Network;
 use nf_pattern::Pattern;
 use std::marker::Model;
 
-/// A link in a phase: the flow that it carries, whether that fills it, the slopes of the labels of its ends, and these labels at
-/// the phase's end.
+/// A link in a phase: its capacity and transit time, its flow, whether the flow fills it, the slopes of its end labels, and these labels at
+/// the end of the phase.
 #[derive(Clone, Copy)]
 pub struct LinkPhase {
     pub capacity: Option<Q>,
@@ -55,7 +55,7 @@ impl Model for LinkPhase {
     } };
 }
 
-// The flow fills the link: it is resetting or Full.
+// Returns whether the flow fills the link: the link is resetting or Full.
 fn is_filled(state: Option<State>, resetting: bool) -> bool
     ensures { result ≡ is_filled_by state resetting }
 {
@@ -65,7 +65,7 @@ fn is_filled(state: Option<State>, resetting: bool) -> bool
     }
 }
 
-/// What the list reads of the link of a number, with these labels at the phase's end.
+/// Returns the data of a link in a phase, given the labels at the end of the phase.
 pub fn link_phase(
     net: &Network,
     sets: &LinkSets,

@@ -1,4 +1,4 @@
--- What is answered, out of the pushes and what is made of them.
+-- The answer of `quickest`, from the pushes and the computations after them.
 use Rattle.std.proofs.Common.{◌≡◌, ℕ, ◌≤◌, Bool, true, false, inl, inr, List, unwrap_or, sym, ap, ◌∙◌}
 use Rattle.std.specs.Prelude.{Result, Ok, Err, IfOk}
 use Rattle.nf_rational.specs.Rational.{ℚ}
@@ -28,7 +28,7 @@ module _ (passes : Passing) (net : Network) (amount : ℚ) (augments : ℕ) wher
     ap (λ (b : Bool). at_part Part.Quick (quickest_of passes net amount b augments)) t ∙ ap (λ (q : Quick). Ok (FoundQuick q)) (sym e),
   )
 
-  -- ---- another one, where each walk from source to sink has a link with a capacity
+  -- ---- another amount; each walk from source to sink has a link with a capacity
   module _ (some : le_ℚ amount 0ℚ ≡ false) (limited : IsLimited net) where
     abbrev pushes : Checked Pushed
     pushes = push_up_to passes net amount augments (start_of net)
@@ -49,7 +49,7 @@ module _ (passes : Passing) (net : Network) (amount : ℚ) (augments : ℕ) wher
     pushes_stop (QuickFault.Passed at) e = (inr limited, ap (at_part Part.Quick) opened ∙ stopped pushes answer at e)
     pushes_stop QuickFault.Memory e = tt
 
-    -- what the pushes came to is finished
+    -- The state after the pushes is completed to an answer.
     module _ (s : QuickStanding) (came : at_part Part.Quick pushes ≡ Ok (Done s)) (flows : List ℚ) (time : ℚ) (flows_are : flows ≡ s.flows) (time_is : time ≡ unwrap_or s.time 0ℚ) where
       abbrev finished : Checked Quick
       finished = finish_list passes net amount flows time
@@ -68,13 +68,13 @@ module _ (passes : Passing) (net : Network) (amount : ℚ) (augments : ℕ) wher
       pub finish_answered : (quick : Quick) → at_part Part.Quick finished ≡ Ok quick → IsAnswered passes net amount augments (Ok quick)
       finish_answered quick e = (inr limited, ap (at_part Part.Quick) (then_finish ∙ goes_on finished found quick e))
 
-  -- ---- what is answered is a quickest flow
+  -- ---- the answer is a quickest flow
   pub answered_is_quick : IsNetwork net → 0ℚ ≤ℚ amount → (result : Result Quick QuickFault) → IsAnswered passes net amount augments result → IfOk result (IsQuickFlow net amount)
   answered_is_quick good h (Ok quick) answered =
       IsQuickFlow-list net good passes amount augments quick h answered.0 (ok_of_part (quickest_list passes net amount augments) (FoundQuick quick) answered.1)
   answered_is_quick good h (Err fault) answered = tt
 
-  -- ---- and comes of walks that are pushed in order
+  -- ---- the answer results from walks pushed in order
   pub answered_in_order : IsNetwork net → 0ℚ ≤ℚ amount → 1 ≤ augments → (result : Result Quick QuickFault) → IsAnswered passes net amount augments result → IsInOrder net amount augments result
   answered_in_order good h some (Ok quick) answered =
       (IsMade-list net good passes amount augments quick h answered.0 (ok_of_part (quickest_list passes net amount augments) (FoundQuick quick) answered.1)).1

@@ -1,4 +1,4 @@
--- What is worked out of a flow and a time: walks, the distances from source and sink, a cut and its value, one after the other.
+-- The result for a flow and its time: walks, distances from source and sink, the cut and its value, in this order.
 use Rattle.std.proofs.Common.{◌≡◌, ℕ, List, Option, length, sym, ap, ◌∙◌}
 use Rattle.std.specs.Prelude.{Ok, Err}
 use Rattle.nf_rational.specs.Rational.{ℚ}

@@ -1,4 +1,4 @@
--- Ways of unbounded links, as they grow.
+-- Growing tables of walks of unbounded links.
 use Rattle.std.proofs.Common.{◌≡◌, ℕ, zero, suc, ◌<◌, List, [], ◌∷◌, ◌++◌, length, set, replicate, Bool, true, false, not, ◌&&◌, ◌⊎◌, inl, inr, ⊎_elim, eqb, ◌≢◌, Option, Some, None, refl, sym, ap, subst, ◌∙◌, arith}
 use Rattle.std.specs.Prelude.{is_none, is_some}
 use Rattle.std.proofs.lemmas.List.{length-set, length-replicate}
@@ -8,7 +8,7 @@ use Rattle.nf_model.specs.Network.{Link, Network, IsLink, IsNetwork}
 use Rattle.nf_quick_lists.specs.Steps.{IsUnboundedWalk}
 use Rattle.nf_quick.specs.Ways.{Ways, way_at, leads_on, LeadsOn, NoneLeadsOn, AreWays, AreAllWays}
 
--- ---- how many nodes have no way
+-- ---- the number of nodes without a walk
 abbrev pub unknown : Ways → ℕ
 unknown [] = 0
 unknown (None ∷ ways) = suc (unknown ways)
@@ -39,7 +39,7 @@ at_none zero v = refl
 at_none (suc n) zero = refl
 at_none (suc n) (suc v) = at_none n v
 
--- ---- a way that is known, or none
+-- ---- a known walk, or none
 known_or : (o : Option (List ℕ)) → (o ≡ None) ⊎ ((way : List ℕ) × (o ≡ Some way))
 known_or None = inl refl
 known_or (Some way) = inr (way, refl)
@@ -47,7 +47,7 @@ known_or (Some way) = inr (way, refl)
 no_some : (o : Option (List ℕ)) (way : List ℕ) → o ≡ None → o ≡ Some way → ⊥
 no_some o way e f = cc
 
--- ---- what the test says
+-- ---- the meaning of the test
 record Leading (ways : Ways) (link : Link) : Type 0 where
   unbounded : link.capacity ≡ None
   way : List ℕ
@@ -70,13 +70,13 @@ leads ways link way p q r = ap (λ (c : Option ℚ). is_none c && (is_some (way_
 clash : (b : Bool) → b ≡ true → b ≡ false → ⊥
 clash b e f = cc
 
--- ---- a walk and an unbounded link more
+-- ---- a walk extended by an unbounded link
 link_more : (net : Network) (walk : List ℕ) (v e : ℕ) (link : Link) → IsUnboundedWalk net walk v link.tail → IsLink net e link → link.capacity ≡ None → IsUnboundedWalk net (walk ++ e ∷ []) v link.head
 link_more net [] v e link w is free = (link, is, free, sym w, refl)
 link_more net (f ∷ walk) v e link w is free = (w.0, w.1, w.2, w.3, link_more net walk w.0.head e link w.4 is free)
 
 module _ (net : Network) (good : IsNetwork net) where
-  -- ---- at first the source alone has a way
+  -- ---- at first only the source has a walk
   pub ways_first : (ways : Ways) → ways ≡ set (replicate net.nodes None) net.source (Some []) → AreWays net ways
   ways_first ways e = subst (λ (w : Ways). AreWays net w) (sym e) (record {
     count = length-set (replicate net.nodes None) net.source (Some []) ∙ length-replicate net.nodes None;
@@ -129,7 +129,7 @@ module _ (net : Network) (good : IsNetwork net) where
               let w : longer ≡ way = cc in
               subst (λ (l : List ℕ). IsUnboundedWalk net l net.source v) w (subst (λ (u : ℕ). IsUnboundedWalk net longer net.source u) same is_longer)
 
-  -- ---- where no link leads on, all ways are known
+  -- ---- if no link leads to a new node, all walks are known
   module _ (ways : Ways) (none : NoneLeadsOn net ways) where
     next : (link : Link) (e v : ℕ) (way : List ℕ) → way_at ways v ≡ Some way → IsLink net e link → link.capacity ≡ None → link.tail ≡ v → (other : List ℕ) × (way_at ways link.head ≡ Some other)
     next link e v way known is free begins = ⊎_elim

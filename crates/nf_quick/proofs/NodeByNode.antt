@@ -1,4 +1,4 @@
--- The times of nodes, one after the other, and the value of a cut, link by link.
+-- The cut times node by node, and the value of a cut link by link.
 use Rattle.std.proofs.Common.{◌≡◌, ℕ, ◌+◌, ◌<◌, ◌≤◌, List, [], ◌∷◌, ◌++◌, length, drop, get_or, Option, Some, None, slice_get, unwrap_or, refl, sym, ap, ◌∙◌}
 use Rattle.std.specs.Prelude.{Ok, Err}
 use Rattle.std.specs.List.{enumerate_from}
@@ -16,7 +16,7 @@ use Rattle.nf_model.specs.Network.{Link}
 use Rattle.nf_quick_lists.specs.Cuts.{node_time, node_time_at, node_times_list, value_after, value_list}
 use Rattle.nf_residual.proofs.Folding.{FoldsOn, fold_all, fold_stops, fold_more}
 
--- the times so far, and those from a node on
+-- The cut times so far, and those from a node on.
 pub record TimesOn (passes : Passing) (time : ℚ) (from_source from_sink : List (Option ℚ)) (cut : List ℚ) (k : ℕ) : Type 0 where
   pub same : with_front cut (each (node_time_at passes time from_sink) (enumerate_from k (drop k from_source))) ≡ node_times_list passes time from_source from_sink
 
@@ -48,7 +48,7 @@ module _ (passes : Passing) (time : ℚ) (from_source from_sink : List (Option �
             (ap (λ (o : Option ℚ). at_part Part.Quick (node_time passes time here o)) (sym also) ∙ sym e);
       }
 
--- ---- the value of a cut: what comes of the links that are left gives what comes of all
+-- ---- the value of a cut: the remaining links give the result of all links
 abbrev pub ValuesOn : Passing → List Link → List ℚ → ℚ → ℕ → Type 0
 ValuesOn passes links cut value k = FoldsOn (value_after passes cut) links 0ℚ value k
 

@@ -23,7 +23,7 @@ pub some_sum : (passes : Passing) (so_far rate all : ℚ) → 0ℚ ≤ℚ so_far
 some_sum passes so_far rate all h k e =
     subst (λ (x : ℚ). 0ℚ <ℚ x) (sym (checked-ok passes Sum so_far rate all (ok_of_part (checked passes Sum so_far rate) all (sym e)))) (nn_plus_ps so_far rate h k)
 
--- ---- the next walk, out of the shortest one
+-- ---- the next walk, from the shortest one
 module _ (passes : Passing) (net : Network) (amount : ℚ) (s : QuickStanding) (flows : List ℚ) (flows_are : flows ≡ s.flows) (found next : Option Walk) (is : next ≡ next_of passes net amount s found) where
   pub next_listed : at_part Part.Quick (shortest_list passes net flows) ≡ Ok found → at_part Part.Quick (next_list passes net amount s) ≡ Ok next
   next_listed e = ap (at_part Part.Quick)
@@ -40,7 +40,7 @@ module _ (passes : Passing) (net : Network) (amount : ℚ) (s : QuickStanding) (
   pub next_shortest : IsShortest net flows found → IfSome next (IsShortestWalk net s.flows)
   next_shortest h = subst (λ (l : List ℚ). IfSome next (IsShortestWalk net l)) flows_are (subst (λ (o : Option Walk). IfSome o (IsShortestWalk net flows)) (sym is) (of_found found h))
 
--- ---- one push, where it stops
+-- ---- a push that stops
 module _ (passes : Passing) (net : Network) (amount : ℚ) (s t : QuickStanding) (w v : Walk) (same : s ≡ t) (walk_is : w ≡ v) where
   abbrev moved : Checked (List ℚ)
   moved = push_list passes v.steps w.room s.flows
@@ -62,7 +62,7 @@ module _ (passes : Passing) (net : Network) (amount : ℚ) (s t : QuickStanding)
   pub time_passes : (flows : List ℚ) → Ok flows ≡ at_part Part.Quick moved → (p : PassedAt ℚ) → Err p ≡ at_part Part.Quick timed → at_part Part.Quick (push_on passes net amount t v) ≡ Err p
   time_passes flows f p e = ap (at_part Part.Quick) (opened ∙ goes_on moved (λ flows. timed >>= λ times. Ok (made flows times)) flows (sym f)) ∙ stopped timed (λ times. Ok (made flows times)) p (sym e)
 
-  -- and where it doesn't
+  -- A push that succeeds.
   pub push_made : (flows : List ℚ) → Ok flows ≡ at_part Part.Quick moved → (times u : Times) → Ok times ≡ at_part Part.Quick timed → u ≡ times → (pushed : List Augment) → pushed ≡ s.pushed ++ record { walk = v; amount = w.room } ∷ []
       → at_part Part.Quick (push_on passes net amount t v) ≡ Ok (record { flows = flows; pushed = pushed; rate = u.rate; cost = u.cost; time = Some u.time })
   push_made flows f times u e is pushed more =

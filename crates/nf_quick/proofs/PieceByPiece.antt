@@ -1,4 +1,4 @@
--- The least departure, looked for piece by piece.
+-- The least departure, searched piece by piece.
 use Rattle.std.proofs.Common.{◌≡◌, ℕ, zero, suc, ◌+◌, List, [], ◌∷◌, drop, Bool, true, false, Option, Some, None, slice_get, option_map, refl, sym, ap, subst, ◌∙◌, add-one}
 use Rattle.std.specs.Prelude.{Result, Ok, Err, IfOk}
 use Rattle.std.proofs.lemmas.List.{drop_more}
@@ -21,7 +21,7 @@ use Rattle.nf_curve.proofs.Exits.{if_ok}
 use Rattle.nf_residual.proofs.Stopping.{ok_of_part, stopped}
 use Rattle.nf_quick.proofs.SupplyOn.{supply_goes_on, first_supply}
 
--- what is left to be looked at gives what all pieces give, and so much was supplied before
+-- The remaining pieces give the result of all pieces, with this amount supplied before.
 pub record Comes (passes : Passing) (net : Network) (amount known : ℚ) (k : ℕ) : Type 0 where
   pub same : departs passes (checked_supply passes net) amount known (drop k net.pieces) ≡ departs passes (checked_supply passes net) amount 0ℚ net.pieces
   pub before : (piece : Piece) (later : List Piece) → drop k net.pieces ≡ piece ∷ later → IsBefore amount net.pieces known piece later
@@ -46,7 +46,7 @@ module _ (passes : Passing) (net : Network) (amount : ℚ) (good : ArePieces net
       rest : drop k net.pieces ≡ piece ∷ drop (k + 1) net.pieces
       rest = drop_more net.pieces k piece (slice_get_within net.pieces k piece is) ∙ ap (λ (p : Piece). p ∷ drop (k + 1) net.pieces) (get_or_from_slice_get net.pieces k piece piece is)
 
-      -- it is the last one
+      -- The piece is the last one.
       past : (xs : List Piece) (i : ℕ) → slice_get xs i ≡ None → drop i xs ≡ []
       past [] zero e = refl
       past [] (suc i) e = refl
@@ -56,7 +56,7 @@ module _ (passes : Passing) (net : Network) (amount : ℚ) (good : ArePieces net
       last : slice_get net.pieces (k + 1) ≡ None → departs passes supply_at amount 0ℚ net.pieces ≡ last_piece passes supply_at amount (lt_ℚ 0ℚ piece.rate) known piece
       last none = sym comes.same ∙ ap (λ (l : List Piece). departs passes supply_at amount known l) (rest ∙ ap (λ (l : List Piece). piece ∷ l) (past net.pieces (k + 1) none))
 
-      -- another one follows
+      -- Another piece follows.
       module _ (next : Piece) (follows : slice_get net.pieces (k + 1) ≡ Some next) where
         later : List Piece
         later = drop (k + 1 + 1) net.pieces
@@ -126,7 +126,7 @@ module _ (passes : Passing) (net : Network) (amount : ℚ) (good : ArePieces net
       abbrev n : (next : Piece) × (slice_get net.pieces (k + 1) ≡ Some next) × (next.start ≡ start)
       n = next_of (slice_get net.pieces (k + 1)) start follows
 
-      -- the supply by the next start goes on from that by this one
+      -- The supply by the next start continues the supply by this start.
       from_start : supply_at n.0.start ≡ with_piece passes known piece start
       from_start =
           supply_goes_on passes net.pieces k piece n.0 0ℚ (StartsRise-pieces net.pieces good) is (ap (λ (i : ℕ). slice_get net.pieces i) (sym (add-one k)) ∙ n.1)
@@ -154,13 +154,13 @@ departure_least passes net amount good some found e =
     IsDeparture-list amount passes (checked_supply passes net) net.pieces good (exact passes net amount good) found some
     (ok_of_part (departure_list passes (checked_supply passes net) amount net.pieces) found e)
 
--- for the amount 0
+-- For the amount 0.
 pub departure_of_none : (passes : Passing) (net : Network) (amount time : ℚ) → ArePieces net.pieces → 0ℚ ≤ℚ amount → le_ℚ amount 0ℚ ≡ true → time ≡ 0ℚ → IsDeparture net amount (Some time)
 unfolding departure_list
 departure_of_none passes net amount time good some t e = departure_least passes net amount good some (Some time)
     (ap (λ (b : Bool). at_part Part.Quick (departure_of passes (checked_supply passes net) amount b net.pieces)) t ∙ ap (λ (x : ℚ). Ok (Some x)) (sym e))
 
--- for another one
+-- For an amount above 0.
 pub departure_found : (passes : Passing) (net : Network) (amount : ℚ) (r : Result (Option ℚ) (PassedAt ℚ)) → ArePieces net.pieces → 0ℚ ≤ℚ amount → le_ℚ amount 0ℚ ≡ false
     → r ≡ at_part Part.Quick (departs passes (checked_supply passes net) amount 0ℚ net.pieces) → IfOk r (IsDeparture net amount)
 unfolding departure_list

@@ -1,4 +1,4 @@
--- Shortest walks, pushed one after the other.
+-- Pushes of shortest walks in succession.
 use Rattle.std.proofs.Common.{◌≡◌, ℕ, suc, ◌+◌, ◌-◌, ◌<◌, ◌≤◌, Option, Some, None, sym, ap, subst, ◌∙◌, arith}
 use Rattle.std.specs.Prelude.{Ok, Err}
 use Rattle.nf_rational.specs.Rational.{ℚ}
@@ -16,7 +16,7 @@ use Rattle.nf_quick_lists.specs.Quick.{QuickStanding, Pushed, Done, OverBudget, 
 use Rattle.nf_quick.specs.Answered.{of_halt, IsPushed}
 use Rattle.nf_residual.proofs.Stopping.{stops, goes_on, stops_as}
 
--- what is left to be pushed gives what all pushes give
+-- The remaining pushes give the result of all pushes.
 pub record PushesOn (passes : Passing) (net : Network) (amount : ℚ) (augments : ℕ) (s : QuickStanding) (k : ℕ) : Type 0 where
   pub same : push_up_to passes net amount (augments - k) s ≡ push_up_to passes net amount augments (start_of net)
   pub sound : IsSound net s.flows
@@ -37,7 +37,7 @@ module _ (passes : Passing) (net : Network) (amount : ℚ) (augments : ℕ) wher
     abbrev next : Checked (Option Walk)
     next = next_list passes net amount s
 
-    -- ---- where another walk may be pushed
+    -- ---- another walk can be pushed
     module _ (b : k < augments) where
       abbrev onward : Option Walk → Checked Pushed
       onward found = push_and passes net amount (λ new. push_up_to passes net amount (augments - (k + 1)) new) s found
@@ -67,7 +67,7 @@ module _ (passes : Passing) (net : Network) (amount : ℚ) (augments : ℕ) wher
         pub pushes_more : (new : QuickStanding) → at_part Part.Quick pushed ≡ Ok new → IsSound net new.flows → 0ℚ ≤ℚ new.rate → PushesOn passes net amount augments new (k + 1)
         pushes_more new e sound rate = record { same = sym (one ∙ goes_on pushed later new e); sound = sound; rate = rate }
 
-    -- ---- after as many as allowed
+    -- ---- the budget of pushes is used up
     module _ (b : augments ≤ k) where
       abbrev last : Option Walk → Checked Pushed
       last found = Ok (ended passes net amount s found)
@@ -84,7 +84,7 @@ module _ (passes : Passing) (net : Network) (amount : ℚ) (augments : ℕ) wher
       pub over_budget : (walk : Walk) → at_part Part.Quick next ≡ Ok (Some walk) → at_part Part.Quick all ≡ Ok (OverBudget s.pushed)
       over_budget walk e = ap (at_part Part.Quick) (at_end ∙ goes_on next last (Some walk) e)
 
--- what stops all pushes is what is answered
+-- A failure of the pushes is the answer.
 pub halted : (passes : Passing) (net : Network) (amount : ℚ) (augments : ℕ) (h : Halt ℚ) → Stops (λ (q : ℚ). q) h (at_part Part.Quick (push_up_to passes net amount augments (start_of net))) → IsPushed passes net amount augments (Err (of_halt h))
 halted passes net amount augments (Halt.Passed p) e = e
 halted passes net amount augments Halt.Memory e = tt

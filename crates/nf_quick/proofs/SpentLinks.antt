@@ -1,4 +1,4 @@
--- Links that are spent stay so while walks are taken off.
+-- Spent links stay spent while walks are removed.
 use Rattle.std.proofs.Common.{◌≡◌, ◌≢◌, ℕ, zero, suc, ◌+◌, ◌<◌, ◌≤◌, ◌==◌, ◌&&◌, ◌⊎◌, inl, inr, ⊎_elim, Bool, true, false, if◌then◌else◌, List, [], ◌∷◌, ◌++◌, length, set, replicate, get_or, Option, Some, None, slice_get, unwrap_or, refl, sym, ap, subst, ◌∙◌, add-one, arith}
 use Rattle.std.specs.Prelude.{Ok}
 use Rattle.std.proofs.lemmas.List.{drop_all}
@@ -26,7 +26,7 @@ clash b e f = cc
 same_number : (m n : ℕ) → Some m ≡ Some n → m ≡ n
 same_number m n e = cc
 
--- ---- looking goes on behind spent links
+-- ---- the search continues after the spent links
 pub looks_from : (links : List Link) (v : ℕ) (flows : List ℚ) (n : ℕ) → IsSpent links flows v n → LooksOn links v flows n
 looks_from links v flows zero h = looks_first links v flows
 looks_from links v flows (suc n) h =
@@ -39,7 +39,7 @@ looks_from links v flows (suc n) h =
         let further : length links ≤ suc n = omega arith in
         record { same = ap (λ (l : List Link). first_out (suc n) l v flows) (drop_all (suc n) links further) ∙ sym (ap (λ (l : List Link). first_out n l v flows) (drop_all n links past)) ∙ on.same }
 
--- ---- links before the first one are spent
+-- ---- the links before the first one with flow are spent
 abbrev head_or : Bool → ℕ → List Link → ℕ → List ℚ → Option ℕ
 head_or t e links v flows = if t then Some e else first_out (suc e) links v flows
 
@@ -75,7 +75,7 @@ spent_up_to links v flows o n f e k link h is =
     ap (λ (i : ℕ). is_out link v (number_at flows i)) (sym at)
     ∙ spent_before 0 links v flows o (sym f) k link is (subst (λ (i : ℕ). i < unwrap_or o (0 + length links)) (sym at) (subst (λ (m : ℕ). k < unwrap_or o m) (sym all) (subst (λ (m : ℕ). k < m) e h)))
 
--- the first one has flow
+-- The first link found has flow.
 pub out_has_flow : (e : ℕ) (links : List Link) (v : ℕ) (flows : List ℚ) (n : ℕ) → first_out e links v flows ≡ Some n → lt_ℚ 0ℚ (number_at flows n) ≡ true
 out_has_flow e [] v flows n f = absurd (cc)
 out_has_flow e (x ∷ links) v flows n f = by_test (is_out x v (number_at flows e)) refl (λ g. out_has_flow (suc e) links v flows n g)
@@ -84,7 +84,7 @@ out_has_flow e (x ∷ links) v flows n f = by_test (is_out x v (number_at flows 
     by_test true t rest = subst (λ (i : ℕ). lt_ℚ 0ℚ (number_at flows i) ≡ true) (same_number e n (sym (ap (λ (b : Bool). head_or b e links v flows) t) ∙ f)) (and_parts (x.tail == v) (lt_ℚ 0ℚ (number_at flows e)) t).1
     by_test false t rest = rest (sym (ap (λ (b : Bool). head_or b e links v flows) t) ∙ f)
 
--- ---- a place that is written
+-- ---- an entry that is written
 set_cases : (xs : List ℕ) (i x v n : ℕ) → slice_get (set xs i x) v ≡ Some n → ((v ≡ i) × (n ≡ x)) ⊎ (slice_get xs v ≡ Some n)
 set_cases [] i x v n e = absurd (cc)
 set_cases (y ∷ xs) zero x zero n e = inl (refl, sym (same_number x n e))
@@ -106,7 +106,7 @@ spent_first links flows spent nodes made v n e k link h is = let none : n ≡ 0 
     only (suc m) zero n e = sym (same_number 0 n e)
     only (suc m) (suc v) n e = only m v n e
 
--- ---- a walk that is taken off changes none of them
+-- ---- removing a walk leaves spent links spent
 number_elsewhere : (xs : List ℚ) (i k : ℕ) (x : ℚ) → k ≢ i → number_at (set xs i x) k ≡ number_at xs k
 number_elsewhere [] i k x h = refl
 number_elsewhere (y ∷ xs) zero zero x h = absurd (h refl)

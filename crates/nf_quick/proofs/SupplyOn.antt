@@ -1,4 +1,4 @@
--- The supply by the next start goes on from that by the start before.
+-- The supply by the next start equals the supply by this start plus the amount of the piece between.
 use Rattle.std.proofs.Common.{◌≡◌, ℕ, zero, suc, Bool, true, false, if◌then◌else◌, List, [], ◌∷◌, ⊎_elim, Some, slice_get, refl, sym, ap, subst, ◌∙◌}
 use Rattle.std.specs.Prelude.{Ok, Err}
 use Rattle.nf_rational.specs.Rational.{ℚ}
@@ -33,18 +33,18 @@ at_or_after q [] (suc k) piece s e = absurd (cc)
 at_or_after q (r ∷ later) (suc k) piece s e = ≤ℚ_trans _ _ _ (≤ℚ_of_lt _ _ s.0) (at_or_after r later k piece s.1 e)
 
 module _ (passes : Passing) where
-  -- a piece that starts before the time or doesn't, and then the later ones
+  -- A piece that starts before the time, or not, and then the later pieces.
   abbrev from_piece : Bool → ℚ → Piece → List Piece → ℚ → Checked ℚ
   from_piece b so_far p later time =
       if b then (with_piece passes so_far p (end_before later time) >>= λ sum. supplied_after passes sum later time) else supplied_after passes so_far later time
 
-  -- nothing comes of pieces that start at the time or later
+  -- Pieces that start at the time or later supply nothing by then.
   none_yet : (p : Piece) (later : List Piece) (time so_far : ℚ) → StartsRise (p ∷ later) → time ≤ℚ p.start → supplied_after passes so_far (p ∷ later) time ≡ Ok so_far
   none_yet p [] time so_far s h = ap (λ (b : Bool). from_piece b so_far p [] time) (not_less p.start time h)
   none_yet p (q ∷ later) time so_far s h =
       ap (λ (b : Bool). from_piece b so_far p (q ∷ later) time) (not_less p.start time h) ∙ none_yet q later time so_far s.1 (≤ℚ_trans _ _ _ h (≤ℚ_of_lt _ _ s.0))
 
-  -- all of a piece that ends before the time
+  -- The whole amount of a piece that ends before the time.
   whole_piece : (p q : Piece) (later : List Piece) (time so_far : ℚ) → p.start <ℚ time → q.start ≤ℚ time
       → supplied_after passes so_far (p ∷ q ∷ later) time ≡ (with_piece passes so_far p q.start >>= λ sum. supplied_after passes sum (q ∷ later) time)
   whole_piece p q later time so_far h k =

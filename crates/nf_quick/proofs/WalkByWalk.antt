@@ -1,4 +1,4 @@
--- Walks taken off a flow, one after the other.
+-- The decomposition of a flow, walk by walk.
 use Rattle.std.proofs.Common.{◌≡◌, ℕ, suc, ◌+◌, ◌-◌, ◌<◌, ◌≤◌, ◌==◌, List, [], ◌∷◌, ◌++◌, length, drop, take, get_or, Bool, true, false, ⊎_elim, eqb, ◌≢◌, Option, Some, None, slice_get, unwrap_or, option_map, refl, sym, ap, subst, ◌∙◌, append_assoc, append-nil, add-one, arith}
 use Rattle.std.specs.Prelude.{Ok, Err, if◌then◌else◌}
 use Rattle.std.specs.List.{AllByRecursion}
@@ -20,11 +20,11 @@ use Rattle.nf_quick_lists.specs.Walks.{first_out, head_of, way_from, way_out, le
 use Rattle.nf_residual.proofs.Stopping.{stopped, goes_on}
 use Rattle.nf_quick.specs.Spent.{is_out}
 
--- ---- the flows of the links, one more
+-- ---- the flows of the links, with one more
 pub flow_more : (all so_far next : List ℚ) (k : ℕ) (x : ℚ) → k < length all → so_far ≡ take k all → x ≡ number_at all k → next ≡ so_far ++ x ∷ [] → next ≡ take (k + 1) all
 flow_more all so_far next k x h e is made = made ∙ ap (λ (y : ℚ). so_far ++ y ∷ []) (is ∙ unwrap_or-slice_get all k 0ℚ) ∙ ap (λ (l : List ℚ). l ++ get_or all k 0ℚ ∷ []) e ∙ sym (take_more all k 0ℚ h)
 
--- ---- the first link out: what is left to be looked at gives what all links give
+-- ---- the first link out: the remaining links give the result of all links
 pub record LooksOn (links : List Link) (v : ℕ) (flows : List ℚ) (k : ℕ) : Type 0 where
   pub same : first_out k (drop k links) v flows ≡ first_out 0 links v flows
 
@@ -49,7 +49,7 @@ module _ (links : List Link) (v : ℕ) (flows : List ℚ) where
             ∙ sym (here ∙ ap (λ (b : Bool). if b then Some k else first_out (suc k) (drop (k + 1) links) v flows) f);
       }
 
--- ---- a way from the source: what it goes on with makes the whole
+-- ---- a path from the source: the links so far and the later ones make the whole path
 pub record LeadsOut (net : Network) (flows : List ℚ) (way : List ℕ) (node k : ℕ) : Type 0 where
   pub same : way ++ way_from (net.nodes - k) net flows node ≡ way_out net flows
   pub within : AllByRecursion (λ e. e < length net.links) way
@@ -86,7 +86,7 @@ module _ (net : Network) (flows : List ℚ) where
     way_goes b e link next head f is h made there = subst (λ (v : ℕ). LeadsOut net flows next v (k + 1)) (sym there)
         (subst (λ (w : List ℕ). LeadsOut net flows w link.head (k + 1)) (sym made) (way_more b e link (sym f) is h))
 
--- ---- walk by walk: what is left to be taken gives what is taken in all
+-- ---- walk by walk: the walks so far and the later ones make the whole list
 pub record TakesOn (passes : Passing) (net : Network) (all : List ℚ) (walks : List Fed) (flows : List ℚ) (k : ℕ) : Type 0 where
   pub same : with_front walks (walks_off passes (length net.links - k) net flows) ≡ walks_off passes (length net.links) net all
   pub count : length flows ≡ length net.links
@@ -161,6 +161,6 @@ pub some_there : (way : List ℕ) → (length way == 0) ≡ false → way ≡ []
 some_there [] e f = absurd (cc)
 some_there (x ∷ way) e f = absurd (cc)
 
--- fewer than so many, and as many
+-- Numbers below n are below m if n equals m.
 pub within_as : (n m : ℕ) (xs ys : List ℕ) → n ≡ m → xs ≡ ys → AllByRecursion (λ (e : ℕ). e < n) xs → AllByRecursion (λ (e : ℕ). e < m) ys
 within_as n m xs ys e f a = subst (λ (l : List ℕ). AllByRecursion (λ (e : ℕ). e < m) l) f (subst (λ (k : ℕ). AllByRecursion (λ (e : ℕ). e < k) xs) e a)

@@ -1,4 +1,4 @@
--- What `quickest` answers.
+-- The results of `quickest`.
 use Rattle.std.specs.Prelude.{◌≡◌, ◌⊎◌, ℕ, Result, Ok, Err}
 use Rattle.nf_rational.specs.Rational.{ℚ}
 use Rattle.nf_rational.specs.Operations.{0ℚ}
@@ -17,11 +17,11 @@ abbrev pub of_halt : Halt ℚ → QuickFault
 of_halt (Halt.Passed at) = QuickFault.Passed at
 of_halt Halt.Memory = QuickFault.Memory
 
--- the amount is 0, or each walk from source to sink has a link with a capacity
+-- The amount is 0, or each walk from source to sink has a link with a capacity.
 abbrev pub HasNoWay : Network → ℚ → Type 0
 HasNoWay net amount = (amount ≡ 0ℚ) ⊎ IsLimited net
 
--- where the walks that were pushed end: with no walk left to be pushed, over the budget, or with an operation that passes
+-- The result of the pushes: no walk is left to push, the budget is exceeded, or an operation exceeds its bound.
 abbrev pub IsPushed : Passing → Network → ℚ → ℕ → Result QuickStanding QuickFault → Type 0
 IsPushed passes net amount augments (Ok s) = at_part Part.Quick (push_up_to passes net amount augments (start_of net)) ≡ Ok (Done s)
 IsPushed passes net amount augments (Err (QuickFault.Budget walks)) =
@@ -31,8 +31,8 @@ IsPushed passes net amount augments (Err (QuickFault.Passed at)) =
     at_part Part.Quick (push_up_to passes net amount augments (start_of net)) ≡ Err at
 IsPushed passes net amount augments (Err QuickFault.Memory) = Unit {0}
 
--- Unbounded comes exactly where the amount is above 0 and a walk of unbounded links leads from source to sink, with such a walk; else
--- what comes is what the list says, unless memory is wanting.
+-- Unbounded implies that the amount is above 0, and carries a walk of unbounded links from source to sink. Each other result except Memory
+-- implies that the amount is 0 or no such walk exists, and is the result of `quickest_list`.
 abbrev pub IsAnswered : Passing → Network → ℚ → ℕ → Result Quick QuickFault → Type 0
 IsAnswered passes net amount augments (Ok quick) = HasNoWay net amount
     × (at_part Part.Quick (quickest_list passes net amount augments) ≡ Ok (FoundQuick quick))
@@ -44,7 +44,7 @@ IsAnswered passes net amount augments (Err (QuickFault.Passed at)) = HasNoWay ne
     × (at_part Part.Quick (quickest_list passes net amount augments) ≡ Err at)
 IsAnswered passes net amount augments (Err QuickFault.Memory) = Unit {0}
 
--- A quickest flow comes of walks that are pushed in order; over the budget, as many of them as allowed were pushed.
+-- A quickest flow results from walks pushed in order. Budget implies that as many walks as allowed were pushed.
 abbrev pub IsInOrder : Network → ℚ → ℕ → Result Quick QuickFault → Type 0
 IsInOrder net amount augments (Ok quick) = ComesOfPushes net amount augments quick
 IsInOrder net amount augments (Err (QuickFault.Budget walks)) = EndsAtBudget net amount augments walks.items

@@ -1,4 +1,4 @@
--- How these values are told apart, which the types of code that are seen as them rest on.
+-- Injective codes of the values of this crate, on which the models of the code types depend.
 use Rattle.std.specs.Prelude.{ℕ, List, Option, refl}
 use Rattle.std.specs.Coded.{Coded, code_by, coded×, coded_ℕ, coded_list, coded_option}
 use Rattle.nf_rational.specs.Rational.{ℚ, coded_ℚ}

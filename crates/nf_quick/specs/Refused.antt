@@ -1,8 +1,8 @@
--- What a push that is refused leaves.
+-- The state after a refused push.
 use Rattle.std.specs.Prelude.{◌≡◌}
 use Rattle.nf_quick_lists.specs.Quick.{QuickStanding}
 
--- nothing but the flow may be another
+-- The two states differ at most in the flow.
 pub record DiffersByFlow (old new : QuickStanding) : Type 0 where
   pub pushed : new.pushed ≡ old.pushed
   pub rate : new.rate ≡ old.rate

@@ -1,36 +1,36 @@
--- Walks of unbounded links from the source, as they are looked for: to some nodes one such walk is known.
+-- Known walks of unbounded links from the source.
 use Rattle.std.specs.Prelude.{◌≡◌, ℕ, Bool, true, false, not, ◌&&◌, List, Option, Some, None, is_none, is_some, length, slice_get, unwrap_or}
 use Rattle.nf_model.specs.Network.{Link, Network, IsLink}
 use Rattle.nf_quick_lists.specs.Steps.{IsUnboundedWalk}
 
--- of each node the links of a walk to it, if one is known
+-- For each node the links of a walk to it, if one is known.
 abbrev pub Ways : Type 0
 Ways = List (Option (List ℕ))
 
 abbrev pub way_at : Ways → ℕ → Option (List ℕ)
 way_at ways v = unwrap_or (slice_get ways v) None
 
--- this link is unbounded, and leads from a node with a way to one without
+-- The link is unbounded and leads from a node with a known walk to a node without one.
 abbrev pub leads_on : Ways → Link → Bool
 leads_on ways link = is_none link.capacity && (is_some (way_at ways link.tail) && not (is_some (way_at ways link.head)))
 
--- the link of this number does
+-- Link e leads to a new node.
 pub record LeadsOn (net : Network) (ways : Ways) (e : ℕ) : Type 0 where
   pub link : Link
   pub is_link : IsLink net e link
   pub leads : leads_on ways link ≡ true
 
--- no link does
+-- No link leads to a new node.
 abbrev pub NoneLeadsOn : Network → Ways → Type 0
 NoneLeadsOn net ways = (e : ℕ) (link : Link) → IsLink net e link → leads_on ways link ≡ false
 
--- each way is a walk of unbounded links from the source to its node, and the source has one
+-- Each known walk is a walk of unbounded links from the source to its node, and the walk to the source is known.
 pub record AreWays (net : Network) (ways : Ways) : Type 0 where
   pub count : length ways ≡ net.nodes
   pub source : (way : List ℕ) × (way_at ways net.source ≡ Some way)
   pub walks : (v : ℕ) (way : List ℕ) → way_at ways v ≡ Some way → IsUnboundedWalk net way net.source v
 
--- and a way is known to each node to which such a walk leads
+-- In addition, a walk is known to each node to which a walk of unbounded links leads.
 pub record AreAllWays (net : Network) (ways : Ways) : Type 0 where
   pub each : AreWays net ways
   pub all : (walk : List ℕ) (v : ℕ) → IsUnboundedWalk net walk net.source v → (way : List ℕ) × (way_at ways v ≡ Some way)

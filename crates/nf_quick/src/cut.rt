@@ -1,5 +1,5 @@
-// The cut over time of a flow: of each node the least of the time, its distance from the source, and the time plus its distance
-// from the sink.
+// The cut over time of a static flow. The time of a node is the least of three numbers: the flow's time, the node's distance from the
+// source, and that time plus its distance from the sink.
 ghost use Rattle.std.specs.Prelude.{◌≡◌, ◌<◌, length, None, slice_get, unwrap_or, IfOk};
 ghost use Rattle.nf_work.specs.declared.Part.TheVariants.{Quick};
 ghost use Rattle.nf_work.specs.Passing.{passes_Q};
@@ -12,7 +12,7 @@ use nf_graph::NodeId;
 use nf_net::{Link, LinkId, Network};
 use std::alloc::Global;
 
-// The lesser of a distance and the time; the time where there is no distance.
+// Returns the lesser of `distance` and `time`, or `time` if there is no distance.
 fn at_most(distance: Option<Q>, time: Q) -> Q
     ensures { result ≡ at_most_by distance time }
 {
@@ -22,7 +22,7 @@ fn at_most(distance: Option<Q>, time: Q) -> Q
     }
 }
 
-// The time of a node at these distances from source and sink.
+// Returns the cut time of a node with these distances from source and sink. Refuses exactly if the sum exceeds its bound.
 fn node_time(time: Q, from_source: Option<Q>, from_sink: Option<Q>) -> Result<Q, PassedAt<Q>>
     ensures { result ≡ at_part Quick (node_time_by passes_Q time from_source from_sink) }
 {
@@ -36,7 +36,7 @@ fn node_time(time: Q, from_source: Option<Q>, from_sink: Option<Q>) -> Result<Q,
     }
 }
 
-// A distance from the sink.
+// Returns the distance of a node from the sink, or None if there is none.
 fn distance_at(distances: &[Option<Q>], node: usize) -> Option<Q>
     requires { node < length distances.now }
     ensures { result ≡ unwrap_or (slice_get distances.now node) None }
@@ -44,8 +44,8 @@ fn distance_at(distances: &[Option<Q>], node: usize) -> Option<Q>
     distances[node]
 }
 
-/// The times of all nodes, at their distances from source and sink, which are times too. Passed comes exactly at the first operation
-/// of the list that passes, and has part Quick.
+/// Returns the cut times of all nodes, given their distances (times) from source and sink. Refuses with Passed, of the part Quick, at the
+/// first operation of `node_times_list` that exceeds its bound. Refuses with Memory only if memory can't be allocated.
 pub fn node_times(
     alloc: Global,
     time: Q,
@@ -65,7 +65,7 @@ pub fn node_times(
     Ok(cut)
 }
 
-// The amount so far, with what a link of this capacity and transit time lets through between the times of its ends.
+// Adds to `so_far` the amount that a link of this capacity and transit time lets through between the cut times of its ends.
 fn value_along(
     capacity: Option<Q>,
     transit: Q,
@@ -87,7 +87,7 @@ fn value_along(
     Ok(nf_frac::at!(Part::Quick, so_far.sum(through)))
 }
 
-// The time of a node.
+// Returns the cut time of a node.
 fn time_of(cut: &[Q], node: NodeId) -> Q
     requires { node < length cut.now }
     ensures { result ≡ number_at cut.now node }
@@ -105,8 +105,8 @@ fn value_after(cut: &[Q], so_far: Q, link: Link) -> Result<Q, PassedAt<Q>>
     value_along(link.capacity, link.transit, tail, head, so_far)
 }
 
-/// The value of a cut, an amount: what its links let through. Passed comes exactly at the first operation of the list that passes,
-/// and has part Quick. Takes no memory.
+/// Returns the value of a cut, an amount: the sum of what its links let through. Refuses with Passed, of the part Quick, at the first
+/// operation of `value_list` that exceeds its bound. Allocates nothing.
 pub fn value_of(net: &Network, cut: &[Q]) -> Result<Q, PassedAt<Q>>
     requires { length cut.now ≡ net.now.net.nodes }
     ensures { result ≡ at_part Quick (value_list passes_Q net.now.net.links cut.now) }

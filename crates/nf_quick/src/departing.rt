@@ -1,4 +1,4 @@
-// The least departure by which the source is supplied with an amount.
+// The least departure by which the supply reaches an amount.
 ghost use Rattle.std.specs.Prelude.{◌≡◌, IfOk, slice_get, option_map};
 ghost use Rattle.nf_rational.specs.Operations.{0ℚ};
 ghost use Rattle.nf_rational.specs.Order.{◌≤ℚ◌, ◌<ℚ◌, lt_ℚ};
@@ -11,7 +11,7 @@ ghost use Rattle.nf_quick_lists.specs.Departures.{within_piece, last_piece, depa
 use nf_frac::{Part, PassedAt, Q};
 use nf_net::{Network, Piece};
 
-// The departure in a piece whose rate is above 0, before whose start so much was supplied.
+// Returns the departure in a piece of rate above 0, where `known` is the amount supplied before its start.
 fn within(net: &Network, amount: Q, known: Q, piece: &Piece) -> Result<Option<Q>, PassedAt<Q>>
     requires { 0ℚ <ℚ piece.now.rate }
     ensures { result ≡ at_part Quick (within_piece passes_Q (checked_supply passes_Q net.now.net) amount known piece.now) }
@@ -22,7 +22,7 @@ fn within(net: &Network, amount: Q, known: Q, piece: &Piece) -> Result<Option<Q>
     Ok(Some(time))
 }
 
-// The departure in the last piece, if it supplies anything.
+// Returns the departure in the last piece, or None if its rate is 0 or less.
 fn in_last(net: &Network, amount: Q, known: Q, piece: &Piece) -> Result<Option<Q>, PassedAt<Q>>
     ensures { result
         ≡ at_part Quick (last_piece passes_Q (checked_supply passes_Q net.now.net) amount (lt_ℚ 0ℚ piece.now.rate) known piece.now) }
@@ -33,7 +33,7 @@ fn in_last(net: &Network, amount: Q, known: Q, piece: &Piece) -> Result<Option<Q
     within(net, amount, known, piece)
 }
 
-// When the piece of this number starts, if there is one.
+// Returns the start of a piece, a time, or None if there is no piece of this index.
 fn start_at(pieces: &[Piece], index: usize) -> Option<Q>
     ensures { result ≡ option_map (λ piece. piece.start) (slice_get pieces.now index) }
 {
@@ -45,7 +45,7 @@ fn start_at(pieces: &[Piece], index: usize) -> Option<Q>
     }
 }
 
-// The amount so far, with that of a piece up to the next start.
+// Adds to `known` the amount that a piece supplies up to the next start.
 fn with_piece(known: Q, piece: &Piece, next: Q) -> Result<Q, PassedAt<Q>>
     ensures { result ≡ at_part Quick (with_piece_by passes_Q known piece.now next) }
 {
@@ -54,8 +54,8 @@ fn with_piece(known: Q, piece: &Piece, next: Q) -> Result<Q, PassedAt<Q>>
     Ok(nf_frac::at!(Part::Quick, known.sum(amount)))
 }
 
-// The departure for an amount above 0: in the first piece up to whose end it is supplied, or in the last one. The supply goes on
-// from start to start: working it out anew would do the same operations once more.
+// Returns the departure for an amount above 0. It lies in the first piece by whose end the amount is supplied, or else in the last piece.
+// `known` holds the supply by the start of each piece: computing it anew would repeat the same operations.
 fn departs(net: &Network, amount: Q) -> Result<Option<Q>, PassedAt<Q>>
     requires { 0ℚ <ℚ amount }
     ensures { result ≡ at_part Quick (departs_by passes_Q (checked_supply passes_Q net.now.net) amount 0ℚ net.now.net.pieces) }
@@ -75,10 +75,10 @@ fn departs(net: &Network, amount: Q) -> Result<Option<Q>, PassedAt<Q>>
     Ok(None)
 }
 
-/// The least departure, a time of at least 0, by which the source is supplied with the amount, which is at least 0; None exactly
-/// where the supply never comes to it. Passed, of the part Quick, comes with the first operation that passes: piece by piece the
-/// supply by the next start, and in the piece in which the amount is reached the difference of the amount and what was supplied
-/// before, its quotient by the rate, and the sum of that and the piece's start.
+/// Returns the least departure, a time of at least 0, by which the source is supplied with `amount`, which is at least 0. Returns None
+/// exactly if the supply never reaches `amount`. Refuses with Passed, of the part Quick, at the first operation that exceeds its bound. The
+/// operations of each piece give the supply by the next start. In the piece that reaches the amount, they give the missing amount, its
+/// quotient by the rate, and the sum of that and the piece's start.
 #[tactic(auto, unfolding(nf_quick_lists::specs::Departures::departure_list))]
 pub fn departure(net: &Network, amount: Q) -> Result<Option<Q>, PassedAt<Q>>
     requires amount { 0ℚ ≤ℚ amount }

@@ -1,4 +1,4 @@
-// Why there is no quickest flow.
+// Refusals of `quickest`.
 ghost use Rattle.std.specs.Prelude.{◌≡◌};
 ghost use Rattle.nf_quick.specs.Answered.{of_halt};
 ghost use Rattle.nf_quick.specs.declared.fault.QuickFault.TheVariants as QuickFault;
@@ -8,16 +8,16 @@ use nf_frac::{Halt, PassedAt, Q};
 use nf_graph::LinkId;
 use std::alloc::AllocError;
 
-/// Why a quickest flow isn't found.
+/// Why `quickest` returns no flow.
 #[derive(Drop)]
 pub enum QuickFault {
-    /// So many walks as allowed were pushed, and the next one is shorter than the time.
+    /// As many walks as allowed were pushed, and the next one is shorter than the time.
     Budget { walks: Vec<Augment> },
     /// This walk from source to sink has no link with a capacity.
     Unbounded { links: Vec<LinkId> },
-    /// An operation passes.
+    /// An operation exceeds its bound.
     Passed(PassedAt<Q>),
-    /// Memory is wanting.
+    /// Memory can't be allocated.
     Memory,
 }
 

@@ -1,5 +1,5 @@
-//! The quickest flow of an amount from source to sink, with a cut over time that shows that none is earlier; and the least
-//! departure by which the source is supplied with an amount.
+//! The quickest flow of an amount from source to sink, with a cut over time that proves that no flow is earlier; and the least
+//! departure by which the supply reaches an amount.
 #![tactic(auto)]
 
 mod cut;

@@ -22,7 +22,7 @@ use nf_residual::{Residual, Walk};
 use std::alloc::{AllocError, Global};
 use std::marker::Model;
 
-// How far walks have come: the sum of their rates, the sum of rate times length, and the time that they take for the amount.
+// The totals of the pushed walks: the sum of their rates, the sum of rate times length, and the time that they need for the amount.
 #[derive(Drop)]
 struct Times {
     rate: Q,
@@ -47,7 +47,7 @@ fn sum(left: Q, right: Q) -> Result<Q, PassedAt<Q>>
     Ok(nf_frac::at!(Part::Quick, left.sum(right)))
 }
 
-// The time with a walk more, of this rate and length.
+// Returns the totals after one more walk of this rate and length. Refuses exactly if an operation exceeds its bound.
 #[tactic(auto, unfolding(nf_quick_lists::specs::Pushes::time_list))]
 fn time_with(
     amount: Q,
@@ -73,7 +73,7 @@ fn time_with(
     })
 }
 
-// Before the first walk there is no time yet.
+// Returns whether a walk of this length is shorter than the time. Before the first push there is no time, and each walk counts as shorter.
 fn is_early(length: Q, time: Option<Q>) -> bool
     ensures { result ≡ is_early_by length time }
 {
@@ -83,8 +83,8 @@ fn is_early(length: Q, time: Option<Q>) -> bool
     }
 }
 
-/// How far the pushes have come: the flow, the walks that were pushed, the sum of their rates, the sum of rate times length, and
-/// the time that they take for the amount, if there is a walk.
+/// The state of the pushes: the flow, the pushed walks, and their totals. `rate` is the sum of their rates, `cost` the sum of rate times
+/// length. `time` is the time that they need for the amount, or None before the first push.
 #[derive(Drop)]
 pub struct QuickStanding {
     pub flow: Residual,
@@ -106,7 +106,7 @@ impl Model for QuickStanding {
 }
 
 impl QuickStanding {
-    /// Before the first walk. Refused only where memory is wanting.
+    /// Returns the state before the first push. Refuses only if memory can't be allocated.
     pub fn start(alloc: Global, net: &Network) -> Result<QuickStanding, AllocError>
         ensures start { IfOk result (λ s. s ≡ start_of net.now.net) }
         ensures sound { IfOk result (λ s. IsSound net.now.net s.flows) }
@@ -121,7 +121,7 @@ impl QuickStanding {
         })
     }
 
-    // The walk, if it is shorter than the time.
+    // Returns the walk if it is shorter than the time, and None otherwise.
     fn if_early(&self, found: Option<Walk>) -> Option<Walk>
         ensures { (net : SeenNetwork) (amount : ℚ) → result ≡ next_of passes_Q net amount self.now found }
     {
@@ -137,8 +137,9 @@ impl QuickStanding {
         }
     }
 
-    /// The walk that is to be pushed next; None where no walk is left, or the shortest is as long as the time. Passed comes exactly at
-    /// the first operation of its list that passes, and has part Quick.
+    /// Returns the walk to push next. Returns None if no residual walk is left, or the shortest is at least as long as the time. Refuses
+    /// with Passed, of the part Quick, at the first operation of `next_list` that exceeds its bound. Refuses with Memory only if memory
+    /// can't be allocated.
     pub fn next(&self, alloc: Global, net: &Network) -> Result<Option<Walk>, Halt<Q>>
         requires sound { IsSound net.now.net self.now.flows }
         requires limited { IsLimited net.now.net }
@@ -150,8 +151,9 @@ impl QuickStanding {
         Ok(self.if_early(found))
     }
 
-    /// A walk is pushed with its whole room, which is added to the rate, and the time is made anew. Passed comes exactly at the first
-    /// operation of its list that passes, and has part Quick. Where it is refused only the flow may have changed, and that stays sound.
+    /// Pushes a walk with its whole room, adds the room to the rate, and computes the time anew. Refuses with Passed, of the part Quick, at
+    /// the first operation that exceeds its bound: of the push, then of the time. Refuses with Memory only if memory can't be allocated.
+    /// After a refusal only the flow may differ, and it is sound.
     pub fn push_on(&mut self, net: &Network, amount: Q, walk: Walk) -> Result<(), Halt<Q>>
         requires sound { IsSound net.now.net self.old.flows }
         requires walk { IsShortestWalk net.now.net self.old.flows walk }

@@ -1,4 +1,4 @@
-// Shortest residual walks, pushed one after the other.
+// Pushes of shortest residual walks in succession.
 ghost use Rattle.std.specs.Prelude.{IfOk};
 ghost use Rattle.nf_work.specs.Passing.{passes_Q};
 ghost use Rattle.nf_quick_lists.specs.Steps.{IsLimited};
@@ -11,7 +11,8 @@ use nf_frac::Q;
 use nf_net::Network;
 use std::alloc::Global;
 
-/// Pushes shortest walks until none is left that is shorter than the time; Budget comes where one is left after so many pushes.
+/// Pushes shortest walks until none is left that is shorter than the time. Refuses with Budget exactly if `augments` walks were pushed and
+/// such a walk is left.
 pub(crate) fn push_up_to(
     alloc: Global,
     net: &Network,

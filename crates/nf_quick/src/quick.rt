@@ -1,10 +1,10 @@
-// What a quickest flow is told by.
+// A quickest flow as a value.
 use crate::rated::Rated;
 use nf_frac::Q;
 use std::marker::Model;
 
-/// A quickest flow: its time; walks that are fed at their rates from time 0 until the time less their transit sums; and of each
-/// node its time in a cut over time, whose value, an amount, is that which is delivered.
+/// A quickest flow. The walks are fed at their rates from time 0 until `time` minus their transit sums. `cut` has the time of each node in
+/// a cut over time. `value`, an amount, is the value of that cut, which equals the delivered amount.
 #[derive(Drop)]
 pub struct Quick {
     pub time: Q,

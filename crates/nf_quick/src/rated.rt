@@ -1,11 +1,11 @@
-// Walks with their rates.
+// Walks with rates.
 use nf_frac::Q;
 use nf_graph::LinkId;
 use nf_residual::Walk;
 use std::marker::Model;
 
-/// A walk from source to sink, by its links, that is fed at a rate from time 0 on, for as long as what is fed can still arrive by
-/// the end (temporally repeated flows go back to Ford and Fulkerson 1958).
+/// A walk from source to sink, by its links. It is fed at a constant rate from time 0 for as long as the flow can still arrive by the end
+/// (temporally repeated flows go back to Ford and Fulkerson 1958).
 #[derive(Drop)]
 pub struct Rated {
     pub rate: Q,
@@ -23,7 +23,7 @@ impl Model for Rated {
     ghost view = { λ r. record { rate = r.rate; walk = r.links.items } };
 }
 
-/// A residual walk that was pushed, with its amount, a rate.
+/// A pushed residual walk, with the pushed rate `amount`.
 #[derive(Drop)]
 pub struct Augment {
     pub walk: Walk,

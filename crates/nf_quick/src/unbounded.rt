@@ -25,7 +25,7 @@ impl Model for Way {
     ghost view = { λ w. w.links.items };
 }
 
-// A way to the node is known.
+// Returns whether a walk to the node is known.
 fn is_known(ways: &[Option<Way>], node: NodeId) -> bool
     requires { node < length ways.now }
     ensures { result ≡ is_some (way_at ways.now node) }
@@ -33,7 +33,7 @@ fn is_known(ways: &[Option<Way>], node: NodeId) -> bool
     ways[node.index()].is_some()
 }
 
-// The link is unbounded, and leads from a node with a way to one without.
+// Returns whether the link is unbounded and leads from a node with a known walk to a node without one.
 fn leads_on(ways: &[Option<Way>], link: Link) -> bool
     requires tail { link.tail < length ways.now }
     requires head { link.head < length ways.now }
@@ -42,7 +42,7 @@ fn leads_on(ways: &[Option<Way>], link: Link) -> bool
     link.capacity.is_none() && is_known(ways, link.tail) && !is_known(ways, link.head)
 }
 
-// The first link that leads on.
+// Returns the first link that leads to a new node, or None if there is none.
 fn next_link(net: &Network, ways: &[Option<Way>]) -> Option<LinkId>
     requires { length ways.now ≡ net.now.net.nodes }
     ensures { MatchOption result (NoneLeadsOn net.now.net ways.now) (λ e. LeadsOn net.now.net ways.now e) }
@@ -57,7 +57,7 @@ fn next_link(net: &Network, ways: &[Option<Way>]) -> Option<LinkId>
     None
 }
 
-// The way to a node and a link more.
+// Returns the walk to a node, extended by a link.
 fn longer(
     alloc: Global,
     ways: &[Option<Way>],
@@ -75,7 +75,7 @@ fn longer(
     Ok(Way { links })
 }
 
-// No way is known but that of no link to the source.
+// Returns the initial table: the empty walk to the source, and None for each other node.
 fn first_ways(alloc: Global, net: &Network) -> Result<Vec<Option<Way>>, AllocError>
     ensures { IfOk result (λ ways. ways.items ≡ set (replicate net.now.net.nodes None) net.now.net.source (Some [])) }
 {
@@ -97,7 +97,7 @@ fn put(ways: &mut Vec<Option<Way>>, node: NodeId, way: Way)
     ways[node.index()] = Some(way);
 }
 
-// Ways to all nodes to which walks of unbounded links lead from the source.
+// Returns a walk of unbounded links from the source to each node, or None where no such walk leads.
 fn all_ways(alloc: Global, net: &Network) -> Result<Vec<Option<Way>>, AllocError>
     ensures { IfOk result (λ ways. AreAllWays net.now.net ways.items) }
 {
@@ -111,7 +111,7 @@ fn all_ways(alloc: Global, net: &Network) -> Result<Vec<Option<Way>>, AllocError
     Ok(ways)
 }
 
-/// A walk of unbounded links from source to sink; None exactly where there is none.
+/// Returns a walk of unbounded links from source to sink, or None exactly if there is none. Refuses only if memory can't be allocated.
 pub(crate) fn unbounded_walk(
     alloc: Global,
     net: &Network,

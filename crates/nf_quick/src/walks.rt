@@ -1,5 +1,5 @@
-// Walks taken off a static flow: each from the source along the first link that has flow left, with the least flow left as its
-// rate.
+// The decomposition of a static flow into walks. Each walk starts at the source and follows, from each node, the first link with flow left.
+// Its rate is the least flow on its links.
 ghost use Rattle.std.specs.Prelude.{◌≡◌, ℕ, ◌<◌, ◌==◌, length, set, slice_get, Some, None, unwrap_or, IfOk, OnOk};
 ghost use Rattle.std.specs.List.{AllByRecursion};
 ghost use Rattle.nf_work.specs.declared.Part.TheVariants.{Quick};
@@ -15,14 +15,14 @@ use nf_net::{Link, LinkId, Network};
 use nf_residual::{flow_at, lesser, put_flow};
 use std::alloc::{AllocError, Global};
 
-// A link leaves a node, and has flow left.
+// Returns whether the link leaves the node and has flow left.
 fn is_out(link: Link, node: NodeId, flow: Q) -> bool
     ensures { result ≡ is_out_by link node flow }
 {
     link.tail == node && Q::zero().is_below(flow)
 }
 
-// The first link out of a node that has flow left; so many of the first links are spent.
+// Returns the first link out of a node with flow left, or None. The first `spent` links are known to be no such links.
 fn first_out(net: &Network, node: NodeId, flows: &[Q], spent: u32) -> Option<LinkId>
     requires flows { length flows.now ≡ length net.now.net.links }
     requires spent { IsSpent net.now.net.links flows.now node spent }
@@ -39,7 +39,7 @@ fn first_out(net: &Network, node: NodeId, flows: &[Q], spent: u32) -> Option<Lin
     None
 }
 
-// How many of the first links are spent where this one was found.
+// Returns how many of the first links precede `found`; all links if nothing was found.
 fn spent_before(net: &Network, found: &Option<LinkId>) -> u32
     ensures { result ≡ unwrap_or found.now (length net.now.net.links) }
 {
@@ -63,7 +63,7 @@ fn put_spent(spent: &mut Vec<u32>, node: NodeId, count: u32)
     spent[node.index()] = count;
 }
 
-// The first link with flow out of a node, where it is kept of each node how many of the first links are spent.
+// Returns the first link out of a node with flow left, and updates the count of spent first links of that node.
 fn next_out(net: &Network, node: NodeId, flows: &[Q], spent: &mut Vec<u32>) -> Option<LinkId>
     requires flows { length flows.now ≡ length net.now.net.links }
     requires node { node < length spent.old.items }
@@ -80,7 +80,7 @@ fn next_out(net: &Network, node: NodeId, flows: &[Q], spent: &mut Vec<u32>) -> O
     found
 }
 
-// From the source on, each time along the first link that has flow left.
+// Returns the links from the source on, each the first one with flow left, at most as many as there are nodes.
 fn way_out(
     alloc: Global,
     net: &Network,
@@ -108,7 +108,7 @@ fn way_out(
     Ok(way)
 }
 
-// The least flow along links.
+// Returns the least flow along links, a rate, or 0 for no links.
 fn least_along(flows: &[Q], way: &[LinkId]) -> Q
     requires { AllByRecursion (λ e. e < length flows.now) way.now }
     ensures { result ≡ least_along_by flows.now None way.now }
@@ -120,7 +120,7 @@ fn least_along(flows: &[Q], way: &[LinkId]) -> Q
     least.unwrap_or(Q::zero())
 }
 
-// A rate is taken off along these links.
+// Subtracts a rate from the flow of each of these links. Refuses at the first operation that exceeds its bound.
 fn take(flows: &mut Vec<Q>, way: &[LinkId], rate: Q) -> Result<(), PassedAt<Q>>
     requires { AllByRecursion (λ e. e < length flows.old.items) way.now }
     ensures list { seen_at (λ _. flows.new.items) (λ q. q) result ≡ at_part Quick (take_list passes_Q rate way.now flows.old.items) }
@@ -135,7 +135,7 @@ fn take(flows: &mut Vec<Q>, way: &[LinkId], rate: Q) -> Result<(), PassedAt<Q>>
     Ok(())
 }
 
-// A walk is taken off along these links, with the least flow on them.
+// Subtracts the least flow along these links from each of them, and returns the links with that rate.
 fn walk_off(flows: &mut Vec<Q>, links: Vec<LinkId>) -> Result<Rated, PassedAt<Q>>
     requires { AllByRecursion (λ e. e < length flows.old.items) links.items }
     ensures list { seen_at (λ _. flows.new.items) (λ q. q) result
@@ -154,9 +154,9 @@ fn is_none(way: &[LinkId]) -> bool
     way.is_empty()
 }
 
-/// Walks are taken off these flows until none is left: each takes all that some link has left, so that there are at most as many
-/// as links. A link whose flow is spent is never looked at again by its node. Passed comes exactly at the first operation of the list
-/// that passes, and has part Quick.
+/// Removes walks from these flows until none is left, and returns them. Each walk removes the whole flow of at least one link, so there are
+/// at most as many walks as links. A node never examines a spent link again. Refuses with Passed, of the part Quick, at the first
+/// subtraction that exceeds its bound. Refuses with Memory only if memory can't be allocated.
 pub fn walks_off(alloc: Global, net: &Network, flows: Vec<Q>) -> Result<Vec<Rated>, Halt<Q>>
     requires { length flows.items ≡ length net.now.net.links }
     ensures { Gives (λ walks. walks.items) (λ q. q) result

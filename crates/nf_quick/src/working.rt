@@ -1,4 +1,4 @@
-// The quickest flow, worked out.
+// The computation of a quickest flow.
 ghost use Rattle.std.specs.Prelude.{◌≡◌, ◌≤◌, IfOk};
 ghost use Rattle.nf_rational.specs.Rational.{ℚ};
 ghost use Rattle.nf_rational.specs.Operations.{0ℚ};
@@ -23,7 +23,7 @@ use nf_net::{LinkId, Network};
 use nf_residual::Residual;
 use std::alloc::{AllocError, Global};
 
-// For the amount 0: no time, no walk.
+// Returns the result for the amount 0: time 0, no walks, a cut of zeros.
 fn nothing(alloc: Global, net: &Network) -> Result<Quick, AllocError>
     ensures { IfOk result (λ quick. quick ≡ nothing_in net.now.net) }
 {
@@ -36,7 +36,7 @@ fn nothing(alloc: Global, net: &Network) -> Result<Quick, AllocError>
     })
 }
 
-// The flow of each link.
+// Returns the flow of each link, a rate.
 fn flows_of(alloc: Global, net: &Network, flow: &Residual) -> Result<Vec<Q>, AllocError>
     requires { IsSound net.now.net flow.now }
     ensures { IfOk result (λ flows. flows.items ≡ flow.now) }
@@ -48,7 +48,7 @@ fn flows_of(alloc: Global, net: &Network, flow: &Residual) -> Result<Vec<Q>, All
     Ok(flows)
 }
 
-// The walks and the cut of a flow and a time.
+// Returns the result for a flow and its time: the walks of the flow, the cut over time and its value.
 #[tactic(auto, unfolding(nf_quick_lists::specs::Quick::finish_list))]
 fn finish(alloc: Global, net: &Network, flow: &Residual, time: Q) -> Result<Quick, Halt<Q>>
     requires { IsSound net.now.net flow.now }
@@ -69,7 +69,7 @@ fn finish(alloc: Global, net: &Network, flow: &Residual, time: Q) -> Result<Quic
     })
 }
 
-// What the list says, unless walks of unbounded links deliver any amount at once.
+// Returns the result of `quickest_list`, after testing whether a walk of unbounded links delivers any amount at once.
 fn work_out(alloc: Global, net: &Network, amount: Q, augments: u64) -> Result<Quick, QuickFault>
     requires { 0ℚ ≤ℚ amount }
     ensures { IsAnswered passes_Q net.now.net amount augments result }
@@ -86,13 +86,18 @@ fn work_out(alloc: Global, net: &Network, amount: Q, augments: u64) -> Result<Qu
     Ok(quick)
 }
 
-/// The quickest flow of an amount of at least 0 from source to sink: walks that are fed at their rates deliver it by the time,
-/// no feasible flow over time delivers it earlier, and the value of the cut over time is the amount. For the amount 0 the time is
-/// 0, there are no walks, and the cut is 0 everywhere. Else shortest residual walks are pushed with their whole room (after Ford
-/// and Fulkerson 1958), until none is left or the next is as long as the time. Unbounded comes exactly where the amount is above 0
-/// and a walk of unbounded links leads from source to sink, with such a walk; Budget exactly where so many walks as allowed, at
-/// least 1, were pushed and the next is shorter than the time, with those walks; Passed, of the part Quick, with the first
-/// operation that passes: of the pushes, then of the walks, of the distances from source and sink, of the cut, and of its value.
+/// Returns the quickest flow of an amount of at least 0 from source to sink. Walks fed at their rates deliver the amount by the time. No
+/// feasible flow over time delivers it earlier. The value of the cut over time is the amount. For the amount 0 the time is 0, there are no
+/// walks, and the cut is 0 everywhere.
+///
+/// For an amount above 0, shortest residual walks are pushed with their whole room (after Ford and Fulkerson 1958). The pushes end if no
+/// walk is left or the next is at least as long as the time. `augments` is the greatest number of pushes, at least 1.
+///
+/// - `Unbounded`: exactly if the amount is above 0 and a walk of unbounded links leads from source to sink; has such a walk.
+/// - `Budget`: exactly if `augments` walks were pushed and the next is shorter than the time; has the pushed walks.
+/// - `Passed`: at the first operation that exceeds its bound, with part Quick: of the pushes, then of the walks, of the distances from
+///   source and sink, of the cut, and of its value.
+/// - `Memory`: only if memory can't be allocated.
 pub fn quickest(alloc: Global, net: &Network, amount: Q, augments: u64) -> Result<Quick, QuickFault>
     requires amount { 0ℚ ≤ℚ amount }
     requires augments { 1 ≤ augments }
@@ -100,7 +105,7 @@ pub fn quickest(alloc: Global, net: &Network, amount: Q, augments: u64) -> Resul
     ensures quickest { IfOk result (IsQuickFlow net.now.net amount) }
     ensures pushes { IsInOrder net.now.net amount augments result }
 {
-    // For the proof: the network is that of an accepted file.
+    // Proof: the network is that of an accepted file.
     net.recall();
     work_out(alloc, net, amount, augments)
 }

@@ -1,4 +1,4 @@
--- A feasible flow delivers at most the value of a cut: the balances of all nodes, each at the time of the node, in one sum.
+-- A feasible flow delivers at most the value of a cut: the balances of all nodes, each at the time of the node, are summed.
 use Rattle.std.proofs.Common.{◌≡◌, ◌≢◌, ℕ, suc, ◌<◌, List, [], ◌∷◌, length, ⊎_elim, true, false, eqb, Some, slice_get, sym, subst, refl, ◌∙◌}
 use Rattle.std.proofs.lemmas.Option.{slice_get_within}
 use Rattle.std.proofs.lemmas.Bool.Decides.{eqb_tells}
@@ -43,7 +43,7 @@ module _ (net : Network) (entered left : ℕ → ℚ → ℚ) (time : ℚ) (cut 
   within : (e : ℕ) (link : Link) → slice_get net.links e ≡ Some link → e < length net.links
   within e link p = slice_get_within net.links e link p
 
-  -- at the source, at time 0, nothing has come and nothing has gone
+  -- At the source, at time 0, nothing has entered or left.
   at_source : 0ℚ ≤ℚ in_less_out net.links out_at in_at net.source
   at_source =
       let begins : number_at cut net.source ≤ℚ 0ℚ = ≤ℚ_of_same _ _ is_cut.source in

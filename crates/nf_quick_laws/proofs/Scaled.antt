@@ -1,4 +1,5 @@
--- A cut that is scaled down to an earlier time; and that a cut whose value a flow delivers by its time leaves no earlier time.
+-- A cut scaled down to an earlier time; and no earlier time delivers the amount if the value of a cut equals the amount delivered by its
+-- time.
 use Rattle.std.proofs.Common.{◌≡◌, ℕ, suc, List, [], ◌∷◌, ⊎_elim, Option, Some, None, slice_get, unwrap_or, option_map, sym, ap, subst, refl, ◌∙◌}
 use Rattle.std.proofs.lemmas.Option.{slice_get-map}
 use Rattle.std.proofs.lemmas.List.{length-map}
@@ -27,8 +28,8 @@ number_at-scaled c cut v = ap (λ (o : Option ℚ). unwrap_or o 0ℚ) (slice_get
     by_entry None = times_none c
     by_entry (Some a) = refl
 
--- ---- one link
--- from 0 to 1: less is scaled than the transit time lets stand
+-- ---- if t is at most s + r, then c t is at most c s + r, for a factor c from 0 to 1
+-- For a factor from 0 to 1, scaling shortens the time that the transit time leaves.
 shorter : (c s t r x y : ℚ) → 0ℚ ≤ℚ c → c ≤ℚ 1ℚ → 0ℚ ≤ℚ r → x ≡ c *ℚ s → y ≡ c *ℚ t → t ≤ℚ s +ℚ r → y ≤ℚ x +ℚ r
 shorter c s t r x y n m h e f k = linear_le (c ∷ s ∷ t ∷ r ∷ x ∷ y ∷ []) (le_times n k ∷ le_times h m ∷ eq e ∷ eq f ∷ []) (search reading_of depth 12) tt
 
@@ -80,7 +81,7 @@ at_most_one c u t h e k = ⊎_elim
     (λ (l : c ≤ℚ 1ℚ). l)
     (lt_or_le_ℚ 1ℚ c)
 
--- c is below 1, so that c times an amount above 0 is below the amount
+-- c is below 1, so c times an amount above 0 is below the amount.
 not_enough : (c u t amount : ℚ) → 0ℚ <ℚ t → c *ℚ t ≡ u → u <ℚ t → 0ℚ <ℚ amount → amount ≤ℚ c *ℚ amount → ⊥
 not_enough c u t amount h e k some g = ⊎_elim
     (λ (l : c <ℚ 1ℚ). too_little c amount l some g)

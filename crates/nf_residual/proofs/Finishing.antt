@@ -1,4 +1,4 @@
--- The shortest walk and least lengths, out of what rounds found.
+-- The shortest walk and the least lengths, from the result of the rounds.
 use Rattle.std.proofs.Common.{◌≡◌, ℕ, ◌<◌, List, length, map, option_map, Option, Some, refl, sym, ap, subst, ◌∙◌}
 use Rattle.std.specs.Prelude.{Ok, Err}
 use Rattle.std.specs.List.{AllByRecursion}
@@ -21,7 +21,7 @@ use Rattle.nf_residual_laws.proofs.Pushes.{links_within}
 use Rattle.nf_residual.proofs.Fits.{all_of}
 use Rattle.nf_residual.proofs.Stopping.{ok_of_part, stops, goes_on, stops_as}
 
--- `seen` are the flows, as they were lent
+-- `seen` are the borrowed flows.
 module _ (passes : Passing) (net : Network) (flows seen : List ℚ) (lent : seen ≡ flows) where
   -- ---- the shortest walk
   abbrev finished : Known → Checked (Option Walk)
@@ -58,7 +58,7 @@ module _ (passes : Passing) (net : Network) (flows seen : List ℚ) (lent : seen
       pub walk_first : IsNetwork net → IsSound net flows → IsLimited net → (walk : Option Walk) → Ok walk ≡ at_part Part.Quick (with_room passes net seen way) → IsShortest net flows walk
       walk_first good sound limited walk e = IsShortest-list passes net flows good sound.closed limited walk (ok_of_part (shortest_list passes net flows) walk (walk_listed walk e))
 
-      -- its steps are along links
+      -- The steps of the walk are along links.
       pub steps_within : IsNetwork net → IsSound net flows → (reach : Reach) → way ≡ Some reach → AllByRecursion (λ (step : Step). step.link < length net.links) reach.steps
       steps_within good sound reach e =
           let all : IsFoundAt net flows net.source net.sink (known_at known net.sink) =

@@ -36,7 +36,7 @@ as_list : (passes : Passing) (amount : ℚ) (flows : List ℚ) (steps : List Ste
 unfolding push_list
 as_list passes amount flows steps = refl
 
--- what a push leaves is sound
+-- A push leaves a sound flow.
 pub pushed_sound : (passes : Passing) (net : Network) (flows new old : List ℚ) (walk : Walk) (steps : List Step) (amount : ℚ) → IsNetwork net → IsSound net flows → IsShortestWalk net flows walk → 0ℚ <ℚ amount
     → amount ≤ℚ walk.room → old ≡ flows → steps ≡ walk.steps → Ok new ≡ at_part Part.Quick (fold_checked (push_step passes amount) old steps) → IsSound net new
 pushed_sound passes net flows new old walk steps amount good sound shortest some within same along e =

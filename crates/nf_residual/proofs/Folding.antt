@@ -1,4 +1,4 @@
--- A fold over a list of checked computations, one member after the other.
+-- A fold over a list of checked computations.
 use Rattle.std.proofs.Common.{◌≡◌, ℕ, ◌+◌, ◌<◌, ◌≤◌, List, [], ◌∷◌, length, drop, get_or, sym, ap, subst, ◌∙◌, zero, suc, arith}
 use Rattle.std.specs.Prelude.{Ok, Err}
 use Rattle.std.specs.List.{AllByRecursion}
@@ -10,13 +10,13 @@ use Rattle.nf_work.specs.Checked.{Checked, at_part, fold_checked}
 use Rattle.nf_work.proofs.Each.{fold_ok}
 use Rattle.nf_residual.proofs.Stopping.{ok_of_part, stopped}
 
--- what holds of all members holds of each
+-- A property of all members holds for each.
 pub all_at : {A : Type 0} (P : A → Type 0) (xs : List A) (k : ℕ) (x : A) → AllByRecursion P xs → k < length xs → x ≡ get_or xs k x → P x
 all_at P [] k x a h e = absurd (omega arith)
 all_at P (y ∷ xs) zero x a h e = subst P (sym e) a.0
 all_at P (y ∷ xs) (suc k) x a h e = all_at P xs k x a.1 (omega arith) e
 
--- what is left to be done gives what the whole list gives
+-- The remaining members give the result of the whole list.
 pub record FoldsOn {A B : Type 0} (f : B → A → Checked B) (xs : List A) (before now : B) (k : ℕ) : Type 0 where
   pub same : fold_checked f now (drop k xs) ≡ fold_checked f before xs
 

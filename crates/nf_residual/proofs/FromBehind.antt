@@ -1,4 +1,4 @@
--- The order of walks of equally many steps, from the last step back.
+-- The order of walks with equally many steps, compared from the last step back.
 use Rattle.std.proofs.Common.{◌≡◌, ℕ, suc, ◌+◌, ◌-◌, ◌<◌, ◌≤◌, List, [], ◌∷◌, ◌++◌, length, Bool, true, false, nat_lt, ◌==◌, ◌&&◌, ◌||◌, not, if◌then◌else◌, ◌⊎◌, inl, inr, ⊎_elim, eqb, leb, ◌≢◌, sym, ap, refl, ◌∙◌, arith}
 use Rattle.std.specs.Ordering.{is_lt, is_gt}
 use Rattle.std.specs.declared.cmp.Ordering.{Ordering}
@@ -21,7 +21,7 @@ are_same [] [] = true
 are_same (a ∷ walk) (b ∷ other) = (place a == place b) && are_same walk other
 are_same walk other = false
 
--- where two walks are the same, what comes after them decides
+-- If two walks are equal, the later steps decide.
 abbrev before_then : List Step → List Step → Bool → Bool
 before_then walk other later = are_before walk other || (are_same walk other && later)
 
@@ -68,7 +68,7 @@ before_last (x ∷ walk) (y ∷ other) a b later h =
 before_is : (walk other : List Step) → are_before walk other ≡ before_then walk other false
 before_is walk other = sym (nothing_later (are_before walk other) (are_same walk other))
 
--- the same walk
+-- The walks are equal.
 itself : (a : ℕ) → (a == a) ≡ true
 itself a = ⊎_elim (λ (w : (eqb a a ≡ true) × (a ≡ a)). w.0) (λ (w : (eqb a a ≡ false) × (a ≢ a)). absurd (w.1 refl)) (eqb_tells a a)
 
@@ -84,7 +84,7 @@ before_self (x ∷ walk) later =
     ∙ one_same (nat_lt (place x) (place x)) (place x == place x) (before_then walk walk later) (itself (place x)) (equal_not_less (place x) (place x) (itself (place x)))
     ∙ before_self walk later
 
--- ---- two ways, back from their last steps; k steps were compared, besides the one more
+-- ---- two paths compared back from their last steps, k steps so far
 pub record ComparesOn (tree : List Twig) (way : ℕ) (step : Step) (other here there : ℕ) (decided : Bool) (k : ℕ) : Type 0 where
   pub same : are_before ((way_at tree way).steps ++ step ∷ []) (way_at tree other).steps
       ≡ before_then (steps_back ((twig_at tree way).count - k) tree here) (steps_back ((twig_at tree way).count - k) tree there) decided
@@ -137,7 +137,7 @@ module _ (tree : List Twig) (way : ℕ) (step : Step) (other : ℕ) where
         let none : count - k ≡ 0 = omega arith in
         sym (on.same ∙ ap (λ (n : ℕ). before_then (steps_back n tree here) (steps_back n tree there) decided) none)
 
--- ---- and of other numbers of steps
+-- ---- paths with different numbers of steps
 longer_by_one : (tree : List Twig) (way : ℕ) (step : Step) → length ((way_at tree way).steps ++ step ∷ []) ≡ (twig_at tree way).count + 1
 longer_by_one tree way step = length_push (way_at tree way).steps step ∙ ap (λ (n : ℕ). n + 1) (steps_are (twig_at tree way).count tree way)
 
@@ -165,7 +165,7 @@ module _ (tree : List Twig) (way : ℕ) (step : Step) (other : ℕ) where
       unequal false true r f = absurd (clash true refl f)
       unequal false false r f = refl
 
--- ---- and of other lengths
+-- ---- paths of different lengths
 module _ (a b : Reach) where
   abbrev by_tests : Bool → Bool → Bool
   by_tests less greater = less || (not greater && are_fewer_or_before a.steps b.steps)

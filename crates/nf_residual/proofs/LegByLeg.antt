@@ -1,4 +1,4 @@
--- The legs of a flow are its steps that can be gone, and a round along them is the round along all steps.
+-- The arcs of a flow are its steps with residual capacity, and a round over the arcs equals the round over all steps.
 use Rattle.std.proofs.Common.{◌≡◌, ℕ, zero, suc, ◌+◌, ◌<◌, ◌≤◌, Bool, true, false, if◌then◌else◌, List, [], ◌∷◌, ◌++◌, length, drop, Some, slice_get, refl, sym, ap, subst, ◌∙◌, append_assoc, append-nil, add-one}
 use Rattle.std.specs.Prelude.{Ok, Err}
 use Rattle.std.proofs.lemmas.List.{drop_more, drop_all}
@@ -22,7 +22,7 @@ pub bind_same : {A B : Type 0} (r : Checked A) (f g : A → Checked B) → ((x :
 bind_same (Ok x) f g e = e x
 bind_same (Err p) f g e = refl
 
--- ---- a round along legs
+-- ---- a round over the arcs
 module _ (passes : Passing) (flows : List ℚ) (before : Known) where
   abbrev goes : Known → Leg → Checked Known
   goes = along_leg passes before
@@ -30,7 +30,7 @@ module _ (passes : Passing) (flows : List ℚ) (before : Known) where
   abbrev steps : Known → Step × Link → Checked Known
   steps = along_step passes flows before
 
-  -- one step, and then others
+  -- One step, and then the others.
   abbrev leg_if : Bool → Bool → ℕ → Link → List Leg
   leg_if can forward e link = if can then record { step = record { link = e; forward = forward }; begin = begin_of forward link; end = end_of forward link; transit = link.transit } ∷ [] else []
 
@@ -52,7 +52,7 @@ module _ (passes : Passing) (flows : List ℚ) (before : Known) where
   unfolding round_list
   round_along links legs is = sym (ap (λ (l : List Leg). fold_checked goes before l) is ∙ as_steps 0 links before)
 
--- ---- legs lead between nodes
+-- ---- the arcs begin and end at nodes
 none_led : (nodes : ℕ) → AreLegs nodes []
 none_led nodes k leg e = absurd (cc)
 

@@ -1,4 +1,4 @@
--- Entries that are read from lists: flows, numbers of ways and ways.
+-- Entries read from lists: flows, path indices and paths.
 use Rattle.std.proofs.Common.{◌≡◌, ℕ, zero, suc, ◌<◌, List, [], ◌∷◌, length, get_or, Option, Some, None, option_map, refl, sym, ap, ◌∙◌, arith}
 use Rattle.std.specs.Prelude.{IfSome}
 use Rattle.std.proofs.lemmas.List.{length-map}
@@ -30,12 +30,12 @@ twig_read twigs now way twig same b r = r ∙ ap (λ (l : List Twig). get_or l w
     go (t ∷ l) zero b = refl
     go (t ∷ l) (suc k) b = go l k (omega arith)
 
--- the number of a way that is known is one of theirs
+-- The index of a known path is below the number of paths.
 pub way_within : (count : ℕ) (places : Places) (v : ℕ) (place : Option ℕ) → AreWithin count places → place ≡ place_at places v → IfSome place (λ way. way < count)
 way_within count places v None within e = tt
 way_within count places v (Some way) within e = within v way (sym e)
 
--- ---- the places of what is known, as they are lent
+-- ---- the indices of known paths, as the code borrows them
 module _ (tree : List Twig) (places lent : Places) (known : Known) (v i : ℕ) (view : known_by tree places ≡ known) (same : lent ≡ places) (at : i ≡ v) where
   pub place_there : v < length known → i < length lent
   place_there h =

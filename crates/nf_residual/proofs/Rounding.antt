@@ -1,4 +1,4 @@
--- Rounds: leg by leg, and round by round.
+-- Bellman-Ford rounds: arc by arc, and round by round.
 use Rattle.std.proofs.Common.{◌≡◌, ℕ, zero, suc, ◌+◌, ◌-◌, ◌<◌, ◌≤◌, List, [], ◌∷◌, ◌++◌, length, length-append, drop, set, replicate, get_or, true, ◌⊎◌, inl, inr, ⊎_elim, Option, Some, None, option_map, refl, sym, ap, subst, ◌∙◌, append_assoc, slice_get, arith}
 use Rattle.std.specs.Prelude.{Ok}
 use Rattle.std.proofs.lemmas.List.{drop_more, drop_all, length-set, length-replicate, length-map}
@@ -28,7 +28,7 @@ lt_or_ge zero (suc k) = inl (omega arith)
 lt_or_ge (suc j) zero = inr (omega arith)
 lt_or_ge (suc j) (suc k) = ⊎_elim (λ (h : j < k). inl (omega arith)) (λ (h : k ≤ j). inr (omega arith)) (lt_or_ge j k)
 
--- ---- leg by leg: what is left to be done gives what the whole round gives, and legs that were gone offer nothing new any more
+-- ---- arc by arc: the remaining arcs give the result of the whole round, and processed arcs offer nothing new
 abbrev IsOld : ℕ → Places → Leg → Type 0
 IsOld fresh places leg = (way : ℕ) × (place_at places leg.begin ≡ Some way) × (way < fresh)
 
@@ -62,7 +62,7 @@ grows_on old mid new before between after f g = record {
     by_place v (inl a) (inr b) = inr (b.0, a ∙ b.1, b.2, omega (arith, b.3, longer))
     by_place v (inr a) b = inr (a.0, a.1, omega (arith, a.2, long), a.3)
 
--- ways within what there was, or among the new ones
+-- The index is that of an old path or of a new one.
 pub within_grown : (old new : List Twig) (before after : Places) → Grows old new before after → AreWithin (length old) before → AreWithin (length new) after
 within_grown old new before after g h = λ v way e. by_place v way e (g.places v)
   where
@@ -104,7 +104,7 @@ module _ (passes : Passing) (legs : List Leg) (fresh : ℕ) (old : List Twig) (b
     pub round_all : length legs ≤ k → at_part Part.Quick (fold_checked (along_leg passes (known_by old before)) (known_by old before) legs) ≡ Ok (known_by tree places)
     round_all b = ap (at_part Part.Quick) (sym on.same ∙ ap (λ (l : List Leg). fold_checked goes (known_by tree places) l) (drop_all k legs b))
 
-    -- legs after ways that aren't new in this round
+    -- Arcs whose path is not new in this round.
     pub settled_all : length legs ≤ k → IsTree old → AreSettled passes legs (length old) tree places
     settled_all b good j leg is way at h = by_place (on.grows.places leg.begin)
       where
@@ -133,7 +133,7 @@ module _ (passes : Passing) (legs : List Leg) (fresh : ℕ) (old : List Twig) (b
       there : slice_get legs k ≡ Some leg
       there = slice_get_read legs (length legs) k leg refl b is
 
-      -- what is asked of one leg
+      -- The goal for one arc.
       pub leg_ends : AreLegs (length before) legs → (leg.begin < length before) × (leg.end < length before)
       leg_ends h = h k leg there
 
@@ -189,7 +189,7 @@ module _ (passes : Passing) (legs : List Leg) (fresh : ℕ) (old : List Twig) (b
             by_case j other at (inl h) = by_number j other at (lt_or_ge j k) h
             by_case j other at (inr o) = earlier j other at (inr o)
 
-        -- after the way to where the leg begins
+        -- The path to the begin of the arc.
         after_way : (o : Option ℕ) → place_at before leg.begin ≡ o
             → along_leg passes (known_by tree before) (known_by tree places) leg ≡ along passes true (option_map (way_at tree) o) leg.step leg.transit leg.end (known_by tree places)
         after_way o at =
@@ -210,7 +210,7 @@ module _ (passes : Passing) (legs : List Leg) (fresh : ℕ) (old : List Twig) (b
               → Grows tree new places next → RoundOn passes legs fresh old before new next (k + 1)
           offer_more ends new next came grows = round_more ends new next (ap (at_part Part.Quick) (after_way (Some way) at) ∙ came) grows
 
-        -- where that isn't fresh
+        -- The case that the path is not fresh.
         pub old_more : AreLegs (length before) legs → ((way : ℕ) → place_at before leg.begin ≡ Some way → way < fresh) → RoundOn passes legs fresh old before tree places (k + 1)
         old_more ends h = round_more ends tree places (ap (at_part Part.Quick) (nothing (place_at before leg.begin) refl)) (nothing_grows tree places)
           where
@@ -218,7 +218,7 @@ module _ (passes : Passing) (legs : List Leg) (fresh : ℕ) (old : List Twig) (b
             nothing None at = after_way None at
             nothing (Some way) at = leg_settled good within way at (h way at)
 
--- ---- round by round: what is left to be done gives what all rounds give
+-- ---- round by round: the remaining rounds give the result of all rounds
 pub record RoundsOn (passes : Passing) (net : Network) (flows : List ℚ) (from : ℕ) (known : Known) (k : ℕ) : Type 0 where
   pub same : rounds_list passes (net.nodes - k) net.links flows known ≡ reaches_list passes net flows from
   pub count : length known ≡ net.nodes
@@ -231,7 +231,7 @@ module _ (passes : Passing) (net : Network) (flows : List ℚ) (from : ℕ) wher
     count = ap (λ (k : Known). length k) e ∙ length-set (replicate net.nodes None) from _ ∙ length-replicate net.nodes None;
   }
 
-  -- a round that changes nothing is followed by others that change nothing
+  -- A round that changes nothing is followed only by such rounds.
   still : (known : Known) → round_list passes net.links flows known ≡ Ok known → (left : ℕ) → rounds_list passes left net.links flows known ≡ Ok known
   still known e zero = refl
   still known e (suc left) = ap (λ (r : Checked Known). r >>= λ next. rounds_list passes left net.links flows next) e ∙ still known e left
@@ -240,7 +240,7 @@ module _ (passes : Passing) (net : Network) (flows : List ℚ) (from : ℕ) wher
     pub rounds_all : net.nodes ≤ k → at_part Part.Quick (reaches_list passes net flows from) ≡ Ok known
     rounds_all b = let none : net.nodes - k ≡ 0 = omega arith in ap (at_part Part.Quick) (sym on.same ∙ ap (λ (i : ℕ). rounds_list passes i net.links flows known) none)
 
-    -- `seen` is what is known, as the round was lent it
+    -- `seen` is the known table that the round borrows.
     module _ (b : k < net.nodes) (seen : Known) (is : seen ≡ known) where
       abbrev one_round : Checked Known
       one_round = round_list passes net.links flows seen
@@ -266,7 +266,7 @@ module _ (passes : Passing) (net : Network) (flows : List ℚ) (from : ℕ) wher
             let fixed : round_list passes net.links flows known ≡ Ok known = ap (λ (x : Known). round_list passes net.links flows x) (sym is) ∙ ok_of_part one_round next came ∙ ap Ok (e ∙ is) in
             ap (at_part Part.Quick) (sym on.same ∙ still known fixed (net.nodes - k))
 
--- ---- with the legs, and the ways that are known
+-- ---- with the arcs and the known paths
 pub record SearchOn (passes : Passing) (net : Network) (flows : List ℚ) (from : ℕ) (legs : List Leg) (fresh : ℕ) (tree : List Twig) (places : Places) (k : ℕ) : Type 0 where
   pub rounds : RoundsOn passes net flows from (known_by tree places) k
   pub good : IsTree tree
@@ -320,7 +320,7 @@ module _ (passes : Passing) (net : Network) (flows : List ℚ) (from : ℕ) (leg
     pub search_count : (found : Known) → found ≡ known_by tree places → length found ≡ net.nodes
     search_count found e = ap (λ (x : Known). length x) e ∙ on.rounds.count
 
-    -- the legs and places are lent to a round
+    -- The round borrows the arcs and the indices.
     module _ (b : k < net.nodes) (is : legs ≡ legs_from 0 net.links flows) (lent : List Leg) (borrowed : lent ≡ legs) (before : Places) (seen : before ≡ places) where
       whole : round_list passes net.links flows (known_by tree before) ≡ fold_checked (along_leg passes (known_by tree before)) (known_by tree before) lent
       whole = round_along passes flows (known_by tree before) net.links lent (borrowed ∙ is)

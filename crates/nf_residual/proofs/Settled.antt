@@ -1,4 +1,4 @@
--- A way that was offered once is offered again in vain, whatever was offered in between.
+-- Offering a path a second time changes nothing, whatever was offered in between.
 use Rattle.std.proofs.Common.{◌≡◌, ◌≢◌, ℕ, ◌+◌, ◌*◌, ◌<◌, List, [], ◌∷◌, length, set, length-set, Bool, true, false, if◌then◌else◌, ◌⊎◌, inl, inr, ⊎_elim, eqb, Option, Some, None, sym, ap, subst, refl, ◌∙◌, arith}
 use Rattle.std.specs.Prelude.{Ok}
 use Rattle.std.proofs.lemmas.Bool.Decides.{eqb_tells}
@@ -19,7 +19,7 @@ use Rattle.nf_residual.specs.Legs.{along_leg}
 use Rattle.nf_residual.specs.Ways.{longer}
 use Rattle.nf_residual.proofs.Offering.{same_set, set_here, set_elsewhere}
 
--- ---- two ways that are at most each other are one way
+-- ---- two paths that are at most each other are equal
 one_step : (link other : ℕ) (forward back : Bool) → place (record { link = link; forward = forward }) ≡ place (record { link = other; forward = back })
     → ◌≡◌ {A = Step} (record { link = link; forward = forward }) (record { link = other; forward = back })
 one_step link other true true e = ap (λ (l : ℕ). record { link = l; forward = true }) (halves link other e)
@@ -68,12 +68,12 @@ one_way a b (inr f) (inl g) = absurd (less_and_same b.distance a.distance g f.0)
 one_way a b (inr f) (inr g) =
     ap (λ (d : ℚ). record { distance = d; steps = a.steps }) f.0 ∙ ap (λ (s : List Step). record { distance = b.distance; steps = s }) (same_walk a.steps b.steps f.1 g.1)
 
--- ---- the better of two ways
+-- ---- the better of two paths
 either : (b : Bool) (way : Reach) → (if b then way else way) ≡ way
 either true way = refl
 either false way = refl
 
--- a way that is offered a second time
+-- A path that is offered a second time.
 again : (o : Option Reach) (way : Reach) → better_of (Some (better_of o way)) way ≡ better_of o way
 again None way = either (is_better way way) way
 again (Some old) way = by_test (is_better way old) refl
@@ -82,7 +82,7 @@ again (Some old) way = by_test (is_better way old) refl
     by_test true e = either (is_better way way) way
     by_test false e = ap (λ (b : Bool). if b then way else old) e
 
--- one that lost loses against what is better still
+-- A path that doesn't replace the known one doesn't replace a better one either.
 at_most : (old way : Reach) → better_of (Some old) way ≡ old → IsAtMost old way
 at_most old way e = by_test (is_better way old) refl
   where
@@ -102,7 +102,7 @@ lost_still old way other e = by_test (is_better other old) refl
     by_test false f = e
 
 -- ---- offers to nodes
--- an offer that changes nothing
+-- An offer that changes nothing.
 lost_there : (known : Known) (v : ℕ) (way : Reach) → v < length known → offered known v way ≡ known → (old : Reach) × (known_at known v ≡ Some old) × (better_of (Some old) way ≡ old)
 lost_there known v way h e =
     let at : known_at known v ≡ Some (better_of (known_at known v) way) = sym (ap (λ (k : Known). known_at k v) e) ∙ set_here known v (Some (better_of (known_at known v) way)) h in
@@ -133,12 +133,12 @@ offered_then known v w way other h e =
         lost_by (offered known w other) v way (better_of (Some old) other) inside here (lost_still old way other lost)
     by_node inside old at lost (inr k) = lost_by (offered known w other) v way old inside (set_elsewhere known w v _ k.1 ∙ at) lost
 
--- ---- along legs
+-- ---- along residual arcs
 bound : {A B : Type 0} (r : Checked A) (f : A → B) (y : B) → (r >>= λ x. Ok (f x)) ≡ Ok y → (x : A) × (r ≡ Ok x) × (f x ≡ y)
 bound r f y e = let b = bind_ok r (λ x. Ok (f x)) y e in (b.0, b.1, same_Ok (f b.0) y b.2)
 
 module _ (passes : Passing) (before : Known) (leg : Leg) where
-  -- from what was known of its beginning
+  -- From the known path to its begin.
   abbrev from_known : Option Reach → Known → Checked Known
   from_known o so_far = along passes true o leg.step leg.transit leg.end so_far
 
@@ -156,14 +156,14 @@ same_ok : (x y : Known) → ◌≡◌ {A = Checked Known} (Ok x) (Ok y) → x �
 same_ok x y e = cc
 
 module _ (passes : Passing) (before : Known) (leg : Leg) where
-  -- a leg a second time
+  -- The same arc a second time.
   pub settled_here : (so_far next : Known) → leg.end < length so_far → along_leg passes before so_far leg ≡ Ok next → along_leg passes before next leg ≡ Ok next
   settled_here so_far next h e = ⊎_elim
       (λ (k : (later : Known) → along_leg passes before later leg ≡ Ok later). k next)
       (λ (k : Offers passes before leg so_far next). k.2 next ∙ ap Ok (ap (λ (n : Known). offered n leg.end k.0) k.1 ∙ offered_again so_far leg.end k.0 h ∙ sym k.1))
       (gives passes before leg (known_at before leg.begin) so_far next e)
 
-  -- and after another leg
+  -- The same after another arc.
   pub settled_then : (other : Leg) (so_far next : Known) → leg.end < length so_far → along_leg passes before so_far leg ≡ Ok so_far → along_leg passes before so_far other ≡ Ok next
       → along_leg passes before next leg ≡ Ok next
   settled_then other so_far next h e f = ⊎_elim

@@ -1,4 +1,4 @@
--- Numbers above 0, and the lesser of two, as code asks for them.
+-- The tests of the code: a number is above 0; the lesser of two numbers.
 use Rattle.std.proofs.Common.{◌≡◌, ℕ, Bool, true, false, not, ◌∙◌, refl, ap, [], ◌∷◌, arith}
 use mathlib.Core.Path.{ap₂}
 use lib.IntN.{ℤ, pos, ◌*ℤ◌, zero-*ℤ}
@@ -40,7 +40,7 @@ flip n = by_test (le_z n (pos 0)) (lt_z (pos 0) n) refl refl
     by_test false true e f = refl
     by_test false false e f = absurd (none n e f)
 
--- a number is above 0 where its numerator is
+-- A number is above 0 if its numerator is.
 pub above_zero : (q : ℚ) → lt_ℚ 0ℚ q ≡ lt_z (pos 0) q.num
 unfolding lt_ℚ le_ℚ
 above_zero q =

@@ -1,4 +1,4 @@
--- What stops a computation of the part Quick stops it with what would come after it; and where it has a value it goes on with that.
+-- A failure of a computation of part Quick is the failure of the computation followed by any other. Its value is passed to the next one.
 use Rattle.std.proofs.Common.{◌≡◌, List, Option, Some, None, sym, ap, subst, ◌∙◌}
 use Rattle.std.specs.Prelude.{Result, Ok, Err, unwrap_or}
 use Rattle.nf_rational.specs.Rational.{ℚ}
@@ -32,11 +32,11 @@ module _ {A B : Type 0} where
   pub goes_on : (r : Checked A) (f : A → Checked B) (x : A) → at_part Part.Quick r ≡ Ok x → (r >>= f) ≡ f x
   goes_on r f x e = ap (λ (w : Checked A). w >>= f) (ok_of_part r x e)
 
--- of equal computations
+-- The same for equal computations.
 pub stops_as : {A : Type 0} (r s : Checked A) (h : Halt ℚ) → r ≡ s → Stops (λ (q : ℚ). q) h (at_part Part.Quick s) → Stops (λ (q : ℚ). q) h (at_part Part.Quick r)
 stops_as {A} r s h e k = subst (λ (w : Checked A). Stops (λ (q : ℚ). q) h (at_part Part.Quick w)) (sym e) k
 
--- the room of a way, where an operation of it passes
+-- The room of a path, if an operation of it exceeds its bound.
 pub room_stops : (passes : Passing) (net : Network) (flows : List ℚ) (way : Option Reach) (reach : Reach) (steps : List Step) → way ≡ Some reach → steps ≡ reach.steps → (p : PassedAt ℚ)
     → Err p ≡ at_part Part.Quick (fold_checked (room_after passes net flows) None steps) → Err p ≡ at_part Part.Quick (with_room passes net flows way)
 room_stops passes net flows way reach steps is along p e =

@@ -1,4 +1,4 @@
--- Ways as they are kept: what more ways leave as it was.
+-- The tree of paths: adding paths changes no earlier path.
 use Rattle.std.proofs.Common.{◌≡◌, ℕ, zero, suc, ◌+◌, ◌-◌, ◌<◌, ◌≤◌, List, [], ◌∷◌, ◌++◌, reverse, length, ◌⊎◌, inl, inr, ⊎_elim, Option, Some, None, option_map, refl, sym, ap, subst, ◌∙◌, append_assoc, append-nil, arith}
 use Rattle.std.proofs.lemmas.List.{map-set, map-append, reverse-append, length_push, length-map, take_more}
 use Rattle.std.proofs.lemmas.Option.{unwrap_or-slice_get}
@@ -10,7 +10,7 @@ use Rattle.nf_quick_lists.specs.Rounds.{Known, known_at}
 use Rattle.nf_residual.specs.declared.ways.Twig.{Twig}
 use Rattle.nf_residual.specs.Ways.{first_twig, twig_at, steps_back, way_at, longer, twig_after, IsTree, Places, place_at, AreWithin, known_by}
 
--- ---- one twig more
+-- ---- one more path
 at_end : (tree : List Twig) (twig : Twig) (i : ℕ) → (twig_at (tree ++ twig ∷ []) i ≡ twig_at tree i) ⊎ ((i ≡ length tree) × (twig_at (tree ++ twig ∷ []) i ≡ twig))
 at_end [] twig zero = inr (refl, refl)
 at_end [] twig (suc i) = inl refl
@@ -26,13 +26,13 @@ twig_kept [] more i h = absurd (omega arith)
 twig_kept (t ∷ tree) more zero h = refl
 twig_kept (t ∷ tree) more (suc i) h = twig_kept tree more i (omega arith)
 
--- a way with steps is there
+-- A path with steps exists in the tree.
 inside : (tree : List Twig) (i n : ℕ) → (twig_at tree i).count ≡ suc n → i < length tree
 inside [] i n h = absurd (omega arith)
 inside (t ∷ tree) zero n h = omega arith
 inside (t ∷ tree) (suc i) n h = let k : i < length tree = inside tree i n h in omega arith
 
--- ---- ways stay as they are
+-- ---- earlier paths are unchanged
 pub steps_kept : (tree more : List Twig) → IsTree tree → (n i : ℕ) → i < length tree → steps_back n (tree ++ more) i ≡ steps_back n tree i
 steps_kept tree more good zero i h = refl
 steps_kept tree more good (suc n) i h =
@@ -53,7 +53,7 @@ way_added tree way step distance good h =
     ∙ ap (λ (t : Twig). record { distance = distance; steps = steps_back (twig_at tree way).count (tree ++ twig_after tree way step distance ∷ []) t.before ++ t.last ∷ [] }) (last_twig tree (twig_after tree way step distance))
     ∙ ap (λ (s : List Step). record { distance = distance; steps = s ++ step ∷ [] }) (steps_kept tree (twig_after tree way step distance ∷ []) good (twig_at tree way).count way h)
 
--- ---- what is kept is a tree
+-- ---- the extended list is a tree
 pub IsTree-first : IsTree (first_twig ∷ [])
 IsTree-first = record {
   earlier = λ i. subst (λ (t : Twig). t.before ≤ i) (sym (everywhere i)) (omega arith);
@@ -115,7 +115,7 @@ IsTree-pushed tree new way n step distance good h e made =
 pub before_within : (tree : List Twig) (way : ℕ) → IsTree tree → way < length tree → (twig_at tree way).before < length tree
 before_within tree way good h = let earlier : (twig_at tree way).before ≤ way = good.earlier way in omega arith
 
--- ---- how many steps there are
+-- ---- the number of steps
 length-steps : (n : ℕ) (tree : List Twig) (i : ℕ) → length (steps_back n tree i) ≡ n
 length-steps zero tree i = refl
 length-steps (suc n) tree i =
@@ -126,7 +126,7 @@ length-steps (suc n) tree i =
 pub steps_are : (n : ℕ) (tree : List Twig) (i : ℕ) → length (steps_back n tree i) ≡ n
 steps_are n tree i = length-steps n tree i
 
--- ---- steps are read from the last one on
+-- ---- the steps are read from the last one back
 pub record ReadsOn (tree : List Twig) (way : ℕ) (steps : List Step) (here k : ℕ) : Type 0 where
   pub same : steps_back ((twig_at tree way).count - k) tree here ++ reverse steps ≡ (way_at tree way).steps
   pub within : here < length tree
@@ -156,7 +156,7 @@ module _ (tree : List Twig) (way : ℕ) where
     pub reads_all : (all : List Step) → (twig_at tree way).count ≤ k → all ≡ reverse steps → all ≡ (way_at tree way).steps
     reads_all all h e = let none : (twig_at tree way).count - k ≡ 0 = omega arith in e ∙ sym (ap (λ (n : ℕ). steps_back n tree here ++ reverse steps) none) ∙ on.same
 
--- ---- what is known by places
+-- ---- the known table by indices
 pub known_at-by : (tree : List Twig) (places : Places) (v : ℕ) → known_at (known_by tree places) v ≡ option_map (way_at tree) (place_at places v)
 known_at-by tree [] v = refl
 known_at-by tree (p ∷ places) zero = refl
@@ -175,7 +175,7 @@ within_known tree places v h = let long : length (known_by tree places) ≡ leng
 pub known_set : (tree : List Twig) (places : Places) (v way : ℕ) → known_by tree (set places v (Some way)) ≡ set (known_by tree places) v (Some (way_at tree way))
 known_set tree places v way = map-set (option_map (way_at tree)) places v (Some way)
 
--- how long the ways are, one more
+-- The lengths of the paths, with one more.
 pub distances_more : (known : Known) (so_far next : List (Option ℚ)) (k : ℕ) (distance : Option ℚ) → k < length known → so_far ≡ map (option_map (λ (reach : Reach). reach.distance)) (take k known)
     → distance ≡ option_map (λ (reach : Reach). reach.distance) (known_at known k) → next ≡ so_far ++ distance ∷ [] → next ≡ map (option_map (λ (reach : Reach). reach.distance)) (take (k + 1) known)
 distances_more known so_far next k distance h e d made =

@@ -1,4 +1,4 @@
--- Whole lengths: their operations don't pass, and their order is that of the numbers.
+-- Lengths held as whole numbers: their operations don't exceed the bound, and their order is that of the numbers.
 use Rattle.std.proofs.Common.{◌≡◌, ℕ, ◌<◌, ◌≤◌, Bool, true, false, ℤ, pos, ◌+ℤ◌, ◌-ℤ◌, ◌*ℤ◌, neg_ℤ, nat_abs, [], ◌∷◌, Option, Some, None, refl, sym, ap, subst, ◌∙◌, arith}
 use mathlib.Core.Path.{ap₂}
 use Rattle.std.specs.Prelude.{Ok, SomeIff, unwrap_or}
@@ -73,8 +73,8 @@ order_is a b = ap₂ int_cmp (one a b) (one b a)
     one : (a b : ℤ) → a ≡ (whole a).num *ℤ pos (whole b).den
     one a b = sym (ap₂ (λ (z : ℤ) (k : ℕ). z *ℤ pos k) (num_whole a) (den_whole b) ∙ times_one a)
 
--- ---- numbers as code has them
--- a value that is counted
+-- ---- numbers as the code has them
+-- A value held as a whole number.
 pub counted_is : (q : ℚ) (number d : ℤ) (m : ℕ) → number ≡ q.num → nat_abs number ≤ bound_of 127 → d ≡ pos q.den → SFits w128 d → of_z w128 d ≡ 1 → m ≡ nat_abs (bits_of number) → m ≤ most
     → (nat_abs (to_z w64 (of_z w64 (bits_of number))) ≤ most) × (whole (to_z w64 (of_z w64 (bits_of number))) ≡ q)
 counted_is q number d m is small den fits one size h =
@@ -87,11 +87,11 @@ counted_is q number d m is small den fits one size h =
     natural : {m n : ℕ} → pos m ≡ pos n → m ≡ n
     natural e = cc
 
--- a number that goes to more bits
+-- A number converted to more bits.
 pub widened : (n : ℤ) → SFits w64 n → nat_abs n ≤ most → bits_of (to_z w64 (of_z w64 n)) ≡ n
 widened n fits h = ap bits_of (to_z-of_z fits) ∙ plain n (omega (arith, h))
 
--- a fraction that is made of a whole number
+-- A fraction made of a whole number.
 over_one : (n : ℤ) → whole n /ℚ whole (pos 1) ≡ whole n
 over_one n = sym (/ℚ-unique (whole n) (whole (pos 1)) (whole n) (whole_apart (pos 1) one_some) (sym (whole-times n (pos 1)) ∙ ap whole (times_one n)))
   where
@@ -116,7 +116,7 @@ pub whole_exact : (forward : Bool) (x y : ℚ) (a b n : ℤ) → nat_abs a ≤ m
 whole_exact true x y a b n h k e f g = sum_exact a b n h k g ∙ ap₂ (λ (p q : ℚ). checked passes_Q (op_of true) p q) (sym e) (sym f)
 whole_exact false x y a b n h k e f g = difference_exact a b n h k g ∙ ap₂ (λ (p q : ℚ). checked passes_Q (op_of false) p q) (sym e) (sym f)
 
--- and stays whole where it is counted
+-- The result is held as a whole number if it is small enough.
 pub whole_kept : (forward : Bool) (x y : ℚ) (a b n : ℤ) → nat_abs a ≤ most → nat_abs b ≤ most → whole a ≡ x → whole b ≡ y
     → nat_abs (along_by forward (to_z w64 (of_z w64 a)) (to_z w64 (of_z w64 b))) ≤ most → n ≡ along_by forward (to_z w64 (of_z w64 a)) (to_z w64 (of_z w64 b))
     → IsExact forward x y (whole (to_z w64 (of_z w64 n)))

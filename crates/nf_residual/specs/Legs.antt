@@ -1,4 +1,4 @@
--- Legs: the residual steps of a flow with their ends, and what they offer.
+-- Residual arcs of a flow with their end nodes, and the paths they offer.
 use Rattle.std.specs.Prelude.{◌≡◌, ℕ, suc, ◌<◌, Bool, true, false, if◌then◌else◌, List, [], ◌∷◌, ◌++◌, Some, slice_get, Ok}
 use Rattle.nf_rational.specs.Rational.{ℚ}
 use Rattle.nf_work.specs.Passing.{Passing}
@@ -11,7 +11,7 @@ use Rattle.nf_residual.specs.declared.ways.Twig.{Twig}
 use Rattle.nf_residual.specs.declared.legs.Leg.{Leg}
 use Rattle.nf_residual.specs.Ways.{Places, place_at, known_by}
 
--- a step along a link, or back along it, if it can be gone with this flow
+-- The residual arc of a step along a link, or none if the step has no residual capacity.
 abbrev pub leg_of : Bool → ℕ → Link → ℚ → List Leg
 leg_of forward e link flow =
     if can_go forward link.capacity flow
@@ -23,21 +23,21 @@ leg_of forward e link flow =
     } ∷ []
     else []
 
--- link by link, and along a link before back along it; the first of these links has the number e
+-- The residual arcs of all links by number, the forward arc before the backward one; e is the number of the first link.
 abbrev pub legs_from : ℕ → List Link → List ℚ → List Leg
 legs_from e [] flows = []
 legs_from e (link ∷ links) flows = leg_of true e link (number_at flows e) ++ leg_of false e link (number_at flows e)
     ++ legs_from (suc e) links flows
 
--- they lead between so many nodes
+-- The arcs begin and end at nodes below `nodes`.
 abbrev pub AreLegs : ℕ → List Leg → Type 0
 AreLegs nodes legs = (k : ℕ) (leg : Leg) → slice_get legs k ≡ Some leg → (leg.begin < nodes) × (leg.end < nodes)
 
--- what a leg offers to its end
+-- The table of best paths after an arc offers its extended path to its end.
 abbrev pub along_leg : Passing → Known → Known → Leg → Checked Known
 along_leg passes before so_far leg = along passes true (known_at before leg.begin) leg.step leg.transit leg.end so_far
 
--- legs after a way that isn't fresh offer nothing new, and no operation of theirs passes
+-- Arcs whose begin has an old path (index below `fresh`) offer nothing better, and no operation of theirs exceeds its bound.
 abbrev pub AreSettled : Passing → List Leg → ℕ → List Twig → Places → Type 0
 AreSettled passes legs fresh tree places = (k : ℕ) (leg : Leg) → slice_get legs k ≡ Some leg → (way : ℕ)
     → place_at places leg.begin ≡ Some way → way < fresh

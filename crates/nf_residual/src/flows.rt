@@ -1,4 +1,4 @@
-// Flows of links, by the links' numbers.
+// Static flows: one rate for each link, indexed by link number.
 ghost use Rattle.std.specs.Prelude.{◌≡◌, ◌<◌, length, set};
 ghost use Rattle.nf_model.specs.Entries.{number_at};
 ghost use Rattle.nf_quick_lists.specs.Rounds.{lesser as lesser_by};
@@ -6,7 +6,7 @@ ghost use Rattle.nf_quick_lists.specs.Rounds.{lesser as lesser_by};
 use nf_frac::Q;
 use nf_graph::LinkId;
 
-/// The flow on a link, a rate.
+/// Returns the flow on a link, a rate.
 pub fn flow_at(flows: &[Q], link: LinkId) -> Q
     requires { link < length flows.now }
     ensures { result ≡ number_at flows.now link }
@@ -14,7 +14,7 @@ pub fn flow_at(flows: &[Q], link: LinkId) -> Q
     flows[link.index()]
 }
 
-/// Gives a link another flow, a rate; the other links keep theirs.
+/// Sets the flow of one link, a rate. The flows of the other links stay.
 pub fn put_flow(flows: &mut Vec<Q>, link: LinkId, flow: Q)
     requires { link < length flows.old.items }
     ensures { flows.new.items ≡ set flows.old.items link flow }
@@ -22,7 +22,7 @@ pub fn put_flow(flows: &mut Vec<Q>, link: LinkId, flow: Q)
     flows[link.index()] = flow;
 }
 
-/// The lesser of the least rate so far and one more; the latter where there was none.
+/// Returns the lesser of `rate` and the least rate so far, or `rate` if there is none so far.
 pub fn lesser(least: Option<Q>, rate: Q) -> Q
     ensures { result ≡ lesser_by least rate }
 {

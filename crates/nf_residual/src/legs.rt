@@ -1,4 +1,4 @@
-// Legs: the residual steps of a flow, each with its ends.
+// Residual arcs of a static flow, with their end nodes.
 ghost use Rattle.std.specs.Prelude.{◌≡◌, ◌++◌, length, IfOk, OnOk};
 ghost use Rattle.nf_residual.specs.Legs.{leg_of, legs_from, AreLegs};
 
@@ -10,7 +10,7 @@ use nf_graph::{LinkId, NodeId};
 use nf_net::{Link, Network};
 use std::alloc::{AllocError, Global};
 
-/// A residual step, the nodes where it begins and ends, and the transit time of its link.
+/// A residual arc: its step, the nodes where it begins and ends, and the transit time of its link.
 #[derive(Drop)]
 pub(crate) struct Leg {
     pub step: Step,
@@ -19,7 +19,7 @@ pub(crate) struct Leg {
     pub transit: Length,
 }
 
-// A step along this link, or back along it, is a leg if it can be gone with this flow.
+// Appends the residual arc of a step along this link, or back along it, if this flow leaves it residual capacity.
 fn add_leg(
     legs: &mut Vec<Leg>,
     number: LinkId,
@@ -43,7 +43,8 @@ fn add_leg(
     Ok(())
 }
 
-/// The legs of these flows, link by link, and along a link before back along it.
+/// Returns the residual arcs of a flow in the order of the link numbers, for each link the forward arc before the backward one. Refuses
+/// only if memory can't be allocated.
 pub(crate) fn legs_of(alloc: Global, net: &Network, flows: &[Q]) -> Result<Vec<Leg>, AllocError>
     requires { length flows.now ≡ length net.now.net.links }
     ensures legs { IfOk result (λ legs. legs.items ≡ legs_from 0 net.now.net.links flows.now) }

@@ -1,4 +1,4 @@
-// Lengths of ways. Nearly all are whole numbers, and are counted as such.
+// Lengths of paths. Nearly all are whole numbers, which an `i64` holds without a denominator.
 ghost use Rattle.std.specs.Prelude.{◌≡◌, ◌≤◌, nat_abs, ◌+ℤ◌, ◌-ℤ◌, SomeIff, IfSome};
 ghost use Rattle.nf_rational.specs.Operations.{whole};
 ghost use Rattle.nf_rational.specs.Order.{cmp_ℚ};
@@ -13,7 +13,7 @@ use nf_frac::{PassedAt, Q};
 use std::cmp::Ordering;
 use std::marker::Model;
 
-// The greatest magnitude of a length that is counted, 2^62 - 1.
+// The greatest magnitude of a length held as an `i64`, 2^62 - 1.
 const MOST: u64 = 0x3fff_ffff_ffff_ffff;
 
 #[derive(Drop)]
@@ -22,7 +22,7 @@ enum Form {
     Other(Q),
 }
 
-/// The length of a way or of a step, a time.
+/// The length of a path or of a step, a time.
 #[derive(Drop)]
 pub(crate) struct Length {
     form: Form,
@@ -39,7 +39,7 @@ impl Model for Length {
     ghost invariant = { λ l. IsCounted l.form };
 }
 
-// The sum, if it is small enough to be counted.
+// Returns the sum, or None exactly if its magnitude exceeds 2^62 - 1.
 fn added(a: i64, b: i64) -> Option<i64>
     ensures { SomeIff result (nat_abs (a +ℤ b) ≤ most) (a +ℤ b) }
 {
@@ -49,7 +49,7 @@ fn added(a: i64, b: i64) -> Option<i64>
     }
 }
 
-// The difference, if it is small enough to be counted.
+// Returns the difference, or None exactly if its magnitude exceeds 2^62 - 1.
 fn taken(a: i64, b: i64) -> Option<i64>
     ensures { SomeIff result (nat_abs (a -ℤ b) ≤ most) (a -ℤ b) }
 {
@@ -59,14 +59,15 @@ fn taken(a: i64, b: i64) -> Option<i64>
     }
 }
 
-// The sum, or back the difference, if it is small enough to be counted.
+// Returns the sum for a forward step and the difference for a backward one, or None exactly if its magnitude exceeds 2^62 - 1.
 fn along(forward: bool, a: i64, b: i64) -> Option<i64>
     ensures { SomeIff result (nat_abs (along_by forward a b) ≤ most) (along_by forward a b) }
 {
     if forward { added(a, b) } else { taken(a, b) }
 }
 
-// The whole number that a value is, if it is one and small enough.
+// Returns the whole number equal to `value`, of magnitude at most 2^62 - 1. The contract allows None for any value, and the caller then
+// keeps the fraction.
 fn counted(value: Q) -> Option<i64>
     ensures { IfSome result (λ n. (nat_abs n ≤ most) × (whole n ≡ value)) }
 {
@@ -78,7 +79,7 @@ fn counted(value: Q) -> Option<i64>
     }
 }
 
-// The fraction that a whole number is.
+// Returns the whole number as a fraction.
 fn fraction(number: i64) -> Q
     requires { nat_abs number ≤ most }
     ensures { result ≡ whole number }
@@ -87,7 +88,7 @@ fn fraction(number: i64) -> Q
 }
 
 impl Length {
-    /// The length of this value.
+    /// Returns the length with this value, a time.
     pub(crate) fn of(value: Q) -> Length
         ensures { result ≡ value }
     {
@@ -101,7 +102,7 @@ impl Length {
         }
     }
 
-    /// Its value.
+    /// Returns the value of the length, a time.
     pub(crate) fn value(&self) -> Q
         ensures { result ≡ self.now }
     {
@@ -111,7 +112,8 @@ impl Length {
         }
     }
 
-    // The sum of whole numbers, or their difference, where all are counted: there no operation passes.
+    // Returns the changed length if both lengths and the result are held as whole numbers. A returned length implies that the checked
+    // operation does not exceed its bound.
     fn whole_change(&self, forward: bool, transit: &Length) -> Option<Length>
         ensures { IfSome result (IsExact forward self.now transit.now) }
     {
@@ -126,7 +128,8 @@ impl Length {
         None
     }
 
-    /// What a step along a link of this transit time, or back along it, makes of the length.
+    /// Returns the length after a forward step of this transit time, which adds it, or a backward step, which subtracts it. Refuses with
+    /// Passed, of the part Quick, exactly if the operation exceeds its bound.
     pub(crate) fn changed(&self, forward: bool, transit: &Length) -> Result<Length, PassedAt<Q>>
         ensures { result ≡ checked_at passes_Q Quick (op_of forward) self.now transit.now }
     {
@@ -137,7 +140,7 @@ impl Length {
         Ok(Length::of(value))
     }
 
-    /// How the two compare.
+    /// Compares the two lengths by their values.
     pub(crate) fn compare(&self, other: &Length) -> Ordering
         ensures { result ≡ cmp_ℚ self.now other.now }
     {

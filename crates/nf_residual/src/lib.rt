@@ -1,4 +1,4 @@
-//! Residual walks of a static flow, and pushes along them: shortest walks and least lengths are found in rounds (after Bellman
+//! Residual walks of a static flow, and pushes along them. Bellman-Ford rounds find shortest walks and least lengths (after Bellman
 //! 1958 and Ford 1956).
 #![tactic(auto)]
 

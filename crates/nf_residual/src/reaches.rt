@@ -1,4 +1,4 @@
-// What rounds found: of each node the best way to it, if there is one.
+// The result of the Bellman-Ford rounds: for each node the best path to it, if there is one.
 ghost use Rattle.std.specs.Prelude.{◌≡◌, ◌<◌, length, map, option_map, IfOk};
 ghost use Rattle.nf_quick_lists.specs.Rounds.{known_at};
 ghost use Rattle.nf_residual.specs.Ways.{place_at, known_by, AreWithin};
@@ -10,7 +10,7 @@ use nf_graph::NodeId;
 use std::alloc::{AllocError, Global};
 use std::marker::Model;
 
-/// A way to a node: how long it is, and its steps.
+/// A path to a node: its length, a time, and its steps.
 #[derive(Drop)]
 pub(crate) struct Reach {
     pub distance: Q,
@@ -28,7 +28,7 @@ impl Model for Reach {
     ghost view = { λ r. record { distance = r.distance; steps = r.steps.items } };
 }
 
-/// Of each node the best way to it, by its number; None where no way is known.
+/// For each node, by its number, the index of the best path to it; None if no path is known.
 #[derive(Drop)]
 pub(crate) struct Reaches {
     ways: Ways,
@@ -47,7 +47,7 @@ impl Model for Reaches {
     ghost invariant = { λ r. AreWithin (length r.ways) r.places.items };
 }
 
-/// The number of the best way to a node.
+/// Returns the index of the best path to a node, or None if no path is known.
 pub(crate) fn place_of(places: &[Option<usize>], node: usize) -> Option<usize>
     requires { node < length places.now }
     ensures { result ≡ place_at places.now node }
@@ -56,7 +56,7 @@ pub(crate) fn place_of(places: &[Option<usize>], node: usize) -> Option<usize>
 }
 
 impl Reaches {
-    /// These ways, by their numbers.
+    /// Returns the table made of these paths and, for each node, the index of its best path.
     pub(crate) fn of(ways: Ways, places: Vec<Option<usize>>) -> Reaches
         requires { AreWithin (length ways) places.items }
         ensures { result ≡ known_by ways places.items }
@@ -64,7 +64,7 @@ impl Reaches {
         Reaches { ways, places }
     }
 
-    /// The best way to a node.
+    /// Returns the best path to a node, or None if no path is known. Refuses only if memory can't be allocated.
     pub(crate) fn way_to(&self, alloc: Global, node: NodeId) -> Result<Option<Reach>, AllocError>
         requires { node < length self.now }
         ensures { IfOk result (λ way. way ≡ known_at self.now node) }
@@ -81,7 +81,7 @@ impl Reaches {
         }
     }
 
-    // How long the best way to a node is.
+    // Returns the length of the best path to a node, a time, or None if no path is known.
     fn distance_to(&self, node: usize) -> Option<Q>
         requires { node < length self.now }
         ensures { result ≡ option_map (λ reach. reach.distance) (known_at self.now node) }
@@ -92,7 +92,8 @@ impl Reaches {
         }
     }
 
-    /// How long the best ways are.
+    /// Returns for each node the length of the best path to it, a time, or None if no path is known. Refuses only if memory can't be
+    /// allocated.
     pub(crate) fn distances(&self, alloc: Global) -> Result<Vec<Option<Q>>, AllocError>
         ensures { IfOk result (λ distances. distances.items ≡ map (option_map (λ reach. reach.distance)) self.now) }
     {

@@ -1,4 +1,4 @@
-// A static flow, and its residual walks.
+// A static flow and its residual walks.
 ghost use Rattle.std.specs.Prelude.{◌≡◌, ◌<◌, length, replicate, Some, IfOk, OnErr, OnOk};
 ghost use Rattle.std.specs.List.{AllByRecursion};
 ghost use Rattle.nf_rational.specs.Operations.{0ℚ};
@@ -25,8 +25,9 @@ use nf_net::Network;
 use std::alloc::{AllocError, Global};
 use std::marker::Model;
 
-/// A static flow from source to sink, one rate for each link. It is sound for a network where it is a static flow of it between
-/// 0 and each capacity, no closed residual walk has a negative length, and nothing flows into the source or out of the sink.
+/// A static flow from source to sink, one rate for each link. `Residual` is sound for a network under three conditions. It is a static
+/// flow of the network between 0 and each capacity. No closed residual walk has negative length. Nothing flows into the source or
+/// out of the sink.
 #[derive(Drop)]
 pub struct Residual {
     flows: Vec<Q>,
@@ -51,7 +52,8 @@ fn at(flows: &Vec<Q>, link: LinkId) -> Q
     flows[link.index()]
 }
 
-// A flow is moved along each of these steps.
+// Pushes `amount`, a rate, along the steps: a forward step adds it to the flow of its link, a backward step subtracts it. Stops at the
+// first operation that exceeds its bound.
 fn move_along(flows: &mut Vec<Q>, steps: &[Step], amount: Q) -> Result<(), PassedAt<Q>>
     requires { AllByRecursion (λ step. step.link < length flows.old.items) steps.now }
     ensures moved { seen_at (λ _. flows.new.items) (λ q. q) result
@@ -67,7 +69,7 @@ fn move_along(flows: &mut Vec<Q>, steps: &[Step], amount: Q) -> Result<(), Passe
     Ok(())
 }
 
-// The walk of a way, with its room.
+// Returns the walk along a path with its room, or None if there is no path.
 fn with_room(net: &Network, flows: &[Q], way: Option<Reach>) -> Result<Option<Walk>, PassedAt<Q>>
     requires steps { (reach : SeenReach) → way ≡ Some reach → AllByRecursion (λ step. step.link < length net.now.net.links) reach.steps }
     requires flows { length flows.now ≡ length net.now.net.links }
@@ -87,7 +89,7 @@ fn with_room(net: &Network, flows: &[Q], way: Option<Reach>) -> Result<Option<Wa
 }
 
 impl Residual {
-    /// The flow 0, which is sound.
+    /// Returns the flow 0, which is sound.
     pub fn new(alloc: Global, net: &Network) -> Result<Residual, AllocError>
         ensures empty { IfOk result (λ r. r ≡ replicate (length net.now.net.links) 0ℚ) }
         ensures sound { IfOk result (λ r. IsSound net.now.net r) }
@@ -99,7 +101,7 @@ impl Residual {
         Ok(Residual { flows, next })
     }
 
-    /// The flow on a link, a rate. It takes no memory.
+    /// Returns the flow on a link, a rate. Allocates nothing.
     pub fn flow(&self, link: LinkId) -> Q
         requires { link < length self.now }
         ensures { result ≡ number_at self.now link }
@@ -107,10 +109,10 @@ impl Residual {
         self.flows[link.index()]
     }
 
-    /// A residual walk from source to sink of least length; of these one of the fewest steps; and of these the one whose steps
-    /// come first, by the numbers of their links and along a link before back along it. None exactly where there is no residual
-    /// walk to the sink. Each walk from source to sink must have a link with a capacity. Passed, of the part Quick, comes with the
-    /// first operation that passes: in rounds from the source, and then where room is left along the walk.
+    /// Returns the first residual walk from source to sink, or None exactly if no residual walk leads to the sink. Walks are ordered by
+    /// length, then by number of steps, then lexicographically by their steps. Steps are ordered by link number, a forward step before the
+    /// backward one. Each walk from source to sink must have a link with a capacity. Refuses with Passed, of the part Quick, at the first
+    /// operation that exceeds its bound, in the Bellman-Ford rounds or in the room of the walk.
     pub fn shortest(&self, alloc: Global, net: &Network) -> Result<Option<Walk>, Halt<Q>>
         requires sound { IsSound net.now.net self.now }
         requires limited { IsLimited net.now.net }
@@ -125,8 +127,8 @@ impl Residual {
         Ok(walk)
     }
 
-    /// Of each node, the least length, a time, of the residual walks to it from this node; None exactly where there is none.
-    /// Passed, of the part Quick, comes with the first operation of the rounds that passes.
+    /// Returns for each node the least length, a time, of the residual walks to it from the node `from`, or None exactly if there is none.
+    /// Refuses with Passed, of the part Quick, at the first operation of the Bellman-Ford rounds that exceeds its bound.
     pub fn distances(
         &self,
         alloc: Global,
@@ -145,8 +147,8 @@ impl Residual {
         Ok(distances)
     }
 
-    /// The amount, a rate, goes along the shortest walk, of whose room it is at most the whole. The flow stays sound; where an
-    /// operation passes it stays as it was. It takes no memory.
+    /// Pushes `amount`, a rate, along a shortest residual walk. The amount is above 0 and at most the room of the walk. The flow stays
+    /// sound. Refuses with Passed, of the part Quick, if an operation exceeds its bound; the flow is then unchanged. Allocates nothing.
     #[tactic(auto, unfolding(nf_quick_lists::specs::Pushes::push_list))]
     pub fn push(&mut self, net: &Network, walk: &Walk, amount: Q) -> Result<(), PassedAt<Q>>
         requires sound { IsSound net.now.net self.old }

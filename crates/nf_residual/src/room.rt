@@ -11,7 +11,8 @@ use crate::step::Step;
 use nf_frac::{Part, PassedAt, Q};
 use nf_net::Network;
 
-// The room so far and that of a step more: back along a link its flow, and along it what is left of its capacity.
+// Returns the lesser of the room so far and the residual capacity of one more step. A backward step has the flow of its link; a forward
+// step has the capacity minus the flow, or no limit if the link is unbounded.
 fn room_along(
     forward: bool,
     capacity: Option<Q>,
@@ -47,7 +48,7 @@ fn room_after(
     room_along(step.forward, link.capacity, flow, least)
 }
 
-/// The least residual capacity along a walk; None where each of its steps goes along an unbounded link.
+/// Returns the least residual capacity along a walk, a rate, or None if every step is a forward step along an unbounded link.
 pub(crate) fn room_of(net: &Network, flows: &[Q], steps: &[Step]) -> Result<Option<Q>, PassedAt<Q>>
     requires steps { AllByRecursion (λ step. step.link < length net.now.net.links) steps.now }
     requires flows { length flows.now ≡ length net.now.net.links }

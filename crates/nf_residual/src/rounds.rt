@@ -1,5 +1,5 @@
-// Rounds: in each of them every residual step from a node that was reached before it offers a way to its end. A way that was offered
-// in the round before is offered again in vain; so a round goes out only from nodes whose way is new.
+// Bellman-Ford rounds. In each round every residual arc whose begin has a known path offers an extended path to its end. Offering a path
+// again changes nothing, so a round uses only the paths found in the round before.
 ghost use Rattle.std.specs.Prelude.{◌≡◌, ℕ, ◌<◌, ◌≤◌, length, set, true, Some, None, IfOk, IfSome, OnOk};
 ghost use Rattle.nf_work.specs.declared.Part.TheVariants.{Quick};
 ghost use Rattle.nf_work.specs.Passing.{passes_Q};
@@ -23,7 +23,7 @@ fn put(places: &mut Vec<Option<usize>>, node: NodeId, way: usize)
     places[node.index()] = Some(way);
 }
 
-// What a leg after this way offers to its end.
+// Offers the path extended by a residual arc to the end of that arc, and records the extended path if it is better than the known one.
 fn offer(
     way: usize,
     leg: &Leg,
@@ -48,7 +48,7 @@ fn offer(
     Ok(())
 }
 
-// The way to where a leg begins, if it is one of the fresh ones, which have this number or a greater one.
+// Returns the path to the begin of an arc if its index is at least `fresh`, that is, if the round before found it.
 fn fresh_way(leg: &Leg, fresh: usize, before: &[Option<usize>]) -> Option<usize>
     requires { leg.now.begin < length before.now }
     ensures way { IfSome result (λ way. place_at before.now leg.now.begin ≡ Some way) }
@@ -60,7 +60,7 @@ fn fresh_way(leg: &Leg, fresh: usize, before: &[Option<usize>]) -> Option<usize>
     }
 }
 
-// One round, into a copy of what was known before it.
+// Performs one round. `before` holds the best paths before the round, `places` those after it.
 fn round(
     legs: &[Leg],
     fresh: usize,
@@ -86,7 +86,7 @@ fn round(
     Ok(())
 }
 
-// The same places once more.
+// Returns a copy of the indices.
 fn copied(alloc: Global, places: &[Option<usize>]) -> Result<Vec<Option<usize>>, AllocError>
     ensures { IfOk result (λ same. same.items ≡ places.now) }
 {
@@ -95,7 +95,7 @@ fn copied(alloc: Global, places: &[Option<usize>]) -> Result<Vec<Option<usize>>,
     Ok(same)
 }
 
-// No way is known but the first to this node.
+// Returns the initial indices: path 0 for the node `from`, and None for each other node.
 fn first_places(
     alloc: Global,
     net: &Network,
@@ -109,8 +109,8 @@ fn first_places(
     Ok(places)
 }
 
-/// The best residual way from a node to each node, after as many rounds as there are further nodes; None where no residual walk
-/// leads. A round that finds no new way is the last one, since later ones would find none either.
+/// Returns the best residual path from one node to each node, or None if no residual walk leads there. At most one round fewer than there
+/// are nodes is performed. The rounds end early if one finds no new path, since later ones would find none either.
 pub(crate) fn reaches(
     alloc: Global,
     net: &Network,

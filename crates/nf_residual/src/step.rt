@@ -1,4 +1,4 @@
-// Steps along links, and back along them.
+// Forward and backward steps along links.
 ghost use Rattle.std.specs.Prelude.{◌≡◌};
 ghost use Rattle.nf_rational.specs.Operations.{0ℚ};
 ghost use Rattle.nf_rational.specs.Order.{lt_ℚ};
@@ -13,7 +13,7 @@ use nf_graph::{LinkId, NodeId};
 use nf_net::Link;
 use std::marker::Model;
 
-/// A step along a link, or back along it.
+/// A step along a link: forward from its tail to its head, or backward from head to tail.
 #[derive(Clone, Copy)]
 pub struct Step {
     pub link: LinkId,
@@ -33,8 +33,8 @@ impl Model for Step {
     ghost inverse = { λ s. record { link = s.link; forward = s.forward } };
 }
 
-/// A residual walk, its length (a time, in which a step back counts minus its transit time), and its room: the least rate that
-/// can still be added on a step of it.
+/// A residual walk, its length and its room. The length is a time, in which a backward step counts minus its transit time. The room is a
+/// rate, the least residual capacity of its steps.
 #[derive(Drop)]
 pub struct Walk {
     pub steps: Vec<Step>,
@@ -53,7 +53,8 @@ impl Model for Walk {
     ghost view = { λ w. record { steps = w.steps.items; length = w.length; room = w.room } };
 }
 
-// What a change makes of a number along a link or back along it: it is added, or taken off.
+// Returns `number` plus `change` for a forward step, and minus `change` for a backward one. Refuses with Passed, of the part Quick, exactly
+// if the operation exceeds its bound.
 pub(crate) fn changed(forward: bool, number: Q, change: Q) -> Result<Q, PassedAt<Q>>
     ensures { result ≡ checked_at passes_Q Quick (op_of forward) number change }
 {
@@ -64,21 +65,21 @@ pub(crate) fn changed(forward: bool, number: Q, change: Q) -> Result<Q, PassedAt
     }
 }
 
-// Where a step along this link, or back along it, begins.
+// Returns the node where a step along this link begins.
 pub(crate) fn begin_of(forward: bool, link: &Link) -> NodeId
     ensures { result ≡ begin_by forward link.now }
 {
     if forward { link.tail } else { link.head }
 }
 
-// And where it ends.
+// Returns the node where a step along this link ends.
 pub(crate) fn end_of(forward: bool, link: &Link) -> NodeId
     ensures { result ≡ end_by forward link.now }
 {
     if forward { link.head } else { link.tail }
 }
 
-// The flow is above 0.
+// Returns whether the flow is above 0.
 #[tactic(auto, using(crate::proofs::Signs::above_zero))]
 fn is_some(flow: &Q) -> bool
     ensures { result ≡ lt_ℚ 0ℚ flow.now }
@@ -86,7 +87,7 @@ fn is_some(flow: &Q) -> bool
     0 < flow.numer()
 }
 
-// The step can be gone, with this flow on the link.
+// Returns whether the step has residual capacity: a backward step needs flow above 0, a forward step a flow below the capacity.
 #[tactic(auto, using(crate::proofs::Signs::less_by_order))]
 pub(crate) fn can_go(forward: bool, capacity: &Option<Q>, flow: &Q) -> bool
     ensures { result ≡ can_go_by forward capacity.now flow.now }

@@ -1,5 +1,4 @@
-// Ways from a node, each by its number, and their order: the shorter first; of equally long ones that of fewer steps; and of these
-// the one whose steps come first.
+// Paths from one node, each with an index, and their order: by length, then by number of steps, then lexicographically by their steps.
 ghost use Rattle.std.specs.Prelude.{◌≡◌, ◌+◌, ◌^◌, ◌<◌, ◌++◌, [], ◌∷◌, suc, length, option_map, IfOk, IfSome, OnOk};
 ghost use Rattle.nf_rational.specs.Order.{cmp_ℚ};
 ghost use Rattle.nf_work.specs.declared.Part.TheVariants.{Quick};
@@ -19,7 +18,7 @@ use std::alloc::{AllocError, Global};
 use std::cmp::Ordering;
 use std::marker::Model;
 
-/// A way: how long it is, of how many steps, the last of them, and the number of the way before that one.
+/// A path: its length, its number of steps, its last step, and the index of the path before that step.
 #[derive(Drop)]
 pub(crate) struct Twig {
     pub distance: Length,
@@ -28,7 +27,8 @@ pub(crate) struct Twig {
     pub before: usize,
 }
 
-/// Ways from a node, numbered as they were added. The first has no step; each other one is an earlier one and a step more.
+/// Paths from one node, indexed in the order in which they were added. Path 0 has no step; each other path extends an earlier one by a
+/// step.
 #[derive(Drop)]
 pub(crate) struct Ways {
     twigs: Vec<Twig>,
@@ -46,7 +46,7 @@ impl Model for Ways {
     ghost invariant = { λ w. IsTree w.twigs.items };
 }
 
-// The place of a step in the order of steps.
+// Returns the sort key of a step: steps are ordered by link number, a forward step before the backward one.
 fn place(step: Step) -> u64
     ensures { result ≡ place_of step }
 {
@@ -54,7 +54,7 @@ fn place(step: Step) -> u64
     2 * (step.link.0 as u64) + side
 }
 
-// Of two steps the one whose place is less comes first; those of one place leave it to the steps after them.
+// Returns whether `here` precedes `there`; if their keys are equal, returns `later`.
 fn decided(here: Step, there: Step, later: bool) -> bool
     ensures { result ≡ one_before here there later }
 {
@@ -64,7 +64,7 @@ fn decided(here: Step, there: Step, later: bool) -> bool
 }
 
 impl Ways {
-    /// The way of no step alone.
+    /// Returns the tree with only the path of no step.
     pub(crate) fn start(alloc: Global) -> Result<Ways, AllocError>
         ensures { IfOk result (λ ways. ways ≡ first_twig ∷ []) }
     {
@@ -81,7 +81,7 @@ impl Ways {
         Ok(Ways { twigs })
     }
 
-    /// How many there are.
+    /// Returns the number of paths.
     pub(crate) fn count(&self) -> usize
         ensures count { result ≡ length self.now }
         ensures tree { IsTree self.now }
@@ -89,7 +89,7 @@ impl Ways {
         self.twigs.len()
     }
 
-    /// How long a way is.
+    /// Returns the length of a path, a time.
     pub(crate) fn distance(&self, way: usize) -> Q
         requires { way < length self.now }
         ensures { result ≡ (twig_at self.now way).distance }
@@ -97,7 +97,8 @@ impl Ways {
         self.twigs[way].distance.value()
     }
 
-    /// How long it is with the step of a leg more.
+    /// Returns the length of a path extended by a residual arc, a time. Refuses with Passed, of the part Quick, exactly if the operation
+    /// exceeds its bound.
     pub(crate) fn changed(&self, way: usize, leg: &Leg) -> Result<Length, PassedAt<Q>>
         requires { way < length self.now }
         ensures { result ≡ checked_at passes_Q Quick (op_of leg.now.step.forward) (twig_at self.now way).distance leg.now.transit }
@@ -107,7 +108,7 @@ impl Ways {
             .changed(leg.step.forward, &leg.transit)
     }
 
-    // How this length compares with that of a way.
+    // Compares this length with the length of a path.
     fn compare(&self, distance: &Length, way: usize) -> Ordering
         requires { way < length self.now }
         ensures { result ≡ cmp_ℚ distance.now (twig_at self.now way).distance }
@@ -115,7 +116,7 @@ impl Ways {
         distance.compare(&self.twigs[way].distance)
     }
 
-    // Of how many steps it is.
+    // Returns the number of steps of a path.
     fn step_count(&self, way: usize) -> usize
         requires { way < length self.now }
         ensures value { result ≡ (twig_at self.now way).count }
@@ -124,7 +125,7 @@ impl Ways {
         self.twigs[way].count
     }
 
-    // Its last step.
+    // Returns the last step of a path.
     fn last(&self, way: usize) -> Step
         requires { way < length self.now }
         ensures { result ≡ (twig_at self.now way).last }
@@ -132,7 +133,7 @@ impl Ways {
         self.twigs[way].last
     }
 
-    // The way before that step.
+    // Returns the index of the path before the last step.
     fn before(&self, way: usize) -> usize
         requires { way < length self.now }
         ensures value { result ≡ (twig_at self.now way).before }
@@ -141,8 +142,8 @@ impl Ways {
         self.twigs[way].before
     }
 
-    // A way with this step more comes before another one of equally many steps. They are compared from the last step back, as far
-    // as they differ.
+    // Returns whether a path extended by `step` precedes another path with as many steps lexicographically. The loop compares from the last
+    // step back, and ends where the two share a path.
     fn are_before(&self, way: usize, step: Step, other: usize) -> bool
         requires way { way < length self.now }
         requires other { other < length self.now }
@@ -163,7 +164,7 @@ impl Ways {
         are_before
     }
 
-    // A way with this step more has fewer steps than the other, or as many and comes before it.
+    // Returns whether a path extended by `step` has fewer steps than the other, or as many and precedes it.
     fn are_fewer_or_before(&self, way: usize, step: Step, other: usize) -> bool
         requires way { way < length self.now }
         requires other { other < length self.now }
@@ -178,7 +179,7 @@ impl Ways {
         }
     }
 
-    // A way with this step more, of this length, comes before the other.
+    // Returns whether a path extended by `step`, of length `distance`, precedes the other path.
     fn is_better(&self, way: usize, step: Step, distance: &Length, other: usize) -> bool
         requires way { way < length self.now }
         requires other { other < length self.now }
@@ -191,7 +192,7 @@ impl Ways {
         }
     }
 
-    /// A way with this step more, of this length, comes before what is known.
+    /// Returns whether a path extended by `step`, of length `distance`, precedes the known path, or no path is known.
     pub(crate) fn is_gain(
         &self,
         way: usize,
@@ -209,7 +210,7 @@ impl Ways {
         }
     }
 
-    /// Adds a way with this step more, of this length.
+    /// Adds a path extended by `step`, of length `distance`. Refuses only if memory can't be allocated.
     pub(crate) fn add(&mut self, way: usize, step: Step, distance: Length) -> Result<(), AllocError>
         requires { way < length self.old }
         ensures { OnOk result (self.new ≡ self.old ++ twig_after self.old way step distance ∷ []) }
@@ -224,7 +225,7 @@ impl Ways {
         Ok(())
     }
 
-    /// The steps of a way.
+    /// Returns the steps of a path from first to last. Refuses only if memory can't be allocated.
     pub(crate) fn steps(&self, alloc: Global, way: usize) -> Result<Vec<Step>, AllocError>
         requires { way < length self.now }
         ensures { IfOk result (λ steps. steps.items ≡ (way_at self.now way).steps) }

@@ -1,4 +1,4 @@
--- A flow that is cut: its labels first, and then the curves of its links.
+-- A cut flow: its labels first, and then the curves of its links.
 use Rattle.std.proofs.Common.{◌≡◌, ℕ, ◌<◌, List, length, sym, ◌∙◌}
 use Rattle.std.specs.Prelude.{Ok, Err}
 use Rattle.nf_rational.specs.Rational.{ℚ}
@@ -18,7 +18,7 @@ use Rattle.nf_resume_lists.specs.Resuming.{OfLink, CutLink, links_with, cut_shor
 use Rattle.nf_resume_laws.proofs.CutFlow.{each_length, end-nn}
 use Rattle.nf_resume.specs.Cuts.{AreLists}
 
--- where the labels stop, so does the whole
+-- A failure of the labels is a failure of the whole.
 pub labels_stop : (passes : Passing) (part : Part) (net : Network) (flow : Flow) (h : Halt ℚ) → Stops (λ (q : ℚ). q) h (at_part part (each (cut_short passes flow.reached) flow.labels))
     → Stops (λ (q : ℚ). q) h (at_part part (cut_flow passes net flow))
 unfolding cut_flow

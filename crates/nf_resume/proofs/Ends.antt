@@ -1,4 +1,4 @@
--- Where curves end, and the curves of a link in a flow.
+-- The ends of curves, and the curves of a link in a flow.
 use Rattle.std.proofs.Common.{◌≡◌, ℕ, zero, suc, ◌+◌, ◌<◌, List, [], ◌∷◌, length, get_or, refl, sym, ap, ◌∙◌, arith}
 use Rattle.std.specs.Prelude.{Option, Some, None, slice_get, map}
 use Rattle.std.specs.List.{last_or}
@@ -45,7 +45,7 @@ link_there links inflows outflows queues e link inflow outflow queue at hi i ho 
     (entry_of trace_of inflows e inflow (slice_get_read inflows _ e inflow refl hi i)) (entry_of trace_of outflows e outflow (slice_get_read outflows _ e outflow refl ho o))
     (curve_there queues e queue hq q)
 
--- and with its curves cut up to the labels of its ends
+-- The same with its curves cut at the labels of its ends.
 pub link_cut : (passes : Passing) (labels : List (List Point)) (links : List Link) (inflows outflows : List Trace) (queues : List Grown) (e : ℕ) (link : Link) (inflow outflow : Trace) (queue : Grown) (tail head : ℚ)
     → slice_get links e ≡ Some link → tail ≡ value_at_end (points_at labels link.tail) → head ≡ value_at_end (points_at labels link.head)
     → e < length inflows → inflow ≡ get_or inflows e inflow → e < length outflows → outflow ≡ get_or outflows e outflow → e < length queues → queue ≡ get_or queues e queue

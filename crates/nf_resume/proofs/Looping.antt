@@ -1,4 +1,4 @@
--- A loop over the entries of a list, each of whose steps is a computation: what is there so far, before what comes of the rest.
+-- A loop over the entries of a list whose steps are computations: the results so far precede the remaining ones.
 use Rattle.std.proofs.Common.{◌≡◌, ℕ, ◌+◌, ◌≤◌, suc, List, [], ◌∷◌, ◌++◌, length, drop, refl, sym, ap, ◌∙◌, arith}
 use Rattle.std.specs.Prelude.{Result, Ok, Err, Some, slice_get}
 use Rattle.std.proofs.lemmas.List.{drop_all}

@@ -20,7 +20,7 @@ use Rattle.nf_resume.proofs.Looping.{drop_next}
 pub times_apart : (points : List Point) (i : ℕ) (p q : Point) → IsCurve points → slice_get points i ≡ Some p → slice_get points (i + 1) ≡ Some q → p.0 <ℚ q.0
 times_apart points i p q c e f = rise-pairs points i (i + 1) p q (curve-rises points c) e f (omega arith)
 
--- the rates so far, before those from a point on
+-- The rates so far precede those from a point on.
 pub record RatesTo (passes : Passing) (points : List Point) (i : ℕ) (rates : List ℚ) : Type 0 where
   pub same : with_front rates (checked_slopes passes (drop i points)) ≡ checked_slopes passes points
 

@@ -1,4 +1,4 @@
--- What is said of a report: by its check, then by the run that stands where its flow ends, and then by how that goes on.
+-- The result for a report: from its check, then from the run at the end of its flow, and then from the later phases of that run.
 use Rattle.std.proofs.Common.{◌≡◌, ℕ, Bool, true, false, ⊎_elim, refl, sym, ap, subst, ◌∙◌}
 use Rattle.std.specs.Prelude.{Result, Ok, Err, IfErr, OnOk, MatchBool, MatchResult}
 use Rattle.nf_rational.specs.Rational.{ℚ}
@@ -28,7 +28,7 @@ use Rattle.nf_phase.specs.Solution.{IsFinished}
 use Rattle.nf_resume.specs.declared.fault.ResumeFault.{ResumeFault}
 use Rattle.nf_resume.specs.Faults.{of_halt, IsRefused, IsCause, IsResumeFault}
 
--- before a time, or not
+-- Whether a time is before another.
 pub below_or_not : (b : Bool) (x y : ℚ) → b ≡ lt_ℚ x y → MatchBool b (x <ℚ y) (y ≤ℚ x)
 below_or_not true x y e = less_of_test x y (sym e)
 below_or_not false x y e = ⊎_elim (λ (w : (lt_ℚ x y ≡ true) × (x <ℚ y)). absurd (let f = w.0 in cc)) (λ (w : (lt_ℚ x y ≡ false) × (y ≤ℚ x)). w.1) (lt_ℚ_cases x y)
@@ -42,12 +42,12 @@ module _ (passes : Passing) (net : Network) (report : Report) where
   unfolding resume_list
   by_answer r e = ap (λ (r : Result (Answer ℕ ℕ ℚ) (PassedAt ℚ)). r >>= after_check passes net report) e
 
-  -- it is no equilibrium
+  -- The flow is no equilibrium.
   refused : (answer : Answer ℕ ℕ ℚ) → (answer ≡ Yes → ⊥) → answered ≡ Ok answer → Checks net report.flow answer → IsExact net report.flow answer → IsRefused passes net report answer
   refused Yes other e rules exact = absurd (other refl)
   refused (No rule subject time left right) other e rules exact = record { answers = e; ends = by_answer (Ok (No rule subject time left right)) e; rules = rules; none = exact.1 }
 
-  -- what is known of an answer that isn't or is a No
+  -- Facts on an answer that is or isn't a No.
   abbrev Said : Answer ℕ ℕ ℚ → Result (Unit {0}) ResumeFault → Type 0
   Said answer result = MatchResult result (λ _. answer ≡ Yes) (λ fault. (fault ≡ ResumeFault.No answer) × (answer ≡ Yes → ⊥))
 
@@ -64,12 +64,12 @@ module _ (passes : Passing) (net : Network) (report : Report) where
     said_no (Ok x) s rules exact = tt
     said_no (Err fault) s rules exact = subst (IsCause passes net report) (sym s.0) (refused answer s.1 is rules exact)
 
-  -- an operation of it passes
+  -- An operation of the check exceeds its bound.
   pub check_stops : (h : Halt ℚ) → Stops (λ (q : ℚ). q) h answered → IsCause passes net report (of_halt h)
   check_stops (Halt.Passed at) s = by_answer (Err at) s
   check_stops Halt.Memory s = tt
 
-  -- ---- the run that stands where the flow ends
+  -- ---- the run at the end of the flow
   abbrev restarted : Result Standing (PassedAt ℚ)
   restarted = at_part Curve (restart_list passes net report)
 
@@ -95,14 +95,14 @@ module _ (passes : Passing) (net : Network) (report : Report) where
     pub list_stands : (first : Standing) → restarted ≡ Ok first → resume_list passes net report ≡ Ok (Stands first)
     list_stands first e = after_yes (Ok first) e
 
-  -- ---- the horizon isn't earlier
+  -- ---- the horizon is not before the departure reached
   pub in_time : (horizon : ℚ) (fault : ResumeFault) → report.flow.reached ≤ℚ horizon → IsCause passes net report fault → IsResumeFault passes net report horizon fault
   in_time horizon (ResumeFault.Earlier reached) later cause = absurd cause
   in_time horizon (ResumeFault.No answer) later cause = (later, cause)
   in_time horizon (ResumeFault.Passed at) later cause = (later, cause)
   in_time horizon ResumeFault.Memory later cause = (later, cause)
 
--- ---- it went on
+-- ---- the run continued
 module _ (net : Network) (bounds : Bounds) (report : Report) (phases : ℕ) (new : Report) (yes : check_list passes_Q net report.flow ≡ Ok Yes)
     (first : Standing) (stands : at_part Curve (restart_list passes_Q net report) ≡ Ok first) (finished : IsFinished net bounds first phases new) where
   pub is_resumed : IsResumedReport passes_Q net bounds report phases new

@@ -1,4 +1,4 @@
--- Curves that are cut, as the lists have them.
+-- Cut curves, as the operation sequences give them.
 use Rattle.std.specs.Prelude.{◌≡◌, List, map, Ok}
 use Rattle.nf_rational.specs.Rational.{ℚ}
 use Rattle.nf_work.specs.Passing.{Passing}
@@ -16,7 +16,7 @@ curves_of curves = map (λ c. c.points) curves
 abbrev pub cut_in : CutLink → lists.CutLink
 cut_in cut = record { inflow = trace_of cut.inflow; outflow = trace_of cut.outflow; queue = cut.queue.points }
 
--- the curves of a link, where the labels of its ends are these
+-- The curves of a link, cut at the labels `tail` and `head` of its ends.
 abbrev pub cut_ends : Passing → ℚ → ℚ → List Point → List Point → List Point → Checked lists.CutLink
 cut_ends passes tail head inflow outflow queue = do
   inflow ← lists.cut_trace passes tail inflow
@@ -24,7 +24,7 @@ cut_ends passes tail head inflow outflow queue = do
   queue ← lists.cut_short passes tail queue
   Ok (record { inflow = inflow; outflow = outflow; queue = queue })
 
--- the same, list by list
+-- Inflows, outflows and queues of these cuts, each kind in its own list.
 pub record AreLists (inflows outflows : List Trace) (queues : List (List Point)) (cuts : List lists.CutLink) : Type 0 where
   pub are_inflows : inflows ≡ map (λ (c : lists.CutLink). c.inflow) cuts
   pub are_outflows : outflows ≡ map (λ (c : lists.CutLink). c.outflow) cuts

@@ -1,4 +1,4 @@
--- Why a report isn't resumed.
+-- The reasons why a report is not resumed.
 use Rattle.std.specs.Prelude.{◌≡◌, ℕ, Ok, Err}
 use Rattle.nf_rational.specs.Rational.{ℚ}
 use Rattle.nf_rational.specs.Order.{◌≤ℚ◌, ◌<ℚ◌}
@@ -17,22 +17,22 @@ abbrev pub of_halt : Halt ℚ → ResumeFault
 of_halt (Halt.Passed at) = ResumeFault.Passed at
 of_halt Halt.Memory = ResumeFault.Memory
 
--- The report's flow is no equilibrium. That is what the check answers, by its rules, and the list of resuming ends there.
+-- The report's flow is no equilibrium. The check gives the answer by its rules, and `resume_list` ends there.
 pub record IsRefused (passes : Passing) (net : Network) (report : Report) (answer : Answer ℕ ℕ ℚ) : Type 0 where
   pub answers : check_list passes net report.flow ≡ Ok answer
   pub ends : resume_list passes net report ≡ Ok (Refused answer)
   pub rules : Checks net report.flow answer
   pub none : Equilibrium net report.flow → ⊥
 
--- the causes that no horizon changes; wanting memory says nothing
+-- The causes that don't depend on the horizon. An allocation failure implies nothing.
 abbrev pub IsCause : Passing → Network → Report → ResumeFault → Type 0
 IsCause passes net report (ResumeFault.Earlier reached) = ⊥
 IsCause passes net report (ResumeFault.No answer) = IsRefused passes net report answer
 IsCause passes net report (ResumeFault.Passed at) = resume_list passes net report ≡ Err at
 IsCause passes net report ResumeFault.Memory = Unit {0}
 
--- The horizon is before the departure that the report's flow has reached: that comes first, whatever else there is. Only where it isn't
--- may there be another cause.
+-- A horizon before the departure reached is the first cause, whatever else holds. Every other cause implies that the horizon is not before
+-- it.
 abbrev pub IsResumeFault : Passing → Network → Report → ℚ → ResumeFault → Type 0
 IsResumeFault passes net report horizon (ResumeFault.Earlier reached) = (reached ≡ report.flow.reached) × (horizon <ℚ reached)
 IsResumeFault passes net report horizon fault = (report.flow.reached ≤ℚ horizon) × IsCause passes net report fault

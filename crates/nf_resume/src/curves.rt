@@ -1,4 +1,4 @@
-// One curve: cut at a last time, in short form, with its rates; and its last value.
+// A single curve: its cut at a last time, in short form, with its rates; and its last value.
 ghost use Rattle.std.specs.Prelude.{◌≡◌, ◌<◌, length};
 ghost use Rattle.nf_rational.specs.Operations.{0ℚ};
 ghost use Rattle.nf_rational.specs.Order.{◌≤ℚ◌};
@@ -17,7 +17,7 @@ use nf_frac::{Halt, Part, Q};
 use nf_graph::NodeId;
 use std::alloc::Global;
 
-// The rates of a curve: from each point but the last, the slope to the next.
+// Returns the rates of a curve: for each point but the last, the slope to the next. Refuses at the first operation that exceeds its bound.
 fn rates(alloc: Global, curve: &Curve) -> Result<Vec<Q>, Halt<Q>>
     ensures { Gives (λ rates. rates.items) (λ q. q) result (at_part OfCurve (checked_slopes passes_Q curve.now.points)) }
 {
@@ -32,7 +32,7 @@ fn rates(alloc: Global, curve: &Curve) -> Result<Vec<Q>, Halt<Q>>
     Ok(rates)
 }
 
-/// A curve up to a last time, in short form.
+/// Returns the curve up to a last time, in short form. Refuses at the first operation that exceeds its bound.
 #[tactic(auto, using(nf_curve::proofs::Exits::after_ok, nf_curve::proofs::Exits::after_err))]
 pub(crate) fn cut_short(alloc: Global, curve: &Curve, last: Q) -> Result<Curve, Halt<Q>>
     requires { 0ℚ ≤ℚ last }
@@ -42,7 +42,7 @@ pub(crate) fn cut_short(alloc: Global, curve: &Curve, last: Q) -> Result<Curve, 
     Curve::short(alloc, &cut, Part::Curve)
 }
 
-/// A trace up to a last time, in short form, with its rates.
+/// Returns the trace up to a last time, in short form, with its rates. Refuses at the first operation that exceeds its bound.
 #[tactic(auto, using(nf_curve::proofs::Exits::after_ok, nf_curve::proofs::Exits::after_err))]
 pub(crate) fn cut_trace(alloc: Global, trace: &Trace, last: Q) -> Result<Trace, Halt<Q>>
     requires { 0ℚ ≤ℚ last }
@@ -53,7 +53,7 @@ pub(crate) fn cut_trace(alloc: Global, trace: &Trace, last: Q) -> Result<Trace, 
     Ok(Trace { curve, rates })
 }
 
-/// The value of a node's label at its last point.
+/// Returns the value of a node's label at the last point of its curve, a time.
 pub(crate) fn last_label(labels: &[Curve], node: NodeId) -> Q
     requires { node < length labels.now }
     ensures { result ≡ value_at_end (points_at (curves_of labels.now) node) }

@@ -17,7 +17,7 @@ use nf_frac::{Halt, Q};
 use nf_net::Network;
 use std::alloc::{AllocError, Global};
 
-// The labels of all nodes, up to the departure reached.
+// Returns the labels of all nodes up to the departure reached.
 fn cut_labels(alloc: Global, labels: &[Curve], reached: Q) -> Result<Vec<Curve>, Halt<Q>>
     requires { 0ℚ ≤ℚ reached }
     ensures { Gives (λ cuts. curves_of cuts.items) (λ q. q) result
@@ -31,7 +31,7 @@ fn cut_labels(alloc: Global, labels: &[Curve], reached: Q) -> Result<Vec<Curve>,
     Ok(cuts)
 }
 
-// The curves of links, in three lists.
+// The curves of links, each kind in its own list.
 #[derive(Drop)]
 struct OfLinks {
     inflows: Vec<Trace>,
@@ -40,7 +40,7 @@ struct OfLinks {
 }
 
 impl OfLinks {
-    // One more link.
+    // Appends the curves of a link. Refuses only if memory can't be allocated.
     fn push(&mut self, cut: CutLink) -> Result<(), AllocError>
         ensures inflows { OnOk result
             (map trace_of self.new.inflows.items ≡ map trace_of self.old.inflows.items ++ (cut_in cut).inflow ∷ []) }
@@ -55,7 +55,7 @@ impl OfLinks {
     }
 }
 
-// The cut curves of links, in three lists.
+// Returns the cut curves of links, each kind in its own list.
 fn in_lists(alloc: Global, cuts: Vec<CutLink>) -> Result<OfLinks, AllocError>
     ensures { IfOk result (λ links. AreLists (map trace_of links.inflows.items) (map trace_of links.outflows.items)
         (curves_of links.queues.items) (map cut_in cuts.items)) }
@@ -71,14 +71,15 @@ fn in_lists(alloc: Global, cuts: Vec<CutLink>) -> Result<OfLinks, AllocError>
     Ok(links)
 }
 
-/// An equilibrium, cut at the departure that it reached: its labels up to there, the inflow and the queue of a link up to the label of its
-/// tail there, and the outflow up to that of its head, all in short form and with their rates.
+/// Returns an equilibrium, cut at the departure that it reached. Its labels end there. Inflow and queue of a link end at the label of its
+/// tail there, the outflow at that of its head. All curves are in short form and have their rates. Refuses at the first operation that
+/// exceeds its bound, or if memory can't be allocated.
 #[tactic(auto, unfolding(nf_resume_lists::specs::Resuming::cut_flow))]
 pub(crate) fn cut_flow(alloc: Global, net: &Network, flow: &Flow) -> Result<Flow, Halt<Q>>
     requires { Equilibrium net.now.net (flow_of flow.now) }
     ensures { Gives flow_of (λ q. q) result (at_part OfCurve (cut_flow_by passes_Q net.now.net (flow_of flow.now))) }
 {
-    // For the proof: the network is a good one.
+    // Proof: the network satisfies `IsNetwork`.
     net.recall();
     let labels = cut_labels(alloc, &flow.labels, flow.reached)?;
     let cuts = cut_links(alloc, net, flow, &labels)?;

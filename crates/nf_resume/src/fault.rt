@@ -1,4 +1,4 @@
-// Why a report isn't resumed.
+// Refusals of `resume`.
 ghost use Rattle.std.specs.Prelude.{◌≡◌};
 ghost use Rattle.nf_resume.specs.Faults.{of_halt};
 ghost use Rattle.nf_resume.specs.declared.fault.ResumeFault.TheVariants as ResumeFault;
@@ -7,16 +7,16 @@ use nf_check::Answer;
 use nf_frac::{Halt, PassedAt, Q};
 use std::alloc::AllocError;
 
-/// Why a report isn't resumed.
+/// Why a report is not resumed.
 #[derive(Clone, Copy)]
 pub enum ResumeFault {
     /// The horizon is before the departure that the report's flow has reached.
     Earlier { reached: Q },
-    /// The report's flow is no equilibrium: what the check answers, which is a No.
+    /// The report's flow is no equilibrium; the payload is the answer of the check, a No.
     No(Answer),
-    /// An operation passes.
+    /// An operation exceeds its bound.
     Passed(PassedAt<Q>),
-    /// Memory is wanting.
+    /// Memory can't be allocated.
     Memory,
 }
 

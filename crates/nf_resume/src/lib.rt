@@ -1,5 +1,5 @@
-//! Going on from a report: the flow that it describes is checked and cut at the departure that it reached, and a run that stands there
-//! goes on to a later horizon. Times, amounts and rates are exact fractions.
+//! Resumption of a report: its flow is checked and cut at the departure that it reached, and a run from there continues to a later
+//! horizon. Times, amounts and rates are exact fractions.
 #![tactic(auto)]
 
 mod curves;

@@ -1,4 +1,4 @@
-// The curves of links: cut up to the labels of their ends.
+// The curves of links, cut at the labels of their ends.
 ghost use Rattle.std.specs.Prelude.{◌≡◌, ◌<◌, ℕ, length, map};
 ghost use Rattle.nf_rational.specs.Operations.{0ℚ};
 ghost use Rattle.nf_rational.specs.Order.{◌≤ℚ◌};
@@ -18,7 +18,7 @@ use nf_graph::LinkId;
 use nf_net::Network;
 use std::alloc::Global;
 
-/// The curves of a link, cut.
+/// The cut curves of a link.
 #[derive(Drop)]
 pub(crate) struct CutLink {
     pub inflow: Trace,
@@ -26,7 +26,7 @@ pub(crate) struct CutLink {
     pub queue: Curve,
 }
 
-// The curves of a link, up to the labels of its tail and of its head.
+// Returns the curves of a link up to the labels of its tail and head. Refuses at the first operation that exceeds its bound.
 #[tactic(auto, using(nf_curve::proofs::Exits::after_ok, nf_curve::proofs::Exits::after_err))]
 fn cut_link(
     alloc: Global,
@@ -51,7 +51,8 @@ fn cut_link(
     })
 }
 
-/// The curves of all links, up to the labels of their ends.
+/// Returns the curves of all links up to the labels of their ends. Refuses at the first operation that exceeds its bound, or if memory
+/// can't be allocated.
 pub(crate) fn cut_links(
     alloc: Global,
     net: &Network,

@@ -1,4 +1,4 @@
-// A report is resumed: it is checked, and the run that stands where its flow ends goes on to a later horizon.
+// Resumption of a report: it is checked, and a run from the end of its flow continues to a later horizon.
 ghost use Rattle.std.specs.Prelude.{◌≡◌, ◌≢◌, Ok, IfOk, OnOk, IfErr, MatchBool, MatchResult};
 ghost use Rattle.nf_rational.specs.Order.{◌≤ℚ◌, ◌<ℚ◌};
 ghost use Rattle.nf_work.specs.declared.Part.TheVariants.{Curve as OfCurve};
@@ -29,14 +29,14 @@ use nf_phase::{Budgets, Run, Solution};
 use nf_report_file::Report;
 use std::alloc::Global;
 
-// A horizon is before the departure that was reached.
+// Returns whether the horizon is before the departure reached.
 fn is_earlier(horizon: Q, reached: Q) -> bool
     ensures { MatchBool result (horizon <ℚ reached) (reached ≤ℚ horizon) }
 {
     horizon.is_below(reached)
 }
 
-// By the answer of the check a report is resumed or refused.
+// Refuses if the answer of the check is No.
 fn unless_no(answer: Answer) -> Result<(), ResumeFault>
     ensures { MatchResult result (λ _. answer ≡ Yes) (λ fault. (fault ≡ ResumeFault.No answer) × (answer ≢ Yes)) }
 {
@@ -46,7 +46,7 @@ fn unless_no(answer: Answer) -> Result<(), ResumeFault>
     }
 }
 
-// A report whose flow is no equilibrium is refused.
+// Refuses if the flow of the report is no equilibrium.
 fn check_first(alloc: Global, net: &Network, report: &Report) -> Result<(), ResumeFault>
     requires { IsWellFormed net.now.net (report_of report.now) }
     ensures yes { OnOk result (check_list passes_Q net.now.net (report_of report.now).flow ≡ Ok Yes) }
@@ -59,7 +59,7 @@ fn check_first(alloc: Global, net: &Network, report: &Report) -> Result<(), Resu
     }
 }
 
-// The run that stands where the flow of a report ends.
+// Returns the run at the end of a report's flow.
 fn restart(alloc: Global, net: &Network, report: &Report) -> Result<Run, Halt<Q>>
     requires formed { IsWellFormed net.now.net (report_of report.now) }
     requires equilibrium { Equilibrium net.now.net (report_of report.now).flow }
@@ -68,7 +68,7 @@ fn restart(alloc: Global, net: &Network, report: &Report) -> Result<Run, Halt<Q>
     ensures time { IfOk result (λ run. run.time ≡ (report_of report.now).flow.reached) }
     ensures fresh { IfOk result (λ run. run.made ≡ 0) }
 {
-    // For the proof: the network is that of an accepted file.
+    // Proof: the network is that of an accepted file.
     net.recall();
     let flow = cut_flow(alloc, net, &report.flow)?;
     let last = report.last.copy(alloc)?;
@@ -76,14 +76,17 @@ fn restart(alloc: Global, net: &Network, report: &Report) -> Result<Run, Halt<Q>
     Ok(run)
 }
 
-/// Goes on from a report to a horizon: from the departure that its flow has reached, phase by phase, until the horizon is reached, as
-/// many phases as allowed were made since then, or one can't be made. The flow up to there is an equilibrium (a Nash flow over time:
-/// Koch and Skutella 2011) with the report's values up to where the report's flow ends. Each phase has a thin flow, so one can't be made
-/// only where an operation passes or more patterns than allowed would have to be tried. Where the run that wrote the report was cut
-/// short within a phase, the first phase is the rest of that one. The report is a well-formed one of the network. It is refused, in this
-/// order, exactly where the horizon is before the departure reached, where its flow is no equilibrium, or at the first operation of its
-/// list that passes: that of the check, and then with part Curve those of cutting the flow at the departure reached and of the slopes
-/// with which its curves end there.
+/// Resumes a report to a horizon, phase by phase from the departure that its flow has reached. The run ends at the horizon, after as many
+/// phases as allowed, or if no phase can be computed. The resulting flow is an equilibrium (a Nash flow over time: Koch and Skutella 2011),
+/// and has the report's values up to where the report's flow ends. Each phase has a thin flow, so it can't be computed only if an operation
+/// exceeds its bound or more patterns than allowed are needed. If the run that wrote the report stopped within a phase, the first phase is
+/// the remainder of that phase. The report must be a well-formed one of the network.
+///
+/// - `Earlier`: exactly if the horizon is before the departure reached. This refusal comes first.
+/// - `No`: if the flow is no equilibrium; has the answer of the check.
+/// - `Passed`: at the first operation of `resume_list` that exceeds its bound. The operations are those of the check, then with part Curve
+///   those of cutting the flow at the departure reached and of the slopes of its last pieces.
+/// - `Memory`: only if memory can't be allocated.
 pub fn resume(
     alloc: Global,
     net: &Network,
@@ -103,7 +106,7 @@ pub fn resume(
     ensures not_earlier { OnOk result ((report_of report.now).flow.reached ≤ℚ horizon) }
     ensures fault { IfErr result (IsResumeFault passes_Q net.now.net (report_of report.now) horizon) }
 {
-    // For the proof: the network is that of an accepted file.
+    // Proof: the network is that of an accepted file.
     net.recall();
     let reached = report.flow.reached;
     if is_earlier(horizon, reached) {

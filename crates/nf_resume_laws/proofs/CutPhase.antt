@@ -1,5 +1,5 @@
--- A phase that is cut before its extension length leaves the run open, and one that ends at it doesn't. What is left of a phase that
--- was cut is as long as the phase less the part that was made.
+-- A run is mid-phase after a phase that ended before its extension length, and not after one that ended at it. The remainder of an
+-- interrupted phase is as long as the phase minus its completed part.
 use Rattle.std.proofs.Common.{◌≡◌, ◌≢◌, ℕ, ◌<◌, List, [], ◌∷◌, length, ⊎_elim, Option, Some, None, slice_get, sym, ap, subst, refl, ◌∙◌, arith}
 use Rattle.std.proofs.lemmas.Option.{slice_get_within}
 use Rattle.std.proofs.lemmas.List.{length-map}
@@ -29,7 +29,7 @@ on_line s c d w z e = linear_eq (s ∷ c ∷ d ∷ w ∷ z ∷ []) (eq e ∷ [])
 beyond : (d w : ℚ) → d +ℚ (w -ℚ d) ≡ w
 beyond d w = linear_eq (d ∷ w ∷ []) [] (search reading_of depth 12) tt tt
 
--- a line that is below 0 at first and not above it later is below it between
+-- A line that is below 0 at first and at most 0 later is below 0 between.
 below_between : (s c d y : ℚ) → s <ℚ 0ℚ → 0ℚ ≤ℚ d → d <ℚ y → s +ℚ y *ℚ c ≤ℚ 0ℚ → s +ℚ d *ℚ c <ℚ 0ℚ
 below_between s c d y h i j k = ⊎_elim
     (λ (l : c <ℚ 0ℚ). linear_lt (s ∷ c ∷ d ∷ []) (lt h ∷ le_times i (≤ℚ_of_lt _ _ l) ∷ []) (search reading_of depth 12) tt)
@@ -63,7 +63,7 @@ rises_on s c d w z e f h i j = ⊎_elim
     (λ (k : c ≤ℚ 0ℚ). absurd (linear_false (s ∷ c ∷ d ∷ z ∷ []) (eq e ∷ eq f ∷ lt h ∷ le_times i k ∷ []) (search reading_of depth 12) tt))
     (lt_or_le_ℚ 0ℚ c)
 
--- ---- a link without a state has a slack other than 0
+-- ---- a link without a state has nonzero slack
 module _ (net : Network) (labels : List ℚ) (pattern : Pattern) (is : IsPattern (sets_at net labels) (unbounded net) pattern) where
   stateless-apart : (e : ℕ) (link : Link) → IsLink net e link → slice_get pattern e ≡ Some None → slack labels (hop_of link) ≡ 0ℚ → ⊥
   stateless-apart e link p none zero_slack =
@@ -85,11 +85,11 @@ module _ (net : Network) (good : IsNetwork net) (labels slopes : List ℚ) (time
   abbrev change : Link → ℚ
   change link = number_at slopes link.head -ℚ number_at slopes link.tail
 
-  -- the slack at the end of the part that was made
+  -- The slack at the end of the completed part.
   slack-now : (e : ℕ) (link : Link) → IsLink net e link → number_at slacks' e ≡ number_at slacks e +ℚ done *ℚ change link
   slack-now e link p = slack_at net s.labels e link p ∙ ap (λ (l : List ℚ). slack l (hop_of link)) labels_are ∙ sym (slack_after-moved net labels slopes e link done p count)
 
-  -- a slack that isn't 0 stays on its side until the phase ends
+  -- A nonzero slack stays on its side until the phase ends.
   pub stays-below : (whole : ℚ) → Lasts net slacks slopes time whole → done <ℚ whole → (e : ℕ) (link : Link) → IsLink net e link → slack labels (hop_of link) <ℚ 0ℚ → slack s.labels (hop_of link) <ℚ 0ℚ
   stays-below whole lasts short e link p h =
       let first : number_at slacks e <ℚ 0ℚ = subst (λ (x : ℚ). x <ℚ 0ℚ) (sym (slack_at net labels e link p)) h in
@@ -105,7 +105,7 @@ module _ (net : Network) (good : IsNetwork net) (labels slopes : List ℚ) (time
   pub slack-moves : (e : ℕ) (link : Link) → IsLink net e link → slack s.labels (hop_of link) ≡ slack labels (hop_of link) +ℚ done *ℚ (number_at slopes link.head -ℚ number_at slopes link.tail)
   slack-moves e link p = sym (slack_at net s.labels e link p) ∙ slack-now e link p ∙ ap (λ (x : ℚ). x +ℚ done *ℚ change link) (slack_at net labels e link p)
 
-  -- a link that had another slack than 0 at first has no state
+  -- A link with nonzero slack at first has no state.
   stateless : (e : ℕ) (link : Link) → IsLink net e link → (number_at slacks e ≡ 0ℚ → ⊥) → slice_get pattern e ≡ Some None
   stateless e link p apart = by (slice_get pattern e) refl
     where
@@ -133,7 +133,7 @@ module _ (net : Network) (good : IsNetwork net) (labels slopes : List ℚ) (time
           none_there o e w = cc
       by (Some o) h = has_none o h
 
-  -- cut before its extension length, the run is open
+  -- If the phase ended before its extension length, the run is mid-phase.
   pub IsOpen-cut : (whole : ℚ) → Lasts net slacks slopes time whole → 0ℚ <ℚ done → done <ℚ whole → IsOpen net s
   IsOpen-cut whole lasts some short = record {
     no_start = λ i piece p same.
@@ -159,7 +159,7 @@ module _ (net : Network) (good : IsNetwork net) (labels slopes : List ℚ) (time
   after_while : (e : ℕ) (link : Link) (while : ℚ) → IsLink net e link → slack_after slacks slopes e link (done +ℚ while) ≡ slack_after slacks' slopes e link while
   after_while e link while p = on_line (number_at slacks e) (change link) done while (number_at slacks' e) (slack-now e link p)
 
-  -- ---- what is left of a phase: first the part that was made, then another
+  -- ---- the remainder of a phase: first the completed part, then another
   pub Lasts-pasted : (more : ℚ) → IsOpen net s → Lasts net slacks slopes time done → Lasts net slacks' slopes s.time more → Lasts net slacks slopes time (done +ℚ more)
   Lasts-pasted more opened made lasts = record {
     not_negative = linear_le (done ∷ more ∷ []) (le done_nn ∷ le lasts.not_negative ∷ []) (search reading_of depth 12) tt;
@@ -196,7 +196,7 @@ module _ (net : Network) (good : IsNetwork net) (labels slopes : List ℚ) (time
       pasted : (t d m n x : ℚ) → n ≡ t +ℚ d → n +ℚ m ≤ℚ x → t +ℚ (d +ℚ m) ≤ℚ x
       pasted t d m n x e h = linear_le (t ∷ d ∷ m ∷ n ∷ x ∷ []) (eq e ∷ le h ∷ []) (search reading_of depth 12) tt
 
-  -- and a part of what is left
+  -- A part of the remainder.
   pub Lasts-left : (more : ℚ) → 0ℚ ≤ℚ more → Lasts net slacks slopes time (done +ℚ more) → Lasts net slacks' slopes s.time more
   Lasts-left more nn lasts = record {
     not_negative = nn;
@@ -237,7 +237,7 @@ module _ (net : Network) (good : IsNetwork net) (labels slopes : List ℚ) (time
           (lt_or_le_ℚ (number_at slacks e) 0ℚ))
           (lt_or_le_ℚ 0ℚ (number_at slacks e))
 
-  -- at its extension length it isn't open
+  -- At the extension length the run is not mid-phase.
   pub closed-at_extension : IsExtension net slacks slopes time done → IsOpen net s → ⊥
   closed-at_extension extension opened =
       let more : (more : ℚ) × (0ℚ <ℚ more) × Lasts net slacks' slopes s.time more = Lasts-some net slacks' slopes s.time in
@@ -246,7 +246,7 @@ module _ (net : Network) (good : IsNetwork net) (labels slopes : List ℚ) (time
       too_long : (d m : ℚ) → 0ℚ <ℚ m → d +ℚ m ≤ℚ d → ⊥
       too_long d m h k = linear_false (d ∷ m ∷ []) (lt h ∷ le k ∷ []) (search reading_of depth 12) tt
 
-  -- what is left of the extension length
+  -- The remainder of the extension length.
   pub IsExtension-left : (whole : ℚ) → IsOpen net s → done ≤ℚ whole → IsExtension net slacks slopes time whole → IsExtension net slacks' slopes s.time (whole -ℚ done)
   IsExtension-left whole opened short extension = record {
     lasts = Lasts-left (whole -ℚ done) (linear_le (done ∷ whole ∷ []) (le short ∷ []) (search reading_of depth 12) tt)

@@ -1,4 +1,4 @@
--- A curve that is cut at a time and put into short form ends there, and has the same values up to there.
+-- A curve cut at a time and put into short form ends there, and has the same values up to there.
 use Rattle.std.proofs.Common.{◌≡◌, List, [], ◌∷◌, ◌++◌, ⊎_elim, Bool, true, false, refl, sym, ap, subst, ◌∙◌}
 use Rattle.std.specs.Prelude.{Ok, if◌then◌else◌}
 use Rattle.nf_rational.specs.Rational.{ℚ}
@@ -38,7 +38,7 @@ one_less p q rest last (x ∷ front, same) = (front, tail_of (p ∷ q ∷ rest) 
     tail_of : (a b : List Point) → a ≡ b → rest_of a ≡ rest_of b
     tail_of a b e = ap rest_of e
 
--- short form keeps it
+-- Short form preserves the last point.
 turning-ends : (p q : Point) (rest : List Point) (slopes : List ℚ) (last : Point) → SlopesFrom p (q ∷ rest) slopes → EndsIn (q ∷ rest) last → EndsIn (turning (q ∷ rest) slopes) last
 turning-ends p q [] slopes last w h = subst (λ (l : List ℚ). EndsIn (turning (q ∷ []) l) last) (sym (w.1 ∙ ap (λ (l : List ℚ). slope p q ∷ l) w.2)) h
 turning-ends p q (s ∷ rest) slopes last w h =
@@ -62,7 +62,7 @@ module _ (passes : Passing) where
       subst (λ (l : List Point). EndsIn l last) (same_Ok _ _ w.next)
       (one_more p _ last (turning-ends p q rest w.between last (slopes-are passes p (q ∷ rest) w.between w.first) (one_less p q rest last h)))
 
--- a curve that follows a function up to a last time ends at it
+-- A curve that equals a function up to a last time ends there.
 follows-ends : (f : ℚ → ℚ) (last : ℚ) (p : Point) (rest : List Point) → FollowsFrom f last p rest → (z : Point) × (z.0 ≡ last) × EndsIn (p ∷ rest) z
 follows-ends f last p [] (ends e d) = (p, d, ([], refl))
 follows-ends f last p (q ∷ rest) (goes k e h line later) =

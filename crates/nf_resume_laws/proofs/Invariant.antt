@@ -1,4 +1,4 @@
--- Of an equilibrium, whoever made it, the invariant of phases holds up to the departure that it reached.
+-- Any equilibrium satisfies the invariant of phases up to the departure that it reached.
 use Rattle.std.proofs.Common.{◌≡◌, ℕ, ◌<◌, List, [], ◌∷◌, ⊎_elim, Option, Some, None, sym, ap, subst, refl, ◌∙◌}
 use Rattle.nf_rational.specs.Rational.{ℚ}
 use Rattle.nf_rational.specs.Operations.{0ℚ, ◌+ℚ◌, ◌-ℚ◌, ◌*ℚ◌, ◌/ℚ◌}
@@ -64,7 +64,7 @@ more_in s u t e = linear_eq (s ∷ u ∷ t ∷ []) (eq e ∷ []) (search reading
 more_out : (s u t : ℚ) → s +ℚ 0ℚ ≡ t +ℚ u → s ≡ t +ℚ u
 more_out s u t e = linear_eq (s ∷ u ∷ t ∷ []) (eq e ∷ []) (search reading_of depth 12) tt tt
 
--- a curve takes each value between two that it has
+-- A curve attains each value between two of its values.
 takes : (points : List (ℚ × ℚ)) (last y : ℚ) → IsCurve points → 0ℚ ≤ℚ last → value points 0ℚ ≤ℚ y → y ≤ℚ value points last → (u : ℚ) × Within 0ℚ last u × (value points u ≡ y)
 takes [] last y c h i j = absurd c
 takes (p ∷ rest) last y c h i j =
@@ -91,7 +91,7 @@ module _ (net : Network) (flow : Flow) (good : IsNetwork net) (is : Equilibrium 
   out : (e : ℕ) (link : Link) (departure : ℚ) → IsLink net e link → Within 0ℚ flow.reached departure → IsOutflow link.transit link.capacity (F e) (l link.head departure) (F e (l link.tail departure))
   out = comes_out-at net flow good is
 
-  -- ---- what is sent is conserved
+  -- ---- the amounts sent are conserved
   ins : (v : ℕ) (departure extra_in extra_out : ℚ) → Within 0ℚ flow.reached departure → Balances net F v (l v departure) extra_in extra_out
       → sum_in net.links (λ e. x e departure) v +ℚ extra_in ≡ sum_out net.links (λ e. x e departure) v +ℚ extra_out
   ins v departure extra_in extra_out w b =
@@ -151,7 +151,7 @@ module _ (net : Network) (flow : Flow) (good : IsNetwork net) (is : Equilibrium 
       by None none = subst (λ (c : Option ℚ). IsQueue c (F e) (l link.tail departure) (queue_by_slack c (link_slack l link departure))) (sym none) (IsQueue-none (F e) (l link.tail departure))
       by (Some rate) some = subst (λ (c : Option ℚ). IsQueue link.capacity (F e) (l link.tail departure) (queue_by_slack c (link_slack l link departure))) (sym some) (queue-bounded e link departure rate p some w)
 
-  -- ---- where the slack isn't above 0
+  -- ---- the slack is at most 0
   idle-is : (e : ℕ) (link : Link) (departure time : ℚ) → IsLink net e link → Within 0ℚ flow.reached departure → link_slack l link departure ≤ℚ 0ℚ
       → 0ℚ ≤ℚ time → l link.head departure -ℚ link.transit ≤ℚ time → time ≤ℚ l link.tail departure → F e time ≡ F e (l link.tail departure)
   idle-is e link departure time p w low h i j = ≤ℚ_antisymm _ _ (rises-link net flow good is e link p time (l link.tail departure) h j) (⊎_elim
@@ -171,7 +171,7 @@ module _ (net : Network) (flow : Flow) (good : IsNetwork net) (is : Equilibrium 
       (IsQueue-from_IsOutflow link.transit link.capacity (F e) (l link.head departure -ℚ link.transit) (l link.head departure) (F e (l link.tail departure))
       (back_again (l link.head departure) link.transit) h (out e link departure p w))
 
-  -- ---- the exit at the label of the head says that the slack is at least 0
+  -- ---- the exit at the label of the head implies that the slack is at least 0
   active : (e : ℕ) (link : Link) (departure : ℚ) → IsLink net e link → IsExit link.transit link.capacity (F e) (l link.tail departure) (l link.head departure) → 0ℚ ≤ℚ link_slack l link departure
   active e link departure p exit = slack_nn (l link.tail departure) (l link.head departure) link.transit (IsExit-after link.transit link.capacity (F e) (l link.tail departure) (l link.head departure) (positive e link p) exit)
 
@@ -204,7 +204,7 @@ module _ (net : Network) (flow : Flow) (good : IsNetwork net) (is : Equilibrium 
       along : (a b c d : ℚ) → a ≡ c → b ≡ d → a <ℚ b → c <ℚ d
       along a b c d e f h = linear_lt (a ∷ b ∷ c ∷ d ∷ []) (eq e ∷ eq f ∷ lt h ∷ []) (search reading_of depth 12) tt
 
-  -- ---- and it describes its links
+  -- ---- the equilibrium describes its links
   pub DescribesLinks-equilibrium : DescribesLinks net F l (outflow flow) (queue flow) flow.reached
   DescribesLinks-equilibrium = record {
     outflows = λ e link departure p w. IsOutflow-unique link.transit link.capacity (F e) (l link.head departure) _ _

@@ -1,5 +1,5 @@
--- An equilibrium, link by link: at each departure all that was sent into a link by then has come out by the label of its head, and
--- so before the first departure nothing had entered.
+-- An equilibrium, link by link: at each departure the amount sent into a link by then has left by the label of its head. So nothing had
+-- entered before the first departure.
 use Rattle.std.proofs.Common.{◌≡◌, ◌≢◌, ℕ, ◌<◌, List, [], ◌∷◌, ◌⊎◌, inl, inr, ⊎_elim, true, false, eqb, Bool, Option, Some, None, slice_get, sym, ap, subst, refl, ◌∙◌}
 use Rattle.std.specs.Prelude.{if◌then◌else◌}
 use Rattle.std.proofs.lemmas.Bool.Decides.{eqb_tells}
@@ -32,7 +32,7 @@ use Rattle.nf_resume_laws.proofs.Repeating.{Repeats, none_by_repeating}
 use Rattle.nf_rational_laws.proofs.Chains.{≤ℚ_refl, ≤ℚ_trans}
 use Rattle.nf_rational_laws.proofs.Extremes.{min_left, min_right, min_is_left, min_keeps}
 
--- the node that the link of a number leads to
+-- The head of a link.
 abbrev pub head_or : Option Link → ℕ
 head_or None = 0
 head_or (Some link) = link.head
@@ -86,7 +86,7 @@ module _ (net : Network) (flow : Flow) (good : IsNetwork net) (is : Equilibrium 
   exit-forward : (e : ℕ) (link : Link) (time exit : ℚ) → IsLink net e link → IsExit link.transit link.capacity (F e) time exit → time ≤ℚ exit
   exit-forward e link time exit p x = forward time link.transit exit (good.transits e link p) (IsExit-after link.transit link.capacity (F e) time exit (IsPositive-link net e link good p) x)
 
-  -- no label is later than the exit of what enters at the tail's, the source's label neither
+  -- No label is later than the exit of the inflow at the tail's label; this includes the source's label.
   pub not_undercut : (e : ℕ) (link : Link) (departure : ℚ) → IsLink net e link → Within 0ℚ flow.reached departure
       → (exit : ℚ) × IsExit link.transit link.capacity (F e) (l link.tail departure) exit × (l link.head departure ≤ℚ exit)
   not_undercut e link departure p w = ⊎_elim
@@ -101,7 +101,7 @@ module _ (net : Network) (flow : Flow) (good : IsNetwork net) (is : Equilibrium 
       (eqb_tells link.head net.source)
 
   -- ---- at the time of a departure
-  -- the three kinds of nodes, each with what is supplied
+  -- The three kinds of nodes, each with its supply.
   by_node : (P : ℕ → ℚ → ℚ → Type 0) (u : ℚ) → P net.source u 0ℚ → P net.sink 0ℚ u → ((v : ℕ) → v < net.nodes → v ≢ net.source → v ≢ net.sink → P v 0ℚ 0ℚ)
       → (v : ℕ) → v < net.nodes → P v (only_at net.source u v) (only_at net.sink u v)
   by_node P u at_source at_sink inner v h = ⊎_elim
@@ -118,7 +118,7 @@ module _ (net : Network) (flow : Flow) (good : IsNetwork net) (is : Equilibrium 
       (eqb_tells v net.sink))
       (eqb_tells v net.source)
 
-  -- the printed outflow of each link, by these times of the heads
+  -- The printed outflow of each link, by these times of the heads.
   abbrev out_by : (ℕ → ℚ) → ℕ → ℚ
   out_by at e = outflow flow e (at (head_or (slice_get net.links e)))
 
@@ -145,12 +145,12 @@ module _ (net : Network) (flow : Flow) (good : IsNetwork net) (is : Equilibrium 
         (λ v h a b. is.nash.conserves.inner v (l v departure) h a b (up_to_now v departure h w));
   }
 
-  -- all that was sent into a link by a departure has come out by the label of its head
+  -- The amount sent into a link by a departure has left by the label of its head.
   pub comes_out-at : (e : ℕ) (link : Link) (departure : ℚ) → IsLink net e link → Within 0ℚ flow.reached departure
       → IsOutflow link.transit link.capacity (F e) (l link.head departure) (F e (l link.tail departure))
   comes_out-at e link departure p w = comes_out net F (λ v. l v departure) (out_by (λ v. l v departure)) (supply net departure) good (balanced departure w) e link p
 
-  -- ---- before the first arrivals: up to a time, and to the label of departure 0 at the most
+  -- ---- before the first arrivals: up to a time, at most the label of departure 0
   abbrev soon : ℚ → ℕ → ℚ
   soon time v = min_ℚ time (l v 0ℚ)
 
@@ -217,9 +217,9 @@ module _ (net : Network) (flow : Flow) (good : IsNetwork net) (is : Equilibrium 
   none-slow e link time p some w = none_by_repeating _ link.transit (l link.tail 0ℚ) (is.shape.inflows.each e (slice_get_within net.links e link p)) some
       (rises-link e link p) (starts-link e link p) (repeats e link p) time w.0 w.1
 
-  -- ---- on links without: back along such links, which close no circle
+  -- ---- on links without transit time: back along such links, which close no cycle
   module _ (time : ℚ) (from_0 : 0ℚ ≤ℚ time) where
-    -- what has entered a link by the time of its tail
+    -- The amount that has entered a link by the time of its tail.
     abbrev x_of : Option Link → ℕ → ℚ
     x_of None e = 0ℚ
     x_of (Some link) e = F e (soon time link.tail)
@@ -243,7 +243,7 @@ module _ (net : Network) (flow : Flow) (good : IsNetwork net) (is : Equilibrium 
     abbrev Way : ℕ → ℕ → Type 0
     Way u v = (walk : List ℕ) × IsWalk (hops net) walk u v × (transit_sum (hops net) walk ≤ℚ 0ℚ)
 
-    -- a link into which something has been sent has no transit time
+    -- A link with inflow has no transit time.
     prompt : (e : ℕ) (link : Link) → IsLink net e link → 0ℚ <ℚ F e (soon time link.tail) → link.transit ≤ℚ 0ℚ
     prompt e link p some = ⊎_elim
         (λ (k : 0ℚ <ℚ link.transit). absurd (not_both_ℚ _ _ some (≤ℚ_of_same _ _ (none-slow e link (soon time link.tail) p k (soon-nn time from_0 link.tail (good.tails e link p), min_right time (l link.tail 0ℚ))))))
@@ -270,7 +270,7 @@ module _ (net : Network) (flow : Flow) (good : IsNetwork net) (is : Equilibrium 
           (further _ link.transit _ (transit_of-is net e link p) (prompt e link p some) way.2)),
     )
 
-    -- what goes out of a node has come in
+    -- The flow out of a node has entered the node.
     comes_in : (v : ℕ) → v < net.nodes → Sends v → 0ℚ <ℚ sum_in net.links (out_by (soon time)) v
     comes_in v h (e, link, p, at, some) = enough _ _ _ _ _ _
         (out-balances net F (soon time) (out_by (soon time)) 0ℚ good (balanced-soon time from_0) v h) (only_at-none net.source v) (only_at-none net.sink v)

@@ -1,4 +1,5 @@
--- A curve that never falls, begins with 0, and at each time up to a last one has no more than some time before, is 0 up to then.
+-- A curve that never falls and begins with 0. If each value up to a last time is at most the value some time before, the curve is 0 up to
+-- then.
 use Rattle.std.proofs.Common.{◌≡◌, List, [], ◌∷◌, ◌⊎◌, ⊎_elim, sym, ap, subst, refl, ◌∙◌}
 use Rattle.nf_rational.specs.Rational.{ℚ}
 use Rattle.nf_rational.specs.Operations.{0ℚ, ◌+ℚ◌, ◌-ℚ◌, ◌*ℚ◌}
@@ -12,7 +13,7 @@ use Rattle.nf_model_laws.proofs.Affine.{same_from_times}
 use Rattle.nf_model_laws.proofs.Curves.{value-first, value-line, value-after}
 use Rattle.nf_rational_laws.proofs.Chains.{≤ℚ_refl, ≤ℚ_trans}
 
--- up to the last time each value is 0, or no more than some time before
+-- Up to the last time each value is 0, or at most the value some time before.
 abbrev pub Repeats : (ℚ → ℚ) → ℚ → ℚ → Type 0
 Repeats f period last = (time : ℚ) → Within 0ℚ last time → (f time ≡ 0ℚ) ⊎ ((period ≤ℚ time) × (f time ≤ℚ f (time -ℚ period)))
 
@@ -27,7 +28,7 @@ part : (a d : ℚ) → a +ℚ d -ℚ a ≡ d
 part a d = linear_eq (a ∷ d ∷ []) [] (search reading_of depth 12) tt tt
 
 module _ (f : ℚ → ℚ) (period last : ℚ) (some : 0ℚ <ℚ period) (rises : NeverFalls f) (starts : f 0ℚ ≡ 0ℚ) (repeats : Repeats f period last) where
-  -- nothing up to the beginning of a piece, and so shortly after it
+  -- The value is 0 up to the beginning of a piece, and so shortly after it.
   abbrev NoneUpTo : ℚ → Type 0
   NoneUpTo time = (t : ℚ) → 0ℚ ≤ℚ t → t ≤ℚ time → f t ≡ 0ℚ
 
@@ -42,7 +43,7 @@ module _ (f : ℚ → ℚ) (period last : ℚ) (some : 0ℚ <ℚ period) (rises 
       (nn t (≤ℚ_trans _ _ _ h j)))
       (repeats t (≤ℚ_trans _ _ _ h j, l))
 
-  -- d is the lesser of the period and how far t is beyond a: then f is 0 at a + d
+  -- d is the lesser of the period and t - a; then f is 0 at a + d.
   short_way : (a t d : ℚ) → d ≤ℚ t -ℚ a → a +ℚ d ≤ℚ t
   short_way a t d h = linear_le (a ∷ t ∷ d ∷ []) (le h ∷ []) (search reading_of depth 12) tt
 

@@ -1,4 +1,4 @@
--- The cut flow of an equilibrium is an equilibrium with the same values, and a run can go on from it.
+-- The cut flow of an equilibrium is an equilibrium with the same values, and a run can continue it.
 use Rattle.std.proofs.Common.{◌≡◌, ℕ, ◌<◌, List, Option, Some, slice_get, unwrap_or, map, ⊎_elim, sym, ap, subst, ◌∙◌, arith}
 use Rattle.std.proofs.lemmas.List.{length-map}
 use Rattle.nf_rational.specs.Rational.{ℚ}
@@ -29,7 +29,7 @@ use Rattle.nf_resume_laws.proofs.CutShort.{IsShortCut}
 use Rattle.nf_resume_laws.proofs.CutFlow.{entry_within, entry_of, points_at-is, value_at_end-is, IsCutFlow, cut_flow-is}
 use Rattle.nf_rational_laws.proofs.Chains.{≤ℚ_refl, ≤ℚ_trans}
 
--- a curve that is cut never falls where it didn't before
+-- A cut curve never falls if the curve never falls.
 rises-cut : (points short : List Point) (last : ℚ) → 0ℚ ≤ℚ last → IsShortCut points last short → NeverFalls (value points) → NeverFalls (value short)
 rises-cut points short last nn c rises s t h k = ⊎_elim
     (λ (l : last <ℚ t). ⊎_elim
@@ -103,7 +103,7 @@ module _ (net : Network) (old new : Flow) (good : IsNetwork net) (is : Equilibri
     queues = λ e h. (let l = link_within net e h in (cut.queues e l.0 l.1).form);
   }
 
-  -- ---- a run can go on from it
+  -- ---- a run can continue it
   label-same : (v : ℕ) → v < net.nodes → label new v old.reached ≡ label old v old.reached
   label-same v h = (cut.labels v h).values old.reached now
 

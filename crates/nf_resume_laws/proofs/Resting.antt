@@ -1,4 +1,4 @@
--- What is left of a phase that was cut: the base by its pattern, its solution and its length.
+-- The remainder of an interrupted phase: the base pattern derived from the phase's pattern, its solution and its length.
 use Rattle.std.proofs.Common.{◌≡◌, ℕ, List, length, subst, ◌∙◌}
 use Rattle.std.proofs.lemmas.List.{length-map}
 use Rattle.nf_rational.specs.Rational.{ℚ}

@@ -1,4 +1,4 @@
--- What a run keeps, of a run that is restored from a cut flow.
+-- The values that a run stores, for a run restored from a cut flow.
 use Rattle.std.proofs.Common.{◌≡◌, ℕ, zero, suc, List, [], ◌∷◌, length, Option, Some, None, slice_get, map, sym, ap, subst, refl, ◌∙◌, arith}
 use Rattle.std.specs.Prelude.{Result, Ok}
 use Rattle.nf_rational.specs.Rational.{ℚ}

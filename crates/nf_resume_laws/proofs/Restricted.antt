@@ -1,4 +1,4 @@
--- Where a phase was cut, its pattern on the links that still need a state is a listed pattern, with the same one solution.
+-- After an interrupted phase, its pattern restricted to the links that need a state is a listed pattern, with the same unique solution.
 use Rattle.std.proofs.Common.{◌≡◌, ℕ, List, [], ◌∷◌, length, ◌⊎◌, inl, inr, ⊎_elim, Bool, true, false, Option, Some, None, slice_get, unwrap_or, sym, ap, subst, refl, ◌∙◌, arith}
 use Rattle.std.proofs.lemmas.Option.{slice_get_within}
 use Rattle.nf_rational.specs.Rational.{ℚ}
@@ -19,7 +19,7 @@ use Rattle.nf_model_laws.proofs.Slacks.{active_of_slack, slack_of_active, resett
 use Rattle.nf_lists.specs.CurveList.{is_filled}
 use Rattle.nf_resume_laws.proofs.CutFlow.{entry_within}
 
--- ---- how the state of a link goes on: o before and b after; r and t say whether it is resetting before and after
+-- ---- the state of a link in the remainder: o before and b after; r and t say whether it is resetting before and after
 pub data GoesOn (r t : Bool) : Option State → Option State → Type 0 where
   keeps : (state : State) → r ≡ false → t ≡ false → GoesOn r t (Some state) (Some state)
   fills : t ≡ true → GoesOn r t (Some Full) None
@@ -85,7 +85,7 @@ module _ (net : Network) (labels : List ℚ) (e : ℕ) (link : Link) (p : IsLink
 same_state : (a b : Option State) → Some a ≡ Some b → a ≡ b
 same_state a b e = cc
 
--- ---- a phase: labels at first and where it was cut
+-- ---- a phase: the labels at first and at the interruption
 module _ (net : Network) (good : IsNetwork net) (labels labels' slopes flows : List ℚ) (rate done : ℚ) (pattern base : Pattern) (some : 0ℚ <ℚ done)
     (moves : (e : ℕ) (link : Link) → IsLink net e link → slack labels' (hop_of link) ≡ slack labels (hop_of link) +ℚ done *ℚ (number_at slopes link.head -ℚ number_at slopes link.tail))
     (stays_below : (e : ℕ) (link : Link) → IsLink net e link → slack labels (hop_of link) <ℚ 0ℚ → slack labels' (hop_of link) <ℚ 0ℚ)
@@ -99,7 +99,7 @@ module _ (net : Network) (good : IsNetwork net) (labels labels' slopes flows : L
   abbrev after : ℕ → Bool
   after = resets (sets_at net labels')
 
-  -- the side to which a link with slack 0 goes, by its state
+  -- The side to which a link with slack 0 moves, by its state.
   flat : (z c d y : ℚ) → y ≡ z +ℚ d *ℚ c → z ≡ 0ℚ → c ≡ 0ℚ → y ≡ 0ℚ
   flat z c d y e f g = linear_eq (z ∷ c ∷ d ∷ y ∷ []) (eq e ∷ eq f ∷ eq_times d g ∷ []) (search reading_of depth 12) tt tt
 
@@ -118,7 +118,7 @@ module _ (net : Network) (good : IsNetwork net) (labels labels' slopes flows : L
   no_gap : (a b : ℚ) → b ≡ a → b -ℚ a ≡ 0ℚ
   no_gap a b e = linear_eq (a ∷ b ∷ []) (eq e ∷ []) (search reading_of depth 12) tt tt
 
-  -- a link without a state where the phase was cut: the base has none there
+  -- A link without a state at the interruption: the base has none there.
   no_state : (e : ℕ) (b : Option State) → slice_get base e ≡ Some b → (NeedsState (sets_at net labels') e → ⊥) → b ≡ None
   no_state e None h n = refl
   no_state e (Some state) h n = absurd (n ((is_base.states e).1 (state, h)))
@@ -218,7 +218,7 @@ module _ (net : Network) (good : IsNetwork net) (labels labels' slopes flows : L
     };
   }
 
-  -- ---- and it is listed: its states are states of the pattern
+  -- ---- the pattern is listed: its states are states of the pattern
   link_of : (e : ℕ) (state : State) → HasState base e state → (link : Link) × IsLink net e link
   link_of e state h = entry_within net.links e (let k = slice_get_within base e (Some state) h in let c = count in omega arith)
 

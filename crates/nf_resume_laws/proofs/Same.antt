@@ -1,4 +1,4 @@
--- Flows that agree up to a departure have the same invariant up to it: it looks at no later time.
+-- Flows that agree up to a departure satisfy the same invariant up to it: the invariant depends on no later time.
 use Rattle.std.proofs.Common.{◌≡◌, ℕ, ◌<◌, [], ◌∷◌, sym, ap, subst, refl, ◌∙◌}
 use Rattle.nf_rational.specs.Rational.{ℚ}
 use Rattle.nf_rational.specs.Operations.{0ℚ, ◌+ℚ◌, ◌-ℚ◌}
@@ -32,7 +32,7 @@ in_time a b r h = linear_le (a ∷ b ∷ r ∷ []) (le h ∷ []) (search reading
 less : (b d r : ℚ) → b ≡ d → b -ℚ r ≡ d -ℚ r
 less b d r e = linear_eq (b ∷ d ∷ r ∷ []) (eq e ∷ []) (search reading_of depth 12) tt tt
 
--- two flows agree on what leaves the source up to a departure
+-- Two flows agree on everything that leaves the source up to a departure.
 pub record AgreeUpTo (net : Network) (amount label amount' label' : ℕ → ℚ → ℚ) (until : ℚ) : Type 0 where
   pub labels : (v : ℕ) (departure : ℚ) → v < net.nodes → Within 0ℚ until departure → label' v departure ≡ label v departure
   pub amounts : (e : ℕ) (link : Link) (time : ℚ) → IsLink net e link → Within 0ℚ (label link.tail until) time → amount' e time ≡ amount e time
@@ -116,7 +116,7 @@ module _ (net : Network) (amount label amount' label' : ℕ → ℚ → ℚ) (un
         (λ later a b. lt_by _ _ _ _ (sent_same e link departure p w) (sent_same e link later p (≤ℚ_trans _ _ _ h (≤ℚ_of_lt _ _ a), b)) (grows later a b)));
   }
 
-  -- ---- and so with what is said of the links beside
+  -- ---- the same for the descriptions of the links
   module _ (outflow queue outflow' queue' : ℕ → ℚ → ℚ) (describes : DescribesLinks net amount label outflow queue until)
       (outflows : (e : ℕ) (link : Link) (time : ℚ) → IsLink net e link → Within 0ℚ (label link.head until) time → outflow' e time ≡ outflow e time)
       (queues : (e : ℕ) (link : Link) (time : ℚ) → IsLink net e link → Within 0ℚ (label link.tail until) time → queue' e time ≡ queue e time) where

@@ -1,5 +1,5 @@
--- What has left a link by a time: never less by a later one, at most what had entered by a time whose exit is later, and less than
--- that where the exit is later and something waited.
+-- The amount that has left a link by a time. It never falls. It is at most the amount that had entered by a time with a later exit, and
+-- less if something waited at that time.
 use Rattle.std.proofs.Common.{◌≡◌, [], ◌∷◌, ⊎_elim, Option, Some, None, sym, subst, refl}
 use Rattle.nf_rational.specs.Rational.{ℚ}
 use Rattle.nf_rational.specs.Operations.{0ℚ, ◌+ℚ◌, ◌-ℚ◌, ◌*ℚ◌, ◌/ℚ◌}
@@ -49,7 +49,7 @@ module _ (transit : ℚ) (capacity : Option ℚ) (amount : ℚ → ℚ) (positiv
           let g : IsLeast (λ since. amount since +ℚ rate *ℚ (time -ℚ transit -ℚ since)) 0ℚ (time -ℚ transit) out = p.bounded rate l e in
           nn_later _ rate time transit g.taken.0 out (amount-nn g.taken.0 g.taken.1.0) (positive rate e) g.taken.1.1 g.taken.2
 
-  -- no more has left than had entered one transit time before
+  -- At most what had entered one transit time before has left.
   pub outflow-entered : (time out : ℚ) → transit ≤ℚ time → IsOutflow transit capacity amount time out → out ≤ℚ amount (time -ℚ transit)
   outflow-entered time out l p = by capacity refl
     where
@@ -77,12 +77,12 @@ module _ (transit : ℚ) (capacity : Option ℚ) (amount : ℚ → ℚ) (positiv
           (λ (k : g.taken.0 ≤ℚ earlier -ℚ transit). later_more (amount g.taken.0) rate earlier later transit g.taken.0 x y (positive rate e) h (f.bound g.taken.0 (g.taken.1.0, k)) g.taken.2)
           (lt_or_le_ℚ (earlier -ℚ transit) g.taken.0)
 
-  -- by a time that isn't later than the exit of an entry, no more has left than had entered by then
+  -- By a time that isn't later than the exit of an entry, at most the amount that had entered by then has left.
   pub outflow-by_exit : (entry exit time out : ℚ) → 0ℚ ≤ℚ entry → IsExit transit capacity amount entry exit → time ≤ℚ exit → IsOutflow transit capacity amount time out → out ≤ℚ amount entry
   outflow-by_exit entry exit time out h e l p = outflow-rises time exit out (amount entry) l p (IsOutflow-at_exit transit capacity amount entry exit positive rises h e)
 
-  -- ---- and less, where the exit is later and something waits at the entry: a entered by the entry, b by the time u at which the
-  -- queue's greatest value is taken, q waits, w is the wait, c the capacity
+  -- ---- less, if the exit is later and something waits at the entry: a entered by the entry, b by the time u of the
+  -- queue's greatest value; q waits, w is the wait, c the capacity.
   not_yet : (a b c u n q w z r x o : ℚ) → a -ℚ b -ℚ c *ℚ (n -ℚ u) ≡ q → w *ℚ c ≡ q → x ≡ n +ℚ r +ℚ w → 0ℚ <ℚ c *ℚ (x -ℚ z) → o ≤ℚ b +ℚ c *ℚ (z -ℚ r -ℚ u) → o <ℚ a
   not_yet a b c u n q w z r x o e f g h l = linear_lt (a ∷ b ∷ c ∷ u ∷ n ∷ q ∷ w ∷ z ∷ r ∷ x ∷ o ∷ []) (eq e ∷ eq f ∷ eq_times c g ∷ lt h ∷ le l ∷ []) (search reading_of depth 12) tt
 

@@ -1,4 +1,4 @@
--- A run that goes on from a restored standing stays an equilibrium, and changes no value up to where it was.
+-- A run that continues a restored state stays an equilibrium, and changes no value up to where it began.
 use Rattle.std.proofs.Common.{◌≡◌, ℕ, ◌<◌, List, Option, ⊎_elim, sym, ap, subst, refl, ◌∙◌}
 use Rattle.std.specs.Prelude.{Result, Ok, Err}
 use Rattle.nf_rational.specs.Rational.{ℚ}
@@ -85,7 +85,7 @@ module _ (passes : Passing) (net : Network) (good : IsNetwork net) (bounds : Bou
   GoesOnFrom-refl : (f : Flow) → GoesOnFrom net f f
   GoesOnFrom-refl f = record { reached = ≤ℚ_refl f.reached; labels = λ v t h w. refl; inflows = λ e link t p w. refl; outflows = λ e link t p w. refl; queues = λ e link t p w. refl }
 
-  -- from one flow to the next, where the labels of the one between never fall
+  -- From one flow to the next, if the labels of the intermediate flow never fall.
   GoesOnFrom-trans : (old mid new : Flow) → 0ℚ ≤ℚ old.reached → ((v : ℕ) (s t : ℚ) → v < net.nodes → 0ℚ ≤ℚ s → s ≤ℚ t → t ≤ℚ mid.reached → label mid v s ≤ℚ label mid v t)
       → GoesOnFrom net old mid → GoesOnFrom net mid new → GoesOnFrom net old new
   GoesOnFrom-trans old mid new nn rises f g = record {
@@ -132,7 +132,7 @@ module _ (passes : Passing) (net : Network) (good : IsNetwork net) (bounds : Bou
       let more : Gone t last = gone-runs t last stop rest one.well in
       record { well = more.well; goes = GoesOnFrom-trans (flow_of s) (flow_of t) (flow_of last) w.grow.stands.holds.begun one.well.grow.stands.holds.label_rises one.goes more.goes }
 
-  -- ---- the report that is written
+  -- ---- the report of the run
   record Restarted (old : Flow) (s : Standing) : Type 0 where
     pub well : WellRun net s
     pub goes : GoesOnFrom net old (flow_of s)
@@ -150,7 +150,7 @@ module _ (passes : Passing) (net : Network) (good : IsNetwork net) (bounds : Bou
             (GoesOnFrom-cut net report.flow a.between good is cut);
       })
 
--- ---- inversion of the list
+-- ---- inversion of the operation sequence
 stands-ok : (r : Checked Standing) (s : Standing) → ◌≡◌ {A = Result Outcome (PassedAt ℚ)} (at_part Curve r >>= (λ first. Ok (Stands first))) (Ok (Stands s)) → r ≡ Ok s
 stands-ok (Ok x) s e = cc
 stands-ok (Err p) s e = absurd (cc)
@@ -165,7 +165,7 @@ list-stands passes net report s e =
     let a = then_ok (check_list passes net report.flow) _ (Stands s) e in
     answer-yes passes net report a.between s a.next
 
--- the report of a resumed run is an equilibrium, and has the values of the one that it goes on from
+-- The report of a resumed run is an equilibrium, and has the values of the report that it continues.
 pub resumed-goes_on : (passes : Passing) (net : Network) (bounds : Bounds) (old : Report) (phases : ℕ) (report : Report) → IsNetwork net → Equilibrium net old.flow → IsResumedReport passes net bounds old phases report
     → Equilibrium net report.flow × GoesOnFrom net old.flow report.flow
 resumed-goes_on passes net bounds old phases report good is r =

@@ -1,4 +1,4 @@
--- Laws of resumed runs.
+-- Theorems on resumed runs.
 use Rattle.std.specs.Prelude.{◌≡◌, ℕ, List, length, Ok}
 use Rattle.nf_rational.specs.Rational.{ℚ}
 use Rattle.nf_rational.specs.Operations.{0ℚ, ◌+ℚ◌, ◌-ℚ◌}
@@ -17,13 +17,13 @@ use Rattle.nf_lists.specs.PhaseRun.{Standing, Bounds, IsStart, IsShortFlow}
 use Rattle.nf_resume_lists.specs.Open.{IsOpen, Continues}
 use Rattle.nf_resume_lists.specs.Meanings.{GoesOnFrom, IsResumedReport}
 
--- of an equilibrium, whoever made it, the invariant of phases holds up to the departure that it reached, and it describes its links
+-- Any equilibrium satisfies the invariant of phases up to the departure that it reached, and describes its links.
 pub record EquilibriumHasInvariant : Type 0 where
   pub holds : (net : Network) (flow : Flow) → IsNetwork net → Equilibrium net flow → HoldsUpTo net (inflow flow) (label flow) flow.reached
   pub describes : (net : Network) (flow : Flow) → IsNetwork net → Equilibrium net flow
       → DescribesLinks net (inflow flow) (label flow) (outflow flow) (queue flow) flow.reached
 
--- an equilibrium that is cut at the departure that it reached, and put into short form, is an equilibrium with the same values
+-- An equilibrium, cut at the departure that it reached and put into short form, is an equilibrium with the same values.
 pub record CutFlowIsEquilibrium : Type 0 where
   pub equilibrium : (passes : Passing) (net : Network) (old new : Flow) → IsNetwork net → Equilibrium net old
       → cut_flow passes net old ≡ Ok new → Equilibrium net new
@@ -32,14 +32,14 @@ pub record CutFlowIsEquilibrium : Type 0 where
   pub short : (passes : Passing) (net : Network) (old new : Flow) → IsNetwork net → Equilibrium net old → cut_flow passes net old ≡ Ok new
       → IsShortFlow net new
 
--- the report of a resumed run is an equilibrium, and has the values of the report that it goes on from
+-- The report of a resumed run is an equilibrium, and has the values of the report that it continues.
 abbrev pub ResumedReportGoesOn : Type 0
 ResumedReportGoesOn = (passes : Passing) (net : Network) (bounds : Bounds) (old : Report) (phases : ℕ) (report : Report) → IsNetwork net
     → Equilibrium net old.flow → IsResumedReport passes net bounds old phases report
     → Equilibrium net report.flow × GoesOnFrom net old.flow report.flow
 
--- A part of a phase was made: a run stands so long after the labels of a time, which moved at these slopes, and its last pattern is the
--- phase's.
+-- The run has completed a part of a phase. Its state is `done` after the departure `time`, its labels moved at these slopes since then, and
+-- its last pattern is that of the phase.
 pub record IsPartOf (net : Network) (time : ℚ) (labels slopes : List ℚ) (pattern : Pattern) (done : ℚ) (s : Standing) : Type 0 where
   pub is_pattern : IsPattern (sets_at net labels) (unbounded net) pattern
   pub count : length labels ≡ length slopes
@@ -48,7 +48,7 @@ pub record IsPartOf (net : Network) (time : ℚ) (labels slopes : List ℚ) (pat
   pub time_is : s.time ≡ time +ℚ done
   pub last_is : s.last ≡ pattern
 
--- a run is open exactly where it stands within a phase
+-- A run is mid-phase exactly if its state lies within a phase.
 pub record OpenIsWithinPhase : Type 0 where
   pub within : (net : Network) (time : ℚ) (labels slopes : List ℚ) (pattern : Pattern) (done : ℚ) (s : Standing) → IsNetwork net
       → IsPartOf net time labels slopes pattern done s
@@ -58,7 +58,8 @@ pub record OpenIsWithinPhase : Type 0 where
       → IsExtension net (slacks_of (hops net) labels) slopes time done → ¬ IsOpen net s
   pub at_start : (net : Network) (s : Standing) → IsNetwork net → IsStart net s → ¬ Continues net s
 
--- What is left of a phase: the base by its pattern is listed, its one solution is that of the phase, and it lasts as long as is left.
+-- The remainder of a phase: the base pattern derived from the phase's pattern is listed, its unique solution is that of the phase, and its
+-- extension length is the remaining length.
 pub record IsRestOf (net : Network) (rate done whole : ℚ) (flows slopes : List ℚ) (s : Standing) (base : Pattern) : Type 0 where
   pub listed : IsListedIn net (sets_at net s.labels) base
   pub solution : IsSolution net (sets_at net s.labels) rate base flows slopes

@@ -1,5 +1,5 @@
--- Resuming by computation: the network of two links with transit times 1 and 3, capacities 1, supplied at rate 3, at departure 2. The report
--- to 2, and the one to 4 with the departure 2 as the one that it reached, are cut to the same standing.
+-- A computed example of resuming: two links with transit times 1 and 3 and capacities 1, supplied at rate 3, at departure 2. The report to
+-- 2, and the report to 4 with 2 as the departure reached, are cut to the same run state.
 use Rattle.std.specs.Prelude.{◌≡◌, ℕ, List, [], ◌∷◌, Option, Some, None, Result, Ok, Err, map, pos, refl}
 use Rattle.std.specs.Option.{option_map}
 use Rattle.nf_rational.specs.Gcd.{gcd}
@@ -47,7 +47,7 @@ trace_in t = (points_in t.points, map parts_of t.rates)
 abbrev link_in : LinkCurves → (List (Parts × Parts) × List Parts) × ((List (Parts × Parts) × List Parts) × (List (Parts × Parts) × Option Parts))
 link_in c = (trace_in c.inflow, (trace_in c.outflow, curve_in c.queue))
 
--- labels, their curves, and the curves of the links
+-- The labels, their curves, and the curves of the links.
 abbrev Seen : Type 0
 Seen = List Parts × (List (List (Parts × Parts) × Option Parts) × List ((List (Parts × Parts) × List Parts) × ((List (Parts × Parts) × List Parts) × (List (Parts × Parts) × Option Parts))))
 
@@ -83,7 +83,7 @@ to_2 = record {
   queues = ((n 0, n 0) ∷ (n 1, n 2) ∷ (n 2, half 5) ∷ []) ∷ ((n 0, n 0) ∷ (n 1, n 0) ∷ (n 2, half 1) ∷ []) ∷ [];
 }
 
--- the report to 4, of which only the part up to 2 counts; with a point more in the source's label
+-- The report to 4, of which only the part up to 2 counts; the source's label has one more point.
 abbrev beyond_2 : Flow
 beyond_2 = record {
   reached = n 2;

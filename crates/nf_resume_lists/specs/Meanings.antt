@@ -1,4 +1,4 @@
--- What resuming a report has to give.
+-- The meaning of resuming a report.
 use Rattle.std.specs.Prelude.{◌≡◌, ℕ, ◌<◌, ◌≤◌, Option, Ok, IsOk}
 use Rattle.nf_rational.specs.Rational.{ℚ}
 use Rattle.nf_rational.specs.Operations.{0ℚ}
@@ -18,7 +18,7 @@ use Rattle.nf_model.specs.ThinFlow.{sets_at}
 use Rattle.nf_resume_lists.specs.Open.{Steps, RunsOn, continues, begins, steps, at_horizon, at_phases, fails}
 use Rattle.nf_resume_lists.specs.Resuming.{Stands, resume_list}
 
--- a flow goes on from another one: it reaches as far at least, and up to there it has the same values
+-- A flow continues another one: it reaches at least as far, and has the same values up to where the other flow ends.
 pub record GoesOnFrom (net : Network) (old new : Flow) : Type 0 where
   pub reached : old.reached ≤ℚ new.reached
   pub labels : (v : ℕ) (departure : ℚ) → v < net.nodes → Within 0ℚ old.reached departure → label new v departure ≡ label old v departure
@@ -29,14 +29,14 @@ pub record GoesOnFrom (net : Network) (old new : Flow) : Type 0 where
   pub queues : (e : ℕ) (link : Link) (time : ℚ) → IsLink net e link → Within 0ℚ (label old link.tail old.reached) time
       → queue new e time ≡ queue old e time
 
--- a report is resumed: the run that stands at its end goes on, with its phases counted from there
+-- A resumed run: it starts from the state at the report's end, and counts its phases from there.
 pub record IsResumed (passes : Passing) (net : Network) (bounds : Bounds) (old : Report) (last : Standing)
     (stop : Option (Cause ℚ)) : Type 0 where
   pub first : Standing
   pub stands : resume_list passes net old ≡ Ok (Stands first)
   pub runs : RunsOn passes net bounds first last stop
 
--- what is written of it, and how many phases it made
+-- The report of a resumed run, with the number of its phases.
 pub record IsResumedReport (passes : Passing) (net : Network) (bounds : Bounds) (old : Report) (phases : ℕ) (report : Report) : Type 0 where
   pub last : Standing
   pub stop : Option (Cause ℚ)
@@ -44,8 +44,8 @@ pub record IsResumedReport (passes : Passing) (net : Network) (bounds : Bounds) 
   pub made : last.made ≡ phases
   pub report_is : report ≡ report_of bounds.horizon last stop
 
--- ---- no operation of a table or verdict list passes
--- in a phase: of the patterns that are tried
+-- ---- no operation of a table or verdict list exceeds its bound
+-- In a phase: for each pattern that is tried.
 abbrev pub NonePassesIn : (passes : Passing) (net : Network) (horizon : ℚ) (patterns : ℕ) (s t : Standing)
     → Goes passes net horizon patterns s t → Type 0
 NonePassesIn passes net horizon patterns s t g = (place : ℕ) (pattern : Pattern) → place ≤ g.place

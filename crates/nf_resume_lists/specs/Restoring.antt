@@ -1,4 +1,4 @@
--- A run that is restored from a flow: it stands where the flow ends.
+-- Runs restored from a flow, whose state is the end of the flow.
 use Rattle.std.specs.Prelude.{ℕ, List, [], ◌∷◌, map, Option, Some, None, Ok}
 use Rattle.std.specs.List.{last_or}
 use Rattle.std.specs.Option.{option_map_or}
@@ -13,17 +13,17 @@ use Rattle.nf_lists.specs.ReportCurves.{GrowingCurve, LinkCurves}
 use Rattle.nf_lists.specs.PhaseRun.{Standing}
 use Rattle.nf_curve_lists.specs.Lines.{checked_slope}
 
--- the value of the last point
+-- The value of the last point.
 abbrev pub value_at_end : List Point → ℚ
 value_at_end points = option_map_or (λ p. p.1) (last_or None points) 0ℚ
 
--- link by link
+-- The curves of the links, one after the other.
 abbrev pub link_curves_of : List Trace → List Trace → List GrowingCurve → List LinkCurves
 link_curves_of (inflow ∷ inflows) (outflow ∷ outflows) (queue ∷ queues) =
     record { inflow = inflow; outflow = outflow; queue = queue } ∷ link_curves_of inflows outflows queues
 link_curves_of inflows outflows queues = []
 
--- where a run stands with these curves: no phase was made yet
+-- The run state with these curves, before any further phase.
 abbrev pub standing_of : Flow → Pattern → List GrowingCurve → List GrowingCurve → Standing
 standing_of flow last label_curves queues = record {
   time = flow.reached;
@@ -35,7 +35,7 @@ standing_of flow last label_curves queues = record {
 }
 
 module _ (passes : Passing) where
-  -- the slope with which a curve comes to its last point, where it has more points than one
+  -- The slope of the last piece of a curve, if the curve has more than one point.
   abbrev pub last_slope : List Point → Checked (Option ℚ)
   last_slope (p ∷ q ∷ []) = do
     k ← checked_slope passes p q
@@ -48,7 +48,7 @@ module _ (passes : Passing) where
     slope ← last_slope points
     Ok (record { points = points; slope = slope })
 
-  -- node by node, and then link by link
+  -- The restored run state: the curves of the nodes, then those of the links.
   unfoldable pub restore_list : Flow → Pattern → Checked Standing
   restore_list flow last = do
     label_curves ← each growing flow.labels

@@ -1,5 +1,5 @@
--- The list of resuming a report: that of the check, then the flow cut at the departure reached and in short form, and last that of
--- restoring it.
+-- The operation sequence of resuming a report: first that of the check, then cutting the flow at the departure reached and putting it into
+-- short form, and last restoring the run.
 use Rattle.std.specs.Prelude.{ℕ, List, [], ◌∷◌, map, Result, Ok}
 use Rattle.nf_rational.specs.Rational.{ℚ}
 use Rattle.nf_work.specs.Passing.{Passing}
@@ -18,12 +18,12 @@ use Rattle.nf_check_lists.specs.declared.Answer.TheVariants.{Yes, No}
 use Rattle.nf_check_lists.specs.CheckList.{check_list}
 use Rattle.nf_resume_lists.specs.Restoring.{value_at_end, restore_list}
 
--- what comes of a report: it is no equilibrium, or a run stands there
+-- The result for a report: its flow is no equilibrium, or the run state at its end.
 pub data Outcome : Type 0 where
   Refused : Answer ℕ ℕ ℚ → Outcome
   Stands : Standing → Outcome
 
--- a link with its curves
+-- A link with its curves.
 pub record OfLink : Type 0 where
   pub link : Link
   pub inflow : List Point
@@ -35,27 +35,27 @@ links_with (link ∷ links) (inflow ∷ inflows) (outflow ∷ outflows) (queue �
     record { link = link; inflow = inflow.points; outflow = outflow.points; queue = queue } ∷ links_with links inflows outflows queues
 links_with links inflows outflows queues = []
 
--- the curves of a link, cut
+-- The cut curves of a link.
 pub record CutLink : Type 0 where
   pub inflow : Trace
   pub outflow : Trace
   pub queue : List Point
 
 module _ (passes : Passing) where
-  -- a curve up to a last time, in short form
+  -- A curve up to a last time, in short form.
   abbrev pub cut_short : ℚ → List Point → Checked (List Point)
   cut_short last points = do
     cut ← checked_cut passes points last
     checked_short passes cut
 
-  -- the same with its rates
+  -- A trace: the cut curve with its rates.
   abbrev pub cut_trace : ℚ → List Point → Checked Trace
   cut_trace last points = do
     short ← cut_short last points
     rates ← checked_slopes passes short
     Ok (record { points = short; rates = rates })
 
-  -- by the labels, cut at the departure reached
+  -- The curves of a link, cut at the last values of the cut labels of its ends.
   abbrev pub cut_link : List (List Point) → OfLink → Checked CutLink
   cut_link labels of_link = do
     inflow ← cut_trace (value_at_end (points_at labels of_link.link.tail)) of_link.inflow
@@ -72,7 +72,7 @@ module _ (passes : Passing) where
     queues = map (λ cut. cut.queue) cuts;
   }
 
-  -- a flow up to the departure that it reached
+  -- A flow up to the departure that it reached.
   unfoldable pub cut_flow : Network → Flow → Checked Flow
   cut_flow net flow = do
     labels ← each (cut_short flow.reached) flow.labels

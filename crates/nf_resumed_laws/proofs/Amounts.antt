@@ -1,4 +1,4 @@
--- What has entered each link by the end of a phase.
+-- The amount that has entered each link by the end of a phase.
 use Rattle.std.proofs.Common.{◌≡◌, ℕ, ◌-◌, List, [], ◌∷◌, length, take, Bool, true, false, Option, Some, None, slice_get, unwrap_or, map, sym, ap, refl, ◌∙◌, arith}
 use Rattle.std.specs.List.{last_or}
 use Rattle.std.specs.Option.{option_map_or}

@@ -1,4 +1,4 @@
--- What is restored from the report of a run is the standing to which the run had come.
+-- Restoring a run from its report gives the run's state.
 use Rattle.std.proofs.Common.{◌≡◌, ℕ, suc, ◌<◌, List, [], ◌∷◌, ◌++◌, length, Option, Some, None, slice_get, map, sym, ap, subst, refl, ◌∙◌, arith}
 use Rattle.std.specs.Prelude.{Result, Ok}
 use Rattle.std.proofs.lemmas.Option.{slice_get_within}
@@ -33,7 +33,7 @@ use Rattle.nf_resumed_laws.proofs.Kept.{cut_short-same, cut_trace-same}
 pub same_some : {A : Type 0} (x y : A) → ◌≡◌ {A = Option A} (Some x) (Some y) → x ≡ y
 same_some x y e = cc
 
--- a list each of whose entries comes to itself
+-- A list each of whose entries maps to itself.
 each_same : {A E : Type 0} (f : A → Result A E) (xs ys : List A) → ((i : ℕ) (x y : A) → slice_get xs i ≡ Some x → f x ≡ Ok y → y ≡ x) → each f xs ≡ Ok ys → ys ≡ xs
 each_same f [] ys same e = sym (same_Ok _ _ e)
 each_same {A = A} f (x ∷ xs) ys same e =
@@ -42,7 +42,7 @@ each_same {A = A} f (x ∷ xs) ys same e =
     sym (same_Ok _ _ l.next) ∙ ap (λ (y : A). y ∷ l.between) (same 0 x k.between refl k.first)
     ∙ ap (λ (rest : List A). x ∷ rest) (each_same f xs l.between (λ i w z at f. same (suc i) w z at f) l.first)
 
--- and one whose entries come to what another list has
+-- A list whose entries map to those of another list.
 each_are : {A B E : Type 0} (f : A → Result B E) (xs : List A) (ys zs : List B) → length xs ≡ length zs → ((i : ℕ) (x : A) (y z : B) → slice_get xs i ≡ Some x → slice_get zs i ≡ Some z → f x ≡ Ok y → y ≡ z) → each f xs ≡ Ok ys → ys ≡ zs
 each_are f [] ys [] n same e = sym (same_Ok _ _ e)
 each_are f [] ys (z ∷ zs) n same e = absurd (omega arith)
@@ -53,7 +53,7 @@ each_are {B = B} f (x ∷ xs) ys (z ∷ zs) n same e =
     sym (same_Ok _ _ l.next) ∙ ap (λ (y : B). y ∷ l.between) (same 0 x k.between z refl refl k.first)
     ∙ ap (λ (rest : List B). z ∷ rest) (each_are f xs l.between zs (omega arith) (λ i w y c at there f. same (suc i) w y c at there f) l.first)
 
--- ---- the slope of the last piece, where it is known
+-- ---- the slope of the last piece, if it is known
 two_last : (front : List Point) (before last p q : Point) → p ∷ q ∷ [] ≡ front ++ before ∷ last ∷ [] → slope before last ≡ slope p q
 two_last [] before last p q e = let a : p ≡ before = cc in let b : q ≡ last = cc in ap (λ (x : Point). slope x last) (sym a) ∙ ap (slope p) (sym b)
 two_last (x ∷ []) before last p q e = absurd (cc)
@@ -102,7 +102,7 @@ module _ (passes : Passing) where
       let same : k.between ≡ curve.slope = slope-known curve.points k.between curve.slope k.first l one in
       sym (same_Ok _ _ k.next) ∙ (λ i. record { points = curve.points; slope = same i })
 
--- ---- the flow of a standing
+-- ---- the flow of a run state
 module _ (passes : Passing) (net : Network) (good : IsNetwork net) (s : Standing) (well : WellRun net s) (short : ShortRun s) where
   grown : Grown net s.time s.labels (curves_of (flow_of s))
   grown = well.grow
@@ -146,7 +146,7 @@ module _ (passes : Passing) (net : Network) (good : IsNetwork net) (s : Standing
       cut_short-same passes points cut (s.time, label_now v) (subst (λ (l : List Point). LastPoint l (s.time, label_now v)) (sym is) (label_ends v c.0 h c.1))
       (subst IsShort (sym is) (short.labels v c.0 c.1).short) f) e
 
-  -- where a label ends
+  -- The end of a label.
   end-is : (v : ℕ) → v < net.nodes → value_at_end (points_at (flow_of s).labels v) ≡ label_now v
   end-is v h = value_at_end-is (points_at (flow_of s).labels v) (s.time, label_now v) (grown.curves_stand.labels_end v h)
 
@@ -213,7 +213,7 @@ module _ (passes : Passing) (net : Network) (good : IsNetwork net) (s : Standing
         queues = map-map same_link (λ (c : CutLink). c.queue) s.link_curves i;
       })
 
-  -- ---- the standing
+  -- ---- the run state
   label_curves-back : (curves : List GrowingCurve) → each (growing passes) (flow_of s).labels ≡ Ok curves → curves ≡ s.label_curves
   label_curves-back curves e = each_are (growing passes) (flow_of s).labels curves s.label_curves (length-map s.label_curves (λ (c : GrowingCurve). c.points)) (λ v points found c at there f.
       let is : points ≡ c.points = same_some points c.points (sym at ∙ slice_get-image (λ (c : GrowingCurve). c.points) s.label_curves v c there) in

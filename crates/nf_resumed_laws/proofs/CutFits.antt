@@ -1,4 +1,4 @@
--- What is computed of the curves of a report in resuming it: fractions, where the numbers of the report are.
+-- The numbers computed from the curves of a report in resuming it are fractions of a file if the numbers of the report are.
 use Rattle.std.proofs.Common.{ℕ, List, [], ◌∷◌, ◌++◌, if◌then◌else◌}
 use Rattle.std.specs.Prelude.{Some, None, Ok}
 use Rattle.std.specs.List.{AllByRecursion}
@@ -150,7 +150,7 @@ flow_fits net flow h =
       queues = all_image AreFractionPoints IsFractionCut (λ (cut : CutLink). cut.queue) (λ cut m. m.queue) cuts l;
     })))
 
--- ---- the standing that is restored
+-- ---- the restored run state
 last_slope_fits : (points : List Point) → AreFractionPoints points → Fits AreOperands IsFractionOrNone (last_slope passes_Q points)
 last_slope_fits [] h = ok_fits AreOperands IsFractionOrNone None tt
 last_slope_fits (p ∷ []) h = ok_fits AreOperands IsFractionOrNone None tt
@@ -169,7 +169,7 @@ link_curves_fractions (i ∷ inflows) (o ∷ outflows) [] h k l = tt
 link_curves_fractions (i ∷ inflows) (o ∷ outflows) (q ∷ queues) h k l =
     (record { inflow = h.0; outflow = k.0; queue = l.0 }, link_curves_fractions inflows outflows queues h.1 k.1 l.1)
 
--- the numbers of a standing are fractions
+-- The numbers of a run state are fractions.
 pub record HoldsFractions (s : Standing) : Type 0 where
   pub time : IsFraction s.time
   pub labels : AreFractions s.labels

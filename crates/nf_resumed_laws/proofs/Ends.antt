@@ -34,7 +34,7 @@ use Rattle.nf_resumed_laws.proofs.Rest.{restored, opened, rest-whole}
 use Rattle.nf_resumed_laws.proofs.Together.{some_cause, Knows, Comes, CutShort, meets}
 use Rattle.nf_phase_laws.proofs.Phases.{IsPhaseLength-within}
 
--- ---- standings that differ in the number of phases made
+-- ---- run states that differ in the number of phases
 made_again : (s t : Standing) (n : ℕ) → t ≡ with_made n s → t ≡ with_made t.made s
 made_again s t n e = e ∙ ap (λ (k : ℕ). with_made k s) (sym (ap (λ (x : Standing). x.made) e))
 
@@ -46,7 +46,7 @@ module _ (passes : Passing) (net : Network) where
   unfolding phase_lists
   same_list horizon s n pattern flows slopes = refl
 
-  -- a phase doesn't look at the number of phases made
+  -- A phase doesn't depend on the number of phases so far.
   unmade : (horizon : ℚ) (patterns n : ℕ) (s w : Standing) → Goes passes net horizon patterns (with_made n s) w → Goes passes net horizon patterns s (with_made (suc s.made) w)
   unmade horizon patterns n s w k = record {
     place = k.place;
@@ -67,13 +67,13 @@ module _ (passes : Passing) (net : Network) where
   open_before : (n : ℕ) (s : Standing) → IsOpen net (with_made n s) → IsOpen net s
   open_before n s o = record { no_start = o.no_start; apart = o.apart }
 
-  -- nor do the lists of the search
+  -- Nor do the operation sequences of the search.
   fits_again : (bounds : Bounds) (n : ℕ) (s : Standing) → RestFits passes net bounds s → RestFits passes net bounds (with_made n s)
   unfolding unmade
   fits_again bounds n s fits within new phase = fits (open_before n s within) (with_made (suc s.made) new) (unmade bounds.horizon bounds.patterns n s new phase)
 
   module _ (good : IsNetwork net) (b r : Bounds) (to : r.horizon ≡ b.horizon) where
-    -- from there on both make the same phases
+    -- From there on both runs have the same phases.
     together : (s end t last : Standing) (o v : Option (Cause ℚ)) (n : ℕ) → WellRun net s → Knows passes net good s → t ≡ with_made n s → (¬ Continues net t) ⊎ (s.time ≡ b.horizon)
         → Runs passes net b s end o → o ≡ None → RunsOn passes net r t last v → v ≡ None → last ≡ with_made last.made end
     together s end t last o v n well knows e closed (at_horizon f) x (ends_on g) y = made_again s t n e
@@ -99,7 +99,7 @@ module _ (passes : Passing) (net : Network) where
         together u end w last o v w.made (WellRun-goes passes net good b s u g well) (goes_knows passes net b.horizon b.patterns s u g) (ap (with_made w.made) (sym same))
         (inl (λ d. none_left t.made (sym (ap (λ (z : Standing). z.made) k.new_is) ∙ d.0))) rest x rest' y
 
-    -- a run that is resumed within a phase makes the rest of it
+    -- A run resumed mid-phase has the remainder of the phase first.
     module _ (a : Bounds) (last end : Standing) (c : CutShort passes net good a b last end) where
       abbrev standing : Standing
       standing = restored passes net good a b c.before last c.after c.well c.knows c.goes c.whole c.short

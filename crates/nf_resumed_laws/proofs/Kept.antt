@@ -1,4 +1,4 @@
--- A curve in short form that ends at a time is left as it is where it is cut there, with its rates.
+-- Cutting a curve in short form at its end doesn't change it or its rates.
 use Rattle.std.proofs.Common.{◌≡◌, ◌≢◌, List, [], ◌∷◌, ◌++◌, ⊎_elim, Bool, true, false, refl, sym, ap, ◌∙◌}
 use Rattle.std.specs.Prelude.{Ok, if◌then◌else◌}
 use Rattle.nf_rational.specs.Rational.{ℚ}
@@ -56,7 +56,7 @@ last_from-is : (p : Point) (front : List Point) (last : Point) → last_from p (
 last_from-is p [] last = refl
 last_from-is p (q ∷ front) last = last_from-is q front last
 
--- the last point of some points, and another one where there is none
+-- The last point of a list, or another point if the list is empty.
 abbrev last_of : Point → List Point → Point
 last_of p [] = p
 last_of p (q ∷ rest) = last_from q rest
@@ -93,7 +93,7 @@ module _ (passes : Passing) where
       let at : last_from p rest ≡ last = ap (last_of p) l.same ∙ last_of-is p l.front last in
       ap (λ (q : Point). checked_cut passes (p ∷ rest) q.0) (sym at) ∙ cut-end p rest l.curve.1
 
-  -- ---- short form stays
+  -- ---- short form is preserved
   turning-same : (p q : Point) (rest : List Point) (slopes : List ℚ) → IsShort (p ∷ q ∷ rest) → SlopesFrom p (q ∷ rest) slopes → turning (q ∷ rest) slopes ≡ q ∷ rest
   turning-same p q [] slopes s w = ap (λ (l : List ℚ). turning (q ∷ []) l) (w.1 ∙ ap (λ (l : List ℚ). slope p q ∷ l) w.2)
   turning-same p q (x ∷ rest) slopes s w =
@@ -121,7 +121,7 @@ module _ (passes : Passing) where
       let cut : w.between ≡ points = same_Ok _ _ (sym w.first ∙ cut-last points last l) in
       short-same points short s (ap (checked_short passes) (sym cut) ∙ w.next)
 
-  -- ---- and so do the rates
+  -- ---- the rates are preserved
   rates-from : (p : Point) (rest : List Point) (rates slopes : List ℚ) → SlopesFrom p rest rates → AreSlopes (p ∷ rest) slopes → rates ≡ slopes
   rates-from p [] rates [] w a = w
   rates-from p [] rates (k ∷ slopes) w a = absurd a

@@ -1,5 +1,5 @@
--- Phases that begin where a run stands, whatever the horizon and the budget: they have the same pattern, flows and slopes, and where they
--- are as long they come to the same.
+-- Phases from one run state, for any horizon and budget, have the same pattern, flows and slopes. Phases of equal length have the same
+-- result.
 use Rattle.std.proofs.Common.{◌≡◌, ℕ, ◌+◌, ◌≤◌, List, length, sym, ap, subst, ◌∙◌, arith}
 use Rattle.std.specs.Prelude.{Result, Ok, map}
 use Rattle.nf_rational.specs.Rational.{ℚ}
@@ -20,7 +20,7 @@ use Rattle.nf_run_laws.proofs.WellRun.{WellRun}
 use Rattle.nf_run_laws.proofs.Run.{parts_of}
 use Rattle.nf_model_laws.proofs.OneValue.{IsPhaseLength-unique}
 
--- what is found with a budget is found with a greater one
+-- A result of the search with a budget is one with a greater budget.
 more_patterns : (passes : Passing) (net : Network) (sets : Sets) (rate : ℚ) (base : Pattern) (fewer more place : ℕ) (pattern : Pattern) (flows slopes : List ℚ) → fewer ≤ more
     → IsSearch passes net sets rate base fewer (Found place pattern flows slopes) → IsSearch passes net sets rate base more (Found place pattern flows slopes)
 more_patterns passes net sets rate base fewer more place pattern flows slopes h is = record {
@@ -35,7 +35,7 @@ more_patterns passes net sets rate base fewer more place pattern flows slopes h 
   };
 }
 
--- two phases that begin in the same way
+-- Two phases that begin in the same way.
 pub record Alike (pattern pattern' : Pattern) (flows flows' slopes slopes' : List ℚ) : Type 0 where
   pub pattern_is : pattern ≡ pattern'
   pub flows_are : flows ≡ flows'
@@ -56,7 +56,7 @@ module _ (passes : Passing) (net : Network) (s : Standing) (knows : length s.las
       (more_patterns passes net (sets_at net s.labels) (rate_at net s.time) h.search.base patterns (patterns + patterns') place pattern flows slopes (omega arith) h.search.is_search))
       (more_patterns passes net (sets_at net s.labels) (rate_at net s.time) k.search.base patterns' (patterns + patterns') place' pattern' flows' slopes' (omega arith) k.search.is_search))
 
--- what a phase comes to is determined by its length
+-- The result of a phase is determined by its length.
 same_step : (x y : PhaseStep) → x.length ≡ y.length → x.labels ≡ y.labels → x.links ≡ y.links → x ≡ y
 same_step x y e f g = λ i. record { length = e i; labels = f i; links = g i }
 
@@ -72,7 +72,7 @@ one_step passes net s pattern flows slopes x y p q e =
     ∙ ap (λ (l : List ℚ). curve_list passes net (sets_at net s.labels) pattern y.length flows slopes l (map amount_so_far s.link_curves)) labels)
     p.links q.links)
 
--- parts of a phase that is alike another one, said with the pattern, flows and slopes of that one
+-- Parts of a phase, stated with the pattern, flows and slopes of an equal phase.
 pub parts_alike : (passes : Passing) (net : Network) (s : Standing) (pattern pattern' : Pattern) (flows flows' slopes slopes' : List ℚ) (step : PhaseStep) → Alike pattern pattern' flows flows' slopes slopes'
     → PhaseParts passes net s pattern' flows' slopes' step → PhaseParts passes net s pattern flows slopes step
 parts_alike passes net s pattern pattern' flows flows' slopes slopes' step a p =
@@ -85,7 +85,7 @@ pub after_alike : (net : Network) (s : Standing) (pattern pattern' : Pattern) (s
 after_alike net s pattern pattern' slopes slopes' step step' p q r =
     ap (λ (x : Pattern). standing_after net s x slopes step) p ∙ ap (λ (x : List ℚ). standing_after net s pattern' x step) q ∙ ap (standing_after net s pattern' slopes') r
 
--- ---- two phases from where a run stands
+-- ---- two phases from one run state
 module _ (passes : Passing) (net : Network) (good : IsNetwork net) (a b : Bounds) (s t u : Standing) (well : WellRun net s) (knows : length s.last ≡ length net.links)
     (g : Goes passes net a.horizon a.patterns s t) (h : Goes passes net b.horizon b.patterns s u) where
   pub alike : Alike g.pattern h.pattern g.flows h.flows g.slopes h.slopes
@@ -105,7 +105,7 @@ module _ (passes : Passing) (net : Network) (good : IsNetwork net) (a b : Bounds
   pub other_length : IsPhaseLength net (slacks_of (hops net) s.labels) g.slopes s.time b.horizon h.step.length
   other_length = subst (λ (x : List ℚ). IsPhaseLength net (slacks_of (hops net) s.labels) x s.time b.horizon h.step.length) (sym alike.slopes_are) h.is_length
 
-  -- to the same horizon they are as long
+  -- To the same horizon they have equal length.
   pub same_phase : a.horizon ≡ b.horizon → t ≡ u
   same_phase e = same_end (IsPhaseLength-unique net (slacks_of (hops net) s.labels) g.slopes s.time b.horizon g.step.length h.step.length
       (subst (λ (x : ℚ). IsPhaseLength net (slacks_of (hops net) s.labels) g.slopes s.time x g.step.length) e g.is_length) other_length)

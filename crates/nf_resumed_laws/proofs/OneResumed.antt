@@ -1,4 +1,4 @@
--- A resumed run has one end: each phase, and each cause for which none is made, follows from where the run stands.
+-- A resumed run has a unique end: each phase, and each cause for which there is none, follows from the run state.
 use Rattle.std.proofs.Common.{◌≡◌, ℕ, length, refl, sym, ap, ◌∙◌, subst, arith}
 use Rattle.std.specs.Prelude.{Option, Some, Ok}
 use Rattle.nf_rational.specs.Rational.{ℚ}
@@ -19,7 +19,7 @@ use Rattle.nf_resume_lists.specs.Open.{with_last, Steps, continues, begins, Runs
 use Rattle.nf_resume_lists.specs.Meanings.{IsResumedReport}
 use Rattle.nf_resume_laws.proofs.Stepping.{list-stands}
 
--- ---- one phase more
+-- ---- one more phase
 module _ (passes : Passing) (net : Network) (horizon : ℚ) (patterns : ℕ) (s : Standing) where
   module _ (knows : length s.last ≡ length net.links) where
     one_step : (t u : Standing) → Steps passes net horizon patterns s t → Steps passes net horizon patterns s u → t ≡ u
@@ -32,7 +32,7 @@ module _ (passes : Passing) (net : Network) (horizon : ℚ) (patterns : ℕ) (s 
     steps_or_fails _ c (continues {t = t} d g) f = goes_or_fails passes net horizon patterns s knows t c g f
     steps_or_fails t c (begins d g) f = goes_or_fails passes net horizon patterns s knows t c g f
 
-    -- the last pattern has an entry for each link still
+    -- The last pattern still has an entry for each link.
     step_knows : (t : Standing) → Steps passes net horizon patterns s t → length t.last ≡ length net.links
     step_knows _ (continues c g) = knows
     step_knows t (begins c g) = goes_knows passes net horizon patterns s t g
@@ -41,7 +41,7 @@ module _ (passes : Passing) (net : Network) (horizon : ℚ) (patterns : ℕ) (s 
   step_below _ (continues c g) = g.finds.below
   step_below t (begins c g) = g.finds.below
 
--- ---- one end
+-- ---- the unique end
 module _ (passes : Passing) (net : Network) (bounds : Bounds) where
   not_both : (s : Standing) → s.time ≡ bounds.horizon → s.time <ℚ bounds.horizon → ⊥
   not_both s e below = <ℚ_irrefl bounds.horizon (subst (λ (t : ℚ). t <ℚ bounds.horizon) e below)
@@ -66,7 +66,7 @@ module _ (passes : Passing) (net : Network) (bounds : Bounds) where
       let same : t ≡ u = one_step passes net bounds.horizon bounds.patterns s knows t u g h in
       one_end t l m o r (step_knows passes net bounds.horizon bounds.patterns s knows t g) rest (subst (λ (w : Standing). RunsOn passes net bounds w m r) (sym same) other)
 
--- ---- one report
+-- ---- the unique report
 restored_last : (passes : Passing) (net : Network) (report : Report) (s : Standing) → restart_list passes net report ≡ Ok s → s.last ≡ report.last
 unfolding restart_list restore_list
 restored_last passes net report s e =

@@ -1,4 +1,4 @@
--- The rate of the supply stays as it is where no piece starts.
+-- The rate of the supply is constant while no piece starts.
 use Rattle.std.proofs.Common.{◌≡◌, ℕ, suc, List, [], ◌∷◌, ⊎_elim, Bool, true, false, sym, ap, refl, ◌∙◌}
 use Rattle.std.specs.Prelude.{Some, slice_get, if◌then◌else◌}
 use Rattle.nf_rational.specs.Rational.{ℚ}

@@ -1,4 +1,4 @@
--- The numbers of a resumed run are fractions wherever it stands, so its report can be read, and reads back.
+-- The numbers of a resumed run are fractions of a file in every state. So its report can be read, and reads back.
 use Rattle.std.proofs.Common.{◌≡◌, ℕ, List, Option, sym, subst}
 use Rattle.std.specs.Prelude.{Ok}
 use Rattle.nf_rational.specs.Rational.{ℚ}
@@ -23,7 +23,7 @@ use Rattle.nf_resumed_laws.proofs.CutFits.{IsFractionFlow, HoldsFractions, resta
 use Rattle.nf_resumed_laws.proofs.Restarting.{restarts, well_restarted}
 
 module _ (n : Named) (named : IsNamed n) (bounds : Bounds) (within : AreReadable bounds) where
-  -- ---- from where the run is restored
+  -- ---- the restored state
   first_fits : (old : Report) (s : Standing) → IsWellFormed n.net old → IsReadable old → resume_list passes_Q n.net old ≡ Ok (Stands s) → StandsFit n.net s
   first_fits old s formed can stands =
       let flow : IsFractionFlow old.flow = record { reached = can.reached; labels = can.labels; inflows = can.inflows; outflows = can.outflows; queues = can.queues } in

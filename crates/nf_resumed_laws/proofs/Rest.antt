@@ -1,4 +1,4 @@
--- What is left of a phase that was cut: the phase that a resumed run makes there. It comes to what the whole phase comes to.
+-- The remainder of an interrupted phase is the first phase of a resumed run. It has the result of the whole phase.
 use Rattle.std.proofs.Common.{◌≡◌, ℕ, suc, List, [], ◌∷◌, length, inl, inr, ⊎_elim, Option, Some, None, slice_get, unwrap_or, map, sym, ap, subst, refl, ◌∙◌, arith}
 use Rattle.std.specs.Prelude.{Ok}
 use Rattle.std.proofs.lemmas.Option.{slice_get_within}
@@ -72,7 +72,7 @@ min-left H t l x = ⊎_elim
 below_min : (l a x m : ℚ) → l <ℚ m → m ≡ min_ℚ a x → l <ℚ x
 below_min l a x m h e = <_≤_trans _ _ _ (subst (λ (z : ℚ). l <ℚ z) e h) (min_right a x)
 
--- ---- where one phase was cut, and another one from the same standing goes on
+-- ---- an interrupted phase, and a longer one from the same run state
 module _ (passes : Passing) (net : Network) (good : IsNetwork net) (a b : Bounds) (s t u : Standing) (well : WellRun net s) (knows : length s.last ≡ length net.links)
     (g : Goes passes net a.horizon a.patterns s t) (h : Goes passes net b.horizon b.patterns s u) (short : g.step.length <ℚ h.step.length) where
   abbrev pattern : Pattern
@@ -90,7 +90,7 @@ module _ (passes : Passing) (net : Network) (good : IsNetwork net) (a b : Bounds
   abbrev slacks : List ℚ
   slacks = slacks_of (hops net) s.labels
 
-  -- where the run stands that was cut, and with it the restored one
+  -- The run state at the interruption, and with it the restored one.
   abbrev pub cut : Standing
   cut = standing_after net s pattern slopes g.step
 
@@ -124,7 +124,7 @@ module _ (passes : Passing) (net : Network) (good : IsNetwork net) (a b : Bounds
   count : length s.labels ≡ length slopes
   count = well.grow.stands.count ∙ sym solution.solves.slope_count
 
-  -- the phase may last longer
+  -- The phase can be longer.
   record Longer : Type 0 where
     pub most : ℚ
     pub lasts : Lasts net slacks slopes s.time most
@@ -243,7 +243,7 @@ module _ (passes : Passing) (net : Network) (good : IsNetwork net) (a b : Bounds
         all_left : (d H t : ℚ) → d +ℚ (H -ℚ (t +ℚ d)) ≡ H -ℚ t
         all_left d H t = linear_eq (d ∷ H ∷ t ∷ []) [] (search reading_of depth 12) tt tt
 
-    -- ---- what it comes to
+    -- ---- the result
     labels_are : k.step.labels ≡ h.step.labels
     labels_are = rest.labels ∙ ap (λ (l : List ℚ). moved l slopes k.step.length) first.labels ∙ moved-twice s.labels slopes done k.step.length h.step.length lengths ∙ sym whole.labels
 
@@ -291,7 +291,7 @@ module _ (passes : Passing) (net : Network) (good : IsNetwork net) (a b : Bounds
         (map amount_so_far s.link_curves) (map amount_so_far restored.link_curves) g.step.links h.step.links k.step.links first.links whole.links rest_links lengths filled
         (amounts-on passes net good s pattern flows slopes g.step well solution.meets.no_negative_slope still first) s.link_curves
 
-    -- with the last pattern as it was, the run stands where the whole phase ends
+    -- With the unchanged last pattern, the run state is that at the end of the whole phase.
     pub rest-whole : with_last restored.last w ≡ with_made 1 u
     rest-whole =
         ap (with_last restored.last) (k.new_is ∙ sym (after_alike net restored base k.pattern slopes k.slopes k.step k.step goes_alike.pattern_is goes_alike.slopes_are refl))

@@ -1,4 +1,4 @@
--- Where a run stands that is resumed from a report that the check accepts.
+-- The state of a run resumed from a report that the check accepts.
 use Rattle.std.proofs.Common.{◌≡◌, ℕ, refl, subst}
 use Rattle.std.specs.Prelude.{Ok}
 use Rattle.nf_rational.specs.Rational.{ℚ}
@@ -23,7 +23,7 @@ use Rattle.nf_resume_laws.proofs.CutFlow.{cut_flow-is}
 use Rattle.nf_resume_laws.proofs.Restored.{WellRun-restored}
 use Rattle.nf_resume_laws.proofs.Stepping.{list-stands}
 
--- what the check answers where a run stands there
+-- The answer of the check for such a run state.
 answer_was : (passes : Passing) (net : Network) (report : Report) (answer : Answer ℕ ℕ ℚ) (s : Standing) → after_check passes net report answer ≡ Ok (Stands s) → answer ≡ Yes
 answer_was passes net report Yes s e = refl
 answer_was passes net report (No rule subject time left right) s e = absurd (cc)

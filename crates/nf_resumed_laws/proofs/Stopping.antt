@@ -1,4 +1,4 @@
--- A resumed run that stopped since no pattern was left, stopped where there is no thin flow.
+-- If a resumed run stopped because no pattern was left, there is no thin flow where it stopped.
 use Rattle.std.proofs.Common.{ℕ, Option, sym, subst}
 use Rattle.nf_rational.specs.Rational.{ℚ}
 use Rattle.nf_work.specs.Passing.{Passing}

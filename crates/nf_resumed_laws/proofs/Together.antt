@@ -1,5 +1,5 @@
--- Two runs from the start, to two horizons: where the run to the one ends, the other one comes and goes on, or it makes a longer phase
--- than the last one of the first run.
+-- Two runs from the start, to two horizons. Where the first run ends, the second run has the same state and continues, or it has a longer
+-- phase than the last one of the first run.
 use Rattle.std.proofs.Common.{◌≡◌, List, [], ◌∷◌, length, ◌⊎◌, inl, inr, ⊎_elim, Option, Some, None, sym, ap, subst, refl, ◌∙◌}
 use Rattle.std.proofs.lemmas.Option.{none-some}
 use Rattle.nf_rational.specs.Rational.{ℚ}
@@ -28,7 +28,7 @@ use Rattle.nf_resume_laws.proofs.CutPhase.{closed-at_extension}
 use Rattle.nf_resumed_laws.proofs.Once.{first_parts, other_length, same_end}
 
 -- ---- lengths of phases
--- the shorter one of two was cut at its horizon
+-- The shorter of two phases ended at its horizon.
 pub cut-ends : (net : Network) (slacks slopes : List ℚ) (time a b l m : ℚ) → IsPhaseLength net slacks slopes time a l → IsPhaseLength net slacks slopes time b m → l <ℚ m → l ≡ a -ℚ time
 cut-ends net slacks slopes time a b l m (inl p) (inl q) h = ⊎_elim
     (λ (w : (min_ℚ (a -ℚ time) p.0 ≡ a -ℚ time) × (a -ℚ time ≤ℚ p.0)). p.2 ∙ w.0)
@@ -65,14 +65,14 @@ module _ (passes : Passing) (net : Network) (good : IsNetwork net) where
   rises-runs a s last stop (fails may f) well = ≤ℚ_refl s.time
   rises-runs a s last stop (goes {new = t} may g rest) well = ≤ℚ_trans _ _ _ (≤ℚ_of_lt _ _ (later-goes a s t g well)) (rises-runs a t last stop rest (WellRun-goes passes net good a s t g well))
 
-  -- at its horizon a run has ended
+  -- At its horizon a run has ended.
   ended : (a : Bounds) (s last : Standing) (stop : Option (Cause ℚ)) → Runs passes net a s last stop → s.time ≡ a.horizon → s ≡ last
   ended a s last stop (at_horizon e) h = refl
   ended a s last stop (at_phases below e) h = refl
   ended a s last stop (fails may f) h = refl
   ended a s last stop (goes may g rest) h = absurd (not_both_ℚ _ _ g.finds.below (≤ℚ_of_same _ _ (sym h)))
 
-  -- the run stands at the end of a phase, or at a horizon
+  -- The run is at the end of a phase, or at a horizon.
   abbrev pub Closed : Bounds → Standing → Type 0
   Closed b s = (¬ IsOpen net s) ⊎ (s.time ≡ b.horizon)
 
@@ -96,7 +96,7 @@ module _ (passes : Passing) (net : Network) (good : IsNetwork net) where
     abbrev Meets : Type 0
     Meets = Comes b last end ⊎ CutShort a b last end
 
-    -- two phases from one standing
+    -- Two phases from one run state.
     module _ (s t u : Standing) (stop : Option (Cause ℚ)) (well : WellRun net s) (knows : Knows s) (g : Goes passes net a.horizon a.patterns s t) (h : Goes passes net b.horizon b.patterns s u)
         (rest : Runs passes net a t last stop) (rest' : Runs passes net b u end None) where
       abbrev slacks : List ℚ
@@ -140,7 +140,7 @@ module _ (passes : Passing) (net : Network) (good : IsNetwork net) where
               (standing_after net s g.pattern g.slopes g.step) (first_parts passes net good a b s t u well knows g h).labels refl refl
               (subst (λ (z : ℚ). IsExtension net slacks g.slopes s.time z) (sym f) extension)
 
-  -- the run to the other horizon beside the one that ends
+  -- The run to the other horizon, compared with the one that ends.
   pub meets : (a b : Bounds) (s last end : Standing) (stop o : Option (Cause ℚ)) → last.time ≤ℚ b.horizon → WellRun net s → Knows s → Closed b s → Runs passes net a s last stop → Runs passes net b s end o → o ≡ None
       → Comes b last end ⊎ CutShort a b last end
   meets a b s last end stop o within well knows closed (at_horizon e) other f = inl (record { well = well; knows = knows; closed = closed; runs = subst (λ (x : Option (Cause ℚ)). Runs passes net b s end x) f other })

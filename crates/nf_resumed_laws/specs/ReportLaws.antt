@@ -1,4 +1,4 @@
--- The report of a resumed run: it can be read back, and where the run stops since no pattern is left there is no thin flow.
+-- Theorems on the report of a resumed run: it can be read back, and if the run stops because no pattern is left, there is no thin flow.
 use Rattle.std.specs.Prelude.{◌≡◌, ℕ, List, Ok}
 use Rattle.nf_work.specs.Passing.{Passing, passes_Q}
 use Rattle.nf_model.specs.Network.{Network, IsNetwork}
@@ -12,19 +12,19 @@ use Rattle.nf_run_text_laws.specs.ReadableLaws.{AreReadable, ReadsBack}
 use Rattle.nf_complete_lists.specs.Reached.{StopsForNoThinFlow}
 use Rattle.nf_resume_lists.specs.Meanings.{IsResumedReport}
 
--- where the numbers of the report that is resumed are fractions of a file, and its counts have at most 64 bits, so it is of the new one
+-- The new report is readable if the resumed one is: its numbers are fractions of a file, and its counts have at most 64 bits.
 abbrev pub ResumedReportIsReadable : Type 0
 ResumedReportIsReadable = (n : Named) (bounds : Bounds) (old : Report) (phases : ℕ) (report : Report) → IsNamed n → AreReadable bounds
     → IsWellFormed n.net old → IsReadable old
     → IsResumedReport passes_Q n.net bounds old phases report → IsReadable report
 
--- where the report that is resumed was read from a text, the text of the new one is read as that
+-- If the resumed report was read from a text, the text of the new report reads back as that report.
 abbrev pub ResumedReportReadsBack : Type 0
 ResumedReportReadsBack = (n : Named) (text : List ℕ) (bounds : Bounds) (old : Report) (phases : ℕ) (report : Report) → IsNamed n
     → AreReadable bounds → report_in n text ≡ Ok old
     → IsWellFormed n.net report → IsResumedReport passes_Q n.net bounds old phases report → ReadsBack n report
 
--- no thin flow goes on from where a resumed run stopped since no pattern was left
+-- If a resumed run stopped because no pattern was left, no thin flow extends its flow.
 abbrev pub ResumedStopsForNoThinFlow : Type 0
 ResumedStopsForNoThinFlow = (passes : Passing) (net : Network) (bounds : Bounds) (old : Report) (phases : ℕ) (report : Report)
     → IsNetwork net → IsWellFormed net old

@@ -5,35 +5,36 @@
 ghost use Rattle.nf_resumed_laws.specs.ResumedLaws.{ResumedIsSolved, ResumedRunHasOneReport, RunIsRestored};
 ghost use Rattle.nf_resumed_laws.specs.ReportLaws.{ResumedReportIsReadable, ResumedReportReadsBack, ResumedStopsForNoThinFlow};
 
-/// What is restored from the report of a run is the standing to which the run had come, with no phase made.
+/// Proves that restoring a run from its report gives the run's state, with no phase counted.
 pub fn run_is_restored()
     ensures { RunIsRestored }
 {}
 
-/// Where a run is resumed from its report to a later horizon, which the run from the start reaches too, both have the same report; where the
-/// first one ended within a phase, if no operation of a table or verdict list passes in the search for the rest of it.
+/// Proves that a run resumed from its report and a run from the start have the same report, if both reach a later horizon. If the first run
+/// ended mid-phase, no operation of a table or verdict list may exceed its bound in the search for the remainder of that phase.
 pub fn resumed_is_solved()
     ensures { ResumedIsSolved }
 {}
 
-/// A report is gone on from in one way: two runs that are resumed from it within the same bounds have the same report, after as many phases.
+/// Proves that resuming a report is deterministic: two runs resumed from it with the same bounds have as many phases and the same report.
 pub fn resumed_run_has_one_report()
     ensures { ResumedRunHasOneReport }
 {}
 
-/// The report of a run that goes on from a well-formed report with fractions and counts that can be read has such numbers too, where
-/// the network is that of an accepted file, the horizon is a fraction and the budgets have at most 64 bits.
+/// Proves that the report of a resumed run is readable, if the resumed report is well-formed and readable: its numbers are fractions of a
+/// file, its counts have at most 64 bits. The network must be that of an accepted file, the horizon a fraction of a file, and the budgets
+/// of at most 64 bits.
 pub fn resumed_report_is_readable()
     ensures { ResumedReportIsReadable }
 {}
 
-/// The text of the report of a run that goes on from a report that was read is read as that report, and it is the text of no other that
-/// can be read.
+/// Proves that the text of a resumed run's report reads back as that report, if the resumed report was read from a text. It is the text of
+/// no other readable report.
 pub fn resumed_report_reads_back()
     ensures { ResumedReportReadsBack }
 {}
 
-/// Where a resumed run stops since no pattern is left, there is no thin flow.
+/// Proves that there is no thin flow if a resumed run stops because no pattern is left.
 pub fn resumed_stops_for_no_thin_flow()
     ensures { ResumedStopsForNoThinFlow }
 {}

@@ -1,4 +1,4 @@
--- The extend list gives the extension length.
+-- The value of the extend list is the extension length.
 use Rattle.std.proofs.Common.{◌≡◌, ℕ, zero, suc, ◌+◌, List, [], ◌∷◌, Bool, true, false, if◌then◌else◌, sym, ap, subst, refl, arith}
 use Rattle.std.specs.Prelude.{Option, Some, None, Ok, slice_get}
 use Rattle.std.specs.List.{enumerate_from}
@@ -71,7 +71,7 @@ module _ (slacks slopes : List ℚ) where
       (fold_limits (Both P (LinkKeeps k link)) links (k + 1) one.0 next
       (after_limits P (is_zero (number_at slacks k)) least one.0 (number_at slacks k) (number_at slopes link.tail) (number_at slopes link.head) refl p one.1) one.2)
 
--- ---- the next inflow change
+-- ---- the next change of the inflow rate
 fits : (t x y l : ℚ) → x ≤ℚ y → l ≤ℚ x -ℚ t → (t +ℚ l) ≤ℚ y
 fits t x y l h k = linear_le (t ∷ x ∷ y ∷ l ∷ []) (le h ∷ le k ∷ []) (search reading_of depth 12) tt
 
@@ -81,7 +81,7 @@ room t x l h = linear_le (t ∷ x ∷ l ∷ []) (le h ∷ []) (search reading_of
 not_before : (t x : ℚ) → x ≤ℚ t → t <ℚ x → ⊥
 not_before t x h k = linear_false (t ∷ x ∷ []) (le h ∷ lt k ∷ []) (search reading_of depth 12) tt
 
--- each of these pieces starts at this time or later
+-- Each of these pieces starts at this time or later.
 abbrev EachFrom : ℚ → List Piece → Type 0
 EachFrom start pieces = (i : ℕ) (piece : Piece) → IsPiece pieces i piece → start ≤ℚ piece.start
 
@@ -96,7 +96,7 @@ StartsRise-later piece [] rise = tt
 StartsRise-later piece (next ∷ later) rise = rise.1
 
 module _ (time : ℚ) where
-  -- no piece that starts after the time starts before so long a phase ends
+  -- No piece that starts after the time starts before a phase of this length ends.
   abbrev NoneStarts : List Piece → ℚ → Type 0
   NoneStarts pieces length = (i : ℕ) (piece : Piece) → IsPiece pieces i piece → time <ℚ piece.start → (time +ℚ length) ≤ℚ piece.start
 
@@ -104,7 +104,7 @@ module _ (time : ℚ) where
   started piece later length test none zero p e h = absurd (not_before time piece.start (lt_false time piece.start test) (subst (λ (q : Piece). time <ℚ q.start) (sym (same_Some piece p e)) h))
   started piece later length test none (suc i) p e h = none i p e h
 
-  -- the limit that the next change makes
+  -- The limit by the next change.
   abbrev limit_of : Option ℚ → Option ℚ
   limit_of None = None
   limit_of (Some start) = Some (start -ℚ time)

@@ -1,4 +1,4 @@
--- The slope of a queue over a phase: inflow rate less capacity on a filled link, and 0 elsewhere.
+-- The slope of a queue over a phase: inflow rate minus capacity on a filled link, and 0 otherwise.
 use Rattle.std.proofs.Common.{◌≡◌, ℕ, List, [], ◌∷◌, get_or, Bool, true, false, ⊎_elim, sym, ap, subst, refl, ◌∙◌, arith}
 use Rattle.std.specs.Prelude.{Option, Some, None, slice_get, unwrap_or}
 use Rattle.std.proofs.lemmas.Option.{none-some, same_Some, slice_get-get_or, slice_get_within}
@@ -26,7 +26,7 @@ use Rattle.nf_rational_laws.proofs.Chains.{≤ℚ_refl}
 use Rattle.nf_rational_laws.proofs.Tests.{max0_of}
 use Rattle.std.proofs.lemmas.Bool.{false≢true}
 
--- what is known of a link that the flow fills, and of one that it doesn't: its slacks at the ends of the phase
+-- Facts on a link that the flow fills, and on one that it doesn't: its slacks at the ends of the phase.
 pub record Filled (capacity : Option ℚ) (s n x m : ℚ) (filled : Bool) : Type 0 where
   pub full : filled ≡ true → (c : ℚ) → capacity ≡ Some c → (x ≡ c *ℚ m) × (0ℚ ≤ℚ s) × (0ℚ ≤ℚ n)
   pub empty : filled ≡ false → (s ≤ℚ 0ℚ) × (n ≤ℚ 0ℚ)

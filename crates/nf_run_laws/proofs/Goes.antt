@@ -1,4 +1,4 @@
--- One phase of a run keeps what holds of its curves.
+-- One phase of a run preserves the properties of its curves.
 use Rattle.std.proofs.Common.{◌≡◌, ℕ, ◌<◌, List, [], ◌∷◌, length, sym, ap, subst, refl, ◌∙◌, arith}
 use Rattle.std.specs.Prelude.{Option, Some, None, map, slice_get, unwrap_or}
 use Rattle.std.specs.List.{last_or}
@@ -43,7 +43,7 @@ use Rattle.nf_run_laws.proofs.WellRun.{number_is, label_points, inflow_points, o
 use Rattle.nf_plain_laws.proofs.Entries.{last-append, slice_get-image, entry}
 use Rattle.nf_rational_laws.proofs.Chains.{≤ℚ_refl}
 
--- ---- what has entered a link so far
+-- ---- the amount that has entered a link so far
 end_amount : (c : LinkCurves) (last : Point) → LastPoint c.inflow.points last → amount_so_far c ≡ last.1
 end_amount c last l = ap (λ (ps : List Point). option_map_or (λ (p : Point). p.1) (last_or None ps) 0ℚ) l.same ∙ ap (λ (o : Option Point). option_map_or (λ (p : Point). p.1) o 0ℚ) (last-append None l.front last)
 
@@ -251,7 +251,7 @@ module _ (passes : Passing) (net : Network) (good : IsNetwork net) (horizon : �
     queues_stay = λ e link p still. (let f = link_found e link p in queue_new e link p f.0 f.1 ∙ (queue_step e link p f.0 f.1).stays still);
   }
 
-  -- ---- all that holds
+  -- ---- all properties
   label_length : length new.label_curves ≡ net.nodes
   label_length = label_after-length (s.time +ℚ step.length) step.labels slopes s.label_curves net.nodes new_count solves.slope_count well.label_count
 

@@ -1,4 +1,4 @@
--- A fact that holds of the lengths from 0 up to a limit, and of none beyond; without a limit, of every length.
+-- A property that holds for the lengths from 0 up to a limit, and for none beyond; without a limit, for every length.
 use Rattle.std.proofs.Common.{◌≡◌, [], ◌∷◌, ⊎_elim, sym, subst}
 use Rattle.std.specs.Prelude.{Option, Some, None}
 use Rattle.nf_rational.specs.Rational.{ℚ}
@@ -29,7 +29,7 @@ below : (a b c : ℚ) → a ≤ℚ b → b <ℚ c → a ≤ℚ c
 below a b c h k = linear_le (a ∷ b ∷ c ∷ []) (le h ∷ lt k ∷ []) (search reading_of depth 12) tt
 
 module _ (P Q : ℚ → Type 0) where
-  -- the same limit for a fact that says the same of each length
+  -- An equivalent property has the same limit.
   pub IsLimit-same : ((length : ℚ) → P length → Q length) → ((length : ℚ) → Q length → P length) → (limit : Option ℚ) → IsLimit P limit → IsLimit Q limit
   IsLimit-same to from None p = λ length h. to length (p length h)
   IsLimit-same to from (Some limit) p = record {
@@ -38,7 +38,7 @@ module _ (P Q : ℚ → Type 0) where
     bound = λ length h q. p.bound length h (from length q);
   }
 
-  -- a fact that always holds doesn't limit
+  -- A property that always holds has no limit.
   pub IsLimit-with : (limit : Option ℚ) → IsLimit P limit → HoldsAlways Q → IsLimit (Both P Q) limit
   IsLimit-with None p q = λ length h. (p length h, q length h)
   IsLimit-with (Some limit) p q = record {

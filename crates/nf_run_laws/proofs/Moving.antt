@@ -1,4 +1,4 @@
--- How labels move in a phase of a run, and what that says of the rates of its links.
+-- The change of labels in a phase of a run, and the rates of the links that follow.
 use Rattle.std.proofs.Common.{◌≡◌, ℕ, List, [], ◌∷◌, length, Bool, true, false, sym, ap, subst, refl, ◌∙◌}
 use Rattle.std.specs.Prelude.{Some, None, map, slice_get}
 use Rattle.std.proofs.lemmas.Option.{same_Some}
@@ -20,7 +20,7 @@ use Rattle.nf_lists.specs.PhaseRun.{Standing, PhaseStep}
 use Rattle.nf_lists_laws.proofs.Ending.{number-moved, PhaseParts}
 use Rattle.nf_run_laws.proofs.StepValues.{rate_value, queue_value, step_value, step_value_at, positive_of}
 
--- ---- where a rate comes from
+-- ---- the source of a rate
 none_some : {A : Type 0} (x : A) → None ≡ Some x → ⊥
 none_some x e = cc
 

@@ -1,4 +1,4 @@
--- Curves in short form that go on by a point: the slope that is recorded is that of the last two points.
+-- Curves in short form extended by a point: the recorded slope is that of the last two points.
 use Rattle.std.proofs.Common.{◌≡◌, ℕ, suc, List, [], ◌∷◌, ◌++◌, length, Bool, true, false, sym, ap, subst, refl, ◌∙◌, append_assoc, length-append, arith}
 use Rattle.std.specs.Prelude.{◌-◌, ◌+◌, Option, Some, None, take}
 use Rattle.std.specs.List.{last_or}
@@ -49,7 +49,7 @@ front_of {A = A} (x ∷ xs) y =
     let e : suc (length (xs ++ y ∷ [])) - 1 ≡ suc (length (xs ++ y ∷ []) - 1) = omega arith in
     ap (λ (k : ℕ). take k (x ∷ xs ++ y ∷ [])) e ∙ ap (λ (l : List A). x ∷ l) (front_of xs y)
 
--- ---- the slope with which a curve came to its last point
+-- ---- the slope of the last piece of a curve
 pub record EndsWithSlope (points : List Point) (r : ℚ) : Type 0 where
   pub front : List Point
   pub before : Point
@@ -57,7 +57,7 @@ pub record EndsWithSlope (points : List Point) (r : ℚ) : Type 0 where
   pub same : points ≡ front ++ before ∷ last ∷ []
   pub slope_is : slope before last ≡ r
 
--- it is recorded as that of its last two points, if it is recorded
+-- If a slope is recorded, it is that of the last two points.
 abbrev pub LastSlope : List Point → Option ℚ → Type 0
 LastSlope points None = Unit {0}
 LastSlope points (Some r) = EndsWithSlope points r
@@ -66,7 +66,7 @@ same_slope : (points : List Point) (o : Option ℚ) (r : ℚ) → LastSlope poin
 same_slope points None r s e = absurd (false≢true e)
 same_slope points (Some b) r s e = subst (λ (z : ℚ). EndsWithSlope points z) (same_of_test b r e) s
 
--- with the last point that is known
+-- With the known last point.
 record Reached (points : List Point) (last : Point) (r : ℚ) : Type 0 where
   pub front : List Point
   pub before : Point
@@ -94,7 +94,7 @@ taken front before last new =
     ∙ ap (λ (ps : List Point). ps ++ new ∷ []) (front_of (front ++ before ∷ []) last)
     ∙ append_assoc front (before ∷ []) (new ∷ [])
 
--- ---- a curve that goes on, and came to its new last point with this slope
+-- ---- an extended curve whose last piece has this slope
 pub record Went (points points' : List Point) (last new : Point) (r : ℚ) : Type 0 where
   pub goes : GoesOnTo points points' last new
   pub slopes : EndsWithSlope points' r

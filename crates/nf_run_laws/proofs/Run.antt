@@ -19,7 +19,7 @@ use Rattle.nf_phase_laws.proofs.CurveRun.{Grown, Equilibrium-grown}
 use Rattle.nf_run_laws.proofs.WellRun.{WellRun, WellRun-start, GrowByPhases-start}
 use Rattle.nf_run_laws.proofs.Goes.{phase, WellRun-after, GrowByPhases-after}
 
--- ---- the flow of a standing
+-- ---- the flow of a run state
 module _ (net : Network) (good : IsNetwork net) (s : Standing) (well : WellRun net s) where
   grown : Grown net s.time s.labels (curves_of (flow_of s))
   grown = well.grow

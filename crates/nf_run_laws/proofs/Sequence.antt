@@ -12,7 +12,7 @@ use Rattle.nf_run_laws.specs.RunLaws.{reached_by}
 use Rattle.nf_run_laws.proofs.WellRun.{WellRun, WellRun-start}
 use Rattle.nf_run_laws.proofs.Run.{WellRun-goes, IsPhase-goes}
 
--- phases that lead from one standing to another
+-- Phases that lead from one run state to another.
 record Leads (net : Network) (horizon : ℚ) (s last : Standing) : Type 0 where
   pub rest : List (ℚ × List ℚ)
   pub phases : PhasesFrom net horizon (reached_by s) rest

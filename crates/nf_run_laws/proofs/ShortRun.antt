@@ -1,4 +1,4 @@
--- The curves of a run are in short form wherever it stands, and its labels are their values.
+-- The curves of a run are in short form in every state, and its labels are their values.
 use Rattle.std.proofs.Common.{◌≡◌, ℕ, zero, suc, ◌<◌, List, [], ◌∷◌, length, Bool, true, false, ap, sym, subst, refl, ◌∙◌, arith}
 use Rattle.std.specs.Prelude.{Option, Some, slice_get}
 use Rattle.std.proofs.lemmas.Option.{none-some, same_Some}
@@ -24,7 +24,7 @@ use Rattle.nf_run_laws.proofs.Run.{WellRun-goes}
 use Rattle.nf_run_laws.proofs.Standing.{grown_at, label_count_at}
 use Rattle.nf_plain_laws.proofs.Entries.{entry}
 
--- ---- what holds
+-- ---- the properties
 pub record AreShort (curves : LinkCurves) : Type 0 where
   pub inflow : IsShort curves.inflow.points
   pub outflow : IsShort curves.outflow.points
@@ -58,7 +58,7 @@ ShortRun-start net s h = record {
       subst AreShort w.2 (first_short s.labels w.0));
 }
 
--- ---- which curve each was before a phase
+-- ---- the curve before a phase
 record LabelBefore (time : ℚ) (curves : List GrowingCurve) (v : ℕ) (after : GrowingCurve) : Type 0 where
   pub before : GrowingCurve
   pub at : slice_get curves v ≡ Some before
@@ -121,7 +121,7 @@ module _ (net : Network) (s : Standing) (pattern : Pattern) (slopes : List ℚ) 
   pub ShortRun-after : ShortRun (standing_after net s pattern slopes step)
   ShortRun-after = record { labels = label_short; links = link_short }
 
--- ---- the flow of a standing
+-- ---- the flow of a run state
 pub IsShortFlow-run : (net : Network) (s : Standing) → WellRun net s → ShortRun s → IsShortFlow net (flow_of s)
 IsShortFlow-run net s well short = record {
   labels = λ v h. (let c = entry s.label_curves v (let n = well.label_count in omega arith) in subst IsShort (sym (label_points s v c.0 c.1)) (short.labels v c.0 c.1).short);
@@ -133,7 +133,7 @@ IsShortFlow-run net s well short = record {
     link_found : (e : ℕ) → e < length net.links → (c : LinkCurves) × (slice_get s.link_curves e ≡ Some c)
     link_found e h = entry s.link_curves e (let n = well.link_count in omega arith)
 
--- the labels that it keeps are the values of its label curves
+-- Its labels are the values of its label curves.
 pub KeepsLabels-run : (net : Network) → IsNetwork net → (s : Standing) → WellRun net s → KeepsLabels net s
 KeepsLabels-run net good s well = record { count = label_count_at net good s well; values = λ v h. sym ((grown_at net good s well).stands.same v h) }
 

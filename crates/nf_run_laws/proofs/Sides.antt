@@ -1,4 +1,4 @@
--- How long a link stays on its side: inactive with a slack of at most 0, or resetting with one of at least 0.
+-- The time for which a link stays on its side: inactive with slack at most 0, or resetting with slack at least 0.
 use Rattle.std.proofs.Common.{◌≡◌, [], ◌∷◌, ◌⊎◌, inl, inr, ⊎_elim, Bool, true, false, sym, ◌∙◌, refl}
 use Rattle.std.specs.Prelude.{◌&&◌, ◌||◌}
 use Rattle.nf_rational.specs.Rational.{ℚ}
@@ -71,12 +71,12 @@ module _ (s c x : ℚ) (meets : x *ℚ c ≡ 0ℚ -ℚ s) where
       (λ (k : w ≤ℚ x). k)
       (lt_or_le_ℚ x w)
 
--- ---- which way a slack goes
--- it goes towards 0, from one of its sides
+-- ---- the direction of a slack
+-- The slack moves towards 0, from one of its sides.
 abbrev pub Opposite : ℚ → ℚ → Type 0
 Opposite s c = ((s <ℚ 0ℚ) × (0ℚ <ℚ c)) ⊎ ((0ℚ <ℚ s) × (c <ℚ 0ℚ))
 
--- it goes away from 0, or stays
+-- The slack moves away from 0, or is constant.
 pub record Away (s c : ℚ) : Type 0 where
   pub below : s <ℚ 0ℚ → c ≤ℚ 0ℚ
   pub above : 0ℚ <ℚ s → 0ℚ ≤ℚ c
@@ -115,7 +115,7 @@ away_of s c e = record {
 zero_of : (s : ℚ) → is_zero s ≡ true → s ≡ 0ℚ
 zero_of s e = ≤ℚ_antisymm s 0ℚ (le_of_test s 0ℚ (and_parts (le_ℚ s 0ℚ) (le_ℚ 0ℚ s) e).0) (le_of_test 0ℚ s (and_parts (le_ℚ s 0ℚ) (le_ℚ 0ℚ s) e).1)
 
--- ---- how long a link keeps its side
+-- ---- the time for which a link stays on its side
 pub keeps_at_zero : (s c : ℚ) → is_zero s ≡ true → HoldsAlways (KeepsSide s c)
 keeps_at_zero s c e length h = record {
   inactive = λ while below w. absurd (not_less (zero_of s e) below);

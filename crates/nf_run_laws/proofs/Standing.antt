@@ -1,4 +1,4 @@
--- What is known of labels and curves wherever a run stands.
+-- Facts on labels and curves in every run state.
 use Rattle.std.proofs.Common.{◌≡◌, ℕ, ◌<◌, List, length, sym, ap, subst, ◌∙◌, arith}
 use Rattle.std.specs.Prelude.{Option, None}
 use Rattle.std.specs.Option.{option_map_or}

@@ -1,4 +1,4 @@
--- What the curve list says of a link, by the model's definitions.
+-- The values of the curve list for a link, in terms of the model's definitions.
 use Rattle.std.proofs.Common.{◌≡◌, ℕ, zero, suc, ◌+◌, List, [], ◌∷◌, length, Bool, true, false, ⊎_elim, sym, ap, refl, ◌∙◌, arith}
 use Rattle.std.specs.Prelude.{Option, Some, None, Result, Ok, slice_get}
 use Rattle.std.specs.List.{enumerate_from}
@@ -52,7 +52,7 @@ positive_of x e = ⊎_elim (λ (w : (lt_ℚ 0ℚ x ≡ true) × (0ℚ <ℚ x)). 
 pub none_of : (x : ℚ) → is_positive x ≡ false → x ≤ℚ 0ℚ
 none_of x e = ⊎_elim (λ (w : (lt_ℚ 0ℚ x ≡ true) × (0ℚ <ℚ x)). absurd (false≢true (sym e ∙ w.0))) (λ (w : (lt_ℚ 0ℚ x ≡ false) × (x ≤ℚ 0ℚ)). w.1) (lt_ℚ_cases 0ℚ x)
 
--- ---- where nothing passes
+-- ---- no operation exceeds its bound
 bind_at : {A B E : Type 0} (r : Result A E) (x : A) (f : A → Result B E) → r ≡ Ok x → (r >>= f) ≡ f x
 bind_at {A = A} {E = E} r x f h = ap (λ (w : Result A E). w >>= f) h
 

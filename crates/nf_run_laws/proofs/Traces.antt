@@ -1,4 +1,5 @@
--- How the curves of a run go on in a phase: one at a node whose label moves, and not at all where it stands still.
+-- Extensions of the curves of a run in a phase: a curve at a node is extended if the label of the node rises, and unchanged if it is
+-- constant.
 use Rattle.std.proofs.Common.{◌≡◌, List, [], ◌∷◌, Bool, true, false, sym, subst, refl}
 use Rattle.std.specs.Prelude.{Option, None}
 use Rattle.std.specs.List.{last_or}

@@ -1,4 +1,4 @@
--- What holds of the curves of a run wherever it stands; and that it holds at the start.
+-- Properties of the curves of a run in every state; they hold at the start.
 use Rattle.std.proofs.Common.{◌≡◌, ℕ, ◌<◌, List, [], ◌∷◌, length, get_or, if◌then◌else◌, Bool, true, false, sym, ap, subst, refl, ◌∙◌, arith}
 use Rattle.std.specs.Prelude.{Option, Some, slice_get, unwrap_or}
 use Rattle.std.proofs.lemmas.Option.{slice_get-get_or}
@@ -31,7 +31,7 @@ number_is xs v h =
 pub points_is : (curves : List (List Point)) (i : ℕ) (points : List Point) → slice_get curves i ≡ Some points → points_at curves i ≡ points
 points_is curves i points h = ap (λ (o : Option (List Point)). unwrap_or o []) h
 
--- ---- the curves of a standing's flow
+-- ---- the curves of a run state's flow
 module _ (s : Standing) where
   pub label_points : (v : ℕ) (c : GrowingCurve) → slice_get s.label_curves v ≡ Some c → points_at (flow_of s).labels v ≡ c.points
   label_points v c h = points_is (flow_of s).labels v c.points (slice_get-image (λ (c : GrowingCurve). c.points) s.label_curves v c h)
@@ -47,7 +47,7 @@ module _ (s : Standing) where
   pub queue_points : (e : ℕ) (c : LinkCurves) → slice_get s.link_curves e ≡ Some c → points_at (flow_of s).queues e ≡ c.queue.points
   queue_points e c h = points_is (flow_of s).queues e c.queue.points (slice_get-image (λ (c : LinkCurves). c.queue.points) s.link_curves e c h)
 
--- ---- what holds
+-- ---- the properties
 pub record WellRun (net : Network) (s : Standing) : Type 0 where
   pub grow : Grown net s.time s.labels (curves_of (flow_of s))
   pub label_count : length s.label_curves ≡ net.nodes

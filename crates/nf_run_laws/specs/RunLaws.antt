@@ -1,4 +1,4 @@
--- What the report of a phase run says of the network.
+-- Properties of the network that the report of a phase run implies.
 use Rattle.std.specs.Prelude.{◌≡◌, ℕ, suc, ◌<◌, List, length, Option, Some, None, Ok, slice_get}
 use Rattle.nf_rational.specs.Rational.{ℚ}
 use Rattle.nf_rational.specs.Operations.{0ℚ}
@@ -15,32 +15,32 @@ use Rattle.nf_lists.specs.Extend.{extend_list}
 use Rattle.nf_lists.specs.PhaseRun.{Standing, Bounds, IsPhaseRun, IsRunReport, IsShortFlow, flow_of}
 use Rattle.nf_phase_laws.specs.CurveRun.{GrowByPhases, curves_of}
 
--- the curves of a run grow phase by phase from the start
+-- The curves of a run are built phase by phase from the start.
 abbrev pub RunGrowsByPhases : Type 0
 RunGrowsByPhases = (passes : Passing) (net : Network) (bounds : Bounds) (last : Standing) (stop : Option (Cause ℚ)) → IsNetwork net
     → IsPhaseRun passes net bounds last stop
     → GrowByPhases net last.time last.labels (curves_of (flow_of last))
 
--- the flow of a run has a curve of each kind for each node or link
+-- The flow of a run has one curve of each kind for each node or link.
 abbrev pub RunHasShape : Type 0
 RunHasShape = (passes : Passing) (net : Network) (bounds : Bounds) (last : Standing) (stop : Option (Cause ℚ)) → IsNetwork net
     → IsPhaseRun passes net bounds last stop
     → HasShape net (flow_of last)
 
--- the rates of a run are the slopes of its curves
+-- The rates of a run are the slopes of its curves.
 abbrev pub RunHasSlopes : Type 0
 RunHasSlopes = (passes : Passing) (net : Network) (bounds : Bounds) (last : Standing) (stop : Option (Cause ℚ)) → IsNetwork net
     → IsPhaseRun passes net bounds last stop
     → HasSlopes (flow_of last).inflows × HasSlopes (flow_of last).outflows
 
--- the report of a phase run is an equilibrium
+-- The report of a phase run is an equilibrium.
 abbrev pub RunReportIsEquilibrium : Type 0
 RunReportIsEquilibrium = (passes : Passing) (net : Network) (bounds : Bounds) (report : Report) → IsNetwork net
     → IsRunReport passes net bounds report → Equilibrium net report.flow
 
 -- ---- short form
 
--- the curves of a run are in short form, and so are those of its report
+-- The curves of a run are in short form, and so are those of its report.
 pub record RunIsShort : Type 0 where
   pub run : (passes : Passing) (net : Network) (bounds : Bounds) (last : Standing) (stop : Option (Cause ℚ)) → IsNetwork net
       → IsPhaseRun passes net bounds last stop
@@ -50,18 +50,18 @@ pub record RunIsShort : Type 0 where
 
 -- ---- labels
 
--- a standing keeps the label of each node: the value of its label curve at the departure reached
+-- The labels of a run state are the values of the label curves at the departure reached.
 pub record KeepsLabels (net : Network) (s : Standing) : Type 0 where
   pub count : length s.labels ≡ net.nodes
   pub values : (v : ℕ) → v < net.nodes → number_at s.labels v ≡ label (flow_of s) v s.time
 
--- so does that to which a run has come
+-- `KeepsLabels` holds for the last state of a run.
 abbrev pub RunKeepsLabels : Type 0
 RunKeepsLabels = (passes : Passing) (net : Network) (bounds : Bounds) (last : Standing) (stop : Option (Cause ℚ)) → IsNetwork net
     → IsPhaseRun passes net bounds last stop
     → KeepsLabels net last
 
--- The labels at which a run stands are the earliest arrivals at the nodes, for who leaves the source when it has reached; and those
+-- The labels of a run state are the earliest arrivals at the nodes of particles that leave the source at the departure reached. The labels
 -- of its report are the earliest arrivals for each departure up to there.
 pub record RunLabelsAreEarliest : Type 0 where
   pub run : (passes : Passing) (net : Network) (bounds : Bounds) (last : Standing) (stop : Option (Cause ℚ)) → IsNetwork net
@@ -73,8 +73,7 @@ pub record RunLabelsAreEarliest : Type 0 where
 
 -- ---- phases of a run
 
--- The value of the extend list is the extension length, the greatest length for which the phase may last; and there is none
--- only where it may last for any length.
+-- The value of the extend list is the extension length, the greatest length of the phase. None implies that every length is possible.
 pub record ExtendListIsExtension : Type 0 where
   pub length : (passes : Passing) (net : Network) (slacks slopes : List ℚ) (time length : ℚ) → ArePieces net.pieces
       → extend_list passes net slacks slopes time ≡ Ok (Some length)
@@ -83,12 +82,11 @@ pub record ExtendListIsExtension : Type 0 where
       → extend_list passes net slacks slopes time ≡ Ok None
       → IsUnending net slacks slopes time
 
--- the departure that a run has reached, with the labels there
+-- The departure that a run has reached, with the labels there.
 abbrev pub reached_by : Standing → ℚ × List ℚ
 reached_by s = (s.time, s.labels)
 
--- A run makes a phase sequence of its phases. So each phase sequence to the same horizon with as many phases ends where the run
--- ends; and phases that are cut short are none.
+-- The phases of a run make a phase sequence. Each phase sequence to the same horizon with as many phases ends where the run ends.
 pub record RunIsPhaseSequence : Type 0 where
   pub is_one : (passes : Passing) (net : Network) (bounds : Bounds) (last : Standing) (stop : Option (Cause ℚ)) → IsNetwork net
       → IsPhaseRun passes net bounds last stop

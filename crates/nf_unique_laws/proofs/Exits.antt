@@ -1,4 +1,4 @@
--- Who enters a link in two equilibria leaves it at the same time, and waits as long.
+-- A particle that enters a link in two equilibria leaves it at the same time, and waits as long.
 use Rattle.std.proofs.Common.{◌≡◌, ℕ, sym, ap, ◌∙◌}
 use Rattle.nf_rational.specs.Rational.{ℚ}
 use Rattle.nf_rational.specs.Operations.{0ℚ, ◌+ℚ◌}
@@ -14,7 +14,7 @@ use Rattle.nf_unique_laws.specs.UniqueLaws.{SameInAll}
 use Rattle.nf_unique_laws.proofs.Labels.{labels-same}
 use Rattle.nf_unique_laws.proofs.Queues.{m_one, in_one, in_other, queues-same}
 
--- what is at most two numbers is at most the lesser of them
+-- A number at most two others is at most the lesser of them.
 under_both : (x y z : ℚ) → z ≤ℚ x → z ≤ℚ y → z ≤ℚ min_ℚ x y
 under_both x y z h k = min_keeps (λ (u : ℚ). z ≤ℚ u) x y h k
 

@@ -1,5 +1,5 @@
--- There is a thin flow for the labels of any departure up to which the invariant of phases holds; so for those of an equilibrium, and
--- where a run stands.
+-- There is a thin flow for the labels of any departure up to which the invariant of phases holds. So there is one for the labels of an
+-- equilibrium and of a run state.
 use Rattle.std.proofs.Common.{◌≡◌, ℕ, List, [], ◌∷◌, subst}
 use Rattle.std.specs.Prelude.{Option}
 use Rattle.nf_rational.specs.Rational.{ℚ}
@@ -37,7 +37,7 @@ use Rattle.nf_existence_laws.proofs.Supplied.{IsOversupply-some}
 use Rattle.nf_existence_laws.proofs.Exists.{thin_exists}
 use Rattle.nf_unstopped_laws.specs.ThinFlows.{HasThinFlow}
 
--- ---- where the invariant of phases holds
+-- ---- the invariant of phases holds
 module _ (net : Network) (amount by_label : ℕ → ℚ → ℚ) (until departure : ℚ) (labels : List ℚ) (good : IsNetwork net) (holds : HoldsUpTo net amount by_label until)
     (inside : Within 0ℚ until departure) (are : LabelsAre net by_label departure labels) where
   slack-is : (e : ℕ) (link : Link) → IsLink net e link → link_slack by_label link departure ≡ slack labels (hop_of link)
@@ -64,7 +64,7 @@ pub thin_in_equilibrium : (net : Network) (flow : Flow) (departure : ℚ) (label
     → LabelsAre net (label flow) departure labels → HasThinFlow net departure labels
 thin_in_equilibrium net flow departure labels good is inside are = thin_at net _ (label flow) flow.reached departure labels good (HoldsUpTo-equilibrium net flow good is) inside are
 
--- ---- where a run stands
+-- ---- the labels of a run state
 pub thin_at_standing : (net : Network) (s : Standing) → IsNetwork net → WellRun net s → HasThinFlow net s.time s.labels
 thin_at_standing net s good well =
     let stands = (grown_at net good s well).stands in

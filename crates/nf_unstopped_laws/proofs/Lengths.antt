@@ -1,5 +1,5 @@
--- From a time before the horizon on, each phase has a length: where no operation passes the extend list has a value, which is the
--- extension length, or says that there is none.
+-- At a departure before the horizon, each phase has a length. If no operation exceeds its bound, the extend list gives the extension
+-- length, or None if every length is possible.
 use Rattle.std.proofs.Common.{◌≡◌, List, [], ◌∷◌, inl, inr, Bool, true, false, refl, ap, ◌∙◌}
 use Rattle.std.specs.Prelude.{Option, Some, None, Result, Ok}
 use Rattle.std.specs.List.{enumerate_from}

@@ -1,4 +1,4 @@
--- Wherever a phase sequence comes to, curves stand that have grown by its phases; so there is a thin flow for the labels there.
+-- Each point of a phase sequence has curves built by its phases, so there is a thin flow for the labels there.
 use Rattle.std.proofs.Common.{◌≡◌, ℕ, List, [], ◌∷◌, ◌++◌, if◌then◌else◌, ⊎_elim, Bool, true, false, Option, Some, None, slice_get, sym, ap, subst, refl}
 use Rattle.nf_rational.specs.Rational.{ℚ}
 use Rattle.nf_rational.specs.Operations.{0ℚ, ◌+ℚ◌, ◌*ℚ◌}
@@ -25,7 +25,7 @@ use Rattle.nf_phase_laws.proofs.Still.{leaves_none}
 use Rattle.nf_unstopped_laws.specs.ThinFlows.{HasThinFlow}
 use Rattle.nf_unstopped_laws.proofs.AtLabels.{thin_at}
 
--- curves of inflows and labels that have come to this time, with the labels there
+-- Curves of inflows and labels up to this departure, with the labels there.
 pub record HasCome (net : Network) (time : ℚ) (labels : List ℚ) : Type 0 where
   pub inflows : ℕ → List Point
   pub label_curves : ℕ → List Point
@@ -62,7 +62,7 @@ module _ (net : Network) (labels : List ℚ) (good : IsNetwork net) (least : Are
       let grown : Grown net 0ℚ labels curves = grown_by net 0ℚ labels curves good (begin labels curves least first) in
       record { inflows = curves.inflows; label_curves = curves.labels; stands = grown.stands; curves_stand = grown.curves_stand }
 
--- ---- and after one phase more
+-- ---- after one more phase
 module _ (net : Network) (horizon time time' : ℚ) (labels labels' : List ℚ) (good : IsNetwork net) (phase : IsPhase net horizon (time, labels) (time', labels'))
     (c : HasCome net time labels) where
   abbrev flow : ℕ → ℚ
@@ -80,7 +80,7 @@ module _ (net : Network) (horizon time time' : ℚ) (labels labels' : List ℚ) 
   later : (a d : ℚ) → 0ℚ <ℚ d → a <ℚ a +ℚ d
   later a d h = linear_lt (a ∷ d ∷ []) (lt h ∷ []) (search reading_of depth 12) tt
 
-  -- each label curve goes on by a point, and each inflow where the label of its tail moves
+  -- Each label curve is extended by a point, and each inflow is if the label of its tail rises.
   abbrev new_labels : ℕ → List Point
   new_labels v = c.label_curves v ++ (time +ℚ phase.length, label_at v +ℚ slope v *ℚ phase.length) ∷ []
 

@@ -1,4 +1,4 @@
--- Phase sequences go on, by a thin flow at a time, until they come to the horizon.
+-- Phase sequences are extended, by one thin flow after the other, until they reach the horizon.
 use Rattle.std.proofs.Common.{◌≡◌, ℕ, zero, suc, ◌<◌, ◌≤◌, List, [], ◌∷◌, length, ◌⊎◌, inl, inr, ⊎_elim, Some, slice_get, sym, ap, subst, refl, arith}
 use Rattle.std.proofs.lemmas.Bool.{cases_lt}
 use Rattle.std.proofs.lemmas.Option.{none-some, same_Some}
@@ -31,7 +31,7 @@ module _ (net : Network) (good : IsNetwork net) where
   least_to : (v : ℕ) → v < net.nodes → (least : ℚ) × IsLeastTransit (hops net) net.source v least
   least_to v h = let walk = good.reached v h in least_exists (hops net) not_negative net.source v walk.0 walk.1
 
-  -- 0 beyond the nodes
+  -- The value is 0 beyond the nodes.
   start_label : ℕ → ℚ
   start_label v = ⊎_elim (λ (h : v < net.nodes). (least_to v h).0) (λ (_ : net.nodes ≤ v). 0ℚ) (cases_lt v net.nodes)
 
@@ -54,7 +54,7 @@ module _ (net : Network) (good : IsNetwork net) where
   }
 
   module _ (horizon : ℚ) where
-    -- ---- at each place
+    -- ---- at each point
     pub thin_at_place : (old : ℚ × List ℚ) (rest : List (ℚ × List ℚ)) (place : ℕ) (departure : ℚ) (labels : List ℚ) → HasCome net old.0 old.1 → PhasesFrom net horizon old rest
         → slice_get (old ∷ rest) place ≡ Some (departure, labels) → HasThinFlow net departure labels
     thin_at_place old rest zero departure labels c phases here =
@@ -69,7 +69,7 @@ module _ (net : Network) (good : IsNetwork net) where
     thin_in_sequence (first ∷ rest) place departure labels is here =
         thin_at_place first rest place departure labels (subst (λ (t : ℚ). HasCome net t first.1) (sym is.0) (HasCome-start net first.1 good is.1)) is.2 here
 
-    -- ---- as many phases as one likes
+    -- ---- any number of phases
     abbrev Ends : ℕ → ℚ × List ℚ → List (ℚ × List ℚ) → Type 0
     Ends many old rest = (length rest ≡ many) ⊎ ((suc (length rest) ≤ many) × ComesTo horizon (old ∷ rest))
 

@@ -1,4 +1,5 @@
--- No run stops since no pattern is left: there would be no thin flow for the labels that its flow has reached; but this is an equilibrium.
+-- No run stops because no pattern is left: otherwise there would be no thin flow for the labels that its flow has reached, but the flow is
+-- an equilibrium.
 use Rattle.std.proofs.Common.{ℕ, refl, sym, subst}
 use Rattle.std.specs.Prelude.{Option}
 use Rattle.nf_rational.specs.Rational.{ℚ}
@@ -28,7 +29,7 @@ thin_reached : (net : Network) (flow : Flow) → IsNetwork net → Equilibrium n
 thin_reached net flow good is = thin_in_equilibrium net flow flow.reached (labels_reached net flow) good is (is.reached, ≤ℚ_refl flow.reached)
     (λ v h. sym (number_at-numbers net.nodes (λ v. label flow v flow.reached) v h))
 
--- so what stops only where there is no thin flow, doesn't stop for that
+-- A run that stops only if there is no thin flow doesn't stop for that reason.
 pub never_of : (net : Network) (flow : Flow) (stop : Option (Cause ℚ)) → IsNetwork net → Equilibrium net flow → StopsForNoThinFlow net stop flow → NeverNoPattern stop
 never_of net flow stop good is none phase e =
     let thin : HasThinFlow net flow.reached (labels_reached net flow) = thin_reached net flow good is in
@@ -42,7 +43,7 @@ pub never_run : (passes : Passing) (net : Network) (bounds : Bounds) (last : Sta
 never_run passes net bounds last stop good run =
     never_report passes net bounds (report_of bounds.horizon last stop) good (record { last = last; stop = stop; run = run; report_is = refl })
 
--- ---- those that go on from where one stands
+-- ---- runs from a given run state
 pub never_on : (passes : Passing) (net : Network) (bounds : Bounds) (first last : Standing) (stop : Option (Cause ℚ)) → IsNetwork net → WellRun net first → RunsOn passes net bounds first last stop
     → NeverNoPattern stop
 never_on passes net bounds first last stop good well runs = never_of net (flow_of last) stop good (Equilibrium-well net good last (well_on passes net good bounds first last stop well runs))

@@ -1,4 +1,4 @@
--- No run stops since no pattern is left.
+-- No run stops because no pattern is left.
 use Rattle.std.specs.Prelude.{◌≡◌, ℕ, Option, Some}
 use Rattle.nf_rational.specs.Rational.{ℚ}
 use Rattle.nf_work.specs.Passing.{Passing}
@@ -9,7 +9,7 @@ use Rattle.nf_lists.specs.PhaseRun.{Standing, Bounds, IsPhaseRun, IsRunReport}
 use Rattle.nf_forever_lists.specs.ForeverRun.{Forever, IsForever}
 use Rattle.nf_resume_lists.specs.Meanings.{IsResumedReport}
 
--- a run with this stop, or with none, did not stop since no pattern was left
+-- The stop, if there is one, is not that no pattern is left.
 abbrev pub NeverNoPattern : Option (Cause ℚ) → Type 0
 NeverNoPattern stop = (phase : ℕ) → stop ≡ Some (Cause.NoPattern phase) → ⊥
 

@@ -1,4 +1,4 @@
--- Wherever a run stands, there is a thin flow.
+-- Thin flows exist at every run state.
 use Rattle.std.specs.Prelude.{◌≡◌, ℕ, List, Option, Some, slice_get}
 use Rattle.nf_rational.specs.Rational.{ℚ}
 use Rattle.nf_rational.specs.Operations.{0ℚ}
@@ -15,13 +15,13 @@ use Rattle.nf_phase_laws.specs.Invariant.{LabelsAre}
 use Rattle.nf_forever_lists.specs.ForeverRun.{End, IsForeverRun}
 use Rattle.nf_resume_lists.specs.Meanings.{IsResumed}
 
--- for the sets of these labels and the supply rate at this departure
+-- A thin flow exists for the sets of these labels and the supply rate at this departure.
 abbrev pub HasThinFlow : Network → ℚ → List ℚ → Type 0
 HasThinFlow net departure labels = (flows : List ℚ) × (slopes : List ℚ)
     × IsThinFlow net (sets_at net labels) (rate_at net departure) flows slopes
 
--- So it is at the labels of an equilibrium, at each departure that it describes; at those of each place in a phase sequence; and where
--- a run ends, from the start, resumed from a report or without a horizon, however many phases it may make.
+-- There is a thin flow at the labels of an equilibrium, at each departure that it describes. There is one at each point of a phase
+-- sequence, and where a run ends: from the start, resumed from a report or without a horizon, for any number of phases.
 pub record LabelsHaveThinFlow : Type 0 where
   pub equilibrium : (net : Network) (flow : Flow) (departure : ℚ) (labels : List ℚ) → IsNetwork net → Equilibrium net flow
       → Within 0ℚ flow.reached departure

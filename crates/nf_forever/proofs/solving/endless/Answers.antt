@@ -8,7 +8,7 @@ use Rattle.nf_forever_lists.specs.Tails.{Tail}
 use Rattle.nf_forever_lists.specs.ForeverRun.{Forever, NeverEnds, forever_of}
 use Rattle.nf_forever.proofs.solving.endless.Goals as goal
 
--- a run that never ends is told by its flow, its phases, its last pattern and its tail
+-- The result of a run that never ends has its flow, its phases, its last pattern and its tail.
 told : (s : Standing) (flow : Flow) (phases : ℕ) (last : Pattern) (tail : Tail) → flow ≡ flow_of s → phases ≡ s.made
     → ◌≡◌ {A = Forever} (record { flow = flow; phases = phases; last = last; stop = None; tail = Some tail }) (forever_of s (NeverEnds last tail))
 told s flow phases last tail e f =

@@ -8,7 +8,7 @@ use Rattle.nf_lists.specs.PhaseRun.{Standing, flow_of}
 use Rattle.nf_forever_lists.specs.ForeverRun.{Forever, Stops, forever_of}
 use Rattle.nf_forever.proofs.solving.stopped.Goals as goal
 
--- a run that stops is told by its flow, its phases, its last pattern and the stop
+-- The result of a stopped run has its flow, its phases, its last pattern and the stop.
 told : (s : Standing) (flow : Flow) (phases : ℕ) (last : Pattern) (stop : Cause ℚ) → flow ≡ flow_of s → phases ≡ s.made → last ≡ s.last
     → ◌≡◌ {A = Forever} (record { flow = flow; phases = phases; last = last; stop = Some stop; tail = None }) (forever_of s (Stops stop))
 told s flow phases last stop e f g =

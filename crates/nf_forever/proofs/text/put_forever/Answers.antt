@@ -12,7 +12,7 @@ use Rattle.nf_forever.specs.Parts.{head_lines, end_lines}
 use Rattle.nf_forever.proofs.Joined.{one_by_one}
 use Rattle.nf_forever.proofs.text.put_forever.Goals as goal
 
--- the parts are the whole text
+-- The parts make the whole text.
 whole : (n : Named) (f : Forever) → head_lines f.flow.reached f.stop ++ flow_lines n f.flow ++ end_lines n f ≡ forever_lines n f
 whole n f = one_by_one (head_lines f.flow.reached f.stop) (flow_lines n f.flow) (for_each (length n.net.links) (state_lines n f.last)) (tail_lines n f.tail) ((codes "end" ∷ []) ∷ [])
 

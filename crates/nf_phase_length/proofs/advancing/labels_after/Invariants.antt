@@ -3,6 +3,6 @@ use Rattle.nf_lists.specs.Advance.{label_after}
 use Rattle.nf_lists_laws.proofs.Numbered.{SoFar}
 use Rattle.nf_phase_length.proofs.advancing.labels_after.Given as goal
 
--- the labels so far stand before what comes of the other nodes
+-- The labels so far precede those of the other nodes.
 abbrev pub invariant-loop-v : goal.invariant-loop-v
 invariant-loop-v l = SoFar (label_after passes_Q l.length l.slopes) l.labels l.moved.items l.v

@@ -141,7 +141,7 @@ same-self-in_default c = refl
 pub same-self-2 : goal.same-self-2
 same-self-2 c = refl
 
--- ---- what holds wherever a run comes to; where no phase is made the run stands where it stood
+-- ---- facts on every reachable run state; without a phase the run state is unchanged
 pub returns-clause-equilibrium : goal.returns-clause-equilibrium
 returns-clause-equilibrium c = equilibrium_reached passes_Q c.args.net.now.net c.find.ensures.named.network _ (returns-clause-reaches c)
 
