@@ -1,4 +1,4 @@
--- Lines of a text that is put together in memory.
+-- Lines of a text built in memory.
 use Rattle.std.proofs.Common.{◌≡◌, ℕ, ◌+◌, List, [], ◌∷◌, ◌++◌, length, take, refl, sym, ap, ◌∙◌, append_assoc, append-nil, zero-add}
 use Rattle.std.specs.Prelude.{Some, slice_get, flat_map, codes}
 use Rattle.std.specs.List.{enumerate_from}

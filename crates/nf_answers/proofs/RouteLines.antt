@@ -1,4 +1,4 @@
--- The curves of links in the order of their numbers, told in two ways.
+-- The curves of links in order of number, in two forms.
 use Rattle.std.proofs.Common.{◌≡◌, ℕ, suc, ◌+◌, List, [], ◌∷◌, ◌++◌, length, refl, sym, ap, ◌∙◌, zero-add, arith}
 use Rattle.std.specs.Prelude.{Option, Some, flat_map, slice_get, unwrap_or, map}
 use Rattle.std.specs.List.{enumerate_from, range_with_len}
@@ -12,7 +12,7 @@ use Rattle.nf_routes_lists.specs.RoutesList.{Routed}
 use Rattle.nf_routes_lists.specs.Meanings.{link_loaded}
 use Rattle.nf_routes_lists.specs.RoutesText.{link_curve_lines}
 
--- what is made of numbered elements is made of their numbers, where these tell the elements
+-- a map over numbered elements is a map over the numbers, if the numbers determine the elements
 by_number : {X A : Type 0} (f : ℕ × X → List A) (g : ℕ → X) (xs : List X) (k : ℕ) → ((i : ℕ) (x : X) → slice_get xs i ≡ Some x → g (k + i) ≡ x)
     → flat_map f (enumerate_from k xs) ≡ flat_map (λ e. f (e, g e)) (range_with_len k (length xs))
 by_number f g [] k h = refl

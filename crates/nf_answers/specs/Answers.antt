@@ -1,4 +1,4 @@
--- What a run of the program answers: its status, and what it writes to its two sinks.
+-- The answers of the program, with statuses and texts.
 use Rattle.std.specs.Prelude.{ℕ, List, [], Option, Some, None}
 use Rattle.nf_rational.specs.Rational.{ℚ}
 use Rattle.nf_work.specs.declared.PassedAt.{PassedAt}
@@ -28,13 +28,15 @@ use Rattle.nf_answers.specs.GenText.{gen_text}
 use Rattle.nf_answers.specs.declared.arrival.Arrival.{Arrival}
 use Rattle.nf_answers.specs.declared.status.Status.{Status}
 
--- `Solved`: a report of the network of the file. `SolvedForever`: a run in it without a horizon. `Shown`: that network. `Loaded`: of each of its links the loading up to a horizon.
--- `Checked`: whether the flow of a report is an equilibrium. `Quickest`: a quickest flow, beside the arrival in an equilibrium. `TooManyWalks`: those that were pushed for it, as many as allowed.
--- `Generated`: a run in the ladder of a number with so many rungs, which made so many phases.
--- `Distributed`: what becomes of inflow along routes, up to a horizon. `Settled`: the pattern and the flows to which a thin flow is settled. `NotThin`: the flows and slopes of the file are no thin flow.
--- `Earlier`: the horizon is before the departure that the report's flow has reached.
--- `Unbounded`: there is no quickest flow, since a walk of unbounded links leads to the sink. `Passes`: an operation of the command's
--- list passes the bound.
+-- The answers of the program.
+-- `Solved`: the report of a run in the file's network. `SolvedForever`: a run in it without a horizon. `Shown`: the network. `Loaded`: the
+-- loading of each of its links up to a horizon. `Checked`: the verdict on the flow of a report. `Quickest`: a quickest flow, and the
+-- arrival in an equilibrium. `TooManyWalks`: the walks pushed for a quickest flow, as many as allowed. `Generated`: the run in the ladder
+-- of a number and its rungs, with its number of phases. `Distributed`: the loading along routes up to a horizon. `Settled`: the pattern and
+-- the flows of a settled thin flow.
+-- `NotThin`: the flows and slopes of the file are not a thin flow. `Earlier`: the horizon is before the departure that the report's flow
+-- has reached. `Unbounded`: a walk of unbounded links leads to the sink, so there is no quickest flow. `Passes`: an operation of the
+-- command's operation sequence passes the bound.
 pub data ProgramAnswer : Type 0 where
   Solved : Named → Report → ProgramAnswer
   SolvedForever : Named → Forever → ProgramAnswer
@@ -89,7 +91,7 @@ abbrev pub status_of_stop : Option (Cause ℚ) → Status
 status_of_stop None = Status.Ok
 status_of_stop (Some cause) = status_of_cause cause
 
--- without a horizon the budget of phases has a status of its own
+-- without a horizon, the budget of phases has its own status
 abbrev pub status_of_forever : Option (Cause ℚ) → Status
 status_of_forever (Some (Cause.Phases made)) = Status.Events
 status_of_forever stop = status_of_stop stop
@@ -123,7 +125,7 @@ status_of Unbounded = Status.Unbounded
 status_of NotThin = Status.NotThin
 status_of Earlier = Status.Earlier
 
--- ---- what is written
+-- ---- the texts
 abbrev pub out_text : ProgramAnswer → List ℕ
 out_text (Solved n report) = report_text n report
 out_text (SolvedForever n forever) = forever_text n forever
@@ -137,7 +139,7 @@ out_text (Settled n pattern flows) = settled_text n pattern flows
 out_text (Distributed n routes horizon routed) = routed_text n routes horizon routed
 out_text answer = []
 
--- the answers that have a text for the output, all but the refusals
+-- the answers with a text for the output: all but the refusals
 abbrev pub HasOutput : ProgramAnswer → Type 0
 HasOutput NoMemory = ⊥
 HasOutput NoRequest = ⊥

@@ -1,4 +1,4 @@
--- What the program writes to standard error.
+-- The texts on standard error.
 use Rattle.std.specs.Prelude.{ℕ, List, [], ◌∷◌, ◌++◌, flat_map, Some, None, codes}
 use Rattle.nf_rational.specs.Rational.{ℚ}
 use Rattle.nf_work.specs.declared.PassedAt.{PassedAt}
@@ -17,7 +17,7 @@ use Rattle.nf_complete_lists.specs.RuleWords.{flows_rule_word}
 use Rattle.nf_routes_lists.specs.RoutesFile.{RoutesBroken}
 use Rattle.nf_routes_lists.specs.RuleWords.{routes_rule_word}
 
--- a line of the program about itself
+-- a line that starts with the program's name
 abbrev pub said : List (List ℕ) → List ℕ
 said words = line_of_words (codes "nfot:" ∷ words)
 
@@ -69,7 +69,7 @@ rule_word N20 = codes "N20"
 rule_word N21 = codes "N21"
 rule_word N22 = codes "N22"
 
--- `nfot: FILE line L: RULE`, for a file of some kind and a rule's word
+-- `nfot: FILE line L: RULE`, where FILE is the kind of file
 abbrev pub broken_line : List ℕ → ℕ → List ℕ → List ℕ
 broken_line file number rule = said (file ∷ codes "line" ∷ (digits_of number ++ codes ":") ∷ rule ∷ [])
 
@@ -88,11 +88,11 @@ routes_line broken = broken_line (codes "routes") broken.line (routes_rule_word 
 abbrev pub report_line : ReportBroken → List ℕ
 report_line broken = broken_line (codes "report") broken.line (report_rule_word broken.rule)
 
--- a run that stopped
+-- the line of a run that stopped
 abbrev pub stopped_line : Cause ℚ → List ℕ
 stopped_line cause = said (codes "stopped:" ∷ cause_words (Some cause))
 
--- a command of one call, in which an operation passes: there is no phase and no place
+-- the line of an operation that passes in a command without phases: it has no phase and no rank
 abbrev pub passed_line : PassedAt ℚ → List ℕ
 passed_line at = said (codes "stopped:" ∷ passed_words None None at)
 
@@ -102,7 +102,7 @@ output_line = said (codes "output" ∷ [])
 abbrev pub no_equilibrium_line : List ℕ
 no_equilibrium_line = said (codes "no" ∷ codes "equilibrium" ∷ [])
 
--- with the budget
+-- the line of a quickest flow that exceeds its budget of walks
 abbrev pub augments_line : ℕ → List ℕ
 augments_line budget = said (codes "augments" ∷ digits_of budget ∷ [])
 

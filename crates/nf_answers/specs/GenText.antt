@@ -1,4 +1,4 @@
--- What `gen` writes: a summary of a run in a generated ladder.
+-- The printed answer of `gen`.
 use Rattle.std.specs.Prelude.{ℕ, List, [], ◌∷◌, ◌++◌, length, flat_map, Option, codes}
 use Rattle.nf_rational.specs.Rational.{ℚ}
 use Rattle.nf_numerals.specs.Digits.{digits_of}
@@ -14,15 +14,15 @@ use Rattle.nf_formats.specs.Report.{Report}
 abbrev pub ladder_lines : ℕ → ℕ → List (List (List ℕ))
 ladder_lines number rungs = (codes "gen" ∷ digits_of number ∷ digits_of rungs ∷ []) ∷ []
 
--- how large the network is
+-- the numbers of nodes and links
 abbrev pub size_lines : Named → List (List (List ℕ))
 size_lines n = (codes "nodes" ∷ digits_of n.net.nodes ∷ []) ∷ (codes "links" ∷ digits_of (length n.net.links) ∷ []) ∷ []
 
--- how many phases were made, and which departure was reached
+-- the number of phases, and the departure reached
 abbrev pub run_lines : ℕ → ℚ → List (List (List ℕ))
 run_lines made reached = (codes "phases" ∷ digits_of made ∷ []) ∷ (codes "reached" ∷ printed reached ∷ []) ∷ []
 
--- why the run ended, and when who departs last arrives at the sink
+-- the cause of the run's end, and the arrival of the last departure at the sink
 abbrev pub end_lines : Option (Cause ℚ) → ℚ → List (List (List ℕ))
 end_lines stop arrival = (codes "cause" ∷ cause_words stop) ∷ (codes "arrival" ∷ printed arrival ∷ []) ∷ []
 

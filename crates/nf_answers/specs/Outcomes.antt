@@ -1,4 +1,4 @@
--- What an outcome of a request stands for: the answer, and its text.
+-- Outcomes of the code, as answers of the definitions.
 use Rattle.std.specs.Prelude.{◌≡◌, ℕ, List, length, map, Option, None}
 use Rattle.nf_rational.specs.Rational.{ℚ}
 use Rattle.nf_formats.specs.declared.Cause.{Cause}
@@ -31,9 +31,10 @@ answer_with net (Computed.Generated ladder horizon s arrival) = Generated ladder
 answer_with net (Computed.Settled settled) = Settled net settled.pattern settled.flows.items
 answer_with net (Computed.Distributed routes horizon routed) = Distributed net routes horizon (routed_of routed)
 
--- A report is well formed, so that it has a text; so is a run without a horizon. The canonical text is that of the network. Each loading is that of a link.
--- The text of a quickest flow is that of all but the arrival. The arrival of a generated run is that of who departs last. Settled flows
--- have an entry for each link, and so has their pattern. What is loaded by route has curves for each link and for each route.
+-- The result satisfies the conditions of its text. A report, and a run without a horizon, are well formed. The canonical text is that of
+-- the network. Each link has a loading. The text of a quickest flow holds all but the arrival. The arrival of a generated run is that of
+-- the last departure. Settled flows and their pattern have an entry for each link. A loading by route has curves for each link and for each
+-- route.
 abbrev pub HasTextWith : Named → Computed → Type 0
 HasTextWith net (Computed.Solved horizon s) = IsWellFormed net.net (report_in horizon s)
 HasTextWith net (Computed.SolvedForever forever) = HasForm net.net (forever_in forever)
@@ -61,7 +62,7 @@ text_with net (Computed.Generated ladder horizon s arrival) = gen_text ladder.nu
 text_with net (Computed.Settled settled) = settled_text net settled.pattern settled.flows.items
 text_with net (Computed.Distributed routes horizon routed) = routed_text net routes horizon (routed_of routed)
 
--- why the run stopped that it tells of
+-- why the run of the result stopped, if it did
 abbrev pub stop_of : Computed → Option (Cause ℚ)
 stop_of (Computed.Solved horizon s) = s.stopped
 stop_of (Computed.SolvedForever forever) = forever.stopped
@@ -74,7 +75,7 @@ stop_of (Computed.Generated ladder horizon s arrival) = s.stopped
 stop_of (Computed.Settled settled) = None
 stop_of (Computed.Distributed routes horizon routed) = None
 
--- ---- the same of an outcome
+-- ---- the same for an outcome
 abbrev pub answer_in : Outcome → ProgramAnswer
 answer_in outcome = answer_with outcome.net outcome.found
 

@@ -1,4 +1,4 @@
--- What `quick` writes.
+-- The printed answer of `quick`.
 use Rattle.std.specs.Prelude.{ℕ, List, [], ◌∷◌, ◌++◌, if◌then◌else◌, flat_map, map, Some, codes}
 use Rattle.std.specs.List.{enumerate_from}
 use Rattle.nf_rational.specs.Rational.{ℚ}
@@ -21,7 +21,7 @@ walk_line names fed = line_of_words (codes "walk" ∷ printed fed.rate ∷ map (
 abbrev pub cut_line : List Name → ℕ × ℚ → List ℕ
 cut_line names (v, time) = line_of_words (codes "cut" ∷ name_at names v ∷ printed time ∷ [])
 
--- its time, its walks, its cut and the cut's value
+-- the flow's time, its walks, its cut, and the cut's value
 abbrev pub flow_text : Named → Quick → List ℕ
 flow_text n quick =
     line_of_words (codes "quick" ∷ printed quick.time ∷ [])
@@ -41,8 +41,8 @@ arrival_text arrival = line_of_words (codes "equilibrium" ∷ arrival_words arri
 abbrev pub quick_text : Named → Quick → Arrival → List ℕ
 quick_text n quick arrival = flow_text n quick ++ arrival_text arrival
 
--- ---- walks that were pushed
--- `+LINK`, or `-LINK` where the step goes back
+-- ---- pushed walks
+-- `+LINK`, or `-LINK` if the step goes backward
 abbrev pub step_word : List Name → Step → List ℕ
 step_word names step = (if step.forward then 43 else 45) ∷ name_at names step.link
 

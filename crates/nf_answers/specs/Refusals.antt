@@ -1,4 +1,4 @@
--- What a refusal stands for, and which refusal a fault is.
+-- Refusals of the code, as answers of the definitions.
 use Rattle.nf_edge.specs.declared.FetchFault.{FetchFault}
 use Rattle.nf_edge.specs.declared.FetchFault.TheVariants.{Failed, TooLong, Memory}
 use Rattle.nf_rational.specs.Rational.{ℚ}

@@ -1,14 +1,14 @@
-// The arrival beside a quickest flow.
+// Arrivals in an equilibrium.
 use nf_curve::Stop;
 use nf_frac::Q;
 
-/// When the flow arrives of which an amount is to be supplied, in an equilibrium.
+/// The arrival of an amount in an equilibrium.
 #[derive(Clone, Copy)]
 pub enum Arrival {
     /// The amount is never supplied.
     Never,
     /// The arrival at the sink, a time.
     At(Q),
-    /// The run ended before the departure.
+    /// The run ended before the departure by which the amount is supplied.
     Stopped(Stop),
 }

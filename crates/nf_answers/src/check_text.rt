@@ -27,7 +27,7 @@ fn rule_text(rule: CheckRule) -> &'static [u8]
     }
 }
 
-// The name of what a rule was broken by.
+// Returns the name of the node or link that breaks a rule.
 fn subject_text(net: &Network, subject: Subject) -> &[u8]
     ensures { result.now ≡ subject_word net.now subject }
 {
@@ -37,7 +37,7 @@ fn subject_text(net: &Network, subject: Subject) -> &[u8]
     }
 }
 
-// A number as a word.
+// Returns a number as text.
 fn number_text(number: Q) -> TextBuf
     ensures { result ≡ printed number }
 {
@@ -46,7 +46,7 @@ fn number_text(number: Q) -> TextBuf
     word
 }
 
-// The line of a rule that is broken.
+// Writes the line of a broken rule, from its words.
 fn write_no<O: Sink>(
     out: &mut O,
     rule: &[u8],
@@ -61,7 +61,7 @@ fn write_no<O: Sink>(
     write_line(out, b"no", &[rule, subject, time, left, right])
 }
 
-// The line of the same, by the rule's number, the node or link, the time and the two values.
+// Writes the line of a broken rule: the rule, the node or link, the time and the two values.
 fn write_broken_rule<O: Sink>(
     out: &mut O,
     net: &Network,
@@ -86,8 +86,10 @@ fn write_broken_rule<O: Sink>(
     )
 }
 
-/// Writes the line of a verdict: `yes`, or `no` with the first rule that is broken, by which node or link, the time, and the two
-/// values that differ there. Where the sink fails, it has taken the first bytes, and not all of them. It takes no memory.
+/// Writes the line of a verdict. A `no` holds the first broken rule, the node or link that breaks it, the time, and two different values.
+/// Allocates nothing.
+///
+/// The first fault ends the writing; the sink then took a proper prefix of the line.
 pub fn write_verdict<O: Sink>(out: &mut O, net: &Network, verdict: &Answer) -> Result<(), SinkFault>
     ensures { Wrote (O.took out.old) (O.took out.new) (O.faults out.old) (O.faults out.new) (answer_text net.now verdict.now) result }
 {

@@ -18,14 +18,14 @@ use nf_numerals::write_count;
 use nf_phase::Solution;
 use nf_report::{write_line, write_stop};
 
-/// Which ladder is generated: its number, and how many rungs it has.
+/// The number and the rungs of a generated ladder.
 #[derive(Clone, Copy)]
 pub struct Ladder {
     pub number: u64,
     pub rungs: u32,
 }
 
-// A count behind its name.
+// Writes a line: the name, and a count.
 fn write_counted<O: Sink>(out: &mut O, name: &[u8], count: u64) -> Result<(), SinkFault>
     ensures { WroteLines (O.took out.old) (O.took out.new) (O.faults out.old) (O.faults out.new)
         ((name.now ∷ digits_of count ∷ []) ∷ []) result }
@@ -35,7 +35,7 @@ fn write_counted<O: Sink>(out: &mut O, name: &[u8], count: u64) -> Result<(), Si
     write_line(out, name, &[word.text()])
 }
 
-// A number behind its name.
+// Writes a line: the name, and a number.
 fn write_number<O: Sink>(out: &mut O, name: &[u8], number: Q) -> Result<(), SinkFault>
     ensures { WroteLines (O.took out.old) (O.took out.new) (O.faults out.old) (O.faults out.new)
         ((name.now ∷ printed number ∷ []) ∷ []) result }
@@ -45,7 +45,7 @@ fn write_number<O: Sink>(out: &mut O, name: &[u8], number: Q) -> Result<(), Sink
     write_line(out, name, &[word.text()])
 }
 
-// The number of a ladder, and how many rungs it has.
+// Writes the line of a ladder: its number, and its number of rungs.
 fn write_ladder<O: Sink>(out: &mut O, ladder: Ladder) -> Result<(), SinkFault>
     ensures { WroteLines (O.took out.old) (O.took out.new) (O.faults out.old) (O.faults out.new)
         (ladder_lines ladder.number ladder.rungs) result }
@@ -57,7 +57,7 @@ fn write_ladder<O: Sink>(out: &mut O, ladder: Ladder) -> Result<(), SinkFault>
     write_line(out, b"gen", &[first.text(), second.text()])
 }
 
-// How many nodes and links there are.
+// Writes the numbers of nodes and links.
 fn write_size<O: Sink>(out: &mut O, net: &Network) -> Result<(), SinkFault>
     ensures { WroteLines (O.took out.old) (O.took out.new) (O.faults out.old) (O.faults out.new) (size_lines net.now) result }
 {
@@ -65,7 +65,7 @@ fn write_size<O: Sink>(out: &mut O, net: &Network) -> Result<(), SinkFault>
     write_counted(out, b"links", u64::from(net.link_count()))
 }
 
-// How far the run came.
+// Writes the number of phases, and the departure reached.
 fn write_run<O: Sink>(out: &mut O, phases: u64, reached: Q) -> Result<(), SinkFault>
     ensures { WroteLines (O.took out.old) (O.took out.new) (O.faults out.old) (O.faults out.new) (run_lines phases reached) result }
 {
@@ -73,7 +73,7 @@ fn write_run<O: Sink>(out: &mut O, phases: u64, reached: Q) -> Result<(), SinkFa
     write_number(out, b"reached", reached)
 }
 
-// Why the run ended.
+// Writes the cause of the run's end, or `done` without a stop.
 fn write_cause<O: Sink>(out: &mut O, stop: Option<&Stop>) -> Result<(), SinkFault>
     ensures { WroteLines (O.took out.old) (O.took out.new) (O.faults out.old) (O.faults out.new)
         ((codes "cause" ∷ cause_words (option_copied stop.entry)) ∷ []) result }
@@ -84,7 +84,7 @@ fn write_cause<O: Sink>(out: &mut O, stop: Option<&Stop>) -> Result<(), SinkFaul
     }
 }
 
-// Why the run ended, and when who departs last arrives.
+// Writes the cause of the run's end, and the arrival of the last departure.
 fn write_end<O: Sink>(out: &mut O, stop: Option<&Stop>, arrival: Q) -> Result<(), SinkFault>
     ensures { WroteLines (O.took out.old) (O.took out.new) (O.faults out.old) (O.faults out.new)
         (end_lines (option_copied stop.entry) arrival) result }
@@ -93,9 +93,11 @@ fn write_end<O: Sink>(out: &mut O, stop: Option<&Stop>, arrival: Q) -> Result<()
     write_number(out, b"arrival", arrival)
 }
 
-/// Writes the summary of a run in a ladder: its number and its rungs, how large the network is, how many phases were made,
-/// the departure that was reached, why the run ended, and the arrival at the sink of who departs last, a time. Where the sink fails, it has
-/// taken the first bytes, and not all of them. It takes no memory.
+/// Writes the summary of a run in a ladder. The summary holds the ladder, the size of the network, the number of phases and the departure
+/// reached. The cause of the run's end and `arrival` follow. `arrival` is the time at which the last departure reaches the sink. Allocates
+/// nothing.
+///
+/// The first fault ends the writing; the sink then took a proper prefix of the text.
 pub fn write_summary<O: Sink>(
     out: &mut O,
     net: &Network,
@@ -107,7 +109,7 @@ pub fn write_summary<O: Sink>(
         → Wrote (O.took out.old) (O.took out.new) (O.faults out.old) (O.faults out.new)
         (gen_text ladder.number ladder.rungs net.now solution.now.phases (report_in horizon solution.now)) result }
 
-    // The same lines with any arrival.
+    // `lines` states the same for any `arrival`, line by line.
     ensures lines { WroteLines (O.took out.old) (O.took out.new) (O.faults out.old) (O.faults out.new)
         (ladder_lines ladder.number ladder.rungs ++ size_lines net.now ++ run_lines solution.now.phases solution.now.flow.reached
         ++ end_lines solution.now.stopped arrival) result }

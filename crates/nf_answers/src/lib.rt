@@ -1,6 +1,5 @@
-//! What a run can answer: what was found with a network, or why nothing was; the status of each, and its text for the output and for
-//! standard error. Texts for the output are written into a sink, and take no memory, but for two that are put together before: those
-//! of a quickest flow and of the walks that were pushed for one.
+//! The answers and refusals of the program, with their statuses and their texts for output and standard error. Texts for the output are
+//! written to a sink without allocation. Two texts are built in memory first: those of a quickest flow, and of the walks pushed for one.
 #![tactic(auto)]
 
 mod arrival;

@@ -14,7 +14,7 @@ use nf_load::Loaded;
 use nf_net::{LinkId, Network};
 use nf_report::{write_curve, write_line};
 
-/// Writes the first two lines, of which the first says what the text is.
+/// Writes the first two lines: the kind of the text with its version 1, and the horizon.
 pub(crate) fn write_head<O: Sink>(out: &mut O, key: &[u8], horizon: Q) -> Result<(), SinkFault>
     ensures { WroteLines (O.took out.old) (O.took out.new) (O.faults out.old) (O.faults out.new)
         ((key.now ∷ codes "1" ∷ []) ∷ (codes "horizon" ∷ printed horizon ∷ []) ∷ []) result }
@@ -25,7 +25,7 @@ pub(crate) fn write_head<O: Sink>(out: &mut O, key: &[u8], horizon: Q) -> Result
     write_line(out, b"horizon", &[word.text()])
 }
 
-// The curves of a link.
+// Writes the curves of a link.
 fn write_curves<O: Sink>(
     out: &mut O,
     net: &Network,
@@ -42,7 +42,7 @@ fn write_curves<O: Sink>(
     write_curve(out, b"exit", name, &loaded.exit)
 }
 
-/// Writes the curves of the links: of each its queue, its outflow and its exits.
+/// Writes the queue, outflow and exit curves of each link.
 pub(crate) fn write_links<O: Sink>(
     out: &mut O,
     net: &Network,
@@ -59,8 +59,9 @@ pub(crate) fn write_links<O: Sink>(
     Ok(())
 }
 
-/// Writes the loadings of the links of a network up to a horizon, a time: of each link its queue, its outflow and its exits. Where the sink
-/// fails, it has taken the first bytes, and not all of them. It takes no memory.
+/// Writes the loadings of a network's links up to a horizon, a time: the queue, outflow and exit curves of each link. Allocates nothing.
+///
+/// The first fault ends the writing; the sink then took a proper prefix of the text.
 pub fn write_loads<O: Sink>(
     out: &mut O,
     net: &Network,

@@ -1,4 +1,4 @@
-// What a request gives with its network: a text for the output.
+// Results of requests.
 ghost use Rattle.std.specs.Prelude.{◌≡◌};
 ghost use Rattle.std.specs.Option.{option_copied};
 ghost use Rattle.nf_answers.specs.Outcomes.{stop_of};
@@ -16,15 +16,15 @@ use nf_phase::Solution;
 use nf_quick::{Augment, Quick};
 use nf_routes::{Routed, Routes};
 
-/// What a request gives with its network.
+/// The result of a request in its network.
 #[derive(Drop)]
 pub enum Computed {
-    /// What solving the network to a horizon gave.
+    /// The run up to a horizon.
     Solved {
         horizon: Q,
         solution: Solution,
     },
-    /// What solving the network without a horizon gave.
+    /// The run without a horizon.
     SolvedForever {
         forever: Forever,
     },
@@ -37,34 +37,34 @@ pub enum Computed {
         horizon: Q,
         links: Vec<Loaded>,
     },
-    /// Whether the flow of a report is an equilibrium, or which rule it breaks first.
+    /// The verdict on the flow of a report.
     Checked {
         verdict: Answer,
     },
-    /// A quickest flow with its text, and the arrival in an equilibrium.
+    /// A quickest flow with its text and arrival.
     Quickest {
         quick: Quick,
         arrival: Arrival,
         text: Vec<u8>,
     },
-    /// The walks that were pushed for a quickest flow, as many as allowed, with their text.
+    /// The quickest flow exceeds its budget of walks. `walks` holds the pushed walks, as many as allowed, and `text` is their text.
     TooManyWalks {
         augments: u64,
         walks: Vec<Augment>,
         text: Vec<u8>,
     },
-    /// What solving a ladder to a horizon gave, and the arrival at the sink of who departs last.
+    /// The run in a ladder up to a horizon. `arrival` is the arrival of the last departure at the sink.
     Generated {
         ladder: Ladder,
         horizon: Q,
         solution: Solution,
         arrival: Q,
     },
-    /// What the thin flow of a flows file is settled to.
+    /// A settled thin flow.
     Settled {
         settled: Settled,
     },
-    /// What becomes of inflow along the routes of a file, up to a horizon.
+    /// The loading along the routes of a file, up to a horizon.
     Distributed {
         routes: Routes,
         horizon: Q,
@@ -73,7 +73,7 @@ pub enum Computed {
 }
 
 impl Computed {
-    /// Why the run stopped that it tells of, if it did.
+    /// Returns why the run of the result stopped, if it did. Results without a run have no stop.
     pub fn stop(&self) -> Option<&Stop>
         ensures { option_copied result ≡ stop_of self.now }
     {
@@ -92,7 +92,7 @@ impl Computed {
     }
 }
 
-/// A network, with what a request gives with it.
+/// A network, and a request's result in it.
 #[derive(Drop)]
 pub struct Outcome {
     pub net: Network,

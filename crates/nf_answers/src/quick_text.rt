@@ -1,4 +1,4 @@
-// The text of a quickest flow, and of the arrival beside it.
+// The texts of quickest flows and arrivals.
 ghost use Rattle.std.specs.Prelude.{◌≡◌, ◌<◌, [], ◌∷◌, ◌++◌, length, flat_map, map, OnOk, IfOk};
 ghost use Rattle.std.specs.List.{enumerate_from};
 ghost use Rattle.nf_numerals.specs.Printed.{printed};
@@ -17,7 +17,7 @@ use nf_quick::{Quick, Rated};
 use nf_report::{write_line, write_stop};
 use std::alloc::{AllocError, Global};
 
-// The line of a number.
+// Appends a line: the word, and a number.
 fn put_line(text: &mut Vec<u8>, key: &[u8], number: Q) -> Result<(), AllocError>
     ensures { OnOk result (text.new.items ≡ text.old.items ++ line_of_words (key.now ∷ printed number ∷ [])) }
 {
@@ -27,7 +27,7 @@ fn put_line(text: &mut Vec<u8>, key: &[u8], number: Q) -> Result<(), AllocError>
     Ok(())
 }
 
-// The names of links, each behind a space.
+// Appends the names of links, with a space before each.
 fn put_links(text: &mut Vec<u8>, net: &Network, links: &[LinkId]) -> Result<(), AllocError>
     ensures { OnOk result (text.new.items ≡ text.old.items ++ after_words (map (name_at net.now.link_names) links.now)) }
 {
@@ -37,7 +37,7 @@ fn put_links(text: &mut Vec<u8>, net: &Network, links: &[LinkId]) -> Result<(), 
     Ok(())
 }
 
-// The line of a walk.
+// Appends the line of a walk.
 fn put_walk(text: &mut Vec<u8>, net: &Network, walk: &Rated) -> Result<(), AllocError>
     ensures { OnOk result (text.new.items ≡ text.old.items ++ walk_line net.now.link_names walk.now) }
 {
@@ -48,7 +48,7 @@ fn put_walk(text: &mut Vec<u8>, net: &Network, walk: &Rated) -> Result<(), Alloc
     Ok(())
 }
 
-// The lines of the walks.
+// Appends the lines of the walks.
 fn put_walks(text: &mut Vec<u8>, net: &Network, walks: &[Rated]) -> Result<(), AllocError>
     ensures { OnOk result (text.new.items ≡ text.old.items ++ flat_map (walk_line net.now.link_names) walks.now) }
 {
@@ -58,7 +58,7 @@ fn put_walks(text: &mut Vec<u8>, net: &Network, walks: &[Rated]) -> Result<(), A
     Ok(())
 }
 
-// The line of a node's time.
+// Appends the line of a node's time.
 fn put_time(text: &mut Vec<u8>, net: &Network, node: NodeId, time: Q) -> Result<(), AllocError>
     requires { node < net.now.net.nodes }
     ensures { OnOk result (text.new.items ≡ text.old.items ++ cut_line net.now.node_names (node, time)) }
@@ -70,7 +70,7 @@ fn put_time(text: &mut Vec<u8>, net: &Network, node: NodeId, time: Q) -> Result<
     Ok(())
 }
 
-// The lines of a cut.
+// Appends the lines of a cut.
 fn put_cut(text: &mut Vec<u8>, net: &Network, cut: &[Q]) -> Result<(), AllocError>
     requires { length cut.now ≡ net.now.net.nodes }
     ensures { OnOk result (text.new.items ≡ text.old.items ++ flat_map (cut_line net.now.node_names) (enumerate_from 0 cut.now)) }
@@ -81,8 +81,8 @@ fn put_cut(text: &mut Vec<u8>, net: &Network, cut: &[Q]) -> Result<(), AllocErro
     Ok(())
 }
 
-/// The text of a quickest flow: its time, its walks with their rates, its cut, a time for each node, and the cut's value, an amount. It is
-/// refused where memory is wanting.
+/// Returns the text of a quickest flow: its time, its walks with their rates, its cut and the cut's value. The cut has a time for each
+/// node, and the value is an amount. Refuses only if an allocation fails.
 pub fn flow_text(alloc: Global, net: &Network, quick: &Quick) -> Result<Vec<u8>, AllocError>
     requires { length quick.now.cut ≡ net.now.net.nodes }
     ensures { IfOk result (λ text. text.items ≡ flow_text net.now quick.now) }
@@ -95,7 +95,9 @@ pub fn flow_text(alloc: Global, net: &Network, quick: &Quick) -> Result<Vec<u8>,
     Ok(text)
 }
 
-/// Writes the line of the arrival. Where the sink fails, it has taken the first bytes, and not all of them. It takes no memory.
+/// Writes the line of the arrival. Allocates nothing.
+///
+/// The first fault ends the writing; the sink then took a proper prefix of the line.
 pub fn write_arrival<O: Sink>(out: &mut O, arrival: &Arrival) -> Result<(), SinkFault>
     ensures { Wrote (O.took out.old) (O.took out.new) (O.faults out.old) (O.faults out.new) (arrival_text arrival.now) result }
 {

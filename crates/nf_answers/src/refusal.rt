@@ -1,4 +1,4 @@
-// Why a run has no text for its output.
+// Refusals: runs without a text for the output.
 ghost use Rattle.std.specs.Prelude.{◌≡◌};
 ghost use Rattle.nf_answers.specs.Answers.{status_of};
 ghost use Rattle.nf_answers.specs.Refusals.{answer_of, refusal_of_fetch, refusal_of_net, refusal_of_loads, refusal_of_flows, refusal_of_routes, refusal_of_report, refusal_of_halt};
@@ -14,39 +14,39 @@ use nf_report::{ReportFault, ReportRule};
 use nf_routes_file::{RoutesFault, RoutesRule};
 use std::alloc::AllocError;
 
-/// Why a run has no text for its output.
+/// A reason to write no text to the output.
 #[derive(Clone, Copy)]
 pub enum Refusal {
-    /// Memory is wanting.
+    /// An allocation failed.
     NoMemory,
-    /// The words are no request.
+    /// The words are not a request.
     NoRequest,
-    /// The file isn't given.
+    /// A file could not be read.
     ShelfFailed,
-    /// The file has too many bytes.
+    /// A file has too many bytes.
     ShelfTooLong,
-    /// The network file breaks this rule first, in this line.
+    /// The network file breaks `rule` first, in `line`.
     Malformed { rule: NetRule, line: u32 },
-    /// The loads file breaks this rule first, in this line.
+    /// The loads file breaks `rule` first, in `line`.
     MalformedLoads { rule: LoadRule, line: u32 },
-    /// The flows file breaks this rule first, in this line.
+    /// The flows file breaks `rule` first, in `line`.
     MalformedFlows { rule: FlowsRule, line: u32 },
-    /// The routes file breaks this rule first, in this line.
+    /// The routes file breaks `rule` first, in `line`.
     MalformedRoutes { rule: RoutesRule, line: u32 },
-    /// The report breaks this rule first, in this line.
+    /// The report breaks `rule` first, in `line`.
     MalformedReport { rule: ReportRule, line: u32 },
-    /// This operation passes the bound.
+    /// An operation passes the bound.
     Passes(PassedAt<Q>),
     /// A walk of unbounded links leads from source to sink.
     Unbounded,
-    /// The flows and slopes of the flows file are no thin flow.
+    /// The flows and slopes of the flows file are not a thin flow.
     NotThin,
-    /// The flow of the report reaches beyond the horizon.
+    /// The flow of the report extends beyond the horizon.
     Earlier,
 }
 
 impl Refusal {
-    /// How the run ends.
+    /// Returns the status with which the program ends.
     pub fn status(&self) -> Status
         ensures { result ≡ status_of (answer_of self.now) }
     {

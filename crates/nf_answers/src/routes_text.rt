@@ -1,4 +1,4 @@
-// The text of what is loaded by route.
+// The text of a loading by route.
 ghost use Rattle.std.specs.Prelude.{◌≡◌, [], ◌∷◌, ◌++◌, length, codes};
 ghost use Rattle.nf_formats.specs.Report.{for_each, point_lines};
 ghost use Rattle.nf_edge.specs.Taken.{Wrote};
@@ -14,7 +14,7 @@ use nf_net::Network;
 use nf_report::{write_curve, write_line};
 use nf_routes::{Routed, Routes};
 
-// What has arrived along a route, and when each departure arrives.
+// Writes the arrival and travel curves of a route.
 fn write_route<O: Sink>(
     out: &mut O,
     name: &[u8],
@@ -28,7 +28,7 @@ fn write_route<O: Sink>(
     write_curve(out, b"travel", name, travel)
 }
 
-// The curves of the routes.
+// Writes the curves of the routes.
 fn write_routes<O: Sink>(out: &mut O, routes: &Routes, routed: &Routed) -> Result<(), SinkFault>
     requires arrivals { length routed.now.arrivals.items ≡ length routes.now }
     requires travels { length routed.now.travels.items ≡ length routes.now }
@@ -44,8 +44,10 @@ fn write_routes<O: Sink>(out: &mut O, routes: &Routes, routed: &Routed) -> Resul
     Ok(())
 }
 
-/// Writes what is loaded by route up to a horizon, a time: of each link its queue, its outflow and its exits, of each route its arrivals and
-/// its travels. Where the sink fails, it has taken the first bytes, and not all of them. It takes no memory.
+/// Writes a loading by route up to a horizon, a time. The queue, outflow and exit curves of each link come first. The arrival and travel
+/// curves of each route follow. Allocates nothing.
+///
+/// The first fault ends the writing; the sink then took a proper prefix of the text.
 pub fn write_routed<O: Sink>(
     out: &mut O,
     net: &Network,

@@ -1,4 +1,4 @@
-// The text of what a thin flow is settled to.
+// The text of a settled thin flow.
 ghost use Rattle.std.specs.Prelude.{◌≡◌, ◌<◌, [], ◌∷◌, length, codes};
 ghost use Rattle.nf_numerals.specs.Printed.{printed};
 ghost use Rattle.nf_formats.specs.Names.{name_at};
@@ -67,7 +67,8 @@ fn put_settled<O: Sink>(
 
 /// Writes a settled thin flow: the states of the links that have one, and the flows of all links, which are rates. Allocates nothing.
 ///
-/// It must have a state entry and a flow for each link. The first fault ends the writing; the sink then took a proper prefix of the text.
+/// `settled` must have a state entry and a flow for each link. The first fault ends the writing; the sink then took a proper prefix of the
+/// text.
 pub fn write_settled<O: Sink>(
     out: &mut O,
     net: &Network,

@@ -1,47 +1,47 @@
-// How a run of the program ends.
+// Statuses with which the program ends.
 ghost use Rattle.std.specs.Prelude.{◌≡◌};
 
-/// How a run of the program ends.
+/// The status with which the program ends.
 #[derive(Clone, Copy, Debug, PartialEq, Eq)]
 pub enum Status {
-    /// The whole text was taken; of `solve`, `resume` and `gen` moreover the horizon was reached, or without one the run goes on for ever.
+    /// The whole text was written. A run of `solve`, `resume` or `gen` also reached its horizon. A run without a horizon continues forever.
     Ok,
-    /// Memory is wanting.
+    /// An allocation failed.
     Memory,
-    /// The words are no request.
+    /// The words are not a request.
     Usage,
-    /// The file isn't given, or is too long.
+    /// A file could not be read, or is too long.
     Shelf,
-    /// The file breaks a rule.
+    /// A file breaks a rule.
     Malformed,
-    /// As many phases as allowed were made, and the horizon isn't reached.
+    /// The run made as many phases as allowed, and did not reach the horizon.
     Phases,
-    /// As many patterns as allowed were tried in a phase, and there are more.
+    /// A phase tried as many patterns as allowed, and there are more.
     Patterns,
-    /// A named operation passes: its result, or for a sum a number on the way to it, has a part beyond 2^127 - 1.
+    /// A named operation passes: its result, or for a sum a number computed for it, has a numerator or denominator beyond 2^127 - 1.
     Passed,
-    /// No pattern of a phase is accepted, and none passes. No run ends so.
+    /// No pattern of a phase is accepted, and no operation passes. No run ends with this status.
     NoPattern,
-    /// The output takes no more bytes.
+    /// Writing to the output failed.
     Output,
-    /// The flow of the report is no equilibrium.
+    /// The flow of the report is not an equilibrium.
     NotEquilibrium,
-    /// As many walks as allowed were pushed for a quickest flow, and the next is shorter than its time.
+    /// A quickest flow pushed as many walks as allowed, and the next walk is shorter than the flow's time.
     Augments,
-    /// Without a horizon, as many phases as allowed were made.
+    /// A run without a horizon made as many phases as allowed.
     Events,
-    /// A walk of unbounded links leads from source to sink, so that there is no quickest flow of an amount above 0.
+    /// A walk of unbounded links leads from source to sink. There is no quickest flow of an amount above 0.
     Unbounded,
-    /// The flows and slopes of a flows file are no thin flow.
+    /// The flows and slopes of a flows file are not a thin flow.
     NotThin,
-    /// The flow of the report reaches beyond the horizon.
+    /// The flow of the report extends beyond the horizon.
     Earlier,
 }
 
 impl Status {
     ghost use Rattle.nf_answers.specs.Answers.{number_of};
 
-    /// The number with which the program ends.
+    /// Returns the exit status of the process.
     pub fn number(self) -> u8
         ensures { result ≡ number_of self }
     {

@@ -19,7 +19,7 @@ use nf_numerals::write_count;
 use nf_report::{ReportRule, write_passed_call, write_stop};
 use nf_routes_file::RoutesRule;
 
-// The usage text: the commands that there are.
+// The usage text, which lists the commands.
 const USAGE: &[u8] = b"nfot: usage
 nfot solve NET --horizon Q [--phases N] [--patterns N]
 nfot show NET
@@ -144,7 +144,7 @@ fn report_rule_text(rule: ReportRule) -> &'static [u8]
     }
 }
 
-// Texts, one after the other.
+// Writes texts, one after the other.
 fn write_texts<E: Sink>(err: &mut E, texts: &[&[u8]]) -> Result<(), SinkFault>
     ensures { Wrote (E.took err.old) (E.took err.new) (E.faults err.old) (E.faults err.new)
         (flat_map (λ t. t.now) texts.now) result }
@@ -155,7 +155,7 @@ fn write_texts<E: Sink>(err: &mut E, texts: &[&[u8]]) -> Result<(), SinkFault>
     Ok(())
 }
 
-// The rule that a file of some kind breaks, in this line.
+// Writes the line of the first rule that a file breaks: the kind of file, the line's number and the rule.
 fn write_broken<E: Sink>(err: &mut E, file: &[u8], line: u32, rule: &[u8]) -> Result<(), SinkFault>
     ensures { Wrote (E.took err.old) (E.took err.new) (E.faults err.old) (E.faults err.new)
         (broken_line file.now line rule.now) result }
@@ -176,7 +176,7 @@ fn write_broken<E: Sink>(err: &mut E, file: &[u8], line: u32, rule: &[u8]) -> Re
     )
 }
 
-// The operation that passes in a command of one call.
+// Writes the line of an operation that passes, in a command without phases.
 fn write_passed<E: Sink>(err: &mut E, at: &PassedAt<Q>) -> Result<(), SinkFault>
     ensures { Wrote (E.took err.old) (E.took err.new) (E.faults err.old) (E.faults err.new)
         (passed_line at.now) result }
@@ -185,8 +185,9 @@ fn write_passed<E: Sink>(err: &mut E, at: &PassedAt<Q>) -> Result<(), SinkFault>
     write_passed_call(err, b"stopped:", at)
 }
 
-/// Writes why there is nothing on the output. Where the sink fails, it has taken the first bytes, and not all of them.
-/// It takes no memory.
+/// Writes the text of a refusal. Allocates nothing.
+///
+/// The first fault ends the writing; the sink then took a proper prefix of the text.
 pub fn write_refusal<E: Sink>(err: &mut E, refusal: &Refusal) -> Result<(), SinkFault>
     ensures { Wrote (E.took err.old) (E.took err.new) (E.faults err.old) (E.faults err.new)
         (err_text (answer_of refusal.now)) result }
@@ -218,7 +219,9 @@ pub fn write_refusal<E: Sink>(err: &mut E, refusal: &Refusal) -> Result<(), Sink
     }
 }
 
-/// Writes why a run stopped. Where the sink fails, it has taken the first bytes, and not all of them. It takes no memory.
+/// Writes the line that states why a run stopped. Allocates nothing.
+///
+/// The first fault ends the writing; the sink then took a proper prefix of the line.
 pub fn write_stopped<E: Sink>(err: &mut E, stop: &Stop) -> Result<(), SinkFault>
     ensures { Wrote (E.took err.old) (E.took err.new) (E.faults err.old) (E.faults err.new)
         (stopped_line stop.now) result }
@@ -227,8 +230,9 @@ pub fn write_stopped<E: Sink>(err: &mut E, stop: &Stop) -> Result<(), SinkFault>
     write_stop(err, b"stopped:", stop)
 }
 
-/// Writes how many walks were pushed, as many as allowed. Where the sink fails, it has taken the first bytes, and not all of them.
-/// It takes no memory.
+/// Writes the line that states how many walks were pushed, as many as allowed. Allocates nothing.
+///
+/// The first fault ends the writing; the sink then took a proper prefix of the line.
 pub fn write_over_budget<E: Sink>(err: &mut E, augments: u64) -> Result<(), SinkFault>
     ensures { Wrote (E.took err.old) (E.took err.new) (E.faults err.old) (E.faults err.new)
         (augments_line augments) result }

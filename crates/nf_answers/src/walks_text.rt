@@ -1,4 +1,4 @@
-// The text of the walks that were pushed.
+// The text of pushed walks.
 ghost use Rattle.std.specs.Prelude.{◌≡◌, [], ◌∷◌, ◌++◌, flat_map, map, OnOk, IfOk};
 ghost use Rattle.nf_report.specs.Written.{after_words};
 ghost use Rattle.nf_answers.specs.QuickText.{step_word, augment_line, augments_text};
@@ -9,7 +9,7 @@ use nf_quick::Augment;
 use nf_residual::{Step, Walk};
 use std::alloc::{AllocError, Global};
 
-// A step behind a space, with its direction before the name of the link.
+// Appends a space, and a step: its direction, `+` or `-`, and the name of its link.
 fn put_step(text: &mut Vec<u8>, net: &Network, step: Step) -> Result<(), AllocError>
     ensures { OnOk result (text.new.items ≡ text.old.items ++ after_words (step_word net.now.link_names step ∷ [])) }
 {
@@ -21,7 +21,7 @@ fn put_step(text: &mut Vec<u8>, net: &Network, step: Step) -> Result<(), AllocEr
     put_bytes(text, link_word(net, step.link))
 }
 
-// Steps, each behind a space.
+// Appends steps, with a space before each.
 fn put_steps(text: &mut Vec<u8>, net: &Network, steps: &[Step]) -> Result<(), AllocError>
     ensures { OnOk result (text.new.items ≡ text.old.items ++ after_words (map (step_word net.now.link_names) steps.now)) }
 {
@@ -31,14 +31,14 @@ fn put_steps(text: &mut Vec<u8>, net: &Network, steps: &[Step]) -> Result<(), Al
     Ok(())
 }
 
-// The steps of a walk, each behind a space.
+// Appends the steps of a walk, with a space before each.
 fn put_walk(text: &mut Vec<u8>, net: &Network, walk: &Walk) -> Result<(), AllocError>
     ensures { OnOk result (text.new.items ≡ text.old.items ++ after_words (map (step_word net.now.link_names) walk.now.steps)) }
 {
     put_steps(text, net, &walk.steps)
 }
 
-// The line of a walk.
+// Appends the line of a pushed walk.
 fn put_augment(text: &mut Vec<u8>, net: &Network, augment: &Augment) -> Result<(), AllocError>
     ensures { OnOk result (text.new.items ≡ text.old.items ++ augment_line net.now.link_names augment.now) }
 {
@@ -49,7 +49,7 @@ fn put_augment(text: &mut Vec<u8>, net: &Network, augment: &Augment) -> Result<(
     Ok(())
 }
 
-// The lines of walks.
+// Appends the lines of pushed walks.
 fn put_augments(text: &mut Vec<u8>, net: &Network, walks: &[Augment]) -> Result<(), AllocError>
     ensures { OnOk result (text.new.items ≡ text.old.items ++ flat_map (augment_line net.now.link_names) walks.now) }
 {
@@ -59,7 +59,7 @@ fn put_augments(text: &mut Vec<u8>, net: &Network, walks: &[Augment]) -> Result<
     Ok(())
 }
 
-/// The text of the walks that were pushed, with their amounts. It is refused where memory is wanting.
+/// Returns the text of the pushed walks with their amounts. Refuses only if an allocation fails.
 pub fn augments_text(alloc: Global, net: &Network, walks: &[Augment]) -> Result<Vec<u8>, AllocError>
     ensures { IfOk result (λ text. text.items ≡ augments_text net.now walks.now) }
 {

@@ -1,4 +1,4 @@
-// Words of a line that is put together in memory.
+// Words of lines built in memory.
 ghost use Rattle.std.specs.Prelude.{◌≡◌, ◌∷◌, ◌++◌, OnOk};
 ghost use Rattle.nf_numerals.specs.Printed.{printed};
 ghost use Rattle.nf_formats.specs.Names.{name_at};
@@ -7,7 +7,7 @@ use nf_frac::{Q, TextBuf};
 use nf_net::{LinkId, Network, NodeId};
 use std::alloc::AllocError;
 
-/// Adds bytes.
+/// Appends bytes.
 pub(crate) fn put_bytes(text: &mut Vec<u8>, bytes: &[u8]) -> Result<(), AllocError>
     ensures { OnOk result (text.new.items ≡ text.old.items ++ bytes.now) }
 {
@@ -15,7 +15,7 @@ pub(crate) fn put_bytes(text: &mut Vec<u8>, bytes: &[u8]) -> Result<(), AllocErr
     Ok(())
 }
 
-/// Adds a word behind a space.
+/// Appends a space and a word.
 pub(crate) fn put_word(text: &mut Vec<u8>, word: &[u8]) -> Result<(), AllocError>
     ensures { OnOk result (text.new.items ≡ text.old.items ++ 32 ∷ word.now) }
 {
@@ -24,7 +24,7 @@ pub(crate) fn put_word(text: &mut Vec<u8>, word: &[u8]) -> Result<(), AllocError
     Ok(())
 }
 
-/// Adds a number behind a space.
+/// Appends a space and a number.
 pub(crate) fn put_number(text: &mut Vec<u8>, number: Q) -> Result<(), AllocError>
     ensures { OnOk result (text.new.items ≡ text.old.items ++ 32 ∷ printed number) }
 {
@@ -33,11 +33,11 @@ pub(crate) fn put_number(text: &mut Vec<u8>, number: Q) -> Result<(), AllocError
     put_word(text, word.text())
 }
 
-/// The name of a link; no bytes where no link has the number.
+/// Returns the name of a link, or no bytes if no link has the number.
 pub(crate) fn link_word(net: &Network, link: LinkId) -> &[u8]
     ensures { result.now ≡ name_at net.now.link_names link }
 {
-    // For the proof: a network's names are those of its links.
+    // Proof: a network has a name for each link.
     net.recall();
     if link.0 < net.link_count() {
         net.link_name(link).as_bytes()
@@ -46,11 +46,11 @@ pub(crate) fn link_word(net: &Network, link: LinkId) -> &[u8]
     }
 }
 
-/// The name of a node; no bytes where no node has the number.
+/// Returns the name of a node, or no bytes if no node has the number.
 pub(crate) fn node_word(net: &Network, node: NodeId) -> &[u8]
     ensures { result.now ≡ name_at net.now.node_names node }
 {
-    // For the proof: a network's names are those of its nodes.
+    // Proof: a network has a name for each node.
     net.recall();
     if node.0 < net.node_count() {
         net.node_name(node).as_bytes()

@@ -1,4 +1,4 @@
--- What is answered, and that it is the answer of the rules.
+-- The answer of a check is the answer of the rules.
 use Rattle.std.proofs.Common.{◌≡◌, ℕ, ◌<◌, List, length, map, refl, sym, ap, subst, ◌∙◌}
 use Rattle.std.proofs.lemmas.List.{length-map}
 use Rattle.std.specs.Prelude.{Result, Ok, Err, IfOk}
@@ -60,7 +60,7 @@ module _ (passes : Passing) (net : Network) (flow : Flow) (given : CanBeChecked 
     pub is_exact : IfOk r (λ answer. IsExact net flow answer)
     is_exact = if_answered r (check_list passes net flow) (λ answer. IsExact net flow answer) g (λ answer e. exact_by answer (check_list-checks passes net flow given answer e))
 
--- ---- what is given
+-- ---- preconditions
 are_curves : (n : ℕ) (curves : List Grown) (all : List Grown) → curves ≡ all → length all ≡ n → ((i : ℕ) → i < length curves → IsCurve (points_at (curves_of curves) i)) → AreCurves n (curves_of all)
 are_curves n curves all e count known = record {
   count = length-map all (λ (c : Grown). c.points) ∙ count;

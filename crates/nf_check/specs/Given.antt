@@ -1,11 +1,11 @@
--- What is asked of a network and a flow.
+-- Preconditions of a check.
 use Rattle.std.specs.Prelude.{◌≡◌, length}
 use Rattle.nf_model.specs.Network.{Network}
 use Rattle.nf_check_laws.specs.Laws.{CanBeChecked}
 use Rattle.nf_curve.specs.Flows.{flow_of}
 use Rattle.nf_curve.specs.declared.flow.Flow.{Flow}
 
--- so many curves of each kind as there are nodes or links, and all that the rules ask for
+-- one label per node, one curve of each other kind per link, and the conditions of `CanBeChecked`
 pub record IsGivenFlow (net : Network) (flow : Flow) : Type 0 where
   pub labels : length flow.labels.items ≡ net.nodes
   pub inflows : length flow.inflows.items ≡ length net.links

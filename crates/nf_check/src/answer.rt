@@ -1,4 +1,4 @@
-// What is answered.
+// The answer of a check.
 ghost use Rattle.std.specs.Prelude.{◌≡◌};
 ghost use Rattle.nf_work.specs.Checked.{Gives};
 ghost use Rattle.nf_check_lists.specs.declared.Answer.TheVariants.{No};
@@ -11,11 +11,11 @@ use nf_curve::Difference;
 use nf_frac::{Halt, Q};
 use nf_graph::{LinkId, NodeId};
 
-/// The flow is an equilibrium, or the first rule that it breaks: with the node or link, the time, and the two values that differ
-/// there.
+/// The answer of a check: the flow is an equilibrium, or it breaks a rule. `No` holds the first broken rule, the node or link, the time,
+/// and two different values.
 pub type Answer = nf_check_lists::Answer<NodeId, LinkId, Q>;
 
-// No, since these two values differ.
+// Returns `No` with the two values that differ.
 fn no(rule: CheckRule, subject: Subject, sides: Difference) -> Answer
     ensures { result ≡ No rule subject sides.time sides.left sides.right }
 {
@@ -28,7 +28,7 @@ fn no(rule: CheckRule, subject: Subject, sides: Difference) -> Answer
     }
 }
 
-/// The answer of a check that was made.
+/// Converts the result of the tests to the answer, or to the operation that passes or the failed allocation.
 pub(crate) fn answer_of(tested: Result<(), Ended>) -> Result<Answer, Halt<Q>>
     ensures { (trial : Trial (Unit {0})) → Tries (λ _. tt) tested trial → Gives (λ answer. answer) (λ q. q) result (answer_by trial) }
 {

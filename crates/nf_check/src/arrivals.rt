@@ -1,4 +1,4 @@
-// The third rule: the labels are the least exits.
+// Rule C3: the labels are the least exits.
 ghost use Rattle.std.specs.Prelude.{◌≡◌, ◌<◌, IfOk, OnOk};
 ghost use Rattle.nf_rational.specs.Operations.{0ℚ};
 ghost use Rattle.nf_rational.specs.Order.{◌≤ℚ◌};
@@ -21,7 +21,7 @@ use nf_graph::NodeId;
 use nf_net::Network;
 use std::alloc::{AllocError, Global};
 
-// The departures themselves, up to a last one.
+// Returns the identity on times up to `last`: each departure at itself.
 fn departures(alloc: Global, last: Q) -> Result<Curve, AllocError>
     requires { 0ℚ ≤ℚ last }
     ensures { IfOk result (λ c. c.points ≡ departures_by last) }
@@ -33,7 +33,7 @@ fn departures(alloc: Global, last: Q) -> Result<Curve, AllocError>
     Ok(line)
 }
 
-// The label of a node.
+// Tests C3 for the label of a node. Stores the exits it computes.
 fn check_arrival(
     alloc: Global,
     net: &Network,
@@ -66,7 +66,7 @@ fn check_arrival(
     }
 }
 
-// The labels of all nodes but the source.
+// Tests C3 for the labels of all nodes except the source.
 fn check_arrivals_at(
     alloc: Global,
     net: &Network,
@@ -91,7 +91,7 @@ fn check_arrivals_at(
     Ok(())
 }
 
-/// The label of the source is the departure, and each other one the least exit. Exits are kept.
+/// Tests C3: the label of the source is the departure, and each other label is the least exit. Stores the exits it computes in `exits`.
 pub(crate) fn check_arrivals(
     alloc: Global,
     net: &Network,

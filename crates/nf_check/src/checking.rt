@@ -1,4 +1,4 @@
-// Whether a flow is an equilibrium.
+// The equilibrium test.
 ghost use Rattle.std.specs.Prelude.{◌≡◌, ◌<◌, ℕ, length, map, IfOk};
 ghost use Rattle.nf_rational.specs.Operations.{0ℚ};
 ghost use Rattle.nf_rational.specs.Order.{◌≤ℚ◌};
@@ -28,7 +28,7 @@ use nf_frac::{Halt, Q};
 use nf_net::Network;
 use std::alloc::Global;
 
-// The labels up to the departure reached and the loadings of the links, once the rules hold that look at points alone.
+// Computes the labels up to the departure reached, and loads the links. Tests C1 and C2 before it loads the links.
 #[tactic(auto, unfolding(nf_check_rules::specs::Steps::worked_list))]
 fn work_out(alloc: Global, net: &Network, flow: &Flow) -> Result<Worked, Ended>
     requires { IsGivenFlow net.now.net flow.now }
@@ -42,7 +42,7 @@ fn work_out(alloc: Global, net: &Network, flow: &Flow) -> Result<Worked, Ended>
     Ok(Worked { labels, loaded })
 }
 
-// The outflows of all links, and then their queues.
+// Tests C4 for the outflows of all links, and then C5 for their queues.
 #[tactic(auto, unfolding(nf_check_rules::specs::Steps::told_list))]
 fn check_told(net: &Network, flow: &Flow, worked: &Worked) -> Result<(), Ended>
     requires outflows { length flow.now.outflows.items ≡ length net.now.net.links }
@@ -54,7 +54,7 @@ fn check_told(net: &Network, flow: &Flow, worked: &Worked) -> Result<(), Ended>
     check_queues(net, flow, worked)
 }
 
-// The rules that compare curves.
+// Tests the rules that compare curves: C3 to C8.
 #[tactic(auto, unfolding(nf_check_rules::specs::Steps::compared_list), using(nf_check_rules::proofs::Keeping::none_kept))]
 fn compare_all(alloc: Global, net: &Network, flow: &Flow, worked: &Worked) -> Result<(), Ended>
     requires given { IsGivenFlow net.now.net flow.now }
@@ -68,7 +68,7 @@ fn compare_all(alloc: Global, net: &Network, flow: &Flow, worked: &Worked) -> Re
     check_routes(alloc, net, flow, worked, &mut exits)
 }
 
-// All rules.
+// Tests all rules, in order.
 fn test_all(alloc: Global, net: &Network, flow: &Flow) -> Result<(), Ended>
     requires { IsGivenFlow net.now.net flow.now }
     ensures { Tries (λ _. tt) result (done (trial passes_Q net.now.net (flow_of flow.now))) }
@@ -77,7 +77,7 @@ fn test_all(alloc: Global, net: &Network, flow: &Flow) -> Result<(), Ended>
     compare_all(alloc, net, flow, &worked)
 }
 
-// For the proof: points of curves are curves.
+// Does nothing. Proof: the points of each curve are a curve.
 fn know_curves(curves: &[Curve])
     ensures { (i : ℕ) → i < length curves.now → IsCurve (points_at (curves_of curves.now) i) }
 {
@@ -86,7 +86,7 @@ fn know_curves(curves: &[Curve])
     }
 }
 
-// For the proof: and so are those of traces.
+// Does nothing. Proof: the points of each trace are a curve.
 fn know_traces(traces: &[Trace])
     ensures { (i : ℕ) → i < length traces.now → IsCurve (points_at (points_of (map trace_of traces.now)) i) }
 {
@@ -95,12 +95,15 @@ fn know_traces(traces: &[Trace])
     }
 }
 
-/// Whether a flow is an equilibrium of a network up to the departure that it reached: Yes exactly where it is one. A No has the first
-/// rule that is broken, the first node or link that breaks it, a time, and two values that differ. The time is that of the first point
-/// that breaks the rule (C1, C2), the first corner at which two curves differ, which may differ earlier already, between two corners
-/// (C3 to C7), or a departure on the first stretch on which a link takes flow and its exit isn't the label of its head (C8). The flow
-/// has a label for each node, and an inflow, an outflow and a queue for each link; its traces have one rate fewer than points, and the
-/// departure reached is at least 0. Passed comes exactly at the first operation of its list that passes, and has part Check or Load.
+/// Decides whether a flow is an equilibrium of a network up to the departure that it reached. Returns `Yes` exactly if the flow is one.
+///
+/// `No` holds the first broken rule, the first node or link that breaks it, a time, and two different values. For C1 and C2 the time is
+/// that of the first point that breaks the rule. For C3 to C7 the time is the first corner at which two curves differ; they may also differ
+/// earlier, between two corners. For C8 the time is a departure in the first interval on which a link off the shortest routes takes flow.
+///
+/// The flow must have a label for each node, and an inflow, an outflow and a queue for each link. Its traces must have one rate fewer than
+/// points. The departure reached must be at least 0. Returns `Passed` exactly at the first operation of its operation sequence that passes,
+/// with part Check or Load.
 pub fn check(alloc: Global, net: &Network, flow: &Flow) -> Result<Answer, Halt<Q>>
     requires labels { length flow.now.labels.items ≡ net.now.net.nodes }
     requires inflows { length flow.now.inflows.items ≡ length net.now.net.links }
@@ -113,7 +116,7 @@ pub fn check(alloc: Global, net: &Network, flow: &Flow) -> Result<Answer, Halt<Q
     ensures rules { IfOk result (λ answer. Checks net.now.net (flow_of flow.now) answer) }
     ensures exact { IfOk result (λ answer. IsExact net.now.net (flow_of flow.now) answer) }
 {
-    // For the proof: the network is a good one, and the points of the flow make curves.
+    // Proof: the network is well formed, and the points of the flow are curves.
     net.recall();
     know_curves(&flow.labels);
     know_traces(&flow.inflows);

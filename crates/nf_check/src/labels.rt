@@ -1,4 +1,4 @@
-// The first rule, of the labels: no label is negative up to the departure reached.
+// Rule C1 for labels: no label is negative up to the departure reached.
 ghost use Rattle.std.specs.Prelude.{◌≡◌, ◌<◌, length, option_map};
 ghost use Rattle.nf_rational.specs.Operations.{0ℚ};
 ghost use Rattle.nf_rational.specs.Order.{◌≤ℚ◌};
@@ -20,7 +20,7 @@ use nf_graph::NodeId;
 use nf_net::Network;
 use std::alloc::Global;
 
-// The first point with a negative value, beside 0.
+// Returns the first point with a negative value, and 0.
 fn negative_point(curve: &Curve) -> Option<Difference>
     ensures { option_map difference_of result ≡ negative_by curve.now.points }
 {
@@ -37,7 +37,7 @@ fn negative_point(curve: &Curve) -> Option<Difference>
     None
 }
 
-// The label of a node, up to the departure reached.
+// Cuts the label of a node at the departure reached, and tests C1 for it.
 fn cut_label(alloc: Global, net: &Network, flow: &Flow, node: NodeId) -> Result<Curve, Ended>
     requires node { node < length flow.now.labels.items }
     requires reached { 0ℚ ≤ℚ flow.now.reached }
@@ -49,7 +49,7 @@ fn cut_label(alloc: Global, net: &Network, flow: &Flow, node: NodeId) -> Result<
     Ok(cut)
 }
 
-/// The labels of all nodes, up to the departure reached.
+/// Cuts the labels of all nodes at the departure reached, and tests C1 for them.
 pub(crate) fn cut_labels(alloc: Global, net: &Network, flow: &Flow) -> Result<Vec<Curve>, Ended>
     requires labels { length flow.now.labels.items ≡ net.now.net.nodes }
     requires reached { 0ℚ ≤ℚ flow.now.reached }

@@ -1,5 +1,5 @@
-//! Whether a flow over time is an equilibrium: a Nash flow over time (Koch and Skutella 2011) that is told rightly by its labels,
-//! inflows, outflows and queues. Times, amounts and rates are exact fractions.
+//! Decides whether a flow over time is an equilibrium: a Nash flow over time (Koch and Skutella 2011). The labels, inflows, outflows and
+//! queues of the flow must agree. Times, amounts and rates are exact fractions.
 #![tactic(auto)]
 
 mod answer;

@@ -1,4 +1,4 @@
--- A departure that was looked at.
+-- A tested departure.
 use Rattle.std.specs.Prelude.{◌≡◌, Some, Ok}
 use Rattle.nf_rational.specs.Operations.{0ℚ}
 use Rattle.nf_rational.specs.Order.{◌≤ℚ◌}
@@ -11,7 +11,7 @@ use Rattle.nf_check_rules.specs.Sent.{ArePlaces, AreWithin}
 use Rattle.nf_check_rules.specs.declared.sent.Sent.{Sent}
 use Rattle.nf_check_rules.specs.declared.stretches.Departure.{Departure}
 
--- its places, what has been sent by then, and exit and label there if they are known
+-- the point counts of the departure, the amount entered by then, and exit and head label there if they are known
 pub record IsDeparture (sent : Sent) (departure : Departure) : Type 0 where
   pub from_zero : 0ℚ ≤ℚ departure.time
   pub places : ArePlaces sent departure.time departure.places

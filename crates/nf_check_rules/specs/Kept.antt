@@ -1,4 +1,4 @@
--- What is worked out of a flow, and what is known of it.
+-- Values computed from a flow, and their properties.
 use Rattle.std.specs.Prelude.{◌≡◌, ℕ, ◌<◌, List, length, map}
 use Rattle.std.specs.List.{AllByRecursion}
 use Rattle.nf_rational.specs.Operations.{0ℚ}
@@ -24,12 +24,12 @@ labels_in w = curves_of w.labels.items
 abbrev pub loaded_in : Worked → List lists.Loaded
 loaded_in w = loadings_of w.loaded.items
 
--- a label without a negative point
+-- a curve without a negative value
 pub record IsFromZero (points : List Point) : Type 0 where
   pub curve : IsCurve points
   pub none_negative : AllByRecursion (λ q. 0ℚ ≤ℚ q.1) points
 
--- a label for each node, and a loading for each link
+-- one label curve without negative values per node, and one loading per link
 pub record IsWorked (net : Network) (worked : Worked) : Type 0 where
   pub nodes : length worked.labels.items ≡ net.nodes
   pub links : length worked.loaded.items ≡ length net.links

@@ -1,4 +1,4 @@
--- Points of a curve, one after the other.
+-- Consecutive points of a curve.
 use Rattle.std.specs.Prelude.{List, [], ◌∷◌, Option, None}
 use Rattle.nf_rational.specs.Rational.{ℚ}
 use Rattle.nf_rational.specs.Operations.{0ℚ}
@@ -6,7 +6,7 @@ use Rattle.nf_model.specs.Curve.{Point}
 use Rattle.nf_curve_lists.specs.Lines.{Sides}
 use Rattle.nf_check_lists.specs.PointRules.{falling_from}
 
--- the first point whose value is above that of the next
+-- the first point whose value exceeds the next value, with both values
 abbrev pub first_fall : List Point → Option Sides
 first_fall [] = None
 first_fall (p ∷ rest) = falling_from p rest

@@ -1,4 +1,4 @@
--- Three curves by departure: what has been sent into a link, its exits, and the labels of its head.
+-- Three curves of a link, by departure.
 use Rattle.std.specs.Prelude.{◌≡◌, ℕ, ◌≤◌, List, length, if◌then◌else◌, ◌+◌, Ok}
 use Rattle.nf_rational.specs.Rational.{ℚ}
 use Rattle.nf_rational.specs.Order.{lt_ℚ}
@@ -16,26 +16,26 @@ pub record AreCurves (sent : Sent) : Type 0 where
   pub exits : IsCurve sent.exits.points
   pub labels : IsCurve sent.labels.points
 
--- the places of a departure on the three curves
+-- the number of points of each of the three curves at or before a departure
 pub record ArePlaces (sent : Sent) (time : ℚ) (places : Places) : Type 0 where
   pub taken : places.taken ≡ place_of time sent.taken.points
   pub exits : places.exits ≡ place_of time sent.exits.points
   pub labels : places.labels ≡ place_of time sent.labels.points
 
--- places that are no further than the ends of the curves
+-- point counts that do not exceed the curves' lengths
 pub record AreWithin (sent : Sent) (places : Places) : Type 0 where
   pub taken : places.taken ≤ length sent.taken.points
   pub exits : places.exits ≤ length sent.exits.points
   pub labels : places.labels ≤ length sent.labels.points
 
--- a place in one of two lists of times, with a time there and one of the other list: it moves on unless that one comes first
+-- an index in one of two lists of times advances, unless the other list's time comes first
 abbrev pub moved_on : ℕ → ℚ → ℚ → ℕ
 moved_on place here other = if lt_ℚ other here then place else place + 1
 
 abbrev pub points_in : Sent → List Point × List Point × List Point
 points_in sent = (sent.taken.points, sent.exits.points, sent.labels.points)
 
--- the three curves of a link, by its inflow, its exits and the labels of its ends, up to a last departure
+-- the three curves of a link up to the departure `last`, from its inflow, its exits and the labels of its ends
 unfoldable pub sent_list : Passing → List Point → List Point → List Point → List Point → ℚ → Checked (List Point × List Point × List Point)
 sent_list passes inflow exit tail_label head_label last = do
   taken ← checked_composed passes inflow tail_label last
@@ -45,7 +45,7 @@ sent_list passes inflow exit tail_label head_label last = do
   short_labels ← checked_short passes head_label
   Ok (short_taken, short_exits, short_labels)
 
--- the same, where the exits by departure are known in short form
+-- the three curves, from exits by departure in short form
 unfoldable pub known_list : Passing → List Point → List Point → List Point → List Point → ℚ → Checked (List Point × List Point × List Point)
 known_list passes inflow exits tail_label head_label last = do
   taken ← checked_composed passes inflow tail_label last

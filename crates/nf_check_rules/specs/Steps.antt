@@ -1,4 +1,4 @@
--- The list of a check, part by part as the code does it.
+-- The operation sequence of a check, split as the code is.
 use Rattle.std.specs.Prelude.{ℕ, ◌==◌, if◌then◌else◌, List, Ok}
 use Rattle.std.specs.List.{enumerate_from}
 use Rattle.nf_rational.specs.Rational.{ℚ}
@@ -23,17 +23,17 @@ use Rattle.nf_check_lists.specs.Curves.{departures}
 use Rattle.nf_check_lists.specs.CheckList.{compared, label_cut, inflow_rule, link_rates, loading, arrivals, outflow_rule, queue_rule, balance, sink_rules, route}
 use Rattle.nf_check_rules.specs.Trials.{done}
 
--- two curves up to a last time
+-- compares two curves up to the time `last`
 abbrev pub compared_by : Passing → CheckRule → Subject ℕ ℕ → List Point → List Point → ℚ → Trial (Unit {0})
 compared_by passes rule subject left right last = do
   difference ← in_part Check (checked_difference passes left right last)
   unless rule subject difference
 
--- what comes into a node, with the supply at the source
+-- the inflow of a node, with the supply at the source
 abbrev pub with_supply_by : Passing → Network → List Point → ℕ → List Point → Checked (List Point)
 with_supply_by passes net supplied v total = if v == net.source then checked_sum passes total supplied else Ok total
 
--- what stays at the sink by an arrival, and what was supplied by its departure
+-- compares the amount that has entered the sink by an arrival with the amount that has left it plus the supply up to the departure
 abbrev pub stays_by : Passing → ℕ → List Point → List Point → List Point → List Point → ℚ → Trial (Unit {0})
 stays_by passes sink label comes goes supplied reached = do
   come ← in_part Check (checked_composed passes comes label reached)
@@ -42,7 +42,7 @@ stays_by passes sink label comes goes supplied reached = do
   compared_by passes C7 (Node sink) come total reached
 
 module _ (passes : Passing) (net : Network) (flow : Flow) where
-  -- the labels up to the departure reached, and the loadings; first come the rules that need only the points
+  -- the labels up to the departure reached, and the loadings; C1 and C2, which need only points, are tested first
   unfoldable pub worked_list : Trial (List (List Point) × List Loaded)
   worked_list = do
     labels ← each (label_cut passes net flow) (all_nodes net)
@@ -52,19 +52,19 @@ module _ (passes : Passing) (net : Network) (flow : Flow) where
     Ok (labels, loaded)
 
   module _ (labels : List (List Point)) (loaded : List Loaded) where
-    -- labels at the source and elsewhere
+    -- C3: the labels at the source and at the other nodes
     unfoldable pub arrivals_list : Trial (Unit {0})
     arrivals_list = do
       _ ← compared passes net flow C3 (Node net.source) (points_at labels net.source) (departures flow.reached) flow.reached
       done (each (arrivals passes net flow labels loaded) (nodes_but net.source net))
 
-    -- what is told of links
+    -- C4 and C5: the printed outflows and queues of the links
     unfoldable pub told_list : Trial (Unit {0})
     told_list = do
       _ ← done (each (outflow_rule passes net flow labels loaded) (enumerate_from 0 net.links))
       done (each (queue_rule passes net flow labels loaded) (enumerate_from 0 net.links))
 
-    -- what comes and goes at nodes
+    -- C6 and C7: conservation at the nodes and at the sink
     unfoldable pub balances_list : Trial (Unit {0})
     balances_list = do
       supplied ← in_part Load (checked_cumulative passes net.pieces flow.reached)

@@ -1,4 +1,4 @@
-// The exits of the links into a node, by departure, and the least of them.
+// Exits of links into a node, by departure.
 ghost use Rattle.std.specs.Prelude.{◌≡◌, ◌<◌, length, Some, option_map};
 ghost use Rattle.nf_rational.specs.Operations.{0ℚ};
 ghost use Rattle.nf_rational.specs.Order.{◌≤ℚ◌};
@@ -20,7 +20,7 @@ use nf_graph::{LinkId, NodeId};
 use nf_net::Network;
 use std::alloc::Global;
 
-// The exit of a link, for who comes to its tail at the label there.
+// Returns the exit of a link by departure: a departure enters the link at the label of the link's tail.
 fn exit_along(
     alloc: Global,
     net: &Network,
@@ -41,7 +41,7 @@ fn exit_along(
     Curve::compose(alloc, exit, label, reached, Part::Check)
 }
 
-// The lesser of a curve and one more, if there is one so far.
+// Returns the lesser of `curve` and the curve so far, or `curve` if there is none so far.
 fn lesser(alloc: Global, so_far: Option<Curve>, curve: Curve) -> Result<Curve, Halt<Q>>
     ensures { Gives (λ c. Some c.points) (λ q. q) result
         (at_part Check (lesser_by passes_Q (option_map (λ c. c.points) so_far) curve.points)) }
@@ -52,7 +52,7 @@ fn lesser(alloc: Global, so_far: Option<Curve>, curve: Curve) -> Result<Curve, H
     }
 }
 
-// The least exit so far, with that of a link if it leads to the node; then the exit is kept.
+// Returns the least exit so far, including the link's exit if the link leads to the node. Stores that exit in `exits`.
 fn with_exit(
     alloc: Global,
     net: &Network,
@@ -81,8 +81,9 @@ fn with_exit(
     Ok(Some(least))
 }
 
-/// The least exit over the links into a node by departure, where there is one, up to a last departure, with the labels and the loadings
-/// that were worked out. Exits are kept, also of the links before one at which it is refused. Passed has part Check.
+/// Returns the least exit of the links into a node, by departure up to `reached`, or `None` if no link leads to the node. Uses the labels
+/// and loadings of `worked`. Stores the exits it computes in `exits`, even if it refuses at a later link. An operation that passes has part
+/// Check.
 pub fn least_exits(
     alloc: Global,
     net: &Network,

@@ -1,4 +1,4 @@
-// The sixth and the seventh rule: what comes into a node goes out of it, and stays at the sink once it has arrived.
+// Rules C6 and C7: conservation at the nodes, and at the sink.
 ghost use Rattle.std.specs.Prelude.{◌≡◌, ◌<◌, ◌==◌, if◌then◌else◌, length};
 ghost use Rattle.nf_rational.specs.Operations.{0ℚ};
 ghost use Rattle.nf_rational.specs.Order.{◌≤ℚ◌};
@@ -28,7 +28,7 @@ use nf_load::cumulative;
 use nf_net::Network;
 use std::alloc::Global;
 
-// What comes into a node, with the supply at the source.
+// Adds the supply to the node's inflow, if the node is the source.
 fn with_supply(
     alloc: Global,
     net: &Network,
@@ -46,7 +46,7 @@ fn with_supply(
     }
 }
 
-// The last time at which a node is looked at: at the source the departure reached, elsewhere the last label.
+// Returns the last time of the test at a node: the departure reached at the source, the last label at any other node.
 fn end_at(net: &Network, flow: &Flow, worked: &Worked, node: NodeId) -> Q
     requires node { node < net.now.net.nodes }
     requires worked { IsWorked net.now.net worked.now }
@@ -61,7 +61,7 @@ fn end_at(net: &Network, flow: &Flow, worked: &Worked, node: NodeId) -> Q
     }
 }
 
-// What comes into a node and goes out of it.
+// Tests C6 at a node: its inflow, with the supply, equals its outflow.
 fn check_balance(
     alloc: Global,
     net: &Network,
@@ -89,7 +89,7 @@ fn check_balance(
     )
 }
 
-// The nodes but the sink.
+// Tests C6 at all nodes except the sink.
 fn check_balances_at(
     alloc: Global,
     net: &Network,
@@ -113,7 +113,7 @@ fn check_balances_at(
     Ok(())
 }
 
-// The sink from its first arrival on: what stays there by an arrival is what was supplied by its departure.
+// Tests C7 after the first arrival: the amount entered by an arrival is the amount left plus the supply up to the departure.
 fn check_stays(
     alloc: Global,
     sink: NodeId,
@@ -134,8 +134,8 @@ fn check_stays(
     compare(CheckRule::C7, Subject::Node(sink), &come, &total, reached)
 }
 
-// The sink: up to its first arrival what comes goes on; and from then on what stays there by an arrival is what was supplied by its
-// departure.
+// Tests C7. Up to the first arrival, the sink's inflow equals its outflow. From then on, the amount entered by an arrival is the amount
+// left plus the supply up to the departure.
 fn check_sink(
     alloc: Global,
     net: &Network,
@@ -163,7 +163,7 @@ fn check_sink(
     check_stays(alloc, sink, label, &comes, &goes, supplied, flow.reached)
 }
 
-/// What comes into each node and goes out of it; last comes the sink.
+/// Tests C6 at all nodes except the sink, and then C7 at the sink. Returns an error with the first difference, if there is one.
 #[tactic(auto, unfolding(crate::specs::Steps::balances_list))]
 pub fn check_balances(
     alloc: Global,

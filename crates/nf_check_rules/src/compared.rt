@@ -1,4 +1,4 @@
-// Two curves are compared.
+// Comparison of two curves.
 ghost use Rattle.nf_rational.specs.Operations.{0ℚ};
 ghost use Rattle.nf_rational.specs.Order.{◌≤ℚ◌};
 ghost use Rattle.nf_work.specs.Passing.{passes_Q};
@@ -11,7 +11,7 @@ use nf_check_lists::CheckRule;
 use nf_curve::Curve;
 use nf_frac::{Part, Q};
 
-/// Ends the check at the first corner, up to a last time, at which two curves differ.
+/// Compares two curves up to the time `last`, at least 0. If they differ, returns the first corner at which they do as an error.
 pub fn compare(
     rule: CheckRule,
     subject: Subject,

@@ -1,4 +1,4 @@
-// Why a check ends before all is tested.
+// Reasons for the end of a check.
 ghost use Rattle.std.specs.Prelude.{◌≡◌, option_map};
 ghost use Rattle.nf_check_lists.specs.Trial.{unless as unless_by};
 ghost use Rattle.nf_curve.specs.Differences.{difference_of};
@@ -12,16 +12,16 @@ use nf_frac::{Halt, PassedAt, Q};
 use nf_graph::{LinkId, NodeId};
 use std::alloc::{AllocError, AllocFailed};
 
-/// Why a check ends before all is tested.
+/// The reason why a check ended early.
 #[derive(Clone, Copy)]
 pub enum Ended {
-    /// A node breaks a rule, where these two values differ.
+    /// A node breaks a rule, with two different values.
     AtNode {
         rule: CheckRule,
         node: NodeId,
         sides: Difference,
     },
-    /// A link does.
+    /// A link breaks a rule, with two different values.
     AtLink {
         rule: CheckRule,
         link: LinkId,
@@ -29,7 +29,7 @@ pub enum Ended {
     },
     /// An operation passes.
     Passed(PassedAt<Q>),
-    /// Memory is wanting.
+    /// An allocation failed.
     Memory,
 }
 
@@ -68,7 +68,7 @@ impl<T: Drop> From<AllocFailed<T>> for Ended {
     }
 }
 
-/// Ends the check where two values differ.
+/// Returns an error for the difference, if there is one.
 pub fn unless(
     rule: CheckRule,
     subject: Subject,

@@ -1,4 +1,4 @@
-// Exits of links by departure, in short form: the third rule works them out, and the eighth asks for them again.
+// Exits of links by departure, in short form. C3 computes them, and C8 reuses them.
 ghost use Rattle.std.specs.Prelude.{◌≡◌, ◌<◌, length, replicate, set, slice_get, Some, None, IfOk, OnOk, OnErr};
 ghost use Rattle.nf_check_rules.specs.Exits.{Keeps};
 
@@ -8,14 +8,14 @@ use nf_graph::LinkId;
 use nf_net::Network;
 use std::alloc::{AllocError, Global};
 
-/// Of each link its exits, for who comes to its tail at the label there, if they are kept.
+/// Stored exits by departure: for each link a curve or none. A departure enters a link at the label of the link's tail.
 #[derive(Drop)]
 pub struct Exits {
     pub kept: Vec<Option<Curve>>,
 }
 
 impl Exits {
-    /// None are kept yet.
+    /// Returns exits of which none is stored.
     pub fn none(alloc: Global, net: &Network) -> Result<Exits, AllocError>
         ensures { IfOk result (λ exits. exits.kept.items ≡ replicate (length net.now.net.links) None) }
     {
@@ -26,7 +26,7 @@ impl Exits {
         Ok(Exits { kept })
     }
 
-    // The exits of a link are these.
+    // Stores the exits of a link.
     fn put(&mut self, link: LinkId, short: Curve)
         requires { link < length self.old.kept.items }
         ensures { self.new.kept.items ≡ set self.old.kept.items link (Some short) }
@@ -34,8 +34,8 @@ impl Exits {
         self.kept[link.index()] = Some(short);
     }
 
-    /// The exits of a link are kept in short form, unless an operation passes there: then they are worked out when it is their turn. Where
-    /// memory is wanting all stay as they were.
+    /// Stores the exits of a link in short form. If an operation passes, `Exits` is unchanged; C8 computes the exits again. If an
+    /// allocation fails, `Exits` is unchanged.
     pub(crate) fn keep(
         &mut self,
         alloc: Global,
@@ -56,7 +56,7 @@ impl Exits {
         }
     }
 
-    /// The exits of a link, if they are kept; from then on they aren't.
+    /// Removes and returns the exits of a link, if they are stored.
     pub(crate) fn take(&mut self, link: LinkId) -> Option<Curve>
         requires { link < length self.old.kept.items }
         ensures taken { slice_get self.old.kept.items link ≡ Some result }

@@ -1,4 +1,4 @@
-// The first rule, of the inflows: each is 0 at time 0 and never falls.
+// Rule C1: each inflow is 0 at time 0 and never falls.
 ghost use Rattle.std.specs.Prelude.{◌≡◌, ◌<◌, length, option_map};
 ghost use Rattle.nf_work.specs.Passing.{passes_Q};
 ghost use Rattle.nf_work.specs.Checked.{each};
@@ -19,7 +19,7 @@ use nf_frac::Q;
 use nf_graph::LinkId;
 use nf_net::Network;
 
-// The first point whose value is above that of the next, beside it.
+// Returns the first point whose value exceeds the next value, with both values.
 fn first_fall(curve: &Curve) -> Option<Difference>
     ensures { option_map difference_of result ≡ first_fall_by curve.now.points }
 {
@@ -37,11 +37,11 @@ fn first_fall(curve: &Curve) -> Option<Difference>
     None
 }
 
-// The amount at time 0, if it isn't 0, beside 0; or else the first point from which the amount falls.
+// Returns the value at time 0 and 0, if they differ. Otherwise returns the first fall.
 fn inflow_fault(curve: &Curve) -> Option<Difference>
     ensures { option_map difference_of result ≡ fault_by curve.now.points }
 {
-    // For the proof: there is a point.
+    // Proof: there is a point.
     let _ = curve.len();
     let (_, first) = curve.point(0);
     if first.is_zero() {
@@ -55,7 +55,7 @@ fn inflow_fault(curve: &Curve) -> Option<Difference>
     }
 }
 
-// The inflow of a link.
+// Tests C1 for the inflow of a link.
 fn check_inflow(net: &Network, flow: &Flow, link: LinkId) -> Result<(), Ended>
     requires { link < length flow.now.inflows.items }
     ensures { Tries (λ _. tt) result (inflow_rule passes_Q net.now.net (flow_of flow.now) link) }
@@ -68,7 +68,7 @@ fn check_inflow(net: &Network, flow: &Flow, link: LinkId) -> Result<(), Ended>
     )
 }
 
-/// The inflows of all links.
+/// Tests C1 for the inflows of all links, in order.
 pub fn check_inflows(net: &Network, flow: &Flow) -> Result<(), Ended>
     requires { length flow.now.inflows.items ≡ length net.now.net.links }
     ensures { Tries (λ _. tt) result (done (each (inflow_rule passes_Q net.now.net (flow_of flow.now)) (all_links net.now.net))) }

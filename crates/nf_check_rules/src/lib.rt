@@ -1,5 +1,5 @@
-//! The rules of an equilibrium, each tested by itself, but those of the labels: how a test ends, the loadings that are worked out of a
-//! flow, and the tests that compare its curves. Times, amounts and rates are exact fractions.
+//! Tests the rules of an equilibrium one by one, except those of the labels. Defines how a test ends, and computes the loadings of a flow.
+//! Times, amounts and rates are exact fractions.
 #![tactic(auto)]
 
 mod arriving;

@@ -1,4 +1,4 @@
-// What becomes of the inflows by the law of the point queue.
+// Loading of a flow's inflows.
 ghost use Rattle.std.specs.Prelude.{◌≡◌, ◌<◌, ℕ, length};
 ghost use Rattle.nf_work.specs.Passing.{passes_Q};
 ghost use Rattle.nf_work.specs.Checked.{each};
@@ -20,7 +20,7 @@ use nf_load::{Loaded, load_link};
 use nf_net::Network;
 use std::alloc::Global;
 
-// What becomes of the inflow of a link, up to the greatest label of its ends.
+// Loads a link with its inflow, up to the greater of the greatest labels of its tail and head.
 fn load(
     alloc: Global,
     net: &Network,
@@ -49,7 +49,7 @@ fn load(
     Ok(loaded)
 }
 
-/// What becomes of the inflow of each link, up to the greatest label of its ends.
+/// Loads each link with its inflow, up to the greater of the greatest labels of its tail and head. Each inflow satisfies C1.
 pub fn load_links(
     alloc: Global,
     net: &Network,

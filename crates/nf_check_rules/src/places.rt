@@ -1,4 +1,5 @@
-// Places on curves: how many of the points are at or before a time. They move along, so that no point is looked at again and again.
+// Point counts of curves. The count of a time is the number of points at or before it. A search starts at the count of a near time, so it
+// reads few points.
 ghost use Rattle.std.specs.Prelude.{◌≡◌, ◌≤◌, length};
 ghost use Rattle.nf_rational.specs.Operations.{0ℚ};
 ghost use Rattle.nf_rational.specs.Order.{◌≤ℚ◌};
@@ -11,12 +12,12 @@ ghost use Rattle.nf_curve.specs.Places.{place_of};
 use nf_curve::{Curve, line};
 use nf_frac::{Part, PassedAt, Q};
 
-// A place that isn't beyond that of a time, from another down.
+// Returns the count reduced from `from` until it does not exceed the count of `time`.
 fn place_down(curve: &Curve, from: usize, time: Q) -> usize
     requires { from ≤ length curve.now.points }
     ensures { result ≤ place_of time curve.now.points }
 {
-    // For the proof: times rise.
+    // Proof: times rise.
     let _ = curve.len();
     let mut place = from;
     while place > 0 && time.is_below(curve.point(place - 1).0) {
@@ -25,7 +26,7 @@ fn place_down(curve: &Curve, from: usize, time: Q) -> usize
     place
 }
 
-// The place of a time, from one up that isn't beyond it.
+// Returns the count of `time`, searched upward from a lower count.
 fn place_up(curve: &Curve, from: usize, time: Q) -> usize
     requires { from ≤ place_of time curve.now.points }
     ensures { result ≡ place_of time curve.now.points }
@@ -38,7 +39,7 @@ fn place_up(curve: &Curve, from: usize, time: Q) -> usize
     place
 }
 
-/// The place of a time, from any other.
+/// Returns the count of `time`: the number of points at or before it. The search starts at the count `from`.
 pub(crate) fn place_near(curve: &Curve, from: usize, time: Q) -> usize
     requires { from ≤ length curve.now.points }
     ensures { result ≡ place_of time curve.now.points }
@@ -47,7 +48,7 @@ pub(crate) fn place_near(curve: &Curve, from: usize, time: Q) -> usize
     place_up(curve, down, time)
 }
 
-/// The value at a time, by its place.
+/// Returns the value at a time. `place` must be the count of that time.
 pub(crate) fn value_at(curve: &Curve, place: usize, time: Q) -> Result<Q, PassedAt<Q>>
     requires time { 0ℚ ≤ℚ time }
     requires place { place ≡ place_of time curve.now.points }

@@ -1,4 +1,4 @@
-// The second rule: each printed rate is the slope to the next point.
+// Rule C2: each printed rate is the slope to the next point.
 ghost use Rattle.std.specs.Prelude.{◌≡◌, ◌<◌, suc, length, option_map};
 ghost use Rattle.nf_work.specs.Passing.{passes_Q};
 ghost use Rattle.nf_work.specs.Checked.{each};
@@ -20,7 +20,7 @@ use nf_frac::{Part, Q};
 use nf_graph::LinkId;
 use nf_net::Network;
 
-// The printed rate from a time on, beside the slope, if they differ.
+// Returns the printed rate and the slope from a time on, if they differ.
 fn other_rate(time: Q, rate: Q, slope: Q) -> Option<Difference>
     ensures { option_map difference_of result ≡ if_other time rate slope }
 {
@@ -35,12 +35,12 @@ fn other_rate(time: Q, rate: Q, slope: Q) -> Option<Difference>
     }
 }
 
-// The rates of a trace of a link.
+// Tests C2 for the rates of one trace of a link.
 fn check_trace(link: LinkId, trace: &Trace) -> Result<(), Ended>
     requires { length trace.now.curve.points ≡ suc (length trace.now.rates.items) }
     ensures { Tries (λ _. tt) result (rates_list passes_Q (OfLink link) trace.now.curve.points trace.now.rates.items) }
 {
-    // For the proof: times rise.
+    // Proof: times rise.
     let _ = trace.curve.len();
     for (i, rate) in trace.rates.iter().enumerate() {
         let point = trace.curve.point(i);
@@ -55,7 +55,7 @@ fn check_trace(link: LinkId, trace: &Trace) -> Result<(), Ended>
     Ok(())
 }
 
-// The rates of a link's inflow, and then of its outflow.
+// Tests C2 for a link's inflow, and then for its outflow.
 fn check_link_rates(net: &Network, flow: &Flow, link: LinkId) -> Result<(), Ended>
     requires inflow { link < length flow.now.inflows.items }
     requires outflow { link < length flow.now.outflows.items }
@@ -67,7 +67,7 @@ fn check_link_rates(net: &Network, flow: &Flow, link: LinkId) -> Result<(), Ende
     check_trace(link, trace_at(&flow.outflows, link))
 }
 
-/// The rates of all links.
+/// Tests C2 for all links, in order. Each trace has one rate less than points.
 pub fn check_rates(net: &Network, flow: &Flow) -> Result<(), Ended>
     requires inflows { length flow.now.inflows.items ≡ length net.now.net.links }
     requires outflows { length flow.now.outflows.items ≡ length net.now.net.links }

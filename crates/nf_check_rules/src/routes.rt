@@ -1,4 +1,4 @@
-// The eighth rule: only links on shortest routes take flow.
+// Rule C8: flow uses only links on shortest routes.
 ghost use Rattle.std.specs.Prelude.{◌≡◌, ◌<◌, length, option_map, IfSome, Ok};
 ghost use Rattle.std.specs.List.{enumerate_from};
 ghost use Rattle.nf_rational.specs.Rational.{ℚ};
@@ -30,8 +30,8 @@ use nf_graph::LinkId;
 use nf_net::Network;
 use std::alloc::Global;
 
-// Where a link takes flow off the shortest routes, by its inflow, its exits and the labels of its ends, up to a last departure; the
-// exits by departure may have been kept.
+// Returns the first departure at which the link takes flow off the shortest routes, if there is one, up to `last`. Reuses the exits by
+// departure if they are stored.
 fn detour(
     alloc: Global,
     inflow: &Curve,
@@ -53,7 +53,7 @@ fn detour(
     Ok(detour)
 }
 
-// A link takes flow on shortest routes alone. Its exits by departure may have been kept.
+// Tests C8 for a link. Reuses the link's exits by departure if they are stored.
 fn check_route(
     alloc: Global,
     net: &Network,
@@ -87,7 +87,8 @@ fn check_route(
     unless(CheckRule::C8, Subject::Link(link), detour)
 }
 
-/// All links take flow on shortest routes alone. Exits that were kept are taken; those that are left, also after a refusal, are the links'.
+/// Tests C8 for all links, in order. Removes each link's stored exits before its test. The exits still stored satisfy `AreKept`, even after
+/// a refusal.
 pub fn check_routes(
     alloc: Global,
     net: &Network,

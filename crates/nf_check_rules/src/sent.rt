@@ -1,4 +1,4 @@
-// Three curves by departure: what has been sent into a link, its exits, and the labels of its head.
+// Three curves of a link, by departure.
 ghost use Rattle.std.specs.Prelude.{◌≡◌, IfOk, IfSome, Ok};
 ghost use Rattle.nf_rational.specs.Rational.{ℚ};
 ghost use Rattle.nf_rational.specs.Operations.{0ℚ};
@@ -19,7 +19,8 @@ use nf_curve::{Curve, Difference};
 use nf_frac::{Halt, Part, PassedAt, Q};
 use std::alloc::{AllocError, Global};
 
-/// What has been sent into a link, its exits and the labels of its head, by departure and in short form.
+/// Three curves of a link by departure, in short form. `taken` is the amount that has entered the link, `exits` holds its exits, and
+/// `labels` holds the labels of its head.
 #[derive(Drop)]
 pub(crate) struct Sent {
     pub taken: Curve,
@@ -27,7 +28,7 @@ pub(crate) struct Sent {
     pub labels: Curve,
 }
 
-/// The places of a departure on these curves.
+/// The point counts of a departure, for each curve.
 #[derive(Clone, Copy)]
 pub(crate) struct Places {
     pub taken: usize,
@@ -36,7 +37,7 @@ pub(crate) struct Places {
 }
 
 impl Sent {
-    // The curves of a link by its inflow, its exits and the labels of its ends, up to a last departure.
+    // Computes the three curves of a link up to the departure `last`, from its inflow, its exits and the labels of its ends.
     #[tactic(auto, unfolding(crate::specs::Sent::sent_list))]
     fn by_exit(
         alloc: Global,
@@ -64,7 +65,7 @@ impl Sent {
         })
     }
 
-    // What is compared, where the exits by departure are known in short form.
+    // Computes the three curves from exits by departure in short form.
     #[tactic(auto, unfolding(crate::specs::Sent::known_list))]
     fn by_exits(
         alloc: Global,
@@ -80,7 +81,7 @@ impl Sent {
             (at_part Check (known_list passes_Q inflow.now.points exits.points tail_label.now.points head_label.now.points last)) }
         ensures curves { IfOk result AreCurves }
     {
-        // For the proof: the exits are a curve.
+        // Proof: the exits are a curve.
         let _ = exits.len();
         let all_taken = Curve::compose(alloc, inflow, tail_label, last, Part::Check)?;
         let taken = Curve::short(alloc, &all_taken, Part::Check)?;
@@ -92,8 +93,8 @@ impl Sent {
         })
     }
 
-    /// The curves of a link by its inflow, its exits and the labels of its ends, up to a last departure. The exits by departure may
-    /// have been kept in short form.
+    /// Computes the three curves of a link up to the departure `last`, from its inflow, its exits and the labels of its ends. Reuses the
+    /// exits by departure in short form, if `kept` holds them.
     pub(crate) fn along(
         alloc: Global,
         inflow: &Curve,
@@ -116,7 +117,7 @@ impl Sent {
         }
     }
 
-    /// The times of their points, in rising order.
+    /// Returns the times of the points of all three curves, in rising order.
     pub(crate) fn times(&self, alloc: Global) -> Result<Vec<Q>, AllocError>
         ensures { IfOk result (λ times. times.items ≡ three_times self.now.taken.points self.now.exits.points self.now.labels.points) }
     {
@@ -127,7 +128,7 @@ impl Sent {
         merged(alloc, &both, &labels)
     }
 
-    /// The places of a departure, from those of another.
+    /// Returns the point counts of a departure. The search starts at the counts `from`.
     pub(crate) fn places_near(&self, from: &Places, time: Q) -> Places
         requires { AreWithin self.now from.now }
         ensures places { ArePlaces self.now time result }
@@ -140,7 +141,7 @@ impl Sent {
         }
     }
 
-    /// The exit and the label of the head at a departure, by its places.
+    /// Returns the exit and the head label at a departure, from its point counts.
     pub(crate) fn sides_at(&self, places: &Places, time: Q) -> Result<Difference, PassedAt<Q>>
         requires time { 0ℚ ≤ℚ time }
         requires places { ArePlaces self.now time places.now }

@@ -1,4 +1,4 @@
-// Stretches of departures between neighbouring times of three curves: on which flow is sent off the shortest routes.
+// Tests for flow off the shortest routes, interval by interval. An interval of departures lies between consecutive times of three curves.
 ghost use Rattle.std.specs.Prelude.{◌≡◌, true, pos, option_map, IfOk, OnOk};
 ghost use Rattle.std.specs.List.{AllByRecursion};
 ghost use Rattle.nf_rational.specs.Operations.{0ℚ, whole};
@@ -19,21 +19,21 @@ use crate::sent::{Places, Sent};
 use nf_curve::Difference;
 use nf_frac::{Part, PassedAt, Q, at};
 
-// The values differ.
+// Returns whether the two values differ.
 fn do_differ(sides: &Difference) -> bool
     ensures { result ≡ do_differ_by (difference_of sides.now) }
 {
     !sides.left.is_same(sides.right)
 }
 
-// 2.
+// Returns 2.
 fn two() -> Q
     ensures { result ≡ whole (pos 2) }
 {
     Q::make(2, 1).unwrap_or(Q::one())
 }
 
-// The departure in the middle of a stretch.
+// Returns the departure in the middle of an interval.
 #[tactic(auto, unfolding(nf_check_lists::specs::Routes::checked_middle), using(crate::proofs::Stretching::apart_by_two))]
 fn middle(first: Q, next: Q) -> Result<Q, PassedAt<Q>>
     ensures { result ≡ at_part Check (checked_middle passes_Q first next) }
@@ -43,7 +43,7 @@ fn middle(first: Q, next: Q) -> Result<Q, PassedAt<Q>>
     Ok(middle)
 }
 
-// A departure: its places on the three curves, what has been sent by then, and exit and label there, once they have been looked at.
+// A departure: its point counts on the three curves, the amount entered by then, and exit and head label once they are computed.
 #[derive(Clone, Copy)]
 struct Departure {
     time: Q,
@@ -52,7 +52,7 @@ struct Departure {
     sides: Option<Difference>,
 }
 
-// What has been sent by a departure, by the places of another.
+// Computes the amount entered by a departure. The search for its point counts starts at `near`.
 fn departure_at(sent: &Sent, near: &Places, time: Q) -> Result<Departure, PassedAt<Q>>
     requires time { 0ℚ ≤ℚ time }
     requires within { AreWithin sent.now near.now }
@@ -70,7 +70,7 @@ fn departure_at(sent: &Sent, near: &Places, time: Q) -> Result<Departure, Passed
     })
 }
 
-// Exit and label at a departure.
+// Returns exit and head label at a departure. Reuses the stored values if they are there.
 fn sides_of(sent: &Sent, here: &Departure) -> Result<Difference, PassedAt<Q>>
     requires { IsDeparture sent.now here.now }
     ensures { seen_at difference_of (λ q. q) result
@@ -82,7 +82,7 @@ fn sides_of(sent: &Sent, here: &Departure) -> Result<Difference, PassedAt<Q>>
     }
 }
 
-// Exit and label in the middle of a stretch.
+// Returns exit and head label in the middle of an interval.
 fn at_middle(
     sent: &Sent,
     places: &Places,
@@ -100,7 +100,8 @@ fn at_middle(
     Ok(Some(sides))
 }
 
-// Where exit and label differ on a stretch on which flow is sent: at its beginning, or else in its middle if they differ at its end.
+// Returns a difference of exit and head label on an interval on which flow enters the link. Tests the start first. If they agree there and
+// differ at the end, returns their values in the middle.
 fn on_rising(
     sent: &Sent,
     here: &Departure,
@@ -126,7 +127,7 @@ fn on_rising(
     }
 }
 
-// Where exit and label differ on a stretch, if flow is sent on it.
+// Returns a difference of exit and head label on an interval, if flow enters the link there.
 fn on_stretch(
     sent: &Sent,
     here: &Departure,
@@ -147,8 +148,8 @@ fn on_stretch(
     }
 }
 
-/// The first departure, on the stretches between these times, from which on flow is sent while exit and label differ. What was
-/// looked at at the end of a stretch isn't looked at again at the beginning of the next.
+/// Returns the first departure from which on flow enters the link while exit and head label differ. Tests the intervals between consecutive
+/// `times`. The values at the end of an interval are reused at the start of the next.
 pub(crate) fn first_detour(sent: &Sent, times: &[Q]) -> Result<Option<Difference>, PassedAt<Q>>
     requires { AllByRecursion (λ time. 0ℚ ≤ℚ time) times.now }
     ensures { seen_at (option_map difference_of) (λ q. q) result ≡

@@ -1,5 +1,5 @@
-// What a rule is of.
+// Subjects of the rules.
 use nf_graph::{LinkId, NodeId};
 
-/// What breaks a rule: a node or a link.
+/// The node or link that breaks a rule.
 pub type Subject = nf_check_lists::Subject<NodeId, LinkId>;

@@ -1,4 +1,4 @@
-// The times of the points of curves, in rising order.
+// Times of curves, in rising order.
 ghost use Rattle.std.specs.Prelude.{◌≡◌, ◌+◌, ◌^◌, ◌<◌, IfOk};
 ghost use Rattle.nf_rational.specs.Rational.{ℚ};
 ghost use Rattle.nf_rational.specs.Order.{cmp_ℚ, min_ℚ};
@@ -10,7 +10,7 @@ use nf_frac::Q;
 use std::alloc::{AllocError, Global};
 use std::cmp::Ordering;
 
-/// The times of the points of a curve.
+/// Returns the times of the points of a curve.
 pub(crate) fn times_of(alloc: Global, curve: &Curve) -> Result<Vec<Q>, AllocError>
     ensures { IfOk result (λ times. times.items ≡ lists.times_of curve.now.points) }
 {
@@ -22,14 +22,14 @@ pub(crate) fn times_of(alloc: Global, curve: &Curve) -> Result<Vec<Q>, AllocErro
     Ok(times)
 }
 
-// The earlier of two times that are in this order.
+// Returns the earlier of two times in the order `order`.
 fn earlier(order: Ordering, here: Q, there: Q) -> Q
     ensures { order ≡ cmp_ℚ here there → result ≡ min_ℚ here there }
 {
     if order.is_gt() { there } else { here }
 }
 
-// A place in the left one of two lists of times moves on, unless the time there comes after that of the right one.
+// Advances the index in the left list of times, unless the time there is after that of the right list.
 #[tactic(auto, using(crate::proofs::Merging::left_by))]
 fn left_moved(place: usize, order: Ordering) -> usize
     requires { place + 1 < 2 ^ 64 }
@@ -38,7 +38,7 @@ fn left_moved(place: usize, order: Ordering) -> usize
     if order.is_gt() { place } else { place + 1 }
 }
 
-// And one in the right one.
+// Advances the index in the right list of times, unless the time there is after that of the left list.
 #[tactic(auto, using(crate::proofs::Merging::right_by))]
 fn right_moved(place: usize, order: Ordering) -> usize
     requires { place + 1 < 2 ^ 64 }
@@ -47,7 +47,7 @@ fn right_moved(place: usize, order: Ordering) -> usize
     if order.is_lt() { place } else { place + 1 }
 }
 
-/// Of two lists of times in rising order, the times of either in rising order, each once.
+/// Merges two lists of times in rising order. The result holds the times of both in rising order, each once.
 pub(crate) fn merged(alloc: Global, left: &[Q], right: &[Q]) -> Result<Vec<Q>, AllocError>
     ensures { IfOk result (λ times. times.items ≡ lists.merged left.now right.now) }
 {

@@ -1,4 +1,4 @@
-// The fourth and the fifth rule: outflows and queues are those of the inflows.
+// Rules C4 and C5: printed outflows and queues result from the inflows.
 ghost use Rattle.std.specs.Prelude.{◌≡◌, ◌<◌, length};
 ghost use Rattle.std.specs.List.{enumerate_from};
 ghost use Rattle.nf_work.specs.Passing.{passes_Q};
@@ -19,7 +19,7 @@ use nf_curve::Flow;
 use nf_graph::LinkId;
 use nf_net::Network;
 
-// The outflow of a link, up to the last label of its head.
+// Tests C4 for the outflow of a link, up to the last label of its head.
 fn check_outflow(net: &Network, flow: &Flow, worked: &Worked, link: LinkId) -> Result<(), Ended>
     requires link { link < length net.now.net.links }
     requires outflows { length flow.now.outflows.items ≡ length net.now.net.links }
@@ -34,7 +34,7 @@ fn check_outflow(net: &Network, flow: &Flow, worked: &Worked, link: LinkId) -> R
     compare(CheckRule::C4, Subject::Link(link), told, right, last)
 }
 
-// The queue of a link, up to the last label of its tail.
+// Tests C5 for the queue of a link, up to the last label of its tail.
 fn check_queue(net: &Network, flow: &Flow, worked: &Worked, link: LinkId) -> Result<(), Ended>
     requires link { link < length net.now.net.links }
     requires queues { length flow.now.queues.items ≡ length net.now.net.links }
@@ -49,7 +49,7 @@ fn check_queue(net: &Network, flow: &Flow, worked: &Worked, link: LinkId) -> Res
     compare(CheckRule::C5, Subject::Link(link), told, right, last)
 }
 
-/// The outflows of all links, each up to the last label of the link's head.
+/// Tests C4 for the outflows of all links, each up to the last label of the link's head.
 pub fn check_outflows(net: &Network, flow: &Flow, worked: &Worked) -> Result<(), Ended>
     requires outflows { length flow.now.outflows.items ≡ length net.now.net.links }
     requires worked { IsWorked net.now.net worked.now }
@@ -63,7 +63,7 @@ pub fn check_outflows(net: &Network, flow: &Flow, worked: &Worked) -> Result<(),
     Ok(())
 }
 
-/// The queues of all links, each up to the last label of the link's tail.
+/// Tests C5 for the queues of all links, each up to the last label of the link's tail.
 pub fn check_queues(net: &Network, flow: &Flow, worked: &Worked) -> Result<(), Ended>
     requires queues { length flow.now.queues.items ≡ length net.now.net.links }
     requires worked { IsWorked net.now.net worked.now }

@@ -1,4 +1,4 @@
-// What comes into a node, and what goes out of it, at each time.
+// Total inflow and outflow of a node.
 ghost use Rattle.std.specs.Prelude.{◌≡◌, ◌<◌, length};
 ghost use Rattle.nf_work.specs.declared.Part.TheVariants.{Check};
 ghost use Rattle.nf_work.specs.Passing.{passes_Q};
@@ -17,7 +17,7 @@ use nf_load::Loaded;
 use nf_net::Network;
 use std::alloc::Global;
 
-// The total so far, with what comes out of a link if it leads to the node.
+// Adds the outflow of a link to the total so far, if the link leads to the node.
 fn with_outflow(
     alloc: Global,
     net: &Network,
@@ -38,7 +38,7 @@ fn with_outflow(
     Curve::sum(alloc, &so_far, outflow, Part::Check)
 }
 
-/// What has come out of the links into a node, by time.
+/// Returns the sum of the outflows of the links into a node, by time.
 pub(crate) fn total_in(
     alloc: Global,
     net: &Network,
@@ -55,7 +55,7 @@ pub(crate) fn total_in(
     Ok(total)
 }
 
-// The total so far, with what goes into a link if it leads out of the node.
+// Adds the inflow of a link to the total so far, if the link leaves the node.
 fn with_inflow(
     alloc: Global,
     net: &Network,
@@ -76,7 +76,7 @@ fn with_inflow(
     Curve::sum(alloc, &so_far, inflow, Part::Check)
 }
 
-/// What has gone into the links out of a node, by time.
+/// Returns the sum of the inflows of the links out of a node, by time.
 pub(crate) fn total_out(
     alloc: Global,
     net: &Network,

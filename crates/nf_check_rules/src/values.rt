@@ -1,4 +1,4 @@
-// Values of curves: the greatest, the first and the last.
+// The greatest, first and last value.
 ghost use Rattle.std.specs.Prelude.{◌≡◌};
 ghost use Rattle.std.specs.List.{AllByRecursion};
 ghost use Rattle.nf_rational.specs.Operations.{0ℚ};
@@ -9,7 +9,7 @@ ghost use Rattle.nf_check_rules.specs.Points.{first_value as first_by};
 use nf_curve::Curve;
 use nf_frac::Q;
 
-/// The greatest value of a curve that has no negative one.
+/// Returns the greatest of 0 and the values of a curve's points.
 pub(crate) fn greatest_value(curve: &Curve) -> Q
     ensures value { result ≡ greatest_by curve.now.points }
     ensures nonnegative { 0ℚ ≤ℚ result }
@@ -24,18 +24,18 @@ pub(crate) fn greatest_value(curve: &Curve) -> Q
     greatest
 }
 
-/// The value at time 0.
+/// Returns the value of the first point.
 pub(crate) fn first_value(curve: &Curve) -> Q
     ensures value { result ≡ first_by curve.now.points }
     ensures nonnegative { AllByRecursion (λ q. 0ℚ ≤ℚ q.1) curve.now.points → 0ℚ ≤ℚ result }
 {
-    // For the proof: there is a point.
+    // Proof: there is a point.
     let _ = curve.len();
     let (_, value) = curve.point(0);
     value
 }
 
-/// The value from the last point on.
+/// Returns the value of the last point, which the curve has from then on.
 pub(crate) fn last_value(curve: &Curve) -> Q
     ensures value { result ≡ last_by curve.now.points }
     ensures nonnegative { AllByRecursion (λ q. 0ℚ ≤ℚ q.1) curve.now.points → 0ℚ ≤ℚ result }

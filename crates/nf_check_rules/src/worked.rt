@@ -1,4 +1,4 @@
-// What is worked out of a flow before its curves are compared, and curves by their number.
+// Labels and loadings computed from a flow.
 ghost use Rattle.std.specs.Prelude.{◌≡◌, ◌<◌, length, map, slice_get, Some};
 ghost use Rattle.nf_model.specs.Equilibrium.{points_at, points_of};
 ghost use Rattle.nf_check_lists.specs.CheckList.{trace_of as trace_in};
@@ -11,14 +11,14 @@ use nf_curve::{Curve, Trace};
 use nf_graph::LinkId;
 use nf_load::Loaded;
 
-/// What is worked out of a flow: its labels up to the departure reached, and what becomes of the inflow of each link.
+/// Curves computed from a flow. `labels` holds its labels up to the departure reached, and `loaded` the loading of each link.
 #[derive(Drop)]
 pub struct Worked {
     pub labels: Vec<Curve>,
     pub loaded: Vec<Loaded>,
 }
 
-/// The curve of a number.
+/// Returns the curve of a number.
 pub fn curve_at(curves: &[Curve], number: usize) -> &Curve
     requires { number < length curves.now }
     ensures { result.now.points ≡ points_at (curves_of curves.now) number }
@@ -26,7 +26,7 @@ pub fn curve_at(curves: &[Curve], number: usize) -> &Curve
     &curves[number]
 }
 
-/// The trace of a link.
+/// Returns the trace of a link.
 pub(crate) fn trace_at(traces: &[Trace], link: LinkId) -> &Trace
     requires { link < length traces.now }
     ensures there { slice_get (map trace_of traces.now) link ≡ Some (trace_of result.now) }
@@ -36,7 +36,7 @@ pub(crate) fn trace_at(traces: &[Trace], link: LinkId) -> &Trace
     &traces[link.index()]
 }
 
-/// What becomes of the inflow of a link.
+/// Returns the loading of a link.
 pub(crate) fn loaded_at(loaded: &[Loaded], link: LinkId) -> &Loaded
     requires { link < length loaded.now }
     ensures { loaded_of result.now ≡ loaded_by (loadings_of loaded.now) link }

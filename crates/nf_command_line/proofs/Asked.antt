@@ -1,4 +1,4 @@
--- What is asked can be.
+-- Requests are within their limits.
 use Rattle.std.proofs.Common.{◌≡◌, ℕ, ◌≤◌, Bool, true, false, cond, List, refl, ap, subst, ◌∙◌, lit≤}
 use Rattle.std.specs.Prelude.{Option, Some, None, IfSome, option_map, option_and_then, Result, Ok, Err, codes}
 use Rattle.std.specs.Option.{option_map_or}
@@ -19,12 +19,12 @@ use Rattle.nf_command_line.specs.Requests.{Request, Show, IsWithin, CanBeAsked, 
 use Rattle.nf_command_line.specs.RequestViews.{requested}
 use Rattle.nf_command_line.proofs.Counts.{count_within}
 
--- what is asked from other words is the same, where each is
+-- a function has equal values at five pairs of equal arguments
 pub same_5 : {A B C D E R : Type 0} (f : A → B → C → D → E → R) (a x : A) (b y : B) (c z : C) (d v : D) (e w : E) → a ≡ x → b ≡ y → c ≡ z → d ≡ v → e ≡ w → f a b c d e ≡ f x y z v w
 same_5 f a x b y c z d v e w p q r s t =
     ap (λ i. f i b c d e) p ∙ ap (λ i. f x i c d e) q ∙ ap (λ i. f x y i d e) r ∙ ap (λ i. f x y z i e) s ∙ ap (λ i. f x y z v i) t
 
--- ---- what an option gives
+-- ---- the value of an option
 module _ {X : Type 0} (P : X → Type 0) (f : Text → Option X) (each : (word : Text) → IfSome (f word) P) where
   given : (word : Option Text) → IfSome (option_and_then f word) P
   given None = tt
@@ -167,7 +167,7 @@ pub all_can : (words : List Text) → IfSome (request_of words) CanBeAsked
 unfolding request_of
 all_can words = matched_can (matches_on words)
 
--- a request of the code that is what the words ask
+-- a request of the code that is the request of the words
 pub can_be : (words : List Text) (request : Option code.Request) → request_of words ≡ option_map requested request → IfSome request (λ r. CanBeAsked (requested r))
 can_be words None e = tt
 can_be words (Some request) e = subst (λ (o : Option Request). IfSome o CanBeAsked) e (all_can words)

@@ -1,4 +1,4 @@
--- A count is what `parse` reads of a word of digits.
+-- A count is the number that `parse` reads from a word of digits.
 use Rattle.std.proofs.Common.{◌≡◌, ℕ, ◌+◌, ◌-◌, ◌*◌, ◌^◌, ◌<◌, ◌≤◌, Bool, true, false, ◌&&◌, cond, List, length, refl, sym, ap, ◌∙◌, subst, inl, inr, arith}
 use Rattle.std.specs.Prelude.{Some, None, IfSome, Ok, Err}
 use Rattle.std.specs.Str.Parse.{ParsesUnsigned}
@@ -8,7 +8,7 @@ use Rattle.nf_numerals.specs.Digits.{are_digits, value_after, value_of}
 use Rattle.nf_numerals.proofs.Digits.{digit_range}
 use Rattle.nf_command_line.specs.Numbers.{is_whole, is_between, count_of}
 
--- ---- digits, and what they write
+-- ---- digits, and their value
 tells : IsDigitsTest (λ ds. are_digits ds ≡ true)
 tells = record {
   empty = refl;

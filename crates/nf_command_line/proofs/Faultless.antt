@@ -1,4 +1,4 @@
--- Where no step of a simple command fails, each step passes.
+-- If no step of a simple command fails, each step succeeds.
 use Rattle.std.proofs.Common.{◌≡◌, ◌∙◌, ◌≤◌, ◌&&◌, ◌||◌, ℕ, zero, suc, Bool, cond, true, false, not, refl, sym, List, [], ◌∷◌, length, drop, Option, Some, None, is_some, arith}
 use Rattle.std.specs.Prelude.{◌==◌, nat_lt, slice_get, codes, encode_utf8}
 use Rattle.std.specs.List.{list_all, list_any}
@@ -261,7 +261,7 @@ level_goes s h words plain e =
     (and_from _ _ plain.free (or_right (s.subcommand_negates_reqs && false) _ present))) in
     and_from _ _ (walk_goes s [] (walk_from h) words first.first) (and_from _ _ (settles s.rules s.args_override_self end second.first) (and_from _ _ plain.defaults valid))
 
--- a simple command takes the words where no step fails
+-- a simple command accepts the words if no step fails
 pub takes_where_none_fails : (a : App) (words : List Text) → is_simple a ≡ true → (built a).subs ≡ [] → IsPlainShape (built a).top → fault_of a words ≡ [] → takes a words ≡ true
 takes_where_none_fails a words simple leaf plain e =
     and_from _ _ simple (leaf_takes (built a) nothing_held (argument_words a words) leaf

@@ -1,4 +1,4 @@
--- Going through tables, entry by entry: commands, and the options of one.
+-- Traversal of tables, entry by entry: commands, and the options of one command.
 use Rattle.std.proofs.Common.{Bool, List, map}
 use Rattle.std.specs.Borrow.{Bor}
 use Rattle.std.specs.Prelude.{Option}
@@ -10,11 +10,11 @@ use Rattle.nf_command_line.specs.Commands.{are_met, first_task, need_of}
 use Rattle.nf_command_line.specs.MatchViews.{line_of, wanted_of}
 
 module _ (rows : List Row) where
-  -- what the lines of a table give
+  -- the values of a table's rows
   abbrev pub task_of : List Line → Option Task
   task_of table = first_task rows (map line_of table)
 
-  -- whether options are as they are wanted
+  -- whether options agree with their needs
   abbrev pub all_met : List (Bor Text × Need) → List (Bor Text) → Bool
   all_met wanted names = are_met (map wanted_of wanted) rows (map (λ name. name.now) names)
 

@@ -1,4 +1,4 @@
--- What a parse of the command `nfot` says: its matches are there just where it takes the words, memory aside.
+-- The result of parsing the command `nfot`. There are matches exactly if the command accepts the words, unless an allocation fails.
 use Rattle.std.proofs.Common.{◌≡◌, ◌∙◌, List, [], refl, sym, ap, ap₂, true, Some, None}
 use Rattle.std.proofs.lemmas.Bool.{cond-true, cond-false, false_from_ne_true}
 use Rattle.clap.specs.Walk.{Text, rows_of}

@@ -1,4 +1,4 @@
--- The words of the command line as clap reads them: one simple command with its arguments, and its matches.
+-- The words of the command line, as clap reads them.
 use Rattle.std.specs.Prelude.{ℕ, true, List, [], ◌∷◌, ◌++◌, map, Option, Some, None, unwrap_or, slice_get, if◌then◌else◌, codes}
 use Rattle.clap.specs.Lexer.{usize_max}
 use Rattle.clap.specs.declared.builder.action.ArgAction.TheVariants.{SetTrue}
@@ -7,15 +7,15 @@ use Rattle.clap.specs.Simple.{App, new_rule, new_shape, matches_of, with_rule}
 use Rattle.clap.specs.Takes.{takes}
 
 -- ---- the command
--- the positional COMMAND, which is required
+-- the required positional argument COMMAND
 abbrev pub command_rule : Rule
 command_rule = record (new_rule (codes "command")) { required = true }
 
--- the last positional FILES, of any number of values
+-- the last positional argument FILES, with any number of values
 abbrev pub files_rule : Rule
 files_rule = record (new_rule (codes "files")) { range = Some (record { start_inclusive = 0; end_inclusive = usize_max }) }
 
--- an option `--name` of one value; it may be given once
+-- an option `--name` with one value; it may be given once
 abbrev pub option_rule : Text → Rule
 option_rule name = record (new_rule name) { long = Some name }
 
@@ -23,16 +23,16 @@ option_rule name = record (new_rule name) { long = Some name }
 abbrev pub flag_rule : Text → Rule
 flag_rule name = record (new_rule name) { long = Some name; action = Some SetTrue }
 
--- the command `nfot`, without a flag for help or for a version, and without subcommands; it has no argument yet
+-- the command `nfot` without arguments, help flag, version flag or subcommands
 unfoldable pub bare : App
 bare = record { top = record (new_shape (codes "nfot")) { disable_help_flag = true }; subs = [] }
 
--- a command with more options of one value
+-- the command with an option of one value for each name
 abbrev pub with_options : List Text → App → App
 with_options [] app = app
 with_options (name ∷ names) app = with_options names (with_rule app (option_rule name))
 
--- the options of one value: those of a run, of a quickest flow, and of a ladder
+-- the options with one value
 abbrev pub options : List Text
 options =
     codes "horizon"
@@ -44,19 +44,19 @@ options =
     ∷ codes "rungs"
     ∷ []
 
--- its arguments
+-- the arguments of `nfot`
 abbrev pub arguments : List Rule
 arguments = command_rule ∷ (map option_rule options ++ (flag_rule (codes "forever") ∷ files_rule ∷ []))
 
 unfoldable pub nfot : App
 nfot = record { top = record (new_shape (codes "nfot")) { disable_help_flag = true; rules = arguments }; subs = [] }
 
--- ---- its matches
--- what clap makes of the words, of which the first is the program's name, where it takes them
+-- ---- the matches
+-- clap's matches of the words, if it accepts them; the first word is the program's name
 unfoldable pub matches_on : List Text → Option (List Row)
 matches_on words = if takes nfot words then Some (matches_of nfot words) else None
 
--- the word that an argument has, where it is there
+-- the word of an argument, if the argument is given
 unfoldable pub word_in : Text → List Row → Option Text
 word_in name rows = first_of name rows
 
@@ -64,6 +64,6 @@ word_in name rows = first_of name rows
 unfoldable pub files_in : List Row → List Text
 files_in rows = unwrap_or (all_of (codes "files") rows) []
 
--- the file at a place, from 0
+-- the file at an index, counted from 0
 unfoldable pub file_in : ℕ → List Row → Option Text
 file_in place rows = slice_get (files_in rows) place

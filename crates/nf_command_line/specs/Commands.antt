@@ -1,4 +1,4 @@
--- The commands of the command line, with their files and options.
+-- The commands, with their files and options.
 use Rattle.std.specs.Prelude.{ℕ, Bool, true, false, not, ◌&&◌, ◌==◌, List, [], ◌∷◌, length, Option, Some, None, is_some, option_map, find, codes}
 use Rattle.std.specs.List.{list_all}
 use Rattle.std.specs.Option.{option_map_or}
@@ -10,15 +10,14 @@ use Rattle.nf_command_line.specs.declared.commands.Need.{Need}
 use Rattle.nf_command_line.specs.declared.commands.Need.TheVariants.{Required, Further}
 use Rattle.nf_command_line.specs.CommandLine.{options, word_in, files_in}
 
--- A line of the table of commands: the name of one, what it does, how many files it has, the options and flags that it must be given,
--- and further ones.
+-- A row of the table of commands: name, action, number of files, and the options and flags with their needs.
 pub record Line : Type 0 where
   pub name : Text
   pub task : Task
   pub files : ℕ
   pub options : List (Text × Need)
 
--- the budgets of a run
+-- the options for the budgets of a run
 abbrev pub budgets : List (Text × Need)
 budgets = (codes "phases", Further) ∷ (codes "patterns", Further) ∷ []
 
@@ -42,39 +41,39 @@ commands =
     ∷ record { name = codes "routes"; task = Routes; files = 2; options = (codes "horizon", Required) ∷ [] }
     ∷ []
 
--- the words give this option
+-- the words give the option
 unfoldable pub is_there : Text → List Row → Bool
 is_there name rows = is_some (word_in name rows)
 
--- the words give this flag: clap then has the word `true` for it, and `false` where they don't
+-- the words give the flag: clap then stores the word `true` for it, and otherwise `false`
 unfoldable pub is_flagged : Text → List Row → Bool
 is_flagged name rows = option_map_or (λ word. bytes_eq word (codes "true")) (word_in name rows) false
 
--- the need of an option that a command has
+-- the need of an option that the command has
 abbrev pub need_of : List (Text × Need) → Text → Option Need
 need_of wanted name = option_map (λ option. option.1) (find (λ option. bytes_eq option.0 name) wanted)
 
--- an option that is there, or isn't, is as the command wants it
+-- an option that is given or omitted agrees with its need; without a need it must be omitted
 abbrev pub is_met : Option Need → Bool → Bool
 is_met (Some Required) there = there
 is_met (Some Further) there = true
 is_met None there = not there
 
--- each of these options of one value is
+-- each of the named options agrees with its need
 abbrev pub are_met : List (Text × Need) → List Row → List Text → Bool
 are_met wanted rows names = list_all (λ name. is_met (need_of wanted name) (is_there name rows)) names
 
--- The files are as many as the command has, each required option is there, and no option is there that it doesn't have.
+-- The number of files agrees, each required option is given, and no option is given that the command does not have.
 unfoldable pub fits : Line → List Row → Bool
 fits line rows =
     length (files_in rows) == line.files
     && are_met line.options rows options
     && is_met (need_of line.options (codes "forever")) (is_flagged (codes "forever") rows)
 
--- the word COMMAND is this name
+-- the word of COMMAND is `name`
 unfoldable pub is_named : Text → List Row → Bool
 is_named name rows = option_map_or (λ word. bytes_eq word name) (word_in (codes "command") rows) false
 
--- the first line of a table whose name the words have, and which they fit: what its command does
+-- the action of the first row that the words name and fit
 abbrev pub first_task : List Row → List Line → Option Task
 first_task rows table = option_map (λ line. line.task) (find (λ line. is_named line.name rows && fits line rows) table)

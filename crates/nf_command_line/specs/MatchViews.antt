@@ -1,4 +1,4 @@
--- What values of the code stand for.
+-- Values of the code, as values of the definitions.
 use Rattle.std.specs.Prelude.{List, map, Option, option_map}
 use Rattle.std.specs.Borrow.{Bor}
 use Rattle.clap.specs.Walk.{Text, Row, rows_of}
@@ -10,7 +10,7 @@ use Rattle.nf_command_line.specs.declared.commands.Line as code
 use Rattle.nf_command_line.specs.declared.commands.Need.{Need}
 use Rattle.nf_command_line.specs.Commands.{Line}
 
--- what a parse reads of a command
+-- the command as the parser reads it
 unfoldable pub app_in : Command → App
 app_in command = app_of command
 
@@ -26,6 +26,6 @@ wanted_of option = (option.0.now, option.1)
 abbrev pub line_of : code.Line → Line
 line_of line = record { name = line.name.now; task = line.task; files = line.files; options = map wanted_of line.options.now }
 
--- the text behind a reference
+-- the text of a reference
 abbrev pub text_in : Option (Bor Text) → Option Text
 text_in word = option_map (λ text. text.now) word

@@ -1,4 +1,4 @@
--- What values of the code stand for.
+-- Requests of the code, as values of the definitions.
 use Rattle.nf_command_line.specs.declared.request.Request as code
 use Rattle.nf_command_line.specs.declared.request.Request.TheVariants as variants
 use Rattle.nf_command_line.specs.Requests.{Request, Solve, SolveForever, Show, Load, Check, Quick, Gen, Settle, Resume, Routes}

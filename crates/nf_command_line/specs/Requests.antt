@@ -1,4 +1,4 @@
--- What the words of the command line ask.
+-- The requests of the command line.
 use Rattle.std.specs.Prelude.{ℕ, ◌≤◌, List, Option, Some, None, option_map, option_and_then, codes}
 use Rattle.clap.specs.Walk.{Text, Row}
 use Rattle.nf_rational.specs.Rational.{ℚ}
@@ -10,8 +10,8 @@ use Rattle.nf_command_line.specs.CommandLine.{matches_on, file_in}
 use Rattle.nf_command_line.specs.Numbers.{not_negative_in, count_in, usual_or_count_in, usual_phases, most_phases, usual_patterns, most_patterns, usual_augments, most_augments, most_number, most_rungs}
 use Rattle.nf_command_line.specs.Commands.{commands, first_task}
 
--- Files go by their names. A run has a horizon, or none, and budgets of phases and of patterns in each; a quickest flow has an amount, and a
--- budget of walks that are pushed; a ladder has a number, and rungs.
+-- A request, with files by name. A run has a horizon or none, and budgets of phases and of patterns for each phase. A quickest flow has an
+-- amount, and a budget of pushed walks. A ladder has a number and rungs.
 pub data Request : Type 0 where
   Solve : Text → ℚ → ℕ → ℕ → Request
   SolveForever : Text → ℕ → ℕ → Request
@@ -24,7 +24,7 @@ pub data Request : Type 0 where
   Resume : Text → Text → ℚ → ℕ → ℕ → Request
   Routes : Text → Text → ℚ → Request
 
--- what is asked can be: a horizon and an amount are at least 0, and each budget is at least 1 and at most its most; so are rungs
+-- A horizon and an amount are at least 0. Phases, patterns, pushed walks and rungs are at least 1 and at most their limit.
 abbrev pub IsWithin : ℕ → ℕ → Type 0
 IsWithin most count = (1 ≤ count) × (count ≤ most)
 
@@ -41,7 +41,7 @@ CanBeAsked (Settle file flows) = Unit {0}
 CanBeAsked (Resume file report horizon phases patterns) = (0ℚ ≤ℚ horizon) × IsWithin most_phases phases × IsWithin most_patterns patterns
 CanBeAsked (Routes file routes horizon) = 0ℚ ≤ℚ horizon
 
--- ---- files and numbers together, where each is there
+-- ---- the request of the files and numbers, if all are there
 abbrev pub solve_request : Option Text → Option ℚ → Option ℕ → Option ℕ → Option Request
 solve_request (Some file) (Some horizon) (Some phases) (Some patterns) = Some (Solve file horizon phases patterns)
 solve_request file horizon phases patterns = None
@@ -78,7 +78,7 @@ abbrev pub routes_request : Option Text → Option Text → Option ℚ → Optio
 routes_request (Some file) (Some routes) (Some horizon) = Some (Routes file routes horizon)
 routes_request file routes horizon = None
 
--- ---- what a command makes of its files and options
+-- ---- the request of a command, from its files and options
 unfoldable pub horizon_in : List Row → Option ℚ
 horizon_in rows = not_negative_in (codes "horizon") rows
 
@@ -112,10 +112,10 @@ asked task.Settle rows = settle_request (file_in 0 rows) (file_in 1 rows)
 asked task.Resume rows = resume_request (file_in 0 rows) (file_in 1 rows) (horizon_in rows) (phases_in rows) (patterns_in rows)
 asked task.Routes rows = routes_request (file_in 0 rows) (file_in 1 rows) (horizon_in rows)
 
--- a command of the table fits, and its numbers are within their limits
+-- the request of the command that fits, if its numbers are within their limits
 abbrev pub request_in : List Row → Option Request
 request_in rows = option_and_then (λ does. asked does rows) (first_task rows commands)
 
--- Clap takes the words, of which the first is the program's name, and this is asked.
+-- The request of the words, if clap accepts them. The first word is the program's name.
 unfoldable pub request_of : List Text → Option Request
 request_of words = option_and_then request_in (matches_on words)

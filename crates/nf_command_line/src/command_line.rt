@@ -1,4 +1,4 @@
-// The words of the command line as clap reads them.
+// The words of the command line, as clap reads them.
 ghost use Rattle.std.specs.Prelude.{◌≡◌, IfOk, map, option_map};
 ghost use Rattle.clap.specs.Simple.{with_rule};
 ghost use Rattle.nf_edge.specs.Names.{texts};
@@ -9,12 +9,12 @@ use clap::error::ErrorKind;
 use clap::{Arg, ArgAction, ArgMatches, Command};
 use std::alloc::{AllocError, Global};
 
-/// The options of one value: those of a run, of a quickest flow, and of a ladder.
+/// The options with one value.
 pub(crate) static OPTIONS: [&str; 7] = [
     "horizon", "phases", "patterns", "amount", "augments", "number", "rungs",
 ];
 
-// The command with its positional COMMAND, which is required.
+// Returns the command with its required positional argument COMMAND.
 fn start_command<'w>(alloc: Global) -> Result<Command<'w>, AllocError>
     ensures { IfOk result (λ command. app_in command ≡ with_rule bare command_rule) }
 {
@@ -24,7 +24,7 @@ fn start_command<'w>(alloc: Global) -> Result<Command<'w>, AllocError>
         .arg(command)
 }
 
-// The command with more options of one value, each `--name`.
+// Adds an option `--name` with one value for each name.
 fn with_options<'w>(
     alloc: Global,
     mut command: Command<'w>,
@@ -39,7 +39,7 @@ fn with_options<'w>(
     Ok(command)
 }
 
-// The command with one more flag without a value, `--name`.
+// Adds a flag `--name` without a value.
 fn with_flag<'w>(
     alloc: Global,
     command: Command<'w>,
@@ -51,7 +51,7 @@ fn with_flag<'w>(
     command.arg(flag)
 }
 
-// The command with its last positional FILES, of any number of values.
+// Adds the last positional argument FILES, with any number of values.
 fn with_files<'w>(alloc: Global, command: Command<'w>) -> Result<Command<'w>, AllocError>
     ensures { IfOk result (λ more. app_in more ≡ with_rule (app_in command.entry) files_rule) }
 {
@@ -59,7 +59,7 @@ fn with_files<'w>(alloc: Global, command: Command<'w>) -> Result<Command<'w>, Al
     command.arg(files)
 }
 
-// The command `nfot`, with its arguments.
+// Returns the command `nfot` with its arguments.
 fn command_line<'w>(alloc: Global) -> Result<Command<'w>, AllocError>
     ensures { IfOk result (λ command. app_in command ≡ nfot) }
 {
@@ -69,8 +69,8 @@ fn command_line<'w>(alloc: Global) -> Result<Command<'w>, AllocError>
     with_files(alloc, command)
 }
 
-/// What clap makes of the words, of which the first is the program's name; None where it doesn't take them. It is refused where
-/// memory is wanting.
+/// Returns clap's matches of the words, or `None` if clap rejects them. The first word is the program's name. Refuses only if an allocation
+/// fails.
 pub fn match_words<'w>(
     alloc: Global,
     words: &'w [String],

@@ -1,4 +1,4 @@
-// The commands of the command line, with their files and options.
+// The commands, with their files and options.
 ghost use Rattle.std.specs.Prelude.{◌≡◌, ◌&&◌, map};
 ghost use Rattle.nf_command_line.specs.CommandLine.{options};
 ghost use Rattle.nf_command_line.specs.Commands.{are_met, commands, first_task, fits, is_met, is_named, need_of};
@@ -8,39 +8,39 @@ use crate::command_line::OPTIONS;
 use crate::given::{count_files, is_flagged, is_named, is_there};
 use clap::ArgMatches;
 
-/// What a command does.
+/// The action of a command.
 #[derive(Clone, Copy)]
 pub enum Task {
-    /// Writes the report of a run.
+    /// Writes the report of a run up to a horizon.
     Solve,
     /// Writes a run without a horizon.
     SolveForever,
     /// Writes the canonical text of a network.
     Show,
-    /// Writes what becomes of given inflow on each link.
+    /// Writes the loading of each link by a given inflow.
     Load,
-    /// Says whether a report's flow is an equilibrium.
+    /// Decides whether a report's flow is an equilibrium.
     Check,
     /// Writes the quickest flow of an amount.
     Quick,
     /// Solves a generated ladder.
     Gen,
-    /// Writes what a thin flow is settled to.
+    /// Writes the settled form of a thin flow.
     Settle,
-    /// Writes the report that goes on from another.
+    /// Writes the report that continues another report.
     Resume,
-    /// Writes what becomes of given inflow along given routes.
+    /// Writes the loading along given routes.
     Routes,
 }
 
-/// Whether a command must be given an option or a flag that it has, or may be.
+/// The need of an option or flag of a command: the command requires it, or allows it.
 #[derive(Clone, Copy)]
 pub(crate) enum Need {
     Required,
     Further,
 }
 
-/// A line of the table of commands: the name of one, what it does, how many files it has, and its options and flags.
+/// A row of the table of commands: name, action, number of files, and the options and flags with their needs.
 #[derive(Clone, Copy)]
 pub(crate) struct Line {
     name: &'static str,
@@ -131,7 +131,7 @@ static COMMANDS: [Line; 10] = [
     },
 ];
 
-// The need of an option that a command has; None of any other.
+// Returns the need of an option of the command, or `None` if the command does not have the option.
 fn need_of(options: &[(&'static str, Need)], name: &str) -> Option<Need>
     ensures { result ≡ need_of (map wanted_of options.now) name.now }
 {
@@ -143,7 +143,7 @@ fn need_of(options: &[(&'static str, Need)], name: &str) -> Option<Need>
     None
 }
 
-// Whether an option that is there, or isn't, is as the command wants it.
+// Returns whether an option that is given or omitted agrees with its need. An option without a need must be omitted.
 fn is_met(need: Option<Need>, there: bool) -> bool
     ensures { result ≡ is_met need there }
 {
@@ -154,7 +154,7 @@ fn is_met(need: Option<Need>, there: bool) -> bool
     }
 }
 
-// Whether each of these options is as the command wants it.
+// Returns whether each of the named options agrees with its need.
 fn are_met(matches: &ArgMatches, wanted: &[(&'static str, Need)], names: &[&'static str]) -> bool
     ensures { result ≡ are_met (map wanted_of wanted.now) (rows_in matches.now) (map (λ name. name.now) names.now) }
 {
@@ -166,14 +166,15 @@ fn are_met(matches: &ArgMatches, wanted: &[(&'static str, Need)], names: &[&'sta
     true
 }
 
-// Whether each option of one value is as the command wants it.
+// Returns whether each option with one value agrees with its need.
 fn options_met(matches: &ArgMatches, wanted: &[(&'static str, Need)]) -> bool
     ensures { result ≡ are_met (map wanted_of wanted.now) (rows_in matches.now) options }
 {
     are_met(matches, wanted, OPTIONS.as_slice())
 }
 
-// Whether the files are as many as the command has, each required option is there, and no option is there that it doesn't have.
+// Returns whether the words fit the row. The number of files must agree, and each required option must be given. No option may be given
+// that the command does not have.
 #[tactic(auto, unfolding(crate::specs::Commands::fits))]
 fn fits(matches: &ArgMatches, line: &Line) -> bool
     ensures { result ≡ fits (line_of line.now) (rows_in matches.now) }
@@ -186,14 +187,14 @@ fn fits(matches: &ArgMatches, line: &Line) -> bool
         )
 }
 
-// Whether the words name the command, and fit it.
+// Returns whether the words name the command of the row and fit the row.
 fn is_command(matches: &ArgMatches, line: &Line) -> bool
     ensures { result ≡ (is_named line.now.name.now (rows_in matches.now) && fits (line_of line.now) (rows_in matches.now)) }
 {
     is_named(matches, line.name) && fits(matches, line)
 }
 
-// The first line of a table whose name the words have, and which they fit: what its command does.
+// Returns the action of the first row that the words name and fit, or `None` if there is none.
 fn first_task(matches: &ArgMatches, table: &[Line]) -> Option<Task>
     ensures { result ≡ first_task (rows_in matches.now) (map line_of table.now) }
 {
@@ -205,7 +206,7 @@ fn first_task(matches: &ArgMatches, table: &[Line]) -> Option<Task>
     None
 }
 
-/// What the command does that the words name and fit; None where there is none.
+/// Returns the action of the command that the words name and fit, or `None` if there is none.
 pub fn task_of(matches: &ArgMatches) -> Option<Task>
     ensures { result ≡ first_task (rows_in matches.now) commands }
 {

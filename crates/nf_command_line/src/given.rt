@@ -1,4 +1,4 @@
-// What the matches of clap give: words and files, by the names of arguments.
+// Words and files of clap's matches, by argument name.
 ghost use Rattle.std.specs.Prelude.{◌≡◌, length, slice_get};
 ghost use Rattle.nf_command_line.specs.CommandLine.{word_in, files_in, file_in};
 ghost use Rattle.nf_command_line.specs.Commands.{is_there, is_flagged, is_named};
@@ -6,21 +6,21 @@ ghost use Rattle.nf_command_line.specs.MatchViews.{rows_in, text_in};
 
 use clap::ArgMatches;
 
-/// The word that an argument has, where it is there.
+/// Returns the word of an argument, if the argument is given.
 pub fn word_of<'w>(matches: &ArgMatches<'w>, name: &str) -> Option<&'w str>
     ensures { text_in result ≡ word_in name.now (rows_in matches.now) }
 {
     matches.get_str(name)
 }
 
-/// Whether the words give an option.
+/// Returns whether the words give an option.
 pub(crate) fn is_there(matches: &ArgMatches, name: &str) -> bool
     ensures { result ≡ is_there name.now (rows_in matches.now) }
 {
     word_of(matches, name).is_some()
 }
 
-/// Whether the words give a flag.
+/// Returns whether the words give a flag.
 pub(crate) fn is_flagged(matches: &ArgMatches, name: &str) -> bool
     ensures { result ≡ is_flagged name.now (rows_in matches.now) }
 {
@@ -30,7 +30,7 @@ pub(crate) fn is_flagged(matches: &ArgMatches, name: &str) -> bool
     }
 }
 
-/// Whether the word COMMAND is this name.
+/// Returns whether the word of COMMAND is `name`.
 pub(crate) fn is_named(matches: &ArgMatches, name: &str) -> bool
     ensures { result ≡ is_named name.now (rows_in matches.now) }
 {
@@ -40,7 +40,7 @@ pub(crate) fn is_named(matches: &ArgMatches, name: &str) -> bool
     }
 }
 
-/// How many files the words give.
+/// Returns the number of files.
 pub(crate) fn count_files(matches: &ArgMatches) -> usize
     ensures { result ≡ length (files_in (rows_in matches.now)) }
 {
@@ -50,7 +50,7 @@ pub(crate) fn count_files(matches: &ArgMatches) -> usize
     }
 }
 
-// The element at a place, where there is one.
+// Returns the file at an index, if there is one.
 fn file_at<'w>(files: &[&'w str], place: usize) -> Option<&'w str>
     ensures { text_in result ≡ text_in (slice_get files.now place) }
 {
@@ -60,7 +60,7 @@ fn file_at<'w>(files: &[&'w str], place: usize) -> Option<&'w str>
     }
 }
 
-/// The file at a place, from 0.
+/// Returns the file at an index, counted from 0, if there is one.
 pub fn file_of<'w>(matches: &ArgMatches<'w>, place: usize) -> Option<&'w str>
     ensures { text_in result ≡ file_in place (rows_in matches.now) }
 {

@@ -1,5 +1,5 @@
-//! The command line: its words as clap reads them, which command they name and fit, and what they ask with the files and numbers of that
-//! command. The commands, with their files and options, stand in one table.
+//! Reads the command line. Clap splits its words, a table of commands determines the command that they name and fit, and the request holds
+//! that command's files and numbers.
 #![tactic(auto)]
 
 ghost use Rattle.std.specs.Prelude.{◌≡◌, option_map, IfOk, IfSome};
@@ -20,8 +20,8 @@ pub use request::Request;
 use request::request_of;
 use std::alloc::{AllocError, Global};
 
-/// What the words ask, of which the first is the program's name; None where they are no request. It is refused where memory is
-/// wanting.
+/// Returns the request of the words, or `None` if they are not a request. The first word is the program's name. Refuses only if an
+/// allocation fails.
 pub fn read_request(alloc: Global, words: &[String]) -> Result<Option<Request>, AllocError>
     ensures value { IfOk result (λ request. request_of (texts words.now) ≡ option_map requested request) }
     ensures can_be { IfOk result (λ request. IfSome request (λ request. CanBeAsked (requested request))) }
@@ -32,7 +32,7 @@ pub fn read_request(alloc: Global, words: &[String]) -> Result<Option<Request>, 
     }
 }
 
-/// Some words, and what they ask.
+/// Shows the requests of some example words.
 pub fn words_are_read()
     ensures { WordsAreRead }
 {}

@@ -1,4 +1,4 @@
-// The numbers of the command line: a horizon and an amount, and counts within their limits.
+// The numbers of the command line.
 ghost use Rattle.std.specs.Prelude.{◌≡◌, ◌≤◌, IfSome};
 ghost use Rattle.nf_numerals.specs.Digits.{are_digits};
 ghost use Rattle.nf_command_line.specs.MatchViews.{rows_in};
@@ -9,28 +9,28 @@ use crate::given::word_of;
 use clap::ArgMatches;
 use nf_frac::Q;
 
-/// The most phases that may be asked for.
+/// The greatest number of phases.
 const MOST_PHASES: u64 = 100_000;
 
-/// The phases that are meant where the words don't say.
+/// The default number of phases.
 pub const USUAL_PHASES: u64 = 10_000;
 
-/// The most patterns for each phase that may be asked for.
+/// The greatest number of patterns for each phase.
 const MOST_PATTERNS: u64 = 1_000_000;
 
-/// The patterns for each phase that are meant where the words don't say.
+/// The default number of patterns for each phase.
 pub const USUAL_PATTERNS: u64 = 100_000;
 
-/// The most walks that a quickest flow may be asked to push.
+/// The greatest number of walks that a quickest flow may push.
 const MOST_AUGMENTS: u64 = 100_000;
 
-/// The walks that are meant where the words don't say.
+/// The default number of walks.
 const USUAL_AUGMENTS: u64 = 10_000;
 
-/// The most rungs that a ladder may have.
+/// The greatest number of rungs of a ladder.
 const MOST_RUNGS: u64 = 30;
 
-// A number of at least 0, as a word writes it.
+// Returns the number that a word writes, if it is at least 0.
 #[tactic(auto, using(nf_frac::proofs::Comparisons::le_by_order))]
 fn read_not_negative(word: &str) -> Option<Q>
     ensures { result ≡ not_negative_of word.now }
@@ -41,7 +41,7 @@ fn read_not_negative(word: &str) -> Option<Q>
     }
 }
 
-// The number of at least 0 that an option gives.
+// Returns the number of an option, if the option is given and its number is at least 0.
 fn not_negative_of(matches: &ArgMatches, name: &str) -> Option<Q>
     ensures { result ≡ not_negative_in name.now (rows_in matches.now) }
 {
@@ -55,7 +55,7 @@ fn are_digits(word: &[u8]) -> bool
     word.iter().all(|c| c.is_ascii_digit())
 }
 
-// Whether a word has decimal digits alone, at least one.
+// Returns whether a word consists of decimal digits, at least one.
 fn is_whole(word: &[u8]) -> bool
     ensures { result ≡ is_whole word.now }
 {
@@ -68,7 +68,7 @@ fn is_between(least: u64, most: u64, count: u64) -> bool
     least <= count && count <= most
 }
 
-// The count that a word writes, from the least to the most; its first digits may be zeros.
+// Returns the count that a word writes, if it is between `least` and `most`. Leading zeros are allowed.
 fn read_count(word: &str, least: u64, most: u64) -> Option<u64>
     ensures value { result ≡ count_of least most word.now }
     ensures most { IfSome result (λ count. count ≤ most) }
@@ -82,7 +82,7 @@ fn read_count(word: &str, least: u64, most: u64) -> Option<u64>
     }
 }
 
-// The count that an option gives.
+// Returns the count of an option, if the option is given and its count is between `least` and `most`.
 fn count_of(matches: &ArgMatches, name: &str, least: u64, most: u64) -> Option<u64>
     ensures value { result ≡ count_in least most name.now (rows_in matches.now) }
     ensures most { IfSome result (λ count. count ≤ most) }
@@ -91,7 +91,7 @@ fn count_of(matches: &ArgMatches, name: &str, least: u64, most: u64) -> Option<u
     read_count(word, least, most)
 }
 
-// The count, at least 1, that an option gives which may be left out: the usual one is then meant.
+// Returns the count of an option, if it is between 1 and `most`. The default is `usual`.
 fn usual_or_count_of(matches: &ArgMatches, name: &str, usual: u64, most: u64) -> Option<u64>
     ensures { result ≡ usual_or_count_in usual most name.now (rows_in matches.now) }
 {
@@ -101,7 +101,7 @@ fn usual_or_count_of(matches: &ArgMatches, name: &str, usual: u64, most: u64) ->
     }
 }
 
-/// The horizon that the words give.
+/// Returns the horizon.
 #[tactic(auto, unfolding(crate::specs::Requests::horizon_in))]
 pub(crate) fn horizon_of(matches: &ArgMatches) -> Option<Q>
     ensures { result ≡ horizon_in (rows_in matches.now) }
@@ -109,7 +109,7 @@ pub(crate) fn horizon_of(matches: &ArgMatches) -> Option<Q>
     not_negative_of(matches, "horizon")
 }
 
-/// The phases that a run may have.
+/// Returns the greatest number of phases of a run.
 #[tactic(auto, unfolding(crate::specs::Requests::phases_in))]
 pub(crate) fn phases_of(matches: &ArgMatches) -> Option<u64>
     ensures { result ≡ phases_in (rows_in matches.now) }
@@ -117,7 +117,7 @@ pub(crate) fn phases_of(matches: &ArgMatches) -> Option<u64>
     usual_or_count_of(matches, "phases", USUAL_PHASES, MOST_PHASES)
 }
 
-/// The patterns that each phase may try.
+/// Returns the greatest number of patterns for each phase.
 #[tactic(auto, unfolding(crate::specs::Requests::patterns_in))]
 pub(crate) fn patterns_of(matches: &ArgMatches) -> Option<u64>
     ensures { result ≡ patterns_in (rows_in matches.now) }
@@ -125,7 +125,7 @@ pub(crate) fn patterns_of(matches: &ArgMatches) -> Option<u64>
     usual_or_count_of(matches, "patterns", USUAL_PATTERNS, MOST_PATTERNS)
 }
 
-/// The amount that the words give.
+/// Returns the amount.
 #[tactic(auto, unfolding(crate::specs::Requests::amount_in))]
 pub(crate) fn amount_of(matches: &ArgMatches) -> Option<Q>
     ensures { result ≡ amount_in (rows_in matches.now) }
@@ -133,7 +133,7 @@ pub(crate) fn amount_of(matches: &ArgMatches) -> Option<Q>
     not_negative_of(matches, "amount")
 }
 
-/// The walks that a quickest flow may push.
+/// Returns the greatest number of walks that a quickest flow may push.
 #[tactic(auto, unfolding(crate::specs::Requests::augments_in))]
 pub(crate) fn augments_of(matches: &ArgMatches) -> Option<u64>
     ensures { result ≡ augments_in (rows_in matches.now) }
@@ -141,7 +141,7 @@ pub(crate) fn augments_of(matches: &ArgMatches) -> Option<u64>
     usual_or_count_of(matches, "augments", USUAL_AUGMENTS, MOST_AUGMENTS)
 }
 
-/// The number of a ladder.
+/// Returns the number of a ladder.
 #[tactic(auto, unfolding(crate::specs::Requests::number_in))]
 pub(crate) fn number_of(matches: &ArgMatches) -> Option<u64>
     ensures { result ≡ number_in (rows_in matches.now) }
@@ -149,7 +149,7 @@ pub(crate) fn number_of(matches: &ArgMatches) -> Option<u64>
     count_of(matches, "number", 0, u64::MAX)
 }
 
-/// The rungs of a ladder.
+/// Returns the number of rungs of a ladder.
 #[tactic(auto, unfolding(crate::specs::Requests::rungs_in))]
 pub(crate) fn rungs_of(matches: &ArgMatches) -> Option<u32>
     ensures { result ≡ rungs_in (rows_in matches.now) }

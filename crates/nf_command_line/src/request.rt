@@ -1,4 +1,4 @@
-// What the words of the command line ask.
+// The requests of the command line.
 ghost use Rattle.std.specs.Prelude.{◌≡◌, option_map};
 ghost use Rattle.nf_command_line.specs.MatchViews.{rows_in};
 ghost use Rattle.nf_command_line.specs.Requests.{asked, request_in};
@@ -12,46 +12,46 @@ use crate::numbers::{
 use clap::ArgMatches;
 use nf_frac::Q;
 
-/// What the words ask. Files go by their names.
+/// A request, with files by name.
 #[derive(Clone, Copy)]
 pub enum Request<'w> {
-    /// The report of a run in a network, from time 0 to a horizon of at least 0, of so many phases at most, each of which may try so
-    /// many patterns; both are at least 1.
+    /// Asks for the report of a run in a network, from time 0 to `horizon`, which is at least 0. The run has at most `phases` phases, each
+    /// of which tries at most `patterns` patterns. Both are at least 1.
     Solve {
         file: &'w str,
         horizon: Q,
         phases: u64,
         patterns: u64,
     },
-    /// A run in a network from time 0 on without a horizon, of so many phases at most, each of which may try so many patterns; both
-    /// are at least 1.
+    /// Asks for a run in a network from time 0 without a horizon. The run has at most `phases` phases, each of which tries at most
+    /// `patterns` patterns. Both are at least 1.
     SolveForever {
         file: &'w str,
         phases: u64,
         patterns: u64,
     },
-    /// The canonical text of a network.
+    /// Asks for the canonical text of a network.
     Show {
         file: &'w str,
     },
-    /// What becomes of given inflow on each link of a network, up to a horizon of at least 0.
+    /// Asks for the loading of each link of a network by the inflows of a loads file, up to `horizon`, which is at least 0.
     Load {
         file: &'w str,
         loads: &'w str,
         horizon: Q,
     },
-    /// Whether the flow of a report is an equilibrium of a network.
+    /// Asks whether the flow of a report is an equilibrium of a network.
     Check {
         file: &'w str,
         report: &'w str,
     },
-    /// The quickest flow of an amount of at least 0 in a network, by at most so many walks, at least one, that are pushed.
+    /// Asks for the quickest flow of `amount`, at least 0, in a network. At most `augments` walks are pushed, at least 1.
     Quick {
         file: &'w str,
         amount: Q,
         augments: u64,
     },
-    /// A summary of a run as of `Solve`, in the generated ladder of a number, of 1 to 30 rungs.
+    /// Asks for the summary of a run as in `Solve`, in the generated ladder of a number with 1 to 30 rungs.
     Gen {
         number: u64,
         rungs: u32,
@@ -59,13 +59,13 @@ pub enum Request<'w> {
         phases: u64,
         patterns: u64,
     },
-    /// What a thin flow of a flows file is settled to, by the sets of the labels at departure 0 of a network.
+    /// Asks for the settled form of a flows file's thin flow, for the sets of the labels at departure 0 of a network.
     Settle {
         file: &'w str,
         flows: &'w str,
     },
-    /// The report of the run that goes on from another report's flow, to a horizon of at least 0, with so many phases at most from there
-    /// on, each of which may try so many patterns; both are at least 1.
+    /// Asks for the report of the run that continues another report's flow up to `horizon`, which is at least 0. The run has at most
+    /// `phases` further phases, each of which tries at most `patterns` patterns. Both are at least 1.
     Resume {
         file: &'w str,
         report: &'w str,
@@ -73,7 +73,7 @@ pub enum Request<'w> {
         phases: u64,
         patterns: u64,
     },
-    /// What becomes of inflow that is given along routes of a network, up to a horizon of at least 0.
+    /// Asks for the loading along the routes of a routes file, up to `horizon`, which is at least 0.
     Routes {
         file: &'w str,
         routes: &'w str,
@@ -81,7 +81,7 @@ pub enum Request<'w> {
     },
 }
 
-// `solve NET --horizon Q [--phases N] [--patterns N]`
+// Reads `solve NET --horizon Q [--phases N] [--patterns N]`.
 fn solve<'w>(matches: &ArgMatches<'w>) -> Option<Request<'w>>
     ensures { asked Task.Solve (rows_in matches.now) ≡ option_map requested result }
 {
@@ -93,7 +93,7 @@ fn solve<'w>(matches: &ArgMatches<'w>) -> Option<Request<'w>>
     })
 }
 
-// `solve NET --forever [--phases N] [--patterns N]`
+// Reads `solve NET --forever [--phases N] [--patterns N]`.
 fn solve_forever<'w>(matches: &ArgMatches<'w>) -> Option<Request<'w>>
     ensures { asked Task.SolveForever (rows_in matches.now) ≡ option_map requested result }
 {
@@ -104,7 +104,7 @@ fn solve_forever<'w>(matches: &ArgMatches<'w>) -> Option<Request<'w>>
     })
 }
 
-// `show NET`
+// Reads `show NET`.
 fn show<'w>(matches: &ArgMatches<'w>) -> Option<Request<'w>>
     ensures { asked Task.Show (rows_in matches.now) ≡ option_map requested result }
 {
@@ -113,7 +113,7 @@ fn show<'w>(matches: &ArgMatches<'w>) -> Option<Request<'w>>
     })
 }
 
-// `load NET LOADS --horizon Q`
+// Reads `load NET LOADS --horizon Q`.
 fn load<'w>(matches: &ArgMatches<'w>) -> Option<Request<'w>>
     ensures { asked Task.Load (rows_in matches.now) ≡ option_map requested result }
 {
@@ -124,7 +124,7 @@ fn load<'w>(matches: &ArgMatches<'w>) -> Option<Request<'w>>
     })
 }
 
-// `check NET REPORT`
+// Reads `check NET REPORT`.
 fn check<'w>(matches: &ArgMatches<'w>) -> Option<Request<'w>>
     ensures { asked Task.Check (rows_in matches.now) ≡ option_map requested result }
 {
@@ -134,7 +134,7 @@ fn check<'w>(matches: &ArgMatches<'w>) -> Option<Request<'w>>
     })
 }
 
-// `quick NET --amount Q [--augments N]`
+// Reads `quick NET --amount Q [--augments N]`.
 fn quick<'w>(matches: &ArgMatches<'w>) -> Option<Request<'w>>
     ensures { asked Task.Quick (rows_in matches.now) ≡ option_map requested result }
 {
@@ -145,7 +145,7 @@ fn quick<'w>(matches: &ArgMatches<'w>) -> Option<Request<'w>>
     })
 }
 
-// `gen --number N --rungs N --horizon Q [--phases N] [--patterns N]`
+// Reads `gen --number N --rungs N --horizon Q [--phases N] [--patterns N]`.
 fn generate<'w>(matches: &ArgMatches<'w>) -> Option<Request<'w>>
     ensures { asked Task.Gen (rows_in matches.now) ≡ option_map requested result }
 {
@@ -158,7 +158,7 @@ fn generate<'w>(matches: &ArgMatches<'w>) -> Option<Request<'w>>
     })
 }
 
-// `settle NET FLOWS`
+// Reads `settle NET FLOWS`.
 fn settle<'w>(matches: &ArgMatches<'w>) -> Option<Request<'w>>
     ensures { asked Task.Settle (rows_in matches.now) ≡ option_map requested result }
 {
@@ -168,7 +168,7 @@ fn settle<'w>(matches: &ArgMatches<'w>) -> Option<Request<'w>>
     })
 }
 
-// `resume NET REPORT --horizon Q [--phases N] [--patterns N]`
+// Reads `resume NET REPORT --horizon Q [--phases N] [--patterns N]`.
 fn resume<'w>(matches: &ArgMatches<'w>) -> Option<Request<'w>>
     ensures { asked Task.Resume (rows_in matches.now) ≡ option_map requested result }
 {
@@ -181,7 +181,7 @@ fn resume<'w>(matches: &ArgMatches<'w>) -> Option<Request<'w>>
     })
 }
 
-// `routes NET ROUTES --horizon Q`
+// Reads `routes NET ROUTES --horizon Q`.
 fn routes<'w>(matches: &ArgMatches<'w>) -> Option<Request<'w>>
     ensures { asked Task.Routes (rows_in matches.now) ≡ option_map requested result }
 {
@@ -192,7 +192,7 @@ fn routes<'w>(matches: &ArgMatches<'w>) -> Option<Request<'w>>
     })
 }
 
-/// What the matches ask; None where no command fits them, or a number isn't within its limits.
+/// Returns the request of the matches. Returns `None` if no command fits them, or a number is outside its limits.
 pub(crate) fn request_of<'w>(matches: &ArgMatches<'w>) -> Option<Request<'w>>
     ensures { request_in (rows_in matches.now) ≡ option_map requested result }
 {

@@ -1,4 +1,4 @@
--- What the sums at a node come to.
+-- Results of the sums at a node.
 use Rattle.std.proofs.Common.{◌≡◌, ℕ, suc, ◌+◌, List, [], ◌∷◌, Bool, true, false, ◌&&◌, if◌then◌else◌, eqb, sym, ap, subst, refl, ◌∙◌, arith}
 use Rattle.std.specs.Prelude.{slice_get, unwrap_or, Ok, Err, IsOk}
 use Rattle.std.specs.Bool.{Decides}
@@ -38,7 +38,7 @@ module _ (passes : Passing) (net : Network) (sets : Sets) (rate : ℚ) (flows : 
       none k = linear_eq (next ∷ so_far ∷ []) (eq k ∷ []) (search reading_of depth 12) tt tt
   more-is false false so_far next e h = sym (same_Ok so_far next h)
 
-  -- what is added first is added in all
+  -- a term added first is part of the whole sum
   added : (at : Bool) (start x rest next y : ℚ) → next ≡ (if at then start +ℚ x else start) → y ≡ next +ℚ rest → y ≡ start +ℚ (if at then x +ℚ rest else rest)
   added true start x rest next y h k = linear_eq (start ∷ x ∷ rest ∷ next ∷ y ∷ []) (eq h ∷ eq k ∷ []) (search reading_of depth 12) tt tt
   added false start x rest next y h k = linear_eq (start ∷ x ∷ rest ∷ next ∷ y ∷ []) (eq h ∷ eq k ∷ []) (search reading_of depth 12) tt tt

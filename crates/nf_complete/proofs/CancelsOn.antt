@@ -31,7 +31,7 @@ use Rattle.nf_complete.proofs.Cycling.{forest-weaker}
 use Rattle.nf_complete.proofs.Interiors.{set_count, fewer_set, flags_are}
 use Rattle.nf_complete.proofs.Telling.{value_of}
 
--- ---- the first cycle of links that are chosen by flags is the next one, where the flags are those of interior links
+-- ---- the first cycle of the flagged links is the next cycle, if the flags are those of interior links
 module _ (net : Network) (sets : Sets) (slopes flows : List ℚ) (flags : List Bool) (are : (e : ℕ) → Has flags e ↔ IsInterior net sets slopes flows e) where
   pub next_of : (steps : List (ℕ × Bool)) → IsFirstCycle (hops net) flags steps → IsNextCycle net sets slopes flows steps
   next_of steps f = record {
@@ -73,7 +73,7 @@ module _ (net : Network) (sets : Sets) (slopes flows : List ℚ) (flags : List B
   found_of last_of steps_of (Ok None) h = forest_of h
   found_of last_of steps_of (Err e) h = tt
 
--- ---- what passes, as an answer
+-- ---- an operation that passes, as an answer
 pub passed_of : {A : Type 0} (list : Checked A) (p : PassedAt ℚ) → at_part Verdict list ≡ Err p → (q : Passed ℚ) × (list ≡ Err q) × (p ≡ placed Verdict q)
 passed_of (Ok x) p e = absurd (cc)
 passed_of {A = A} (Err q) p e = (q, refl, sym (same_Err {A = A} (placed Verdict q) p e))
@@ -83,7 +83,7 @@ pub halts_of : {A X : Type 0} (Comes : Checked (List ℚ) → Type 0) (flows_of 
 halts_of Comes flows_of list (Halt.Passed p) f said = let q = passed_of list (seen_passed_at (λ (x : ℚ). x) p) said in (q.0, f q.0 q.1, q.2)
 halts_of Comes flows_of list Halt.Memory f said = tt
 
--- ---- as a loop sees it: the flows that it reads are those so far
+-- ---- as a loop sees it: it reads the flows so far
 pub closes_at : {X : Type 0} (last_of : X → ℕ) (steps_of : X → List (ℕ × Bool)) (net : Network) (sets : Sets) (slopes seen flows : List ℚ) (found : Option X) (x : X) → seen ≡ flows → found ≡ Some x
     → MatchOption found (IsForest (hops net) (IsInterior net sets slopes seen)) (λ y. ClosesNext net sets slopes seen (last_of y) (steps_of y)) → ClosesNext net sets slopes flows (last_of x) (steps_of x)
 closes_at last_of steps_of net sets slopes seen flows found x same is h = subst (λ (f : List ℚ). ClosesNext net sets slopes f (last_of x) (steps_of x)) same
@@ -98,7 +98,7 @@ pub list_at : (passes : Passing) (fulls : List (Option ℚ)) (read steps : List 
 list_at passes fulls read steps seen flows e f = ap (λ (s : List (ℕ × Bool)). cancel_list passes s fulls seen) e ∙ ap (cancel_list passes steps fulls) f
 
 -- ---- one after the other
--- these flows are a thin flow, and the first flows come to what they come to
+-- these flows are a thin flow, and the first flows have the same results
 pub record CancelsOn (passes : Passing) (net : Network) (sets : Sets) (rate : ℚ) (slopes : List ℚ) (fulls : List (Option ℚ)) (first flows : List ℚ) : Type 0 where
   pub thin : IsThinFlow net sets rate flows slopes
   pub on : (result : Checked (List ℚ)) → Cancels passes net sets slopes fulls flows result → Cancels passes net sets slopes fulls first result
@@ -134,7 +134,7 @@ module _ (passes : Passing) (net : Network) (sets : Sets) (rate : ℚ) (slopes :
         on = λ result c. so.on result (cancels steps next ok c);
       }
 
-      -- what is known of the interior links before one is known after the cycle is cancelled too
+      -- the interior links before `last` stay a forest after the cycle is cancelled
       pub known_on : (known : ℕ) → AreForestBelow net sets slopes flows known → AreForestBelow net sets slopes new known
       known_on known f = forest-weaker (hops net) (λ e. (e < known) × IsInterior net sets slopes flows e) (λ e. (e < known) × IsInterior net sets slopes new e)
           (λ e w. (w.0, interior-before passes net sets rate flows slopes good.network good.acyclic so.thin fulls fulls_ok steps next.cycle new ok e w.1)) f
@@ -150,7 +150,7 @@ module _ (passes : Passing) (net : Network) (sets : Sets) (rate : ℚ) (slopes :
           ended.0 ((flags_are passes net sets slopes fulls fulls_ok flows so.thin.flow_count ended.0).1 ended.1)
           (λ h. ended.2 ((flags_are passes net sets slopes fulls fulls_ok new cancels_more.thin.flow_count ended.0).0 h))
 
--- ---- with what fills the links
+-- ---- the flows that fill the links
 module _ (passes : Passing) (net : Network) (sets : Sets) (slopes flows : List ℚ) where
   pub settles_stop : (q : Passed ℚ) → fulls_list passes net sets slopes ≡ Err q → Settles passes net sets slopes flows (Err q)
   settles_stop q e = stops q e
@@ -160,7 +160,7 @@ module _ (passes : Passing) (net : Network) (sets : Sets) (slopes flows : List �
   settles_on flows_of fulls ok (Halt.Passed p) c others_of = (c.0, settles fulls (Err c.0) ok c.1, c.2)
   settles_on flows_of fulls ok Halt.Memory c others_of = tt
 
--- ---- the whole: what fills the links is read, and cycles are cancelled to the end
+-- ---- the whole: the flows that fill the links are read, and all cycles are cancelled
 pub fulls_read : (passes : Passing) (net : Network) (sets : Sets) (slopes : List ℚ) (read seen : List (Option ℚ)) → at_part Verdict (fulls_list passes net sets slopes) ≡ Ok read → seen ≡ read → fulls_list passes net sets slopes ≡ Ok seen
 fulls_read passes net sets slopes read seen worked same = value_of (fulls_list passes net sets slopes) read (sym worked) ∙ ap (λ (f : List (Option ℚ)). Ok f) (sym same)
 

@@ -103,7 +103,7 @@ module _ (hops : List Hop) (chosen : List Bool) (e : ℕ) (before : List Bool) (
         same : (k : ℕ) → k < e + 1 → e ≤ k → i ≡ k
         same k h l = let m = q in omega arith
 
-    -- between whose ends there is no way
+    -- there is no path between the ends of the link
     pub before_more : AreApart hops before hop.tail hop.head → AreBefore hops chosen (e + 1) (set before i true)
     before_more apart = record {
       count = length-set before i true ∙ b.count;
@@ -128,7 +128,7 @@ module _ (hops : List Hop) (chosen : List Bool) (e : ℕ) (before : List Bool) (
   pub forest_before : IsForest hops (λ k. (k < e) × Has chosen k)
   forest_before = forest-weaker hops (Has before) (λ k. (k < e) × Has chosen k) (λ k w. (b.flags k).1 w) b.forest
 
-  -- ---- a way between the ends of the link at the place closes a cycle
+  -- ---- a path between the ends of the link at the index closes a cycle
   push_cases : (steps : List (ℕ × Bool)) (k : ℕ) → Contains (links_of (steps ++ (e, true) ∷ [])) k → Contains (links_of steps) k ⊎ (k ≡ e)
   push_cases [] k c = ⊎_elim (λ (s : e ≡ k). inr (sym s)) (λ (s : Contains [] k). absurd (nothing s)) (contains_cases e [] k c)
     where
@@ -248,7 +248,7 @@ lowest-is s steps best h =
     go (kept e) = turn-same s.0 s.1 steps best.0 (sym (ap (λ (p : ℕ × Bool). p.0) e)) ∙ ap (λ (p : ℕ × Bool). Some p.1) (sym e)
     go (found t k) = turn-other s.0 s.1 steps best.0 (λ q. absurd (omega arith)) ∙ t
 
--- ---- turned round where the lowest link is taken backward
+-- ---- reversed if the lowest link is used backward
 pub first-forward : (hops : List Hop) (chosen : List Bool) (steps : List (ℕ × Bool)) (e : ℕ) → IsClosed hops chosen steps → IsLowest steps (e, true) → IsFirstCycle hops chosen steps
 first-forward hops chosen steps e c l = record { closed = c; lowest = e; grows = l.turn; least = l.least }
 

@@ -1,4 +1,4 @@
--- What tests of numbers decide.
+-- Decisions by tests of numbers.
 use Rattle.std.proofs.Common.{◌≡◌, ℕ, List, slice_get, ◌⊎◌, inr, ⊎_elim, Bool, true, false, not, ◌&&◌, ◌||◌, refl, sym, ◌∙◌}
 use Rattle.std.specs.Prelude.{Option, Some, None, MatchBool}
 use Rattle.std.specs.Bool.{Decides}
@@ -16,7 +16,7 @@ use Rattle.nf_complete.specs.ThinParts.{KeepsSlopes, keeps_test}
 false_true : false ≡ true → ⊥
 false_true e = cc
 
--- what is decided, as an answer
+-- a decision, as an answer
 pub says : {P : Type 0} (b : Bool) → Decides b P → MatchBool b P (P → ⊥)
 says true d = d.0 refl
 says false d = λ p. false_true (d.1 p)
@@ -25,7 +25,7 @@ pub says_by : {P : Type 0} (b t : Bool) → b ≡ t → Decides t P → MatchBoo
 says_by true t e d = d.0 (sym e)
 says_by false t e d = λ p. false_true (e ∙ d.1 p)
 
--- an answer to one question is one to another that says the same
+-- an answer to one question answers any equivalent question
 pub says_like : {P Q : Type 0} (b : Bool) → (P → Q) → (Q → P) → MatchBool b P (P → ⊥) → MatchBool b Q (Q → ⊥)
 says_like true f g p = f p
 says_like false f g n = λ q. n (g q)
@@ -74,7 +74,7 @@ not_same x y e h = false_true (sym e ∙ (Decides-same x y).1 h)
 pub not_set_by : (flags : List Bool) (e : ℕ) (b : Bool) → slice_get flags e ≡ Some b → b ≡ false → Has flags e → ⊥
 not_set_by flags e b at off h = false_true (sym off ∙ same_Some b true (sym at ∙ h))
 
--- where the first holds, and the second does not, the third decides
+-- if the first holds and the second does not, the third decides
 pub third_decides : (b : Bool) (A B C : Type 0) → A → (B → ⊥) → MatchBool b C (C → ⊥) → MatchBool b (A × (B ⊎ C)) (A × (B ⊎ C) → ⊥)
 third_decides true A B C a n c = (a, inr c)
 third_decides false A B C a n c = λ t. ⊎_elim n c t.1

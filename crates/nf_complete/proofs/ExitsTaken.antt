@@ -1,4 +1,4 @@
--- What a link that keeps slopes says of its exit slope. Here x is the flow of a link, s and t are the slopes of its tail and its head.
+-- The exit slope of a link that satisfies the slope condition. The flow of the link is x; s and t are the slopes of its tail and head.
 use Rattle.std.proofs.Common.{◌≡◌, ◌≢◌, ◌⊎◌, inl, inr, ⊎_elim, Bool, true, false, Option, Some, None, [], ◌∷◌, sym, subst, refl, ◌∙◌}
 use Rattle.nf_rational.specs.Rational.{ℚ}
 use Rattle.nf_rational.specs.Operations.{0ℚ, ◌*ℚ◌, ◌/ℚ◌}
@@ -50,7 +50,7 @@ keeps-least false (Some c) x s t p k = ⊎_elim
     (λ (l : c *ℚ t ≤ℚ x). ≤ℚ_trans t (x /ℚ c) (max_ℚ s (x /ℚ c)) (quotient_above x c t (p c refl) l) (max_right s (x /ℚ c)))
     k.0
 
--- a node takes its slope of a link that is resetting, carries something, or has equal slopes at its ends
+-- a node takes its slope from a link that is resetting, carries flow, or has equal slopes at its ends
 pub keeps-taken : (resets : Bool) (capacity : Option ℚ) (x s t : ℚ) → IsPositive capacity → (resets ≡ true → capacity ≡ None → ⊥) → 0ℚ ≤ℚ x → 0ℚ ≤ℚ s → KeepsSlopes resets (filling capacity t) x s t
     → (resets ≡ true) ⊎ ((x ≢ 0ℚ) ⊎ (t ≡ s)) → exit_slope resets capacity x s ≡ t
 keeps-taken true None x s t p b n m k w = absurd (b refl refl)
@@ -65,7 +65,7 @@ keeps-taken false capacity x s t p b n m k w = ⊎_elim
     level z (inr (inl o)) = absurd (o z)
     level z (inr (inr e)) = e
 
--- and what a thin flow says of a link is that it keeps slopes
+-- the link condition of a thin flow is the slope condition
 pub law-keeps : (resets : Bool) (capacity : Option ℚ) (x s t : ℚ) → LinkLaw resets capacity x s t → KeepsSlopes resets (filling capacity t) x s t
 law-keeps resets None x s t l = (l.upper, ⊎_elim (λ (h : 0ℚ <ℚ x). inr (≤ℚ_of_same s t (l.used h))) (λ (h : x ≤ℚ 0ℚ). inl h) (lt_or_le_ℚ 0ℚ x))
 law-keeps true (Some c) x s t l = l.full refl

@@ -1,4 +1,4 @@
--- What the list of what fills each link says.
+-- Results of the operation sequence of the flows that fill the links.
 use Rattle.std.proofs.Common.{◌≡◌, ℕ, ◌+◌, List, length, Bool, true, false, not, ◌||◌, sym, ap, subst, refl, ◌∙◌, arith}
 use Rattle.std.specs.Prelude.{Option, Some, None, slice_get, unwrap_or, Ok, MatchBool}
 use Rattle.std.specs.List.{enumerate_from}

@@ -1,4 +1,4 @@
--- Sets of links of a network that is read.
+-- Sets of links of an accepted network.
 use Rattle.nf_model.specs.ThinFlow.{Sets}
 use Rattle.nf_formats.specs.Named.{Named}
 use Rattle.nf_formats.specs.WellNamed.{IsNamed}

@@ -1,4 +1,4 @@
--- A tree of steps, one step more, and the way back in it.
+-- A tree of steps, its extension by one step, and the path back to its root.
 use Rattle.std.proofs.Common.{◌≡◌, ◌≢◌, ℕ, zero, suc, ◌<◌, ◌≤◌, List, [], ◌∷◌, length, ◌⊎◌, inl, inr, ⊎_elim, Bool, true, false, not, if◌then◌else◌, eqb, set, Option, Some, None, slice_get, sym, ap, subst, refl, ◌∙◌, arith}
 use Rattle.std.specs.Prelude.{◌↔◌, Contains}
 use Rattle.std.specs.Option.{option_map_or}
@@ -41,7 +41,7 @@ module _ (hops : List Hop) (chosen : List Bool) (from : ℕ) where
       (λ (w : Contains (links_of older) e). let r = ends_in older t e hop w p in (inr r.0, inr r.1))
       (contains_cases s.0 (links_of older) e c)
 
-  -- the way back takes links of the tree
+  -- the path back uses links of the tree
   back_in : (tree : List (ℕ × Bool)) (v e : ℕ) → Contains (links_of (way_back hops tree v)) e → Contains (links_of tree) e
   back_in [] v e c = absurd (contains_none e c)
   back_in (s ∷ older) v e c = ⊎_elim
@@ -162,7 +162,7 @@ pub tree_below : (hops : List Hop) (chosen : List Bool) (from : ℕ) (tree : Lis
 tree_below hops chosen from [] t = tt
 tree_below hops chosen from (s ∷ older) (g, q, a, b, n, t) = (slice_get_within hops s.0 g q, tree_below hops chosen from older t)
 
--- what holds of each step holds of one of them
+-- a property of each step is a property of one of them
 pub one_below : (P : ℕ × Bool → Type 0) (tree : List (ℕ × Bool)) (i : ℕ) (step : ℕ × Bool) → AllByRecursion P tree → slice_get tree i ≡ Some step → P step
 one_below P [] i step all e = absurd (cc)
 one_below P (x ∷ tree) zero step all e = let same : x ≡ step = cc in subst P same all.0

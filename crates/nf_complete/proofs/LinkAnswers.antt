@@ -1,4 +1,5 @@
--- What is answered of a link: whether it leads into a node, is level, brings something, and carries nothing unless it is active.
+-- Answers of the tests on a link: whether it enters a node, has equal slopes, is resetting or carries flow, and is active if it carries
+-- flow.
 use Rattle.std.proofs.Common.{◌≡◌, ◌≢◌, inr, ⊎_elim, ℕ, Bool, not, eqb, List, ap, subst, ◌∙◌}
 use Rattle.std.specs.Prelude.{MatchBool}
 use Rattle.std.proofs.lemmas.Bool.Decides.{Decides-eqb, Decides-not}

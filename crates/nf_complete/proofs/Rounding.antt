@@ -1,4 +1,4 @@
--- A trail gone along the other way round.
+-- Reversed trails.
 use Rattle.std.proofs.Common.{◌≡◌, ◌≢◌, ℕ, suc, ◌+◌, ◌<◌, List, [], ◌∷◌, length, get_or, drop, add-one, drop-cons, ◌⊎◌, inl, inr, ⊎_elim, Bool, true, false, not, if◌then◌else◌, eqb, Option, Some, None, sym, ap, subst, refl, ◌∙◌, arith}
 use Rattle.std.specs.Prelude.{Contains}
 use Rattle.std.proofs.lemmas.Bool.Decides.{eqb_tells}
@@ -62,7 +62,7 @@ round-differ (s ∷ steps) done d f n = round-differ steps ((s.0, not s.1) ∷ d
     ((λ c. n s.0 (contains_first s.0 (links_of steps) s.0 refl) c), f)
     (λ e c k. ⊎_elim (λ (q : s.0 ≡ e). d.0 (subst (λ (i : ℕ). Contains (links_of steps) i) (sym q) c)) (λ (q : Contains (links_of done) e). n e (contains_more s.0 (links_of steps) e c) q) (contains_cases s.0 (links_of done) e k))
 
--- ---- each link is taken the other way
+-- ---- each link is used in the opposite direction
 pub turn-same : (f : ℕ) (b : Bool) (steps : List (ℕ × Bool)) (e : ℕ) → f ≡ e → turn_of ((f, b) ∷ steps) e ≡ Some b
 turn-same f b steps e q = ⊎_elim
     (λ (w : (eqb f e ≡ true) × (f ≡ e)). ap (λ (t : Bool). if t then Some b else turn_of steps e) w.0)

@@ -28,12 +28,12 @@ use Rattle.nf_complete.proofs.Deciding.{Decides-same}
 use Rattle.nf_complete.proofs.Filling.{fulls_at}
 use Rattle.nf_complete.proofs.LinkAnswers.{level_of}
 
--- what was read of what fills the links
+-- the flows read that fill the links
 pub read_full : (fulls : List (Option ℚ)) (i e : ℕ) (o : Option ℚ) → i ≡ e → e < length fulls → o ≡ get_or fulls i o → unwrap_or (slice_get fulls e) None ≡ o
 read_full fulls i e o same inside is = ap (λ (w : Option (Option ℚ)). unwrap_or w None) (slice_get_read fulls (length fulls) e o refl inside (is ∙ ap (λ (k : ℕ). get_or fulls k o) same))
 
 module _ (net : Network) (sets : Sets) (flows slopes : List ℚ) where
-  -- ---- bare nodes
+  -- ---- nodes without inflow
   pub bare_made : (v : ℕ) → v ≢ net.source → ((e : ℕ) → e < length net.links → BringsInto net sets flows v e → ⊥) → IsBare net sets flows v
   bare_made v other none = record {
     not_source = other;
@@ -49,7 +49,7 @@ module _ (net : Network) (sets : Sets) (flows slopes : List ℚ) where
   pub not_bare : (v e : ℕ) → BringsInto net sets flows v e → IsBare net sets flows v → ⊥
   not_bare v e w b = let n = b.bare e w.0.0 w.0.1 in ⊎_elim (λ (r : Has sets.resetting e). n.0 r) (λ (z : number_at flows e ≢ 0ℚ). z n.1) w.1
 
-  -- ---- the link by which one is led to
+  -- ---- the link that enters a node without inflow
   module _ (e : ℕ) (link : Link) (p : IsLink net e link) (v : ℕ) (at : v ≡ link.head) where
     pub leads_made : LevelInto net sets slopes v e → IsBare net sets flows v → NoneLevelBefore net sets slopes v e → LeadsToBare net sets flows slopes e link
     leads_made w b none = record {
@@ -75,7 +75,7 @@ module _ (net : Network) (sets : Sets) (flows slopes : List ℚ) where
     leads_told true w b none = leads_made w b none
     leads_told false w b some = λ l. some (leads_first l)
 
-  -- ---- what fills a link
+  -- ---- the flow that fills a link
   fills_told : (capacity : Option ℚ) (x t : ℚ) → Decides (full_test (filling capacity t) x) (Fills capacity x t)
   fills_told None x t = (λ e. absurd (cc), λ f. absurd (none-some f.0 f.1))
   fills_told (Some c) x t = Decides-like (same_test x (c *ℚ t)) (λ (e : x ≡ c *ℚ t). (c, refl, e)) (λ (f : Fills (Some c) x t). f.2 ∙ ap (λ (z : ℚ). z *ℚ t) (sym (same_Some c f.0 f.1))) (Decides-same x (c *ℚ t))

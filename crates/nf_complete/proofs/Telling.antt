@@ -1,4 +1,4 @@
--- A loop over a list that asks of each entry whether something holds, after a computation for it.
+-- A loop over a list that tests each entry after a computation for it.
 use Rattle.std.proofs.Common.{◌≡◌, ℕ, zero, suc, ◌+◌, ◌<◌, ◌≤◌, List, [], ◌∷◌, length, ⊎_elim, Bool, true, false, ◌&&◌, if◌then◌else◌, sym, ap, subst, refl, ◌∙◌, arith}
 use Rattle.std.specs.Prelude.{Some, slice_get, Result, Ok, Err, IsOk, MatchBool}
 use Rattle.std.specs.List.{enumerate_from, range_with_len}
@@ -42,7 +42,7 @@ is_ok_of list x e = (ok_of list x e).1
 pub value_of : {A : Type 0} (list : Checked A) (x : A) → Ok x ≡ at_part Verdict list → list ≡ Ok x
 value_of list x e = (ok_of list x e).0
 
--- what passes first passes in the whole
+-- an operation that passes first, passes in the whole
 pub first_passes : {A B : Type 0} (r : Checked A) (f : A → Checked B) (p : PassedAt ℚ) → at_part Verdict r ≡ Err p → at_part Verdict (r >>= f) ≡ Err p
 first_passes (Ok x) f p e = absurd (cc)
 first_passes {A = A} {B = B} (Err q) f p e = ap Err (same_Err {A = A} (placed Verdict q) p e)
@@ -71,11 +71,11 @@ module _ {A B : Type 0} (f : A → Checked B) where
       go (Err q) rest h k = absurd (cc)
 
   module _ (Holds : A → Type 0) (xs : List A) where
-    -- it holds of each entry so far, or not
+    -- the property holds for each entry so far, or not
     abbrev pub Below : ℕ → Type 0
     Below n = (k : ℕ) (x : A) → k < n → slice_get xs k ≡ Some x → Holds x
 
-    -- no operation of those entries passes, and this is said of them
+    -- no operation of those entries passes, and the answer is about them
     pub record ToldBelow (n : ℕ) (answer : Bool) : Type 0 where
       pub none_passes : (k : ℕ) (x : A) → k < n → slice_get xs k ≡ Some x → IsOk (f x)
       pub says : MatchBool answer (Below n) (Below n → ⊥)

@@ -1,4 +1,4 @@
--- What the test of a thin flow answers.
+-- Answers of the test for a thin flow.
 use Rattle.std.proofs.Common.{◌≡◌, List, length, Bool, ◌&&◌, Option, refl}
 use Rattle.std.specs.Prelude.{Ok, Err, IsOk, MatchBool}
 use Rattle.std.specs.List.{range_with_len}

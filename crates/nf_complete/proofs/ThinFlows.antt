@@ -1,4 +1,5 @@
--- Flows and slopes are a thin flow exactly where each node balances, each active link keeps slopes, and the rest holds.
+-- Flows and slopes are a thin flow exactly if each node is balanced, each active link satisfies the slope condition, and the other
+-- conditions hold.
 use Rattle.std.proofs.Common.{◌≡◌, ◌≢◌, ◌⊎◌, inl, inr, ⊎_elim, ℕ, ◌<◌, Bool, true, false, if◌then◌else◌, eqb, List, [], ◌∷◌, length, None, sym, ap, subst, refl, ◌∙◌}
 use Rattle.std.proofs.lemmas.Bool.Decides.{eqb_tells}
 use Rattle.nf_rational.specs.Rational.{ℚ}
@@ -57,7 +58,7 @@ module _ (net : Network) (sets : Sets) (rate : ℚ) (flows slopes : List ℚ) (g
   abbrev pub Kept : Type 0
   Kept = (e : ℕ) (link : Link) → IsLink net e link → KeepsAt sets flows slopes e link
 
-  -- ---- what links carry, where only active ones carry something
+  -- ---- flows of links, if only active links carry flow
   module _ (only : CarriesOnActive sets flows) where
     active_same : (e : ℕ) → active_flow sets flows e ≡ number_at flows e
     active_same e = ⊎_elim

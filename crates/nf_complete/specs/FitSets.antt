@@ -1,4 +1,4 @@
--- Sets of links that a thin flow is asked for.
+-- Preconditions on the sets of a thin flow.
 use Rattle.std.specs.Prelude.{◌≡◌, ℕ, None}
 use Rattle.nf_model.specs.Entries.{Has}
 use Rattle.nf_model.specs.Network.{Link, Network, IsLink}

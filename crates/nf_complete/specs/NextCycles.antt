@@ -1,4 +1,4 @@
--- The next cycle that is cancelled, and what is known of the links before the one that closes it.
+-- The next cycle to cancel.
 use Rattle.std.specs.Prelude.{ℕ, ◌<◌, Bool, List}
 use Rattle.nf_rational.specs.Rational.{ℚ}
 use Rattle.nf_model.specs.Network.{Network, hops}
@@ -6,7 +6,7 @@ use Rattle.nf_model.specs.ThinFlow.{Sets}
 use Rattle.nf_model.specs.Pattern.{IsForest}
 use Rattle.nf_complete_lists.specs.Interior.{IsInterior, IsNextCycle}
 
--- the interior links before this one are a forest
+-- the interior links before `last` are a forest
 abbrev pub AreForestBelow : Network → Sets → List ℚ → List ℚ → ℕ → Type 0
 AreForestBelow net sets slopes flows last = IsForest (hops net) (λ e. (e < last) × IsInterior net sets slopes flows e)
 

@@ -1,4 +1,4 @@
--- The state of one link in the pattern of settled flows.
+-- The state of one link in settled flows.
 use Rattle.std.specs.Prelude.{◌≡◌, ◌≢◌, ◌⊎◌, ℕ, ◌<◌, Bool, false, List, Option, Some, None}
 use Rattle.nf_rational.specs.Rational.{ℚ}
 use Rattle.nf_rational.specs.Operations.{0ℚ}
@@ -12,24 +12,24 @@ use Rattle.nf_complete_lists.specs.SettledPattern.{LeadsToBare}
 use Rattle.nf_complete.specs.Testing.{same_test}
 use Rattle.nf_complete.specs.ThinParts.{LeadsInto, IsLevelAt, Brings}
 
--- an active link into node v is resetting or carries something
+-- link e is active, enters node v, and is resetting or carries flow
 abbrev pub BringsInto : Network → Sets → List ℚ → ℕ → ℕ → Type 0
 BringsInto net sets flows v e = LeadsInto net sets v e × Brings sets flows e
 
--- an active link into node v has equal slopes at its ends
+-- link e is active, enters node v, and has equal slopes at its ends
 abbrev pub LevelInto : Network → Sets → List ℚ → ℕ → ℕ → Type 0
 LevelInto net sets slopes v e = LeadsInto net sets v e × IsLevelAt net slopes e
 
 abbrev pub NoneLevelBefore : Network → Sets → List ℚ → ℕ → ℕ → Type 0
 NoneLevelBefore net sets slopes v e = (k : ℕ) → k < e → LevelInto net sets slopes v k → ⊥
 
--- a flow is what fills the link
+-- the flow fills the link
 abbrev pub full_test : Option ℚ → ℚ → Bool
 full_test None flow = false
 full_test (Some full) flow = same_test flow full
 
--- a link that needs no state has none; else it is Tight if a bare node is led to by it, and where it carries something that doesn't fill
--- it, Full where that fills it, and Zero where it carries nothing
+-- A link without a state needs none. A link that needs a state is Zero if it carries no flow, Full if its flow fills it, and otherwise
+-- Tight. The first active link with equal slopes at its ends into a node without inflow is Tight.
 abbrev pub FitsState : Network → Sets → List ℚ → List ℚ → ℕ → Link → Option State → Type 0
 FitsState net sets flows slopes e link None = NeedsState sets e → ⊥
 FitsState net sets flows slopes e link (Some Tight) = NeedsState sets e

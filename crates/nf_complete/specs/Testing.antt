@@ -1,4 +1,4 @@
--- What is answered where it is asked whether something holds, after a list of operations.
+-- Results of tests after an operation sequence.
 use Rattle.std.specs.Prelude.{◌≡◌, ◌&&◌, Bool, MatchBool, Result, Ok, Err, IsOk}
 use Rattle.nf_rational.specs.Rational.{ℚ}
 use Rattle.nf_rational.specs.Order.{le_ℚ}
@@ -6,11 +6,11 @@ use Rattle.nf_work.specs.declared.Part.TheVariants.{Verdict}
 use Rattle.nf_work.specs.declared.PassedAt.{PassedAt}
 use Rattle.nf_work.specs.Checked.{Checked, at_part}
 
--- whether it holds, where no operation passes, and else the first that does
+-- the answer says whether `Holds`, and no operation passes; or the error is the first operation that passes
 abbrev pub Tells : {A : Type 0} → Type 0 → Checked A → Result Bool (PassedAt ℚ) → Type 0
 Tells Holds list (Ok answer) = IsOk list × MatchBool answer Holds (Holds → ⊥)
 Tells Holds list (Err at) = at_part Verdict list ≡ Err at
 
--- two numbers are the same
+-- two numbers are equal
 abbrev pub same_test : ℚ → ℚ → Bool
 same_test x y = le_ℚ x y && le_ℚ y x

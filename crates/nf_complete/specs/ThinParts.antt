@@ -1,4 +1,4 @@
--- What makes flows and slopes a thin flow, said so that it is tested by sums and products alone: at each node, of each link, and the rest.
+-- Conditions of a thin flow, as sums and products.
 use Rattle.std.specs.Prelude.{◌≡◌, ◌≢◌, ◌⊎◌, ◌==◌, ◌&&◌, ◌||◌, ℕ, ◌<◌, Bool, true, false, if◌then◌else◌, List, Option, Some, None, slice_get, unwrap_or}
 use Rattle.std.specs.Option.{option_map}
 use Rattle.nf_rational.specs.Rational.{ℚ}
@@ -10,15 +10,15 @@ use Rattle.nf_model.specs.ThinFlow.{Sets, Enters}
 use Rattle.nf_complete.specs.Testing.{same_test}
 
 -- ---- at a node
--- what a link carries, if it is active
+-- the flow of a link, or 0 if the link is not active
 abbrev pub active_flow : Sets → List ℚ → ℕ → ℚ
 active_flow sets flows e = if unwrap_or (slice_get sets.active e) false then number_at flows e else 0ℚ
 
--- what comes to a node: by active links, and at the source the rate
+-- the inflow of a node: the rate at the source, and the flows of the active links at any other node
 abbrev pub brought : Network → Sets → ℚ → List ℚ → ℕ → ℚ
 brought net sets rate flows v = if v == net.source then rate else sum_in net.links (active_flow sets flows) v
 
--- what goes from it by active links; at the sink the rate stays
+-- the flows of the active links out of a node, plus the rate at the sink
 abbrev pub taken_away : Network → Sets → ℚ → List ℚ → ℕ → ℚ
 taken_away net sets rate flows v =
     if v == net.sink then sum_out net.links (active_flow sets flows) v +ℚ rate else sum_out net.links (active_flow sets flows) v
@@ -27,12 +27,12 @@ abbrev pub IsBalanced : Network → Sets → ℚ → List ℚ → ℕ → Type 0
 IsBalanced net sets rate flows v = brought net sets rate flows v ≡ taken_away net sets rate flows v
 
 -- ---- of a link
--- what fills it, if it has a capacity
+-- the flow that fills the link, if it has a capacity
 abbrev pub filling : Option ℚ → ℚ → Option ℚ
 filling capacity head_slope = option_map (λ rate. rate *ℚ head_slope) capacity
 
--- x is the flow of an active link, s and t are the slopes of its tail and its head: the head's slope is at most the link's exit slope,
--- and is that slope where the link has flow
+-- The slope condition of an active link. Its flow is x; s and t are the slopes of its tail and head. The slope t is at most the link's exit
+-- slope, and equals it if the link has flow.
 abbrev pub KeepsSlopes : Bool → Option ℚ → ℚ → ℚ → ℚ → Type 0
 KeepsSlopes resets None x s t = (t ≤ℚ s) × ((x ≤ℚ 0ℚ) ⊎ (s ≤ℚ t))
 KeepsSlopes true (Some full) x s t = x ≡ full
@@ -49,23 +49,23 @@ KeepsAt sets flows slopes e link = Has sets.active e
     (number_at slopes link.tail) (number_at slopes link.head)
 
 -- ---- links into a node
--- link e is an active one into node v
+-- link e is active and enters node v
 abbrev pub LeadsInto : Network → Sets → ℕ → ℕ → Type 0
 LeadsInto net sets v e = (link : Link) × Enters net sets v e link
 
--- the slopes at its ends are equal
+-- the slopes at the ends of link e are equal
 abbrev pub IsLevelAt : Network → List ℚ → ℕ → Type 0
 IsLevelAt net slopes e = (link : Link) → IsLink net e link → number_at slopes link.head ≡ number_at slopes link.tail
 
--- it is resetting, or it carries something
+-- link e is resetting or carries flow
 abbrev pub Brings : Sets → List ℚ → ℕ → Type 0
 Brings sets flows e = Has sets.resetting e ⊎ (number_at flows e ≢ 0ℚ)
 
--- where each link keeps slopes, the slope of node v is the exit slope of link e
+-- node v takes its slope from link e: if all links satisfy the slope condition, the slope of v is the exit slope of e
 abbrev pub Takes : Network → Sets → List ℚ → List ℚ → ℕ → ℕ → Type 0
 Takes net sets flows slopes v e = LeadsInto net sets v e × (Brings sets flows e ⊎ IsLevelAt net slopes e)
 
--- ---- the rest, which needs no operation
+-- ---- the conditions that need no operation
 abbrev pub NoneNegative : List ℚ → Type 0
 NoneNegative numbers = (i : ℕ) → 0ℚ ≤ℚ number_at numbers i
 

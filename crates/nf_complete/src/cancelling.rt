@@ -1,4 +1,4 @@
-// Cancelling along a cycle: by how much each of its links may grow or shrink, and the flows after that.
+// Cancelling a cycle.
 ghost use Rattle.std.specs.Prelude.{◌≡◌, ◌<◌, ◌^◌, length, Some, None, unwrap_or, slice_get};
 ghost use Rattle.nf_rational.specs.Operations.{0ℚ};
 ghost use Rattle.nf_work.specs.declared.Part.TheVariants.{Verdict};
@@ -13,7 +13,7 @@ use nf_frac::{Halt, Part, PassedAt, Q, at};
 use nf_graph::LinkId;
 use std::alloc::Global;
 
-// In which direction steps take a link, if they do.
+// Returns the direction in which the steps use a link, or `None` if they do not.
 fn turn(steps: &[Step], link: LinkId) -> Option<bool>
     ensures { result ≡ turn_of steps.now link }
 {
@@ -26,7 +26,7 @@ fn turn(steps: &[Step], link: LinkId) -> Option<bool>
     None
 }
 
-// By how much a link may grow or shrink.
+// Returns how much the link may change in the direction `turn`. `None` means no limit.
 fn room(turn: Option<bool>, full: Option<Q>, flow: Q) -> Result<Option<Q>, PassedAt<Q>>
     ensures { result ≡ at_part Verdict (room_on passes_Q turn full flow) }
 {
@@ -43,7 +43,7 @@ fn room(turn: Option<bool>, full: Option<Q>, flow: Q) -> Result<Option<Q>, Passe
     }
 }
 
-// The flow after it has grown or shrunk.
+// Returns the flow after it changes by `amount` in the direction `turn`.
 fn change(turn: Option<bool>, amount: Q, flow: Q) -> Result<Q, PassedAt<Q>>
     ensures { result ≡ at_part Verdict (change_on passes_Q turn amount flow) }
 {
@@ -60,7 +60,7 @@ fn change(turn: Option<bool>, amount: Q, flow: Q) -> Result<Q, PassedAt<Q>>
     }
 }
 
-// Of the link of a number.
+// Returns the room of the link with the number `link`.
 fn room_of(
     steps: &[Step],
     fulls: &[Option<Q>],
@@ -81,7 +81,7 @@ fn change_of(steps: &[Step], amount: Q, link: usize, flow: Q) -> Result<Q, Passe
     change(turn(steps, LinkId(link as u32)), amount, flow)
 }
 
-// The rooms of all links.
+// Returns the rooms of all links.
 fn rooms(
     alloc: Global,
     steps: &[Step],
@@ -101,7 +101,7 @@ fn rooms(
     Ok(rooms)
 }
 
-// The flows of all links after they have grown or shrunk by an amount.
+// Returns the flows of all links after the links of the cycle change by `amount`.
 fn changes(alloc: Global, steps: &[Step], amount: Q, flows: &[Q]) -> Result<Vec<Q>, Halt<Q>>
     requires { length flows.now < 2 ^ 32 }
     ensures { Gives (λ new. new.items) (λ q. q) result
@@ -115,7 +115,7 @@ fn changes(alloc: Global, steps: &[Step], amount: Q, flows: &[Q]) -> Result<Vec<
     Ok(new)
 }
 
-// The lesser of two rooms, of which there may be none.
+// Returns the lesser of two rooms. `None` means no limit.
 fn lesser(room: Option<Q>, rest: Option<Q>) -> Option<Q>
     ensures { result ≡ lesser_room room rest }
 {
@@ -128,7 +128,7 @@ fn lesser(room: Option<Q>, rest: Option<Q>) -> Option<Q>
     }
 }
 
-// The least room, if there is any.
+// Returns the least room, or `None` if no link limits the cycle.
 fn least(rooms: &[Option<Q>]) -> Option<Q>
     ensures { result ≡ least_room rooms.now }
 {
@@ -139,7 +139,7 @@ fn least(rooms: &[Option<Q>]) -> Option<Q>
     least
 }
 
-// What one may grow and the other shrink; 0 where there is no room.
+// Returns the least room, or 0 if no link limits the cycle.
 fn amount(room: Option<Q>) -> Q
     ensures { result ≡ unwrap_or room 0ℚ }
 {
@@ -149,9 +149,9 @@ fn amount(room: Option<Q>) -> Q
     }
 }
 
-/// The flows after a cycle is cancelled: its forward links grow, and its backward links shrink, by the greatest amount for which each stays
-/// at least 0 and at most what fills it. Passed comes exactly at the first of its operations that passes, and has part Verdict; else it is
-/// refused where memory is wanting.
+/// Cancels a cycle: returns the flows after its forward links grow and its backward links shrink by one amount. The amount is the greatest
+/// for which each flow stays between 0 and the flow that fills its link, or 0 if no link limits it. Returns `Passed` exactly at the first
+/// operation that passes, with part Verdict. Otherwise refuses only if an allocation fails.
 #[tactic(auto, unfolding(nf_complete_lists::specs::Cancelling::cancel_list))]
 pub fn cancel(
     alloc: Global,

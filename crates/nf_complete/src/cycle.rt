@@ -1,5 +1,5 @@
-// The first cycle of chosen links, taken without direction: link by link, the ways between their ends are walked along the chosen links
-// before them.
+// The first undirected cycle of chosen links. The search adds the links one by one, and looks for a path between the ends of each along the
+// chosen links before it.
 ghost use Rattle.std.specs.Prelude.{◌≡◌, ◌<◌, ◌^◌, not, length, IfOk, MatchOption, Option, None, []};
 ghost use Rattle.nf_model.specs.Entries.{Has};
 ghost use Rattle.nf_model.specs.Pattern.{IsForest};
@@ -11,7 +11,7 @@ use crate::way::way;
 use nf_graph::{Hop, LinkId};
 use std::alloc::{AllocError, Global};
 
-// The same step the other way round.
+// Returns the step in the opposite direction.
 fn turned(step: Step) -> Step
     ensures { result ≡ (step.0, not step.1) }
 {
@@ -21,7 +21,7 @@ fn turned(step: Step) -> Step
     }
 }
 
-// Of two steps the one along the lower link.
+// Returns the step along the lower link, or `best` if both use one link.
 fn lower(best: Option<Step>, step: Step) -> Step
     ensures { result ≡ lower_of best step }
 {
@@ -37,7 +37,7 @@ fn lower(best: Option<Step>, step: Step) -> Step
     }
 }
 
-// The step along the lowest link.
+// Returns the step along the lowest link, or `None` without steps.
 fn lowest(steps: &[Step]) -> Option<Step>
     ensures { result ≡ lowest_from None steps.now }
 {
@@ -48,7 +48,7 @@ fn lowest(steps: &[Step]) -> Option<Step>
     best
 }
 
-// The same steps the other way round.
+// Returns the steps in reverse order and opposite directions.
 fn rounded(alloc: Global, steps: &[Step]) -> Result<Vec<Step>, AllocError>
     ensures { IfOk result (λ all. all.items ≡ round_onto [] steps.now) }
 {
@@ -59,7 +59,7 @@ fn rounded(alloc: Global, steps: &[Step]) -> Result<Vec<Step>, AllocError>
     Ok(all)
 }
 
-// Closed steps, turned round if their lowest link is taken backward.
+// Returns the closed steps, reversed if they use their lowest link backward.
 fn with_lowest_forward(
     alloc: Global,
     hops: &[Hop],
@@ -79,15 +79,15 @@ fn with_lowest_forward(
     Ok(steps)
 }
 
-/// A cycle, and the highest of its links, which closes it.
+/// A cycle. `last` is its highest link, which closes the cycle.
 #[derive(Drop)]
 pub(crate) struct Cycle {
     pub steps: Vec<Step>,
     pub last: usize,
 }
 
-/// The first cycle of chosen links, with its lowest link taken forward; None where they hold none. Those before the link `known` are known
-/// to be a forest, so that no way between their ends is looked for.
+/// Returns the first cycle of chosen links, which uses its lowest link forward, or `None` if the chosen links are a forest. The chosen
+/// links before `known` must be a forest; the search skips them.
 pub(crate) fn first_cycle(
     alloc: Global,
     nodes: u32,

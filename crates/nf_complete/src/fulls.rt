@@ -1,4 +1,4 @@
-// What fills a link: its capacity times the slope of its head, where it is active and has a capacity.
+// The flow that fills a link. An active link with a capacity is filled by the capacity times the slope of its head.
 ghost use Rattle.std.specs.Prelude.{◌≡◌, ◌<◌, length};
 ghost use Rattle.nf_work.specs.declared.Part.TheVariants.{Verdict};
 ghost use Rattle.nf_work.specs.Passing.{passes_Q};
@@ -27,7 +27,7 @@ fn full_of(active: bool, capacity: Option<Q>, head_slope: Q) -> Result<Option<Q>
     }
 }
 
-/// What fills the link of a number.
+/// Returns the flow that fills a link, or `None` if the link is not active or is unbounded.
 pub(crate) fn full_at(
     net: &Network,
     sets: &LinkSets,
@@ -44,7 +44,7 @@ pub(crate) fn full_at(
     full_of(sets.active(link), here.capacity, slopes[here.head.index()])
 }
 
-/// What fills each link. Passed comes exactly at the first product that passes, and has part Verdict.
+/// Returns the flow that fills each link. Returns `Passed` exactly at the first product that passes, with part Verdict.
 pub(crate) fn fulls(
     alloc: Global,
     net: &Network,

@@ -1,4 +1,4 @@
-// Which links are interior.
+// Interior links.
 ghost use Rattle.std.specs.Prelude.{◌≡◌, ◌<◌, length, IfOk};
 ghost use Rattle.nf_complete.specs.InteriorFlags.{between as between_by, interior_test, interior_flags};
 
@@ -6,7 +6,7 @@ use nf_frac::Q;
 use nf_graph::{LinkId, LinkSets};
 use std::alloc::{AllocError, Global};
 
-// A flow that isn't 0 and doesn't fill the link.
+// Returns whether a flow is above 0 and below the flow that fills the link.
 fn between(full: Option<Q>, flow: Q) -> bool
     ensures { result ≡ between_by full flow }
 {
@@ -16,7 +16,7 @@ fn between(full: Option<Q>, flow: Q) -> bool
     }
 }
 
-// The link of a number is interior.
+// Returns whether the link is interior: active, not resetting, and neither empty nor full.
 fn is_interior(sets: &LinkSets, fulls: &[Option<Q>], flows: &[Q], link: LinkId) -> bool
     requires link { link < length sets.now.active }
     requires fulls { length fulls.now ≡ length sets.now.active }
@@ -26,7 +26,7 @@ fn is_interior(sets: &LinkSets, fulls: &[Option<Q>], flows: &[Q], link: LinkId) 
     sets.active(link) && !sets.resetting(link) && between(fulls[link.index()], flows[link.index()])
 }
 
-/// Of each link, whether it is interior.
+/// Returns for each link whether it is interior.
 pub(crate) fn interior(
     alloc: Global,
     sets: &LinkSets,

@@ -1,4 +1,4 @@
-// Active links into a node, and which of them bring something, or have equal slopes at their ends.
+// Tests on active links into a node.
 ghost use Rattle.std.specs.Prelude.{◌≡◌, ◌<◌, length, MatchBool};
 ghost use Rattle.nf_complete.specs.ThinParts.{LeadsInto, IsLevelAt, Brings};
 
@@ -7,7 +7,7 @@ use nf_frac::Q;
 use nf_graph::{LinkId, LinkSets, NodeId};
 use nf_net::Network;
 
-/// The link is an active one into the node.
+/// Returns whether the link is active and enters the node.
 pub fn leads_into(net: &Network, sets: &LinkSets, link: LinkId, node: NodeId) -> bool
     requires link { link < length net.now.net.links }
     requires sets { length sets.now.active ≡ length net.now.net.links }
@@ -20,7 +20,7 @@ pub fn leads_into(net: &Network, sets: &LinkSets, link: LinkId, node: NodeId) ->
     here.head == node
 }
 
-/// The slopes at its ends are equal.
+/// Returns whether the slopes at the link's ends are equal.
 pub fn is_level(net: &Network, slopes: &[Q], link: LinkId) -> bool
     requires link { link < length net.now.net.links }
     requires slopes { length slopes.now ≡ net.now.net.nodes }
@@ -30,7 +30,7 @@ pub fn is_level(net: &Network, slopes: &[Q], link: LinkId) -> bool
     slope_of(slopes, here.head).is_same(slope_of(slopes, here.tail))
 }
 
-/// The link is resetting, or it carries something.
+/// Returns whether the link is resetting or carries flow.
 pub fn brings(sets: &LinkSets, flows: &[Q], link: LinkId) -> bool
     requires link { link < length sets.now.active }
     requires flows { length flows.now ≡ length sets.now.active }

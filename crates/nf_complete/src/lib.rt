@@ -1,5 +1,5 @@
-//! Thin flows (Koch and Skutella 2011; Cominetti, Correa and Larré 2015) that are given: whether flows and slopes are one, how flows change
-//! where a cycle is cancelled, and how a thin flow is settled into a listed pattern. Flows and slopes are exact fractions.
+//! Tests and settles thin flows (Koch and Skutella 2011; Cominetti, Correa and Larré 2015). Decides whether flows and slopes are a thin
+//! flow, cancels cycles of its links, and settles it into a listed pattern. Flows and slopes are exact fractions.
 #![tactic(auto)]
 
 mod cancelling;

@@ -1,4 +1,4 @@
-// Whether what comes to each node is what goes from it.
+// Flow conservation at the nodes.
 ghost use Rattle.std.specs.Prelude.{◌≡◌, ◌<◌, ◌&&◌, ℕ, List, length, if◌then◌else◌};
 ghost use Rattle.std.specs.List.{enumerate_from, range_with_len};
 ghost use Rattle.nf_rational.specs.Rational.{ℚ};
@@ -17,7 +17,7 @@ use nf_frac::{Part, PassedAt, Q, at};
 use nf_graph::{LinkId, LinkSets, NodeId};
 use nf_net::Network;
 
-// A sum, with the flow of a link if it is active and has an end at the node.
+// Adds the flow of a link to a sum, if the link is active and has an end at the node.
 fn with_flow(
     sets: &LinkSets,
     flows: &[Q],
@@ -38,7 +38,7 @@ fn with_flow(
     }
 }
 
-// What comes to a node, with that by one link more.
+// Adds the flow of a link to a node's inflow so far, if the link is active and enters the node.
 fn come_more(
     net: &Network,
     sets: &LinkSets,
@@ -57,7 +57,7 @@ fn come_more(
     with_flow(sets, flows, link, here.head == node, so_far)
 }
 
-// What goes from a node, with that by one link more.
+// Adds the flow of a link to a node's outflow so far, if the link is active and leaves the node.
 fn go_more(
     net: &Network,
     sets: &LinkSets,
@@ -76,7 +76,7 @@ fn go_more(
     with_flow(sets, flows, link, here.tail == node, so_far)
 }
 
-// What comes to a node by active links.
+// Returns the sum of the flows of the active links into a node.
 fn come(net: &Network, sets: &LinkSets, flows: &[Q], node: NodeId) -> Result<Q, PassedAt<Q>>
     requires sets { length sets.now.active ≡ length net.now.net.links }
     requires flows { length flows.now ≡ length net.now.net.links }
@@ -91,7 +91,7 @@ fn come(net: &Network, sets: &LinkSets, flows: &[Q], node: NodeId) -> Result<Q, 
     Ok(so_far)
 }
 
-// What goes from a node by active links.
+// Returns the sum of the flows of the active links out of a node.
 fn go(net: &Network, sets: &LinkSets, flows: &[Q], node: NodeId) -> Result<Q, PassedAt<Q>>
     requires sets { length sets.now.active ≡ length net.now.net.links }
     requires flows { length flows.now ≡ length net.now.net.links }
@@ -106,7 +106,7 @@ fn go(net: &Network, sets: &LinkSets, flows: &[Q], node: NodeId) -> Result<Q, Pa
     Ok(so_far)
 }
 
-// A sum with the rate, if it stays at the node.
+// Adds the rate to a sum, if the node is the sink.
 fn with_rate(stays: bool, sum: Q, rate: Q) -> Result<Q, PassedAt<Q>>
     ensures { (net : SeenNetwork) (sets : Sets) (flows : List ℚ)
         → result ≡ at_part Verdict (with_rate_by passes_Q net sets rate flows stays sum) }
@@ -119,14 +119,14 @@ fn with_rate(stays: bool, sum: Q, rate: Q) -> Result<Q, PassedAt<Q>>
     }
 }
 
-// What comes to a node in all.
+// Returns the inflow of a node: the rate at the source, and the links' flow at any other node.
 fn brought(is_source: bool, rate: Q, by_links: Q) -> Q
     ensures { result ≡ (if is_source then rate else by_links) }
 {
     if is_source { rate } else { by_links }
 }
 
-// Whether what comes to a node is what goes from it; at the source the rate comes, and at the sink it stays.
+// Returns whether inflow equals outflow at a node. The inflow of the source is the rate. The outflow of the sink includes the rate.
 fn balances_at(
     net: &Network,
     sets: &LinkSets,
@@ -146,8 +146,8 @@ fn balances_at(
     Ok(brought.is_same(all))
 }
 
-/// Whether what comes to each node is what goes from it; at the source the rate comes, and at the sink it stays. It is refused exactly where
-/// a sum passes, with the first one, which has part Verdict.
+/// Returns whether inflow equals outflow at every node. The inflow of the source is the rate. The outflow of the sink includes the rate.
+/// Refuses exactly at the first sum that passes, with part Verdict.
 pub fn balances(net: &Network, sets: &LinkSets, rate: Q, flows: &[Q]) -> Result<bool, PassedAt<Q>>
     requires sets { length sets.now.active ≡ length net.now.net.links }
     requires flows { length flows.now ≡ length net.now.net.links }

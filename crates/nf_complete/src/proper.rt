@@ -1,4 +1,4 @@
-// What is asked of a thin flow beside balances and slopes along links: nothing that needs an operation.
+// Conditions of a thin flow without operations.
 ghost use Rattle.std.specs.Prelude.{◌≡◌, ◌<◌, not, length, MatchBool};
 ghost use Rattle.nf_rational.specs.Operations.{0ℚ, 1ℚ};
 ghost use Rattle.nf_rational.specs.Order.{le_ℚ};
@@ -11,7 +11,7 @@ use nf_frac::Q;
 use nf_graph::{LinkId, LinkSets};
 use nf_net::Network;
 
-// The number at a place is below 0.
+// Returns whether the number at an index is negative.
 fn is_negative_at(numbers: &[Q], place: usize) -> bool
     requires { place < length numbers.now }
     ensures { result ≡ not (le_ℚ 0ℚ (number_at numbers.now place)) }
@@ -19,7 +19,7 @@ fn is_negative_at(numbers: &[Q], place: usize) -> bool
     !Q::zero().is_at_most(numbers[place])
 }
 
-// No number is below 0.
+// Returns whether no number is negative.
 fn none_negative(numbers: &[Q]) -> bool
     ensures { MatchBool result (NoneNegative numbers.now) (NoneNegative numbers.now → ⊥) }
 {
@@ -31,7 +31,7 @@ fn none_negative(numbers: &[Q]) -> bool
     true
 }
 
-// A link that isn't active carries nothing.
+// Returns whether the link is active or carries no flow.
 fn carries_if_active(sets: &LinkSets, flows: &[Q], link: LinkId) -> bool
     requires link { link < length sets.now.active }
     requires flows { length flows.now ≡ length sets.now.active }
@@ -43,7 +43,7 @@ fn carries_if_active(sets: &LinkSets, flows: &[Q], link: LinkId) -> bool
     flow_of(flows, link).is_same(Q::zero())
 }
 
-// No such link carries anything.
+// Returns whether only active links carry flow.
 fn carries_on_active(net: &Network, sets: &LinkSets, flows: &[Q]) -> bool
     requires sets { length sets.now.active ≡ length net.now.net.links }
     requires flows { length flows.now ≡ length net.now.net.links }
@@ -57,7 +57,7 @@ fn carries_on_active(net: &Network, sets: &LinkSets, flows: &[Q]) -> bool
     true
 }
 
-// The slope of the source is 1.
+// Returns whether the slope of the source is 1.
 fn starts(net: &Network, slopes: &[Q]) -> bool
     requires { length slopes.now ≡ net.now.net.nodes }
     ensures { MatchBool result (number_at slopes.now net.now.net.source ≡ 1ℚ) (number_at slopes.now net.now.net.source ≡ 1ℚ → ⊥) }
@@ -65,7 +65,8 @@ fn starts(net: &Network, slopes: &[Q]) -> bool
     slope_of(slopes, net.source()).is_same(Q::one())
 }
 
-/// All of it.
+/// Returns whether all these conditions hold. No flow or slope is negative. Only active links carry flow. The slope of the source is 1.
+/// Each other node takes its slope from a link.
 pub(crate) fn is_proper(net: &Network, sets: &LinkSets, flows: &[Q], slopes: &[Q]) -> bool
     requires sets { length sets.now.active ≡ length net.now.net.links }
     requires flows { length flows.now ≡ length net.now.net.links }

@@ -1,8 +1,9 @@
-// What a thin flow is settled to.
+// A settled thin flow.
 use nf_frac::Q;
 use nf_pattern::Pattern;
 
-/// Of each link the flow, an amount per unit of time, and its state where it needs one.
+/// A settled thin flow. `flows` holds the flow of each link, an amount per unit of time. `pattern` holds the state of each link that needs
+/// one.
 #[derive(Drop)]
 pub struct Settled {
     pub flows: Vec<Q>,

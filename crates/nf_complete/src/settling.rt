@@ -1,4 +1,4 @@
-// A thin flow is settled: cycle by cycle, until its interior links hold none.
+// Settling of a thin flow. Cycles are cancelled until the interior links hold none.
 ghost use Rattle.std.specs.Prelude.{◌≡◌, ◌<◌, length, Ok, IfOk, MatchOption};
 ghost use Rattle.nf_rational.specs.Operations.{0ℚ};
 ghost use Rattle.nf_rational.specs.Order.{◌≤ℚ◌};
@@ -25,7 +25,7 @@ use nf_graph::LinkSets;
 use nf_net::Network;
 use std::alloc::{AllocError, Global};
 
-// The next cycle of interior links; None where they hold none. Those before the link `known` are known to hold none.
+// Returns the next cycle of interior links, or `None` if they are a forest. The interior links before `known` must be a forest.
 fn next_cycle(
     alloc: Global,
     net: &Network,
@@ -43,13 +43,13 @@ fn next_cycle(
         (λ found. MatchOption found (IsForest (hops_of net.now.net) (IsInterior net.now.net sets.now slopes.now flows.now))
         (λ cycle. ClosesNext net.now.net sets.now slopes.now flows.now cycle.last cycle.steps.items)) }
 {
-    // For the proof: the slopes by which links are full.
+    // Proof: the slopes determine the flows that fill the links.
     let _ = slopes;
     let interior = interior(alloc, sets, fulls, flows, net.link_count())?;
     first_cycle(alloc, net.node_count(), net.hops(), &interior, known)
 }
 
-// The flows after cycle by cycle is cancelled.
+// Returns the flows after all cycles are cancelled, one after the other.
 fn cancelled(
     alloc: Global,
     net: &Network,
@@ -64,7 +64,7 @@ fn cancelled(
     requires fulls { fulls_list passes_Q net.now.net sets.now slopes.now ≡ Ok fulls.now }
     ensures { ComesTo (Cancels passes_Q net.now.net sets.now slopes.now fulls.now flows.now) (λ new. new.items) result }
 {
-    // For the proof: the rate of the thin flow, and that there are few links.
+    // Proof: `rate` is the rate of the thin flow, and there are fewer than 2^32 links.
     let _ = rate;
     let _ = net.link_count();
     let mut new = flows.to_vec(alloc)?;
@@ -76,15 +76,17 @@ fn cancelled(
     Ok(new)
 }
 
-/// Settles a thin flow (Cominetti, Correa and Larré 2015): returns flows and a listed pattern whose one solution they are, with the same
-/// slopes. While interior links, those that carry something and not all they can, hold a cycle, the flows along the next one change
-/// until one of its links carries nothing or is full. `flows` and `rate`, which is at least 0, are amounts per unit of time; `slopes`
-/// has each label's change per unit of departure time. They must be a thin flow (`is_thin` tests it) of these sets. The active links
-/// must hold no cycle, and no resetting link may be unbounded.
+/// Settles a thin flow (Cominetti, Correa and Larré 2015). Returns flows and a listed pattern. The flows and slopes are the only solution
+/// of the pattern. A link is interior if it is active, is not resetting, and is neither empty nor full. While interior links hold a cycle,
+/// the flows along the next one change until one of its links is empty or full.
 ///
-/// The operations are those that `Settles` (nf_complete_lists/specs/Cancelling.antt) names: the flow that fills each link, and then
-/// cycle by cycle the room of each link and its new flow. Returns `Passed` exactly at the first of them that passes, with the part
-/// Verdict. Otherwise fails only if an allocation fails.
+/// `flows` and `rate`, which is at least 0, are amounts per unit of time. `slopes` holds each label's change per unit of departure time.
+/// They must be a thin flow of these sets (`is_thin` tests it). The active links must hold no cycle, and no resetting link may be
+/// unbounded.
+///
+/// The operations are those of `Settles` (nf_complete_lists/specs/Cancelling.antt). First the flow that fills each link is computed. Then
+/// for each cycle the room of each link and its new flow are computed. Returns `Passed` exactly at the first of them that passes, with the
+/// part Verdict. Otherwise fails only if an allocation fails.
 pub fn settle(
     alloc: Global,
     net: &Network,
@@ -102,7 +104,7 @@ pub fn settle(
     ensures listed { IfOk result (λ s. IsListedIn net.now.net sets.now s.pattern) }
     ensures solution { IfOk result (λ s. IsSolution net.now.net sets.now rate s.pattern s.flows.items slopes.now) }
 {
-    // For the proof: every network is well formed.
+    // Proof: every network is well formed.
     net.recall();
     let fulls = fulls(alloc, net, sets, slopes)?;
     let flows = cancelled(alloc, net, sets, rate, &fulls, flows, slopes)?;

@@ -1,4 +1,4 @@
-// Whether each active link keeps what a thin flow asks of the slopes at its ends.
+// Slopes of active links in a thin flow.
 ghost use Rattle.std.specs.Prelude.{◌≡◌, ◌<◌, ◌||◌, ℕ, Bool, false, not, length, Some, None};
 ghost use Rattle.nf_work.specs.Passing.{passes_Q};
 ghost use Rattle.nf_model.specs.Network.{Link as SeenLink, IsLink};
@@ -12,7 +12,7 @@ use nf_frac::{PassedAt, Q};
 use nf_graph::{LinkId, LinkSets};
 use nf_net::Network;
 
-// Of a link without a capacity.
+// Returns whether an unbounded link satisfies the slope condition.
 fn keeps_unbounded(flow: Q, tail_slope: Q, head_slope: Q) -> bool
     ensures { (resets : Bool) → result ≡ keeps_test resets None flow tail_slope head_slope }
 {
@@ -20,7 +20,7 @@ fn keeps_unbounded(flow: Q, tail_slope: Q, head_slope: Q) -> bool
         && (flow.is_at_most(Q::zero()) || tail_slope.is_at_most(head_slope))
 }
 
-// Of a link that this flow fills, and that isn't resetting.
+// Returns whether a link that the flow `full` fills, and that is not resetting, satisfies the slope condition.
 fn keeps_bounded(full: Q, flow: Q, tail_slope: Q, head_slope: Q) -> bool
     ensures { result ≡ keeps_test false (Some full) flow tail_slope head_slope }
 {
@@ -29,7 +29,7 @@ fn keeps_bounded(full: Q, flow: Q, tail_slope: Q, head_slope: Q) -> bool
     may_rise && (flow.is_at_most(Q::zero()) || is_taken)
 }
 
-// Of an active link.
+// Returns whether an active link satisfies the slope condition.
 fn keeps_slopes(resets: bool, full: Option<Q>, flow: Q, tail_slope: Q, head_slope: Q) -> bool
     ensures { result ≡ keeps_test resets full flow tail_slope head_slope }
 {
@@ -45,7 +45,7 @@ fn keeps_slopes(resets: bool, full: Option<Q>, flow: Q, tail_slope: Q, head_slop
     }
 }
 
-// Of any link: one that isn't active keeps it.
+// Returns whether a link satisfies the slope condition. A link that is not active always does.
 fn keeps_if_active(
     active: bool,
     resets: bool,
@@ -59,7 +59,7 @@ fn keeps_if_active(
     !active || keeps_slopes(resets, full, flow, tail_slope, head_slope)
 }
 
-// Of the link of a number.
+// Returns whether the link satisfies the slope condition.
 fn keeps_at(
     net: &Network,
     sets: &LinkSets,
@@ -87,7 +87,8 @@ fn keeps_at(
     Ok(kept)
 }
 
-/// Whether each active link keeps it. Passed comes exactly at the first product that passes, and has part Verdict.
+/// Returns whether each active link satisfies the slope condition of a thin flow. Returns `Passed` exactly at the first product that
+/// passes, with part Verdict.
 pub(crate) fn keep_slopes(
     net: &Network,
     sets: &LinkSets,

@@ -16,7 +16,7 @@ use nf_net::Network;
 use nf_pattern::Pattern;
 use std::alloc::{AllocError, Global};
 
-// An active link into the node brings something, or is resetting.
+// Returns whether the link is active, enters the node, and is resetting or carries flow.
 fn brings_into(net: &Network, sets: &LinkSets, flows: &[Q], link: LinkId, node: NodeId) -> bool
     requires link { link < length net.now.net.links }
     requires sets { length sets.now.active ≡ length net.now.net.links }
@@ -30,7 +30,7 @@ fn brings_into(net: &Network, sets: &LinkSets, flows: &[Q], link: LinkId, node: 
     brings(sets, flows, link)
 }
 
-// The node isn't the source, and no link brings anything into it.
+// Returns whether the node is not the source and has no inflow: no active link into it is resetting or carries flow.
 fn is_bare(net: &Network, sets: &LinkSets, flows: &[Q], node: NodeId) -> bool
     requires sets { length sets.now.active ≡ length net.now.net.links }
     requires flows { length flows.now ≡ length net.now.net.links }
@@ -47,7 +47,7 @@ fn is_bare(net: &Network, sets: &LinkSets, flows: &[Q], node: NodeId) -> bool
     true
 }
 
-// An active link into the node has equal slopes at its ends.
+// Returns whether the link is active, enters the node, and has equal slopes at its ends.
 fn is_level_into(net: &Network, sets: &LinkSets, slopes: &[Q], link: LinkId, node: NodeId) -> bool
     requires link { link < length net.now.net.links }
     requires sets { length sets.now.active ≡ length net.now.net.links }
@@ -61,7 +61,7 @@ fn is_level_into(net: &Network, sets: &LinkSets, slopes: &[Q], link: LinkId, nod
     is_level(net, slopes, link)
 }
 
-// No active link into the node before this one has equal slopes at its ends.
+// Returns whether no active link into the node before `link` has equal slopes at its ends.
 fn none_level_before(
     net: &Network,
     sets: &LinkSets,
@@ -83,7 +83,7 @@ fn none_level_before(
     true
 }
 
-// A bare node is led to by the link.
+// Returns whether the link is the first active one with equal slopes at its ends into a node without inflow.
 fn leads_to_bare(net: &Network, sets: &LinkSets, flows: &[Q], slopes: &[Q], link: LinkId) -> bool
     requires link { link < length net.now.net.links }
     requires sets { length sets.now.active ≡ length net.now.net.links }
@@ -103,7 +103,7 @@ fn leads_to_bare(net: &Network, sets: &LinkSets, flows: &[Q], slopes: &[Q], link
     none_level_before(net, sets, slopes, link, node)
 }
 
-// The flow fills the link.
+// Returns whether the flow fills the link.
 fn is_full(full: Option<Q>, flow: Q) -> bool
     ensures { result ≡ full_test full flow }
 {
@@ -113,7 +113,7 @@ fn is_full(full: Option<Q>, flow: Q) -> bool
     }
 }
 
-// The state of a link that needs one.
+// Returns the state of a link that needs one.
 fn state_needed(
     net: &Network,
     sets: &LinkSets,
@@ -143,7 +143,7 @@ fn state_needed(
     }
 }
 
-// The state of a link, or none.
+// Returns the state of a link, or `None` if it needs none.
 fn state_at(
     net: &Network,
     sets: &LinkSets,
@@ -168,8 +168,9 @@ fn state_at(
     Some(state_needed(net, sets, fulls, flows, slopes, link))
 }
 
-/// The pattern of settled flows: a link that needs a state is Zero where it carries nothing, Full where its flow fills it, and else
-/// Tight; but Tight too where a bare node is led to by it. It is refused where memory is wanting.
+/// Returns the pattern of settled flows. A link that needs a state is Zero if it carries no flow, Full if its flow fills it, and otherwise
+/// Tight. The first active link with equal slopes at its ends into a node without inflow is also Tight. Refuses only if an allocation
+/// fails.
 pub fn settled_pattern(
     alloc: Global,
     net: &Network,

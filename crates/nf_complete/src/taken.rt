@@ -1,4 +1,4 @@
-// Whether each node has an active link into it of which it takes its slope.
+// Links from which nodes take their slopes.
 ghost use Rattle.std.specs.Prelude.{◌≡◌, ◌<◌, ℕ, length, MatchBool};
 ghost use Rattle.nf_complete.specs.ThinParts.{Takes, EachIsTaken};
 
@@ -7,7 +7,8 @@ use nf_frac::Q;
 use nf_graph::{LinkId, LinkSets, NodeId};
 use nf_net::Network;
 
-// A node takes its slope of the link.
+// Returns whether a node takes its slope from the link. The link must be active and enter the node. The link must also be resetting, carry
+// flow, or have equal slopes at its ends.
 fn takes(
     net: &Network,
     sets: &LinkSets,
@@ -32,7 +33,7 @@ fn takes(
     is_level(net, slopes, link)
 }
 
-// The node takes its slope of some link.
+// Returns whether the node takes its slope from some link.
 fn is_taken(net: &Network, sets: &LinkSets, flows: &[Q], slopes: &[Q], node: NodeId) -> bool
     requires sets { length sets.now.active ≡ length net.now.net.links }
     requires flows { length flows.now ≡ length net.now.net.links }
@@ -48,7 +49,7 @@ fn is_taken(net: &Network, sets: &LinkSets, flows: &[Q], slopes: &[Q], node: Nod
     false
 }
 
-/// Each node but the source does.
+/// Returns whether every node except the source takes its slope from an active incoming link.
 pub(crate) fn each_is_taken(net: &Network, sets: &LinkSets, flows: &[Q], slopes: &[Q]) -> bool
     requires sets { length sets.now.active ≡ length net.now.net.links }
     requires flows { length flows.now ≡ length net.now.net.links }

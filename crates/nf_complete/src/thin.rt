@@ -1,4 +1,4 @@
-// Whether flows and slopes are a thin flow.
+// The test for a thin flow.
 ghost use Rattle.std.specs.Prelude.{◌≡◌, length, IfOk, MatchBool};
 ghost use Rattle.nf_work.specs.Passing.{passes_Q};
 ghost use Rattle.nf_model.specs.ThinFlow.{IsThinFlow};
@@ -15,14 +15,14 @@ use nf_graph::LinkSets;
 use nf_net::Network;
 
 /// Returns whether flows and slopes are a thin flow with resetting (Cominetti, Correa and Larré 2015) that sends `rate` from source to
-/// sink. `flows` has one number for each link, an amount per unit of time; `slopes` one for each node, its label's change per unit of
-/// departure time; `rate` is an amount per unit of time. The active links must hold no cycle and not enter the source, and no resetting
-/// link may be unbounded.
+/// sink. `flows` has one number for each link, an amount per unit of time. `slopes` has one number for each node, its label's change per
+/// unit of departure time. `rate` is an amount per unit of time. The active links must hold no cycle and not enter the source, and no
+/// resetting link may be unbounded.
 ///
-/// The operations are those of `thin_list` (nf_complete_lists/specs/ThinList.antt): node by node the flows of the active links into it
-/// are summed, and then those of the active links out of it, at the sink with the rate; then each active link's capacity is multiplied
-/// by the slope of its head. Returns `Passed` exactly at the first of them that passes, whatever the answer would be, with the part
-/// Verdict. Doesn't allocate.
+/// The operations are those of `thin_list` (nf_complete_lists/specs/ThinList.antt). For each node the flows of the active links into it are
+/// summed. The flows of the active links out of it are summed next, at the sink with the rate. After all nodes, each active link's capacity
+/// is multiplied by the slope of its head. Returns `Passed` exactly at the first of these operations that passes, whatever the answer would
+/// be, with the part Verdict. Allocates nothing.
 pub fn is_thin(
     net: &Network,
     sets: &LinkSets,
@@ -38,7 +38,7 @@ pub fn is_thin(
     ensures thin { IfOk result (λ yes. MatchBool yes (IsThinFlow net.now.net sets.now rate flows.now slopes.now)
         (IsThinFlow net.now.net sets.now rate flows.now slopes.now → ⊥)) }
 {
-    // For the proof: every network is well formed.
+    // Proof: every network is well formed.
     net.recall();
     let balanced = balances(net, sets, rate, flows)?;
     let kept = keep_slopes(net, sets, flows, slopes)?;

@@ -1,4 +1,4 @@
--- Nothing comes into a bare node, so nothing goes out of it. Whether a link leads to a bare node, is decided.
+-- A node without inflow has no outflow. Whether a link enters such a node is decidable.
 use Rattle.std.proofs.Common.{◌≡◌, ◌≢◌, ℕ, ◌<◌, ◌≤◌, List, [], ◌∷◌, ◌⊎◌, inl, inr, ⊎_elim, Bool, true, false, eqb, sym, subst, refl, ◌∙◌, arith}
 use Rattle.std.proofs.lemmas.Bool.Decides.{eqb_tells}
 use Rattle.std.proofs.lemmas.Bool.{cases_lt}
@@ -51,7 +51,7 @@ module _ (net : Network) (sets : Sets) (rate : ℚ) (flows slopes : List ℚ) (g
     bare_out e link p at = ≤ℚ_antisymm _ _ (≤ℚ_trans _ _ _ (sum_out-each net.links (number_at flows) v thin.no_negative_flow e link p at) none_out) (thin.no_negative_flow e)
 
   -- ---- decided
-  -- a link that makes its head no bare node
+  -- a link that gives its head inflow
   abbrev pub Brings : ℕ → ℕ → Link → Type 0
   Brings v e link = Has sets.active e × ((link.head ≡ v) × (Has sets.resetting e ⊎ (number_at flows e ≡ 0ℚ → ⊥)))
 

@@ -1,4 +1,5 @@
--- Cancelling along one cycle: flows stay a thin flow with the same slopes, no link becomes interior, and one link is interior no more.
+-- Cancelling one cycle: the flows stay a thin flow with the same slopes, no link becomes interior, and at least one link stops being
+-- interior.
 use Rattle.std.proofs.Common.{◌≡◌, ◌≢◌, ℕ, ◌+◌, ◌<◌, ◌≤◌, List, [], ◌∷◌, length, ◌⊎◌, inl, inr, ⊎_elim, Bool, true, false, if◌then◌else◌, eqb, Option, Some, None, slice_get, unwrap_or, sym, ap, subst, refl, ◌∙◌, arith}
 use Rattle.std.specs.Prelude.{Contains, Ok, Err}
 use Rattle.std.specs.List.{enumerate_from}
@@ -48,7 +49,7 @@ checked-is passes op x y z h = checked_by (passes op x y) _ (result_of op x y) z
 some_not_none : {A : Type 0} (x : A) → Some x ≡ None → ⊥
 some_not_none x e = cc
 
--- ---- what a link of the list gives
+-- ---- the result of a link of the sequence
 full-some : (passes : Passing) (c t : ℚ) (y : Option ℚ) → full_on passes true (Some c) t ≡ Ok y → y ≡ Some (c *ℚ t)
 full-some passes c t y h = let b = bind_ok (checked passes Product c t) (λ full. Ok (Some full)) y h in
     sym (same_Ok (Some b.0) y b.2) ∙ ap (λ (z : ℚ). Some z) (checked-is passes Product c t b.0 b.1)
@@ -114,7 +115,7 @@ filled x a y f e g = linear_eq (x ∷ a ∷ y ∷ f ∷ []) (eq e ∷ eq g ∷ [
 number-of : (xs : List ℚ) (e : ℕ) (x : ℚ) → slice_get xs e ≡ Some x → number_at xs e ≡ x
 number-of xs e x h = ap (λ (o : Option ℚ). unwrap_or o 0ℚ) h
 
--- ---- a closed trail goes backward somewhere, since active links hold no cycle
+-- ---- a closed trail uses some link backward, since active links hold no cycle
 module _ (net : Network) (sets : Sets) (slopes flows : List ℚ) where
   abbrev Backward : List (ℕ × Bool) → Type 0
   Backward steps = (e : ℕ) × (turn_of steps e ≡ Some false)
@@ -172,7 +173,7 @@ module _ (passes : Passing) (net : Network) (sets : Sets) (rate : ℚ) (flows sl
   interior : (e : ℕ) (b : Bool) → turn_of steps e ≡ Some b → IsInterior net sets slopes flows e
   interior e b h = trail-allowed (hops net) (IsInterior net sets slopes flows) steps cycle.start cycle.start e b cycle.trail h
 
-  -- what fills a link
+  -- the flow that fills a link
   full_here : (e : ℕ) (link : Link) → IsLink net e link → (y : Option ℚ) × (slice_get fulls e ≡ Some y) × (full_on passes (unwrap_or (slice_get sets.active e) false) link.capacity (number_at slopes link.head) ≡ Ok y)
   full_here e link p = let g = each-at (full_at passes sets slopes) net.links 0 fulls fulls_each e link p in
       (g.0, g.1, subst (λ (k : ℕ). full_on passes (unwrap_or (slice_get sets.active k) false) link.capacity (number_at slopes link.head) ≡ Ok g.0) (let z : 0 + e ≡ e = omega arith in z) g.2)
@@ -212,7 +213,7 @@ module _ (passes : Passing) (net : Network) (sets : Sets) (rate : ℚ) (flows sl
   room_none e x p h = let g = room_here e x p in
       g.1 ∙ ap (λ (o : Option ℚ). Some o) (room-none passes (unwrap_or (slice_get fulls e) None) x g.0 (subst (λ (o : Option Bool). room_on passes o (unwrap_or (slice_get fulls e) None) x ≡ Ok g.0) h g.2))
 
-  -- a link with a room is taken forward, up to what fills it, or backward, down to 0
+  -- a link with a room is used forward, up to the flow that fills it, or backward, down to 0
   data Room (e : ℕ) (x y : ℚ) : Type 0 where
     back : turn_of steps e ≡ Some false → x ≡ y → Room e x y
     forth : (link : Link) (c : ℚ) → turn_of steps e ≡ Some true → IsLink net e link → link.capacity ≡ Some c → c *ℚ number_at slopes link.head -ℚ x ≡ y → Room e x y

@@ -1,4 +1,4 @@
--- What the pattern of settled flows says of a link that needs a state, and that the flows are a solution that meets its inequalities.
+-- The states of links in the pattern of settled flows. The flows solve the pattern's equations and satisfy its inequalities.
 use Rattle.std.proofs.Common.{◌≡◌, ◌≢◌, ℕ, ◌<◌, List, [], ◌∷◌, ◌⊎◌, inl, inr, ⊎_elim, Bool, true, false, Option, Some, None, slice_get, sym, ap, subst, refl, ◌∙◌}
 use Rattle.std.specs.Prelude.{is_none}
 use Rattle.std.specs.Option.{option_map}
@@ -52,7 +52,7 @@ below_full (Some d) x s t l h n c e = subst (λ (z : ℚ). x <ℚ z *ℚ t) (sam
     (λ (w : d *ℚ t ≤ℚ x). absurd (n (d, refl, ≤ℚ_antisymm _ _ (l.used refl h).1 w)))
     (lt_or_le_ℚ x (d *ℚ t)))
 
--- nothing on it
+-- an empty link
 empty_slopes : (capacity : Option ℚ) (x s t : ℚ) → IsPositive capacity → LinkLaw false capacity x s t → x ≡ 0ℚ → 0ℚ ≤ℚ s → t ≤ℚ s
 empty_slopes None x s t p l e n = l.upper
 empty_slopes (Some c) x s t p l e n = ⊎_elim
@@ -94,7 +94,7 @@ module _ (net : Network) (sets : Sets) (rate : ℚ) (flows slopes : List ℚ) (p
   law : (e : ℕ) (link : Link) → IsLink net e link → NeedsState sets e → LinkLaw false link.capacity (x e) (l link.tail) (l link.head)
   law = state_law net sets rate flows slopes good.network good.acyclic thin
 
-  -- how a link that needs a state stands
+  -- the classes of a link that needs a state
   pub data Class (e : ℕ) (link : Link) : Type 0 where
     led : HasState pattern e Tight → LeadsToBare net sets flows slopes e link → Class e link
     empty : HasState pattern e Zero → x e ≡ 0ℚ → Class e link

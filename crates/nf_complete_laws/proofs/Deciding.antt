@@ -1,4 +1,4 @@
--- What can be decided of the links of a network.
+-- Decidable properties of a network's links.
 use Rattle.std.proofs.Common.{◌≡◌, ℕ, zero, suc, ◌<◌, List, [], ◌∷◌, ◌⊎◌, inl, inr, ⊎_elim, Some, slice_get, sym, subst, refl, arith}
 use Rattle.nf_rational.specs.Rational.{ℚ}
 use Rattle.nf_rational.specs.Operations.{0ℚ}

@@ -23,7 +23,7 @@ level_by (Some c) x s t l h k = ⊎_elim
     (l.upper refl)
 
 module _ (net : Network) (sets : Sets) (rate : ℚ) (flows slopes : List ℚ) (good : IsNetwork net) (acyclic : HoldNoCycle net sets) (thin : IsThinFlow net sets rate flows slopes) where
-  -- what a thin flow says of a link that needs a state
+  -- the condition of a thin flow on a link that needs a state
   pub state_law : (e : ℕ) (link : Link) → IsLink net e link → NeedsState sets e → LinkLaw false link.capacity (number_at flows e) (number_at slopes link.tail) (number_at slopes link.head)
   state_law e link p n = ⊎_elim
       (λ (w : (flag sets.resetting e ≡ true) × Has sets.resetting e). absurd (n.1 w.1))

@@ -1,5 +1,5 @@
--- There is one next cycle: two of them close with the same link, and what one carries less or more than the other balances at each node
--- and takes links before that one alone, which form a forest.
+-- The next cycle is unique. Two next cycles close with the same link. The difference of their flows balances at each node and uses only
+-- links before that link, which form a forest.
 use Rattle.std.proofs.Common.{◌≡◌, ◌≢◌, ℕ, zero, suc, ◌<◌, ◌≤◌, List, [], ◌∷◌, ⊎_elim, Bool, true, false, if◌then◌else◌, eqb, Option, Some, None, sym, ap, subst, refl, ◌∙◌, arith}
 use Rattle.std.specs.Prelude.{Contains}
 use Rattle.std.proofs.lemmas.Bool.{cases_lt}
@@ -37,7 +37,7 @@ taken_by ((f, b) ∷ steps) e c = ⊎_elim
     rest n (zero, h, q) = absurd (n q)
     rest n (suc k, h, q) = (k, omega arith, q)
 
--- what is carried tells the turn
+-- the flow carried determines the direction
 same_turn : (a b : Option Bool) → signed a ≡ signed b → a ≡ b
 same_turn None None e = refl
 same_turn None (Some true) e = absurd (linear_false [] (eq e ∷ []) (search reading_of depth 12) tt)
@@ -79,7 +79,7 @@ module _ (net : Network) (sets : Sets) (slopes flows : List ℚ) (good : IsNetwo
     interior_other : (e : ℕ) (b : Bool) → turn_of others e ≡ Some b → Interior e
     interior_other e b h = trail-allowed (hops net) Interior others t.cycle.start t.cycle.start e b t.cycle.trail h
 
-    -- what the one carries and so many times what the other does
+    -- the flow of one cycle plus a multiple of the flow of the other
     module _ (by : ℚ) (level : carried_by steps s.last +ℚ carried_by others s.last *ℚ by ≡ 0ℚ) where
       abbrev mixed : ℕ → ℚ
       mixed e = carried_by steps e +ℚ carried_by others e *ℚ by
@@ -87,7 +87,7 @@ module _ (net : Network) (sets : Sets) (slopes flows : List ℚ) (good : IsNetwo
       both_none : (x y : ℚ) → x ≡ 0ℚ → y ≡ 0ℚ → x +ℚ y *ℚ by ≡ 0ℚ
       both_none x y h k = linear_eq (x ∷ y ∷ by ∷ []) (eq h ∷ eq_times by k ∷ []) (search reading_of depth 12) tt tt
 
-      -- a link on which that isn't 0 is interior, and comes before the last
+      -- a link on which the combined flow is not 0 is interior, and comes before the last
       inside : (e : ℕ) → (mixed e ≡ 0ℚ → ⊥) → (e < s.last) × Interior e
       inside e n = by_turns (turn_of steps e) (turn_of others e) refl refl
         where

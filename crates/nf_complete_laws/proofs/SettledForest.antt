@@ -1,6 +1,6 @@
--- Tight links of the pattern of settled flows hold no cycle. What a closed trail of them would carry balances at each node. At a bare node
--- nothing but the link by which it is led to is Tight, and links by which further bare nodes are led to; so what that link would carry
--- goes on for ever along active links, which close no cycle. Then the trail would take interior links alone, which hold no cycle.
+-- Tight links of the pattern of settled flows hold no cycle. The flow of a closed trail of them balances at each node. At a node without
+-- inflow, the only Tight links are the one chosen to enter it and those chosen to enter further such nodes. The flow of the entering link
+-- therefore continues forever along active links, which hold no cycle. So the trail uses interior links only, which hold no cycle.
 use Rattle.std.proofs.Common.{◌≡◌, ◌≢◌, ℕ, ◌<◌, ◌≤◌, List, [], ◌∷◌, ◌++◌, ◌⊎◌, inl, inr, ⊎_elim, Bool, true, false, if◌then◌else◌, eqb, Option, Some, None, sym, ap, subst, refl, ◌∙◌, arith}
 use Rattle.std.proofs.lemmas.Bool.{cases_lt}
 use Rattle.std.proofs.lemmas.Bool.Decides.{eqb_tells}
@@ -30,7 +30,7 @@ use Rattle.nf_complete_laws.proofs.Deciding.{Decided, both, same_or_not, First, 
 use Rattle.nf_complete_laws.proofs.Bare.{same_node, bare_out}
 use Rattle.nf_complete_laws.proofs.Classes.{Class, led, empty, full, between, class}
 
--- ---- a property of nodes that goes on along an active link from each node that has it, is that of no node
+-- ---- no node has a property that continues along an active link from each node that has it
 module _ (net : Network) (sets : Sets) (good : IsNetwork net) (acyclic : HoldNoCycle net sets) where
   walk_more : (walk : List ℕ) (v w f : ℕ) (m : Link) → IsActiveWalk net sets walk v w → IsLink net f m → Has sets.active f → m.tail ≡ w → IsActiveWalk net sets (walk ++ f ∷ []) v m.head
   walk_more [] v w f m t p a at = (m, p, a, at ∙ sym t, refl)
@@ -73,7 +73,7 @@ module _ (net : Network) (sets : Sets) (rate : ℚ) (flows slopes : List ℚ) (p
       by (full k z f) = absurd (full_tight e k h)
       by (between k i) = inr i
 
-  -- a bare node is led to by one link
+  -- a node without inflow is entered by one chosen link
   led_once : (e k : ℕ) (link m : Link) → LeadsToBare net sets flows slopes e link → LeadsToBare net sets flows slopes k m → m.head ≡ link.head → k < e → ⊥
   led_once e k link m a b s h = a.first.first k m h (record { is_link = b.enters.is_link; active = b.enters.active; head = s }) b.first.level
 

@@ -1,4 +1,4 @@
--- A phase run that stopped since no pattern was left, stopped where there is no thin flow.
+-- If a phase run stopped because no pattern was left, there is no thin flow there.
 use Rattle.std.proofs.Common.{◌≡◌, ℕ, suc, ◌<◌, List, length, get_or, Option, Some, None, unwrap_or, sym, ap, subst, ◌∙◌, arith}
 use Rattle.std.proofs.lemmas.Option.{none-some, slice_get-get_or}
 use Rattle.std.proofs.lemmas.List.FromFn.{length-map-range_with_len, get_or-map-range_with_len}
@@ -51,11 +51,11 @@ labels_are net good s well = same_entries 0ℚ (labels_reached net (flow_of s)) 
 same_cause : (c d : Cause ℚ) → Some c ≡ Some d → c ≡ d
 same_cause c d h = cc
 
--- no thin flow goes on from a standing
+-- no thin flow continues from a run state
 abbrev pub NoneGoesOn : Network → Standing → Type 0
 NoneGoesOn net s = (flows slopes : List ℚ) → IsThinFlow net (sets_at net s.labels) (rate_at net s.time) flows slopes → ⊥
 
--- where a run ends: if it stopped there since no pattern was left, no thin flow goes on
+-- the end of a run: if it stopped because no pattern was left, no thin flow continues
 pub record EndsForNone (net : Network) (last : Standing) (stop : Option (Cause ℚ)) : Type 0 where
   pub well : WellRun net last
   pub none : (phase : ℕ) → stop ≡ Some (Cause.NoPattern phase) → NoneGoesOn net last
@@ -103,7 +103,7 @@ module _ (passes : Passing) (net : Network) (good : IsNetwork net) (bounds : Bou
   run_ends s last stop well (fails {cause = c} may f) = failing_ends s c well f
   run_ends s last stop well (goes {new = t} may g rest) = run_ends t last stop (WellRun-goes passes net good bounds s t g well) rest
 
--- so of the flow of the standing where it ends
+-- the flow of the run state at the end
 pub end_stops : (net : Network) (last : Standing) (stop : Option (Cause ℚ)) → IsNetwork net → EndsForNone net last stop → StopsForNoThinFlow net stop (flow_of last)
 end_stops net last stop good ends phase h flows slopes =
     subst (λ (l : List ℚ). IsThinFlow net (sets_at net l) (rate_at net last.time) flows slopes → ⊥) (sym (labels_are net good last ends.well)) (ends.none phase h flows slopes)

@@ -1,4 +1,4 @@
--- Laws of settled thin flows.
+-- Theorems on settled thin flows.
 use Rattle.std.specs.Prelude.{◌≡◌, ℕ, List, Ok, None}
 use Rattle.nf_rational.specs.Rational.{ℚ}
 use Rattle.nf_rational.specs.Operations.{0ℚ}
@@ -17,15 +17,15 @@ use Rattle.nf_complete_lists.specs.Cancelling.{Settles}
 use Rattle.nf_complete_lists.specs.SettledPattern.{IsSettledPattern}
 use Rattle.nf_complete_lists.specs.Reached.{StopsForNoThinFlow}
 
--- sets as those of a phase: active links hold no cycle, and no unbounded link is resetting
+-- the network is well formed, the active links hold no cycle, and no unbounded link is resetting; this holds for the sets of a phase
 pub record AreGoodSets (net : Network) (sets : Sets) : Type 0 where
   pub network : IsNetwork net
   pub sets_are : AreSets net sets
   pub acyclic : HoldNoCycle net sets
   pub bounded : (e : ℕ) (link : Link) → IsLink net e link → link.capacity ≡ None → Has sets.resetting e → ⊥
 
--- what any thin flow is settled to is a thin flow with the same slopes, its pattern is listed, and it is the one solution of its equations
--- and meets its inequalities
+-- A settled thin flow is a thin flow with the same slopes, and its pattern is listed. The flow is the only solution of the pattern's
+-- equations, and satisfies its inequalities.
 abbrev pub SettledFlowIsSolution : Type 0
 SettledFlowIsSolution = (passes : Passing) (net : Network) (sets : Sets) (rate : ℚ) (flows slopes settled : List ℚ) (pattern : Pattern)
     → AreGoodSets net sets → 0ℚ ≤ℚ rate
@@ -33,7 +33,7 @@ SettledFlowIsSolution = (passes : Passing) (net : Network) (sets : Sets) (rate :
     → IsSettledPattern net sets settled slopes pattern
     → IsThinFlow net sets rate settled slopes × IsListedIn net sets pattern × IsSolution net sets rate pattern settled slopes
 
--- where no listed pattern is solvable, there is no thin flow; so there is none where a search answers that there is no pattern
+-- There is no thin flow if no listed pattern is solvable. In particular there is none if a search returns `NoPattern`.
 pub record NoPatternNoThinFlow : Type 0 where
   pub listed : (net : Network) (sets : Sets) (rate : ℚ) (flows slopes : List ℚ) → AreGoodSets net sets → 0ℚ ≤ℚ rate
       → ((pattern : Pattern) → IsListedIn net sets pattern → IsSolvable net sets rate pattern → ⊥)
@@ -51,7 +51,7 @@ pub record SettlingHasOneAnswer : Type 0 where
       → IsThinFlow net sets rate flows slopes
       → IsSettledPattern net sets flows slopes pattern → IsSettledPattern net sets flows slopes other → pattern ≡ other
 
--- the report of a run that stopped since no pattern was left, stopped where there is no thin flow
+-- if a run stopped because no pattern was left, there is no thin flow at the departure reached
 abbrev pub StoppedRunHasNoThinFlow : Type 0
 StoppedRunHasNoThinFlow = (passes : Passing) (net : Network) (bounds : Bounds) (report : Report) → IsNetwork net
     → IsRunReport passes net bounds report → StopsForNoThinFlow net report.stop report.flow

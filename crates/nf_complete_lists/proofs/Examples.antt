@@ -1,4 +1,4 @@
--- Settling by computation: two parallel links from source to sink, each of capacity 2 and half of a rate of 1.
+-- An example of settling, by computation: two parallel links from source to sink, each of capacity 2, carry half of a rate of 1.
 use Rattle.std.specs.Prelude.{◌≡◌, true, false, List, [], ◌∷◌, Option, Some, None, Result, Ok, Err, map, pos, refl}
 use Rattle.nf_rational.specs.Gcd.{gcd}
 use Rattle.nf_rational.specs.Rational.{ℚ, ratio}
@@ -27,12 +27,12 @@ abbrev flows_of : Checked (List ℚ) → Result (List Parts) (Op × Parts × Par
 flows_of (Ok xs) = Ok (map parts_of xs)
 flows_of (Err p) = Err (p.op, parts_of p.left, parts_of p.right)
 
--- the first link grows by 1/2, and the second is left with nothing
+-- the first link grows by 1/2, and the second link becomes empty
 cancelled : flows_of (cancel_list in_127_bits ((0, true) ∷ (1, false) ∷ []) (Some (n 2) ∷ Some (n 2) ∷ []) (half ∷ half ∷ [])) ≡ Ok (i 1 ∷ i 0 ∷ [])
 unfolding cancel_list checked beyond whole ratio gcd neg_ℚ inv_ℚ ◌+ℚ◌ ◌-ℚ◌ ◌*ℚ◌ ◌/ℚ◌ le_ℚ lt_ℚ min_ℚ
 cancelled = refl
 
--- what fills a link may pass
+-- the product that fills a link may pass
 too_full : flows_of (cancel_list in_127_bits ((0, true) ∷ (1, false) ∷ []) (Some (n 2) ∷ Some (n 2) ∷ []) (ratio (pos 1) L ∷ half ∷ [])) ≡ Err (Difference, i 2, (pos 1, L))
 unfolding cancel_list checked beyond whole ratio gcd neg_ℚ inv_ℚ ◌+ℚ◌ ◌-ℚ◌ ◌*ℚ◌ ◌/ℚ◌ le_ℚ lt_ℚ min_ℚ
 too_full = refl
@@ -41,7 +41,7 @@ abbrev sums_of : Checked (List Sums × List (Option ℚ)) → Option (List (Part
 sums_of (Ok r) = Some (map (λ s. (parts_of s.in_sum, parts_of s.out_sum)) r.0)
 sums_of (Err p) = None
 
--- nothing into the source and 1 out of it; 1 into the sink, and at the sink the rate
+-- the inflow and outflow of the source are 0 and 1; the inflow of the sink is 1, and its outflow is the rate
 summed : sums_of (thin_list in_127_bits two_links both_active (n 1) (half ∷ half ∷ []) (n 1 ∷ n 1 ∷ [])) ≡ Some ((i 0, i 1) ∷ (i 1, i 1) ∷ [])
 unfolding thin_list fulls_list checked beyond whole ratio gcd neg_ℚ inv_ℚ ◌+ℚ◌ ◌-ℚ◌ ◌*ℚ◌ ◌/ℚ◌ le_ℚ
 summed = refl

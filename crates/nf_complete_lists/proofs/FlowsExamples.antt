@@ -1,4 +1,4 @@
--- Flows files by computation: two links a and b from s to t.
+-- Examples of flows files, by computation: two links a and b from s to t.
 use Rattle.std.specs.Prelude.{◌≡◌, ℕ, List, [], ◌∷◌, ◌++◌, flat_map, map, Some, Result, Ok, Err, codes, pos, refl}
 use Rattle.nf_rational.specs.Gcd.{gcd}
 use Rattle.nf_rational.specs.Rational.{ratio}
@@ -41,7 +41,7 @@ halves : read (codes "flows 1" ∷ codes "flow a 1/2" ∷ codes "flow b 2/4" ∷
 unfolding flows_in number_of number_parts whole ratio gcd le_ℚ lt_ℚ
 halves = refl
 
--- what isn't named is 0
+-- a number that the file does not name is 0
 one_named : read (codes "# b carries nothing" ∷ codes "flows 1" ∷ codes "flow a 1" ∷ codes "end" ∷ []) ≡ Ok (i 1 ∷ i 0 ∷ [], i 0 ∷ i 0 ∷ [])
 unfolding flows_in number_of number_parts whole ratio gcd le_ℚ lt_ℚ
 one_named = refl
@@ -90,7 +90,7 @@ no_end : read (codes "flows 1" ∷ codes "flow a 1" ∷ []) ≡ Err (S11, 0)
 unfolding flows_in number_of number_parts whole ratio gcd le_ℚ lt_ℚ
 no_end = refl
 
--- ---- what is written where the flow of a has grown to 1, and b is left with nothing
+-- ---- the printed answer if the flow of a has grown to 1 and b is empty
 written : settled_text two_named (Some Tight ∷ Some Zero ∷ []) (n 1 ∷ n 0 ∷ []) ≡ text_of (codes "state a tight" ∷ codes "state b zero" ∷ codes "flow a 1" ∷ codes "flow b 0" ∷ codes "end" ∷ [])
 unfolding printed printed_parts digits_of whole ratio gcd
 written = refl

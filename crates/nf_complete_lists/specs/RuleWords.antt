@@ -1,4 +1,4 @@
--- The names of the rules of the flows file, as they are written.
+-- Printed names of the flows file's rules.
 use Rattle.std.specs.Prelude.{ℕ, List, codes}
 use Rattle.nf_complete_lists.specs.declared.FlowsRule.{FlowsRule}
 use Rattle.nf_complete_lists.specs.declared.FlowsRule.TheVariants.{S1, S2, S3, S4, S5, S6, S7, S8, S9, S10, S11}

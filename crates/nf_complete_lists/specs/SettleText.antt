@@ -1,4 +1,4 @@
--- What `settle` writes: the states of the links that have one, the flows of all links, the end.
+-- The printed answer of `settle`. The states of the links that have one come first, then the flows of all links.
 use Rattle.std.specs.Prelude.{ℕ, List, [], ◌∷◌, ◌++◌, length, flat_map, codes}
 use Rattle.nf_rational.specs.Rational.{ℚ}
 use Rattle.nf_numerals.specs.Printed.{printed}

@@ -9,7 +9,7 @@ use Rattle.nf_model.specs.Network.{Link, Network, IsLink}
 use Rattle.nf_model.specs.ThinFlow.{Sets, Enters}
 use Rattle.nf_model.specs.Pattern.{Pattern, HasState, NeedsState, Fills}
 
--- a node other than the source into which only active links without flow lead, none of them resetting
+-- node v is not the source, and no active link into it is resetting or carries flow: v is without inflow
 pub record IsBare (net : Network) (sets : Sets) (flows : List ℚ) (v : ℕ) : Type 0 where
   pub not_source : v ≢ net.source
   pub bare : (e : ℕ) (link : Link) → Enters net sets v e link → (Has sets.resetting e → ⊥) × (number_at flows e ≡ 0ℚ)
@@ -20,14 +20,14 @@ pub record IsFirstLevel (net : Network) (sets : Sets) (slopes : List ℚ) (e : �
   pub first : (other : ℕ) (before : Link) → other < e → Enters net sets link.head other before
       → number_at slopes before.head ≡ number_at slopes before.tail → ⊥
 
--- the link by which a bare node is led to
+-- link e is the first active one with equal slopes at its ends into a node without inflow
 pub record LeadsToBare (net : Network) (sets : Sets) (flows slopes : List ℚ) (e : ℕ) (link : Link) : Type 0 where
   pub enters : Enters net sets link.head e link
   pub bare : IsBare net sets flows link.head
   pub first : IsFirstLevel net sets slopes e link
 
--- A link that needs a state is Zero where it carries nothing, Full where its flow fills it, and else Tight. But the link by which a
--- bare node is led to is Tight.
+-- A link that needs a state is Zero if it carries no flow, Full if its flow fills it, and otherwise Tight. The first active link with equal
+-- slopes at its ends into a node without inflow is also Tight.
 pub record IsSettledPattern (net : Network) (sets : Sets) (flows slopes : List ℚ) (pattern : Pattern) : Type 0 where
   pub count : length pattern ≡ length sets.active
   pub states : (e : ℕ) → NeedsState sets e ↔ ((state : State) × HasState pattern e state)

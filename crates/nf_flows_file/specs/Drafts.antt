@@ -1,4 +1,4 @@
--- What the lines of a flows file say, as the definitions have it.
+-- Parser states, as values of the definitions.
 use Rattle.std.specs.Prelude.{◌≡◌, length}
 use Rattle.nf_formats.specs.Named.{Named}
 use Rattle.nf_complete_lists.specs.FlowsFile.{FlowsDraft}
@@ -7,7 +7,7 @@ use Rattle.nf_flows_file.specs.declared.draft.Draft.{Draft}
 abbrev pub seen_draft : Draft → FlowsDraft
 seen_draft d = record { flows = d.flows.items; slopes = d.slopes.items; ended = d.ended }
 
--- a place for each link and each node
+-- the state has an index for each link and each node
 pub record HasPlaces (n : Named) (draft : Draft) : Type 0 where
   pub links : length draft.flows.items ≡ length n.link_names
   pub nodes : length draft.slopes.items ≡ length n.node_names

@@ -1,4 +1,4 @@
--- What a line of a flows file says, as the definitions have it.
+-- Entries, as values of the definitions.
 use Rattle.std.specs.Prelude.{◌<◌, length}
 use Rattle.nf_formats.specs.Named.{Named}
 use Rattle.nf_complete_lists.specs.FlowsFile as file
@@ -10,7 +10,7 @@ seen_entry (Flow link flow) = file.FlowOf link flow
 seen_entry (Slope node slope) = file.SlopeOf node slope
 seen_entry End = file.End
 
--- its link or its node is one of the network
+-- the link or node of the entry is one of the network
 abbrev pub IsOf : Named → file.FlowsEntry → Type 0
 IsOf n (file.FlowOf link flow) = link < length n.link_names
 IsOf n (file.SlopeOf node slope) = node < length n.node_names

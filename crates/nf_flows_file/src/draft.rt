@@ -1,4 +1,4 @@
-// What the lines of a flows file say so far.
+// The parser state of a flows file.
 ghost use Rattle.std.specs.Prelude.{◌≡◌, ◌<◌, if◌then◌else◌, length, set, Some, Ok, Err, IfOk, OnOk, MatchResult};
 ghost use Rattle.nf_complete_lists.specs.declared.FlowsRule.TheVariants.{S10};
 ghost use Rattle.nf_complete_lists.specs.FlowsFile.{is_given, add_flows, empty_flows, or_nothing, if_ended};
@@ -15,7 +15,7 @@ use nf_net::Network;
 use nf_side_files::ReadLine;
 use std::alloc::{AllocError, Global};
 
-/// What the lines so far say: the flows of the links and the slopes of the nodes that were given, and whether there was an `end` line.
+/// The parser state: the flows of links and slopes of nodes read so far, and whether `end` was read.
 #[derive(Drop)]
 pub struct Draft {
     pub flows: Vec<Option<Q>>,
@@ -23,7 +23,7 @@ pub struct Draft {
     pub ended: bool,
 }
 
-// Puts a number at a place that has none yet.
+// Sets the number at an index. Refuses with S10 if there is one already.
 fn put(numbers: &mut Vec<Option<Q>>, place: usize, number: Q) -> Result<(), FlowsRule>
     requires { place < length numbers.old.items }
     ensures puts { (if is_given numbers.old.items place then Err S10 else Ok (set numbers.old.items place (Some number)))
@@ -37,7 +37,7 @@ fn put(numbers: &mut Vec<Option<Q>>, place: usize, number: Q) -> Result<(), Flow
     Ok(())
 }
 
-// Each number, and 0 where none was given.
+// Returns the numbers, with 0 for each number that was not read.
 fn or_zero(alloc: Global, numbers: &[Option<Q>]) -> Result<Vec<Q>, AllocError>
     ensures { IfOk result (λ all. all.items ≡ or_nothing numbers.now) }
 {
@@ -48,12 +48,12 @@ fn or_zero(alloc: Global, numbers: &[Option<Q>]) -> Result<Vec<Q>, AllocError>
 }
 
 impl Draft {
-    /// Nothing is given.
+    /// Returns the empty parser state: no number was read.
     pub fn new(alloc: Global, net: &Network) -> Result<Draft, AllocError>
         ensures nothing { IfOk result (λ draft. seen_draft draft ≡ empty_flows net.now) }
         ensures places { IfOk result (λ draft. HasPlaces net.now draft) }
     {
-        // For the proof: each link and each node has a name.
+        // Proof: each link and each node has a name.
         net.recall();
         Ok(Draft {
             flows: vec![in alloc; None; net.link_count() as usize]?,
@@ -62,7 +62,7 @@ impl Draft {
         })
     }
 
-    /// Adds what a line says, or answers the first of S4 to S10 that it breaks.
+    /// Adds the entry of a line. Refuses with the first of S4 to S10 that the line breaks.
     pub fn add_line(&mut self, net: &Network, line: &ReadLine) -> Result<(), FlowsRule>
         requires places { HasPlaces net.now self.old }
         ensures adds { add_flows net.now (seen_draft self.old) line.now.words ≡ said_by (λ _. seen_draft self.new) result }
@@ -79,7 +79,7 @@ impl Draft {
         Ok(())
     }
 
-    /// The flows and slopes, or S11 where there was no `end` line.
+    /// Returns the flows and slopes. Refuses with S11 if there was no `end` line, or if an allocation fails.
     pub fn close(&self, alloc: Global) -> Result<Flows, FlowsFault>
         ensures closes { MatchResult result (λ flows. if_ended (seen_draft self.now) ≡ Ok (given_of flows))
             (λ fault. IfBroken fault (λ broken. if_ended (seen_draft self.now) ≡ Err broken)) }

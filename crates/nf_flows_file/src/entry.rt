@@ -1,4 +1,4 @@
-// One line of a flows file by itself.
+// Single lines of a flows file.
 ghost use Rattle.std.specs.Prelude.{◌≡◌, ℕ, ◌<◌, length, drop, IfOk};
 ghost use Rattle.std.specs.Result.{result_ok};
 ghost use Rattle.nf_rational.specs.Rational.{ℚ};
@@ -14,7 +14,7 @@ use nf_frac::Q;
 use nf_net::{LinkId, Network, NodeId};
 use nf_side_files::{ReadLine, is_word, link_of, node_of, number_of};
 
-/// What a line says: the flow of a link, the slope of a node, or the end.
+/// The entry of a line. `Flow` is the flow of a link, `Slope` is the slope of a node, and `End` is the `end` line.
 #[derive(Clone, Copy)]
 pub enum Entry {
     Flow(LinkId, Q),
@@ -22,7 +22,7 @@ pub enum Entry {
     End,
 }
 
-// The number that a word writes, which isn't negative.
+// Reads a number. Refuses with S8 if the word is not a number, and with S9 if the number is negative.
 fn read_number(word: &[u8]) -> Result<Q, FlowsRule>
     ensures { (make : ℚ → FlowsEntry) → number_entry make (result_ok (number_by greatest word.now)) ≡ said_by make result }
 {
@@ -35,7 +35,7 @@ fn read_number(word: &[u8]) -> Result<Q, FlowsRule>
     Ok(number)
 }
 
-// `flow LINK X`
+// Reads `flow LINK X`.
 #[tactic(auto, using(crate::proofs::FlowWords::count_wrong, crate::proofs::FlowWords::not_named, crate::proofs::FlowWords::named))]
 fn read_flow(net: &Network, line: &ReadLine) -> Result<Entry, FlowsRule>
     requires { 0 < length line.now.words }
@@ -52,7 +52,7 @@ fn read_flow(net: &Network, line: &ReadLine) -> Result<Entry, FlowsRule>
     Ok(Entry::Flow(link, flow))
 }
 
-// `slope NODE L`
+// Reads `slope NODE L`.
 #[tactic(auto, using(crate::proofs::FlowWords::count_wrong, crate::proofs::FlowWords::not_named, crate::proofs::FlowWords::named))]
 fn read_slope(net: &Network, line: &ReadLine) -> Result<Entry, FlowsRule>
     requires { 0 < length line.now.words }
@@ -70,7 +70,7 @@ fn read_slope(net: &Network, line: &ReadLine) -> Result<Entry, FlowsRule>
     Ok(Entry::Slope(node, slope))
 }
 
-// `end`
+// Reads `end`.
 #[tactic(auto, using(crate::proofs::FlowWords::end_count_wrong, crate::proofs::FlowWords::end_count_right))]
 fn read_end(line: &ReadLine) -> Result<Entry, FlowsRule>
     requires { 0 < length line.now.words }
@@ -83,7 +83,7 @@ fn read_end(line: &ReadLine) -> Result<Entry, FlowsRule>
     Ok(Entry::End)
 }
 
-/// What the words of a line say, or the first of S5 to S9 that they break.
+/// Returns the entry of a line. Refuses with the first of S5 to S9 that the line breaks.
 pub fn read_entry(net: &Network, line: &ReadLine) -> Result<Entry, FlowsRule>
     ensures says { flows_entry net.now line.now.words ≡ said_by seen_entry result }
     ensures within { IfOk result (λ entry. IsOf net.now (seen_entry entry)) }

@@ -1,4 +1,4 @@
-// Why a flows file is refused.
+// Reasons to refuse a flows file.
 ghost use Rattle.std.specs.Prelude.{◌≡◌};
 ghost use Rattle.nf_flows_file.specs.Files.{fault_of_text};
 ghost use Rattle.nf_flows_file.specs.declared.fault.FlowsFault.TheVariants as FlowsFault;
@@ -8,13 +8,13 @@ use nf_side_files::TextFault;
 use std::alloc::AllocError;
 use thiserror::Error;
 
-/// Why a text is no flows file.
+/// A reason to refuse a flows file.
 #[derive(Clone, Copy, Debug, Error)]
 pub enum FlowsFault {
-    /// This rule is the first that is broken, seen in this line; 0 stands for the file as a whole.
+    /// `rule` is the first broken rule, found in `line`; line 0 means the whole file.
     #[error("line {line} breaks {rule:?}")]
     Broken { rule: FlowsRule, line: u32 },
-    /// Memory is wanting.
+    /// An allocation failed.
     #[error("memory is wanting")]
     Memory,
 }

@@ -1,8 +1,8 @@
-// What a flows file gives.
+// The content of a flows file.
 use nf_frac::Q;
 
-/// Of each link of a network its flow, a rate, and of each node its slope, the growth of its label per unit of time. None is negative;
-/// what isn't named in the file is 0.
+/// Flows and slopes of a network. The flow of a link is a rate. The slope of a node is the growth of its label per unit of departure time.
+/// No number is negative. A number that the file does not name is 0.
 #[derive(Drop)]
 pub struct Flows {
     pub flows: Vec<Q>,

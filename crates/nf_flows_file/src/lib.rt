@@ -1,5 +1,5 @@
-//! The reading of flows files: the flow of each link of a network and the slope of each node, which may be a thin flow with resetting
-//! (Koch and Skutella 2011). Numbers are exact fractions. The file format is this project's own.
+//! Reads flows files: the flow of each link of a network and the slope of each node. They may be a thin flow with resetting (Koch and
+//! Skutella 2011). Numbers are exact fractions. The file format is this project's own.
 #![tactic(auto)]
 
 mod draft;

@@ -1,4 +1,4 @@
-// The reading of a flows file.
+// Reading of a flows file.
 ghost use Rattle.std.specs.Prelude.{◌≡◌, ◌≤◌, length, Ok, Err, IfOk, MatchResult};
 ghost use Rattle.nf_lines.specs.Faults.{longest_text};
 ghost use Rattle.nf_side_lists.specs.Frame.{add_lines as add_lines_by, draft_of};
@@ -14,7 +14,7 @@ use nf_net::Network;
 use nf_side_files::{ReadLine, contents, is_head};
 use std::alloc::Global;
 
-// What a draft comes to with more lines, up to the first that breaks a rule.
+// Adds the lines to a parser state. Refuses with the first line that breaks a rule.
 fn add_lines(net: &Network, mut draft: Draft, lines: &[ReadLine]) -> Result<Draft, FlowsFault>
     requires { HasPlaces net.now draft }
     ensures adds { MatchResult result (λ next. add_lines_by (add_flows net.now) (seen_draft draft) lines.now ≡ Ok (seen_draft next))
@@ -32,7 +32,7 @@ fn add_lines(net: &Network, mut draft: Draft, lines: &[ReadLine]) -> Result<Draf
     Ok(draft)
 }
 
-// What the lines that have words say.
+// Reads the lines that have words.
 fn read_draft(alloc: Global, net: &Network, lines: &[ReadLine]) -> Result<Draft, FlowsFault>
     ensures reads { MatchResult result (λ draft. draft_of (flows_frame net.now) lines.now ≡ Ok (seen_draft draft))
         (λ fault. IfBroken fault (λ broken. draft_of (flows_frame net.now) lines.now ≡ Err broken)) }
@@ -53,8 +53,8 @@ fn read_draft(alloc: Global, net: &Network, lines: &[ReadLine]) -> Result<Draft,
     add_lines(net, Draft::new(alloc, net)?, rest)
 }
 
-/// The flows and slopes of a network that a text of at most 67,108,864 bytes gives; or the first rule that it breaks, and the line. The
-/// rules of all bytes and lines come first, then those of the lines one by one, then that of the file as a whole, with line 0.
+/// Reads the flows and slopes of a network from a text of at most 67,108,864 bytes. Refuses with the first broken rule and its line. Rules
+/// of all bytes and lines come first, then rules of single lines in order, then the rule of the whole file, with line 0.
 pub fn parse_flows(alloc: Global, net: &Network, text: &[u8]) -> Result<Flows, FlowsFault>
     requires { length text.now ≤ longest_text }
     ensures reads { MatchResult result (λ flows. flows_in net.now text.now ≡ Ok (given_of flows))
@@ -62,7 +62,7 @@ pub fn parse_flows(alloc: Global, net: &Network, text: &[u8]) -> Result<Flows, F
     ensures links { IfOk result (λ flows. length flows.flows.items ≡ length net.now.net.links) }
     ensures nodes { IfOk result (λ flows. length flows.slopes.items ≡ net.now.net.nodes) }
 {
-    // For the proof: each link and each node has a name.
+    // Proof: each link and each node has a name.
     net.recall();
     let lines = match contents(alloc, text) {
         Ok(lines) => lines,

@@ -1,4 +1,4 @@
--- How values of these types are told apart, which the types of code that are seen as them rest on.
+-- Codes of the moment types. A code distinguishes the values of a type; the `Model` of a type in the code needs one.
 use Rattle.std.specs.Prelude.{refl}
 use Rattle.std.specs.Coded.{Coded, code_by, coded×}
 use Rattle.nf_rational.specs.Rational.{ℚ, coded_ℚ}

@@ -1,4 +1,4 @@
--- The list of a link's loading, from each of some steps on.
+-- Remainders of a loading's operation sequence.
 use Rattle.std.specs.Prelude.{◌≡◌, List, Option, Ok, map}
 use Rattle.nf_rational.specs.Rational.{ℚ}
 use Rattle.nf_work.specs.Passing.{Passing}
@@ -9,7 +9,7 @@ use Rattle.nf_curve_lists.specs.Values.{checked_cut}
 use Rattle.nf_curve_lists.specs.Short.{checked_short}
 use Rattle.nf_load_lists.specs.Loading.{Waits, Leaves, Loaded, queue_point, exit_point, outflow_points, leaves, all_waits}
 
--- once the whole outflow is there
+-- the operations after the whole outflow is known
 unfoldable pub in_short_form : Passing → List Waits → List Leaves → List Point → Checked Loaded
 in_short_form passes waits all whole = do
   queue ← checked_short passes (map queue_point waits)
@@ -17,27 +17,27 @@ in_short_form passes waits all whole = do
   exit ← checked_short passes (map exit_point all)
   Ok (record { queue = queue; outflow = outflow; exit = exit })
 
--- once the exits are there
+-- the operations after the exits are known
 unfoldable pub until_transit : Passing → ℚ → List Waits → List Leaves → ℚ → Checked Loaded
 until_transit passes transit waits all last = do
   end ← checked passes Sum last transit
   whole ← checked_cut passes (outflow_points all) end
   in_short_form passes waits all whole
 
--- once the inflow is cut at the last time
+-- the operations after the inflow is cut at `last`
 unfoldable pub behind_cut : Passing → ℚ → Option ℚ → List Point → ℚ → Checked Loaded
 behind_cut passes transit capacity cut last = do
   waits ← all_waits passes capacity cut
   all ← each (leaves passes capacity transit) waits
   until_transit passes transit waits all last
 
--- what waits at some moments, and when that leaves, make curves
+-- the queue, exit and outflow points each satisfy `IsCurve`
 pub record AreCurves (waits : List Waits) (all : List Leaves) : Type 0 where
   pub queue : IsCurve (map queue_point waits)
   pub exit : IsCurve (map exit_point all)
   pub outflow : IsCurve (outflow_points all)
 
--- and so do those of an inflow
+-- the moments and exits of the inflow `cut`, if no operation passes, satisfy `AreCurves`
 abbrev pub LeadsToCurves : Passing → ℚ → Option ℚ → List Point → Type 0
 LeadsToCurves passes transit capacity cut = (waits : List Waits) (all : List Leaves) → all_waits passes capacity cut ≡ Ok waits
     → each (leaves passes capacity transit) waits ≡ Ok all → AreCurves waits all

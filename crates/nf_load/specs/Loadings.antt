@@ -1,4 +1,4 @@
--- What the code of loading makes, as the lists of operations have it.
+-- Results of the loading code, as values of the definitions.
 use Rattle.std.specs.Prelude.{List, [], ◌∷◌, Option, Some, None}
 use Rattle.nf_load_lists.specs.Loading as lists
 use Rattle.nf_load.specs.declared.waiting.Over.{Over}

@@ -1,4 +1,4 @@
-// The amount that pieces supply by each time.
+// The amount supplied by pieces, by time.
 ghost use Rattle.std.specs.Prelude.{◌≡◌, ◌++◌, IfOk, OnOk};
 ghost use Rattle.nf_rational.specs.Operations.{0ℚ};
 ghost use Rattle.nf_rational.specs.Order.{◌≤ℚ◌};
@@ -15,7 +15,7 @@ use nf_frac::{Halt, Part, PassedAt, Q, at};
 use nf_net::Piece;
 use std::alloc::{AllocError, Global};
 
-// The lesser of the next start and the last time.
+// Returns the lesser of the next piece's start and `last`.
 fn end_of(later: &[Piece], last: Q) -> Q
     ensures { result ≡ lists.end_of later.now last }
 {
@@ -25,7 +25,7 @@ fn end_of(later: &[Piece], last: Q) -> Q
     }
 }
 
-// The amount so far with that of a piece up to its end.
+// Adds the amount of a piece from its start to `end` to the amount so far.
 fn with_piece(so_far: Q, piece: &Piece, end: Q) -> Result<Q, PassedAt<Q>>
     ensures { result ≡ at_part Load (lists.with_piece passes_Q so_far piece.now end) }
 {
@@ -35,7 +35,7 @@ fn with_piece(so_far: Q, piece: &Piece, end: Q) -> Result<Q, PassedAt<Q>>
     Ok(sum)
 }
 
-// A point is put behind those before, unless it is at time 0.
+// Appends the point, unless its time is 0.
 #[tactic(auto, using(crate::proofs::Supplying::after_0, crate::proofs::Supplying::at_0))]
 fn push_after_0(points: &mut Vec<Point>, time: Q, amount: Q) -> Result<(), AllocError>
     ensures { OnOk result (points.new.items ≡ points.old.items ++ point_if_after_0 time amount) }
@@ -46,7 +46,7 @@ fn push_after_0(points: &mut Vec<Point>, time: Q, amount: Q) -> Result<(), Alloc
     Ok(())
 }
 
-// The points with one at the last time.
+// Appends the point at `last`, unless `last` is 0.
 fn ended(mut points: Vec<Point>, last: Q, so_far: Q) -> Result<Vec<Point>, AllocError>
     ensures { IfOk result (λ all. all.items ≡ points.items ++ point_if_after_0 last so_far) }
 {
@@ -54,7 +54,7 @@ fn ended(mut points: Vec<Point>, last: Q, so_far: Q) -> Result<Vec<Point>, Alloc
     Ok(points)
 }
 
-// The points at time 0, at the start of each piece that starts before the last time, and at the last time.
+// Returns the points at time 0, at the start of each piece before `last`, and at `last`.
 fn cumulative_points(alloc: Global, pieces: &[Piece], last: Q) -> Result<Vec<Point>, Halt<Q>>
     ensures { Gives (λ points. points.items) (λ q. q) result (at_part Load (checked_cumulative passes_Q pieces.now last)) }
 {
@@ -72,9 +72,9 @@ fn cumulative_points(alloc: Global, pieces: &[Piece], last: Q) -> Result<Vec<Poi
     Ok(ended(points, last, so_far)?)
 }
 
-/// The amount that pieces supply by each time up to `until`, a time of at least 0; it is constant after that. The starts of the
-/// pieces rise from at least 0, and their rates are at least 0; without pieces the amount is 0. Passed comes exactly at the first
-/// operation of its list that passes, and has part Load.
+/// Returns the amount that the pieces supply by each time up to `until`, a time of at least 0. The amount is constant after `until`. The
+/// starts of the pieces rise from at least 0, and their rates are at least 0. Without pieces the amount is 0. Returns `Passed` exactly at
+/// the first operation of its operation sequence that passes, with part Load.
 pub fn cumulative(alloc: Global, pieces: &[Piece], until: Q) -> Result<Curve, Halt<Q>>
     requires pieces { ArePieces pieces.now }
     requires until { 0ℚ ≤ℚ until }

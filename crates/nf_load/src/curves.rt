@@ -1,4 +1,4 @@
-// The curves of a link: its queue, its outflow and its exits.
+// Queue, outflow and exit curves of a link.
 ghost use Rattle.std.specs.Prelude.{◌≡◌, map, IfOk};
 ghost use Rattle.nf_rational.specs.Operations.{0ℚ};
 ghost use Rattle.nf_rational.specs.Order.{◌≤ℚ◌};
@@ -16,7 +16,7 @@ use nf_curve::{Curve, Point};
 use nf_frac::{Halt, Part, Q};
 use std::alloc::{AllocError, Global};
 
-// The points of the queue.
+// Returns the points of the queue.
 fn queue_points(alloc: Global, waits: &[Waits]) -> Result<Vec<Point>, AllocError>
     ensures { IfOk result (λ points. points.items ≡ map queue_point waits.now) }
 {
@@ -26,7 +26,7 @@ fn queue_points(alloc: Global, waits: &[Waits]) -> Result<Vec<Point>, AllocError
         .collect(alloc)
 }
 
-// The points of the exits.
+// Returns the points of the exits.
 fn exit_points(alloc: Global, all: &[Leaves]) -> Result<Vec<Point>, AllocError>
     ensures { IfOk result (λ points. points.items ≡ map exit_point all.now) }
 {
@@ -35,7 +35,7 @@ fn exit_points(alloc: Global, all: &[Leaves]) -> Result<Vec<Point>, AllocError>
         .collect(alloc)
 }
 
-// The points of the outflow: at time 0, and at each exit that isn't the one before.
+// Returns the points of the outflow. The first is (0, 0). Each exit that differs from the one before adds a point.
 fn outflow_points(alloc: Global, all: &[Leaves]) -> Result<Vec<Point>, AllocError>
     ensures { IfOk result (λ points. points.items ≡ lists.outflow_points all.now) }
 {
@@ -51,7 +51,7 @@ fn outflow_points(alloc: Global, all: &[Leaves]) -> Result<Vec<Point>, AllocErro
     Ok(points)
 }
 
-// The curve of these points, in short form.
+// Returns the curve of the points, in short form.
 fn short_curve(alloc: Global, points: Vec<Point>) -> Result<Curve, Halt<Q>>
     requires { IsCurve points.items }
     ensures { Gives (λ c. c.points) (λ q. q) result (at_part Load (checked_short passes_Q points.items)) }
@@ -60,7 +60,7 @@ fn short_curve(alloc: Global, points: Vec<Point>) -> Result<Curve, Halt<Q>>
     Curve::short(alloc, &curve, Part::Load)
 }
 
-/// The queue by time, in short form.
+/// Returns the queue by time, in short form.
 pub(crate) fn queue_curve(alloc: Global, waits: &[Waits]) -> Result<Curve, Halt<Q>>
     requires { IsCurve (map queue_point waits.now) }
     ensures { Gives (λ c. c.points) (λ q. q) result (at_part Load (checked_short passes_Q (map queue_point waits.now))) }
@@ -69,7 +69,7 @@ pub(crate) fn queue_curve(alloc: Global, waits: &[Waits]) -> Result<Curve, Halt<
     short_curve(alloc, points)
 }
 
-/// The exit by the time of entry, in short form.
+/// Returns the exit by the time of entry, in short form.
 pub(crate) fn exit_curve(alloc: Global, all: &[Leaves]) -> Result<Curve, Halt<Q>>
     requires { IsCurve (map exit_point all.now) }
     ensures { Gives (λ c. c.points) (λ q. q) result (at_part Load (checked_short passes_Q (map exit_point all.now))) }
@@ -78,7 +78,7 @@ pub(crate) fn exit_curve(alloc: Global, all: &[Leaves]) -> Result<Curve, Halt<Q>
     short_curve(alloc, points)
 }
 
-/// The outflow by time, up to the time `end`.
+/// Returns the outflow by time, cut at the time `end`.
 pub(crate) fn outflow_until(alloc: Global, all: &[Leaves], end: Q) -> Result<Curve, Halt<Q>>
     requires curve { IsCurve (lists.outflow_points all.now) }
     requires end { 0ℚ ≤ℚ end }

@@ -1,4 +1,4 @@
-// When what enters a link leaves it.
+// Exit times of a link.
 ghost use Rattle.std.specs.Prelude.{◌≡◌};
 ghost use Rattle.nf_work.specs.declared.Part.TheVariants.{Load};
 ghost use Rattle.nf_work.specs.Passing.{passes_Q};
@@ -10,7 +10,7 @@ use crate::waits::{Leaves, Waits};
 use nf_frac::{Halt, Part, PassedAt, Q, at};
 use std::alloc::Global;
 
-// The exit of what enters: behind what waits before it, and then one transit time later.
+// Returns the exit of flow that enters at a moment: the time, plus the transit time, plus the wait in the queue.
 #[tactic(auto, unfolding(nf_load_lists::specs::Loading::exit_after), using(crate::proofs::ExitSteps::capacity_apart))]
 fn exit_after(capacity: &Option<Q>, transit: Q, waits: &Waits) -> Result<Q, PassedAt<Q>>
     requires { IsPositive capacity.now }
@@ -30,7 +30,7 @@ fn exit_after(capacity: &Option<Q>, transit: Q, waits: &Waits) -> Result<Q, Pass
     }
 }
 
-// The exit of what enters at a moment.
+// Returns a moment with the exit of flow that enters then.
 fn leaves(capacity: &Option<Q>, transit: Q, waits: &Waits) -> Result<Leaves, PassedAt<Q>>
     requires { IsPositive capacity.now }
     ensures { result ≡ at_part Load (lists.leaves passes_Q capacity.now transit waits.now) }
@@ -42,7 +42,7 @@ fn leaves(capacity: &Option<Q>, transit: Q, waits: &Waits) -> Result<Leaves, Pas
     })
 }
 
-/// The exit of what enters at each of some moments.
+/// Returns each moment with the exit of flow that enters then.
 pub(crate) fn all_leaves(
     alloc: Global,
     capacity: &Option<Q>,

@@ -1,6 +1,5 @@
-//! Given inflow of the links of a network: the amounts that its pieces supply, and the queue, outflow and exits that come of it by the
-//! law of the point queue (Vickrey 1969). Times, amounts and rates are exact fractions. Loads files are read by a crate of
-//! their own, which is shown here.
+//! Loads links with their inflows. Computes the amounts that pieces supply, and the queue, outflow and exits by the law of the point queue
+//! (Vickrey 1969). Times, amounts and rates are exact fractions. The crate `nf_loads_file` reads loads files; this crate re-exports it.
 #![tactic(auto)]
 
 mod amounts;

@@ -1,4 +1,4 @@
-// The loading of a link by a given inflow.
+// Loading of a link with its inflow.
 ghost use Rattle.std.specs.Prelude.{◌≡◌, IfOk};
 ghost use Rattle.nf_rational.specs.Operations.{0ℚ};
 ghost use Rattle.nf_rational.specs.Order.{◌≤ℚ◌};
@@ -21,18 +21,18 @@ use nf_curve::Curve;
 use nf_frac::{Halt, Part, PassedAt, Q, at};
 use std::alloc::Global;
 
-/// What becomes of the inflow of a link.
+/// The result of loading a link.
 #[derive(Drop)]
 pub struct Loaded {
-    /// The amount that waits, by time.
+    /// The waiting amount by time.
     pub queue: Curve,
     /// The amount that has left the link, by time.
     pub outflow: Curve,
-    /// The time at which what enters leaves the link, by the time of entry.
+    /// The exit time, by the time of entry.
     pub exit: Curve,
 }
 
-// One transit time after a time.
+// Returns the time one transit time after `time`.
 fn after_transit(time: Q, transit: Q) -> Result<Q, PassedAt<Q>>
     ensures { result ≡ at_part Load (checked passes_Q Sum time transit) }
 {
@@ -40,7 +40,7 @@ fn after_transit(time: Q, transit: Q) -> Result<Q, PassedAt<Q>>
     Ok(end)
 }
 
-// Queue, outflow and exits in short form: from what waits at some moments, when that leaves, and the whole outflow.
+// Returns queue, outflow and exits in short form, from the moments, their exits and the whole outflow.
 fn short_curves(
     alloc: Global,
     waits: &[Waits],
@@ -60,7 +60,7 @@ fn short_curves(
     })
 }
 
-// The curves of a loaded link, with the outflow up to one transit time after the time `until`.
+// Returns the curves of a loaded link, with the outflow up to one transit time after `until`.
 fn curves_until(
     alloc: Global,
     transit: Q,
@@ -78,7 +78,7 @@ fn curves_until(
     short_curves(alloc, waits, all, &whole_outflow)
 }
 
-// What becomes of an inflow that ends at the time `until`.
+// Loads a link with an inflow that is cut at the time `until`.
 fn load_cut(
     alloc: Global,
     transit: Q,
@@ -97,10 +97,10 @@ fn load_cut(
     curves_until(alloc, transit, &waits, &leaves, until)
 }
 
-/// Queue, outflow and exits of a link with this transit time and capacity (an amount per unit of time; None: unbounded), by the law
-/// of the point queue (Koch and Skutella 2011): queue and exit at each time up to `until`, the outflow up to one transit time later.
-/// All are in short form. The inflow is an amount by time, 0 at time 0, and never falls; no time is negative, and a capacity is above
-/// 0. Passed comes exactly at the first operation of its list that passes, and has part Load.
+/// Loads a link by the law of the point queue (Koch and Skutella 2011). Returns queue and exit by time up to `until`, and the outflow up to
+/// one transit time later, all in short form. The inflow is an amount by time, is 0 at time 0 and never falls. The capacity is an amount
+/// per unit of time above 0; `None` means unbounded. No time is negative. Returns `Passed` exactly at the first operation of its operation
+/// sequence that passes, with part Load.
 pub fn load_link(
     alloc: Global,
     transit: Q,
@@ -116,7 +116,7 @@ pub fn load_link(
     ensures list { Gives loaded_of (λ q. q) result (at_part Load (checked_loading passes_Q transit capacity inflow.now.points until)) }
     ensures loaded { IfOk result (λ l. IsLoaded transit capacity inflow.now.points until (loaded_of l)) }
 {
-    // For the proof: the points of the inflow are a curve.
+    // Proof: the points of the inflow are a curve.
     let _ = inflow.len();
     let cut = inflow.cut(alloc, until, Part::Load)?;
     load_cut(alloc, transit, capacity, &cut, until)

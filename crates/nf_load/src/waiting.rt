@@ -1,4 +1,4 @@
-// The queue of a link, piece by piece of what enters it.
+// The queue over the pieces of an inflow.
 ghost use Rattle.std.specs.Prelude.{◌≡◌, ◌&&◌, [], ◌∷◌, ◌++◌, Some, true, IfOk, OnOk, IsTrue};
 ghost use Rattle.nf_rational.specs.Rational.{ℚ};
 ghost use Rattle.nf_rational.specs.Operations.{0ℚ};
@@ -16,15 +16,15 @@ use nf_curve::{Curve, Point};
 use nf_frac::{Halt, Part, PassedAt, Q, at};
 use std::alloc::{AllocError, Global};
 
-// What waits over a piece of the inflow: at the time from which on the queue is empty, if it isn't before and is so before the
-// piece's end, and at its end.
+// The queue over a piece of the inflow. `empty` is the moment strictly within the piece at which the queue drains to 0, if there is one.
+// `end` is the moment at the end of the piece.
 #[derive(Clone, Copy)]
 struct Over {
     empty: Option<Waits>,
     end: Waits,
 }
 
-// Nothing waits at the end.
+// Returns an empty queue at the end of the piece.
 fn empty_at(end: &Point) -> Over
     ensures list { over_list result ≡ record { time = end.now.0; amount = end.now.1; queue = 0ℚ } ∷ [] }
     ensures end { result.end.time ≡ end.now.0 }
@@ -39,7 +39,7 @@ fn empty_at(end: &Point) -> Over
     }
 }
 
-// The rate at which the inflow grows over a piece.
+// Returns the inflow rate over a piece.
 #[tactic(auto, unfolding(nf_curve_lists::specs::Lines::checked_slope), using(nf_curve::proofs::Pieces::run_apart))]
 fn inflow_rate(before: &Waits, end: &Point) -> Result<Q, PassedAt<Q>>
     requires { before.now.time <ℚ end.now.0 }
@@ -51,7 +51,7 @@ fn inflow_rate(before: &Waits, end: &Point) -> Result<Q, PassedAt<Q>>
     Ok(rate)
 }
 
-// What has entered by a time of a piece.
+// Returns the amount that has entered by a time of a piece.
 #[tactic(auto, unfolding(nf_curve_lists::specs::Lines::checked_line))]
 fn amount_at(before: &Waits, end: &Point, time: Q) -> Result<Q, PassedAt<Q>>
     requires { before.now.time <ℚ end.now.0 }
@@ -64,7 +64,7 @@ fn amount_at(before: &Waits, end: &Point, time: Q) -> Result<Q, PassedAt<Q>>
     Ok(amount)
 }
 
-// A queue at the end of a piece over which it changes at the rate less the capacity.
+// Returns the queue at `end` if it changes from `start` at the rate less the capacity.
 #[tactic(auto, unfolding(nf_load_lists::specs::Loading::grown))]
 fn grown(capacity: Q, rate: Q, queue: Q, start: Q, end: Q) -> Result<Q, PassedAt<Q>>
     ensures { result ≡ at_part Load (lists.grown passes_Q capacity rate queue start end) }
@@ -76,7 +76,7 @@ fn grown(capacity: Q, rate: Q, queue: Q, start: Q, end: Q) -> Result<Q, PassedAt
     Ok(queue)
 }
 
-// The time at which a queue is empty, where the rate is below the capacity.
+// Returns the time at which the queue drains to 0. The rate is below the capacity.
 #[tactic(auto, unfolding(nf_load_lists::specs::Loading::drained), using(crate::proofs::QueueSteps::change_apart))]
 fn drained(capacity: Q, rate: Q, queue: Q, start: Q) -> Result<Q, PassedAt<Q>>
     requires { lt_ℚ rate capacity ≡ true }
@@ -89,7 +89,7 @@ fn drained(capacity: Q, rate: Q, queue: Q, start: Q) -> Result<Q, PassedAt<Q>>
     Ok(time)
 }
 
-// The queue changes up to the end of the piece.
+// Returns the queue at the end of the piece. The queue changes at the rate less the capacity.
 fn grow(capacity: Q, rate: Q, before: &Waits, end: &Point) -> Result<Over, PassedAt<Q>>
     ensures list { seen_at over_list (λ q. q) result ≡ at_part Load (lists.grows passes_Q capacity rate before.now end.now) }
     ensures end { IfOk result (λ over. over.end.time ≡ end.now.0) }
@@ -105,7 +105,7 @@ fn grow(capacity: Q, rate: Q, before: &Waits, end: &Point) -> Result<Over, Passe
     })
 }
 
-// The queue is empty at this time of the piece, and from then on.
+// Returns a queue that is 0 from `time` on, a time within the piece.
 fn drain_at(before: &Waits, end: &Point, time: Q) -> Result<Over, PassedAt<Q>>
     requires { before.now.time <ℚ end.now.0 }
     ensures list { (capacity rate : ℚ) → seen_at over_list (λ q. q) result
@@ -127,7 +127,7 @@ fn drain_at(before: &Waits, end: &Point, time: Q) -> Result<Over, PassedAt<Q>>
     })
 }
 
-// A queue drains where the rate is below the capacity, up to the end of the piece or until it is empty.
+// Returns the queue, which drains until it is empty or the piece ends. The rate is below the capacity.
 fn drain(capacity: Q, rate: Q, before: &Waits, end: &Point) -> Result<Over, PassedAt<Q>>
     requires later { before.now.time <ℚ end.now.0 }
     requires below { lt_ℚ rate capacity ≡ true }
@@ -141,14 +141,14 @@ fn drain(capacity: Q, rate: Q, before: &Waits, end: &Point) -> Result<Over, Pass
     grow(capacity, rate, before, end)
 }
 
-// An empty queue stays empty.
+// Returns whether an empty queue stays empty: the rate is at most the capacity.
 fn stays_empty(capacity: Q, rate: Q, queue: Q) -> bool
     ensures { result ≡ (is_zero queue && le_ℚ rate capacity) }
 {
     queue.is_zero() && rate.is_at_most(capacity)
 }
 
-// A queue that isn't empty drains.
+// Returns whether the queue is not empty and drains: the rate is below the capacity.
 fn drains(capacity: Q, rate: Q, queue: Q) -> bool
     ensures test { result ≡ (is_positive queue && lt_ℚ rate capacity) }
     ensures below { IsTrue result → lt_ℚ rate capacity ≡ true }
@@ -156,7 +156,7 @@ fn drains(capacity: Q, rate: Q, queue: Q) -> bool
     Q::zero().is_below(queue) && rate.is_below(capacity)
 }
 
-// What waits over a piece of the inflow, for a link with a capacity.
+// Returns the queue over a piece of the inflow, for a link with a capacity.
 fn over_bounded(capacity: Q, before: &Waits, end: &Point) -> Result<Over, PassedAt<Q>>
     requires { before.now.time <ℚ end.now.0 }
     ensures list { seen_at over_list (λ q. q) result ≡ at_part Load (lists.after_piece passes_Q (Some capacity) before.now end.now) }
@@ -172,7 +172,7 @@ fn over_bounded(capacity: Q, before: &Waits, end: &Point) -> Result<Over, Passed
     grow(capacity, rate, before, end)
 }
 
-// What waits over a piece of the inflow. On an unbounded link nothing waits.
+// Returns the queue over a piece of the inflow. The queue of an unbounded link is 0.
 fn over_piece(capacity: &Option<Q>, before: &Waits, end: &Point) -> Result<Over, PassedAt<Q>>
     requires { before.now.time <ℚ end.now.0 }
     ensures list { seen_at over_list (λ q. q) result ≡ at_part Load (lists.after_piece passes_Q capacity.now before.now end.now) }
@@ -184,7 +184,7 @@ fn over_piece(capacity: &Option<Q>, before: &Waits, end: &Point) -> Result<Over,
     }
 }
 
-// What waits over a piece is put behind what waits before.
+// Appends the moments of a piece.
 fn put(all: &mut Vec<Waits>, over: &Over) -> Result<(), AllocError>
     ensures { OnOk result (all.new.items ≡ all.old.items ++ over_list over.now) }
 {
@@ -195,7 +195,7 @@ fn put(all: &mut Vec<Waits>, over: &Over) -> Result<(), AllocError>
     Ok(())
 }
 
-/// What waits at time 0, at the end of each piece of the inflow, and where the queue becomes empty within a piece.
+/// Returns the queue's moments: time 0, the end of each piece of the inflow, and each time at which the queue drains to 0.
 pub(crate) fn all_waits(
     alloc: Global,
     capacity: &Option<Q>,

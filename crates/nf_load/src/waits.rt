@@ -1,8 +1,8 @@
-// Moments of a link: what has entered and what waits, and when what enters then leaves.
+// Moments of a link.
 use nf_frac::Q;
 use std::marker::Model;
 
-/// A time, the amount that has entered by then, and the amount that waits then.
+/// A moment: a time, the amount entered by then, and the queue then.
 #[derive(Clone, Copy)]
 pub(crate) struct Waits {
     pub time: Q,
@@ -23,7 +23,7 @@ impl Model for Waits {
     ghost inverse = { λ w. record { time = w.time; amount = w.amount; queue = w.queue } };
 }
 
-/// A moment, and the time at which what enters then leaves the link.
+/// A moment, with the exit of flow that enters then.
 #[derive(Clone, Copy)]
 pub(crate) struct Leaves {
     pub waits: Waits,

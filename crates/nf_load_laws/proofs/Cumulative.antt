@@ -1,4 +1,4 @@
--- The amount that pieces supply, as a curve: it is what they supply at every time up to the last.
+-- The cumulative amount of pieces, as a curve: at every time up to the last it is the amount that they supply.
 use Rattle.std.proofs.Common.{◌≡◌, List, [], ◌∷◌, ◌++◌, ⊎_elim, Bool, true, false, refl, sym, ap, subst, ◌∙◌}
 use Rattle.std.specs.Prelude.{Ok}
 use Rattle.nf_rational.specs.Rational.{ℚ}
@@ -66,7 +66,7 @@ next_up_to : (later : List Piece) (s t : ℚ) → s ≤ℚ t → NextFrom later 
 next_up_to [] s t h n = tt
 next_up_to (next ∷ later) s t h n = ≤ℚ_trans _ _ _ h n
 
--- over plain numbers: the amount at t, of which `so_far` had come before the piece
+-- numbers: the amount at t, if `so_far` was supplied before the piece
 so_much : (so_far rate span later y t s : ℚ) → span ≡ t -ℚ s → later ≡ 0ℚ → y ≡ so_far +ℚ (rate *ℚ span +ℚ later) → y ≡ so_far +ℚ rate *ℚ (t -ℚ s)
 so_much so_far rate span later y t s e f g = linear_eq (so_far ∷ rate ∷ span ∷ later ∷ y ∷ t ∷ s ∷ []) (eq_times rate e ∷ eq f ∷ eq g ∷ []) (search reading_of depth 12) tt tt
 
@@ -81,7 +81,7 @@ module _ (passes : Passing) (f : ℚ → ℚ) (last : ℚ) where
       checked-is passes Sum so_far p.between y p.next
       ∙ ap (λ (x : ℚ). so_far +ℚ x) (checked-is passes Product piece.rate d.between p.between p.first ∙ ap (λ (x : ℚ). piece.rate *ℚ x) (checked-is passes Difference end piece.start d.between d.first))
 
-  -- what has come by then, and the pieces from there on, make the amount
+  -- the amount supplied by then and the remaining pieces make the whole amount
   abbrev GoesOn : ℚ → List Piece → Type 0
   GoesOn so_far [] = Unit {0}
   GoesOn so_far (piece ∷ later) = (t : ℚ) → piece.start ≤ℚ t → f t ≡ so_far +ℚ supplied (piece ∷ later) t
@@ -100,7 +100,7 @@ module _ (passes : Passing) (f : ℚ → ℚ) (last : ℚ) where
       so_on so_far piece.rate _ _ (f t) next.start piece.start sum (time_in-after piece.start next rest t (≤ℚ_of_lt _ _ s.0) i)
       (e ∙ ap (λ (x : ℚ). so_far +ℚ piece.rate *ℚ (x -ℚ piece.start)) (min_is_left next.start last (k next rest refl))) (on t (≤ℚ_trans _ _ _ (≤ℚ_of_lt _ _ s.0) i))
 
-  -- only a piece that starts before the last time asks for it
+  -- the condition is needed only for a piece that starts before the last time
   abbrev Goes : ℚ → List Piece → Type 0
   Goes so_far later = ((next : Piece) (rest : List Piece) → later ≡ next ∷ rest → next.start ≤ℚ last) → GoesOn so_far later
 
@@ -234,7 +234,7 @@ module _ (passes : Passing) (pieces : List Piece) (last : ℚ) (good : ArePieces
       both : (x y : ℚ) → 0ℚ <ℚ x → 0ℚ <ℚ y → 0ℚ <ℚ min_ℚ x y
       both x y h k = min_keeps (λ (z : ℚ). 0ℚ <ℚ z) x y h k
 
-  -- with nothing to look at, there is the one point
+  -- without further pieces there is one point
   at_once : (l : List Piece) (points : List Point) → l ≡ pieces → last ≡ 0ℚ → cumulative_from passes 0ℚ l last ≡ Ok points → FollowsFrom (λ t. supplied pieces t) last (0ℚ, 0ℚ) points
   at_once [] points e z g = subst (λ (l : List Point). FollowsFrom (λ t. supplied pieces t) last (0ℚ, 0ℚ) l) (sym (at_0 last 0ℚ z) ∙ same_Ok _ _ g) (ends begins_0 (sym z))
   at_once (piece ∷ later) points e z g = ⊎_elim
@@ -248,7 +248,7 @@ module _ (passes : Passing) (pieces : List Piece) (last : ℚ) (good : ArePieces
       subst (λ (l : List Point). FollowsFrom (λ t. supplied pieces t) last (0ℚ, 0ℚ) l) (sym (at_0 last 0ℚ z) ∙ same_Ok _ _ g') (ends begins_0 (sym z)))
       (lt_ℚ_cases piece.start last)
 
-  -- where no operation passes, it is what the pieces supply, up to the last time
+  -- if no operation passes, the curve is the amount supplied by the pieces up to the last time
   pub checked_cumulative-is : (points : List Point) → checked_cumulative passes pieces last ≡ Ok points → IsCumulative pieces last points
   unfolding checked_cumulative
   checked_cumulative-is points e =

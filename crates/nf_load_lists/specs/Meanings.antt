@@ -1,4 +1,4 @@
--- What cumulative amounts and the loading of a link have to give, at every time.
+-- Meaning of cumulative amounts and of loadings.
 use Rattle.std.specs.Prelude.{◌≡◌, List, [], ◌∷◌, Option}
 use Rattle.nf_rational.specs.Rational.{ℚ}
 use Rattle.nf_rational.specs.Operations.{0ℚ, ◌+ℚ◌}
@@ -8,7 +8,7 @@ use Rattle.nf_model.specs.Network.{Link, Piece, supplied}
 use Rattle.nf_model.specs.Queue.{IsQueue, IsExit, IsOutflow}
 use Rattle.nf_load_lists.specs.Loading.{Loaded}
 
--- what the pieces supply, up to the last time, and constant after it
+-- the amount supplied by the pieces up to `last`, and constant after it
 pub record IsCumulative (pieces : List Piece) (last : ℚ) (points : List (ℚ × ℚ)) : Type 0 where
   pub curve : IsCurve points
   pub begins : value points 0ℚ ≡ 0ℚ
@@ -16,8 +16,8 @@ pub record IsCumulative (pieces : List Piece) (last : ℚ) (points : List (ℚ �
   pub values : (time : ℚ) → Within 0ℚ last time → value points time ≡ supplied pieces time
   pub after : (time : ℚ) → last ≤ℚ time → value points time ≡ supplied pieces last
 
--- queue and exit up to the last time, and the outflow up to one transit time later, are those of the inflow by the law of the
--- point queue
+-- The curves follow the law of the point queue for the inflow, and are in short form. Queue and exit do up to `last`, and the outflow does
+-- up to one transit time later.
 pub record IsLoaded (transit : ℚ) (capacity : Option ℚ) (inflow : List (ℚ × ℚ)) (last : ℚ) (loaded : Loaded) : Type 0 where
   pub queue_curve : IsCurve loaded.queue
   pub outflow_curve : IsCurve loaded.outflow
@@ -30,13 +30,13 @@ pub record IsLoaded (transit : ℚ) (capacity : Option ℚ) (inflow : List (ℚ 
   pub outflow_values : (time : ℚ) → Within 0ℚ (last +ℚ transit) time
       → IsOutflow transit capacity (value inflow) time (value loaded.outflow time)
 
--- a link's loading by its pieces, up to the last time: that of the amount which they supply
+-- the loading of a link with its pieces up to `last`: its inflow is the amount that they supply
 pub record IsLinkLoaded (last : ℚ) (link : Link) (pieces : List Piece) (loaded : Loaded) : Type 0 where
   pub inflow : List (ℚ × ℚ)
   pub cumulative : IsCumulative pieces last inflow
   pub loading : IsLoaded link.transit link.capacity inflow last loaded
 
--- the loadings of links, each by its pieces
+-- each link is loaded with its pieces
 abbrev pub AreLoaded : ℚ → List Link → List (List Piece) → List Loaded → Type 0
 AreLoaded last [] [] [] = Unit {0}
 AreLoaded last (link ∷ links) (pieces ∷ more) (loaded ∷ rest) = IsLinkLoaded last link pieces loaded × AreLoaded last links more rest

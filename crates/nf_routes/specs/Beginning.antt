@@ -1,4 +1,4 @@
--- Where the loading begins, and what it comes to.
+-- Start and result of the whole loading.
 use Rattle.std.specs.Prelude.{◌≡◌, ℕ, List, [], length, map, Option, Some, None, slice_get}
 use Rattle.nf_rational.specs.Rational.{ℚ}
 use Rattle.nf_work.specs.Passing.{Passing}
@@ -10,25 +10,25 @@ use Rattle.nf_load_lists.specs.Cumulative.{checked_cumulative}
 use Rattle.nf_routes_lists.specs.Routes.{Route, loading_order}
 use Rattle.nf_routes_lists.specs.RoutesList.{LoadedLink, SoFar, load_all}
 
--- no link is loaded, and no route has sent anything
+-- the progress at the start: no link is loaded, and no route has sent anything
 abbrev pub nothing_loaded : List Link → List (Option LoadedLink)
 nothing_loaded links = map (λ _. None) links
 
 abbrev pub nothing_sent : List Route → List (List (List Point))
 nothing_sent routes = map (λ _. []) routes
 
--- what is given along each route are pieces
+-- the inflow of each route consists of pieces
 pub record HavePieces (routes : List Route) : Type 0 where
   pub each : (r : ℕ) (route : Route) → slice_get routes r ≡ Some route → ArePieces route.pieces
 
 module _ (passes : Passing) where
-  -- what is sent into the first link of a route
+  -- the amount sent into the first link of a route, in short form
   abbrev pub first_entry : List Piece → ℚ → Checked (List Point)
   first_entry pieces horizon = do
     amounts ← checked_cumulative passes pieces horizon
     checked_short passes amounts
 
-  -- all links, in the order of loading
+  -- the operation sequence that loads all links, in the order of loading
   abbrev pub all_loaded : Network → List Route → ℚ → Checked SoFar
   all_loaded net routes horizon =
       load_all passes net routes horizon (loading_order (length net.links) routes)

@@ -1,4 +1,4 @@
--- What is loaded by route, as the definitions have it.
+-- The result of the code, as a value of the definitions.
 use Rattle.std.specs.Prelude.{map}
 use Rattle.nf_routes_lists.specs.RoutesList as lists
 use Rattle.nf_load.specs.Loadings.{loaded_of}

@@ -1,4 +1,4 @@
--- Travels along routes, by the exits of loaded links.
+-- Arrival times along routes.
 use Rattle.std.specs.Prelude.{◌≡◌, ℕ, ◌<◌, List, [], ◌∷◌, length, Some, slice_get}
 use Rattle.nf_rational.specs.Rational.{ℚ}
 use Rattle.nf_work.specs.Passing.{Passing}
@@ -11,11 +11,11 @@ use Rattle.nf_check_lists.specs.Curves.{loaded_at}
 use Rattle.nf_routes_lists.specs.Routes.{Route}
 use Rattle.nf_routes.specs.Amounts.{AreExits}
 
--- the exits of these links
+-- the exits of each loaded link never fall and are at least 0
 pub record HaveExits (loaded : List Loaded) : Type 0 where
   pub each : (e : ℕ) (link : Loaded) → slice_get loaded e ≡ Some link → AreExits link.exit
 
--- these are numbers of links that are there
+-- each number is that of a loaded link
 pub record GoOver (loaded : List Loaded) (links : List ℕ) : Type 0 where
   pub each : (place e : ℕ) → slice_get links place ≡ Some e → e < length loaded
 
@@ -23,7 +23,7 @@ pub record GoOverAll (loaded : List Loaded) (routes : List Route) : Type 0 where
   pub each : (r : ℕ) (route : Route) → slice_get routes r ≡ Some route → GoOver loaded route.links
 
 module _ (passes : Passing) where
-  -- a travel so far, over more links
+  -- the operation sequence that extends a travel over more links
   abbrev pub travel_along : ℚ → List Loaded → List ℕ → List Point → Checked (List Point)
   travel_along horizon loaded [] travel = checked_short passes travel
   travel_along horizon loaded (e ∷ rest) travel = do

@@ -1,5 +1,5 @@
-// The end of a link, up to which it is loaded: the greatest of the horizon and the exits, at their own ends, of the links that stand
-// right before it on a route.
+// Ends of links. A link is loaded up to its end. That time is the greatest of the horizon and the end exits of the links directly before it
+// on a route. The end exit of a link is its exit at its own end.
 ghost use Rattle.std.specs.Prelude.{◌≡◌, slice_get};
 ghost use Rattle.nf_check_lists.specs.Curves.{last_value as last_by};
 ghost use Rattle.nf_routes_lists.specs.Routes.{pairs_of, all_pairs};
@@ -12,7 +12,7 @@ use nf_frac::Q;
 use nf_net::LinkId;
 use nf_routes_file::Route;
 
-// The value of the last point.
+// Returns the value of the last point.
 fn last_value(curve: &Curve) -> Q
     ensures { result ≡ last_by curve.now.points }
 {
@@ -20,7 +20,7 @@ fn last_value(curve: &Curve) -> Q
     value
 }
 
-// The exit of a link at its own end, where it is loaded.
+// Returns the exit of a link at its own end, or 0 if the link is not loaded.
 fn exit_end(links: &[Option<LoadedLink>], link: LinkId) -> Q
     ensures { result ≡ exit_end_by (slice_get links.now link) }
 {
@@ -30,7 +30,7 @@ fn exit_end(links: &[Option<LoadedLink>], link: LinkId) -> Q
     }
 }
 
-// The greatest of a time and these exits of the links right before a link, on one route.
+// Returns the greatest of `least` and the end exits of the links that directly precede `link` on one route.
 fn end_along(along: &[LinkId], links: &[Option<LoadedLink>], link: LinkId, least: Q) -> Q
     ensures { result ≡ end_by least (pairs_of along.now) links.now link }
 {
@@ -43,7 +43,8 @@ fn end_along(along: &[LinkId], links: &[Option<LoadedLink>], link: LinkId, least
     end
 }
 
-/// The end of a link.
+/// Returns the end of a link: the time up to which it is loaded, at least `horizon`. The exits of the links that directly precede it on a
+/// route may raise it.
 pub(crate) fn end_of(routes: &[Route], links: &[Option<LoadedLink>], link: LinkId, horizon: Q) -> Q
     ensures { result ≡ end_by horizon (all_pairs (routes_of routes.now)) links.now link }
 {

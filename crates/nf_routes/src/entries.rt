@@ -1,4 +1,4 @@
-// What the routes send into a link, and what they send on through it.
+// Amounts that routes send through a link.
 ghost use Rattle.std.specs.Prelude.{◌≡◌, ◌∷◌, [], length};
 ghost use Rattle.nf_rational.specs.Operations.{0ℚ};
 ghost use Rattle.nf_rational.specs.Order.{◌≤ℚ◌};
@@ -21,7 +21,7 @@ use nf_net::{LinkId, Piece};
 use nf_routes_file::Route;
 use std::alloc::Global;
 
-// A route begins with this link.
+// Returns whether the first link of a route is `link`.
 fn begins_with(links: &[LinkId], link: LinkId) -> bool
     ensures { result ≡ lists.begins_with links.now link }
 {
@@ -31,14 +31,14 @@ fn begins_with(links: &[LinkId], link: LinkId) -> bool
     }
 }
 
-// A route goes over this link.
+// Returns whether a route contains `link`.
 fn goes_over(links: &[LinkId], link: LinkId) -> bool
     ensures { result ≡ lists.goes_over links.now link }
 {
     links.iter().any(|one| *one == link)
 }
 
-// What is sent into the first link of a route, up to the horizon.
+// Returns the amount sent into the first link of a route by each time up to the horizon, in short form.
 fn first_entry(alloc: Global, pieces: &[Piece], horizon: Q) -> Result<Curve, Halt<Q>>
     requires pieces { ArePieces pieces.now }
     requires horizon { 0ℚ ≤ℚ horizon }
@@ -48,7 +48,7 @@ fn first_entry(alloc: Global, pieces: &[Piece], horizon: Q) -> Result<Curve, Hal
     Curve::short(alloc, &amounts, Part::Load)
 }
 
-// The route begins, if the link is its first.
+// Starts the route if its first link is `link`.
 fn begin(
     alloc: Global,
     route: &Route,
@@ -68,7 +68,7 @@ fn begin(
     Ok(())
 }
 
-/// The routes begin of which the link is the first.
+/// Starts each route whose first link is `link`.
 pub(crate) fn begin_all(
     alloc: Global,
     routes: &[Route],
@@ -88,7 +88,7 @@ pub(crate) fn begin_all(
     Ok(())
 }
 
-// The sum so far, with what the route sends into the link if it goes over it.
+// Adds the route's entry into the link to `total`, if the route contains the link.
 fn with_entry(
     alloc: Global,
     total: Curve,
@@ -107,7 +107,7 @@ fn with_entry(
     }
 }
 
-/// The inflow of a link: the sum of what the routes over it send into it, by time.
+/// Returns the inflow of a link by time: the sum of the entries of the routes over it.
 pub(crate) fn inflow_of(
     alloc: Global,
     routes: &[Route],
@@ -125,7 +125,7 @@ pub(crate) fn inflow_of(
     Ok(total)
 }
 
-// The route sends on, if it goes over the link.
+// Sends the route's amount on through the link, if the route contains the link.
 fn send_on(
     alloc: Global,
     route: &Route,
@@ -145,7 +145,7 @@ fn send_on(
     Ok(())
 }
 
-/// All routes over the link send on what they sent into it.
+/// Sends the amounts of all routes over the link on through it.
 pub(crate) fn send_all_on(
     alloc: Global,
     routes: &[Route],

@@ -1,5 +1,5 @@
-//! Loading by route: given inflows are sent along given routes of a network, link after link, in an order in which each link comes
-//! after those that feed it. At each link the routes share by first in, first out. Times, amounts and rates are exact fractions.
+//! Loads a network along given routes with given inflows. Each link is loaded after the links that feed it. Routes share each link first
+//! in, first out. Times, amounts and rates are exact fractions.
 #![tactic(auto)]
 
 mod ends;

@@ -1,4 +1,4 @@
-// The loading of the links, one after the other.
+// Loading of the links, one after the other.
 ghost use Rattle.std.specs.Prelude.{◌≡◌, ◌<◌, length, slice_get, IfOk};
 ghost use Rattle.nf_rational.specs.Operations.{0ℚ};
 ghost use Rattle.nf_rational.specs.Order.{◌≤ℚ◌};
@@ -20,7 +20,7 @@ use nf_net::{LinkId, Network};
 use nf_routes_file::{Route, loading_order};
 use std::alloc::Global;
 
-// The loading of a link up to its end, by what the routes over it send into it.
+// Loads a link up to its end with the entries of the routes over it. Records the loading, and sends the routes' amounts on.
 fn load_here(
     alloc: Global,
     net: &Network,
@@ -46,7 +46,7 @@ fn load_here(
     Ok(())
 }
 
-/// The loading of all links, each after those that stand right before it on a route.
+/// Loads all links, each after the links that directly precede it on a route. The routes may not hold a circle of links.
 pub(crate) fn load_all(
     alloc: Global,
     net: &Network,
@@ -59,7 +59,7 @@ pub(crate) fn load_all(
     ensures list { Gives seen_so_far (λ q. q) result (at_part Load (all_loaded passes_Q net.now.net (routes_of routes.now) horizon)) }
     ensures complete { IfOk result (λ so_far. IsComplete net.now.net (routes_of routes.now) (seen_so_far so_far)) }
 {
-    // For the proof: transit times and capacities are those of a network.
+    // Proof: transit times and capacities are those of a network.
     net.recall();
     let order = loading_order(alloc, net.link_count(), routes)?;
     let mut so_far = SoFar::new(alloc, net, routes)?;

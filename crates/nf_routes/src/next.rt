@@ -1,4 +1,4 @@
-// What a route sends on through a link.
+// Amounts that a route sends on.
 ghost use Rattle.std.specs.Prelude.{◌≡◌, ◌∷◌, map, IfOk};
 ghost use Rattle.nf_rational.specs.Rational.{ℚ};
 ghost use Rattle.nf_rational.specs.Operations.{0ℚ};
@@ -17,7 +17,7 @@ use nf_curve::{Curve, Point, Sides, first_moment, next_moment, sides_at};
 use nf_frac::{Halt, Part, Q};
 use std::alloc::{AllocError, Global};
 
-// Both values at each time of two curves.
+// Returns both values at each time of two curves.
 fn all_sides(alloc: Global, left: &[Point], right: &[Point]) -> Result<Vec<Sides>, Halt<Q>>
     requires left { IsCurve left.now }
     requires right { IsCurve right.now }
@@ -34,7 +34,7 @@ fn all_sides(alloc: Global, left: &[Point], right: &[Point]) -> Result<Vec<Sides
     Ok(all)
 }
 
-// By each exit what has entered by then: at time 0 nothing, and a point at each exit that isn't the one before.
+// Returns the amount entered by each exit. The first point is (0, 0). Each exit that differs from the one before adds a point.
 fn next_points(alloc: Global, all: &[Sides]) -> Result<Vec<Point>, AllocError>
     ensures { IfOk result (λ points. points.items ≡ (0ℚ, 0ℚ) ∷ next_from 0ℚ (map sides_of all.now)) }
 {
@@ -50,11 +50,11 @@ fn next_points(alloc: Global, all: &[Sides]) -> Result<Vec<Point>, AllocError>
     Ok(points)
 }
 
-/// What a route sends into its next link, or what of it arrives where there is none, by time and in short form: by the exit of an
-/// entry into a link it has sent on what it had sent into it by the entry. At a link the routes share by first in, first out, so
-/// where exits stand still nothing enters, and the first such entry says the same as the others. `exit` has the exits of the link by
-/// the time of entry, and `entry` what the route has sent into it. Passed comes exactly at the first operation of its list that
-/// passes, and has part Load.
+/// Returns the amount that a route has sent into its next link by each time, in short form. After the last link of a route, this is the
+/// amount that has arrived. `exit` holds the exits of the link by the time of entry. `entry` holds the amount that the route has sent into
+/// the link. The route has sent on the amount of each entry by the exit of that entry. If exits are constant on an interval, no flow enters
+/// there, and the first entry of the interval determines the point. Returns `Passed` exactly at the first operation of its operation
+/// sequence that passes, with part Load.
 pub(crate) fn next_entry(alloc: Global, exit: &Curve, entry: &Curve) -> Result<Curve, Halt<Q>>
     requires exits { AreExits exit.now.points }
     requires amount { IsAmount entry.now.points }

@@ -1,4 +1,4 @@
-// Loading by route, as a whole.
+// The whole loading by route.
 ghost use Rattle.std.specs.Prelude.{◌≡◌, map, IfOk};
 ghost use Rattle.nf_rational.specs.Operations.{0ℚ};
 ghost use Rattle.nf_rational.specs.Order.{◌≤ℚ◌};
@@ -24,9 +24,10 @@ use nf_net::Network;
 use nf_routes_file::Routes;
 use std::alloc::{AllocError, Global};
 
-/// What comes of the routes of a network, all by time. `ends` and `links` go by links: up to its end a link is loaded, with its
-/// queue, outflow and exits. The others go by routes: `entries` has what a route has sent into each of its links in their order,
-/// `arrivals` what of it has arrived, and `travels` when what departs arrives. Amounts count what departs up to the horizon.
+/// The loading of a network along routes, by time. `ends` and `links` are indexed by link: each link is loaded up to its end, with queue,
+/// outflow and exits. The other fields are indexed by route. `entries` holds the amount that the route has sent into each of its links, in
+/// route order. `arrivals` holds the amount that has arrived. `travels` holds the arrival time of each departure. Amounts count departures
+/// up to the horizon.
 #[derive(Drop)]
 pub struct Routed {
     pub ends: Vec<Q>,
@@ -36,7 +37,7 @@ pub struct Routed {
     pub travels: Vec<Curve>,
 }
 
-// The ends and the loadings of links.
+// Returns the ends and the loadings of the links.
 fn ended(alloc: Global, links: Vec<Option<LoadedLink>>) -> Result<(Vec<Q>, Vec<Loaded>), AllocError>
     requires { AreLoaded links.items }
     ensures ends { IfOk result (λ parts. parts.0.items ≡ map (end_or passes_Q) links.items) }
@@ -53,7 +54,7 @@ fn ended(alloc: Global, links: Vec<Option<LoadedLink>>) -> Result<(Vec<Q>, Vec<L
     Ok((ends, all))
 }
 
-// What routes sent into their links, and what of it has arrived.
+// Splits the routes' stages: returns the entries into the links of each route, and the amount that has arrived.
 fn parted(alloc: Global, entries: Vec<Stages>) -> Result<(Vec<Vec<Curve>>, Vec<Curve>), AllocError>
     requires { HaveSent entries.items }
     ensures entries { IfOk result
@@ -71,12 +72,13 @@ fn parted(alloc: Global, entries: Vec<Stages>) -> Result<(Vec<Vec<Curve>>, Vec<C
     Ok((all, arrivals))
 }
 
-/// Loads a network by route up to a horizon, a time of at least 0, with routes of this network: what departs along each route goes
-/// over its links one after the other, by the law of the point queue for all that enters a link (Vickrey 1969; Koch and Skutella
-/// 2011), and at each link the routes share by first in, first out. Links are loaded one by one, each after those that stand right
-/// before it on a route. All curves are in short form. In the end all that is sent along a route arrives, and what departs at a time
-/// arrives by its travel. Passed comes exactly at the first operation of its list that passes, and has part Load. The supply of the
-/// network plays no part.
+/// Loads a network by route up to a horizon, a time of at least 0, with routes of this network. The flow of a route uses its links in
+/// order. Each link's inflow follows the law of the point queue (Vickrey 1969; Koch and Skutella 2011). Routes share each link first in,
+/// first out. Each link is loaded after the links that directly precede it on a route.
+///
+/// All curves are in short form. All that is sent along a route arrives in the end, and `travels` holds the arrival of each departure. The
+/// supply of the network is not used. Returns `Passed` exactly at the first operation of its operation sequence that passes, with part
+/// Load.
 pub fn load_routes(
     alloc: Global,
     net: &Network,
@@ -89,7 +91,7 @@ pub fn load_routes(
     ensures routed { IfOk result (λ r. IsRouted net.now.net (routes_of routes.now) horizon (routed_of r)) }
     ensures arrives { IfOk result (λ r. RoutesArrive net.now.net (routes_of routes.now) horizon (routed_of r)) }
 {
-    // For the proof: transit times and capacities are those of a network.
+    // Proof: transit times and capacities are those of a network.
     net.recall();
     let list = routes.as_slice();
     let so_far = load_all(alloc, net, list, horizon)?;

@@ -1,4 +1,4 @@
-// What is loaded so far.
+// Progress of a loading.
 ghost use Rattle.std.specs.Prelude.{◌≡◌, IfOk};
 ghost use Rattle.nf_routes_lists.specs.RoutesFile.{routes_of};
 ghost use Rattle.nf_routes.specs.Beginning.{nothing_loaded, nothing_sent};
@@ -11,7 +11,7 @@ use nf_routes_file::Route;
 use std::alloc::{AllocError, Global};
 use std::marker::Model;
 
-/// A link that is loaded up to its end.
+/// A link loaded up to its end.
 #[derive(Drop)]
 pub struct LoadedLink {
     pub end: Q,
@@ -30,14 +30,14 @@ impl Model for LoadedLink {
     ghost view = { λ l. record { end = l.end; loaded = loaded_of l.loaded } };
 }
 
-/// Of each link whether it is loaded, and how; and of each route what it has sent so far.
+/// Progress of a loading. `links` holds the loading of each loaded link. `entries` holds the amounts that each route has sent so far.
 #[derive(Drop)]
 pub struct SoFar {
     pub links: Vec<Option<LoadedLink>>,
     pub entries: Vec<Stages>,
 }
 
-// No link is loaded.
+// Returns one `None` for each link: no link is loaded.
 fn no_links(alloc: Global, net: &Network) -> Result<Vec<Option<LoadedLink>>, AllocError>
     ensures { IfOk result (λ links. links.items ≡ nothing_loaded net.now.net.links) }
 {
@@ -48,7 +48,7 @@ fn no_links(alloc: Global, net: &Network) -> Result<Vec<Option<LoadedLink>>, All
     Ok(links)
 }
 
-// No route has sent anything.
+// Returns empty stages for each route: no route has sent anything.
 fn no_entries(alloc: Global, routes: &[Route]) -> Result<Vec<Stages>, AllocError>
     ensures { IfOk result (λ entries. entries.items ≡ nothing_sent (routes_of routes.now)) }
 {
@@ -60,7 +60,7 @@ fn no_entries(alloc: Global, routes: &[Route]) -> Result<Vec<Stages>, AllocError
 }
 
 impl SoFar {
-    /// No link is loaded, and no route has sent anything.
+    /// Returns the progress at the start: no link is loaded, and no route has sent anything.
     pub fn new(alloc: Global, net: &Network, routes: &[Route]) -> Result<SoFar, AllocError>
         ensures links { IfOk result (λ so_far. so_far.links.items ≡ nothing_loaded net.now.net.links) }
         ensures entries { IfOk result (λ so_far. so_far.entries.items ≡ nothing_sent (routes_of routes.now)) }

@@ -1,4 +1,4 @@
-// What one route has sent into its links.
+// The amounts one route has sent into its links.
 ghost use Rattle.std.specs.Prelude.{◌≡◌, ◌<◌, [], ◌∷◌, ◌++◌, length, map, OnOk, IsSome, IfSome};
 ghost use Rattle.nf_work.specs.Passing.{passes_Q};
 ghost use Rattle.nf_routes_lists.specs.RoutesList.{last_entry, but_last};
@@ -7,8 +7,8 @@ use nf_curve::Curve;
 use std::alloc::{AllocError, Global};
 use std::marker::Model;
 
-/// What a route has sent by each time into its links, in their order and as far as they are loaded, and at last what of it has
-/// arrived.
+/// Amounts that a route has sent, by time. Each loaded link of the route has one, in route order. If all links of the route are loaded, the
+/// last curve is the amount that has arrived.
 #[derive(Drop)]
 pub struct Stages {
     curves: Vec<Curve>,
@@ -28,7 +28,7 @@ impl Model for Stages {
 }
 
 impl Stages {
-    /// Nothing is loaded.
+    /// Returns no stages.
     pub fn new(alloc: Global) -> Stages
         ensures { result ≡ [] }
     {
@@ -37,7 +37,7 @@ impl Stages {
         }
     }
 
-    /// The first link's amount, and no others.
+    /// Replaces the stages with the amount of the first link.
     pub fn begin(&mut self, first: Curve) -> Result<(), AllocError>
         ensures { OnOk result (self.new ≡ first.points ∷ []) }
     {
@@ -46,7 +46,7 @@ impl Stages {
         Ok(())
     }
 
-    /// One more, behind those that are there.
+    /// Appends an amount.
     pub fn push(&mut self, next: Curve) -> Result<(), AllocError>
         ensures { OnOk result (self.new ≡ self.old ++ next.points ∷ []) }
     {
@@ -54,7 +54,7 @@ impl Stages {
         Ok(())
     }
 
-    /// The last of them.
+    /// Returns the last amount.
     pub fn last(&self) -> &Curve
         requires { 0 < length self.now }
         ensures { result.now.points ≡ last_entry self.now }
@@ -62,7 +62,7 @@ impl Stages {
         &self.curves[self.curves.len() - 1]
     }
 
-    /// All but the last, and the last.
+    /// Returns all amounts but the last, and the last. Never returns `None`: at least one amount is a precondition.
     pub fn end(self) -> Option<(Vec<Curve>, Curve)>
         requires { 0 < length self }
         ensures some { IsSome result }

@@ -1,4 +1,4 @@
-// When what departs along a route arrives.
+// Arrival times of the departures along a route.
 ghost use Rattle.std.specs.Prelude.{◌≡◌, map, IfOk};
 ghost use Rattle.nf_rational.specs.Operations.{0ℚ};
 ghost use Rattle.nf_rational.specs.Order.{◌≤ℚ◌};
@@ -16,7 +16,7 @@ use nf_load::Loaded;
 use nf_routes_file::Route;
 use std::alloc::{AllocError, Global};
 
-// The departures themselves, up to the horizon.
+// Returns the identity on times up to the horizon: each departure at itself.
 fn departures(alloc: Global, horizon: Q) -> Result<Curve, AllocError>
     requires { 0ℚ ≤ℚ horizon }
     ensures { IfOk result (λ c. c.points ≡ departures_by horizon) }
@@ -28,7 +28,7 @@ fn departures(alloc: Global, horizon: Q) -> Result<Curve, AllocError>
     Ok(line)
 }
 
-// The exits of the links of a route one after the other, by the departure.
+// Composes the exits of the links of a route, in order. Returns the arrival time of each departure, in short form.
 fn travel(alloc: Global, links: &[Loaded], route: &Route, horizon: Q) -> Result<Curve, Halt<Q>>
     requires horizon { 0ℚ ≤ℚ horizon }
     requires exits { HaveExits (map loaded_of links.now) }
@@ -44,7 +44,8 @@ fn travel(alloc: Global, links: &[Loaded], route: &Route, horizon: Q) -> Result<
     Curve::short(alloc, &travel, Part::Load)
 }
 
-/// Of each route, when what departs arrives: the exits of its links one after the other, by the departure up to the horizon.
+/// Returns for each route the arrival time of each departure up to the horizon. The arrival time is the composition of the exits of the
+/// route's links, in order.
 pub(crate) fn travels(
     alloc: Global,
     links: &[Loaded],

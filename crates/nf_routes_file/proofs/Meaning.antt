@@ -1,4 +1,4 @@
--- What it means that a text is read by the order of loading.
+-- The meaning of reading a text by the loading order.
 use Rattle.std.proofs.Common.{◌≡◌, ℕ, List, Result, Ok, Err, MatchResult, IfOk, IfErr, subst}
 use Rattle.nf_formats.specs.Named.{Named}
 use Rattle.nf_routes_lists.specs.declared.RoutesRule.TheVariants.{G17}

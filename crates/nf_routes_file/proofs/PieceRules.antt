@@ -1,4 +1,4 @@
--- Rules that a piece breaks, by what is wrong with it.
+-- Rules that a piece breaks, by the piece's fault.
 use Rattle.std.proofs.Common.{◌≡◌, List, Option}
 use Rattle.std.specs.Option.{option_map}
 use Rattle.nf_model.specs.Network.{Piece}

@@ -14,7 +14,7 @@ use Rattle.nf_routes_file.specs.Entries.{AreLinksOf}
 drop_word : (words : List (List ℕ)) (place : ℕ) → place < length words → drop place words ≡ word_at words place ∷ drop (place + 1) words
 drop_word words place lt = drop_more words place [] lt ∙ ap (λ (w : List ℕ). w ∷ drop (place + 1) words) (sym (unwrap_or-slice_get words place []))
 
--- so many words are read, and the others are still to come
+-- the first words are read, and the others remain
 pub record AreRead (names : List Name) (words : List (List ℕ)) (place : ℕ) (links : List ℕ) : Type 0 where
   pub there : list_all (has_name names) (drop place words) ≡ list_all (has_name names) (drop 2 words)
   pub places : links ++ map (place_of names) (drop place words) ≡ map (place_of names) (drop 2 words)
@@ -57,7 +57,7 @@ module _ (links : List Link) (walk : List ℕ) (sink : ℕ) where
   pub walk_ends : (i v : ℕ) → length walk ≤ i → is_walk links (drop i walk) v sink ≡ eqb v sink
   walk_ends i v past = at_drop_all (λ (w : List ℕ). is_walk links w v sink) walk i past
 
-  -- by the test of a link that was read
+  -- from the test of a link that was read
   not_not : (b : Bool) → not b ≡ false → b ≡ true
   not_not true e = refl
   not_not false e = sym e

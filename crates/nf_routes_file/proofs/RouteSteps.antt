@@ -1,4 +1,4 @@
--- What a line changes of the routes so far.
+-- The change of the parser state by a line.
 use Rattle.std.proofs.Common.{◌≡◌, ℕ, ◌<◌, Bool, false, cond, List, [], ◌∷◌, ◌++◌, length, set, get_or, Option, Some, slice_get, Result, Err, refl, sym, ap, ◌∙◌}
 use Rattle.std.proofs.lemmas.Option.{slice_get_read}
 use Rattle.nf_model.specs.Network.{Piece, Network}
@@ -32,7 +32,7 @@ module _ (routes : List NamedRoute) (ended : Bool) (place : ℕ) (route : NamedR
       ap (λ (r : NamedRoute). draft_of (set routes place r) ended) e
       ∙ ap (λ (o : Option NamedRoute). draft_of (with_piece piece o routes place) ended) (sym at_place)
 
--- ---- a line that says nothing
+-- ---- a line that changes nothing
 module _ (n : Named) (draft : RoutesDraft) (words : List (List ℕ)) (routes : List NamedRoute) where
   abbrev after_entry : Result RoutesEntry RoutesRule → Result RoutesDraft RoutesRule
   after_entry r = r >>= λ entry. unless_rule (routes_rule_of n.net draft entry) (routes_after draft entry)

@@ -1,4 +1,4 @@
--- The order of loading, made link by link, with what was taken in the order in which it was taken.
+-- The loading order, built link by link. The links taken are listed in the order in which they were taken.
 use Rattle.std.proofs.Common.{◌≡◌, ℕ, zero, suc, ◌+◌, ◌-◌, ◌<◌, ◌≤◌, List, [], ◌∷◌, ◌++◌, Bool, true, false, not, ◌&&◌, ◌||◌, eqb, refl, sym, ap, ◌∙◌, append_assoc, append-nil, arith}
 use Rattle.std.specs.Prelude.{Option, Some, None, if◌then◌else◌}
 use Rattle.std.specs.List.{list_all, range_with_len}
@@ -42,7 +42,7 @@ taken-move : (front taken : List ℕ) (e f : ℕ) → is_taken (front ++ e ∷ t
 taken-move [] taken e f = refl
 taken-move (x ∷ front) taken e f = ap (λ (b : Bool). eqb x f || b) (taken-move front taken e f) ∙ or_swap (eqb x f) (eqb e f) (is_taken (front ++ taken) f)
 
--- ---- the order so far, and what comes of what is left
+-- ---- the order so far, and the remainder of the order
 pub record Ordered (pairs : List (ℕ × ℕ)) (links : ℕ) (all order : List ℕ) (i : ℕ) : Type 0 where
   pub before : List ℕ
   pub same : SameTaken order before
@@ -77,7 +77,7 @@ module _ (pairs : List (ℕ × ℕ)) (links : ℕ) where
           ∙ left (links - (i + 1)) (omega arith);
     }
 
--- ---- a link of the order is one of the links, and comes after those that stand right before it
+-- ---- a link of the order is one of the links, and follows its direct predecessors
 and_true : (a b : Bool) → (a && b) ≡ true → (a ≡ true) × (b ≡ true)
 and_true true b h = (refl, h)
 and_true false b h = absurd (cc)

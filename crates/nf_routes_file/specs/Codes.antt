@@ -1,4 +1,4 @@
--- How routes are told apart, which the types of code that are seen as them rest on.
+-- Codes of the route types. A code distinguishes the values of a type; the `Model` of a type in the code needs one.
 use Rattle.std.specs.Prelude.{ℕ, List, refl}
 use Rattle.std.specs.Coded.{Coded, code_by, coded×, coded_ℕ, coded_list}
 use Rattle.nf_model.specs.Network.{Piece}

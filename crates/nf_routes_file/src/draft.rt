@@ -1,4 +1,4 @@
-// What the lines of a routes file say so far.
+// The parser state of a routes file.
 ghost use Rattle.std.specs.Prelude.{◌≡◌, ◌<◌, false, [], length, Ok, Err, OnOk, MatchResult, All};
 ghost use Rattle.nf_routes_lists.specs.RoutesFile.{RouteLine, routes_rule_of, routes_after, add_route_line, rule_behind};
 ghost use Rattle.nf_routes_file.specs.Entries.{seen_entry, Fits, HasLinks};
@@ -17,20 +17,20 @@ use nf_routes_lists::RoutesRule;
 use nf_side_files::{PieceFault, ReadLine, piece_fault};
 use std::alloc::{AllocError, Global};
 
-/// The most routes.
+/// The greatest number of routes.
 const MOST_ROUTES: usize = 100;
 
-/// The most rate lines of a route.
+/// The greatest number of rate lines of a route.
 const MOST_LINES: usize = 200;
 
-/// What the lines so far say: the routes, and whether there was an `end` line.
+/// The parser state: the routes so far, and whether `end` was read.
 #[derive(Drop)]
 pub struct Draft {
     pub routes: Vec<Route>,
     pub ended: bool,
 }
 
-// The first of G13 to G15 that a piece breaks behind those of its route.
+// Returns the first of G13 to G15 that a piece breaks after the pieces `before` of its route.
 #[tactic(auto, using(crate::proofs::PieceRules::rule_is))]
 fn piece_rule(before: &[Piece], piece: &Piece) -> Option<RoutesRule>
     ensures { result ≡ rule_behind before.now piece.now }
@@ -44,7 +44,7 @@ fn piece_rule(before: &[Piece], piece: &Piece) -> Option<RoutesRule>
 }
 
 impl Draft {
-    /// There are no routes.
+    /// Returns the empty parser state.
     pub fn new(alloc: Global) -> Draft
         ensures { seen_draft result ≡ record { routes = []; ended = false } }
     {
@@ -54,12 +54,12 @@ impl Draft {
         }
     }
 
-    // The first of G10 to G12 that a route breaks behind the others.
+    // Returns the first of G10 to G12 that a route breaks after the routes so far.
     fn route_rule(&self, net: &Network, route: &Route) -> Option<RoutesRule>
         requires { All (λ e. e < length net.now.link_names) route.now.route.links }
         ensures { result ≡ routes_rule_of net.now.net (seen_draft self.now) (RouteLine route.now.name route.now.route.links) }
     {
-        // For the proof: each link has a name.
+        // Proof: each link has a name.
         net.recall();
         if place_of(&self.routes, route.name().as_bytes()).is_some() {
             return Some(RoutesRule::G10);
@@ -73,7 +73,7 @@ impl Draft {
         None
     }
 
-    // The first of G10 to G15 that the line breaks because of the lines before it.
+    // Returns the first of G10 to G15 that the entry breaks after the lines before it.
     fn rule(&self, net: &Network, entry: &Entry) -> Option<RoutesRule>
         requires fits { Fits (length self.now.routes.items) entry.now }
         requires links { HasLinks (length net.now.link_names) entry.now }
@@ -98,7 +98,7 @@ impl Draft {
         Ok(())
     }
 
-    /// Adds what a line says, or answers the first of G4 to G15 that it breaks.
+    /// Adds the entry of a line. Refuses with the first of G4 to G15 that the line breaks, or if an allocation fails.
     pub fn add_line(
         &mut self,
         alloc: Global,
@@ -122,7 +122,8 @@ impl Draft {
         Ok(())
     }
 
-    /// The routes, or the first of G16 and G17 that is broken: there was no `end` line; not every link is taken by the order of loading.
+    /// Returns the routes, or the first broken rule of G16 and G17. G16 is broken if there was no `end` line. G17 is broken if the loading
+    /// order omits a link.
     pub fn close(self, alloc: Global, net: &Network) -> Result<Routes, RoutesFault>
         requires { AreSound net.now.net self.routes.items }
         ensures { MatchResult result (λ routes. routes_closed net.now (seen_draft self) ≡ Ok routes)

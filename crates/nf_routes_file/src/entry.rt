@@ -1,4 +1,4 @@
-// One line of a routes file by itself.
+// Single lines of a routes file.
 ghost use Rattle.std.specs.Prelude.{◌≡◌, ℕ, ◌<◌, ◌≤◌, true, false, length, drop, position, MatchOption, IfSome, IfOk, MatchResult};
 ghost use Rattle.std.specs.Str.{bytes_eq};
 ghost use Rattle.nf_formats.specs.Names as names;
@@ -15,7 +15,7 @@ use nf_routes_lists::RoutesRule;
 use nf_side_files::{ReadLine, is_name, is_word, link_of, number_of};
 use std::alloc::Global;
 
-/// What a line says: a route, along which nothing is sent; a piece of the route at a place; or the end.
+/// The entry of a line. `Route` is a route without pieces, `Rate` is a piece for the route at an index, and `End` is the `end` line.
 #[derive(Drop)]
 pub enum Entry {
     Route(Route),
@@ -23,7 +23,7 @@ pub enum Entry {
     End,
 }
 
-// The name that a word is.
+// Returns the word as a name, if it is one.
 #[tactic(auto, using(nf_net_file::proofs::NameText::name_is_text, crate::proofs::RouteNames::no_name_text))]
 fn name_of(word: &[u8]) -> Option<&str>
     ensures { MatchOption result (names.is_name word.now ≡ false) (λ name. (name.now ≡ word.now) × (names.is_name word.now ≡ true)) }
@@ -34,7 +34,7 @@ fn name_of(word: &[u8]) -> Option<&str>
     }
 }
 
-// The place of the first route of a name.
+// Returns the index of the first route with this name.
 fn first_named(routes: &[Route], name: &[u8]) -> Option<usize>
     ensures { result ≡ position (λ route. bytes_eq name.now route.name) routes.now }
 {
@@ -43,7 +43,7 @@ fn first_named(routes: &[Route], name: &[u8]) -> Option<usize>
         .position(|route| is_word(name, route.name().as_bytes()))
 }
 
-/// The place of the route of a name; None exactly where there is none.
+/// Returns the index of the route with this name; `None` exactly if there is none.
 #[tactic(auto, using(crate::proofs::RouteNames::found, crate::proofs::RouteNames::not_found))]
 pub fn place_of(routes: &[Route], name: &[u8]) -> Option<usize>
     ensures named { MatchOption result (has_name (route_names routes.now) name.now ≡ false)
@@ -53,7 +53,7 @@ pub fn place_of(routes: &[Route], name: &[u8]) -> Option<usize>
     first_named(routes, name)
 }
 
-// The links that the words from the third on name, or else G8.
+// Returns the links named by the words from the third on. Refuses with G8 if a word names no link.
 fn read_links(alloc: Global, net: &Network, line: &ReadLine) -> Result<Vec<LinkId>, RoutesLineFault>
     requires { 2 ≤ length line.now.words }
     ensures { MatchResult result (λ links. AreLinksOf net.now.link_names (drop 2 line.now.words) links.items)
@@ -69,7 +69,7 @@ fn read_links(alloc: Global, net: &Network, line: &ReadLine) -> Result<Vec<LinkI
     Ok(links)
 }
 
-// `route NAME LINK LINK ...`
+// Reads `route NAME LINK LINK ...`.
 #[tactic(auto, using(crate::proofs::RouteWords::route_count_wrong, crate::proofs::RouteWords::route_bad_name, crate::proofs::RouteWords::route_known))]
 fn read_route(alloc: Global, net: &Network, line: &ReadLine) -> Result<Entry, RoutesLineFault>
     requires { 0 < length line.now.words }
@@ -88,7 +88,7 @@ fn read_route(alloc: Global, net: &Network, line: &ReadLine) -> Result<Entry, Ro
     Ok(Entry::Route(route))
 }
 
-// `rate NAME START RATE`
+// Reads `rate NAME START RATE`.
 #[tactic(auto, using(crate::proofs::RouteWords::rate_count_wrong, crate::proofs::RouteWords::rate_unknown, crate::proofs::RouteWords::rate_known))]
 fn read_rate(routes: &[Route], line: &ReadLine) -> Result<Entry, RoutesLineFault>
     requires { 0 < length line.now.words }
@@ -111,7 +111,7 @@ fn read_rate(routes: &[Route], line: &ReadLine) -> Result<Entry, RoutesLineFault
     Ok(Entry::Rate(place, Piece { start, rate }))
 }
 
-// `end`
+// Reads `end`.
 #[tactic(auto, using(crate::proofs::RouteWords::end_count_wrong, crate::proofs::RouteWords::end_count_right))]
 fn read_end(line: &ReadLine) -> Result<Entry, RoutesLineFault>
     requires { 0 < length line.now.words }
@@ -125,7 +125,8 @@ fn read_end(line: &ReadLine) -> Result<Entry, RoutesLineFault>
     Ok(Entry::End)
 }
 
-/// What the words of a line say behind these routes, or the first of G5 to G9 that they break.
+/// Returns the entry of a line after the routes read so far. Refuses with the first of G5 to G9 that the line breaks, or if an allocation
+/// fails.
 pub fn read_entry(
     alloc: Global,
     net: &Network,

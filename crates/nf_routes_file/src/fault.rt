@@ -1,4 +1,4 @@
-// Why a routes file is refused.
+// Reasons to refuse a routes file.
 ghost use Rattle.std.specs.Prelude.{◌≡◌};
 ghost use Rattle.nf_routes_file.specs.Files.{fault_of_text, fault_in_line};
 ghost use Rattle.nf_routes_file.specs.declared.fault.RoutesLineFault.TheVariants as RoutesLineFault;
@@ -9,13 +9,13 @@ use nf_side_files::TextFault;
 use std::alloc::{AllocError, AllocFailed};
 use thiserror::Error;
 
-/// Why a text is no routes file.
+/// A reason to refuse a routes file.
 #[derive(Clone, Copy, Debug, Error)]
 pub enum RoutesFault {
-    /// This rule is the first that is broken, seen in this line; 0 stands for the file as a whole.
+    /// `rule` is the first broken rule, found in `line`; line 0 means the whole file.
     #[error("line {line} breaks {rule:?}")]
     Broken { rule: RoutesRule, line: u32 },
-    /// Memory is wanting.
+    /// An allocation failed.
     #[error("memory is wanting")]
     Memory,
 }
@@ -46,7 +46,7 @@ impl From<AllocError> for RoutesFault {
     }
 }
 
-/// Why a line isn't added.
+/// A reason to refuse a line.
 #[derive(Clone, Copy)]
 pub enum RoutesLineFault {
     Broken(RoutesRule),
@@ -54,7 +54,7 @@ pub enum RoutesLineFault {
 }
 
 impl RoutesLineFault {
-    /// Why the file is refused, in the line of this number.
+    /// Returns the fault of the file if this is the fault of the line with number `line`.
     pub fn in_line(self, line: u32) -> RoutesFault
         ensures { result ≡ fault_in_line line self }
     {

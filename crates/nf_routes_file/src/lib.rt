@@ -1,5 +1,5 @@
-//! Routes of a network and the reading of routes files: each route has its name, its links and what is sent along it; and the order in
-//! which the links of routes are loaded. Times, amounts and rates are exact fractions. The file format is this project's own.
+//! Reads routes files and computes the loading order of their links. Each route has a name, links, and the pieces of its inflow. Times,
+//! amounts and rates are exact fractions. The file format is this project's own.
 #![tactic(auto)]
 
 mod draft;

@@ -1,5 +1,4 @@
-// The order in which the links of routes are loaded: each time the lowest that isn't taken yet and of which all that stand right
-// before it on a route were taken.
+// The loading order of links. The lowest remaining link whose direct predecessors on all routes were taken is taken next.
 ghost use Rattle.std.specs.Prelude.{◌≡◌, ◌<◌, ◌||◌, ◌==◌, not, IfOk, IfSome};
 ghost use Rattle.std.specs.List.{list_all, range_with_len};
 ghost use Rattle.nf_routes_lists.specs.Routes.{pairs_of, all_pairs, is_taken as is_taken_by, is_free as is_free_by, first_free, loading_order as order_by, takes_all as takes_all_by};
@@ -9,14 +8,14 @@ use crate::route::Route;
 use nf_graph::LinkId;
 use std::alloc::{AllocError, Global};
 
-// A link is among those that were taken.
+// Returns whether a link was taken.
 fn is_taken(taken: &[LinkId], link: LinkId) -> bool
     ensures { result ≡ is_taken_by taken.now link }
 {
     taken.iter().any(|one| *one == link)
 }
 
-// Wherever the link stands on a route, the one right before it was taken.
+// Returns whether each direct predecessor of the link on this route was taken.
 fn may_follow(links: &[LinkId], taken: &[LinkId], link: LinkId) -> bool
     ensures { result ≡ list_all (λ p. not (p.1 == link) || is_taken_by taken.now p.0) (pairs_of links.now) }
 {
@@ -28,7 +27,7 @@ fn may_follow(links: &[LinkId], taken: &[LinkId], link: LinkId) -> bool
     true
 }
 
-// Wherever the link stands on one of the routes, the one right before it was taken.
+// Returns whether each direct predecessor of the link on all routes was taken.
 fn may_follow_all(routes: &[Route], taken: &[LinkId], link: LinkId) -> bool
     ensures { result ≡ list_all (λ p. not (p.1 == link) || is_taken_by taken.now p.0) (all_pairs (routes_of routes.now)) }
 {
@@ -40,14 +39,14 @@ fn may_follow_all(routes: &[Route], taken: &[LinkId], link: LinkId) -> bool
     true
 }
 
-// A link wasn't taken yet, but all that stand right before it were.
+// Returns whether the link was not taken yet, but all its direct predecessors were.
 fn is_free(routes: &[Route], taken: &[LinkId], link: LinkId) -> bool
     ensures { result ≡ is_free_by (all_pairs (routes_of routes.now)) taken.now link }
 {
     !is_taken(taken, link) && may_follow_all(routes, taken, link)
 }
 
-// The lowest such link of so many, if there is one.
+// Returns the lowest remaining link whose direct predecessors were all taken, if there is one.
 fn next_free(routes: &[Route], taken: &[LinkId], link_count: u32) -> Option<LinkId>
     ensures { result ≡ first_free (all_pairs (routes_of routes.now)) taken.now (range_with_len 0 link_count) }
 {
@@ -60,8 +59,8 @@ fn next_free(routes: &[Route], taken: &[LinkId], link_count: u32) -> Option<Link
     None
 }
 
-/// The order in which so many links are loaded: each time it is the lowest that isn't taken yet and of which all that stand right
-/// before it on a route were taken. It leaves out links that stand in a circle, and those that come after them.
+/// Returns the loading order of the links. The lowest remaining link whose direct predecessors on all routes were taken is taken next. The
+/// order omits the links of circles and the links after them.
 pub fn loading_order(
     alloc: Global,
     link_count: u32,
@@ -79,8 +78,8 @@ pub fn loading_order(
     Ok(order)
 }
 
-/// Whether the order of loading takes each of so many links. It does exactly where no links, each directly before the next on a
-/// route, begin and end with the same link.
+/// Returns whether the loading order takes every link. Every link is taken exactly if the routes hold no circle. A circle is a sequence of
+/// links, each directly before the next on a route, that starts and ends with the same link.
 pub(crate) fn takes_all(
     alloc: Global,
     link_count: u32,

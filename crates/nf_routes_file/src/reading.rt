@@ -1,4 +1,4 @@
-// The reading of a routes file.
+// Reading of a routes file.
 ghost use Rattle.std.specs.Prelude.{◌≡◌, ◌≤◌, length, Ok, Err, IfOk, IfErr, MatchResult};
 ghost use Rattle.nf_routes_lists.specs.declared.RoutesRule.TheVariants.{G17};
 ghost use Rattle.nf_lines.specs.Faults.{longest_text};
@@ -17,7 +17,7 @@ use nf_routes_lists::RoutesRule;
 use nf_side_files::{ReadLine, contents, is_head};
 use std::alloc::Global;
 
-// What a draft comes to with more lines, up to the first that breaks a rule.
+// Adds the lines to a parser state. Refuses with the first line that breaks a rule.
 fn add_lines(
     alloc: Global,
     net: &Network,
@@ -35,7 +35,7 @@ fn add_lines(
     Ok(draft)
 }
 
-// What the lines that have words say.
+// Reads the lines that have words.
 fn read_draft(alloc: Global, net: &Network, lines: &[ReadLine]) -> Result<Draft, RoutesFault>
     ensures { MatchResult result (λ draft. draft_of (routes_frame net.now) lines.now ≡ Ok (seen_draft draft))
         (λ fault. IfBroken fault (λ broken. draft_of (routes_frame net.now) lines.now ≡ Err broken)) }
@@ -55,7 +55,7 @@ fn read_draft(alloc: Global, net: &Network, lines: &[ReadLine]) -> Result<Draft,
     add_lines(alloc, net, Draft::new(alloc), rest)
 }
 
-// What parse_routes gives, by the order of loading.
+// Reads a routes file. The loading order decides G17.
 fn read_routes(alloc: Global, net: &Network, text: &[u8]) -> Result<Routes, RoutesFault>
     requires { length text.now ≤ longest_text }
     ensures { MatchResult result (λ routes. routes_in net.now text.now ≡ Ok routes)
@@ -69,10 +69,10 @@ fn read_routes(alloc: Global, net: &Network, text: &[u8]) -> Result<Routes, Rout
     draft.close(alloc, net)
 }
 
-/// The routes of a network that a text of at most 67,108,864 bytes gives, each a walk from source to sink; or the first rule that it
-/// breaks, and the line. The rules of all bytes and lines come first, then those of the lines one by one, then those of the file as a
-/// whole, with line 0. The last rule is broken exactly where some links, each directly before the next on a route, begin and end with
-/// the same link.
+/// Reads the routes of a network from a text of at most 67,108,864 bytes. Each route is a walk from source to sink. Refuses with the first
+/// broken rule and its line. Rules of all bytes and lines come first, then rules of single lines in order, then rules of the whole file,
+/// with line 0. The last rule, G17, is broken exactly if some links, each directly before the next on a route, start and end with the same
+/// link.
 pub fn parse_routes(alloc: Global, net: &Network, text: &[u8]) -> Result<Routes, RoutesFault>
     requires { length text.now ≤ longest_text }
     ensures reads { MatchResult result (λ routes. ReadsRoutes net.now text.now (Ok routes))

@@ -1,4 +1,4 @@
-// One route.
+// A single route.
 ghost use Rattle.std.specs.Prelude.{◌≡◌, [], ◌∷◌, ◌++◌, IfOk, OnOk, OnErr};
 
 use nf_graph::LinkId;
@@ -6,8 +6,8 @@ use nf_net::Piece;
 use std::alloc::{AllocError, Global};
 use std::marker::Model;
 
-/// A route with its name: links by their numbers, one after the other, and the pieces of what is sent along it, in the order of
-/// their lines: from each start on at a rate, an amount per unit of time, until the next start.
+/// A route with its name and its links in order. `pieces` holds its inflow, in the order of the rate lines. A piece has a rate (an amount
+/// per unit of time) from its start until the next start.
 #[derive(Drop)]
 pub struct Route {
     name: String,
@@ -28,7 +28,7 @@ impl Model for Route {
 }
 
 impl Route {
-    /// The route of this name over these links, along which nothing is sent.
+    /// Returns a route without pieces.
     pub(crate) fn new(alloc: Global, name: &str, links: Vec<LinkId>) -> Result<Route, AllocError>
         ensures { IfOk result (λ route. route ≡ record { name = name.now; route = record { links = links.items; pieces = [] } }) }
     {
@@ -40,28 +40,28 @@ impl Route {
         })
     }
 
-    /// Its name.
+    /// Returns the name.
     pub fn name(&self) -> &str
         ensures { result.now ≡ self.now.name }
     {
         &self.name
     }
 
-    /// Its links, in their order.
+    /// Returns the links, in order.
     pub fn links(&self) -> &[LinkId]
         ensures { result.now ≡ self.now.route.links }
     {
         &self.links
     }
 
-    /// What is sent along it.
+    /// Returns the pieces of the route's inflow, in order.
     pub fn pieces(&self) -> &[Piece]
         ensures { result.now ≡ self.now.route.pieces }
     {
         &self.pieces
     }
 
-    /// One more piece, behind those that are there. Where memory is wanting the route stays as it was.
+    /// Appends a piece. If an allocation fails, the route is unchanged.
     pub(crate) fn push(&mut self, piece: Piece) -> Result<(), AllocError>
         ensures ok { OnOk result (self.new ≡ record {
           name = self.old.name;

@@ -9,9 +9,9 @@ use nf_graph::LinkId;
 use nf_net::Piece;
 use std::marker::Model;
 
-/// Routes in the order of their lines: at most 100, of different names of 1 to 24 letters, digits, `_`, `-` and `.`. Each has a link
-/// or more, and at most 200 pieces, each of a later start than the one before, of no negative start or rate. No links of them, each
-/// directly before the next on some route, begin and end with the same link. They are those of a routes file that was read.
+/// The routes of a routes file, in order. A file has at most 100 routes, with different names of 1 to 24 letters, digits, `_`, `-` and `.`.
+/// Each has at least one link and at most 200 pieces. The pieces of a route have rising starts, and no negative start or rate. The routes
+/// hold no circle: no links, each directly before the next on some route, start and end with the same link.
 #[derive(Drop)]
 pub struct Routes {
     list: Vec<Route>,
@@ -34,7 +34,7 @@ impl Model for Routes {
 }
 
 impl Routes {
-    // These routes, as one.
+    // Wraps routes that satisfy the rules.
     pub(crate) fn kept(list: Vec<Route>) -> Routes
         requires { AreKept list.items }
         ensures { result ≡ list.items }
@@ -42,7 +42,7 @@ impl Routes {
         Routes { list }
     }
 
-    /// All of them, in order.
+    /// Returns all routes, in order.
     pub fn as_slice(&self) -> &[Route]
         ensures value { result.now ≡ self.now }
         ensures kept { AreKept self.now }
@@ -50,7 +50,7 @@ impl Routes {
         &self.list
     }
 
-    /// How many there are. Takes no memory.
+    /// Returns the number of routes. Allocates nothing.
     pub fn count(&self) -> u32
         ensures value { result ≡ length self.now }
         ensures kept { AreKept self.now }
@@ -58,7 +58,7 @@ impl Routes {
         self.list.len() as u32
     }
 
-    /// The name of a route. Takes no memory.
+    /// Returns the name of a route. Allocates nothing.
     pub fn name(&self, route: u32) -> &str
         requires { route < length self.now }
         ensures value { result.now ≡ name_at (route_names self.now) route }
@@ -67,7 +67,7 @@ impl Routes {
         self.list[route as usize].name()
     }
 
-    /// The links of a route, in their order. Takes no memory.
+    /// Returns the links of a route, in order. Allocates nothing.
     pub fn links(&self, route: u32) -> &[LinkId]
         requires { route < length self.now }
         ensures value { result.now ≡ links_at self.now route }
@@ -76,7 +76,7 @@ impl Routes {
         self.list[route as usize].links()
     }
 
-    /// What is sent along a route, in the order of the lines. Takes no memory.
+    /// Returns the pieces of a route's inflow, in the order of the lines. Allocates nothing.
     pub fn pieces(&self, route: u32) -> &[Piece]
         requires { route < length self.now }
         ensures value { result.now ≡ pieces_at self.now route }

@@ -1,5 +1,5 @@
--- What follows of loading by route: all that a route sends arrives, at the end of the travel of each departure what had departed by
--- then; and at each link the routes share what it lets out.
+-- Consequences of loading by route. All that a route sends arrives. By the arrival of a departure, all that departed by then has arrived.
+-- The routes over a link share its outflow.
 use Rattle.std.proofs.Common.{◌≡◌, ℕ, zero, suc, ◌+◌, ◌<◌, ◌≤◌, List, [], ◌∷◌, length, ⊎_elim, Bool, true, false, eqb, Option, Some, None, slice_get, unwrap_or, get_or, refl, sym, ap, subst, ◌∙◌, arith}
 use Rattle.std.specs.Prelude.{if◌then◌else◌}
 use Rattle.std.proofs.lemmas.Bool.{eqb-true}
@@ -25,7 +25,7 @@ use Rattle.nf_routes_lists.specs.RoutesList.{Routed}
 use Rattle.nf_routes_lists.specs.Meanings.{link_loaded, exit_by, stages_at, arrival_at, travel_at, sent_by, sent_along, sent_by_routes, inflow_by, exits_along, IsRouted, RoutesArrive}
 use Rattle.nf_rational_laws.proofs.Chains.{≤ℚ_refl, ≤ℚ_trans}
 
--- ---- sums over routes and places
+-- ---- sums over routes and positions
 if_same : (b : Bool) (x y s t : ℚ) → (b ≡ true → x ≡ y) → s ≡ t → (if b then x +ℚ s else s) ≡ (if b then y +ℚ t else t)
 if_same true x y s t e f = let d = e refl in linear_eq (x ∷ y ∷ s ∷ t ∷ []) (eq d ∷ eq f ∷ []) (search reading_of depth 12) tt tt
 if_same false x y s t e f = f
@@ -141,7 +141,7 @@ module _ (net : Network) (routes : List Route) (horizon : ℚ) (routed : Routed)
     link_of : (place e : ℕ) → slice_get route.links place ≡ Some e → (link : Link) × IsLink net e link
     link_of place e h = walk-links net route.links net.source net.sink place e (are.walks r route here) h
 
-    -- these links stand from a place on
+    -- these links follow each other from a position on
     abbrev From : ℕ → List ℕ → Type 0
     From place rest = (i : ℕ) → slice_get route.links (place + i) ≡ slice_get rest i
 
@@ -155,7 +155,7 @@ module _ (net : Network) (routes : List Route) (horizon : ℚ) (routed : Routed)
     at_place : (place e : ℕ) (rest : List ℕ) → From place (e ∷ rest) → slice_get route.links place ≡ Some e
     at_place place e rest h = ap (λ (n : ℕ). slice_get route.links n) (let n : place ≡ place + 0 = omega arith in n) ∙ h 0
 
-    -- the exit of a link fits into the next
+    -- the exit of a link is within the end of the next
     fits_next : (place e : ℕ) (rest : List ℕ) (t : ℚ) → From place (e ∷ rest) → 0ℚ ≤ℚ t → t ≤ℚ E e → Fits rest (X e t)
     fits_next place e [] t h i j = tt
     fits_next place e (f ∷ rest) t h i j =
@@ -179,7 +179,7 @@ module _ (net : Network) (routes : List Route) (horizon : ℚ) (routed : Routed)
             (λ (w : (length route.links ≤ place) × (slice_get route.links place ≡ None)). w.0)
             (slice_get_cases route.links place).1
 
-    -- what was sent by a time has arrived by the exits of the links that are left
+    -- the amount sent by a time has arrived by the exits of the remaining links
     along : (rest : List ℕ) (place : ℕ) (t : ℚ) → From place rest → 0ℚ ≤ℚ t → Fits rest t → value (arrival_at routed r) (exits_along routed rest t) ≡ S r place t
     along [] place t h i j = sym (arrival-is place t h)
     along (e ∷ rest) place t h i j =

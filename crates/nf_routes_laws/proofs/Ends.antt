@@ -1,4 +1,4 @@
--- Up to which time curves go that are loaded by route, and that the exit of a link ends where its loading does.
+-- The ends of the curves of a loading by route. The exit of a link ends at the link's end.
 use Rattle.std.proofs.Common.{◌≡◌, List, [], ◌∷◌, ◌++◌, ◌⊎◌, inl, inr, ⊎_elim, Bool, true, false, Option, refl, sym, ap, subst, ◌∙◌}
 use Rattle.std.specs.Prelude.{Ok, map, if◌then◌else◌}
 use Rattle.nf_rational.specs.Rational.{ℚ}
@@ -158,7 +158,7 @@ loading-ends passes transit capacity inflow last loaded c rises waits_0 positive
     subst (λ (l : Loaded). EndsAtTime last l.exit) (same_Ok _ _ x.next) (checked_short-end passes (map exit_point all.between) x.between last ends x.first)
 
 -- ---- the next entry
--- no right value is greater
+-- no value on the right is greater
 abbrev AllRight : List Sides → ℚ → Type 0
 AllRight [] y = Unit {0}
 AllRight (sides ∷ rest) y = (sides.right ≤ℚ y) × AllRight rest y

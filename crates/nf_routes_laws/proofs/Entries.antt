@@ -1,4 +1,4 @@
--- What a route sends into a link, as a curve up to a time: into its first link, and into the next.
+-- The amount that a route sends into a link, as a curve up to a time: into its first link, and into the next.
 use Rattle.std.proofs.Common.{◌≡◌, List, ◌⊎◌, inl, inr, ⊎_elim, refl, sym, ap, subst, ◌∙◌}
 use Rattle.std.specs.Prelude.{Ok}
 use Rattle.nf_rational.specs.Rational.{ℚ}
@@ -36,7 +36,7 @@ entry-longer points last later h w = record { curve = w.curve; form = w.form; be
 pub rises-same : (f g : ℚ → ℚ) → ((t : ℚ) → 0ℚ ≤ℚ t → g t ≡ f t) → NeverFalls f → NeverFalls g
 rises-same f g same rises s t h k = subst (λ (x : ℚ). x ≤ℚ g t) (sym (same s h)) (subst (λ (x : ℚ). f s ≤ℚ x) (sym (same t (≤ℚ_trans _ _ _ h k))) (rises s t h k))
 
--- ---- into its first link: what it is given, up to the horizon
+-- ---- into its first link: the route's supply, up to the horizon
 pub record IsFirst (pieces : List Piece) (horizon : ℚ) (points : List Point) : Type 0 where
   pub entry : IsEntry points horizon
   pub values : (t : ℚ) → Within 0ℚ horizon t → value points t ≡ supplied pieces t
@@ -64,7 +64,7 @@ module _ (passes : Passing) (exit entry next : List Point) (last : ℚ) (can : C
   pub shared : IsNext exit entry last next
   shared = next_entry-is passes exit entry last can next e
 
-  -- what was sent on by z is what was sent in by u: a time whose exit is z, or the first or last time
+  -- the amount sent on by z is the amount sent in by u: a time whose exit is z, or the first or last time
   record Sent (z : ℚ) : Type 0 where
     pub u : ℚ
     pub within : Within 0ℚ last u

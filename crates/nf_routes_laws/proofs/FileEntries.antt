@@ -1,4 +1,4 @@
--- What one line of a routes file says by itself: a new route has a name by the rule and a link; and no line breaks the last rule.
+-- Entries of single lines. A new route has an accepted name and a link, and no line breaks G17.
 use Rattle.std.proofs.Common.{◌≡◌, ◌≢◌, ℕ, suc, ◌<◌, Bool, true, false, not, List, [], ◌∷◌, length, map, Option, Some, None, Result, Ok, Err, refl, arith, codes, bytes_eq}
 use Rattle.std.specs.Prelude.{if◌then◌else◌}
 use Rattle.std.specs.List.{list_all}

@@ -1,4 +1,5 @@
--- What lines that break no rule give: not too many routes, of different names, each a walk from source to sink with its pieces.
+-- The routes of lines that break no rule. They do not exceed the limit, have different names, and are walks from source to sink with
+-- pieces.
 use Rattle.std.proofs.Common.{◌≡◌, ◌≢◌, ℕ, zero, suc, ◌<◌, ◌≤◌, ⊎_elim, Bool, true, false, not, ◌&&◌, eqb, nat_le, List, [], ◌∷◌, ◌++◌, length, set, get_or, Option, Some, None, All, slice_get, Ok, refl, sym, ap, subst, ◌∙◌, arith, bytes_eq}
 use Rattle.std.specs.List.{list_all, IsDistinct}
 use Rattle.std.proofs.lemmas.Bool.{and_parts, leb-false}
@@ -153,7 +154,7 @@ module _ (n : Named) where
         walks = record { each = λ r route there. all_at IsWalkOf (routes_of draft.routes) r route walks there };
       }
 
--- ---- with the pieces that are sent along them
+-- ---- the pieces of their inflows
 route_at : (routes : List NamedRoute) (r : ℕ) (route : Route) → slice_get (routes_of routes) r ≡ Some route → (named : NamedRoute) × (slice_get routes r ≡ Some named) × (named.route ≡ route)
 route_at [] r route h = absurd (none-some route h)
 route_at (x ∷ routes) zero route h = (x, refl, same_Some x.route route h)

@@ -1,4 +1,4 @@
--- What a routes file is read as: the last rule is broken by a circle and by nothing else, and the order of loading tells it.
+-- The reading of a routes file. G17 is broken exactly by a circle, and the loading order decides it.
 use Rattle.std.proofs.Common.{◌≡◌, ◌≢◌, ℕ, Bool, true, false, not, ◌||◌, nat_le, List, [], ◌∷◌, length, Option, Some, None, Result, Ok, Err, inl, inr, refl, sym, ap, subst, ◌∙◌, codes}
 use Rattle.std.specs.Prelude.{if◌then◌else◌}
 use Rattle.std.specs.List.{last_or}
@@ -163,7 +163,7 @@ module _ (n : Named) (text : List ℕ) where
   abbrev then_order : Result (List NamedRoute) RoutesBroken → Result (List NamedRoute) RoutesBroken
   then_order r = r >>= unless_circle n
 
-  -- the order of loading tells what a text is read as
+  -- the loading order decides the reading of a text
   pub decided : ReadsRoutes n text (routes_in n text)
   unfolding routes_in
   decided = by (routes_of_lines n text) refl
@@ -185,7 +185,7 @@ module _ (n : Named) (text : List ℕ) where
   pub circle_refused : HoldsCircleIn n text → ReadsRoutes n text (Err circle_broken)
   circle_refused c = inr (refl, c)
 
-  -- what is read keeps the rules
+  -- the routes read satisfy the rules
   pub read_kept : (routes : List NamedRoute) → ReadsRoutes n text (Ok routes) → AreKept routes
   read_kept routes h = record { form = (lines_sound routes h.0).form; straight = h.1 }
 

@@ -1,4 +1,5 @@
--- The inflow of a link as the list adds it up: at every time the sum of what the routes send into it, each at most at one place.
+-- The inflow of a link as the operation sequence adds it: the sum of the routes' entries at every time. Each route enters the link at most
+-- at one position.
 use Rattle.std.proofs.Common.{◌≡◌, ◌≢◌, ℕ, zero, suc, List, [], ◌∷◌, length, ⊎_elim, Bool, true, false, eqb, Some, slice_get, refl, sym, ap, subst, ◌∙◌, arith}
 use Rattle.std.specs.Prelude.{Ok, if◌then◌else◌}
 use Rattle.std.proofs.lemmas.Bool.Decides.{eqb_tells}
@@ -50,7 +51,8 @@ along-once f e (l ∷ links) (suc place) h once = ⊎_elim
     less p e = omega arith
 
 -- ---- the sum over the routes
--- what the list takes for each route over the link is what is entered, by route and place; and each route goes over it once at most
+-- the entry that the sequence adds for each route over the link is the amount entered, by route and position; each route contains the link
+-- at most once
 pub record Enters (e : ℕ) (routes : List Route) (entries : List (List (List Point))) (entered : ℕ → ℕ → ℚ → ℚ) : Type 0 where
   pub count : length entries ≡ length routes
   pub each : (r place : ℕ) (route : Route) → slice_get routes r ≡ Some route → slice_get route.links place ≡ Some e

@@ -1,4 +1,4 @@
--- Each link as it is loaded: what routes send into it and on, its queue, exit and outflow by the law of the point queue, and its end.
+-- A loaded link: the entries into it and the amounts sent on, its queue, exit and outflow by the law of the point queue, and its end.
 use Rattle.std.proofs.Common.{◌≡◌, ℕ, zero, suc, List, [], ◌∷◌, ◌++◌, inl, inr, ⊎_elim, Some, slice_get, refl, sym, ap, subst, ◌∙◌, append_assoc, arith}
 use Rattle.std.proofs.lemmas.Option.{slice_get_within}
 use Rattle.nf_rational.specs.Rational.{ℚ}
@@ -59,7 +59,7 @@ module _ (passes : Passing) (net : Network) (routes : List Route) (horizon : ℚ
   abbrev Is : ℕ → Type 0
   Is e = LinkIs net routes horizon all e
 
-  -- ---- by what the list has done for it, where each link directly before it is loaded
+  -- ---- the step of the link, if each link directly before it is loaded
   module _ (e : ℕ) (step : LinkStep passes net routes horizon final travels e) (before : (f : ℕ) → IsBefore routes f e → Is f) where
     abbrev end : ℚ
     end = number_at all.ends e

@@ -1,4 +1,4 @@
--- The next entry of a route: by the exit of an entry it has sent on what it had sent in by the entry.
+-- The next entry of a route: the amount of each entry is sent on by the exit of that entry.
 use Rattle.std.proofs.Common.{◌≡◌, ◌≢◌, List, [], ◌∷◌, ◌⊎◌, inl, inr, ⊎_elim, Bool, true, false, refl, sym, ap, subst, ◌∙◌}
 use Rattle.std.specs.Prelude.{Ok}
 use Rattle.nf_rational.specs.Rational.{ℚ}
@@ -27,7 +27,7 @@ use Rattle.nf_routes_laws.specs.Laws.{NoneBeyond, CanShare, IsNext}
 use Rattle.nf_rational_laws.proofs.Chains.{≤ℚ_refl, ≤ℚ_trans}
 use Rattle.nf_plain_laws.proofs.Results.{same_Ok}
 
--- ---- over plain numbers: on a stretch from a to b exits go at e and entries at r; n is the slope of entries by exits
+-- ---- numbers: on an interval from a to b, exits have the rate e and entries the rate r; n is the slope of entries by exits
 on_line : (n e r d x y z v w : ℚ) → n *ℚ (w -ℚ x) ≡ z -ℚ y → w ≡ x +ℚ e *ℚ d → z ≡ y +ℚ r *ℚ d → 0ℚ <ℚ d → n *ℚ e ≡ r
 on_line n e r d x y z v w f g h k = same_from_times d (n *ℚ e) r k (linear_eq (n ∷ e ∷ r ∷ d ∷ x ∷ y ∷ z ∷ w ∷ []) (eq f ∷ eq_times n g ∷ eq h ∷ []) (search reading_of depth 12) tt tt)
 
@@ -78,7 +78,7 @@ module _ (passes : Passing) (exit entry : List Point) (last : ℚ) (can : CanSha
   abbrev X : ℚ → ℚ
   X t = value exit t
 
-  -- what holds of the points from a time a on
+  -- the property of the points from a time a on
   record From (a : ℚ) (points : List Point) : Type 0 where
     pub rises : TimesRise ((X a, A a) ∷ points)
     pub at_exit : (t : ℚ) → a ≤ℚ t → t ≤ℚ last → value ((X a, A a) ∷ points) (X t) ≡ A t
@@ -87,7 +87,7 @@ module _ (passes : Passing) (exit entry : List Point) (last : ℚ) (can : CanSha
   abbrev Next : ℚ → List ℚ → Type 0
   Next a later = NextOnes (both_times entry exit) a later
 
-  -- after the last time both stand still
+  -- both curves are constant after the last time
   from-last : (a : ℚ) → 0ℚ ≤ℚ a → a ≤ℚ last → Next a [] → From a []
   from-last a h k n = record {
     rises = tt;
@@ -95,7 +95,7 @@ module _ (passes : Passing) (exit entry : List Point) (last : ℚ) (can : CanSha
     after = λ z i. sym (left_flat entry exit can.entry_curve can.exit_curve a last n k);
   }
 
-  -- exits stand still from a to b: nothing was sent between
+  -- exits are constant from a to b: nothing was sent between
   from-same : (a b : ℚ) (points : List Point) → 0ℚ ≤ℚ a → a <ℚ b → b ≤ℚ last → X a ≡ X b → From b points → From a points
   from-same a b points h i k same w = record {
     rises = subst (λ (p : Point). TimesRise (p ∷ points)) (sym point) w.rises;
@@ -115,7 +115,7 @@ module _ (passes : Passing) (exit entry : List Point) (last : ℚ) (can : CanSha
       either : (x y : ℚ) → (x ≤ℚ y) ⊎ (y ≤ℚ x)
       either x y = ⊎_elim (λ (l : x <ℚ y). inl (≤ℚ_of_lt _ _ l)) (λ (l : y ≤ℚ x). inr l) (lt_or_le_ℚ x y)
 
-  -- exits move on from a to b
+  -- exits rise from a to b
   from-later : (a b : ℚ) (points : List Point) → 0ℚ ≤ℚ a → b ≤ℚ last → AreNext (both_times entry exit) a b → X a <ℚ X b → From b points → From a ((X b, A b) ∷ points)
   from-later a b points h k n less w = record {
     rises = rises;
@@ -142,7 +142,7 @@ module _ (passes : Passing) (exit entry : List Point) (last : ℚ) (can : CanSha
       part : (t : ℚ) → a ≤ℚ t → t ≤ℚ b → A a +ℚ slope (X a, A a) (X b, A b) *ℚ (X t -ℚ X a) ≡ A t
       part t m l = at_part (slope (X a, A a) (X b, A b)) g.0 f.0 (t -ℚ a) (X a) (A a) (X t) (A t) rate (g.1.line t m l) (f.1.line t m l)
 
-  -- one time more in front: whether its exit is that of the time before decides whether it gives a point
+  -- one more time before the others: it gives a point exactly if its exit differs from the exit before it
   from-next : (a b : ℚ) (sides : Sides) (rest : List Sides) → 0ℚ ≤ℚ a → b ≤ℚ last → AreNext (both_times entry exit) a b → AreSides entry exit can.entry_curve can.exit_curve b sides
       → From b (next_from (X b) rest) → From a (next_from (X a) (sides ∷ rest))
   from-next a b sides rest h k n s w = ⊎_elim

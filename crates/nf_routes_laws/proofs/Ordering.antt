@@ -1,4 +1,4 @@
--- The order of loading takes each link exactly where no links stand in a circle; where it leaves some out, there is one.
+-- The loading order takes each link exactly if no links form a circle. If it omits links, there is a circle.
 use Rattle.std.proofs.Common.{◌≡◌, ◌≢◌, ℕ, zero, suc, ◌+◌, ◌<◌, ◌≤◌, List, [], ◌∷◌, ◌++◌, length, ◌⊎◌, inl, inr, ⊎_elim, Bool, true, false, not, ◌&&◌, ◌||◌, eqb, Option, Some, None, slice_get, refl, sym, ap, subst, ◌∙◌, arith}
 use Rattle.std.specs.Prelude.{if◌then◌else◌}
 use Rattle.std.specs.List.{IsDistinct, list_any, list_all, range_with_len}
@@ -181,7 +181,7 @@ distinct_none = tt
 link-below : (net : Network) (routes : List Route) → AreRoutes net routes → (e f : ℕ) → IsBefore routes e f → e < length net.links
 link-below net routes are e f b = let l = walk-links net b.route.links net.source net.sink b.place e (are.walks b.number b.route b.is_route) b.here in slice_get_within net.links e l.0 l.1
 
--- ---- each link is taken, or some stand in a circle
+-- ---- each link is taken, or there is a circle
 module _ (net : Network) (routes : List Route) (are : AreRoutes net routes) where
   abbrev many : ℕ
   many = length net.links
@@ -203,7 +203,7 @@ module _ (net : Network) (routes : List Route) (are : AreRoutes net routes) wher
   closed u v b (inl e) = (u, [], subst (λ (x : ℕ). IsBefore routes u x) e b)
   closed u v b (inr (between, way)) = (u, v ∷ between, (b, way))
 
-  -- from a link a way leads to each of these
+  -- there is a path from a link to each of these
   abbrev Seen : List ℕ → ℕ → Type 0
   Seen seen v = (q : ℕ) → list_any (eqb q) seen ≡ true → (q < many) × Way v q
 
@@ -213,7 +213,7 @@ module _ (net : Network) (routes : List Route) (are : AreRoutes net routes) wher
       (λ (w : (eqb q u ≡ false) × (q ≢ u)). let s : (q < many) × Way v q = ways q (ap (λ (t : Bool). t || list_any (eqb q) seen) (sym w.0) ∙ e) in (s.0, longer u v q b s.1))
       (eqb_tells q u)
 
-  -- there is no room for one more
+  -- no further link fits
   full : (u : ℕ) (seen : List ℕ) → many ≤ length seen → IsDistinct eqb (u ∷ seen) → Seen (u ∷ seen) u → ⊥
   full u seen h d ways = let l : length (u ∷ seen) ≤ many = length-le_from_distinct_below (u ∷ seen) many d (λ q s. (ways q s).0) in omega arith
 
@@ -239,7 +239,7 @@ module _ (net : Network) (routes : List Route) (are : AreRoutes net routes) wher
         same : (x : ℕ) → eqb x v ≡ true → x ≡ v
         same x h = ⊎_elim (λ (w : (eqb x v ≡ true) × (x ≡ v)). w.1) (λ (w : (eqb x v ≡ false) × (x ≢ v)). absurd (not_both _ h w.0)) (eqb_tells x v)
 
-    -- going back over links that aren't taken, one comes again
+    -- going back over links that are not taken, one link repeats
     meets : (left v : ℕ) (seen : List ℕ) → many ≤ length seen + left → v < many → Left v → IsDistinct eqb seen → Seen seen v → HoldCircle routes
     meets zero v seen m h out d ways =
         let b : (u : ℕ) × IsBefore routes u v × Left u = left-before v h out in
@@ -384,7 +384,7 @@ module _ (routes : List Route) (many : ℕ) where
   joined [] x b c = refl
   joined (y ∷ a) x b c = ap (λ (l : List ℕ). y ∷ l) (joined a x b c)
 
-  -- what leads to a link of the order stands before it
+  -- the links that lead to a link of the order precede it
   led : (between : List ℕ) (e w : ℕ) (front back : List ℕ) → order_from many pairs' many [] ≡ front ++ w ∷ back → LeadsTo routes e between w → In e front
   led [] e w front back h way = subst (In e) (none_more front) ((placed many [] front w back h).1 e way)
   led (g ∷ between) e w front back h way =

@@ -1,4 +1,4 @@
--- What the list of loading by route gives is the loading by route.
+-- The operation sequence of loading by route gives the loading by route.
 use Rattle.std.proofs.Common.{◌≡◌, ℕ, zero, suc, ◌+◌, ◌<◌, List, [], ◌∷◌, length, ◌⊎◌, ⊎_elim, Option, Some, None, slice_get, unwrap_or, sym, ap, subst, ◌∙◌, arith}
 use Rattle.std.specs.Prelude.{Ok, map}
 use Rattle.std.specs.List.{range_with_len}
@@ -99,7 +99,7 @@ module _ (passes : Passing) (net : Network) (routes : List Route) (horizon : ℚ
     count : length (stages_at all r) ≡ length route.links
     count = ap length (stages-are passes net routes horizon final travels r stands.entries stands.here) ∙ length-but_last passes stands.entries (length route.links) (all_taken stands)
 
-    -- what it sends at each place, and in the end
+    -- the amount sent at each position, and the arrival
     entered : (place : ℕ) → place < suc (length route.links) → (last : ℚ) × IsEntry (entry_at all r place) last
     entered zero h =
         let e : (e : ℕ) × (slice_get route.links 0 ≡ Some e) = entry route.links 0 some_link in
@@ -208,7 +208,7 @@ module _ (passes : Passing) (net : Network) (routes : List Route) (horizon : ℚ
     travels = λ r route t here w. travels-are r route here t w;
   }
 
--- where no operation passes, what the list gives is the loading by route
+-- if no operation passes, the operation sequence gives the loading by route
 pub routes_list-is : (passes : Passing) (net : Network) (routes : List Route) (horizon : ℚ) (result : Routed) → IsNetwork net → AreRoutes net routes → (HoldCircle routes → ⊥) → 0ℚ ≤ℚ horizon
     → routes_list passes net routes horizon ≡ Ok result → IsRouted net routes horizon result
 unfolding routes_list loading_order
@@ -218,7 +218,7 @@ routes_list-is passes net routes horizon result good are straight from_0 h =
     subst (λ (x : Routed). IsRouted net routes horizon x) (same_Ok _ _ travels.next)
     (is-routed passes net routes horizon final.between travels.between good are straight from_0 (unrolled passes net routes horizon final.between travels.between final.first) travels.first)
 
--- ---- what the routes send on is the outflow of the link
+-- ---- the routes over a link send on its outflow
 pub nexts-outflow : (net : Network) (routes : List Route) (horizon : ℚ) (routed : Routed) (e : ℕ) (link : Link) (time : ℚ) → IsNetwork net → AreRoutes net routes → 0ℚ ≤ℚ horizon → IsRouted net routes horizon routed → IsLink net e link
     → Within 0ℚ (number_at routed.ends e +ℚ link.transit) time → value (link_loaded routed e).outflow time ≡ sent_by_routes (λ r place. sent_by routed r (suc place) time) e routes
 nexts-outflow net routes horizon routed e link time good are from_0 is p w =

@@ -1,4 +1,4 @@
--- Lists by their numbers: the entries of a route so far, what a step makes of them, and what is known of links so far.
+-- Lists by index: the entries of a route so far, the change by a step, and the properties of the links so far.
 use Rattle.std.proofs.Common.{◌≡◌, ◌≢◌, ℕ, zero, suc, List, [], ◌∷◌, ◌++◌, ◌<◌, length, inl, inr, ⊎_elim, true, false, eqb, Option, Some, None, slice_get, unwrap_or, set, refl, sym, ap, subst, ◌∙◌, arith}
 use Rattle.std.specs.Prelude.{Result, Ok, map}
 use Rattle.std.proofs.lemmas.Bool.Decides.{eqb_tells}
@@ -89,7 +89,7 @@ module _ (passes : Passing) where
   length-but_last (y ∷ z ∷ rest) zero h = absurd (omega arith)
   length-but_last (y ∷ z ∷ rest) (suc n) h = ap suc (length-but_last (z ∷ rest) n (omega arith))
 
-  -- ---- the links so far, with nothing for those that aren't loaded
+  -- ---- the links so far; those not loaded have nothing
   abbrev nothing : Loaded
   nothing = record { queue = []; outflow = []; exit = [] }
 

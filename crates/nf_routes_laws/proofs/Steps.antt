@@ -1,4 +1,4 @@
--- How far the links of a route are taken, and what the step of one link does to the entries of a route.
+-- The links of a route that are taken, and the change of a route's entries by the step of a link.
 use Rattle.std.proofs.Common.{◌≡◌, ℕ, zero, suc, ◌<◌, ◌≤◌, List, [], ◌∷◌, ◌++◌, length, ◌⊎◌, inl, inr, ⊎_elim, Bool, true, false, Some, slice_get, refl, sym, ap, subst, ◌∙◌, arith}
 use Rattle.std.specs.Prelude.{Ok}
 use Rattle.std.proofs.lemmas.Option.{same_Some, slice_get_within}
@@ -17,13 +17,13 @@ use Rattle.nf_plain_laws.proofs.Entries.{entry}
 use Rattle.nf_plain_laws.proofs.Naturals.{compared, before_or_at}
 use Rattle.nf_plain_laws.proofs.Results.{same_Ok, not_both}
 
--- the first n of these links are in the front of the order, and no others
+-- exactly the first n of these links are in the prefix of the order
 pub record Stands (front links : List ℕ) (n : ℕ) : Type 0 where
   pub within : n ≤ length links
   pub taken : (i f : ℕ) → i < n → slice_get links i ≡ Some f → In f front
   pub left : (i f : ℕ) → n ≤ i → slice_get links i ≡ Some f → In f front → ⊥
 
--- how many entries a route has then: the arrival of the last link is one more
+-- the number of entries of a route: one more if all links are taken, for the arrival
 abbrev pub stage : ℕ → ℕ
 stage zero = zero
 stage (suc n) = suc (suc n)
@@ -31,7 +31,7 @@ stage (suc n) = suc (suc n)
 pub stands-none : (links : List ℕ) → Stands [] links 0
 stands-none links = record { within = omega arith; taken = λ i f h k. absurd (omega arith); left = λ i f h k w. w }
 
--- ---- a link that isn't in the front, with those directly before it in the front
+-- ---- a link outside the prefix, with its direct predecessors in the prefix
 module _ (routes : List Route) (front : List ℕ) (e : ℕ) (new : In e front → ⊥) (led : (f : ℕ) → IsBefore routes f e → In f front) where
   module _ (r : ℕ) (route : Route) (is_route : slice_get routes r ≡ Some route) (n : ℕ) (stands : Stands front route.links n) where
     later : (place : ℕ) → slice_get route.links place ≡ Some e → n < place → ⊥
@@ -84,7 +84,7 @@ module _ (passes : Passing) where
   abbrev pub IsEntryOf : List Piece → ℚ → List Point → Type 0
   IsEntryOf pieces horizon entry = (amounts : List Point) × (checked_cumulative passes pieces horizon ≡ Ok amounts) × (checked_short passes amounts ≡ Ok entry)
 
-  -- before the link is loaded: as many entries as the place of the link tells, and one more
+  -- before the link is loaded there is one entry more than the link's position
   pub record Begun (horizon : ℚ) (route : Route) (n : ℕ) (xs begun : List (List Point)) : Type 0 where
     pub count : length begun ≡ suc n
     pub first : n ≡ 0 → IsEntryOf route.pieces horizon (last_entry begun)
@@ -113,7 +113,7 @@ module _ (passes : Passing) where
             no : suc n ≡ 0 → ⊥
             no z = omega arith
 
-    -- after it is loaded, on a route over the link: one entry more
+    -- after it is loaded, a route over the link has one entry more
     pub record Over (exit : List Point) (n : ℕ) (after : List (List Point)) : Type 0 where
       pub at : slice_get route.links n ≡ Some e
       pub begins : Begun horizon route n xs begun

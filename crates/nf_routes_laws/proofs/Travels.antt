@@ -1,4 +1,4 @@
--- The travel along a route: at each departure up to the horizon the exits of its links one after the other.
+-- The travel along a route: the composition of its links' exits at each departure up to the horizon.
 use Rattle.std.proofs.Common.{◌≡◌, ◌≢◌, ℕ, List, [], ◌∷◌, ⊎_elim, Bool, true, false, Option, refl, sym, ap, subst, ◌∙◌}
 use Rattle.std.specs.Prelude.{Ok, if◌then◌else◌}
 use Rattle.nf_rational.specs.Rational.{ℚ}
@@ -52,9 +52,9 @@ departures-are last h = ⊎_elim
     }))
     (is_same_cases last 0ℚ)
 
--- ---- along links from a place of a route on: each time within the end of the link is within that of the next, once it has come there
+-- ---- along the links from a position of a route on: a time within the end of a link has its exit within the end of the next link
 module _ (passes : Passing) (horizon : ℚ) (links : List (Option LoadedLink)) (routed : Routed) (from_0 : 0ℚ ≤ℚ horizon) (exit_is : (e : ℕ) → exit_of passes links e ≡ (link_loaded routed e).exit) where
-  -- what is needed of the links that are left, from these times on
+  -- the conditions on the remaining links, from these times on
   abbrev pub Passable : List ℕ → ℚ → Type 0
   Passable [] t = Unit {0}
   Passable (e ∷ rest) t = IsCurve (link_loaded routed e).exit × (0ℚ ≤ℚ exit_by routed e t) × Passable rest (exit_by routed e t)

@@ -1,4 +1,4 @@
--- What the list has done for each link of the order, said of its result.
+-- The steps of the links in the loading order, read off the result.
 use Rattle.std.proofs.Common.{◌≡◌, ◌≢◌, ℕ, zero, suc, ◌<◌, List, [], ◌∷◌, ◌++◌, length, ◌⊎◌, inl, inr, ⊎_elim, Bool, true, false, eqb, Option, Some, None, slice_get, unwrap_or, set, length-set, refl, sym, ap, subst, ◌∙◌, append_assoc, arith}
 use Rattle.std.specs.Prelude.{Ok, map, if◌then◌else◌}
 use Rattle.std.specs.List.{range_with_len}
@@ -39,7 +39,7 @@ order-below pairs many (suc more) taken e h = by (first_free pairs taken (range_
         subst (λ (x : ℕ). x < many) (sym same) (omega arith)
     by (Some f) some (inr k) later = later f k
 
--- ---- the end of a link: the greatest of the horizon and the exits of what stands directly before
+-- ---- the end of a link: the greatest of the horizon and the end exits of its direct predecessors
 pub record EndsBy (routes : List Route) (horizon : ℚ) (e : ℕ) (exits : ℕ → ℚ) (end : ℚ) : Type 0 where
   pub horizon_by : horizon ≤ℚ end
   pub before : (f : ℕ) → IsBefore routes f e → exits f ≤ℚ end
@@ -121,7 +121,7 @@ module _ (passes : Passing) (net : Network) (routes : List Route) (horizon : ℚ
     pub entry_count : length s.entries ≡ length routes
     pub at : (r : ℕ) (route : Route) → slice_get routes r ≡ Some route → RouteStands front s r route
 
-  -- what the step of a link computes
+  -- the values that the step of a link computes
   pub record LinkDone (s : SoFar) (e : ℕ) (link : Link) (next : SoFar) : Type 0 where
     pub begun : List (List (List Point))
     pub inflow : List Point
@@ -149,7 +149,7 @@ module _ (passes : Passing) (net : Network) (routes : List Route) (horizon : ℚ
         links_are = refl;
       })
 
-  -- and of a route: over the link it has one entry more, else nothing changes
+  -- a route over the link has one entry more, and any other route is unchanged
   record RouteDone (front : List ℕ) (s : SoFar) (e : ℕ) (link : Link) (next : SoFar) (d : LinkDone s e link next) (r : ℕ) (route : Route) : Type 0 where
     pub was : RouteStands front s r route
     pub begun : List (List Point)
@@ -236,7 +236,7 @@ module _ (passes : Passing) (net : Network) (routes : List Route) (horizon : ℚ
             (λ (p : ((place : ℕ) → slice_get route.links place ≡ Some e → ⊥) × (rd.after ≡ rd.was.entries)). (rd.after, [], rd.after_here, p.1 ∙ sym (none_more rd.was.entries)))
             rd.case)
 
-  -- ---- the result, in which what was known at a step still stands
+  -- ---- the result agrees with the values known at each step
   module _ (final : SoFar) (travels : List (List Point)) where
     abbrev pub routed : Routed
     routed = record { ends = map (end_or passes) final.links; links = map (loaded_or passes) final.links; entries = map (but_last passes) final.entries; arrivals = map last_entry final.entries; travels = travels }
@@ -260,7 +260,7 @@ module _ (passes : Passing) (net : Network) (routes : List Route) (horizon : ℚ
         ∙ ap (λ (y : List Point). unwrap_or (slice_get (but_last passes ys) place) y) (ap (λ (o : Option (List Point)). unwrap_or o []) (slice_get-image last_entry final.entries r ys h))
         ∙ at-stage passes ys place x k
 
-    -- a route over a link, with what the list takes for it, at the only place of the link
+    -- a route over a link, with the entry that the sequence adds for it, at the only position of the link
     pub record RouteOver (e r place : ℕ) (route : Route) (begun : List (List (List Point))) : Type 0 where
       pub entries : List (List Point)
       pub here : slice_get begun r ≡ Some entries
@@ -384,7 +384,7 @@ module _ (passes : Passing) (net : Network) (routes : List Route) (horizon : ℚ
               w;
         }
 
-    -- from nothing on
+    -- from the start
     pub unrolled : load_all passes net routes horizon order (record { links = map (λ _. None) net.links; entries = map (λ _. []) routes }) ≡ Ok final
         → Unrolled [] (record { links = map (λ _. None) net.links; entries = map (λ _. []) routes }) order
     unrolled h = unroll order [] (record { links = map (λ _. None) net.links; entries = map (λ _. []) routes }) refl (record {

@@ -1,4 +1,4 @@
--- What the reading of routes files gives.
+-- Theorems on the reading of routes files.
 use Rattle.std.specs.Prelude.{◌≡◌, ℕ, List, Result, Ok, Err}
 use Rattle.nf_formats.specs.Named.{Named}
 use Rattle.nf_routes_lists.specs.declared.RoutesRule.TheVariants.{G17}
@@ -6,18 +6,18 @@ use Rattle.nf_routes_lists.specs.Routes.{AreWalks}
 use Rattle.nf_routes_lists.specs.RoutesFile.{NamedRoute, RoutesBroken, routes_of, HoldsCircleIn, circle_broken, ReadsRoutes, routes_in}
 use Rattle.nf_routes_lists.specs.Kept.{AreKept}
 
--- each text is read as one value, which the order of loading tells
+-- each text has exactly one reading, which the loading order decides
 pub record RoutesHaveOneReading : Type 0 where
   pub decided : (n : Named) (text : List ℕ) → ReadsRoutes n text (routes_in n text)
   pub one : (n : Named) (text : List ℕ) (read : Result (List NamedRoute) RoutesBroken) → ReadsRoutes n text read → routes_in n text ≡ read
 
--- a text is refused by the last rule exactly where its routes hold a circle
+-- a text is refused with G17 exactly if it breaks no other rule and its routes hold a circle
 pub record LastRuleIsCircle : Type 0 where
   pub circle : (n : Named) (text : List ℕ) (broken : RoutesBroken) → ReadsRoutes n text (Err broken) → broken.rule ≡ G17
       → HoldsCircleIn n text
   pub refused : (n : Named) (text : List ℕ) → HoldsCircleIn n text → ReadsRoutes n text (Err circle_broken)
 
--- what is read keeps the rules that need no network, and is walks from source to sink
+-- the routes read satisfy the rules that need no network, and are walks from source to sink
 pub record ReadRoutesAreKept : Type 0 where
   pub kept : (n : Named) (text : List ℕ) (routes : List NamedRoute) → ReadsRoutes n text (Ok routes) → AreKept routes
   pub walks : (n : Named) (text : List ℕ) (routes : List NamedRoute) → ReadsRoutes n text (Ok routes) → AreWalks n.net (routes_of routes)

@@ -1,4 +1,4 @@
--- What the lists of loading by route give.
+-- Theorems on loading by route.
 use Rattle.std.specs.Prelude.{◌≡◌, true, false, List, ◌∷◌, ◌++◌, length, Ok}
 use Rattle.nf_rational.specs.Rational.{ℚ}
 use Rattle.nf_rational.specs.Operations.{0ℚ}
@@ -10,12 +10,12 @@ use Rattle.nf_routes_lists.specs.Routes.{Route, AreRoutes, HoldCircle, takes_all
 use Rattle.nf_routes_lists.specs.RoutesList.{Routed, next_entry}
 use Rattle.nf_routes_lists.specs.Meanings.{IsRouted, RoutesArrive}
 
--- no point of a curve is later
+-- no point of the curve is after `last`
 abbrev pub NoneBeyond : List Point → ℚ → Type 0
 NoneBeyond points last = (front rest : List Point) (p : Point) → points ≡ front ++ p ∷ rest → p.0 ≤ℚ last
 
--- What a route sends into a link by the times up to the last one, and the exits of that link: exits never fall, the first is not
--- negative, and where two are equal, nothing was sent between.
+-- `entry` is the amount that a route sends into a link up to `last`, and `exit` holds the link's exits. The exits never fall, and the first
+-- is at least 0. If two exits are equal, nothing was sent between their entries.
 pub record CanShare (exit entry : List Point) (last : ℚ) : Type 0 where
   pub entry_curve : IsCurve entry
   pub exit_curve : IsCurve exit
@@ -28,7 +28,8 @@ pub record CanShare (exit entry : List Point) (last : ℚ) : Type 0 where
   pub shares : (earlier later : ℚ) → 0ℚ ≤ℚ earlier → earlier ≤ℚ later → later ≤ℚ last → value exit earlier ≡ value exit later
       → value entry earlier ≡ value entry later
 
--- what it sends into its next link: by each exit what it had sent by the entry, and before the first exit and after the last one nothing
+-- `next` is the amount that the route sends into its next link. By each exit the amount sent by its entry is sent on. The amount is 0 until
+-- the first exit, and constant after the last.
 pub record IsNext (exit entry : List Point) (last : ℚ) (next : List Point) : Type 0 where
   pub curve : IsCurve next
   pub form : IsShort next
@@ -40,13 +41,13 @@ abbrev pub NextEntryShares : Type 0
 NextEntryShares = (passes : Passing) (exit entry next : List Point) (last : ℚ) → CanShare exit entry last
     → next_entry passes exit entry ≡ Ok next → IsNext exit entry last next
 
--- what is loaded by route arrives
+-- a loading by route arrives
 abbrev pub LoadedRoutesArrive : Type 0
 LoadedRoutesArrive = (net : Network) (routes : List Route) (horizon : ℚ) (routed : Routed) → IsNetwork net → AreRoutes net routes
     → 0ℚ ≤ℚ horizon → IsRouted net routes horizon routed
     → RoutesArrive net routes horizon routed
 
--- the order of loading takes each link where no links stand in a circle, and else not: where it leaves one out, some stand in a circle
+-- The loading order takes each link exactly if the routes hold no circle. If it omits a link, there is a circle.
 pub record OrderTakesAll : Type 0 where
   pub straight : (net : Network) (routes : List Route) → AreRoutes net routes → ¬ HoldCircle routes
       → takes_all (length net.links) routes ≡ true

@@ -1,4 +1,4 @@
--- What the list of loading by route gives.
+-- Theorems on the operation sequence of loading by route.
 use Rattle.std.specs.Prelude.{◌≡◌, ℕ, suc, List, Ok}
 use Rattle.nf_rational.specs.Rational.{ℚ}
 use Rattle.nf_rational.specs.Operations.{0ℚ, ◌+ℚ◌}
@@ -11,7 +11,7 @@ use Rattle.nf_routes_lists.specs.Routes.{Route, AreRoutes, HoldCircle}
 use Rattle.nf_routes_lists.specs.RoutesList.{Routed, routes_list}
 use Rattle.nf_routes_lists.specs.Meanings.{link_loaded, sent_by, sent_by_routes, IsRouted, RoutesArrive}
 
--- routes of a network that hold no circle, loaded by route up to a horizon
+-- routes of a network without a circle, loaded up to a horizon by the operation sequence
 pub record IsByList (net : Network) (routes : List Route) (horizon : ℚ) (routed : Routed) : Type 0 where
   pub network : IsNetwork net
   pub are_routes : AreRoutes net routes
@@ -28,7 +28,7 @@ abbrev pub RoutesListArrives : Type 0
 RoutesListArrives = (net : Network) (routes : List Route) (horizon : ℚ) (routed : Routed) → IsByList net routes horizon routed
     → RoutesArrive net routes horizon routed
 
--- what the routes over a link send on is what it lets out, up to one transit time after its end
+-- the routes over a link send on its outflow, up to one transit time after the link's end
 abbrev pub NextsAreOutflow : Type 0
 NextsAreOutflow = (net : Network) (routes : List Route) (horizon : ℚ) (routed : Routed) (e : ℕ) (link : Link) (time : ℚ) → IsNetwork net
     → AreRoutes net routes → 0ℚ ≤ℚ horizon

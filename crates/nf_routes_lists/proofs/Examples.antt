@@ -1,4 +1,4 @@
--- Loading by route, by computation: two routes that come to one link at different times; and routes whose links stand in a circle.
+-- Examples of loading by route, by computation. Two routes reach one link at different times, and the links of other routes form a circle.
 use Rattle.std.specs.Prelude.{◌≡◌, ℕ, List, [], ◌∷◌, Option, Some, None, Result, Ok, Err, map, refl}
 use Rattle.nf_rational.specs.Gcd.{gcd}
 use Rattle.nf_rational.specs.Rational.{ℚ, ratio}
@@ -60,7 +60,7 @@ circle_order : loading_order 6 circle ≡ 0 ∷ 5 ∷ []
 unfolding loading_order
 circle_order = refl
 
--- of what is loaded: the queue, outflow and exit of link z, the arrivals, and the travels
+-- queue, outflow and exit of link z, the arrivals, and the travels
 abbrev routed_in : Result Routed (Passed ℚ) → Option (List Parts × List (List (Parts × Parts)))
 routed_in (Ok r) = Some (map parts_of r.ends, parts_at r.links)
   where

@@ -1,4 +1,4 @@
--- Routes files by computation, and the text of what is loaded by route: links p and q from s to u, and z from u to t.
+-- Examples of routes files and of the printed loading, by computation. Links p and q lead from s to u, and z leads from u to t.
 use Rattle.std.specs.Prelude.{◌≡◌, ℕ, List, [], ◌∷◌, ◌++◌, flat_map, map, Some, None, Result, Ok, Err, codes, pos, refl}
 use Rattle.std.proofs.Common.{inr}
 use Rattle.std.specs.List.{range_with_len}
@@ -42,7 +42,7 @@ named = record {
   idle_links = record { name = codes "w"; tail = codes "x"; head = codes "u"; transit = n 1; capacity = None } ∷ [];
 }
 
--- of each route its name, its links, and the starts and rates of its pieces; or the rule and its line
+-- the name, the links, and the starts and rates of the pieces of each route; or the rule and its line
 abbrev seen : Result (List NamedRoute) RoutesBroken → Result (List (Name × List ℕ × List (Parts × Parts))) (List ℕ × ℕ)
 seen (Ok routes) = Ok (map (λ r. (r.name, r.route.links, map (λ p. (parts_of p.start, parts_of p.rate)) r.route.pieces)) routes)
 seen (Err broken) = Err (routes_rule_word broken.rule, broken.line)
@@ -84,7 +84,7 @@ no_name : read (codes "routes 1" ∷ codes "route o/e x" ∷ codes "end" ∷ [])
 unfolding routes_in routes_of_lines takes_all loading_order number_of number_parts whole ratio gcd le_ℚ lt_ℚ
 no_name = refl
 
--- idle links aren't there
+-- a route cannot name an unreached link
 idle : read (codes "routes 1" ∷ codes "route one w" ∷ codes "end" ∷ []) ≡ Err (codes "G8", 2)
 unfolding routes_in routes_of_lines takes_all loading_order number_of number_parts whole ratio gcd le_ℚ lt_ℚ
 idle = refl
@@ -98,7 +98,7 @@ no_number : read (codes "routes 1" ∷ codes "route one p z" ∷ codes "rate one
 unfolding routes_in routes_of_lines takes_all loading_order number_of number_parts whole ratio gcd le_ℚ lt_ℚ
 no_number = refl
 
--- the second route of a name isn't asked whether it leads from source to sink
+-- a second route with a name already used is not tested for a walk
 twice : read (codes "routes 1" ∷ codes "route one p z" ∷ codes "route one z p" ∷ codes "end" ∷ []) ≡ Err (codes "G10", 3)
 unfolding routes_in routes_of_lines takes_all loading_order number_of number_parts whole ratio gcd le_ℚ lt_ℚ
 twice = refl
@@ -174,7 +174,7 @@ alone : seen (routes_in crossing (text_of (codes "routes 1" ∷ codes "route one
 unfolding routes_in routes_of_lines takes_all loading_order number_of number_parts whole ratio gcd le_ℚ lt_ℚ
 alone = refl
 
--- ---- what is written
+-- ---- the printed loading
 abbrev text : Checked Routed → List ℕ
 text (Ok routed) = routed_text named (record { name = codes "one"; route = record { links = []; pieces = [] } } ∷ record { name = codes "two"; route = record { links = []; pieces = [] } } ∷ []) (n 2) routed
 text (Err p) = []

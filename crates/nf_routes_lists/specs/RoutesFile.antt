@@ -1,4 +1,4 @@
--- The routes file: which routes it gives in a network, or which rule it breaks first, and where.
+-- The routes file and its rules.
 use Rattle.std.specs.Prelude.{◌≡◌, ◌⊎◌, ℕ, Bool, true, false, not, ◌&&◌, ◌==◌, nat_le, if◌then◌else◌, List, [], ◌∷◌, ◌++◌, length, map, set, Option, Some, None, Result, Ok, Err, codes, slice_get}
 use Rattle.std.specs.List.{list_all}
 use Rattle.std.specs.Str.{bytes_eq}
@@ -13,15 +13,15 @@ use Rattle.nf_routes_lists.specs.declared.RoutesRule.{RoutesRule}
 use Rattle.nf_routes_lists.specs.declared.RoutesRule.TheVariants.{G1, G2, G3, G4, G5, G6, G7, G8, G9, G10, G11, G12, G13, G14, G15, G16, G17}
 use Rattle.nf_routes_lists.specs.Routes.{Route, HoldCircle, takes_all}
 
--- the most routes
+-- the greatest number of routes
 abbrev pub most_routes : ℕ
 most_routes = 100
 
--- the most rate lines of a route
+-- the greatest number of rate lines of a route
 abbrev pub most_lines_of_a_route : ℕ
 most_lines_of_a_route = 200
 
--- routes with their names, in the order of their lines
+-- a route with its name; a file's routes are listed in the order of their lines
 pub record NamedRoute : Type 0 where
   pub name : Name
   pub route : Route
@@ -29,7 +29,7 @@ pub record NamedRoute : Type 0 where
 abbrev pub RoutesBroken : Type 0
 RoutesBroken = Broken RoutesRule
 
--- ---- what a line says by itself
+-- ---- the entry of a single line
 pub data RoutesEntry : Type 0 where
   RouteLine : Name → List ℕ → RoutesEntry
   RateLine : ℕ → Piece → RoutesEntry
@@ -56,7 +56,7 @@ routes_entry links routes (key ∷ words) =
     else (if bytes_eq key (codes "rate") then rate_line routes words
     else (if bytes_eq key (codes "end") then end_line words else Err G5))
 
--- ---- what the lines so far say, and whether there was an `end` line
+-- ---- parser state: the routes so far, and whether `end` was read
 pub record RoutesDraft : Type 0 where
   pub routes : List NamedRoute
   pub ended : Bool
@@ -64,7 +64,7 @@ pub record RoutesDraft : Type 0 where
 abbrev pub route_names : List NamedRoute → List Name
 route_names routes = map (λ r. r.name) routes
 
--- without their names
+-- the routes without their names
 abbrev pub routes_of : List NamedRoute → List Route
 routes_of routes = map (λ r. r.route) routes
 
@@ -82,7 +82,7 @@ pieces_of (Some r) = r.route.pieces
 abbrev pub pieces_at : List NamedRoute → ℕ → List Piece
 pieces_at routes r = pieces_of (slice_get routes r)
 
--- ---- the links are a walk from one node to another
+-- ---- the test for a walk between two nodes
 abbrev pub tail_is : Option Link → ℕ → Bool
 tail_is None v = false
 tail_is (Some link) v = link.tail == v
@@ -95,7 +95,7 @@ abbrev pub is_walk : List Link → List ℕ → ℕ → ℕ → Bool
 is_walk links [] v w = v == w
 is_walk links (e ∷ rest) v w = tail_is (slice_get links e) v && is_walk links rest (head_of (slice_get links e)) w
 
--- the first rule that a piece breaks behind others of its route
+-- the first rule that a piece breaks after other pieces of its route
 abbrev pub rule_behind : List Piece → Piece → Option RoutesRule
 rule_behind before piece = lines.piece_rule most_lines_of_a_route G13 G14 G15 before piece
 
@@ -140,12 +140,12 @@ routes_frame n = record {
   close = routes_ended;
 }
 
--- the routes in the order of their lines, or the first rule that is broken, of all rules but the last
+-- the routes in the order of their lines, or the first broken rule, of all rules but G17
 unfoldable pub routes_of_lines : Named → List ℕ → Result (List NamedRoute) RoutesBroken
 routes_of_lines n text = file_in (routes_frame n) text
 
--- ---- the last rule
--- a text that breaks none of the others gives routes that hold a circle
+-- ---- rule G17
+-- the text breaks none of the other rules, and its routes hold a circle
 pub record HoldsCircleIn (n : Named) (text : List ℕ) : Type 0 where
   pub routes : List NamedRoute
   pub read : routes_of_lines n text ≡ Ok routes
@@ -154,18 +154,18 @@ pub record HoldsCircleIn (n : Named) (text : List ℕ) : Type 0 where
 abbrev pub circle_broken : RoutesBroken
 circle_broken = record { rule = G17; line = 0 }
 
--- What a text is read as: routes that hold no circle; or the first rule that it breaks, which is the last one where they hold a circle.
+-- The reading of a text: its routes, if they hold no circle; otherwise the first broken rule. A circle breaks G17, the last rule.
 abbrev pub ReadsRoutes : Named → List ℕ → Result (List NamedRoute) RoutesBroken → Type 0
 ReadsRoutes n text (Ok routes) = (routes_of_lines n text ≡ Ok routes) × ¬ HoldCircle (routes_of routes)
 ReadsRoutes n text (Err broken) = (routes_of_lines n text ≡ Err broken) ⊎ ((broken ≡ circle_broken) × HoldsCircleIn n text)
 
--- ---- the same, decided
+-- ---- the same reading, by a decidable test
 abbrev pub is_ordered : Named → List NamedRoute → Bool
 is_ordered n routes = takes_all (length n.net.links) (routes_of routes)
 
 abbrev pub unless_circle : Named → List NamedRoute → Result (List NamedRoute) RoutesBroken
 unless_circle n routes = if is_ordered n routes then Ok routes else Err circle_broken
 
--- the last rule by the order of loading
+-- the reading of a text, with G17 tested by the loading order
 unfoldable pub routes_in : Named → List ℕ → Result (List NamedRoute) RoutesBroken
 routes_in n text = routes_of_lines n text >>= unless_circle n

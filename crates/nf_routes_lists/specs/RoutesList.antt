@@ -1,4 +1,4 @@
--- The list of loading by route: link by link in the order of loading, and then the travels.
+-- The operation sequence of loading by route. Links are loaded in loading order, then the travels are computed.
 use Rattle.std.specs.Prelude.{ℕ, Bool, true, false, ◌==◌, if◌then◌else◌, List, [], ◌∷◌, ◌++◌, length, map, set, Option, Some, None, slice_get, Ok}
 use Rattle.std.specs.List.{list_any}
 use Rattle.nf_rational.specs.Rational.{ℚ}
@@ -19,17 +19,17 @@ use Rattle.nf_load_lists.specs.Loading.{Loaded, checked_loading}
 use Rattle.nf_check_lists.specs.Curves.{last_value, departures}
 use Rattle.nf_routes_lists.specs.Routes.{Route, all_pairs, loading_order}
 
--- what is known of a link once it is loaded
+-- the end and the loading of a loaded link
 pub record LoadedLink : Type 0 where
   pub end : ℚ
   pub loaded : Loaded
 
--- of each link, once it is loaded; and of each route its entries so far, the arrival last
+-- progress: the loading of each loaded link, and the entries of each route so far, with the arrival last
 pub record SoFar : Type 0 where
   pub links : List (Option LoadedLink)
   pub entries : List (List (List Point))
 
--- what is loaded by route
+-- the result of loading by route
 pub record Routed : Type 0 where
   pub ends : List ℚ
   pub links : List Loaded
@@ -37,12 +37,12 @@ pub record Routed : Type 0 where
   pub arrivals : List (List Point)
   pub travels : List (List Point)
 
--- the exit of a link at its own end, where it is loaded
+-- the exit of a link at its own end, or 0 if the link is not loaded
 abbrev pub exit_end : Option (Option LoadedLink) → ℚ
 exit_end (Some (Some l)) = last_value l.loaded.exit
 exit_end other = 0ℚ
 
--- the greatest of the horizon and these exits
+-- the greatest of the horizon and the end exits of the links directly before
 abbrev pub end_by : ℚ → List (ℕ × ℕ) → List (Option LoadedLink) → ℕ → ℚ
 end_by horizon [] links e = horizon
 end_by horizon (p ∷ pairs) links e =
@@ -61,7 +61,7 @@ last_entry [] = []
 last_entry (entry ∷ []) = entry
 last_entry (entry ∷ rest) = last_entry rest
 
--- the points of what has come out, after the last one: equal times once
+-- the points of the amount sent on: a point for each exit that differs from the one before
 abbrev pub next_from : ℚ → List Sides → List Point
 next_from last [] = []
 next_from last (sides ∷ rest) = elim (is_same last sides.right) [
@@ -70,13 +70,13 @@ next_from last (sides ∷ rest) = elim (is_same last sides.right) [
 ]
 
 module _ (passes : Passing) where
-  -- what a route has sent into its next link: by each exit what has entered by then
+  -- the amount that a route sends into its next link: by each exit, the amount entered by its entry
   unfoldable pub next_entry : List Point → List Point → Checked (List Point)
   next_entry exit entry = do
     sides ← each (sides_at passes entry exit) (both_times entry exit)
     checked_short passes ((0ℚ, 0ℚ) ∷ next_from 0ℚ sides)
 
-  -- ---- for one link e: the routes in order, each with its entries so far
+  -- ---- the operations at one link e: the routes in order, each with its entries so far
   abbrev pub begin_if : Bool → ℚ → Route → List (List Point) → Checked (List (List Point))
   begin_if false horizon route entries = Ok entries
   begin_if true horizon route entries = do
@@ -141,7 +141,7 @@ module _ (passes : Passing) where
     next ← checked_composed passes (exit_of links e) travel horizon
     travel_on horizon links rest next
 
-  -- ---- all of it
+  -- ---- the whole loading
   abbrev pub load_all : Network → List Route → ℚ → List ℕ → SoFar → Checked SoFar
   load_all net routes horizon [] so_far = Ok so_far
   load_all net routes horizon (e ∷ order) so_far = do
@@ -156,7 +156,7 @@ module _ (passes : Passing) where
   loaded_or None = record { queue = []; outflow = []; exit = [] }
   loaded_or (Some l) = l.loaded
 
-  -- without the last one, which is the arrival
+  -- all entries but the last, which is the arrival
   abbrev pub but_last : List (List Point) → List (List Point)
   but_last [] = []
   but_last (entry ∷ []) = []

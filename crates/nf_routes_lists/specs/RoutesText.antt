@@ -1,4 +1,4 @@
--- What is written of a loading by route: the curves of each link, the arrival and the travel of each route, the end.
+-- The printed loading by route.
 use Rattle.std.specs.Prelude.{ℕ, List, [], ◌∷◌, ◌++◌, length, codes}
 use Rattle.std.specs.List.{flat_map}
 use Rattle.nf_rational.specs.Rational.{ℚ}

@@ -1,4 +1,4 @@
--- The names of the rules of the routes file, as they are written.
+-- Printed names of the routes file's rules.
 use Rattle.std.specs.Prelude.{ℕ, List, codes}
 use Rattle.nf_routes_lists.specs.declared.RoutesRule.{RoutesRule}
 use Rattle.nf_routes_lists.specs.declared.RoutesRule.TheVariants.{G1, G2, G3, G4, G5, G6, G7, G8, G9, G10, G11, G12, G13, G14, G15, G16, G17}

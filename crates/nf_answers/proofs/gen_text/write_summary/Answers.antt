@@ -12,7 +12,7 @@ use Rattle.nf_phase.specs.Solution.{report_in}
 use Rattle.nf_answers.specs.GenText.{ladder_lines, size_lines, run_lines, end_lines, last_arrival, gen_text}
 use Rattle.nf_answers.proofs.gen_text.write_summary.Goals as goal
 
--- with the arrival of who departs last the lines are the text
+-- with the arrival of the last departure, the lines are the text
 as_text : {E : Type 0} {old now : Option (List ℕ)} {f g : ℕ} {r : Result (Unit {0}) E} (number rungs : ℕ) (n : Named) (made : ℕ) (report : Report) (arrival : ℚ)
     → WroteLines old now f g (ladder_lines number rungs ++ size_lines n ++ run_lines made report.flow.reached ++ end_lines report.stop arrival) r
     → arrival ≡ last_arrival n report → Wrote old now f g (gen_text number rungs n made report) r

@@ -3,6 +3,6 @@ use Rattle.nf_complete_lists.specs.Cancelling.{change_at}
 use Rattle.nf_lists_laws.proofs.Numbered.{SoFar}
 use Rattle.nf_complete.proofs.cancelling.changes.Given as goal
 
--- those so far stand before what comes of the other links
+-- the results so far precede the results of the other links
 abbrev pub invariant-loop-e : goal.invariant-loop-e
 invariant-loop-e l = SoFar (change_at passes_Q l.steps l.amount) l.flows l.new.items l.e

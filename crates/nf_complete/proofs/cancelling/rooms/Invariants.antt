@@ -3,6 +3,6 @@ use Rattle.nf_complete_lists.specs.Cancelling.{room_at}
 use Rattle.nf_lists_laws.proofs.Numbered.{SoFar}
 use Rattle.nf_complete.proofs.cancelling.rooms.Given as goal
 
--- those so far stand before what comes of the other links
+-- the results so far precede the results of the other links
 abbrev pub invariant-loop-e : goal.invariant-loop-e
 invariant-loop-e l = SoFar (room_at passes_Q l.steps l.fulls) l.flows l.rooms.items l.e

@@ -3,6 +3,6 @@ use Rattle.nf_complete_lists.specs.Cancelling.{full_at}
 use Rattle.nf_lists_laws.proofs.Numbered.{SoFar}
 use Rattle.nf_complete.proofs.fulls.fulls.Given as goal
 
--- what fills the links so far stands before what fills the others
+-- the flows that fill the links so far precede those of the other links
 abbrev pub invariant-loop-e : goal.invariant-loop-e
 invariant-loop-e l = SoFar (full_at passes_Q l.sets l.slopes) l.net.net.links l.fulls.items l.e

@@ -5,6 +5,6 @@ use Rattle.nf_complete.specs.ThinParts.{IsBalanced}
 use Rattle.nf_complete.proofs.Telling.{ToldBelow}
 use Rattle.nf_complete.proofs.node_sums.balances.Given as goal
 
--- what is said of the nodes so far
+-- the answer for the nodes so far
 abbrev pub invariant-loop-v : goal.invariant-loop-v
 invariant-loop-v l = ToldBelow (sums_at passes_Q l.net.net l.sets l.rate l.flows) (IsBalanced l.net.net l.sets l.rate l.flows) (range_with_len 0 l.net.net.nodes) l.v l.all

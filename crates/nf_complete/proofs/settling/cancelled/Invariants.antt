@@ -5,7 +5,7 @@ use Rattle.nf_complete.proofs.Interiors.{set_count}
 use Rattle.nf_complete.proofs.CancelsOn.{CancelsOn}
 use Rattle.nf_complete.proofs.settling.cancelled.Given as goal
 
--- what the flows so far come to, the first flows come to; and the interior links before one are a forest
+-- the first flows have the results of the flows so far, and the interior links before `known` are a forest
 abbrev pub invariant-loop-new : goal.invariant-loop-new
 invariant-loop-new l = CancelsOn passes_Q l.net.net l.sets l.fn.rate l.slopes l.fulls l.flows l.new.items × AreForestBelow l.net.net l.sets l.slopes l.new.items l.known
 
