@@ -1,9 +1,9 @@
-// A case, and those of the input.
+// Cases of the input.
 use crate::line::add_line;
 use std::alloc::{AllocError, Global};
 use std::io;
 
-/// A case: its title, what is asked of it, a line each, and its text, which mostly is the file of a network.
+/// A case: a title, the question, one line each, and a text, which usually is a network file.
 #[derive(Drop)]
 pub struct Case {
     pub title: String,
@@ -12,7 +12,7 @@ pub struct Case {
 }
 
 impl Case {
-    // A case with nothing but its title.
+    // Returns a case with this title, without question and text.
     fn new(alloc: Global, title: &str) -> Result<Case, AllocError> {
         Ok(Case {
             title: title.to_owned(alloc)?,
@@ -21,7 +21,7 @@ impl Case {
         })
     }
 
-    // Adds a line that says what is asked.
+    // Adds a line to the question.
     fn add_asked(&mut self, words: &str) -> Result<(), AllocError> {
         if !self.asked.is_empty() {
             self.asked.push_str("\n")?;
@@ -29,7 +29,7 @@ impl Case {
         self.asked.push_str(words)
     }
 
-    // Adds a line of the input that begins no case.
+    // Adds a line of the input that does not begin a case.
     fn add_line(&mut self, line: &str) -> Result<(), AllocError> {
         match line.strip_prefix("++ ") {
             Some(words) => self.add_asked(words),
@@ -38,14 +38,14 @@ impl Case {
     }
 }
 
-// Adds a case of this title.
+// Adds a case with this title.
 fn add_case(alloc: Global, cases: &mut Vec<Case>, title: &str) -> Result<(), AllocError> {
     let case = Case::new(alloc, title)?;
     cases.push(case)?;
     Ok(())
 }
 
-// Takes in a line of the input.
+// Reads a line of the input. Ignores lines before the first case.
 fn take_line(alloc: Global, cases: &mut Vec<Case>, line: &str) -> Result<(), AllocError> {
     if let Some(title) = line.strip_prefix("== ") {
         return add_case(alloc, cases, title);
@@ -56,7 +56,7 @@ fn take_line(alloc: Global, cases: &mut Vec<Case>, line: &str) -> Result<(), All
     }
 }
 
-// Takes in all lines of the input.
+// Reads all lines of the input.
 fn take_lines<R: Input + AllocGlobal>(rt: &R, cases: &mut Vec<Case>) -> io::Result<()> {
     for line in rt.lines(rt.alloc()) {
         let line = line?;
@@ -65,7 +65,7 @@ fn take_lines<R: Input + AllocGlobal>(rt: &R, cases: &mut Vec<Case>) -> io::Resu
     Ok(())
 }
 
-/// The cases of the input.
+/// Returns the cases of the input. Fails if reading or an allocation fails.
 pub fn read_cases<R: Input + AllocGlobal>(rt: &R) -> io::Result<Vec<Case>> {
     let mut cases = Vec::new(rt.alloc());
     take_lines(rt, &mut cases)?;

@@ -1,10 +1,11 @@
-//! Cases that programs read from their input, and what they print of them alike. The input is cases, one after another:
+//! This crate reads cases from the input of a program, and contains printing functions that several programs share. The input is a list
+//! of cases:
 //!
 //!     == TITLE       begins a case
-//!     ++ WORDS       says what is asked of the case
-//!     LINE           any other line is one of its text, which mostly is the file of a network
+//!     ++ WORDS       states a question about the case
+//!     LINE           any other line belongs to the text, which usually is a network file
 //!
-//! In a line of a text `\` and two hexadecimal digits stand for the byte of that number, and a `\` at the end says that no LF follows.
+//! In a line of a text, `\` and two hexadecimal digits represent the byte of that number. A `\` at the end means that no LF follows.
 #![tactic(auto)]
 
 mod case;

@@ -1,7 +1,7 @@
-// A line of a case's file, and the bytes that it stands for.
+// A line of a case's text, and the bytes that it represents.
 use std::alloc::AllocError;
 
-// How far an escape in a line has come.
+// The state of an escape sequence: none, after `\`, or after `\` and one digit.
 #[derive(Clone, Copy)]
 enum Escape {
     None,
@@ -9,7 +9,7 @@ enum Escape {
     Half(u8),
 }
 
-// The value of a hexadecimal digit.
+// Returns the value of a hexadecimal digit.
 fn digit(byte: u8) -> u8 {
     match byte {
         b'0'..=b'9' => byte - b'0',
@@ -18,8 +18,8 @@ fn digit(byte: u8) -> u8 {
     }
 }
 
-/// Adds the bytes that a line stands for: `\` and two hexadecimal digits are the byte of that number, any other byte is itself.
-/// LF follows, unless the line ends with `\`.
+/// Appends the bytes that a line represents. `\` and two hexadecimal digits represent the byte of that number; any other byte represents
+/// itself. LF follows, unless the line ends with `\`. Fails only if the allocation fails.
 pub fn add_line(text: &mut Vec<u8>, line: &[u8]) -> Result<(), AllocError> {
     let mut escape = Escape::None;
     for byte in line {

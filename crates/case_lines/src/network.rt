@@ -6,7 +6,7 @@ use crate::case::Case;
 use nf_net::{LONGEST_FILE, NetFault, Network, parse};
 use std::io;
 
-/// Prints the title of a case, and gives the network of its file; where there is none, prints why.
+/// Prints the title of a case, and returns the network of its text. Prints the reason and returns None if the text is not a network file.
 pub fn network_of<R: Print + AllocGlobal>(rt: &R, case: &Case) -> io::Result<Option<Network>> {
     println!(rt; "== {}", case.title)?;
     if case.text.len() > LONGEST_FILE as usize {

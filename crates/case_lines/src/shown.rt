@@ -1,13 +1,13 @@
-// Numbers, and operations that pass, as they are printed.
+// Printed forms of numbers and of operations that pass.
 use nf_frac::{Frac, Op, PassedAt, Q, TextBuf};
 use std::{fmt, io};
 
-/// Bytes as text; `?` where they are none.
+/// Returns the bytes as text, or `?` if they are not UTF-8.
 pub fn as_text(bytes: &[u8]) -> &str {
     std::str::from_utf8(bytes).unwrap_or("?")
 }
 
-/// A number as files write it.
+/// A number that is printed as in files.
 #[derive(Drop)]
 pub struct Shown<const BITS: u32>(pub Frac<BITS>);
 
@@ -19,7 +19,7 @@ impl<const BITS: u32> fmt::Display for Shown<BITS> {
     }
 }
 
-/// The word of an operation.
+/// Returns the printed name of an operation.
 pub fn op_word(op: Op) -> &'static str {
     match op {
         Op::Sum => "sum",

@@ -6,7 +6,7 @@ ghost use Rattle.nf_rational.specs.Order.{◌≤ℚ◌};
 use nf_frac::Q;
 use std::alloc::Global;
 
-/// The number of a word, which isn't negative.
+/// Returns the number that the word writes, if it is not negative.
 #[tactic(auto, using(nf_rational_laws::proofs::Tests::le_of_test))]
 pub fn not_negative(word: &str) -> Option<Q>
     ensures { IfSome result (λ number. 0ℚ ≤ℚ number) }
@@ -17,7 +17,7 @@ pub fn not_negative(word: &str) -> Option<Q>
     }
 }
 
-// Adds the numbers of words, up to a word that is none.
+// Appends the numbers that the words write. Stops with None at the first word that is not a number.
 fn add_numbers(numbers: &mut Vec<Q>, words: &str) -> Option<()> {
     for word in words.split_whitespace() {
         let number = Q::read(word.as_bytes()).ok()?;
@@ -26,7 +26,7 @@ fn add_numbers(numbers: &mut Vec<Q>, words: &str) -> Option<()> {
     Some(())
 }
 
-/// The numbers of words; None where a word is no number or memory is wanting.
+/// Returns the numbers that the words write. Returns None if a word is not a number or an allocation fails.
 pub fn numbers(alloc: Global, words: &str) -> Option<Vec<Q>> {
     let mut numbers = Vec::new(alloc);
     add_numbers(&mut numbers, words)?;

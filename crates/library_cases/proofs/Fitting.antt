@@ -1,4 +1,4 @@
--- Sets of labels that are as the test of a thin flow asks.
+-- Sets of labels that satisfy the preconditions of the thin flow test.
 use Rattle.std.proofs.Common.{◌≡◌, ℕ, ◌<◌, List, length, true, Some, Option, sym, ap, subst, ◌∙◌, arith}
 use Rattle.std.specs.Prelude.{is_none, Ok}
 use Rattle.std.proofs.lemmas.List.{length-map}

@@ -1,4 +1,4 @@
-// What lines are made of: fields, numbers, states and networks.
+// Parts of question lines: fields, numbers, states and networks.
 ghost use Rattle.std.specs.Prelude.{◌≡◌, length, IfSome};
 
 use nf_frac::Q;
@@ -8,7 +8,8 @@ use nf_net::{Network, parse};
 use nf_pattern::Pattern;
 use std::alloc::Global;
 
-/// The fields of a line, empty ones beyond its end: what is asked, a number, words, states of links, their slacks, and a network.
+/// The fields of a line; missing fields are empty. They are the question, a number, words, states of links, slacks of links, and a
+/// network.
 #[derive(Clone, Copy)]
 pub struct Fields<'a> {
     pub asked: &'a str,
@@ -20,7 +21,7 @@ pub struct Fields<'a> {
 }
 
 impl<'a> Fields<'a> {
-    /// The fields of a line.
+    /// Splits a line into its fields.
     pub fn of(line: &'a str) -> Fields<'a> {
         let mut fields = line.split('|');
         let asked = fields.next().unwrap_or("");
@@ -40,17 +41,17 @@ impl<'a> Fields<'a> {
     }
 }
 
-/// The number of a word.
+/// Returns the number that the word writes.
 pub fn number(word: &str) -> Option<Q> {
     Q::read(word.as_bytes()).ok()
 }
 
-// The byte of a file that a byte of a field stands for.
+// Returns the byte of a file that a byte of a field represents: LF for `;`.
 fn file_byte(byte: u8) -> u8 {
     if byte == b';' { b'\n' } else { byte }
 }
 
-/// The network of a field.
+/// Returns the network that a field contains. Returns None if its file has more than 10,000 bytes or is not a network file.
 pub fn network(alloc: Global, field: &str) -> Option<Network> {
     let mut file = Vec::new(alloc);
     for byte in field.as_bytes() {
@@ -62,7 +63,7 @@ pub fn network(alloc: Global, field: &str) -> Option<Network> {
     parse(alloc, &file).ok()
 }
 
-// The state of a letter.
+// Returns the state that a letter represents.
 fn state_of(letter: u8) -> Option<State> {
     match letter {
         b'T' => Some(State::Tight),
@@ -72,7 +73,7 @@ fn state_of(letter: u8) -> Option<State> {
     }
 }
 
-/// The states of so many links, from the letters of a word; none beyond its end.
+/// Returns the states of `links` links, given by the letters of a word. Links beyond the end of the word have no state.
 pub fn pattern(alloc: Global, links: u32, word: &str) -> Option<Pattern>
     ensures { IfSome result (λ pattern. length pattern ≡ links) }
 {

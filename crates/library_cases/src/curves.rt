@@ -1,17 +1,17 @@
-// Calls over curves. A line is a call:
+// Calls over curves. Each line is a call:
 //
-//     points CURVE                       the points, one after the other
+//     points CURVE                       the points, in order
 //     value CURVE | TIME                 the value at the time
 //     sum LEFT | RIGHT                   the points of the sum
-//     least LEFT | RIGHT                 the points of the lesser one at every time
+//     least LEFT | RIGHT                 the points of the pointwise minimum
 //     cut CURVE | UNTIL                  the points of the cut
-//     compose OUTER | INNER | UNTIL      the points of the outer curve at the values of the inner one
+//     compose OUTER | INNER | UNTIL      the points of the composition
 //     short CURVE                        the points of the short form
-//     difference LEFT | RIGHT | UNTIL    `none`, or where the curves differ first: the time and both values
+//     difference LEFT | RIGHT | UNTIL    `none`, or the first difference: the time and both values
 //
-// A curve is its points, for each the time and the value: the times rise strictly from 0. Where an operation passes, the answer is
-// `passed`, the operation and its operands. It is `no case` where the line has another form, where a time is negative, and where
-// the inner curve has a point with a negative value.
+// A curve is written as a time and a value for each point; the times increase strictly from 0. If an operation passes, the answer is
+// `passed`, the operation and its operands. The answer is `no case` if the line has another form, a time is negative, or the inner
+// curve has a point with a negative value.
 mod answers;
 mod reading;
 mod telling;

@@ -1,5 +1,5 @@
-// What shelves give and sinks take, in memory and real. A line asks for one of these, and its answer is a line for each fetch or each
-// text that is written:
+// Fetches from shelves and writes to sinks, in memory and real. A line asks for one of these. Its answer has a line for each fetch or
+// each written text:
 //
 //     shelf    a shelf in memory
 //     sinks    sinks in memory
@@ -11,7 +11,7 @@ mod real;
 use nf_edge::{Sink, write_text};
 use std::io;
 
-/// What comes of a text that is written.
+/// Writes a text into the sink, and returns the printed outcome.
 pub fn answer_of<S: Sink>(sink: &mut S) -> &'static str {
     match write_text(sink, b"report") {
         Ok(()) => "written",

@@ -1,13 +1,13 @@
-// What a phase is found by: linear systems, slacks, link sets, patterns, verdicts and searches. Each line asks for one, and its answer is
-// a line. The fields of a line are parted by `|`:
+// Steps of finding a phase: linear systems, slacks, link sets, patterns, verdicts and searches. Each line asks for one step, and its
+// answer is a line. `|` separates the fields of a line:
 //
-//     table|SIZE|NUMBERS, grid|SIZE|NUMBERS    the solution of a system, with memory or without
-//     small|SIZE|NUMBERS                       the same over small numbers
+//     table|SIZE|NUMBERS, grid|SIZE|NUMBERS    the solution of a system, computed with or without allocation
+//     small|SIZE|NUMBERS                       the solution of a system, over small numbers
 //     sets||SLACKS                             the sets of links with these slacks
 //     slacks||LABELS|||NET                     the slacks of the links at the labels of the nodes
-//     QUESTION|RATE|WORDS|STATES|SLACKS|NET    what is asked of a phase: the links' slacks, and the states of the last phase
+//     QUESTION|RATE|WORDS|STATES|SLACKS|NET    a question about a phase, with slacks of the links and states of the last phase
 //
-// A network is its file with `;` for each end of a line. States are letters, `-` for none; numbers are words.
+// A network is written as its file, with `;` for each LF. States are letters, with `-` for none. Numbers are words.
 ghost use Rattle.nf_model.specs.Network.{unbounded};
 ghost use Rattle.nf_model.specs.Pattern.{IsPattern};
 ghost use Rattle.nf_thin.specs.Searching.{AreSetsOf};
@@ -22,7 +22,7 @@ use nf_net::Network;
 use nf_pattern::Pattern;
 use std::io;
 
-// What is asked of a phase, with the pattern that it begins with.
+// Answers a question about a phase with this base pattern.
 fn tell_phase(
     rt: &HostRuntime,
     net: &Network,
@@ -49,7 +49,7 @@ fn tell_phase(
     }
 }
 
-// What is asked of a network.
+// Answers a question about a network.
 fn tell_network(rt: &HostRuntime, net: &Network, fields: Fields) -> io::Result<()> {
     if fields.asked == "slacks" {
         return questions::tell_slacks(rt, net, fields.words);
@@ -60,7 +60,7 @@ fn tell_network(rt: &HostRuntime, net: &Network, fields: Fields) -> io::Result<(
     }
 }
 
-// What a line asks.
+// Answers a line.
 fn tell_line(rt: &HostRuntime, fields: Fields) -> io::Result<()> {
     match fields.asked {
         "table" => return systems::tell_table(rt, fields.number, fields.words),
@@ -75,7 +75,7 @@ fn tell_line(rt: &HostRuntime, fields: Fields) -> io::Result<()> {
     }
 }
 
-/// Prints the title of a case, and what its lines ask.
+/// Prints the title of a case, and the answers to its lines.
 pub fn tell(rt: &HostRuntime, case: &Case) -> io::Result<()> {
     println!(rt; "== {}", case.title)?;
     for line in as_text(&case.text).lines() {

@@ -1,4 +1,4 @@
-// The sets of labels, where they are as the test of a thin flow asks.
+// The sets of labels, if they satisfy the preconditions of the thin flow test.
 ghost use Rattle.std.specs.Prelude.{◌≡◌, ◌<◌, ℕ, length, IsTrue, IfSome};
 ghost use Rattle.nf_model.specs.Entries.{Has};
 ghost use Rattle.nf_model.specs.Network.{Link as SeenLink, unbounded};
@@ -12,7 +12,7 @@ use nf_net::Network;
 use nf_sets::{sets, slacks};
 use std::alloc::Global;
 
-// The link has a capacity, or else isn't resetting.
+// Returns whether the link has a capacity or is not resetting.
 fn is_bounded(net: &Network, sets: &LinkSets, link: LinkId) -> bool
     requires link { link < length net.now.net.links }
     requires sets { length sets.now.active ≡ length net.now.net.links }
@@ -24,7 +24,7 @@ fn is_bounded(net: &Network, sets: &LinkSets, link: LinkId) -> bool
     !sets.resetting(link)
 }
 
-// It isn't an active one into the source.
+// Returns whether the link is inactive or does not enter the source.
 fn is_outward(net: &Network, sets: &LinkSets, link: LinkId) -> bool
     requires link { link < length net.now.net.links }
     requires sets { length sets.now.active ≡ length net.now.net.links }
@@ -37,7 +37,7 @@ fn is_outward(net: &Network, sets: &LinkSets, link: LinkId) -> bool
     here.head != net.source()
 }
 
-// All links are so.
+// Returns whether all links satisfy `is_bounded` and `is_outward`.
 fn are_fit(net: &Network, sets: &LinkSets) -> bool
     requires sets { length sets.now.active ≡ length net.now.net.links }
     ensures bounded { IsTrue result → (e : ℕ) → Has (unbounded net.now.net) e → Has sets.now.resetting e → ⊥ }
@@ -55,7 +55,7 @@ fn are_fit(net: &Network, sets: &LinkSets) -> bool
     true
 }
 
-// The sets of the slacks at these labels.
+// Returns the sets of the slacks at these labels.
 fn made_sets(alloc: Global, net: &Network, labels: &[Q]) -> Option<LinkSets>
     requires { length labels.now ≡ net.now.net.nodes }
     ensures { IfSome result (λ sets. sets ≡ sets_at net.now.net labels.now) }
@@ -69,12 +69,12 @@ fn made_sets(alloc: Global, net: &Network, labels: &[Q]) -> Option<LinkSets>
     }
 }
 
-/// The sets of the slacks at these labels, where they are as the test of a thin flow asks.
+/// Returns the sets of the slacks at these labels, if they satisfy the preconditions of the thin flow test.
 pub fn fit_sets(alloc: Global, net: &Network, labels: &[Q]) -> Option<LinkSets>
     ensures good { IfSome result (λ sets. AreFitSets net.now.net sets) }
     ensures source { IfSome result (λ sets. NoneEntersSource net.now.net sets) }
 {
-    // For the proof: what is read is a network.
+    // Proof: a network that was read is well formed.
     let _ = net.hops();
     if labels.len() != net.node_count() as usize {
         return None;

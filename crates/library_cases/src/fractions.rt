@@ -1,16 +1,16 @@
-// What checked fractions answer. A line is a question; values are words of fractions:
+// Answers of checked fractions. A line is a question; values are words that write fractions:
 //
-//     make BITS NUM DEN       the parts of the fraction of these two numbers, whose parts have at most so many bits
+//     make BITS NUM DEN       numerator and denominator of the fraction of these numbers, with at most BITS bits each
 //     narrow OP LEFT RIGHT    the operation on fractions of 15 bits
-//     short OP LEFT RIGHT     the operation on small fractions that stay so
+//     short OP LEFT RIGHT     the operation on small fractions, whose result must be small
 //     wide OP LEFT RIGHT      the operation on fractions of 127 bits, with the form of its value
-//     order LEFT RIGHT        how the two compare, by each call that compares, and whether their hashes are equal
+//     order LEFT RIGHT        the comparison of both, by each comparing call, and whether their hashes are equal
 //     read WORD               the printed form of a word
-//     decimal WORD            the same where decimals are allowed
+//     decimal WORD            the same, with decimals allowed
 //     less A B C              a · b - c, by callers of `Scalar` and of `at!`
-//     ratio A B               the quotient, or 0 where b is 0, and the lesser of the two
+//     ratio A B               the lesser of both, and the quotient, or 0 if b is 0
 //
-// The line is printed, and then the answer. An operation that passes is told with its operands.
+// The program prints the line, and then the answer. An operation that passes is printed with its operands.
 mod making;
 mod operations;
 mod ordering;
@@ -20,12 +20,12 @@ use case_lines::Shown;
 use nf_frac::{NumberFault, Q};
 use std::io;
 
-// The first word, and the others.
+// Splits the first word from the others.
 fn split(words: &str) -> (&str, &str) {
     words.split_once(' ').unwrap_or((words, ""))
 }
 
-// The printed form of what a word is read as, or why it is none.
+// Prints the fraction that a word writes, or the fault.
 fn tell_reading(rt: &HostRuntime, reading: Result<Q, NumberFault>) -> io::Result<()> {
     match reading {
         Ok(value) => println!(rt; "{}", Shown(value)),
@@ -33,7 +33,7 @@ fn tell_reading(rt: &HostRuntime, reading: Result<Q, NumberFault>) -> io::Result
     }
 }
 
-// Answers a question of up to three words, empty ones beyond their end.
+// Answers a question with up to three words; missing words are empty.
 fn answer(rt: &HostRuntime, question: &str, words: &str) -> io::Result<()> {
     let (first, others) = split(words);
     let (second, third) = split(others);

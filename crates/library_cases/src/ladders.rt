@@ -1,5 +1,5 @@
-// The canonical texts of ladders. Each line has a number and how many rungs, of which there are 1 to 30; for any other line `no ladder`
-// is printed.
+// The canonical texts of ladders. Each line has a number and the number of rungs, from 1 to 30. Any other line is answered by `no
+// ladder`.
 ghost use Rattle.std.specs.Prelude.{◌≤◌};
 ghost use Rattle.nf_gen.specs.Ladder.{most_rungs};
 
@@ -9,7 +9,7 @@ use nf_net::text;
 use std::alloc::{AllocError, Global};
 use std::io;
 
-// The number and the rungs of a line.
+// Returns the number and the rungs of a line.
 fn asked(line: &str) -> Option<(u64, u32)> {
     let (number, rungs) = line.split_once(' ')?;
     Some((number.parse().ok()?, rungs.parse().ok()?))
@@ -23,7 +23,7 @@ fn ladder(alloc: Global, number: u64, rungs: u32) -> Result<Vec<u8>, AllocError>
     text(alloc, &net)
 }
 
-// The text of a ladder.
+// Prints the text of a ladder.
 fn tell_ladder(rt: &HostRuntime, number: u64, rungs: u32) -> io::Result<()>
     requires some { 1 ≤ rungs }
     requires few { rungs ≤ most_rungs }
@@ -32,7 +32,7 @@ fn tell_ladder(rt: &HostRuntime, number: u64, rungs: u32) -> io::Result<()>
     print!(rt; "{}", as_text(&text))
 }
 
-// The text of the ladder of a line, if it asks for one.
+// Prints the text of the ladder that a line requests.
 fn tell_line(rt: &HostRuntime, line: &str) -> io::Result<()> {
     match asked(line) {
         Some((number, rungs)) if 1 <= rungs && rungs <= 30 => tell_ladder(rt, number, rungs),
@@ -40,7 +40,7 @@ fn tell_line(rt: &HostRuntime, line: &str) -> io::Result<()> {
     }
 }
 
-/// Prints the title of a case, and the texts of the ladders that its lines ask for.
+/// Prints the title of a case, and the texts of the ladders that its lines request.
 pub fn tell(rt: &HostRuntime, case: &Case) -> io::Result<()> {
     println!(rt; "== {}", case.title)?;
     for line in as_text(&case.text).lines() {

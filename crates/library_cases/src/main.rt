@@ -1,19 +1,23 @@
-//! What libraries answer that no command shows. The input is cases in the form of `case_lines`, and what is asked says what a case is:
+//! This program prints answers of libraries that no command shows. The input is cases in the form of `case_lines`. The question of a
+//! case determines its kind:
 //!
-//!     nothing                a subject with questions of it, a line each; what can be asked stands at `subjects`
+//!     nothing                a subject with questions, one on each line; the module `subjects` lists them
 //!     lines                  a text
-//!     ladders                each line asks for a ladder
-//!     phases                 each line asks for something that a phase is found by; what a line asks stands at `finding`
-//!     network WORD ..        what the network is, and what it answers to the words: a number is a time, any other word a name
-//!     labels L ..            the labels of the nodes, in node order; without such a line, those of departure 0
+//!     ladders                each line requests a ladder
+//!     phases                 each line asks for a step of finding a phase; the module `finding` lists the questions
+//!     network WORD ..        a network, and its answers to the words: a number is a time, any other word a name
+//!     labels L ..            the labels of the nodes, in node order; without this line, those of departure 0
 //!     flows X ..             the flows of the links, in link order
 //!     slopes L ..            the slopes of the nodes, in node order
 //!
-//! Of each case the title is printed, and then what is answered. Of a text it is its lines with their words, `+` before a plain one and `-`
-//! before another, or the first line that has a fault; of ladders their canonical texts; of a network the nodes with their start labels,
-//! the idle nodes, the links, the nodes in an order along all links, and what it answers to the words. With flows and slopes, which have
-//! the sets of the labels and the rate from time 0 on, the answer is `no thin flow`; or what they are settled to: the state of each link
-//! that has one, the flow of each link, and `end`. Where an operation passes, it is told in the place of the answer.
+//! For each case, the program prints the title and then the answer. For a text, the answer is its lines with their words, or the first
+//! line that has a fault. `+` marks a plain line and `-` any other. For ladders, the answer is their canonical texts. For a network, the
+//! answer is the nodes with their start labels, the idle nodes, the links, an order of the nodes along all links, and the answers to the
+//! words.
+//!
+//! With flows and slopes, the program uses the sets of the labels and the rate from time 0 on. The answer is `no thin flow`, or the
+//! settled thin flow: the state of each link that has one, the flow of each link, and `end`. If an operation passes, the answer is that
+//! operation.
 #![tactic(auto)]
 
 mod asking;
@@ -41,7 +45,7 @@ use case_lines::{Case, network_of, read_cases};
 use nf_net::Network;
 use std::io;
 
-// Tells of a network.
+// Prints a network and its answers, or settles a thin flow in it.
 fn tell_network(rt: &HostRuntime, net: &Network, asked: &str) -> io::Result<()> {
     match asked.strip_prefix("network") {
         Some(words) => network::tell(rt, net, words),
@@ -49,7 +53,7 @@ fn tell_network(rt: &HostRuntime, net: &Network, asked: &str) -> io::Result<()> 
     }
 }
 
-// Tells of a case with a network.
+// Answers a case with a network.
 fn tell_of_network(rt: &HostRuntime, case: &Case) -> io::Result<()> {
     match network_of(rt, case)? {
         Some(net) => tell_network(rt, &net, case.asked.as_str()),

@@ -1,4 +1,4 @@
-// Parts of the work, operations and states by their names.
+// The names of parts of the work, operations and states.
 use nf_frac::{Op, Part};
 use nf_model::State;
 

@@ -1,4 +1,4 @@
-// What a network file is read as.
+// A network as read from its file.
 use crate::shown::{FoundNumber, OrWord};
 use case_lines::{Shown, op_word};
 use nf_frac::Q;
@@ -43,7 +43,7 @@ fn tell_links(rt: &HostRuntime, net: &Network) -> io::Result<()> {
     Ok(())
 }
 
-// The nodes in an order in which every link leads to a later one; None where the links hold a cycle.
+// Returns the nodes in an order in which every link leads to a later node. Returns None if some links form a cycle.
 fn order_of(alloc: Global, net: &Network) -> Result<Option<Vec<NodeId>>, AllocError> {
     let hops = net.hops();
     let all = vec![in alloc; true; hops.len()]?;
@@ -58,7 +58,7 @@ fn tell_order(rt: &HostRuntime, order: &[NodeId]) -> io::Result<()> {
     println!(rt; "")
 }
 
-// What the source is supplied with up to a time, or the operation that passes; nothing is said of times below 0.
+// Prints the supply up to a time, or the operation that passes. Prints `supplied -` for a negative time.
 #[tactic(auto, using(nf_rational_laws::proofs::Tests::le_of_test))]
 fn tell_supply(rt: &HostRuntime, net: &Network, time: Q) -> io::Result<()> {
     if !Q::zero().is_at_most(time) {
@@ -115,7 +115,7 @@ fn tell_parts(rt: &HostRuntime, net: &Network) -> io::Result<()> {
     tell_ordered(rt, net)
 }
 
-/// Prints what a network is, and what it answers to words.
+/// Prints a network, and its answers to the words.
 pub fn tell(rt: &HostRuntime, net: &Network, words: &str) -> io::Result<()> {
     tell_parts(rt, net)?;
     tell_words(rt, net, words)

@@ -1,12 +1,12 @@
-// What words of numbers are read as, and how numbers are printed. A line is a question and a word:
+// Reading and printing numbers. A line is a question and a word:
 //
-//     parts WORD      the parts of the fraction, at most 2^127 - 1
-//     decimal WORD    the same where decimals are allowed
-//     narrow WORD     the same where the parts are at most 32,767
-//     printed WORD    the printed form of the fraction with these parts
+//     parts WORD      numerator and denominator of the fraction, at most 2^127 - 1
+//     decimal WORD    the same, with decimals allowed
+//     narrow WORD     the same, with decimals, for a numerator and denominator of at most 32,767
+//     printed WORD    the printed form of the fraction
 //     count WORD      the count, printed
 //
-// The line is printed, and then the answer, or why there is none.
+// The program prints the line, and then the answer or the fault.
 use case_lines::as_text;
 use nf_numerals::{NumberFault, TextBuf, count, decimal_parts, parts, write_count, write_parts};
 use std::io;
@@ -17,7 +17,7 @@ const WIDEST: u128 = 170141183460469231731687303715884105727;
 /// 2^15 - 1.
 const NARROW: u128 = 32767;
 
-// The parts of a fraction, or why there are none.
+// Prints numerator and denominator, or the fault.
 fn tell_parts(rt: &HostRuntime, read: Result<(i128, u128), NumberFault>) -> io::Result<()> {
     match read {
         Ok((num, den)) => println!(rt; "{num} over {den}"),
@@ -51,7 +51,7 @@ fn tell_count(rt: &HostRuntime, word: &[u8]) -> io::Result<()> {
     }
 }
 
-// Answers a question of a word.
+// Answers a question about a word.
 fn answer(rt: &HostRuntime, question: &str, word: &[u8]) -> io::Result<()> {
     match question {
         "parts" => tell_parts(rt, parts(word, WIDEST)),

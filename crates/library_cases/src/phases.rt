@@ -1,4 +1,4 @@
-// Phases: a network, its link sets, and the pattern to begin with.
+// Phases: the link sets of a network, and the base pattern.
 ghost use Rattle.std.specs.Prelude.{◌≡◌, ◌<◌, ℕ, length, Some, true, false, IfOk, IfSome, IsTrue};
 ghost use Rattle.nf_model.specs.Entries.{Has};
 ghost use Rattle.nf_model.specs.Network.{unbounded};
@@ -25,7 +25,7 @@ fn is_full(state: Option<State>) -> bool
     }
 }
 
-// The link has a capacity, or else is not resetting and was not Full.
+// Returns whether the link has a capacity, or is neither resetting nor was Full.
 fn is_fit(net: &Network, sets: &LinkSets, last: &Pattern, link: LinkId) -> bool
     requires link { link < length net.now.net.links }
     requires sets { length sets.now.active ≡ length net.now.net.links }
@@ -39,7 +39,7 @@ fn is_fit(net: &Network, sets: &LinkSets, last: &Pattern, link: LinkId) -> bool
     !sets.resetting(link) && !is_full(last.state(link))
 }
 
-// All links are fit.
+// Returns whether `is_fit` holds for all links.
 fn are_fit(net: &Network, sets: &LinkSets, last: &Pattern) -> bool
     requires sets { length sets.now.active ≡ length net.now.net.links }
     requires last { length last.now ≡ length net.now.net.links }
@@ -54,7 +54,7 @@ fn are_fit(net: &Network, sets: &LinkSets, last: &Pattern) -> bool
     true
 }
 
-// The sets of these slacks, and the pattern to begin with after this last one.
+// Returns the sets of these slacks, and the base pattern after the pattern `last`.
 fn begin(
     alloc: Global,
     net: &Network,
@@ -76,7 +76,7 @@ fn begin(
     Ok(Some((sets, first)))
 }
 
-/// The phase of a network with these slacks of its links, after one with these states.
+/// Returns the sets and the base pattern of a phase, for these slacks of the links, after a phase with these states.
 pub fn phase(
     alloc: Global,
     net: &Network,

@@ -1,4 +1,4 @@
-// Slacks, link sets, patterns, and what holds of one pattern.
+// Slacks, link sets, patterns, and properties of a pattern.
 ghost use Rattle.std.specs.Prelude.{◌≡◌, length};
 ghost use Rattle.nf_model.specs.Network.{unbounded};
 ghost use Rattle.nf_model.specs.Pattern.{IsPattern};
@@ -15,7 +15,7 @@ use nf_thin::parts::{can_conserve, full_flows, listing, part_values};
 use nf_thin::{Judged, verdict};
 use std::io;
 
-// The slacks at these labels.
+// Prints the slacks at these labels.
 fn tell_slacks_at(rt: &HostRuntime, net: &Network, labels: &[Q]) -> io::Result<()>
     requires { length labels.now ≡ net.now.net.nodes }
 {
@@ -26,7 +26,7 @@ fn tell_slacks_at(rt: &HostRuntime, net: &Network, labels: &[Q]) -> io::Result<(
     }
 }
 
-/// The slacks of a network's links, at the labels of its nodes.
+/// Prints the slacks of a network's links, at these labels of its nodes.
 pub fn tell_slacks(rt: &HostRuntime, net: &Network, labels: &str) -> io::Result<()> {
     match numbers(rt.alloc(), labels) {
         Some(labels) if labels.len() == net.node_count() as usize => {
@@ -36,7 +36,7 @@ pub fn tell_slacks(rt: &HostRuntime, net: &Network, labels: &str) -> io::Result<
     }
 }
 
-/// The sets of links with these slacks.
+/// Prints the sets of links with these slacks.
 pub fn tell_sets(rt: &HostRuntime, slacks: &str) -> io::Result<()> {
     match numbers(rt.alloc(), slacks) {
         Some(slacks) => {
@@ -50,7 +50,7 @@ pub fn tell_sets(rt: &HostRuntime, slacks: &str) -> io::Result<()> {
     }
 }
 
-/// The listed patterns of a phase, at most 100 of them, and at last how many were given.
+/// Prints the listed patterns of a phase, at most 100, and then the number of patterns listed so far.
 pub fn tell_patterns(
     rt: &HostRuntime,
     net: &Network,
@@ -74,7 +74,7 @@ pub fn tell_patterns(
     print!(rt; "{}", patterns.place())
 }
 
-// Whether a pattern meets its inequalities, or the first node or link at which it fails.
+// Prints whether a pattern satisfies its inequalities, or the first node or link at which it does not.
 fn tell_judged(rt: &HostRuntime, judged: Judged) -> io::Result<()> {
     match judged {
         Judged::Meets => print!(rt; "Meets"),
@@ -89,7 +89,7 @@ fn tell_judged(rt: &HostRuntime, judged: Judged) -> io::Result<()> {
     }
 }
 
-// The verdict on these numbers: flows, and then slopes.
+// Prints the verdict on these numbers: flows, and then slopes.
 fn tell_verdict_on(
     rt: &HostRuntime,
     net: &Network,
@@ -110,7 +110,7 @@ fn tell_verdict_on(
     }
 }
 
-/// The verdict on a pattern with flows and then slopes.
+/// Prints the verdict on a pattern, with flows and then slopes.
 pub fn tell_verdict(
     rt: &HostRuntime,
     net: &Network,
@@ -127,7 +127,7 @@ pub fn tell_verdict(
     }
 }
 
-// The slopes and flows of a pattern.
+// Prints the slopes and flows of a pattern.
 fn tell_values_of(
     rt: &HostRuntime,
     net: &Network,
@@ -145,7 +145,7 @@ fn tell_values_of(
     print!(rt; "; ")
 }
 
-/// The slopes and flows of patterns with these states, without their tables.
+/// Prints the slopes and flows of patterns with these states, solved without tables.
 pub fn tell_values(
     rt: &HostRuntime,
     net: &Network,
@@ -164,7 +164,7 @@ pub fn tell_values(
     Ok(())
 }
 
-// Whether flow can be conserved at the nodes, with these slopes.
+// Prints whether flow can be conserved at the nodes, with these slopes.
 fn tell_conserves_at(
     rt: &HostRuntime,
     net: &Network,
@@ -176,7 +176,7 @@ fn tell_conserves_at(
     requires sets { AreSetsOf net.now.net sets.now }
     requires pattern { IsPattern sets.now (unbounded net.now.net) pattern.now }
 {
-    // For the proof: the network is well formed.
+    // Proof: the network is well formed.
     let _ = net.hops();
     if slopes.len() != net.node_count() as usize {
         return tell_none(rt);
@@ -189,7 +189,7 @@ fn tell_conserves_at(
     print!(rt; "{can}")
 }
 
-/// Prints whether flow can be conserved at the nodes, with the slopes of these words.
+/// Prints whether flow can be conserved at the nodes, with the slopes that the words write.
 pub fn tell_conserves(
     rt: &HostRuntime,
     net: &Network,

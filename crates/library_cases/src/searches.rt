@@ -13,13 +13,13 @@ use nf_thin::parts::{find_by_slopes, is_within};
 use nf_thin::{MOST_GRID_UNKNOWNS, SearchFault, Thin, Tried, search, try_pattern, unknown_count};
 use std::io;
 
-// Flows and slopes.
+// Prints flows and slopes.
 fn tell_flows(rt: &HostRuntime, flows: &[Q], slopes: &[Q]) -> io::Result<()> {
     tell_numbers(rt, " flows", flows)?;
     tell_numbers(rt, " slopes", slopes)
 }
 
-// A thin flow: its place, its flows and its slopes.
+// Prints a thin flow: the rank of its pattern, the flows and the slopes.
 fn tell_thin(rt: &HostRuntime, thin: &Thin) -> io::Result<()> {
     print!(rt; "place {}", thin.place)?;
     tell_flows(rt, &thin.flows, &thin.labels)
@@ -37,7 +37,7 @@ fn tell_fault(rt: &HostRuntime, fault: &SearchFault) -> io::Result<()> {
     }
 }
 
-// What comes of the search with a budget.
+// Prints the result of a search with this budget.
 fn tell_search(
     rt: &HostRuntime,
     net: &Network,
@@ -55,7 +55,7 @@ fn tell_search(
     }
 }
 
-/// Searches in a phase, with each of these budgets.
+/// Prints the results of searches in a phase, one for each of these budgets.
 pub fn tell_searches(
     rt: &HostRuntime,
     net: &Network,
@@ -77,7 +77,7 @@ pub fn tell_searches(
     Ok(())
 }
 
-// The place of a listed pattern, if it is within the budget: the least one within which the pattern stands.
+// Prints the rank of a listed pattern, if it is within the budget. The rank is the least budget that includes the pattern.
 fn tell_place(
     rt: &HostRuntime,
     net: &Network,
@@ -98,7 +98,7 @@ fn tell_place(
     Ok(())
 }
 
-/// The search by slopes alone, with this budget.
+/// Prints the result of the search by slopes alone, with this budget.
 pub fn tell_by_slopes(
     rt: &HostRuntime,
     net: &Network,
@@ -123,7 +123,7 @@ pub fn tell_by_slopes(
     }
 }
 
-/// What comes of a pattern that is tried.
+/// Prints the result of trying a pattern.
 pub fn tell_tried(
     rt: &HostRuntime,
     net: &Network,

@@ -1,4 +1,4 @@
-// Answers as lines of the output.
+// Settled thin flows, printed as lines.
 ghost use Rattle.std.specs.Prelude.{◌≡◌, ◌<◌, length};
 
 use case_lines::Shown;
@@ -9,7 +9,7 @@ use nf_net::{LinkId, Network};
 use nf_pattern::Pattern;
 use std::io;
 
-// The word of a state.
+// Returns the printed name of a state.
 fn state_word(state: State) -> &'static str {
     match state {
         State::Tight => "tight",
@@ -31,7 +31,7 @@ fn tell_state(rt: &HostRuntime, net: &Network, pattern: &Pattern, link: LinkId) 
     }
 }
 
-// The flows of links.
+// Prints the flows of the links.
 fn tell_link_flows(rt: &HostRuntime, net: &Network, flows: &[Q]) -> io::Result<()> {
     for e in 0..net.link_count() {
         if let Some(flow) = flows.get(e as usize) {
@@ -42,7 +42,7 @@ fn tell_link_flows(rt: &HostRuntime, net: &Network, flows: &[Q]) -> io::Result<(
     Ok(())
 }
 
-/// Prints what a thin flow is settled to.
+/// Prints a settled thin flow: the states of the links, the flows of the links, and `end`.
 pub fn tell_settled(rt: &HostRuntime, net: &Network, settled: &Settled) -> io::Result<()>
     requires { length settled.now.pattern ≡ length net.now.net.links }
 {

@@ -1,4 +1,4 @@
-// What is asked of a case, and what is answered.
+// Settling a thin flow that a case states.
 ghost use Rattle.std.specs.Prelude.{◌≡◌, length};
 ghost use Rattle.nf_rational.specs.Operations.{0ℚ};
 ghost use Rattle.nf_rational.specs.Order.{◌≤ℚ◌};
@@ -16,7 +16,7 @@ use nf_net::{Network, start_labels};
 use std::alloc::Global;
 use std::io;
 
-// What the thin flow is settled to.
+// Settles the thin flow, and prints the result.
 fn tell_settling(
     rt: &HostRuntime,
     net: &Network,
@@ -58,7 +58,7 @@ fn tell_flows(
     }
 }
 
-// The words that are asked about under a name, none where the name isn't there.
+// Returns the words after a name, or no words if no line begins with the name.
 fn words_under<'a>(asked: &'a str, name: &str) -> &'a str {
     for line in asked.lines() {
         if let Some(words) = line.strip_prefix(name) {
@@ -68,7 +68,7 @@ fn words_under<'a>(asked: &'a str, name: &str) -> &'a str {
     ""
 }
 
-// The labels that are asked about: the start labels where none are named.
+// Returns the labels that the case states, or the start labels without such a line.
 fn labels_of(alloc: Global, net: &Network, asked: &str) -> Option<Vec<Q>> {
     match words_under(asked, "labels ") {
         "" => start_labels(alloc, net).ok(),
@@ -100,7 +100,7 @@ fn tell_at(rt: &HostRuntime, net: &Network, labels: &[Q], asked: &str) -> io::Re
     }
 }
 
-/// Tells what flows and slopes are settled to in a network, at labels.
+/// Prints the result of settling flows and slopes in a network, at labels.
 pub fn tell(rt: &HostRuntime, net: &Network, asked: &str) -> io::Result<()> {
     match labels_of(rt.alloc(), net, asked) {
         Some(labels) => tell_at(rt, net, &labels, asked),

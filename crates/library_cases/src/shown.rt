@@ -1,9 +1,9 @@
-// What there may be none of, as it is printed.
+// Printed forms of optional values.
 use case_lines::Shown;
 use nf_frac::Q;
 use std::fmt;
 
-/// A number as files write it, or this word for none.
+/// A number that is printed as in files, or this word for None.
 #[derive(Drop)]
 pub struct OrWord(pub Option<Q>, pub &'static str);
 
@@ -16,7 +16,7 @@ impl fmt::Display for OrWord {
     }
 }
 
-/// A number of a node or link, `-` for none.
+/// The number of a node or link, printed as `-` for None.
 #[derive(Drop)]
 pub struct FoundNumber(pub Option<u32>);
 

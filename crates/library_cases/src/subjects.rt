@@ -1,4 +1,5 @@
-// Questions of a subject, a line each: numbers, fractions, curves, and the edge to files. What can be asked stands at each subject.
+// Questions about a subject, one on each line. The subjects are numbers, fractions, curves, and the I/O boundary for files. The module of
+// each subject lists its questions.
 use crate::{curves, edges, fractions, numbers};
 use case_lines::{Case, as_text};
 use std::io;

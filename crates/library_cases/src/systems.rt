@@ -9,7 +9,8 @@ use nf_linear::{Eliminated, Grid, Solved, System, Table, solve, solve_grid, solv
 use std::alloc::{AllocError, Global};
 use std::io;
 
-// The row and the column of a place, row by row with the right side last, which has no column. None behind the last row.
+// Returns the row and the column of the number at index `place`. Numbers are listed row by row, with the right side last. The right side
+// has no column. Returns None after the last row.
 fn cell_at(size: u32, place: usize) -> Option<(u32, Option<u32>)>
     requires { 0 < size }
     ensures { IfSome result (λ cell. (cell.0 < size) × IfSome cell.1 (λ column. column < size)) }
@@ -26,7 +27,7 @@ fn cell_at(size: u32, place: usize) -> Option<(u32, Option<u32>)>
     }
 }
 
-// A number has this place, row by row with the right side last.
+// Sets the number at index `place`. Numbers are listed row by row, with the right side last.
 fn set<T: System>(system: &mut T, size: u32, place: usize, number: Q)
     requires some { 0 < size }
     requires size { length (T.rows_of system.old) ≡ size }
@@ -40,7 +41,7 @@ fn set<T: System>(system: &mut T, size: u32, place: usize, number: Q)
     }
 }
 
-// The numbers of a system.
+// Sets the numbers of a system.
 fn fill<T: System>(system: &mut T, size: u32, numbers: &[Q])
     requires some { 0 < size }
     requires size { length (T.rows_of system.old) ≡ size }
@@ -52,7 +53,7 @@ fn fill<T: System>(system: &mut T, size: u32, numbers: &[Q])
     }
 }
 
-// What comes of a system of so many unknowns.
+// Prints the solution of a system of `size` unknowns.
 fn tell_solved(rt: &HostRuntime, size: u32, numbers: &[Q]) -> io::Result<()>
     requires { (0 < size) × (size ≤ 264) }
 {
@@ -66,7 +67,7 @@ fn tell_solved(rt: &HostRuntime, size: u32, numbers: &[Q]) -> io::Result<()>
     }
 }
 
-/// A system of so many unknowns: its numbers row by row, each with its right side last.
+/// Prints the solution of a system of `size` unknowns. Its numbers are listed row by row, with the right side last.
 pub fn tell_table(rt: &HostRuntime, size: &str, words: &str) -> io::Result<()> {
     match (size.parse::<u32>(), numbers(rt.alloc(), words)) {
         (Ok(size), Some(numbers)) if 0 < size && size <= 264 => tell_solved(rt, size, &numbers),
@@ -74,7 +75,7 @@ pub fn tell_table(rt: &HostRuntime, size: &str, words: &str) -> io::Result<()> {
     }
 }
 
-// A small number has this place, row by row with the right side last.
+// Sets the small number at index `place`. Numbers are listed row by row, with the right side last.
 fn set_small(table: &mut Table<Small>, size: u32, place: usize, number: Small)
     requires some { 0 < size }
     requires size { length table.old ≡ size }
@@ -87,7 +88,7 @@ fn set_small(table: &mut Table<Small>, size: u32, place: usize, number: Small)
     }
 }
 
-// The table of these numbers, if each of them is small.
+// Returns the table of these numbers, if each of them is small.
 fn small_table(alloc: Global, size: u32, numbers: &[Q]) -> Result<Option<Table<Small>>, AllocError>
     requires { (0 < size) × (size ≤ 264) }
 {
@@ -101,7 +102,7 @@ fn small_table(alloc: Global, size: u32, numbers: &[Q]) -> Result<Option<Table<S
     Ok(Some(table))
 }
 
-// What comes of it over small numbers.
+// Prints the solution of a system over small numbers.
 fn tell_small_of(rt: &HostRuntime, size: u32, numbers: &[Q]) -> io::Result<()>
     requires { (0 < size) × (size ≤ 264) }
 {
@@ -115,7 +116,7 @@ fn tell_small_of(rt: &HostRuntime, size: u32, numbers: &[Q]) -> io::Result<()>
     }
 }
 
-/// A system of so many unknowns, over small numbers.
+/// Prints the solution of a system of `size` unknowns, over small numbers.
 pub fn tell_small(rt: &HostRuntime, size: &str, words: &str) -> io::Result<()> {
     match (size.parse::<u32>(), numbers(rt.alloc(), words)) {
         (Ok(size), Some(numbers)) if 0 < size && size <= 264 => tell_small_of(rt, size, &numbers),
@@ -123,7 +124,7 @@ pub fn tell_small(rt: &HostRuntime, size: &str, words: &str) -> io::Result<()> {
     }
 }
 
-// The same of a system that is solved without memory.
+// Prints the solution of a system, computed without allocation.
 fn tell_grid_of(rt: &HostRuntime, size: u32, numbers: &[Q]) -> io::Result<()>
     requires { (0 < size) × (size ≤ 4) }
 {
@@ -138,7 +139,7 @@ fn tell_grid_of(rt: &HostRuntime, size: u32, numbers: &[Q]) -> io::Result<()>
     }
 }
 
-/// A system of at most 4 unknowns, without memory.
+/// Prints the solution of a system of at most 4 unknowns, computed without allocation.
 pub fn tell_grid(rt: &HostRuntime, size: &str, words: &str) -> io::Result<()> {
     match (size.parse::<u32>(), numbers(rt.alloc(), words)) {
         (Ok(size), Some(numbers)) if 0 < size && size <= 4 => tell_grid_of(rt, size, &numbers),

@@ -8,7 +8,7 @@ use nf_graph::{LinkId, LinkSets};
 use nf_pattern::Pattern;
 use std::io;
 
-/// Prints a word, and numbers behind it.
+/// Prints a word, followed by numbers.
 pub fn tell_numbers(rt: &HostRuntime, word: &str, numbers: &[Q]) -> io::Result<()> {
     print!(rt; "{word}")?;
     for number in numbers {
@@ -28,12 +28,12 @@ pub fn tell_none(rt: &HostRuntime) -> io::Result<()> {
     print!(rt; "no answer")
 }
 
-// What stands before an item of a list.
+// Returns the separator before an item of a list.
 fn before(place: u32) -> &'static str {
     if place == 0 { "" } else { ", " }
 }
 
-/// Prints a pattern, which has a state or none for each of so many links.
+/// Prints a pattern of `links` links: the state of each, or `None`.
 pub fn tell_pattern(rt: &HostRuntime, pattern: &Pattern, links: u32) -> io::Result<()>
     requires { length pattern.now ≡ links }
 {
@@ -45,7 +45,7 @@ pub fn tell_pattern(rt: &HostRuntime, pattern: &Pattern, links: u32) -> io::Resu
     print!(rt; "{}", "] }")
 }
 
-/// Prints which of so many links are active, and which are resetting.
+/// Prints, for each of `links` links, whether it is active, and whether it is resetting.
 pub fn tell_link_sets(rt: &HostRuntime, sets: &LinkSets, links: u32) -> io::Result<()>
     requires { length sets.now.active ≡ links }
 {

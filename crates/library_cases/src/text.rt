@@ -7,7 +7,7 @@ use nf_net::LONGEST_FILE;
 use nf_text::{Line, Span, TextFault, lines};
 use std::io;
 
-// A word of a text; `?` where its place lies outside.
+// Returns a word of a text, or `?` if its span exceeds the text.
 fn word_of(text: &[u8], place: Span) -> &str {
     if u64::from(place.start) + u64::from(place.len) > text.len() as u64 {
         return "?";
@@ -15,7 +15,7 @@ fn word_of(text: &[u8], place: Span) -> &str {
     as_text(place.of(text))
 }
 
-// The words of a line, each behind a `|`.
+// Prints the words of a line, each after a `|`.
 fn tell_words(rt: &HostRuntime, text: &[u8], words: &[Span]) -> io::Result<()> {
     for word in words {
         print!(rt; "|{}", word_of(text, *word))?;
@@ -23,7 +23,7 @@ fn tell_words(rt: &HostRuntime, text: &[u8], words: &[Span]) -> io::Result<()> {
     println!(rt; "")
 }
 
-// Lines: of each whether it is plain, its number, and its words.
+// Prints the lines. Each is printed as a sign for plain or not, its number, and its words.
 fn tell_lines(rt: &HostRuntime, text: &[u8], lines: &[Line]) -> io::Result<()> {
     for line in lines {
         let sign = if line.plain { "+" } else { "-" };

@@ -1,4 +1,4 @@
--- The corners before a last time at which two curves may differ, one after the other.
+-- The corners before the last time at which two curves may differ, in order.
 use Rattle.std.proofs.Common.{◌≡◌, ◌≤◌, List, [], ◌∷◌, length, ⊎_elim, Bool, true, false, refl, sym, ap, subst, ◌∙◌, arith}
 use Rattle.std.specs.Prelude.{Option, Some, None, Ok, Err, IfSome, if◌then◌else◌}
 use Rattle.nf_rational.specs.Rational.{ℚ}
@@ -69,7 +69,7 @@ module _ (passes : Passing) (left right : List Point) (last : ℚ) where
     last_found sides differ e t = sym (ap (at_part part) (sym so_far) ∙ after_ok part (sides_at passes left right last) (λ sides. Ok (if_differ sides)) sides (sym e)
         ∙ ap (λ (t : Bool). Ok (if t then Some sides else None)) t)
 
--- ---- what is left of a walk that ends before a last time
+-- ---- the remaining times of a merge that ends before the last time
 module _ (last : ℚ) (left right : List Point) where
   by_test : {P : Type 0} (moment : Moment) → (lt_ℚ moment.time last ≡ true → moment.time <ℚ last → P) → (lt_ℚ moment.time last ≡ false → P) → P
   by_test moment f g = ⊎_elim

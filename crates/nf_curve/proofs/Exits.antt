@@ -1,4 +1,4 @@
--- What a computation comes to where one before it ended: its value, or the operation that passes.
+-- Results of a computation after its first part ended: its value, or the operation that passes.
 use Rattle.std.proofs.Common.{◌≡◌, List, [], ◌∷◌, ◌++◌, refl, sym, ap, ◌∙◌, append-nil, append_assoc}
 use Rattle.std.specs.Prelude.{Result, Ok, Err, IfOk}
 use Rattle.std.specs.Result.{is_ok}

@@ -1,4 +1,4 @@
--- What the operations on a piece of a curve ask for: no divisor is 0.
+-- The divisors of the operations on a piece of a curve are not 0.
 use Rattle.std.proofs.Common.{◌≡◌, ◌≢◌, [], ◌∷◌, true, sym, ◌∙◌}
 use Rattle.std.specs.Prelude.{Ok}
 use Rattle.nf_rational.specs.Rational.{ℚ}
@@ -29,7 +29,7 @@ slope_apart passes p q k h apart e zero = apart (level p.0 p.1 q.0 q.1 (slope p 
     level : (s x t y k : ℚ) → k *ℚ (t -ℚ s) ≡ y -ℚ x → k ≡ 0ℚ → x ≡ y
     level s x t y k i j = linear_eq (s ∷ x ∷ t ∷ y ∷ k ∷ []) (eq i ∷ eq_times (t -ℚ s) j ∷ []) (search reading_of depth 12) tt tt
 
--- where two curves cross, their gap changes
+-- the difference of two curves changes at a crossing
 pub change_apart : (passes : Passing) (a b : Sides) (before after change : ℚ) (r s t : Checked ℚ) → is_crossed a b ≡ true → t ≡ Ok change → t ≡ checked passes Difference before after
     → r ≡ Ok before → r ≡ checked passes Difference a.left a.right → s ≡ Ok after → s ≡ checked passes Difference b.left b.right → change ≢ 0ℚ
 change_apart passes a b before after change r s u t e1 e2 f1 f2 g1 g2 zero =

@@ -1,4 +1,4 @@
--- A walk along two curves comes to their times, one after the other.
+-- The merge of two curves' times lists their times in order.
 use Rattle.std.proofs.Common.{◌≡◌, ℕ, zero, suc, ◌<◌, List, [], ◌∷◌, length, ⊎_elim, Bool, true, false, refl, sym, ap, subst, ◌∙◌, arith}
 use Rattle.std.specs.Prelude.{Option, Some, None, slice_get, option_map, if◌then◌else◌}
 use Rattle.nf_rational.specs.Rational.{ℚ}
@@ -38,7 +38,7 @@ abbrev head_of : List Point → Option ℚ
 head_of [] = None
 head_of (p ∷ rest) = Some p.0
 
--- the first of them stands at the place of the time
+-- the first of them has the point count of the time as its index
 place-head : (time : ℚ) (points : List Point) → option_map (λ (p : Point). p.0) (slice_get points (place_of time points)) ≡ head_of (later time points)
 place-head time [] = refl
 place-head time (p ∷ rest) = go (lt_ℚ time p.0) (place-head time rest)
@@ -82,7 +82,7 @@ later-none time next (x ∷ xs) e h = ⊎_elim
     (λ (w : (lt_ℚ time x.0 ≡ false) × (x.0 ≤ℚ time)). later-past next x xs (≤ℚ_trans _ _ _ w.1 h) ∙ later-none time next xs (sym (later-past time x xs w.1) ∙ e) h)
     (lt_ℚ_cases time x.0)
 
--- ---- a step of the walk
+-- ---- a step of the merge
 module _ (time : ℚ) (left right : List Point) (r : TimesRise left) (s : TimesRise right) where
   steps : (ls rs : List Point) → later time left ≡ ls → later time right ≡ rs → ComesNext time left right (earlier_of (head_of ls) (head_of rs))
   steps [] [] e f = ap (λ (l : List Point). merged (times_of l) (times_of (later time right))) e ∙ ap (λ (l : List Point). merged [] (times_of l)) f
@@ -117,13 +117,13 @@ module _ (time : ℚ) (left right : List Point) (r : TimesRise left) (s : TimesR
       on : (next : ℚ) (l : List ℚ) → min_ℚ p.0 q.0 ≡ next → time <ℚ next → next ∷ times_after next left right ≡ l → (time <ℚ min_ℚ p.0 q.0) × (l ≡ min_ℚ p.0 q.0 ∷ times_after (min_ℚ p.0 q.0) left right)
       on next l i h j = (subst (λ (t : ℚ). time <ℚ t) (sym i) h, sym j ∙ ap (λ (t : ℚ). t ∷ times_after t left right) (sym i))
 
-  -- the earlier of the times at the places comes next
+  -- the earlier of the times at both point counts is next
   pub comes-next : (next : Option ℚ) → next ≡ earlier_of (option_map (λ (p : Point). p.0) (slice_get left (place_of time left))) (option_map (λ (p : Point). p.0) (slice_get right (place_of time right))) → ComesNext time left right next
   comes-next next e = subst (λ (o : Option ℚ). ComesNext time left right o)
       (sym (e ∙ ap (λ (o : Option ℚ). earlier_of o (option_map (λ (p : Point). p.0) (slice_get right (place_of time right)))) (place-head time left) ∙ ap (λ (o : Option ℚ). earlier_of (head_of (later time left)) o) (place-head time right)))
       (steps (later time left) (later time right) refl refl)
 
--- ---- the walk begins at time 0
+-- ---- the merge begins at time 0
 begins : (p q : Point) (left right : List Point) → TimesRise (p ∷ left) → TimesRise (q ∷ right) → p.0 ≡ q.0 → both_times (p ∷ left) (q ∷ right) ≡ p.0 ∷ times_after p.0 (p ∷ left) (q ∷ right)
 unfolding both_times
 begins p q left right r s e = merged_from-cases (λ (l : List ℚ). l ≡ p.0 ∷ times_after p.0 (p ∷ left) (q ∷ right)) p.0 (merged (times_of left)) q.0 (times_of right)
@@ -137,7 +137,7 @@ walk-begins [] right time c d e = absurd c
 walk-begins (p ∷ left) [] time c d e = absurd d
 walk-begins (p ∷ left) (q ∷ right) time c d e = subst (λ (t : ℚ). both_times (p ∷ left) (q ∷ right) ≡ t ∷ times_after t (p ∷ left) (q ∷ right)) (c.0 ∙ sym e) (begins p q left right c.1 d.1 (c.0 ∙ sym d.0))
 
--- ---- where the walk is next
+-- ---- the next time of the merge
 module _ (left right : List Point) (c : IsCurve left) (d : IsCurve right) (now : Moment) (there : IsMoment left right now) (s t next : Option ℚ)
     (e : s ≡ option_map (λ (p : Point). p.0) (slice_get left now.left)) (f : t ≡ option_map (λ (p : Point). p.0) (slice_get right now.right)) (g : next ≡ earlier_of s t) where
   next-is : ComesNext now.time left right next
@@ -151,7 +151,7 @@ module _ (left right : List Point) (c : IsCurve left) (d : IsCurve right) (now :
   pub walk-goes : (time : ℚ) → next ≡ Some time → (now.time <ℚ time) × (times_after now.time left right ≡ time ∷ times_after time left right)
   walk-goes time h = subst (λ (o : Option ℚ). ComesNext now.time left right o) h next-is
 
--- where a walk goes on, fewer times are left
+-- each step of the merge decreases the number of remaining times
 pub fewer_left : (left right : List Point) (now : Option Moment) (moment : Moment) (next : Option Moment) → now ≡ Some moment
     → times_after moment.time left right ≡ times_left left right next → length (times_left left right next) < length (times_left left right now)
 fewer_left left right now moment next n t =

@@ -1,4 +1,4 @@
--- The values of two curves at a time at which they differ, as the lists of operations have them.
+-- Converts a `Difference` to the `Sides` of the operation sequences.
 use Rattle.nf_curve_lists.specs.Lines.{Sides}
 use Rattle.nf_curve.specs.declared.curve.Difference.{Difference}
 

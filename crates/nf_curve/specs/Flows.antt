@@ -1,4 +1,4 @@
--- The flow that a value of this crate stands for.
+-- The model's flow that a `Flow` represents.
 use Rattle.std.specs.Prelude.{map}
 use Rattle.nf_model.specs.Equilibrium as model
 use Rattle.nf_curve.specs.declared.flow.Flow.{Flow}

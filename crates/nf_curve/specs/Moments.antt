@@ -1,4 +1,4 @@
--- A time on a walk along two curves, with its places on them.
+-- Times of the merge of two curves' times. `IsMoment` holds if each count is the number of points at or before the time.
 use Rattle.std.specs.Prelude.{◌≡◌, if◌then◌else◌, List, [], ◌∷◌, Option, Some, None}
 use Rattle.nf_rational.specs.Rational.{ℚ}
 use Rattle.nf_rational.specs.Operations.{0ℚ}
@@ -12,17 +12,17 @@ pub record IsMoment (left right : List Point) (moment : Moment) : Type 0 where
   pub left_place : moment.left ≡ place_of moment.time left
   pub right_place : moment.right ≡ place_of moment.time right
 
--- where a walk is, if it hasn't ended
+-- holds if the merge has ended, or its current time satisfies `IsMoment`
 abbrev pub IsThere : List Point → List Point → Option Moment → Type 0
 IsThere left right None = Unit {0}
 IsThere left right (Some moment) = IsMoment left right moment
 
--- the times that the walk has still to come to, from where it is on
+-- lists the current time of the merge and all later ones
 abbrev pub times_left : List Point → List Point → Option Moment → List ℚ
 times_left left right None = []
 times_left left right (Some moment) = moment.time ∷ times_after moment.time left right
 
--- where a walk is, if that is before the last time
+-- returns the current time of the merge, if it is before `last`
 abbrev pub only_before : ℚ → Option Moment → Option Moment
 only_before last None = None
 only_before last (Some moment) = if lt_ℚ moment.time last then Some moment else None

@@ -1,4 +1,4 @@
--- Places on curves: how many of the points are at or before a time; and the times of two curves after a time.
+-- Counts of points at or before a time.
 use Rattle.std.specs.Prelude.{◌≡◌, ℕ, zero, suc, if◌then◌else◌, List, [], ◌∷◌, Option, Some, None, Ok}
 use Rattle.nf_rational.specs.Rational.{ℚ}
 use Rattle.nf_rational.specs.Operations.{0ℚ}
@@ -10,18 +10,18 @@ use Rattle.nf_lists.specs.Signs.{is_same}
 use Rattle.nf_curve_lists.specs.Lines.{checked_line}
 use Rattle.nf_curve_lists.specs.Times.{merged, times_of}
 
--- how many of the first points are at or before a time
+-- counts the leading points at or before a time
 abbrev pub place_of : ℚ → List Point → ℕ
 place_of time [] = zero
 place_of time (p ∷ rest) = if lt_ℚ time p.0 then zero else suc (place_of time rest)
 
--- the value at a time, by the last point at or before it and the one after it
+-- computes the value at a time from the last point at or before it and the next point
 abbrev pub value_between : Passing → ℚ → Option Point → Option Point → Checked ℚ
 value_between passes time None next = Ok 0ℚ
 value_between passes time (Some p) None = Ok p.1
 value_between passes time (Some p) (Some q) = if is_same time p.0 then Ok p.1 else checked_line passes p q time
 
--- ---- the times of two curves, one after the other
+-- ---- the merged times of two curves after a time
 -- the points after a time
 abbrev pub later : ℚ → List Point → List Point
 later time [] = []
@@ -30,14 +30,14 @@ later time (p ∷ rest) = if lt_ℚ time p.0 then p ∷ rest else later time res
 abbrev pub times_after : ℚ → List Point → List Point → List ℚ
 times_after time left right = merged (times_of (later time left)) (times_of (later time right))
 
--- the earlier of two times, if there are any
+-- returns the earlier of two times, or the only one
 abbrev pub earlier_of : Option ℚ → Option ℚ → Option ℚ
 earlier_of None None = None
 earlier_of (Some s) None = Some s
 earlier_of None (Some t) = Some t
 earlier_of (Some s) (Some t) = Some (min_ℚ s t)
 
--- what a walk along two curves comes to after a time: nothing, or a time, and then what comes after that
+-- states that the given time is the first one of the merge after `time`, or that none is left
 abbrev pub ComesNext : ℚ → List Point → List Point → Option ℚ → Type 0
 ComesNext time left right None = times_after time left right ≡ []
 ComesNext time left right (Some next) = (time <ℚ next) × (times_after time left right ≡ next ∷ times_after next left right)

@@ -1,17 +1,17 @@
--- The points of a curve, and how contracts see them.
+-- The view of a curve in contracts.
 use Rattle.std.specs.Prelude.{ℕ, List, [], ◌∷◌, refl}
 use Rattle.std.specs.Coded.{Coded, code_by, coded×, coded_ℕ}
 use Rattle.nf_rational.specs.Rational.{ℚ}
 use Rattle.nf_rational.specs.Operations.{0ℚ}
 use Rattle.nf_model.specs.Codes.{coded_points}
 
--- the time of the last of some points
+-- returns the time of the last point, or 0 without points
 abbrev pub last_time : List (ℚ × ℚ) → ℚ
 last_time [] = 0ℚ
 last_time (p ∷ []) = p.0
 last_time (p ∷ q ∷ rest) = last_time (q ∷ rest)
 
--- the points, and how many pushes can't be refused
+-- `spare` is the number of pushes that cannot fail
 pub record Grown : Type 0 where
   pub points : List (ℚ × ℚ)
   pub spare : ℕ

@@ -1,4 +1,4 @@
--- The values of two curves at a time, as the lists of operations have them.
+-- Converts the code's `Sides` to those of the operation sequences.
 use Rattle.nf_curve_lists.specs.Lines as lists
 use Rattle.nf_curve.specs.declared.lines.Sides.{Sides}
 

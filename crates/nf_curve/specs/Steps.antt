@@ -1,4 +1,4 @@
--- Steps of the walks along curves.
+-- Single steps of the loops over curves.
 use Rattle.std.specs.Prelude.{Bool, false, List, [], ◌∷◌, ◌++◌, Option, Some, None, if◌then◌else◌, Ok}
 use Rattle.nf_rational.specs.Rational.{ℚ}
 use Rattle.nf_work.specs.Passing.{Passing}
@@ -9,26 +9,26 @@ use Rattle.nf_curve_lists.specs.Sums.{sides_at}
 use Rattle.nf_curve_lists.specs.Differences.{do_differ, turn_at, differ_at}
 use Rattle.nf_curve_lists.specs.Least.{is_crossed, least_point, crossing}
 
--- what comes next, behind what is there
+-- appends the next points to `front`
 abbrev pub behind : List Point → Checked (List Point) → Checked (List Point)
 behind front next = do
   more ← next
   Ok (front ++ more)
 
--- the points of the lesser curve from one time to the next, behind those before
+-- appends the points of the pointwise minimum after the time of `before`, up to the time of `now`, to `front`
 abbrev pub lesser_step : Passing → List Point → Sides → Sides → Checked (List Point)
 lesser_step passes front before now = do
   between ← crossing passes (is_crossed before now) before now
   Ok (front ++ (between ++ least_point now ∷ []))
 
--- whether the slopes before and after the middle one of three points differ
+-- tests whether the slopes before and after the middle one of three points differ; false without a first or middle point
 abbrev pub turn_between : Passing → Option Point → Option Point → Option Point → Checked Bool
 turn_between passes (Some p) (Some q) None = turn_at passes p q []
 turn_between passes (Some p) (Some q) (Some r) = turn_at passes p q (r ∷ [])
 turn_between passes None q r = Ok false
 turn_between passes (Some p) None r = Ok false
 
--- both values at a time, if it is a corner and they differ
+-- returns both values at a time, if it is a corner and they differ
 abbrev pub difference_step : Passing → List Point → List Point → ℚ → Checked (Option Sides)
 difference_step passes left right time = do
   sides ← sides_at passes left right time

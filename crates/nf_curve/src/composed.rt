@@ -1,4 +1,4 @@
-// A curve at the values of another.
+// The composition of two curves.
 ghost use Rattle.std.specs.Prelude.{◌≡◌, ◌≢◌, ℕ, [], ◌∷◌, ◌++◌, reverse, slice_get, Some, IfOk};
 ghost use Rattle.std.specs.List.{filter};
 ghost use Rattle.nf_rational.specs.Rational.{ℚ};
@@ -17,7 +17,7 @@ use crate::places::{place_down, place_up, value_at};
 use nf_frac::{Halt, Part, PassedAt, Q};
 use std::alloc::Global;
 
-// Where the piece from p to q of the inner curve comes to a point of the outer one.
+// Returns the point of the composition where the inner piece from `p` to `q` has the time of an outer point as its value.
 fn corner_at(p: &Point, q: &Point, corner: &Point, part: Part) -> Result<Point, PassedAt<Q>>
     requires later { p.now.0 <ℚ q.now.0 }
     requires apart { p.now.1 ≢ q.now.1 }
@@ -27,7 +27,7 @@ fn corner_at(p: &Point, q: &Point, corner: &Point, part: Part) -> Result<Point, 
     Ok((time, corner.1))
 }
 
-// Where a piece comes to a point of the outer curve, if that point is below a bound.
+// Appends the point where the piece reaches an outer point, if the time of that outer point is below `bound`.
 fn add_corner_below(
     composed: &mut Vec<Point>,
     corner: &Point,
@@ -50,7 +50,7 @@ fn add_corner_below(
     Ok(())
 }
 
-// Where a piece that goes up comes to these points of the outer curve, but not to one at the piece's end.
+// Appends the points where an increasing piece reaches the outer points `between`, except an outer point at the piece's end value.
 fn add_corners_up(
     composed: &mut Vec<Point>,
     between: &[Point],
@@ -69,8 +69,8 @@ fn add_corners_up(
     Ok(())
 }
 
-// Where a piece that goes down comes to these points of the outer curve, but not to one at the piece's beginning: the last of them
-// comes first.
+// Appends the points where a decreasing piece reaches the outer points `between`, in reverse order. Skips an outer point at the piece's
+// first value.
 fn add_corners_down(
     composed: &mut Vec<Point>,
     between: &[Point],
@@ -92,7 +92,7 @@ fn add_corners_down(
     Ok(())
 }
 
-// Where a piece comes to points of the outer curve, by the places of its first and its last value.
+// Appends the points where a piece reaches outer points. `places` holds the outer point counts up to the piece's first and last value.
 fn add_corners(
     composed: &mut Vec<Point>,
     outer: &[Point],
@@ -119,7 +119,7 @@ fn add_corners(
     }
 }
 
-// The place of a value, from the place of another.
+// Returns the number of outer points at or before the value `to`, given this number for the value `from`.
 fn place_from(outer: &[Point], place: usize, from: Q, to: Q) -> usize
     requires outer { IsCurve outer.now }
     requires place { place ≡ place_of from outer.now }
@@ -132,7 +132,7 @@ fn place_from(outer: &[Point], place: usize, from: Q, to: Q) -> usize
     }
 }
 
-// The points of a piece: where it begins, and where it comes to points of the outer curve. The place of its last value.
+// Appends the points of a piece: its beginning, and where it reaches outer points. Returns the outer point count up to its last value.
 fn add_piece(
     composed: &mut Vec<Point>,
     outer: &[Point],
@@ -156,7 +156,7 @@ fn add_piece(
     Ok(next)
 }
 
-// The points of the outer curve at the values of the inner one, from its first point to its last.
+// Returns the points of the composition, from the first inner point to the last.
 fn composed_points(
     alloc: Global,
     outer: &[Point],
@@ -179,7 +179,7 @@ fn composed_points(
     Ok(composed)
 }
 
-/// The points of the outer curve at the values of the inner one, at the times from 0 to the last one.
+/// Returns the points of the composition of `outer` and `inner`, for times from 0 to `last`.
 #[tactic(auto, unfolding(nf_curve_lists::specs::Composed::checked_composed))]
 pub(crate) fn composed_until(
     alloc: Global,

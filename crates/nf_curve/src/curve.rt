@@ -1,4 +1,4 @@
-// Curves: points whose times rise strictly from 0.
+// Curves: points whose times increase strictly from 0.
 ghost use Rattle.std.specs.Prelude.{◌≡◌, ℕ, ◌+◌, ◌<◌, ◌≤◌, [], ◌∷◌, ◌++◌, length, IfOk, OnOk, OnErr, IsOk, slice_get, Some, option_map};
 ghost use Rattle.nf_rational.specs.Rational.{ℚ};
 ghost use Rattle.nf_rational.specs.Operations.{0ℚ};
@@ -29,11 +29,13 @@ use nf_frac::{Halt, Part, PassedAt, Q};
 use std::alloc::{AllocError, Global};
 use std::marker::Model;
 
-/// A piecewise linear function of time, from time 0 on: points (time, value) whose times rise strictly from 0. It is linear
-/// between neighbouring points and constant after the last. Times and values are exact fractions, in units of the caller's choice.
+/// A piecewise linear function of time from time 0 on. Its points (time, value) have times that increase strictly from 0. The function is
+/// linear between neighbouring points and constant after the last one. Times and values are exact fractions, in units that the caller
+/// chooses.
 ///
-/// A call that computes takes a `Part`, and does the operations of one list, in order: the definition that its clause `list`
-/// names, in nf_curve_lists. It returns `Passed` exactly if one of them passes, with the first of them and that part.
+/// Each computing call takes a `Part` and performs one operation sequence in order. The clause `list` of its contract names the
+/// sequence's definition, in nf_curve_lists. The call returns `Passed` exactly if one of these operations passes the bound. `Passed`
+/// carries the first such operation and the part.
 #[derive(Drop)]
 pub struct Curve {
     points: Vec<(Q, Q)>,
@@ -54,7 +56,7 @@ impl Model for Curve {
 }
 
 impl Curve {
-    /// Returns the constant curve of this value: its one point is at time 0. Fails only if the allocation fails.
+    /// Returns the constant curve of this value, with one point, at time 0. Fails only if the allocation fails.
     pub fn start(alloc: Global, value: Q) -> Result<Curve, AllocError>
         ensures { IfOk result (λ c. c.points ≡ (0ℚ, value) ∷ []) }
     {
@@ -63,7 +65,7 @@ impl Curve {
         Ok(Curve { points })
     }
 
-    /// Returns the curve of these points, whose times must rise strictly from 0.
+    /// Returns the curve of these points. Their times must increase strictly from 0.
     pub fn of_points(points: Vec<Point>) -> Curve
         requires { IsCurve points.items }
         ensures { result.points ≡ points.items }
@@ -71,7 +73,7 @@ impl Curve {
         Curve { points }
     }
 
-    /// Allocates room, so that the next `more` pushes can't fail. The points stay the same, also if the allocation fails.
+    /// Allocates room, so that the next `more` pushes cannot fail. The points stay the same, even if the allocation fails.
     pub fn reserve(&mut self, more: usize) -> Result<(), AllocError>
         ensures points { self.new.points ≡ self.old.points }
         ensures ok { OnOk result (more ≤ self.new.spare) }
@@ -81,8 +83,8 @@ impl Curve {
         self.points.reserve(more)
     }
 
-    /// Adds a point, whose time must be after the last one. If the allocation fails, the points stay the same. It can't fail if room
-    /// was reserved.
+    /// Appends a point, whose time must be after the last one. If the allocation fails, the points stay the same. The allocation cannot
+    /// fail if room was reserved.
     pub fn push(&mut self, time: Q, value: Q) -> Result<(), AllocError>
         requires { last_time self.old.points <ℚ time }
         ensures ok { OnOk result (self.new.points ≡ self.old.points ++ (time, value) ∷ []) }
@@ -104,7 +106,7 @@ impl Curve {
         self.points.len()
     }
 
-    /// Returns the points, in the order of their times.
+    /// Returns the points in increasing order of time.
     pub fn as_points(&self) -> &[Point]
         ensures points { result.now ≡ self.now.points }
         ensures curve { IsCurve result.now }
@@ -112,7 +114,7 @@ impl Curve {
         &self.points
     }
 
-    /// Returns the time and the value of the point at this index, which must be below `len`.
+    /// Returns the time and the value of the point at `index`, which must be less than `len`.
     pub fn point(&self, index: usize) -> (Q, Q)
         requires { index < length self.now.points }
         ensures { slice_get self.now.points index ≡ Some result }
@@ -120,8 +122,9 @@ impl Curve {
         self.points[index]
     }
 
-    /// Returns the value at a time, which must be at least 0. Its list of operations is `checked_value`, in
-    /// nf_curve_lists/specs/Values.antt; Passed comes exactly at the first one that passes, and has this part. Doesn't allocate.
+    /// Returns the value at `time`, which must be at least 0. The operation sequence is `checked_value` in
+    /// nf_curve_lists/specs/Values.antt. Returns `PassedAt` exactly if one of its operations passes: the first one, with `part`. Does not
+    /// allocate.
     pub fn value(&self, time: Q, part: Part) -> Result<Q, PassedAt<Q>>
         requires { 0ℚ ≤ℚ time }
         ensures list { result ≡ at_part part (checked_value passes_Q self.now.points time) }
@@ -131,8 +134,8 @@ impl Curve {
         value_at(&self.points, place, time, part)
     }
 
-    /// Returns the sum of two curves: at every time, of their values. Its list of operations is `checked_sum`, in
-    /// nf_curve_lists/specs/Sums.antt; Passed comes exactly at the first one that passes, and has this part.
+    /// Returns the pointwise sum of two curves. The operation sequence is `checked_sum` in nf_curve_lists/specs/Sums.antt. Returns
+    /// `Passed` exactly if one of its operations passes: the first one, with `part`.
     pub fn sum(alloc: Global, left: &Curve, right: &Curve, part: Part) -> Result<Curve, Halt<Q>>
         ensures list { Gives (λ c. c.points) (λ q. q) result
             (at_part part (checked_sum passes_Q left.now.points right.now.points)) }
@@ -142,8 +145,8 @@ impl Curve {
         Ok(Curve { points })
     }
 
-    /// Returns the lesser of two curves: at every time, of their values. Its list of operations is `checked_least`, in
-    /// nf_curve_lists/specs/Least.antt; Passed comes exactly at the first one that passes, and has this part.
+    /// Returns the pointwise minimum of two curves. The operation sequence is `checked_least` in nf_curve_lists/specs/Least.antt. Returns
+    /// `Passed` exactly if one of its operations passes: the first one, with `part`.
     pub fn least(alloc: Global, left: &Curve, right: &Curve, part: Part) -> Result<Curve, Halt<Q>>
         ensures list { Gives (λ c. c.points) (λ q. q) result
             (at_part part (checked_least passes_Q left.now.points right.now.points)) }
@@ -153,9 +156,9 @@ impl Curve {
         Ok(Curve { points })
     }
 
-    /// Returns the curve up to the time `last`, which must be at least 0: its points before that time, and then one at that time.
-    /// Its list of operations is `checked_cut`, in nf_curve_lists/specs/Values.antt; Passed comes exactly at the first one that
-    /// passes, and has this part.
+    /// Returns the curve up to the time `last`, which must be at least 0: its points before `last`, then a point at `last`. The operation
+    /// sequence is `checked_cut` in nf_curve_lists/specs/Values.antt. Returns `Passed` exactly if one of its operations passes: the first
+    /// one, with `part`.
     pub fn cut(&self, alloc: Global, last: Q, part: Part) -> Result<Curve, Halt<Q>>
         requires { 0ℚ ≤ℚ last }
         ensures list { Gives (λ c. c.points) (λ q. q) result
@@ -166,9 +169,9 @@ impl Curve {
         Ok(Curve { points })
     }
 
-    /// Returns `outer` at the values of `inner`, for the times from 0 to `until`, which must be at least 0. At these times no value
-    /// of `inner` may be negative. Its list of operations is `checked_composed`, in nf_curve_lists/specs/Composed.antt; Passed comes
-    /// exactly at the first one that passes, and has this part.
+    /// Returns the composition `outer(inner(time))` for times from 0 to `until`, which must be at least 0. The values of `inner` at these
+    /// times must not be negative. The operation sequence is `checked_composed` in nf_curve_lists/specs/Composed.antt. Returns `Passed`
+    /// exactly if one of its operations passes: the first one, with `part`.
     pub fn compose(
         alloc: Global,
         outer: &Curve,
@@ -186,8 +189,9 @@ impl Curve {
         Ok(Curve { points })
     }
 
-    /// Returns the same function in short form: without points at which the slope doesn't change. Its list of operations is
-    /// `checked_short`, in nf_curve_lists/specs/Short.antt; Passed comes exactly at the first one that passes, and has this part.
+    /// Returns the same function in short form, without inner points at which the slope stays the same. The operation sequence is
+    /// `checked_short` in nf_curve_lists/specs/Short.antt. Returns `Passed` exactly if one of its operations passes: the first one, with
+    /// `part`.
     pub fn short(alloc: Global, curve: &Curve, part: Part) -> Result<Curve, Halt<Q>>
         ensures list { Gives (λ c. c.points) (λ q. q) result
             (at_part part (checked_short passes_Q curve.now.points)) }
@@ -197,10 +201,10 @@ impl Curve {
         Ok(Curve { points })
     }
 
-    /// Returns the first corner at the times from 0 to `until` at which two curves differ, with both values; None exactly if they
-    /// agree at all these times. Corners are time 0, `until`, and the times between at which the slope of one of them changes.
-    /// `until` must be at least 0. Its list of operations is `checked_difference`, in nf_curve_lists/specs/Differences.antt; Passed
-    /// comes exactly at the first one that passes, and has this part. Doesn't allocate.
+    /// Returns the first corner in [0, `until`] at which two curves differ, with both values. Returns None exactly if the curves agree at
+    /// all these times. Corners are time 0, `until`, and the times between at which the slope of either curve changes. `until` must be at
+    /// least 0. The operation sequence is `checked_difference` in nf_curve_lists/specs/Differences.antt. Returns `PassedAt` exactly if
+    /// one of its operations passes: the first one, with `part`. Does not allocate.
     pub fn first_difference(
         left: &Curve,
         right: &Curve,
@@ -219,7 +223,7 @@ impl Curve {
     }
 }
 
-/// Two curves differ at this time: `left` and `right` are their values there.
+/// A time at which two curves differ, with both values.
 #[derive(Clone, Copy)]
 pub struct Difference {
     pub time: Q,
@@ -228,7 +232,7 @@ pub struct Difference {
 }
 
 impl Difference {
-    // The sides of two curves that differ.
+    // Converts the two values at a time to a `Difference`.
     fn of(sides: Sides) -> Difference
         ensures { difference_of result ≡ sides_of sides }
     {

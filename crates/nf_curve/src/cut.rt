@@ -12,7 +12,7 @@ use crate::places::{place_up, value_at};
 use nf_frac::{Halt, Part, Q};
 use std::alloc::{AllocError, Global};
 
-// The points before a time are put behind those that are there.
+// Appends the points before a time.
 fn add_before(cut: &mut Vec<Point>, points: &[Point], last: Q) -> Result<(), AllocError>
     ensures { OnOk result (cut.new.items ≡ cut.old.items ++ points_before last points.now) }
 {
@@ -25,7 +25,7 @@ fn add_before(cut: &mut Vec<Point>, points: &[Point], last: Q) -> Result<(), All
     Ok(())
 }
 
-/// The points of a curve before a last time, and then one at that time.
+/// Returns the points of a curve before `last`, followed by a point at `last`.
 #[tactic(auto, unfolding(nf_curve_lists::specs::Values::checked_cut))]
 pub(crate) fn cut_points(
     alloc: Global,

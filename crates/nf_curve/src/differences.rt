@@ -17,14 +17,14 @@ use crate::places::place_up;
 use crate::walk::{Moment, first_moment, next_moment, sides_at};
 use nf_frac::{Part, PassedAt, Q};
 
-// The values differ.
+// Returns whether the two values differ.
 fn do_differ(sides: &Sides) -> bool
     ensures { result ≡ do_differ_by (sides_of sides.now) }
 {
     !sides.left.is_same(sides.right)
 }
 
-// The slope before the last point isn't 0, which it is after it.
+// Returns whether the curve has a corner at its last point `q`: whether the slope from `p` to `q` is nonzero.
 fn turns_at_end(p: &Point, q: &Point, part: Part) -> Result<bool, PassedAt<Q>>
     requires { p.now.0 <ℚ q.now.0 }
     ensures { result ≡ at_part part (turn_at passes_Q p.now q.now []) }
@@ -33,7 +33,7 @@ fn turns_at_end(p: &Point, q: &Point, part: Part) -> Result<bool, PassedAt<Q>>
     Ok(!before.is_same(Q::zero()))
 }
 
-// The slopes before and after the middle one of three points differ.
+// Returns whether the slopes before and after the middle one of three points differ.
 fn turns_inside(p: &Point, q: &Point, r: &Point, part: Part) -> Result<bool, PassedAt<Q>>
     requires before { p.now.0 <ℚ q.now.0 }
     requires after { q.now.0 <ℚ r.now.0 }
@@ -44,7 +44,7 @@ fn turns_inside(p: &Point, q: &Point, r: &Point, part: Part) -> Result<bool, Pas
     Ok(!before.is_same(after))
 }
 
-// The slopes before and after the point before a place differ.
+// Returns whether the slopes before and after the point `place - 1` differ.
 fn turns_before(points: &[Point], place: usize, part: Part) -> Result<bool, PassedAt<Q>>
     requires rise { TimesRise points.now }
     requires some { 2 ≤ place }
@@ -60,7 +60,7 @@ fn turns_before(points: &[Point], place: usize, part: Part) -> Result<bool, Pass
     }
 }
 
-// The curve has a point at this time, after its first one, with other slopes before and after it.
+// Returns whether the curve has a point at `time`, after its first one, at which the slope changes.
 fn does_turn(points: &[Point], place: usize, time: Q, part: Part) -> Result<bool, PassedAt<Q>>
     requires curve { IsCurve points.now }
     requires time { 0ℚ ≤ℚ time }
@@ -74,7 +74,7 @@ fn does_turn(points: &[Point], place: usize, time: Q, part: Part) -> Result<bool
     turns_before(points, place, part)
 }
 
-// A time is a corner: time 0, or one at which the left curve turns, or else the right one.
+// Returns whether a time is a corner: time 0, or a time at which the slope of either curve changes. Examines the left curve first.
 fn is_corner(left: &[Point], right: &[Point], now: &Moment, part: Part) -> Result<bool, PassedAt<Q>>
     requires left { IsCurve left.now }
     requires right { IsCurve right.now }
@@ -87,7 +87,7 @@ fn is_corner(left: &[Point], right: &[Point], now: &Moment, part: Part) -> Resul
     does_turn(right, now.right, now.time, part)
 }
 
-// Both values at a time, if it is a corner and they differ.
+// Returns both values at a time if it is a corner and they differ.
 fn difference_at(
     left: &[Point],
     right: &[Point],
@@ -107,7 +107,7 @@ fn difference_at(
     }
 }
 
-// Where the walk is, if that is before the last time.
+// Returns the current time of the merge, if it is before `last`.
 fn only_before(last: Q, now: Option<Moment>) -> Option<Moment>
     ensures { result ≡ only_before_by last now }
 {
@@ -117,7 +117,7 @@ fn only_before(last: Q, now: Option<Moment>) -> Option<Moment>
     }
 }
 
-/// The first corner on the times from 0 to the last one at which two curves differ, with both values.
+/// Returns the first corner in [0, `last`] at which two curves differ, with both values.
 pub(crate) fn difference_until(
     left: &[Point],
     right: &[Point],

@@ -1,17 +1,17 @@
-// What a run describes: the flow over time up to the time reached, and why it stopped.
+// The flow over time of a run.
 use crate::curve::Curve;
 use nf_formats::Cause;
 use nf_frac::Q;
 
-/// A cumulative amount by time, with its rate at each point but the last: the rate from this point to the next.
+/// A cumulative amount by time. Each point but the last has a rate: the slope from that point to the next.
 #[derive(Drop)]
 pub struct Trace {
     pub curve: Curve,
     pub rates: Vec<Q>,
 }
 
-/// A flow over time, for all that leaves the source up to the time `reached`: the earliest arrival at each node by departure,
-/// and of each link, by time, the amount that has entered, the amount that has left, and the amount in its queue.
+/// A flow over time, up to departure `reached`. `labels` gives the earliest arrival time at each node by departure time. `inflows`,
+/// `outflows` and `queues` give, for each link by time, the amounts that entered, left and wait.
 #[derive(Drop)]
 pub struct Flow {
     pub reached: Q,
@@ -21,5 +21,5 @@ pub struct Flow {
     pub queues: Vec<Curve>,
 }
 
-/// Why a run ended below its horizon.
+/// The cause of a stop before the horizon.
 pub type Stop = Cause<Q>;

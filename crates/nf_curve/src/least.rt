@@ -1,4 +1,4 @@
-// The lesser of two curves.
+// The pointwise minimum of two curves.
 ghost use Rattle.std.specs.Prelude.{◌≡◌, ◌++◌, Ok};
 ghost use Rattle.std.specs.Option.{option_to_list};
 ghost use Rattle.nf_rational.specs.Order.{◌<ℚ◌};
@@ -14,7 +14,7 @@ use crate::walk::{first_moment, next_moment, sides_at};
 use nf_frac::{Halt, Part, PassedAt, Q};
 use std::alloc::Global;
 
-// The one that was below the other is above it now.
+// Returns whether the curve that was below the other at `before` is above it at `now`.
 fn is_crossed(before: &Sides, now: &Sides) -> bool
     ensures { result ≡ is_crossed_by (sides_of before.now) (sides_of now.now) }
 {
@@ -22,14 +22,14 @@ fn is_crossed(before: &Sides, now: &Sides) -> bool
         || before.right.is_below(before.left) && now.left.is_below(now.right)
 }
 
-// The point of the lesser one at a time.
+// Returns the point of the minimum at a time.
 fn least_point(sides: &Sides) -> Point
     ensures { result ≡ least_by (sides_of sides.now) }
 {
     (sides.time, sides.left.lesser(sides.right))
 }
 
-// The point at which the curves cross from one time to the next, if they do.
+// Returns the point at which the curves cross between two successive times, if they do.
 fn crossing(before: &Sides, now: &Sides, part: Part) -> Result<Option<Point>, PassedAt<Q>>
     requires { before.now.time <ℚ now.now.time }
     ensures { seen_at option_to_list (λ q. q) result ≡ at_part part
@@ -45,7 +45,7 @@ fn crossing(before: &Sides, now: &Sides, part: Part) -> Result<Option<Point>, Pa
     Ok(Some((time, value)))
 }
 
-// The points from one time to the next are put behind those before.
+// Appends the crossing between two successive times, if there is one, and the point at the second time.
 fn add_points(
     points: &mut Vec<Point>,
     before: &Sides,
@@ -63,7 +63,7 @@ fn add_points(
     Ok(())
 }
 
-/// The points of the lesser of two curves: one at each time of either, and one where they cross between.
+/// Returns the points of the pointwise minimum of two curves: one at each time of either, and one at each crossing between.
 pub(crate) fn least_points(
     alloc: Global,
     left: &[Point],

@@ -1,4 +1,4 @@
-//! Piecewise linear functions of time, by their points, and the flow over time that they describe.
+//! This crate holds piecewise linear functions of time, given by points, and flows over time built from these functions.
 //!
 //! Times and values are exact fractions. A curve is linear between neighbouring points and constant after the last one.
 #![tactic(auto)]

@@ -1,4 +1,4 @@
-// Pieces of curves, from one point to a later one: the slope, the value at a time, the time of a value, and where two cross.
+// Operations on pieces of curves. A piece leads from one point to a later one.
 ghost use Rattle.std.specs.Prelude.{◌≡◌, ◌≢◌, true};
 ghost use Rattle.nf_rational.specs.Order.{◌<ℚ◌};
 ghost use Rattle.nf_work.specs.Passing.{passes_Q};
@@ -9,10 +9,10 @@ ghost use Rattle.nf_curve.specs.Sides.{sides_of};
 
 use nf_frac::{Part, PassedAt, Q, at};
 
-/// A time and the value there.
+/// A point: a time and a value.
 pub type Point = (Q, Q);
 
-/// Two curves at a time: the values of the left one and of the right one, each in its curve's unit.
+/// The values of two curves at one time. Each value has the unit of its curve.
 #[derive(Clone, Copy)]
 pub struct Sides {
     pub time: Q,
@@ -20,8 +20,8 @@ pub struct Sides {
     pub right: Q,
 }
 
-/// The slope from one point to a later one, a value per unit of time. Passed comes exactly at the first operation of its list that
-/// passes, with this part. Takes no memory.
+/// Returns the slope from one point to a later one, in value per unit of time. Returns `PassedAt` exactly if an operation of
+/// `checked_slope` passes: the first one, with `part`. Does not allocate.
 #[tactic(auto, unfolding(nf_curve_lists::specs::Lines::checked_slope), using(crate::proofs::Pieces::run_apart))]
 pub fn slope(p: &Point, q: &Point, part: Part) -> Result<Q, PassedAt<Q>>
     requires { p.now.0 <ℚ q.now.0 }
@@ -33,8 +33,8 @@ pub fn slope(p: &Point, q: &Point, part: Part) -> Result<Q, PassedAt<Q>>
     Ok(slope)
 }
 
-/// The value at a time, on the line through a point and a later one. Passed comes exactly at the first operation of its list that
-/// passes, with this part. Takes no memory.
+/// Returns the value at `time` on the line through a point and a later one. Returns `PassedAt` exactly if an operation of `checked_line`
+/// passes: the first one, with `part`. Does not allocate.
 #[tactic(auto, unfolding(nf_curve_lists::specs::Lines::checked_line))]
 pub fn line(p: &Point, q: &Point, time: Q, part: Part) -> Result<Q, PassedAt<Q>>
     requires { p.now.0 <ℚ q.now.0 }
@@ -47,7 +47,7 @@ pub fn line(p: &Point, q: &Point, time: Q, part: Part) -> Result<Q, PassedAt<Q>>
     Ok(value)
 }
 
-/// The time of a value, on the line through two points of different values.
+/// Returns the time at which the line through two points of different values has this value.
 #[tactic(auto, unfolding(nf_curve_lists::specs::Lines::checked_inverse), using(crate::proofs::Pieces::slope_apart))]
 pub(crate) fn inverse(p: &Point, q: &Point, value: Q, part: Part) -> Result<Q, PassedAt<Q>>
     requires later { p.now.0 <ℚ q.now.0 }
@@ -61,7 +61,8 @@ pub(crate) fn inverse(p: &Point, q: &Point, value: Q, part: Part) -> Result<Q, P
     Ok(time)
 }
 
-/// The time at which two curves cross that are linear from one time to a later one: the one that is below is above then.
+/// Returns the time at which two curves cross. Both are linear between the two times, and the lower one at the first is the higher one at
+/// the second.
 #[tactic(auto, unfolding(nf_curve_lists::specs::Lines::checked_cross), using(crate::proofs::Pieces::change_apart))]
 pub(crate) fn crossing_time(a: &Sides, b: &Sides, part: Part) -> Result<Q, PassedAt<Q>>
     requires { is_crossed (sides_of a.now) (sides_of b.now) ≡ true }

@@ -1,4 +1,4 @@
-// Places on a curve: how many of its points are at or before a time. A walk along a curve moves from place to place.
+// Point counts: the number of points of a curve at or before a time.
 ghost use Rattle.std.specs.Prelude.{◌≡◌, ◌≤◌, length};
 ghost use Rattle.nf_rational.specs.Operations.{0ℚ};
 ghost use Rattle.nf_rational.specs.Order.{◌≤ℚ◌};
@@ -11,7 +11,7 @@ ghost use Rattle.nf_curve.specs.Places.{place_of};
 use crate::lines::{Point, line};
 use nf_frac::{Part, PassedAt, Q};
 
-/// The place of a time, from a place on that isn't beyond it.
+/// Returns the number of points at or before `time`. Counts up from `from`, which must be at most this number.
 pub(crate) fn place_up(points: &[Point], from: usize, time: Q) -> usize
     requires rise { TimesRise points.now }
     requires from { from ≤ place_of time points.now }
@@ -24,7 +24,7 @@ pub(crate) fn place_up(points: &[Point], from: usize, time: Q) -> usize
     place
 }
 
-/// The place of a time, from a place down that isn't before it.
+/// Returns the number of points at or before `time`. Counts down from `from`, which must be at least this number.
 pub(crate) fn place_down(points: &[Point], from: usize, time: Q) -> usize
     requires rise { TimesRise points.now }
     requires from { place_of time points.now ≤ from }
@@ -38,7 +38,7 @@ pub(crate) fn place_down(points: &[Point], from: usize, time: Q) -> usize
     place
 }
 
-/// The value at a time, by its place.
+/// Returns the value at a time, given the number of points at or before it.
 pub(crate) fn value_at(
     points: &[Point],
     place: usize,

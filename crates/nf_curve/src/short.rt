@@ -10,7 +10,7 @@ use crate::lines::{Point, slope};
 use nf_frac::{Halt, Part, Q};
 use std::alloc::{AllocError, Global};
 
-// A point is put behind those before, unless the slopes on its sides are equal.
+// Appends a point, unless the slopes before and after it are equal.
 fn keep_if_turning(
     short: &mut Vec<Point>,
     point: &Point,
@@ -25,7 +25,7 @@ fn keep_if_turning(
     Ok(())
 }
 
-/// The points of a curve without the inner ones that have equal slopes on both sides.
+/// Returns the points of a curve without the inner ones that have equal slopes on both sides.
 pub(crate) fn short_points(
     alloc: Global,
     points: &[Point],

@@ -11,7 +11,7 @@ use crate::walk::{Moment, first_moment, next_moment, sides_at};
 use nf_frac::{Halt, Part, PassedAt, Q, at};
 use std::alloc::Global;
 
-// The point of the sum at a time.
+// Returns the point of the sum at the current time of the merge.
 fn sum_at(left: &[Point], right: &[Point], now: &Moment, part: Part) -> Result<Point, PassedAt<Q>>
     requires left { IsCurve left.now }
     requires right { IsCurve right.now }
@@ -23,7 +23,7 @@ fn sum_at(left: &[Point], right: &[Point], now: &Moment, part: Part) -> Result<P
     Ok((now.time, value))
 }
 
-/// The points of the sum of two curves: one at each time of either.
+/// Returns the points of the sum of two curves, one at each time of either curve.
 pub(crate) fn sum_points(
     alloc: Global,
     left: &[Point],

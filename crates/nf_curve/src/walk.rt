@@ -1,4 +1,4 @@
-// A walk along two curves, from time to time: the times of the points of either, in rising order.
+// The merge of two curves' times lists the times of the points of either, in increasing order.
 ghost use Rattle.std.specs.Prelude.{◌≡◌, ◌∷◌, slice_get, option_map, IfSome, IfOk};
 ghost use Rattle.nf_rational.specs.Operations.{0ℚ};
 ghost use Rattle.nf_rational.specs.Order.{◌<ℚ◌};
@@ -15,7 +15,7 @@ use crate::lines::{Point, Sides};
 use crate::places::{place_up, value_at};
 use nf_frac::{Part, PassedAt, Q};
 
-/// A time of a walk along two curves, in their unit of time, with its place on each: how many of its points are at or before it.
+/// A time in the merge of two curves' times. The fields `left` and `right` hold the number of points of each curve at or before it.
 #[derive(Clone, Copy)]
 pub struct Moment {
     pub time: Q,
@@ -23,7 +23,7 @@ pub struct Moment {
     pub right: usize,
 }
 
-// The time of the point at a place, if there is one.
+// Returns the time of the point at this index, if there is one.
 fn time_at(points: &[Point], place: usize) -> Option<Q>
     ensures { result ≡ option_map (λ p. p.0) (slice_get points.now place) }
 {
@@ -34,7 +34,7 @@ fn time_at(points: &[Point], place: usize) -> Option<Q>
     }
 }
 
-// The earlier of two times, if there are any.
+// Returns the earlier of two times, or the only one.
 fn earlier(left: Option<Q>, right: Option<Q>) -> Option<Q>
     ensures { result ≡ earlier_of left right }
 {
@@ -45,8 +45,8 @@ fn earlier(left: Option<Q>, right: Option<Q>) -> Option<Q>
     }
 }
 
-/// Where a walk along two curves begins: at time 0. It comes to each time of a point of either, once and in rising order. Is never
-/// refused, and takes no memory.
+/// Returns the first time of the merge of two curves' times: time 0. The merge contains each time of a point of either curve once, in
+/// increasing order. Never fails, and does not allocate.
 pub fn first_moment(left: &[Point], right: &[Point]) -> Moment
     requires left { IsCurve left.now }
     requires right { IsCurve right.now }
@@ -62,8 +62,8 @@ pub fn first_moment(left: &[Point], right: &[Point]) -> Moment
     }
 }
 
-/// Where a walk along two curves is next: at the first later time of a point of either, and None exactly where there is none.
-/// `now` is where the walk along these two is. Is never refused, and takes no memory.
+/// Returns the next time of the merge of two curves' times. Returns None exactly if neither curve has a point after `now`. `now` must be
+/// a time of the merge of these two curves. Never fails, and does not allocate.
 pub fn next_moment(left: &[Point], right: &[Point], now: &Moment) -> Option<Moment>
     requires left { IsCurve left.now }
     requires right { IsCurve right.now }
@@ -82,8 +82,8 @@ pub fn next_moment(left: &[Point], right: &[Point], now: &Moment) -> Option<Mome
     })
 }
 
-/// Both values at the time where a walk along two curves is, each in its curve's unit. `now` is where the walk along these two is.
-/// Passed comes exactly at the first operation of its list that passes, with this part. Takes no memory.
+/// Returns both values at the time `now` of the merge, each in the unit of its curve. Returns `PassedAt` exactly if an operation of
+/// `sides_at` (nf_curve_lists/specs/Sums.antt) passes: the first one, with `part`. Does not allocate.
 pub fn sides_at(
     left: &[Point],
     right: &[Point],

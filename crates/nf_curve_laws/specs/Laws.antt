@@ -1,4 +1,4 @@
--- What each list of curves gives where no operation passes.
+-- Each operation sequence of curves gives the specified result, if no operation passes.
 use Rattle.std.specs.Prelude.{◌≡◌, List, [], ◌∷◌, ◌++◌, Option, Ok}
 use Rattle.nf_rational.specs.Rational.{ℚ}
 use Rattle.nf_rational.specs.Operations.{0ℚ}

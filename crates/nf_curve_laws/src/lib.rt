@@ -1,40 +1,40 @@
-//! Laws of the lists of curves: where no operation passes, each gives what it has to give at every time. Each is the contract of a
-//! public function with an empty body.
+//! Theorems about the operation sequences of curves: if no operation passes, each result has the specified values at every time. Each
+//! theorem is the contract of a public function with an empty body.
 #![tactic(auto)]
 
 ghost use Rattle.nf_curve_laws.specs.Laws.{ValueIs, CutIs, SumIs, LeastIs, ComposedIs, ShortIs, DifferenceIs};
 
-/// A value at a time.
+/// If no operation passes, `checked_value` gives the value of the curve at the time.
 pub fn value_is()
     ensures { ValueIs }
 {}
 
-/// A cut has the points before its last time, and one there; up to that time it has the values of the curve that was cut.
+/// If no operation passes, a cut has the points before its last time, then a point there. Up to that time it has the curve's values.
 pub fn cut_is()
     ensures { CutIs }
 {}
 
-/// A sum is one at every time.
+/// If no operation passes, `checked_sum` gives the pointwise sum of two curves.
 pub fn sum_is()
     ensures { SumIs }
 {}
 
-/// The lesser of two curves is so at every time.
+/// If no operation passes, `checked_least` gives the pointwise minimum of two curves.
 pub fn least_is()
     ensures { LeastIs }
 {}
 
-/// A composition is one at every time up to the last one.
+/// If no operation passes, `checked_composed` gives the composition of two curves at times from 0 to `last`.
 pub fn composed_is()
     ensures { ComposedIs }
 {}
 
-/// A short form changes no value.
+/// If no operation passes, the short form has the same values and no removable point.
 pub fn short_is()
     ensures { ShortIs }
 {}
 
-/// No difference means none at any time up to the last one; else it is the first corner with one.
+/// If no operation passes, None means that the curves agree up to `last`. Otherwise the result is the first corner at which they differ.
 pub fn difference_is()
     ensures { DifferenceIs }
 {}

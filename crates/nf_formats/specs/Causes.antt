@@ -1,4 +1,4 @@
--- Why a run stopped, in words.
+-- The words for the cause of a stop.
 use Rattle.std.specs.Prelude.{ℕ, List, [], ◌∷◌, Option, Some, None, codes}
 use Rattle.nf_rational.specs.Rational.{ℚ}
 use Rattle.nf_work.specs.declared.Op.{Op}
@@ -28,12 +28,12 @@ op_word Difference = codes "difference"
 op_word Product = codes "product"
 op_word Quotient = codes "quotient"
 
--- a count, or `-` where there is none
+-- returns the digits of a count, or `-` without count
 abbrev pub count_word : Option ℕ → List ℕ
 count_word None = codes "-"
 count_word (Some count) = digits_of count
 
--- `passed PHASE PART PLACE OP LEFT RIGHT`
+-- the words `passed PHASE PART PLACE OP LEFT RIGHT`
 abbrev pub passed_words : Option ℕ → Option ℕ → PassedAt ℚ → List (List ℕ)
 passed_words phase place at =
     codes "passed" ∷ count_word phase ∷ part_word at.part ∷ count_word place ∷ op_word at.op ∷ printed at.left ∷ printed at.right ∷ []

@@ -1,4 +1,4 @@
--- A network as its file names it.
+-- A network with the names of its file.
 use Rattle.std.specs.Prelude.{ℕ, List, [], ◌∷◌, ◌++◌, map, flat_map, Option, refl}
 use Rattle.std.specs.Coded.{Coded, code_by, coded×, coded_ℕ, coded_list, coded_option}
 use Rattle.nf_rational.specs.Rational.{ℚ, coded_ℚ}
@@ -7,7 +7,7 @@ use Rattle.nf_model.specs.Network.{Link, Network, hop_of}
 use Rattle.nf_model.specs.Codes.{coded_network}
 use Rattle.nf_formats.specs.Names.{Name, place_of, name_at}
 
--- a link with its name, and its ends by their names; no capacity: unbounded
+-- a link with its name and the names of its ends; without capacity it is unbounded
 pub record NamedLink : Type 0 where
   pub name : Name
   pub tail : Name
@@ -15,8 +15,8 @@ pub record NamedLink : Type 0 where
   pub transit : ℚ
   pub capacity : Option ℚ
 
--- A network, with the names of its nodes and links in their order. What its file has beside it is idle: nodes that no walk
--- from the source reaches, and links whose tails are such nodes. Nothing ever moves there.
+-- A network with its names, in order. `idle_nodes` are nodes that no walk from the source reaches, and `idle_links` are links whose tails
+-- are unreached. No flow ever enters them.
 pub record Named : Type 0 where
   pub version : ℕ
   pub net : Network
@@ -25,15 +25,15 @@ pub record Named : Type 0 where
   pub idle_nodes : List Name
   pub idle_links : List NamedLink
 
--- ---- from names to numbers, and back
--- a link whose ends are the places of these names
+-- ---- conversion between names and numbers
+-- replaces the names of the ends of a link by their indices in `nodes`
 abbrev pub numbered : List Name → NamedLink → Link
 numbered nodes l = record { tail = place_of nodes l.tail; head = place_of nodes l.head; transit = l.transit; capacity = l.capacity }
 
 abbrev pub hops_among : List Name → List NamedLink → List Hop
 hops_among nodes links = map (λ l. hop_of (numbered nodes l)) links
 
--- a link of a network, by its name and those of its ends
+-- replaces the numbers of the ends of a link by their names
 abbrev pub link_by_name : List Name → Name → Link → NamedLink
 link_by_name nodes name l =
     record { name = name; tail = name_at nodes l.tail; head = name_at nodes l.head; transit = l.transit; capacity = l.capacity }
@@ -42,18 +42,18 @@ abbrev pub links_by_name : List Name → List Name → List Link → List NamedL
 links_by_name nodes (name ∷ names) (l ∷ links) = link_by_name nodes name l ∷ links_by_name nodes names links
 links_by_name nodes names links = []
 
--- the links that aren't idle, by names
+-- lists the links whose tails are reached, by names
 abbrev pub active_links : Named → List NamedLink
 active_links n = links_by_name n.node_names n.link_names n.net.links
 
--- the names of their ends, in order
+-- lists the names of the ends of the links, in order
 abbrev pub ends : List NamedLink → List Name
 ends links = flat_map (λ l. l.tail ∷ l.head ∷ []) links
 
 abbrev pub names_of : List NamedLink → List Name
 names_of links = map (λ l. l.name) links
 
--- ---- all nodes and links, idle ones behind the others
+-- ---- all nodes and links, followed by the unreached ones
 abbrev pub all_nodes : Named → List Name
 all_nodes n = n.node_names ++ n.idle_nodes
 
@@ -63,7 +63,7 @@ all_links n = active_links n ++ n.idle_links
 abbrev pub all_hops : Named → List Hop
 all_hops n = hops_among (all_nodes n) (all_links n)
 
--- ---- how contracts tell them apart
+-- ---- injective codes for contracts
 abbrev pub coded_name : Coded Name
 coded_name = coded_list coded_ℕ
 

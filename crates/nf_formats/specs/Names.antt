@@ -1,4 +1,4 @@
--- Names of nodes and links: lists of bytes.
+-- Names of nodes and links, as lists of bytes.
 use Rattle.std.specs.Prelude.{◌≡◌, ℕ, Bool, true, not, ◌&&◌, ◌||◌, ◌==◌, nat_le, if◌then◌else◌, List, [], ◌∷◌, ◌++◌, length, fold, filter, slice_get, unwrap_or}
 use Rattle.std.specs.List.{list_all, list_any, position_or_len, IsDistinct}
 use Rattle.std.specs.Char.{is_ascii_alphanumeric}
@@ -12,35 +12,35 @@ Name = List ℕ
 abbrev pub is_name_byte : ℕ → Bool
 is_name_byte b = is_ascii_alphanumeric b || (b == 95 || (b == 45 || b == 46))
 
--- at least one of these, and not too many
+-- a name has at least 1 and at most `longest_name` of these characters
 abbrev pub is_name : Name → Bool
 is_name name = nat_le 1 (length name) && (nat_le (length name) longest_name && list_all is_name_byte name)
 
--- ---- a name among others
+-- ---- a name in a list
 abbrev pub has_name : List Name → Name → Bool
 has_name names name = list_any (bytes_eq name) names
 
--- the place of a name: that of its first appearance, or the length where it isn't there
+-- returns the index of the first appearance of a name, or the length of the list without one
 abbrev pub place_of : List Name → Name → ℕ
 place_of names name = position_or_len (bytes_eq name) names
 
--- the name at a place
+-- the name at an index
 abbrev pub name_at : List Name → ℕ → Name
 name_at names place = unwrap_or (slice_get names place) []
 
--- a name put behind others, if it isn't there
+-- appends a name, if the list does not contain it
 abbrev pub with_name : List Name → Name → List Name
 with_name names name = if has_name names name then names else names ++ name ∷ []
 
--- names put behind others one after the other, each if it isn't there yet: in the order of first appearance
+-- appends each of these names that the list does not contain yet, in order of first appearance
 abbrev pub with_names : List Name → List Name → List Name
 with_names names more = fold with_name names more
 
--- the others than these
+-- removes these names
 abbrev pub without : List Name → List Name → List Name
 without these names = filter (λ name. not (has_name these name)) names
 
--- names, no two of them equal
+-- the names are valid, and no two are equal
 pub record AreNames (names : List Name) : Type 0 where
   pub each : list_all is_name names ≡ true
   pub distinct : IsDistinct bytes_eq names

@@ -1,4 +1,4 @@
--- What a network file as a whole says: the rules N17 to N22, and the network that it stands for.
+-- A network file as a whole.
 use Rattle.std.specs.Prelude.{◌≡◌, ◌⊎◌, ℕ, ◌<◌, Bool, true, false, not, ◌||◌, ◌==◌, List, [], ◌∷◌, length, map, is_none, unwrap_or}
 use Rattle.std.specs.Bool.{Decides, MatchBool}
 use Rattle.std.specs.List.{AllByRecursion, AllZip}
@@ -14,7 +14,7 @@ use Rattle.nf_formats.specs.Numbers.{greatest}
 use Rattle.nf_formats.specs.Named.{NamedLink, Named, numbered, hops_among, ends, names_of}
 use Rattle.nf_formats.specs.NetLines.{Draft}
 
--- ---- by the file's own numbers: a node is its place among the nodes that the file names
+-- ---- numbers of the file: a node's number is its index among the nodes that the file names
 abbrev pub draft_hops : Draft → List Hop
 draft_hops draft = hops_among draft.nodes draft.links
 
@@ -32,13 +32,13 @@ abbrev pub IsReached : Draft → ℕ → Type 0
 IsReached draft v = (walk : List ℕ) × IsWalk (draft_hops draft) walk (source_place draft) v
 
 -- ---- the rules
--- in version 1 some node, in version 2 the sink isn't reached from the source
+-- in version 1 some node is not reachable from the source; in version 2 the sink is not
 abbrev pub LeavesUnreached : Draft → Type 0
 LeavesUnreached draft = MatchBool (draft.version == 1)
     ((v : ℕ) × (v < length draft.nodes) × (¬ IsReached draft v))
     (¬ IsReached draft (place_of draft.nodes (sink_name draft)))
 
--- a cycle of links of zero transit
+-- a cycle of links of transit time 0
 pub record HasZeroCycle (draft : Draft) : Type 0 where
   pub first : ℕ
   pub walk : List ℕ
@@ -46,7 +46,7 @@ pub record HasZeroCycle (draft : Draft) : Type 0 where
   pub closed : IsWalk (draft_hops draft) (first ∷ walk) node node
   pub zero : AllByRecursion (λ e. transit_of (draft_hops draft) e ≡ 0ℚ) (first ∷ walk)
 
--- for some link the sum of its tail's least transit sum from the source, where that is a fraction, and its own transit passes
+-- for some link, the sum of its tail's least transit sum (if that is a fraction) and its own transit time passes
 pub record HasPassingSum (draft : Draft) : Type 0 where
   pub link : ℕ
   pub hop : Hop
@@ -68,20 +68,20 @@ Breaks draft rule = ⊥
 abbrev pub closing_rules : List NetRule
 closing_rules = N17 ∷ N18 ∷ N19 ∷ N20 ∷ N21 ∷ N22 ∷ []
 
--- of these rules, this one is the first that is broken
+-- `first` is the first broken rule of the list
 abbrev pub IsFirst : (NetRule → Type 0) → List NetRule → NetRule → Type 0
 IsFirst Broken [] first = ⊥
 IsFirst Broken (rule ∷ rest) first = (Broken rule × (first ≡ rule)) ⊎ ((¬ Broken rule) × IsFirst Broken rest first)
 
 -- ---- the network
--- those of the links at which the flags say so
+-- selects the links whose flag is set
 abbrev pub marked : List Bool → List NamedLink → List NamedLink
 marked (true ∷ flags) (l ∷ links) = l ∷ marked flags links
 marked (false ∷ flags) (l ∷ links) = marked flags links
 marked flags links = []
 
--- The nodes of the network are the source, the sink, and the others by first appearance in the lines of its links; the links
--- and the pieces are numbered in the order of their lines. The idle nodes go by first appearance in the lines of idle links.
+-- The nodes of the network are the source, the sink, and the others by first appearance in the lines of its links. Links and pieces are
+-- numbered in the order of their lines. The idle nodes are listed by first appearance in the lines of idle links.
 abbrev pub network_of : Draft → List NamedLink → List NamedLink → Named
 network_of draft active idle =
     let nodes = with_names (source_name draft ∷ sink_name draft ∷ []) (ends active) in
@@ -94,11 +94,11 @@ network_of draft active idle =
       idle_links = idle;
     }
 
--- a flag for each link: whether its tail is reached
+-- each link has a flag, which states whether its tail is reached
 abbrev pub AreActive : Draft → List Bool → Type 0
 AreActive draft flags = AllZip (λ flag l. Decides flag (IsReached draft (place_of draft.nodes l.tail))) flags draft.links
 
--- the file stands for this network: the links whose tails aren't reached are idle
+-- the file stands for this network: links whose tails are not reached are idle
 pub record StandsFor (draft : Draft) (n : Named) : Type 0 where
   pub flags : List Bool
   pub active : AreActive draft flags

@@ -1,4 +1,4 @@
--- The lines of a network file: what each says, and the first that breaks one of the rules N3 to N16.
+-- The lines of a network file. Each line has a meaning, or breaks one of the rules N3 to N16.
 use Rattle.std.specs.Prelude.{ℕ, Bool, true, false, ◌&&◌, ◌||◌, nat_lt, nat_le, if◌then◌else◌, List, [], ◌∷◌, ◌++◌, length, Option, Some, None, is_some, Result, Ok, Err, codes}
 use Rattle.std.specs.List.{last_or}
 use Rattle.std.specs.Str.{bytes_eq}
@@ -15,12 +15,12 @@ use Rattle.nf_formats.specs.Numbers.{number_in, capacity_in}
 use Rattle.nf_formats.specs.Named.{NamedLink, names_of}
 use Rattle.nf_formats.specs.Limits.{most_nodes, most_links, most_pieces}
 
--- a rule that is broken, and the line in which it is seen
+-- a broken rule and its line
 pub record Broken : Type 0 where
   pub rule : NetRule
   pub line : ℕ
 
--- ---- what a line says by itself
+-- ---- the meaning of a single line
 pub data Entry : Type 0 where
   Source : Name → Entry
   Sink : Name → Entry
@@ -28,7 +28,7 @@ pub data Entry : Type 0 where
   InflowLine : Piece → Entry
   End : Entry
 
--- `source NODE` and `sink NODE`
+-- reads `source NODE` and `sink NODE`
 abbrev pub node_line : (Name → Entry) → List (List ℕ) → Result Entry NetRule
 node_line make (name ∷ []) = if is_name name then Ok (make name) else Err N7
 node_line make words = Err N6
@@ -38,7 +38,7 @@ link_entry name tail head (Some transit) (Some capacity) =
     Ok (LinkLine (record { name = name; tail = tail; head = head; transit = transit; capacity = capacity }))
 link_entry name tail head transit capacity = Err N8
 
--- `link NAME TAIL HEAD TRANSIT CAPACITY`
+-- reads `link NAME TAIL HEAD TRANSIT CAPACITY`
 abbrev pub link_line : ℕ → List (List ℕ) → Result Entry NetRule
 link_line version (name ∷ tail ∷ head ∷ transit ∷ capacity ∷ []) =
     if is_name name && (is_name tail && is_name head)
@@ -49,17 +49,17 @@ abbrev pub inflow_entry : Option ℚ → Option ℚ → Result Entry NetRule
 inflow_entry (Some start) (Some rate) = Ok (InflowLine (record { start = start; rate = rate }))
 inflow_entry start rate = Err N8
 
--- `inflow START RATE`
+-- reads `inflow START RATE`
 abbrev pub inflow_line : ℕ → List (List ℕ) → Result Entry NetRule
 inflow_line version (start ∷ rate ∷ []) = inflow_entry (number_in version start) (number_in version rate)
 inflow_line version words = Err N6
 
--- `end`
+-- reads `end`
 abbrev pub end_line : List (List ℕ) → Result Entry NetRule
 end_line [] = Ok End
 end_line words = Err N6
 
--- what the words of a line say, or the first of N5 to N8 that they break
+-- returns the meaning of a line's words, or the first of N5 to N8 that they break
 abbrev pub entry_of : ℕ → List (List ℕ) → Result Entry NetRule
 entry_of version [] = Err N5
 entry_of version (key ∷ words) =
@@ -70,22 +70,22 @@ entry_of version (key ∷ words) =
     else (if bytes_eq key (codes "end") then end_line words
     else Err N5))))
 
--- ---- what the lines so far say
+-- ---- the parser state after some lines
 pub record Draft : Type 0 where
   pub version : ℕ
   pub source : Option Name
   pub sink : Option Name
-  -- the nodes that they name, in the order of first appearance
+  -- the nodes that the lines name, in order of first appearance
   pub nodes : List Name
   pub links : List NamedLink
   pub pieces : List Piece
-  -- whether there was an `end` line
+  -- whether an `end` line was read
   pub ended : Bool
 
 abbrev pub empty_draft : ℕ → Draft
 empty_draft version = record { version = version; source = None; sink = None; nodes = []; links = []; pieces = []; ended = false }
 
--- what they say with one line more
+-- the parser state after one more line
 abbrev pub after : Draft → Entry → Draft
 after draft (Source name) = record draft { source = Some name; nodes = with_names draft.nodes (name ∷ []) }
 after draft (Sink name) = record draft { sink = Some name; nodes = with_names draft.nodes (name ∷ []) }
@@ -93,25 +93,25 @@ after draft (LinkLine l) = record draft { nodes = with_names draft.nodes (l.tail
 after draft (InflowLine piece) = record draft { pieces = draft.pieces ++ piece ∷ [] }
 after draft End = record draft { ended = true }
 
--- ---- the rules that a line breaks because of the lines before it
--- the first of these rules whose test says that it is broken
+-- ---- rules of a line that depend on earlier lines
+-- the rule of the first true test
 abbrev pub first_rule : List (Bool × NetRule) → Option NetRule
 first_rule [] = None
 first_rule (test ∷ rest) = if test.0 then Some test.1 else first_rule rest
 
--- with these names there are too many nodes
+-- these names make the number of nodes exceed the limit
 abbrev pub too_many_nodes : Draft → List Name → Bool
 too_many_nodes draft names = nat_lt most_nodes (length (with_names draft.nodes names))
 
 abbrev pub is_negative : ℚ → Bool
 is_negative x = lt_ℚ x 0ℚ
 
--- a capacity that is a number isn't above 0
+-- a given capacity is not greater than 0
 abbrev pub is_no_capacity : Option ℚ → Bool
 is_no_capacity None = false
 is_no_capacity (Some capacity) = le_ℚ capacity 0ℚ
 
--- a start isn't above that of the piece before
+-- a start is not greater than that of the previous piece
 abbrev pub is_not_after : ℚ → Option Piece → Bool
 is_not_after start None = false
 is_not_after start (Some before) = le_ℚ start before.start
@@ -133,7 +133,7 @@ abbrev pub unless : Option NetRule → Draft → Result Draft NetRule
 unless None draft = Ok draft
 unless (Some rule) draft = Err rule
 
--- what the lines say with one line more, or the first of N4 to N16 that it breaks
+-- returns the parser state after one more line, or the first of N4 to N16 that the line breaks
 abbrev pub add_line : Draft → List (List ℕ) → Result Draft NetRule
 add_line draft words = if draft.ended then Err N4
     else (entry_of draft.version words >>= λ entry. unless (broken_rule draft entry) (after draft entry))
@@ -159,7 +159,7 @@ abbrev pub draft_after : Option ℕ → ℕ → List ReadLine → Result Draft B
 draft_after None number rest = Err (record { rule = N3; line = number })
 draft_after (Some version) number rest = add_lines (empty_draft version) rest
 
--- what the content lines of a file say, or the first line that breaks one of N3 to N16, with the first rule that it breaks
+-- returns the parser state after all content lines, or the first line that breaks one of N3 to N16, with its first broken rule
 abbrev pub draft_from : List ReadLine → Result Draft Broken
 draft_from [] = Err (record { rule = N3; line = 1 })
 draft_from (first ∷ rest) = draft_after (version_of first.words) first.number rest

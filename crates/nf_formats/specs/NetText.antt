@@ -14,8 +14,7 @@ link_words l = codes "link" ∷ l.name ∷ l.tail ∷ l.head ∷ printed l.trans
 abbrev pub inflow_words : Piece → List (List ℕ)
 inflow_words piece = codes "inflow" ∷ printed piece.start ∷ printed piece.rate ∷ []
 
--- the words of its lines: the head, source and sink, the links in their order and then the idle ones in theirs, the pieces in
--- their order, and the end
+-- lists the words of the lines: the head, source and sink, the links in order, the idle links in order, the pieces in order, and the end.
 abbrev pub canonical_lines : Named → List (List (List ℕ))
 canonical_lines n = (codes "nfot" ∷ digits_of n.version ∷ [])
     ∷ (codes "source" ∷ name_at n.node_names n.net.source ∷ [])

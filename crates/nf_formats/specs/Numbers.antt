@@ -1,4 +1,4 @@
--- Numbers in a file of a network.
+-- Numbers in a network file.
 use Rattle.std.specs.Prelude.{ℕ, not, ◌&&◌, ◌==◌, if◌then◌else◌, List, Option, Some, None, option_map, codes}
 use Rattle.std.specs.Result.{result_ok}
 use Rattle.std.specs.Str.{bytes_eq}
@@ -7,15 +7,15 @@ use Rattle.nf_work.specs.Passing.{bound_of}
 use Rattle.nf_numerals.specs.Numbers.{number_of, decimal_of}
 use Rattle.nf_numerals.specs.Printed.{printed}
 
--- the greatest that a part of a fraction may be
+-- the greatest magnitude of a numerator or denominator
 abbrev pub greatest : ℕ
 greatest = bound_of 127
 
--- the number that a word writes, if it does: a or a/b, and from version 2 on also a decimal
+-- reads a number word: a or a/b, and from version 2 on also a decimal
 abbrev pub number_in : ℕ → List ℕ → Option ℚ
 number_in version word = result_ok (if version == 1 then number_of greatest word else decimal_of greatest word)
 
--- the capacity that a word writes, if it does: a number, or from version 2 on `inf`, for an unbounded link
+-- reads a capacity word: a number, and from version 2 on also `inf` for an unbounded link
 abbrev pub capacity_in : ℕ → List ℕ → Option (Option ℚ)
 capacity_in version word =
     if not (version == 1) && bytes_eq word (codes "inf") then Some None else option_map (λ q. Some q) (number_in version word)

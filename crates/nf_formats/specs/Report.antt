@@ -17,15 +17,15 @@ use Rattle.nf_formats.specs.Names.{Name, name_at}
 use Rattle.nf_formats.specs.Named.{Named}
 use Rattle.nf_formats.specs.Causes.{cause_words}
 
--- A run to a horizon: its flow up to the time reached, why it stopped if that is below the horizon, and the pattern of its
--- last phase, which has an entry for each link.
+-- A report of a run has its flow up to the time reached, the cause of a stop before the horizon, and the pattern of the last phase. The
+-- pattern has an entry for each link.
 pub record Report : Type 0 where
   pub horizon : ℚ
   pub flow : Flow
   pub stop : Option (Cause ℚ)
   pub last : Pattern
 
--- each curve has a rate for each of its points but the last
+-- each curve has a rate for each of its points except the last
 abbrev pub HaveRates : List Trace → Type 0
 HaveRates traces = (e : ℕ) (trace : Trace) → slice_get traces e ≡ Some trace → length trace.points ≡ suc (length trace.rates)
 
@@ -39,12 +39,12 @@ pub record IsWellFormed (net : Network) (report : Report) : Type 0 where
   pub states : length report.last ≡ length net.links
   pub no_full : (e : ℕ) (link : Link) → IsLink net e link → link.capacity ≡ None → ¬ HasState report.last e Full
 
--- ---- the words of its lines
--- a line for each point of a curve
+-- ---- the words of the lines
+-- lists one line for each point of a curve
 abbrev pub point_lines : List ℕ → Name → List (ℚ × ℚ) → List (List (List ℕ))
 point_lines key name points = map (λ p. key ∷ name ∷ printed p.0 ∷ printed p.1 ∷ []) points
 
--- the same, with the rate from each point to the next, and `-` at the last
+-- lists one line for each point of a trace, with the rate from the point to the next, and `-` at the last point
 abbrev pub trace_lines : List ℕ → Name → List (ℚ × ℚ) → List ℚ → List (List (List ℕ))
 trace_lines key name [] rates = []
 trace_lines key name (p ∷ points) (rate ∷ rates) =
@@ -57,7 +57,7 @@ trace_at traces e = unwrap_or (slice_get traces e) (record { points = []; rates 
 abbrev pub label_lines : Named → Flow → ℕ → List (List (List ℕ))
 label_lines n flow v = point_lines (codes "label") (name_at n.node_names v) (points_at flow.labels v)
 
--- of a link its inflow, its outflow and its queue
+-- lists the lines of a link: inflow, outflow and queue
 abbrev pub link_lines : Named → Flow → ℕ → List (List (List ℕ))
 link_lines n flow e =
     let name = name_at n.link_names e in
@@ -79,11 +79,12 @@ state_line name (Some state) = (codes "state" ∷ name ∷ state_word state ∷ 
 abbrev pub state_lines : Named → Pattern → ℕ → List (List (List ℕ))
 state_lines n pattern e = state_line (name_at n.link_names e) (unwrap_or (slice_get pattern e) None)
 
--- for each number below a count, in order
+-- lists the lines for each number below `count`, in order
 abbrev pub for_each : ℕ → (ℕ → List (List (List ℕ))) → List (List (List ℕ))
 for_each count lines_of = flat_map lines_of (range_with_len 0 count)
 
--- the head; the labels of the nodes; the idle nodes; the curves of the links; the states of the links that have one; the end
+-- lists the words of the lines: the head, the labels of the nodes, the unreached nodes, the curves of the links, the states of the links,
+-- and the end.
 abbrev pub report_lines : Named → Report → List (List (List ℕ))
 report_lines n report = (codes "report" ∷ digits_of n.version ∷ [])
     ∷ (codes "horizon" ∷ printed report.horizon ∷ [])

@@ -1,4 +1,4 @@
--- What holds of the network of every accepted file.
+-- Properties of the network of each accepted file.
 use Rattle.std.specs.Prelude.{◌≡◌, ◌≢◌, ◌⊎◌, ℕ, ◌≤◌, true, false, List, [], ◌∷◌, ◌++◌, length, Option, Some, None}
 use Rattle.std.specs.List.{AllByRecursion}
 use Rattle.nf_rational.specs.Rational.{ℚ}
@@ -13,11 +13,11 @@ use Rattle.nf_formats.specs.Numbers.{greatest}
 use Rattle.nf_formats.specs.Named.{NamedLink, Named, active_links, all_links, all_nodes, all_hops, ends, names_of}
 use Rattle.nf_formats.specs.Limits.{most_nodes, most_links, most_pieces}
 
--- no part is beyond the greatest
+-- neither the numerator nor the denominator exceeds `greatest` in magnitude
 abbrev pub IsFraction : ℚ → Type 0
 IsFraction q = is_wide greatest q ≡ false
 
--- a fraction above 0, or from version 2 on none
+-- the capacity is a positive fraction, or from version 2 on also missing
 abbrev pub IsCapacity : ℕ → Option ℚ → Type 0
 IsCapacity version None = version ≢ 1
 IsCapacity version (Some capacity) = IsFraction capacity × (0ℚ <ℚ capacity)
@@ -34,14 +34,14 @@ pub record IsFractionPiece (piece : Piece) : Type 0 where
   pub start : IsFraction piece.start
   pub rate : IsFraction piece.rate
 
--- the limits of a file
+-- the network satisfies the limits of a file
 pub record IsWithinLimits (n : Named) : Type 0 where
   pub nodes : length (all_nodes n) ≤ most_nodes
   pub links : length (all_links n) ≤ most_links
   pub pieces : length n.net.pieces ≤ most_pieces
 
--- The source is node 0 and the sink node 1. The others are numbered by first appearance in the lines of the links, and idle
--- nodes by first appearance in the lines of idle links.
+-- The source is node 0 and the sink node 1. The other nodes are numbered by first appearance in the lines of links. Unreached nodes are
+-- listed by first appearance in the lines of links out of unreached nodes.
 pub record IsNumbered (n : Named) : Type 0 where
   pub source : n.net.source ≡ 0
   pub sink : n.net.sink ≡ 1
@@ -50,12 +50,12 @@ pub record IsNumbered (n : Named) : Type 0 where
   pub order : n.node_names ≡ with_names (name_at n.node_names 0 ∷ name_at n.node_names 1 ∷ []) (ends (active_links n))
   pub idle_order : n.idle_nodes ≡ without n.node_names (with_names [] (ends n.idle_links))
 
--- for each link the least transit sum of its tail, where that is a fraction, and its own transit have a sum that doesn't pass
+-- for each link, the sum of its tail's least transit sum (if that is a fraction) and its own transit time does not pass
 abbrev pub SumsFit : Named → Type 0
 SumsFit n = (e : ℕ) (hop : Hop) (least : ℚ) → IsHop (hops n.net) e hop → IsLeastTransit (hops n.net) n.net.source hop.tail least
     → IsFraction least → passes_Q Sum least hop.transit ≡ false
 
--- The network of an accepted file: what its network says, the names, and what is idle.
+-- The network of an accepted file has these properties.
 pub record IsNamed (n : Named) : Type 0 where
   pub network : IsNetwork n.net
   pub version : (n.version ≡ 1) ⊎ (n.version ≡ 2)
@@ -65,9 +65,9 @@ pub record IsNamed (n : Named) : Type 0 where
   pub link_names : AreNames (n.link_names ++ names_of n.idle_links)
   pub links : AllByRecursion (IsNamedLink n.version) (all_links n)
   pub pieces : AllByRecursion IsFractionPiece n.net.pieces
-  -- nothing is idle in version 1, and an idle link leaves an idle node
+  -- version 1 has no idle link, and the tail of an idle link is an idle node
   pub idle : n.version ≡ 1 → n.idle_links ≡ []
   pub idle_tails : AllByRecursion (λ l. has_name n.node_names l.tail ≡ false) n.idle_links
-  -- going round in a circle takes time, also along idle links
+  -- each cycle has a positive transit sum, also through idle links
   pub cycles : (e : ℕ) (walk : List ℕ) (v : ℕ) → IsWalk (all_hops n) (e ∷ walk) v v → 0ℚ <ℚ transit_sum (all_hops n) (e ∷ walk)
   pub sums_fit : SumsFit n

@@ -1,6 +1,6 @@
-//! What the files and the printed texts mean: which network a file stands for or which rule it breaks first, the canonical
-//! text of a network, the text of a report, and in words why its run stopped. Definitions, but for plain enums that code and
-//! definitions share: see `specs/`, and docs/FORMATS.md for the same in prose. All formats are this project's own.
+//! This crate states what the files and the printed texts mean. A text stands for a network, or breaks a first rule. A network has a
+//! canonical text, a report has a text, and the cause of a stop has words. `specs/` holds the definitions, and docs/FORMATS.md states
+//! them in prose. The code contains only plain enums that code and definitions share. All formats are this project's own.
 #![tactic(auto)]
 
 ghost use Rattle.std.specs.Prelude.{◌≡◌};
@@ -8,74 +8,74 @@ ghost use Rattle.std.specs.Prelude.{◌≡◌};
 use nf_work::PassedAt;
 use std::alloc::AllocError;
 
-/// A rule of the network file; docs/FORMATS.md states each.
+/// A rule of the network file. The page docs/FORMATS.md states each rule.
 #[derive(Clone, Copy, Debug)]
 pub enum NetRule {
-    /// A line holds a byte that isn't printable ASCII, a space or a tab.
+    /// A line has a byte that is not printable ASCII, a space or a tab.
     N1,
     /// A line has more than 1,000 bytes.
     N2,
-    /// The first content line isn't `nfot 1` or `nfot 2`.
+    /// The first content line is neither `nfot 1` nor `nfot 2`.
     N3,
-    /// A content line stands after `end`.
+    /// A content line follows `end`.
     N4,
-    /// The first word of a line is none of the keywords.
+    /// The first word of a line is not a keyword.
     N5,
-    /// A line hasn't the number of words of its keyword.
+    /// A line does not have the number of words that its keyword needs.
     N6,
-    /// A name isn't 1 to 24 of the allowed characters.
+    /// A name does not consist of 1 to 24 allowed characters.
     N7,
-    /// A number word is no number.
+    /// A word is not a number where a number is needed.
     N8,
-    /// A second `source` or `sink` line, or a link's name used before.
+    /// A `source` or `sink` line is the second of its kind, or a link's name was used before.
     N9,
-    /// A 65th node.
+    /// The file has a 65th node.
     N10,
-    /// A 201st link.
+    /// The file has a 201st link.
     N11,
-    /// A 201st inflow line.
+    /// The file has a 201st inflow line.
     N12,
-    /// A negative transit time.
+    /// A transit time is negative.
     N13,
-    /// A capacity that isn't above 0.
+    /// A capacity is not greater than 0.
     N14,
-    /// A negative start or rate.
+    /// A start or a rate is negative.
     N15,
-    /// A start that isn't above the start before.
+    /// A start is not greater than the start before it.
     N16,
-    /// There is no `end` line.
+    /// The file has no `end` line.
     N17,
-    /// There is no `source` line, or no `sink` line.
+    /// The file has no `source` line, or no `sink` line.
     N18,
     /// Source and sink are the same node.
     N19,
-    /// A node, in version 2 the sink, isn't reached from the source.
+    /// Some node (in version 2: the sink) is not reachable from the source.
     N20,
-    /// Some links of zero transit form a cycle.
+    /// Some links of transit time 0 form a cycle.
     N21,
-    /// A least transit sum, and the transit of a link behind it, have a sum that passes.
+    /// For some link, the least transit sum of its tail plus its own transit time passes the bound.
     N22,
 }
 
-/// Why a run ended below its horizon, as a report's `cause` line says it. Phases count from 1, and places of patterns too.
+/// The cause of a stop before the horizon. A report's `cause` line states it. Phases and patterns are counted from 1.
 #[derive(Copy)]
 pub enum Cause<S> {
-    /// As many phases as allowed were made.
+    /// The run made as many phases as allowed.
     Phases {
         made: u64,
     },
-    /// In this phase as many patterns as allowed were tried.
+    /// The run tried as many patterns as allowed in this phase.
     Patterns {
         phase: u64,
         tried: u64,
     },
-    /// In this phase, and for this place of a pattern where there is one, an operation passes.
+    /// An operation passes the bound in this phase. `place` is the number of the pattern tried, if the operation belongs to one.
     Passed {
         phase: u64,
         place: Option<u64>,
         at: PassedAt<S>,
     },
-    /// In this phase no pattern is accepted. No run stops so.
+    /// No pattern is accepted in this phase. This does not occur in any run.
     NoPattern {
         phase: u64,
     },

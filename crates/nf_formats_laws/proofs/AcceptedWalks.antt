@@ -1,4 +1,4 @@
--- Of an accepted file: walks by the numbers of the file, and by those of its network.
+-- Walks of an accepted file, by the numbers of the file and of its network.
 use Rattle.std.proofs.Common.{◌≡◌, ℕ, ◌⊎◌, true, List, ◌∷◌, length, slice_get, Some, refl, sym, ap, subst, inl, inr}
 use Rattle.nf_rational.specs.Operations.{0ℚ}
 use Rattle.nf_rational.specs.Order.{◌≤ℚ◌, ◌<ℚ◌}

@@ -1,4 +1,4 @@
--- What the lines of a canonical text say as a whole: the network that it is the text of.
+-- The lines of a canonical text stand for the network whose text it is.
 use Rattle.std.proofs.Common.{◌≡◌, ℕ, ◌<◌, ◌≤◌, ◌==◌, Bool, true, false, List, [], ◌∷◌, ◌++◌, length, map, slice_get, Some, refl, sym, ◌∙◌, ap, subst, inl, inr, arith, append-nil, map-id, bytes_eq, Ok}
 use Rattle.std.specs.Bool.{MatchBool, Decides}
 use Rattle.std.specs.List.{AllByRecursion, IsDistinct}
@@ -20,7 +20,7 @@ use Rattle.nf_formats_laws.proofs.NameFacts.{place_right}
 use Rattle.nf_formats_laws.proofs.WalkFacts.{slice_get-left, IsIn, in_first, in_second, which, entry_all, CameFrom, came_from, Corresponds, Carried, carried}
 use Rattle.nf_formats_laws.proofs.LinkFacts.{distinct_left, map-append, names_of-links_by_name, named_all, EndsBelow, place_again, map_numbered, first_marked, marked-first, marked-others, flags_hold}
 
--- what the lines of its canonical text say
+-- the parser state after the lines of its canonical text
 abbrev pub draft_of : Named → Draft
 draft_of n = record {
   version = n.version;

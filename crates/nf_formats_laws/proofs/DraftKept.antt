@@ -1,4 +1,4 @@
--- What holds of what is read, line by line.
+-- Properties of the parser state, line by line.
 use Rattle.std.proofs.Common.{◌≡◌, ℕ, ◌+◌, ◌<◌, ◌≤◌, ◌⊎◌, ◌&&◌, ◌||◌, Bool, true, false, not, if◌then◌else◌, List, [], ◌∷◌, ◌++◌, length, nat_le, refl, sym, ◌∙◌, ap, subst, inl, inr, arith, bytes_eq, length-append, codes, Option, Some, None, Result, Ok, Err, is_some, unwrap_or}
 use Rattle.std.specs.List.{AllByRecursion, IsDistinct, last_or, list_all}
 use Rattle.std.proofs.lemmas.Bool.{and_parts, or_parts, leb-false, ltb-false}

@@ -57,7 +57,7 @@ module _ (Q : NamedLink → Type 0) where
   length_split (true ∷ flags) (l ∷ links) h = let r : length (marked flags links) + length (marked (map not flags) links) ≡ length links = length_split flags links h.1 in omega arith
   length_split (false ∷ flags) (l ∷ links) h = let r : length (marked flags links) + length (marked (map not flags) links) ≡ length links = length_split flags links h.1 in omega arith
 
--- what holds of all links holds of those
+-- a property of all links holds for the selected ones
 pub marked_all : (P : NamedLink → Type 0) (flags : List Bool) (links : List NamedLink) → AllByRecursion P links → AllByRecursion P (marked flags links)
 marked_all P [] links h = tt
 marked_all P (true ∷ flags) [] h = tt

@@ -427,7 +427,7 @@ one_idle_read = (
   },
 )
 
--- so there are such networks, and their texts are read back
+-- accepted networks exist, and their texts are read back
 pub one_idle_is_named : IsNamed one_idle
 one_idle_is_named = accepted_named with_idle one_idle one_idle_read
 

@@ -1,4 +1,4 @@
--- What the definitions of the network file have to do with each other.
+-- Theorems about the definitions of the network file.
 use Rattle.std.specs.Prelude.{◌≡◌, ℕ, List, Result, Ok}
 use Rattle.nf_formats.specs.Named.{Named}
 use Rattle.nf_formats.specs.WellNamed.{IsNamed}
@@ -10,14 +10,14 @@ use Rattle.nf_formats.specs.NetText.{canonical}
 abbrev pub ReadsOnce : Type 0
 ReadsOnce = (text : List ℕ) (one other : Result Named Broken) → Reads text one → Reads text other → one ≡ other
 
--- and it has one
+-- each text has a reading
 abbrev pub ReadsEach : Type 0
 ReadsEach = (text : List ℕ) → (result : Result Named Broken) × Reads text result
 
--- a network's canonical text is read as that network, with its names
+-- reading a network's canonical text returns that network, with its names
 abbrev pub CanonicalReadsBack : Type 0
 CanonicalReadsBack = (n : Named) → IsNamed n → Reads (canonical n) (Ok n)
 
--- a file that is accepted stands for a network of which this holds
+-- the network of each accepted file satisfies `IsNamed`
 abbrev pub AcceptedIsNamed : Type 0
 AcceptedIsNamed = (text : List ℕ) (n : Named) → Reads text (Ok n) → IsNamed n

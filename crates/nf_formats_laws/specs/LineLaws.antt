@@ -1,15 +1,15 @@
--- What the definitions of lines and words have to do with each other.
+-- Theorems about the definitions of lines and words.
 use Rattle.std.specs.Prelude.{◌≡◌, ℕ, ◌+◌, ◌<◌, Bool, true, not, ◌&&◌, ◌==◌, nat_le, List, [], ◌∷◌, ◌++◌, length, map, ◌≤◌, None}
 use Rattle.std.specs.List.{flat_map, join_with_byte, AllByRecursion, list_all}
 use Rattle.nf_lines.specs.Lines.{TextLine, lines}
 use Rattle.nf_lines.specs.Words.{ReadLine, read_lines, line_of_words}
 use Rattle.nf_lines.specs.Faults.{first_fault, longest_line}
 
--- a line as it stands in the text
+-- a line with its ending
 abbrev pub whole_line : TextLine → List ℕ
 whole_line line = line.bytes ++ line.ending
 
--- numbers that count up
+-- the numbers of these lines, counted up from n
 abbrev pub numbers_from : ℕ → List TextLine → List ℕ
 numbers_from n [] = []
 numbers_from n (line ∷ lines) = n ∷ numbers_from (n + 1) lines
@@ -18,14 +18,14 @@ pub record TextIsItsLines : Type 0 where
   pub whole : (text : List ℕ) → flat_map whole_line (lines text) ≡ text
   pub numbered : (text : List ℕ) → map (λ line. line.number) (lines text) ≡ numbers_from 1 (lines text)
 
--- printable ASCII, but for the space and `#`
+-- printable ASCII, except the space and `#`
 abbrev pub is_word_byte : ℕ → Bool
 is_word_byte b = nat_le 33 b && (nat_le b 126 && not (b == 35))
 
 abbrev pub IsWord : List ℕ → Type 0
 IsWord word = (0 < length word) × (list_all is_word_byte word ≡ true)
 
--- these words, read from plain lines of which the first has this number
+-- the plain lines that have these words; the first line has this number
 abbrev pub plain_from : ℕ → List (List (List ℕ)) → List ReadLine
 plain_from n [] = []
 plain_from n (words ∷ lines) = record { number = n; plain = true; words = words } ∷ plain_from (n + 1) lines

@@ -1,12 +1,12 @@
-//! Laws of lines and of the network file: a text is its lines with their endings, and plain lines read back; each text has exactly one
-//! reading as a network file, what an accepted file stands for is well formed, and a canonical text is read as the network that it was
-//! written from. Theorems between definitions, no code.
+//! This crate states theorems about lines and the network file; it contains no code. The lines of a text with their endings are the text,
+//! and plain lines are read back. Each text has exactly one reading. An accepted file stands for a well-formed network. Reading a
+//! canonical text returns its network.
 #![tactic(auto)]
 
 ghost use Rattle.nf_formats_laws.specs.Laws.{ReadsEach, ReadsOnce, AcceptedIsNamed, CanonicalReadsBack};
 ghost use Rattle.nf_formats_laws.specs.LineLaws.{TextIsItsLines, PlainLinesReadBack};
 
-/// Each text has a reading: it stands for a network, or some rule is the first that it breaks.
+/// Each text has a reading: it stands for a network, or it breaks a first rule.
 pub fn reads_each()
     ensures { ReadsEach }
 {}
@@ -16,23 +16,23 @@ pub fn reads_once()
     ensures { ReadsOnce }
 {}
 
-/// What holds of the network of every accepted file: it is a network of the model, its names and numbers are within the limits,
-/// and what it has beside it is idle.
+/// The network of each accepted file is a network of the model, its names and numbers satisfy the limits, and its idle nodes and links
+/// are unreached.
 pub fn accepted_is_named()
     ensures { AcceptedIsNamed }
 {}
 
-/// The canonical text of such a network is read as that network, with the same names.
+/// Reading the canonical text of the network of an accepted file returns that network, with the same names.
 pub fn canonical_reads_back()
     ensures { CanonicalReadsBack }
 {}
 
-/// The lines of a text, each with its ending, are the text, and they are numbered from 1.
+/// The lines of a text, each with its ending, join to the text. They are numbered from 1.
 pub fn text_is_its_lines()
     ensures { TextIsItsLines }
 {}
 
-/// The lines of some words, one line after the other, are read as these words, and each line is plain.
+/// Reading the lines of some words, in order, returns these words, and each line is plain.
 pub fn plain_lines_read_back()
     ensures { PlainLinesReadBack }
 {}

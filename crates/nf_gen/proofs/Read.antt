@@ -1,4 +1,4 @@
--- What the text of a ladder is read as.
+-- Reading the text of a ladder.
 use Rattle.std.proofs.Common.{◌≡◌, ℕ, ◌≤◌, List, length, Result, Ok, Err, sym, subst}
 use Rattle.nf_lines.specs.Faults.{longest_text}
 use Rattle.nf_formats.specs.Named.{Named}

@@ -1,5 +1,5 @@
--- The ladder of a number: two rails between the source and the sink, and rungs from the upper one to the lower. A linear
--- congruential generator, begun with the number, gives the transit times, the capacities and the rates.
+-- The ladder of a number has two rails between the source and the sink, and rungs from the upper rail to the lower one. A linear
+-- congruential generator, started from the number, gives the transit times, the capacities and the rates.
 use Rattle.std.specs.Prelude.{ℕ, zero, suc, ◌+◌, ◌-◌, ◌*◌, ◌%◌, List, [], ◌∷◌, ◌++◌, map, flat_map, Some, pos, codes}
 use Rattle.std.specs.List.{range_with_len}
 use Rattle.nf_rational.specs.Operations.{whole}
@@ -12,16 +12,16 @@ use Rattle.nf_formats.specs.Named.{NamedLink, Named, numbered, names_of}
 unfoldable pub next_value : ℕ → ℕ
 next_value x = (75 * x + 74) % 65537
 
--- its value after so many draws
+-- the value of the generator after this number of draws
 unfoldable pub drawn : ℕ → ℕ → ℕ
 drawn number zero = number % 65537
 drawn number (suc draws) = next_value (drawn number draws)
 
--- the most rungs
+-- the greatest number of rungs
 abbrev pub most_rungs : ℕ
 most_rungs = 30
 
--- ---- names: the nodes `u1`, `u2` and so on of the upper rail and `l1`, `l2` and so on of the lower one, and the rungs `r1`, `r2` ..
+-- ---- names: nodes `u1`, `u2` .. of the upper rail, nodes `l1`, `l2` .. of the lower rail, and rungs `r1`, `r2` ..
 abbrev pub upper : ℕ → Name
 upper i = 117 ∷ digits_of i
 
@@ -31,7 +31,7 @@ lower i = 108 ∷ digits_of i
 abbrev pub rung : ℕ → Name
 rung i = 114 ∷ digits_of i
 
--- ---- the links, before anything is drawn
+-- ---- the links without their draws
 pub record Ends : Type 0 where
   pub name : Name
   pub tail : Name
@@ -40,7 +40,7 @@ pub record Ends : Type 0 where
 abbrev pub link_from : Name → Name → Name → Ends
 link_from name tail head = record { name = name; tail = tail; head = head }
 
--- along both rails from rung i to the next; these links are named as their tails
+-- the links along both rails from rung i to the next; each has the name of its tail
 abbrev pub rails_on : ℕ → List Ends
 rails_on i = link_from (upper i) (upper i) (upper (i + 1)) ∷ link_from (lower i) (lower i) (lower (i + 1)) ∷ []
 
@@ -59,12 +59,12 @@ links_down rungs = map rung_at (range_with_len 1 rungs)
 abbrev pub links_out : ℕ → List Ends
 links_out rungs = link_from (codes "ut") (upper rungs) (codes "t") ∷ link_from (codes "lt") (lower rungs) (codes "t") ∷ []
 
--- into both rails, along them from each rung to the next, down each rung, and out of both rails
+-- lists the links into both rails, along them from each rung to the next, down each rung, and out of both rails
 abbrev pub ladder_ends : ℕ → List Ends
 ladder_ends rungs = links_in ++ links_along rungs ++ links_down rungs ++ links_out rungs
 
--- ---- what is drawn
--- each link takes the next two values: the first gives its transit time, 1 to 5, and the second its capacity, 1 to 4
+-- ---- the draws
+-- each link uses the next two values: the first gives its transit time, 1 to 5, the second its capacity, 1 to 4
 abbrev pub drawn_link : ℕ → ℕ → Ends → NamedLink
 drawn_link number place l = record {
   name = l.name;
@@ -74,12 +74,12 @@ drawn_link number place l = record {
   capacity = Some (whole (pos (1 + drawn number (2 * place + 2) % 4)));
 }
 
--- links in order, the first of which has this place among all
+-- draws the links in order; `place` is the index of the first one among all links
 abbrev pub drawn_links : ℕ → ℕ → List Ends → List NamedLink
 drawn_links number place [] = []
 drawn_links number place (l ∷ links) = drawn_link number place l ∷ drawn_links number (place + 1) links
 
--- the two values after those of so many links give the rates, 1 to 6, from 0 and from 10 on; from 20 on the rate is 0
+-- the two values after those of all links give the rates, 1 to 6, from time 0 and from time 10 on; from time 20 on the rate is 0
 abbrev pub drawn_pieces : ℕ → ℕ → List Piece
 drawn_pieces number links =
     record { start = whole (pos 0); rate = whole (pos (1 + drawn number (2 * links + 1) % 6)) }
@@ -87,7 +87,7 @@ drawn_pieces number links =
     ∷ record { start = whole (pos 20); rate = whole (pos 0) } ∷ []
 
 -- ---- the network
--- the source, the sink, and rung by rung both its nodes: the order of first appearance in the links
+-- the nodes of the ladder are the source, the sink, and both nodes of each rung, in order of first appearance in the links
 abbrev pub rung_nodes : ℕ → List Name
 rung_nodes i = upper i ∷ lower i ∷ []
 
@@ -97,7 +97,7 @@ ladder_nodes rungs = codes "s" ∷ codes "t" ∷ [] ++ flat_map rung_nodes (rang
 abbrev pub ladder_links : ℕ → ℕ → List NamedLink
 ladder_links number rungs = drawn_links number 0 (ladder_ends rungs)
 
--- 2 K + 2 nodes and 3 K + 2 links with K rungs
+-- the ladder with K rungs has 2 K + 2 nodes and 3 K + 2 links
 unfoldable pub ladder : ℕ → ℕ → Named
 ladder number rungs = record {
   version = 1;

@@ -1,4 +1,4 @@
--- The lines of a ladder as they are written one after the other, each from the value that the generator has come to.
+-- Writing a ladder line by line.
 use Rattle.std.specs.Prelude.{◌≡◌, ℕ, ◌+◌, ◌%◌, List, [], ◌∷◌, ◌++◌, map, flat_map, Some, pos}
 use Rattle.nf_rational.specs.Operations.{whole}
 use Rattle.nf_model.specs.Network.{Piece}
@@ -11,7 +11,7 @@ use Rattle.nf_gen.specs.Ladder.{next_value, Ends}
 abbrev pub after_two : ℕ → ℕ
 after_two x = next_value (next_value x)
 
--- a link with the two values after x
+-- the link l with the two values after x
 abbrev pub link_after : ℕ → Ends → NamedLink
 link_after x l = record {
   name = l.name;
@@ -21,7 +21,7 @@ link_after x l = record {
   capacity = Some (whole (pos (1 + after_two x % 4)));
 }
 
--- links with the values after x, two each, and the value that they lead to
+-- the links with the values after x, two for each link; `after_links` is the last of these values
 abbrev pub links_after : ℕ → List Ends → List NamedLink
 links_after x [] = []
 links_after x (l ∷ links) = link_after x l ∷ links_after (after_two x) links
@@ -37,7 +37,7 @@ pieces_after x =
     ∷ record { start = whole (pos 10); rate = whole (pos (1 + after_two x % 6)) }
     ∷ record { start = whole (pos 20); rate = whole (pos 0) } ∷ []
 
--- the lines of these links are put behind a text, while the generator goes from x to y
+-- the new text is the old one, followed by the lines of these links, and the generator advances from x to y
 pub record WritesLinks (links : List Ends) (old new : List ℕ) (x y : ℕ) : Type 0 where
   pub text : new ≡ old ++ flat_map line_of_words (map link_words (links_after x links))
   pub value : y ≡ after_links x links

@@ -4,10 +4,10 @@ ghost use Rattle.nf_gen.specs.Ladder.{next_value};
 
 use std::marker::Model;
 
-/// The generator keeps a value below this.
+/// The modulus. Each value of the generator is less than it.
 const MODULUS: u64 = 65_537;
 
-/// A linear congruential generator: its value, which each draw replaces by the next one.
+/// A linear congruential generator. Each draw replaces its value by the next one.
 #[derive(Drop)]
 pub struct Draws {
     value: u64,
@@ -24,7 +24,7 @@ impl Model for Draws {
 }
 
 impl Draws {
-    /// The generator that a number begins.
+    /// Returns the generator that starts from this number.
     pub fn new(number: u64) -> Draws
         ensures { result ≡ number % 65537 }
     {
@@ -33,7 +33,7 @@ impl Draws {
         }
     }
 
-    /// Goes on to the next value, and gives what is left of it by a divisor.
+    /// Advances to the next value, and returns its remainder modulo `divisor`, which must be positive.
     #[tactic(auto, unfolding(crate::specs::Ladder::next_value))]
     pub fn draw(&mut self, divisor: u64) -> u64
         requires { 0 < divisor }

@@ -1,4 +1,4 @@
-// The ladder as a text, and as a network.
+// The ladder as a text and as a network.
 ghost use Rattle.std.specs.Prelude.{◌≡◌, ◌++◌, ◌≤◌, map, flat_map, IfOk, OnOk};
 ghost use Rattle.nf_lines.specs.Words.{line_of_words};
 ghost use Rattle.nf_formats.specs.NetText.{inflow_words, canonical};
@@ -11,7 +11,7 @@ use crate::rails::push_links;
 use nf_net::{NetFault, Network, parse};
 use std::alloc::{AllocError, Global};
 
-// The lines of the pieces, with the rates that are drawn next.
+// Appends the lines of the three pieces. The next two draws give the rates.
 fn push_pieces(out: &mut Vec<u8>, draws: &mut Draws) -> Result<(), AllocError>
     ensures { OnOk result (out.new.items ≡ out.old.items ++ flat_map line_of_words (map inflow_words (pieces_after draws.old))) }
 {
@@ -23,7 +23,7 @@ fn push_pieces(out: &mut Vec<u8>, draws: &mut Draws) -> Result<(), AllocError>
     Ok(())
 }
 
-// The canonical text of the ladder.
+// Returns the canonical text of the ladder.
 fn ladder_text(alloc: Global, number: u64, rungs: u64) -> Result<Vec<u8>, AllocError>
     requires some { 1 ≤ rungs }
     requires few { rungs ≤ most_rungs }
@@ -38,7 +38,7 @@ fn ladder_text(alloc: Global, number: u64, rungs: u64) -> Result<Vec<u8>, AllocE
     Ok(out)
 }
 
-/// The ladder of a number with 1 to 30 rungs. It is refused only where memory is wanting.
+/// Returns the ladder of this number with 1 to 30 rungs. Fails only if an allocation fails.
 pub fn generated(alloc: Global, number: u64, rungs: u32) -> Result<Network, AllocError>
     requires some { 1 ≤ rungs }
     requires few { rungs ≤ most_rungs }

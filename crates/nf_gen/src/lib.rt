@@ -1,5 +1,5 @@
-//! The ladder of a number: two rails between the source and the sink, joined by rungs, whose transit times, capacities and rates
-//! are drawn from a linear congruential generator. The same number and rungs give the same network.
+//! This crate generates ladders: networks with two rails between the source and the sink, joined by rungs. A linear congruential
+//! generator draws the transit times, capacities and rates. Equal numbers and equal rungs give equal networks.
 #![tactic(auto)]
 
 ghost use Rattle.nf_gen.specs.Laws.{LadderIsNamed};
@@ -11,8 +11,7 @@ mod rails;
 
 pub use generating::generated;
 
-/// A ladder of 1 to 30 rungs is a network within the limits of a file, with 2 nodes and 3 links for each rung and 2 of each
-/// beside them.
+/// A ladder of K rungs, from 1 to 30, is a network within the limits of a file. The network has 2 K + 2 nodes and 3 K + 2 links.
 pub fn ladder_is_named()
     ensures { LadderIsNamed }
 {}

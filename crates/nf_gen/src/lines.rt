@@ -1,4 +1,4 @@
-// Lines of a network file, put behind a text.
+// Appending lines of a network file to a text.
 ghost use Rattle.std.specs.Prelude.{◌≡◌, [], ◌∷◌, ◌++◌, codes, OnOk};
 ghost use Rattle.nf_numerals.specs.Digits.{digits_of};
 ghost use Rattle.nf_lines.specs.Words.{line_of_words};
@@ -6,7 +6,7 @@ ghost use Rattle.nf_lines.specs.Words.{line_of_words};
 use nf_numerals::{TextBuf, write_count};
 use std::alloc::AllocError;
 
-/// Bytes as they are.
+/// Appends the bytes. Fails only if an allocation fails.
 pub fn push_bytes(out: &mut Vec<u8>, bytes: &[u8]) -> Result<(), AllocError>
     ensures { OnOk result (out.new.items ≡ out.old.items ++ bytes.now) }
 {
@@ -14,7 +14,7 @@ pub fn push_bytes(out: &mut Vec<u8>, bytes: &[u8]) -> Result<(), AllocError>
     Ok(())
 }
 
-// A word behind a space.
+// Appends a space and a word.
 fn push_word(out: &mut Vec<u8>, word: &[u8]) -> Result<(), AllocError>
     ensures { OnOk result (out.new.items ≡ out.old.items ++ 32 ∷ word.now) }
 {
@@ -23,7 +23,7 @@ fn push_word(out: &mut Vec<u8>, word: &[u8]) -> Result<(), AllocError>
     Ok(())
 }
 
-// A count behind a space.
+// Appends a space and the digits of a count.
 fn push_count(out: &mut Vec<u8>, count: u64) -> Result<(), AllocError>
     ensures { OnOk result (out.new.items ≡ out.old.items ++ 32 ∷ digits_of count) }
 {
@@ -33,7 +33,7 @@ fn push_count(out: &mut Vec<u8>, count: u64) -> Result<(), AllocError>
     Ok(())
 }
 
-/// The line of a link.
+/// Appends the line of a link. Fails only if an allocation fails.
 pub fn push_link_line(
     out: &mut Vec<u8>,
     name: &[u8],
@@ -55,7 +55,7 @@ pub fn push_link_line(
     Ok(())
 }
 
-/// The line of a piece.
+/// Appends the line of an inflow piece. Fails only if an allocation fails.
 pub fn push_piece_line(out: &mut Vec<u8>, start: u64, rate: u64) -> Result<(), AllocError>
     ensures { OnOk result (out.new.items ≡ out.old.items ++ line_of_words (codes "inflow" ∷ digits_of start ∷ digits_of rate ∷ [])) }
 {

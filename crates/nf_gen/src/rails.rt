@@ -1,4 +1,4 @@
-// The links of a ladder, in order, each with what is drawn for it.
+// The links of a ladder, in order, with their draws.
 ghost use Rattle.std.specs.Prelude.{◌≡◌, ◌+◌, ◌≤◌, [], ◌∷◌, IfOk, OnOk};
 ghost use Rattle.nf_numerals.specs.Digits.{digits_of};
 ghost use Rattle.nf_gen.specs.Ladder.{most_rungs, link_from, rung_at, links_in, links_along, links_down, links_out, ladder_ends};
@@ -9,7 +9,7 @@ use crate::lines::push_link_line;
 use nf_numerals::{TextBuf, write_count};
 use std::alloc::{AllocError, Global};
 
-// The name of a letter with a number.
+// Returns the name that consists of a letter and a number.
 fn numbered(alloc: Global, letter: u8, number: u64) -> Result<Vec<u8>, AllocError>
     ensures { IfOk result (λ name. name.items ≡ letter ∷ digits_of number) }
 {
@@ -21,7 +21,7 @@ fn numbered(alloc: Global, letter: u8, number: u64) -> Result<Vec<u8>, AllocErro
     Ok(name)
 }
 
-// A link with the transit time and the capacity that are drawn next.
+// Appends the line of a link. The next two draws give its transit time and its capacity.
 fn push_link(
     out: &mut Vec<u8>,
     draws: &mut Draws,
@@ -37,7 +37,7 @@ fn push_link(
     Ok(())
 }
 
-// The links into both rails.
+// Appends the links from the source into both rails.
 fn push_first(alloc: Global, out: &mut Vec<u8>, draws: &mut Draws) -> Result<(), AllocError>
     ensures { OnOk result (WritesLinks links_in out.old.items out.new.items draws.old draws.new) }
 {
@@ -48,7 +48,7 @@ fn push_first(alloc: Global, out: &mut Vec<u8>, draws: &mut Draws) -> Result<(),
     Ok(())
 }
 
-// The link along a rail, from a node to the next; it is named as its tail.
+// Appends the link along a rail, from a node to the next one. The link has the name of its tail.
 fn push_rail(
     alloc: Global,
     out: &mut Vec<u8>,
@@ -67,7 +67,7 @@ fn push_rail(
     Ok(())
 }
 
-// The links along both rails, from each rung to the next.
+// Appends the links along both rails, from each rung to the next.
 fn push_rails(
     alloc: Global,
     out: &mut Vec<u8>,
@@ -85,7 +85,7 @@ fn push_rails(
     Ok(())
 }
 
-// The link down a rung.
+// Appends the link down a rung.
 fn push_rung(
     alloc: Global,
     out: &mut Vec<u8>,
@@ -101,7 +101,7 @@ fn push_rung(
     Ok(())
 }
 
-// The links down the rungs.
+// Appends the links down all rungs.
 fn push_rungs(
     alloc: Global,
     out: &mut Vec<u8>,
@@ -117,7 +117,7 @@ fn push_rungs(
     Ok(())
 }
 
-// The links out of both rails.
+// Appends the links from both rails to the sink.
 fn push_last(
     alloc: Global,
     out: &mut Vec<u8>,
@@ -133,7 +133,7 @@ fn push_last(
     Ok(())
 }
 
-/// The lines of all links.
+/// Appends the lines of all links. Fails only if an allocation fails.
 pub fn push_links(
     alloc: Global,
     out: &mut Vec<u8>,

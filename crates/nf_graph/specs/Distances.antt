@@ -11,7 +11,7 @@ use Rattle.nf_model.specs.Walk.{Hop, IsHop, IsWalk, IsLeastTransit}
 abbrev pub NoneNegative : List Hop → Type 0
 NoneNegative hops = (e : ℕ) (hop : Hop) → IsHop hops e hop → 0ℚ ≤ℚ hop.transit
 
--- one entry for each node: its least transit sum from a node, and none exactly where no walk leads there
+-- Each node has one entry: its least transit sum from the node `from`, or None exactly if no walk leads there.
 pub record AreDistances (nodes : ℕ) (hops : List Hop) (from : ℕ) (sums : List (Option ℚ)) : Type 0 where
   pub count : length sums ≡ nodes
   pub least : (v : ℕ) (sum : ℚ) → slice_get sums v ≡ Some (Some sum) → IsLeastTransit hops from v sum
@@ -29,7 +29,7 @@ pub record PassesAt (hops : List Hop) (from e : ℕ) (left right : ℚ) : Type 0
   pub transit : hop.transit ≡ right
   pub passes : SumPasses left right
 
--- ---- on the way there: nodes with a least sum are settled
+-- ---- states of the search: nodes with a least sum are settled
 
 -- a settled node has this sum
 abbrev pub HasSum : List (Option ℚ) → ℕ → ℚ → Type 0
@@ -38,7 +38,7 @@ HasSum sums v sum = slice_get sums v ≡ Some (Some sum)
 abbrev pub IsOpen : List (Option ℚ) → ℕ → Type 0
 IsOpen sums v = slice_get sums v ≡ Some None
 
--- a link leads from a settled node to node v, which isn't settled, and the sum along it is this
+-- a link leads from a settled node to the unsettled node v, and `sum` is the transit sum along it
 pub record Offers (hops : List Hop) (sums : List (Option ℚ)) (v : ℕ) (sum : ℚ) : Type 0 where
   pub number : ℕ
   pub hop : Hop
@@ -53,11 +53,11 @@ pub record Offers (hops : List Hop) (sums : List (Option ℚ)) (v : ℕ) (sum : 
 abbrev pub AllFit : List Hop → List (Option ℚ) → Type 0
 AllFit hops sums = (e : ℕ) (hop : Hop) (before : ℚ) → IsHop hops e hop → HasSum sums hop.tail before → SumPasses before hop.transit → ⊥
 
--- the sum of what stands before the link and of its transit time is this, and doesn't pass
+-- `sum` is `before` plus the transit time of the link, and this addition does not pass
 abbrev pub IsSumAlong : List Hop → ℕ → ℚ → ℚ → Type 0
 IsSumAlong hops link before sum = (hop : Hop) → IsHop hops link hop → (sum ≡ before +ℚ hop.transit) × (SumPasses before hop.transit → ⊥)
 
--- it passes, with these operands, at link e
+-- `before` plus the transit time of `link` passes; e, `left` and `right` are the link and the operands
 abbrev pub PassesAlong : List Hop → ℕ → ℚ → ℕ → ℚ → ℚ → Type 0
 PassesAlong hops link before e left right =
     (e ≡ link) × (left ≡ before) × SumPasses left right × ((hop : Hop) → IsHop hops link hop → hop.transit ≡ right)

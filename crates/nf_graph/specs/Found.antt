@@ -1,4 +1,4 @@
--- What a search for an order finds.
+-- The result of a search for an order.
 use Rattle.std.specs.Prelude.{ℕ, Bool, List}
 use Rattle.nf_model.specs.Walk.{Hop}
 use Rattle.nf_graph.specs.declared.order.OrderOrCycle.{OrderOrCycle}

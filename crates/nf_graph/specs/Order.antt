@@ -4,11 +4,11 @@ use Rattle.nf_rational.specs.Operations.{0ℚ}
 use Rattle.nf_model.specs.Entries.{Has}
 use Rattle.nf_model.specs.Walk.{Hop, IsHop, IsWalk, transit_of}
 
--- node v stands at place i
+-- node v is at index i of the order
 abbrev pub IsAt : List ℕ → ℕ → ℕ → Type 0
 IsAt order i v = slice_get order i ≡ Some v
 
--- All nodes stand in the order, and no other numbers, each once. Every chosen link leads to a later one.
+-- The order contains each node exactly once, and no other numbers. Every chosen link leads to a later node.
 pub record IsOrder (nodes : ℕ) (hops : List Hop) (chosen : List Bool) (order : List ℕ) : Type 0 where
   pub count : length order ≡ nodes
   pub nodes_only : (i v : ℕ) → IsAt order i v → v < nodes
@@ -16,7 +16,7 @@ pub record IsOrder (nodes : ℕ) (hops : List Hop) (chosen : List Bool) (order :
   pub once : (i j v : ℕ) → IsAt order i v → IsAt order j v → i ≡ j
   pub later : (e i j : ℕ) (hop : Hop) → IsHop hops e hop → Has chosen e → IsAt order i hop.tail → IsAt order j hop.head → i < j
 
--- a closed walk of at least one hop, each of which is allowed
+-- the walk is closed and has at least one hop; each hop is allowed
 pub record IsCycle (hops : List Hop) (Allowed : ℕ → Type 0) (walk : List ℕ) : Type 0 where
   pub node : ℕ
   pub some : 0 < length walk
@@ -27,11 +27,11 @@ pub record IsCycle (hops : List Hop) (Allowed : ℕ → Type 0) (walk : List ℕ
 abbrev pub IsChosenCycle : List Hop → List Bool → List ℕ → Type 0
 IsChosenCycle hops chosen walk = IsCycle hops (Has chosen) walk
 
--- a cycle along links of zero transit
+-- a cycle along links of transit time 0
 abbrev pub IsZeroCycle : List Hop → List ℕ → Type 0
 IsZeroCycle hops walk = IsCycle hops (λ e. transit_of hops e ≡ 0ℚ) walk
 
--- ---- on the way to an order
+-- ---- states of the search
 
 -- a chosen link leads into node v from a node that is not placed yet
 pub record Enters (hops : List Hop) (chosen placed : List Bool) (e v : ℕ) : Type 0 where
@@ -41,17 +41,17 @@ pub record Enters (hops : List Hop) (chosen placed : List Bool) (e v : ℕ) : Ty
   pub head : hop.head ≡ v
   pub free : Has placed hop.tail → ⊥
 
--- node v may be placed next
+-- node v may be placed next: it is not placed, and no chosen link enters it from an unplaced node
 pub record IsReady (hops : List Hop) (chosen placed : List Bool) (v : ℕ) : Type 0 where
   pub below : v < length placed
   pub free : Has placed v → ⊥
   pub none : (e : ℕ) → Enters hops chosen placed e v → ⊥
 
--- no node may: each that is not placed is entered
+-- no node may be placed next: each unplaced node is entered by a chosen link from an unplaced node
 abbrev pub IsStuck : List Hop → List Bool → List Bool → Type 0
 IsStuck hops chosen placed = (v : ℕ) → v < length placed → (Has placed v → ⊥) → (e : ℕ) × Enters hops chosen placed e v
 
--- a link of the walk leads to node v; so many links come up to it and with it
+-- a link of the walk leads to node v; `count` is the number of links up to and including it
 pub record Turns (hops : List Hop) (walk : List ℕ) (v count : ℕ) : Type 0 where
   pub place : ℕ
   pub number : ℕ

@@ -1,10 +1,10 @@
--- What no line may have.
+-- Faults of lines, and limits of texts.
 use Rattle.std.specs.Prelude.{ℕ, Bool, not, ◌&&◌, ◌||◌, ◌==◌, nat_lt, nat_le, if◌then◌else◌, List, [], ◌∷◌, length, Option, Some, None}
 use Rattle.std.specs.List.{list_all}
 use Rattle.std.specs.Option.{option_or}
 use Rattle.nf_lines.specs.Lines.{TextLine, lines}
 
--- a line that breaks a rule, by its number
+-- a line that breaks a rule, by line number
 pub data LineFault : Type 0 where
   NotAscii : ℕ → LineFault
   LongLine : ℕ → LineFault
@@ -13,15 +13,15 @@ pub data LineFault : Type 0 where
 abbrev pub is_allowed : ℕ → Bool
 is_allowed b = b == 9 || (nat_le 32 b && nat_le b 126)
 
--- the most bytes of a line, without its ending
+-- a line has at most this number of bytes, without its ending
 abbrev pub longest_line : ℕ
 longest_line = 1000
 
--- the most bytes of a text that is read
+-- the greatest number of bytes of a text
 abbrev pub longest_text : ℕ
 longest_text = 67108864
 
--- of a line's bytes: another byte, and else too many of them
+-- returns `NotAscii` if the line has a byte that is not allowed, or else `LongLine` if it is too long
 abbrev pub fault_of : ℕ → List ℕ → Option LineFault
 fault_of number bytes =
     if not (list_all is_allowed bytes) then Some (NotAscii number) else
@@ -30,7 +30,7 @@ fault_of number bytes =
 abbrev pub line_fault : TextLine → Option LineFault
 line_fault line = fault_of line.number line.bytes
 
--- the fault of the first line that has one
+-- returns the fault of the first line that has one
 abbrev pub first_fault_of : List TextLine → Option LineFault
 first_fault_of [] = None
 first_fault_of (line ∷ lines) = option_or (line_fault line) (first_fault_of lines)

@@ -1,6 +1,6 @@
-//! The lines and words of a text file, as functions of its bytes. Definitions alone: see `specs/`; the laws that show that they fit are
-//! in `nf_formats_laws`.
+//! This crate defines the lines and words of a text file, as functions of its bytes. `specs/` holds the definitions, and
+//! `nf_formats_laws` their theorems.
 //!
-//! A line ends at LF; a CR right before that LF belongs to the ending; the last line may have no ending. On a line `#` begins a
-//! comment, and words are separated by spaces and tabs. The format is this project's own.
+//! A line ends at LF. A CR right before that LF belongs to the ending. The last line may have no ending. `#` begins a comment, which
+//! extends to the end of the line. Spaces and tabs separate words. The format is this project's own.
 #![tactic(auto)]

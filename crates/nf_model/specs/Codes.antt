@@ -1,4 +1,4 @@
--- How values of these types are told apart, which the types of code that are seen as them rest on.
+-- Injective codes of the model's types. The views of code types depend on them.
 use base.Stored.{coded_unit}
 use Rattle.std.specs.Prelude.{◌≡◌, ℕ, Bool, List, Option, Some, None, refl}
 use Rattle.std.specs.Coded.{Coded, code_by, coded×, coded_ℕ, coded_bool, coded_list, coded_option}

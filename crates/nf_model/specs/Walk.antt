@@ -5,23 +5,23 @@ use Rattle.nf_rational.specs.Operations.{0ℚ, ◌+ℚ◌}
 use Rattle.nf_rational.specs.Order.{◌≤ℚ◌}
 use Rattle.nf_model.specs.Entries.{number_at}
 
--- A hop leads from one node to another in its transit time. It is a link where its capacity doesn't matter.
+-- A hop leads from its tail to its head in its transit time. A hop represents a link without its capacity.
 pub record Hop : Type 0 where
   pub tail : ℕ
   pub head : ℕ
   pub transit : ℚ
 
--- hops go by their place in the list
+-- hops are identified by their index in the list
 abbrev pub IsHop : List Hop → ℕ → Hop → Type 0
 IsHop hops e hop = slice_get hops e ≡ Some hop
 
--- a walk from v to w: numbers of hops, the first of which leaves v, each later one leaves where the one before leads to, and
--- the last leads to w. Hops may repeat, and no hop at all is a walk from v to v
+-- A walk from v to w is a list of hop numbers. The first hop leaves v, each later hop leaves the head of the previous one, and the last
+-- hop leads to w. Hops may repeat. The empty list is a walk from v to v.
 abbrev pub IsWalk : List Hop → List ℕ → ℕ → ℕ → Type 0
 IsWalk hops [] v w = v ≡ w
 IsWalk hops (e ∷ walk) v w = (hop : Hop) × IsHop hops e hop × (hop.tail ≡ v) × IsWalk hops walk hop.head w
 
--- the transit time of the hop of this number
+-- the transit time of hop e
 abbrev pub transit_of : List Hop → ℕ → ℚ
 transit_of hops e = number_at (map (λ hop. hop.transit) hops) e
 

@@ -52,7 +52,7 @@ module _ (transit : ℚ) (capacity : Option ℚ) (pieces : List Piece) where
       none : ◌≡◌ {A = Option Link} None (Some link) → ⊥
       none q = cc
 
-  -- what is said of the one link is said of each
+  -- a property of the only link holds for each link
   by_link : (P : ℕ → Link → Type 0) (e : ℕ) (link : Link) → IsLink net e link → P 0 the_link → P e link
   by_link P e link p x = let o : (e ≡ 0) × (the_link ≡ link) = only_link e link p in subst (λ (k : ℕ). P k link) (sym o.0) (subst (λ (l : Link). P 0 l) o.1 x)
 

@@ -37,7 +37,7 @@ link_at net e hop p = found (slice_get net.links e) refl (sym (slice_get-map hop
     found None e h = absurd (cc)
     found (Some link) e h = (link, e, cc)
 
--- so what is said of a hop is said of its link
+-- a property of a hop is a property of its link
 pub by_link : (net : Network) (P : Hop → Type 0) (e : ℕ) → ((link : Link) → IsLink net e link → P (hop_of link)) → (hop : Hop) → IsHop (hops net) e hop → P hop
 by_link net P e f hop p = let l : (link : Link) × IsLink net e link × (hop_of link ≡ hop) = link_at net e hop p in subst P l.2 (f l.0 l.1)
 

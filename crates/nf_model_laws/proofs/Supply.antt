@@ -1,4 +1,4 @@
--- What the source is supplied with grows by the rate as long as no piece starts.
+-- The supply grows at its rate while no piece starts.
 use Rattle.std.proofs.Common.{◌≡◌, suc, List, [], ◌∷◌, ◌⊎◌, inl, inr, ⊎_elim, Bool, true, false, if◌then◌else◌, sym, ap, refl, ◌∙◌}
 use Rattle.nf_rational.specs.Rational.{ℚ}
 use Rattle.nf_rational.specs.Operations.{◌+ℚ◌, ◌-ℚ◌, ◌*ℚ◌, 0ℚ}

@@ -1,4 +1,4 @@
--- What all nodes send out beyond what comes in is 0 in all, since each link is once out and once in; and sums over all links.
+-- The surpluses of all nodes add up to 0, since each link leaves one node and enters one node. Also sums over all links.
 use Rattle.std.proofs.Common.{◌≡◌, ◌≢◌, ℕ, suc, ◌<◌, List, [], ◌∷◌, ⊎_elim, true, false, eqb, sym, subst, refl, ◌∙◌, Bool, if◌then◌else◌, Some, slice_get, zero}
 use Rattle.std.proofs.lemmas.Bool.Decides.{eqb_tells}
 use Rattle.nf_rational.specs.Rational.{ℚ}
@@ -26,7 +26,7 @@ all_zero n links f b =
     one : (y : ℚ) → y ≡ 1ℚ *ℚ y
     one y = linear_eq (y ∷ []) [] (search reading_of depth 12) tt tt
 
--- so where only two nodes have any, these two cancel
+-- if only two nodes have a nonzero surplus, these two cancel
 pub two_cancel : (n s t : ℕ) (f : ℕ → ℚ) → s < n → t < n → s ≢ t → ((v : ℕ) → v < n → v ≢ s → v ≢ t → f v ≡ 0ℚ) → sum_to n f ≡ 0ℚ → f s +ℚ f t ≡ 0ℚ
 two_cancel n s t f h k other none e =
     total (f s) (f t) _ _ (sum_to-only n s (f s) h) (sum_to-only n t (f t) k)
@@ -51,7 +51,7 @@ two_cancel n s t f h k other none e =
         (eqb_tells v s)
 
 module _ (net : Network) (good : IsNetwork net) where
-  -- what the source sends out beyond what comes in, comes to the sink
+  -- the surplus of the source arrives at the sink
   pub sink_takes : (f : ℕ → ℚ) (rate : ℚ) → out_less_in net.links f net.source ≡ rate
       → ((v : ℕ) → v < net.nodes → v ≢ net.source → v ≢ net.sink → out_less_in net.links f v ≡ 0ℚ) → out_less_in net.links f net.sink ≡ 0ℚ -ℚ rate
   sink_takes f rate e inner = taken _ _ rate e

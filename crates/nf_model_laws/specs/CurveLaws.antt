@@ -1,4 +1,4 @@
--- Laws of curves and of affine functions.
+-- Theorems about curves and affine functions.
 use Rattle.std.specs.Prelude.{◌≡◌, List, [], ◌∷◌, ◌++◌}
 use Rattle.nf_rational.specs.Rational.{ℚ}
 use Rattle.nf_rational.specs.Operations.{0ℚ, ◌+ℚ◌, ◌-ℚ◌, ◌*ℚ◌}
@@ -11,7 +11,7 @@ abbrev pub ValuesRise : List (ℚ × ℚ) → Type 0
 ValuesRise (p ∷ q ∷ rest) = (p.1 ≤ℚ q.1) × ValuesRise (q ∷ rest)
 ValuesRise rest = Unit {0}
 
--- a curve has each point's value at its time, is affine from each point to the next, and constant after the last
+-- a curve has each point's value at its time, is affine from each point to the next, and is constant after the last
 pub record CurveGoesByPoints : Type 0 where
   pub at_point : (front : List (ℚ × ℚ)) (p : ℚ × ℚ) (rest : List (ℚ × ℚ)) → IsCurve (front ++ p ∷ rest)
       → value (front ++ p ∷ rest) p.0 ≡ p.1
@@ -19,7 +19,7 @@ pub record CurveGoesByPoints : Type 0 where
       → IsAffine (value (front ++ p ∷ q ∷ rest)) p.0 q.0 (slope p q)
   pub after : (front : List (ℚ × ℚ)) (p : ℚ × ℚ) (time : ℚ) → IsCurve (front ++ p ∷ []) → p.0 ≤ℚ time → value (front ++ p ∷ []) time ≡ p.1
 
--- a point that is appended changes no value up to the last point before it, and the curve is affine from there on to it
+-- an appended point changes no value up to the previously last point, and the curve is affine from there to the appended point
 pub record AppendedPointGoesOn : Type 0 where
   pub curve : (front : List (ℚ × ℚ)) (p q : ℚ × ℚ) → IsCurve (front ++ p ∷ []) → p.0 <ℚ q.0 → IsCurve ((front ++ p ∷ []) ++ q ∷ [])
   pub before : (front : List (ℚ × ℚ)) (p q : ℚ × ℚ) (time : ℚ) → IsCurve (front ++ p ∷ []) → p.0 <ℚ q.0 → 0ℚ ≤ℚ time → time ≤ℚ p.0
@@ -27,7 +27,7 @@ pub record AppendedPointGoesOn : Type 0 where
   pub between : (front : List (ℚ × ℚ)) (p q : ℚ × ℚ) → IsCurve (front ++ p ∷ []) → p.0 <ℚ q.0
       → IsAffine (value ((front ++ p ∷ []) ++ q ∷ [])) p.0 q.0 (slope p q)
 
--- a point with equal slopes before and after it may go
+-- removing a point with equal slopes before and after it changes no value
 pub record EqualSlopesMerge : Type 0 where
   pub curve : (front : List (ℚ × ℚ)) (p q r : ℚ × ℚ) (rest : List (ℚ × ℚ)) → IsCurve (front ++ p ∷ q ∷ r ∷ rest)
       → IsCurve (front ++ p ∷ r ∷ rest)
@@ -35,15 +35,15 @@ pub record EqualSlopesMerge : Type 0 where
       → slope p q ≡ slope q r
       → 0ℚ ≤ℚ time → value (front ++ p ∷ q ∷ r ∷ rest) time ≡ value (front ++ p ∷ r ∷ rest) time
 
--- what two functions that are affine on a stretch are at its ends decides what they are between
+-- the values at the ends of an interval decide those of affine functions between
 pub record EndsDecideAffine : Type 0 where
   pub same : (f g : ℚ → ℚ) (a b k l time : ℚ) → IsAffine f a b k → IsAffine g a b l → a <ℚ b → f a ≡ g a → f b ≡ g b
       → a ≤ℚ time → time ≤ℚ b → f time ≡ g time
   pub not_negative : (f : ℚ → ℚ) (a b k time : ℚ) → IsAffine f a b k → a <ℚ b → 0ℚ ≤ℚ f a → 0ℚ ≤ℚ f b
       → a ≤ℚ time → time ≤ℚ b → 0ℚ ≤ℚ f time
 
--- sums, differences and compositions of affine functions are affine, and so is a part of one; the outer function of a
--- composition need be affine only where the inner one leads
+-- Sums, differences and compositions of affine functions are affine, and so is a restriction. The outer function of a composition needs
+-- to be affine only on the values of the inner one.
 pub record AffineFunctionsCombine : Type 0 where
   pub sum : (f g : ℚ → ℚ) (a b k l : ℚ) → IsAffine f a b k → IsAffine g a b l → IsAffine (λ t. f t +ℚ g t) a b (k +ℚ l)
   pub difference : (f g : ℚ → ℚ) (a b k l : ℚ) → IsAffine f a b k → IsAffine g a b l → IsAffine (λ t. f t -ℚ g t) a b (k -ℚ l)

@@ -7,7 +7,7 @@ use Rattle.nf_model.specs.Curve.{NeverFalls}
 use Rattle.nf_model.specs.Queue.{IsExit, IsOutflow}
 use Rattle.nf_model_laws.specs.Capacity.{IsPositive}
 
--- by the exit of what enters at a time, just what had entered by that time has left, where the inflow never falls
+-- the outflow by the exit of an entry time is the inflow by that entry time, if the inflow never falls
 abbrev pub FirstInFirstOut : Type 0
 FirstInFirstOut = (transit : ℚ) (capacity : Option ℚ) (amount : ℚ → ℚ) (time exit : ℚ) → IsPositive capacity → NeverFalls amount
     → 0ℚ ≤ℚ time

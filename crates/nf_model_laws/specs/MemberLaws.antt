@@ -1,4 +1,4 @@
--- Equilibria of the network of one link, so that the definition of an equilibrium has members.
+-- Equilibria of the network of one link. They show that the definition of an equilibrium has members.
 use Rattle.std.specs.Prelude.{◌≡◌, ◌⊎◌, ◌↔◌, ℕ, List, [], ◌∷◌, Option, Some, pos}
 use Rattle.nf_rational.specs.Rational.{ℚ}
 use Rattle.nf_rational.specs.Operations.{0ℚ, whole, ◌+ℚ◌, ◌-ℚ◌, ◌*ℚ◌}
@@ -9,7 +9,7 @@ use Rattle.nf_model.specs.Queue.{IsQueue, IsExit, IsOutflow}
 use Rattle.nf_model.specs.Equilibrium.{Trace, Flow, label, inflow, outflow, queue, HasShape, HasSlopes, Equilibrium}
 use Rattle.nf_model_laws.specs.Capacity.{IsPositive}
 
--- one link, from the source to the sink
+-- returns the network of one link, from the source to the sink
 abbrev pub one_link : ℚ → Option ℚ → List Piece → Network
 one_link transit capacity pieces = record {
   nodes = 2;
@@ -19,8 +19,7 @@ one_link transit capacity pieces = record {
   pieces = pieces;
 }
 
--- The whole supply enters the link at once, and all else is as the link makes it: the label of the sink is the exit, and
--- outflow and queue are those of this inflow.
+-- The whole supply enters the link at once. The sink's label is the exit, and outflow and queue are those of this inflow.
 pub record FillsLink (transit : ℚ) (capacity : Option ℚ) (pieces : List Piece) (flow : Flow) : Type 0 where
   pub begins : 0ℚ ≤ℚ flow.reached
   pub shape : HasShape (one_link transit capacity pieces) flow
@@ -35,7 +34,7 @@ pub record FillsLink (transit : ℚ) (capacity : Option ℚ) (pieces : List Piec
       → IsOutflow transit capacity (inflow flow 0) time (outflow flow 0 time)
   pub queues : (time : ℚ) → Within 0ℚ flow.reached time → IsQueue capacity (inflow flow 0) time (queue flow 0 time)
 
--- such a flow is an equilibrium, and no other is one
+-- a flow on one link is an equilibrium exactly if it satisfies `FillsLink`
 abbrev pub OneLinkEquilibrium : Type 0
 OneLinkEquilibrium = (transit : ℚ) (capacity : Option ℚ) (pieces : List Piece) (flow : Flow) → 0ℚ ≤ℚ transit → IsPositive capacity
     → ArePieces pieces
@@ -43,16 +42,16 @@ OneLinkEquilibrium = (transit : ℚ) (capacity : Option ℚ) (pieces : List Piec
 
 -- ---- at one rate, from time 0 to a horizon
 
--- these pieces don't start before the horizon
+-- no piece starts before the horizon
 abbrev pub NotBefore : ℚ → List Piece → Type 0
 NotBefore horizon pieces = (i : ℕ) (piece : Piece) → IsPiece pieces i piece → horizon ≤ℚ piece.start
 
--- supplied at this rate from time 0 on, and up to the horizon at no other
+-- lists the pieces of a supply at this rate from time 0 on, followed by later pieces
 abbrev pub at_rate : ℚ → List Piece → List Piece
 at_rate rate later = record { start = 0ℚ; rate = rate } ∷ later
 
--- The outflow: none before the transit time, and then at one rate up to the amount at the arrival. Without a transit time it
--- begins at once.
+-- The outflow is 0 up to the transit time, and then has one rate up to the amount at the arrival. Without a transit time it begins at
+-- once.
 abbrev pub delayed_trace : ℚ → ℚ → ℚ → ℚ → Trace
 delayed_trace transit arrival amount out_rate =
     record { points = (0ℚ, 0ℚ) ∷ (transit, 0ℚ) ∷ (arrival, amount) ∷ []; rates = 0ℚ ∷ out_rate ∷ [] }
@@ -65,7 +64,7 @@ IsOutTrace transit arrival amount out_rate trace =
     ((0ℚ <ℚ transit) × (trace ≡ delayed_trace transit arrival amount out_rate))
     ⊎ ((transit ≡ 0ℚ) × (trace ≡ prompt_trace arrival amount out_rate))
 
--- the flow up to the horizon, by the arrival of who departs then, the amount that has departed by then and what waits then
+-- the flow up to the horizon; arrival, amount and queue are those of the departure at the horizon
 abbrev pub steady_flow : ℚ → ℚ → ℚ → ℚ → ℚ → ℚ → Trace → Flow
 steady_flow transit rate horizon arrival amount waits trace = record {
   reached = horizon;
@@ -75,8 +74,7 @@ steady_flow transit rate horizon arrival amount waits trace = record {
   queues = ((0ℚ, 0ℚ) ∷ (horizon, waits) ∷ []) ∷ [];
 }
 
--- A link that is supplied at its capacity or more: the queue grows by what exceeds the capacity, and what leaves, leaves at the
--- capacity.
+-- A link is supplied at its capacity or more. The queue grows by the excess over the capacity, and the outflow rate is the capacity.
 abbrev pub FullLinkEquilibrium : Type 0
 FullLinkEquilibrium = (transit capacity rate horizon arrival amount waits : ℚ) (later : List Piece) (trace : Trace)
     → 0ℚ ≤ℚ transit → 0ℚ <ℚ capacity → capacity ≤ℚ rate → 0ℚ <ℚ horizon → ArePieces (at_rate rate later) → NotBefore horizon later
@@ -84,7 +82,7 @@ FullLinkEquilibrium = (transit capacity rate horizon arrival amount waits : ℚ)
     → IsOutTrace transit arrival amount capacity trace
     → Equilibrium (one_link transit (Some capacity) (at_rate rate later)) (steady_flow transit rate horizon arrival amount waits trace)
 
--- A link that is unbounded, or supplied at its capacity or less: nothing waits, and each arrives after the transit time.
+-- A link is unbounded, or supplied at its capacity or less. Nothing waits, and each arrival is one transit time after the departure.
 abbrev pub TightLinkEquilibrium : Type 0
 TightLinkEquilibrium = (transit : ℚ) (capacity : Option ℚ) (rate horizon arrival amount : ℚ) (later : List Piece) (trace : Trace)
     → 0ℚ ≤ℚ transit → IsPositive capacity → ((bound : ℚ) → capacity ≡ Some bound → rate ≤ℚ bound) → 0ℚ <ℚ horizon
@@ -92,7 +90,7 @@ TightLinkEquilibrium = (transit : ℚ) (capacity : Option ℚ) (rate horizon arr
     → amount ≡ rate *ℚ horizon → arrival ≡ transit +ℚ horizon → IsOutTrace transit arrival amount rate trace
     → Equilibrium (one_link transit capacity (at_rate rate later)) (steady_flow transit rate horizon arrival amount 0ℚ trace)
 
--- ---- one of them by numbers: transit time 1 and capacity 1, supplied at rate 2 from time 0 to 2, up to time 2
+-- ---- an example in numbers: transit time 1 and capacity 1, supplied at rate 2 from time 0 to 2, up to time 2
 abbrev pub n : ℕ → ℚ
 n k = whole (pos k)
 
@@ -114,7 +112,7 @@ member_flow = record {
   queues = ((n 0, n 0) ∷ (n 2, n 2) ∷ []) ∷ [];
 }
 
--- it is a network, and this flow an equilibrium of it, beyond time 0
+-- the example is a network, and the flow is an equilibrium of this network beyond time 0
 pub record HasMember : Type 0 where
   pub network : IsNetwork member_network
   pub equilibrium : Equilibrium member_network member_flow

@@ -1,4 +1,4 @@
--- Laws of slacks and of the sets that they make.
+-- Theorems about slacks and the sets of links.
 use Rattle.std.specs.Prelude.{◌≡◌, ◌↔◌, ℕ, List, length}
 use Rattle.nf_rational.specs.Rational.{ℚ}
 use Rattle.nf_rational.specs.Operations.{0ℚ}
@@ -8,8 +8,8 @@ use Rattle.nf_model.specs.Network.{Link, Network, IsLink, hop_of, hops}
 use Rattle.nf_model.specs.ThinFlow.{slack, slacks_of, sets_at}
 use Rattle.nf_model.specs.Phases.{moved, slack_after}
 
--- a link is active where its slack is at least 0 and resetting where it is above 0; and its slack after a while is the slack at
--- the labels that have moved for a while
+-- A link is active if its slack is at least 0, and resetting if its slack is positive. The slack after a duration is the slack at the
+-- labels moved by that duration.
 pub record SlacksMakeSets : Type 0 where
   pub active : (net : Network) (labels : List ℚ) (e : ℕ) (link : Link) → IsLink net e link
       → Has (sets_at net labels).active e ↔ (0ℚ ≤ℚ slack labels (hop_of link))

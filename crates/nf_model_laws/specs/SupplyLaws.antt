@@ -1,4 +1,4 @@
--- Laws of what the source is supplied with.
+-- Theorems about the supply of the source.
 use Rattle.std.specs.Prelude.{◌≡◌, ℕ, List}
 use Rattle.nf_rational.specs.Rational.{ℚ}
 use Rattle.nf_rational.specs.Operations.{0ℚ, ◌+ℚ◌, ◌-ℚ◌, ◌*ℚ◌}
@@ -6,12 +6,12 @@ use Rattle.nf_rational.specs.Order.{◌≤ℚ◌, ◌<ℚ◌}
 use Rattle.nf_model.specs.Curve.{NeverFalls}
 use Rattle.nf_model.specs.Network.{Piece, IsPiece, ArePieces, supplied, rate_from}
 
--- no piece starts strictly between two times
+-- no piece starts strictly between the two times
 abbrev pub NoStartBetween : List Piece → ℚ → ℚ → Type 0
 NoStartBetween pieces time later = (i : ℕ) (piece : Piece) → IsPiece pieces i piece → time <ℚ piece.start → later ≤ℚ piece.start
 
--- Nothing is supplied by time 0. Between two times between which no piece starts the supply grows at the rate of the first; it
--- never falls, and no rate is negative.
+-- The supply is 0 at time 0. Between two times without a start strictly between, it grows at the rate of the first. The supply never
+-- falls, and no rate is negative.
 pub record SupplyGoesOn : Type 0 where
   pub begins : (pieces : List Piece) → ArePieces pieces → supplied pieces 0ℚ ≡ 0ℚ
   pub step : (pieces : List Piece) (time later : ℚ) → ArePieces pieces → time ≤ℚ later → NoStartBetween pieces time later

@@ -1,4 +1,4 @@
-//! Laws of the model: theorems between its definitions, each the contract of a public function with an empty body.
+//! This crate states theorems between the definitions of the model. Each theorem is the contract of a public function with an empty body.
 #![tactic(auto)]
 
 ghost use Rattle.nf_model_laws.specs.CurveLaws.{CurveGoesByPoints, AppendedPointGoesOn, EqualSlopesMerge, EndsDecideAffine, AffineFunctionsCombine, RisingPointsRise};
@@ -9,28 +9,28 @@ ghost use Rattle.nf_model_laws.specs.SupplyLaws.{SupplyGoesOn};
 ghost use Rattle.nf_model_laws.specs.SlackLaws.{SlacksMakeSets};
 ghost use Rattle.nf_model_laws.specs.MemberLaws.{OneLinkEquilibrium, FullLinkEquilibrium, TightLinkEquilibrium, HasMember};
 
-/// A curve has each point's value at its time, is affine from each point to the next, and constant after the last.
+/// A curve has each point's value at its time, is affine from each point to the next, and is constant after the last.
 pub fn curve_goes_by_points()
     ensures { CurveGoesByPoints }
 {}
 
-/// A point that is appended changes no value up to the point before it, from which the curve goes on to it along a line.
+/// Appending a point changes no value up to the previously last point. From there the curve is affine up to the appended point.
 pub fn appended_point_goes_on()
     ensures { AppendedPointGoesOn }
 {}
 
-/// A point with equal slopes before and after it may go: the curve has the same value at every time.
+/// Removing a point with equal slopes before and after it changes no value of the curve.
 pub fn equal_slopes_merge()
     ensures { EqualSlopesMerge }
 {}
 
-/// Functions that are affine on a stretch of time and agree at its ends agree between; one that is not negative at its ends is
-/// not negative between.
+/// Two functions that are affine on an interval and agree at its ends agree between. A function that is affine on an interval and not
+/// negative at its ends is not negative between.
 pub fn ends_decide_affine()
     ensures { EndsDecideAffine }
 {}
 
-/// Sums, differences and compositions of affine functions are affine, and so is a part of one.
+/// Sums, differences and compositions of affine functions are affine. An affine function is affine on each smaller interval.
 pub fn affine_functions_combine()
     ensures { AffineFunctionsCombine }
 {}
@@ -45,22 +45,22 @@ pub fn link_has_one_value()
     ensures { LinkHasOneValue }
 {}
 
-/// A queue is not negative, and nothing leaves a link before the transit time is over.
+/// A queue is never negative, and each exit is at least the transit time after its entry.
 pub fn queue_is_not_negative()
     ensures { QueueIsNotNegative }
 {}
 
-/// One transit time later, what has come out of a link is what had entered it, less the queue.
+/// The outflow, one transit time after a moment, is equal to the inflow by that moment less the queue.
 pub fn outflow_is_inflow_less_queue()
     ensures { OutflowIsInflowLessQueue }
 {}
 
-/// Where the inflow never falls, who enters a link later does not leave it earlier.
+/// If the inflow never falls, what enters a link later does not leave it earlier.
 pub fn exit_never_falls()
     ensures { ExitNeverFalls }
 {}
 
-/// While the inflow has one rate, the queue changes at that rate less the capacity, down to 0 at most.
+/// While the inflow has one rate, the queue changes at that rate less the capacity, but never below 0.
 pub fn queue_goes_on()
     ensures { QueueGoesOn }
 {}
@@ -70,64 +70,63 @@ pub fn link_has_values()
     ensures { LinkHasValues }
 {}
 
-/// There is at most one least transit sum, earliest arrival, extension length and phase length.
+/// Each least transit sum, earliest arrival, extension length and phase length is unique.
 pub fn extremes_are_unique()
     ensures { ExtremesAreUnique }
 {}
 
-/// Where inflows never fall, labels that no link undercuts, and that a link attains at each node but the source, are the earliest
-/// arrivals over all walks; and the earliest arrivals are such labels.
+/// If the inflows never fall, the earliest arrivals over all walks satisfy two conditions, and no other labels do. No link leads to its
+/// head before the head's label. Some link leads to each node except the source exactly at its label.
 pub fn labels_are_earliest()
     ensures { LabelsAreEarliest }
 {}
 
-/// Where its inflows never fall, the labels of a report, for any departure from 0 on, are the earliest arrivals exactly where no link
-/// undercuts them and one attains them at each node but the source.
+/// If the inflows of a report never fall, its labels for a departure from 0 on are the earliest arrivals exactly under two conditions. No
+/// link leads to its head before the head's label. Some link leads to each node except the source exactly at its label.
 pub fn report_labels_are_earliest()
     ensures { ReportLabelsAreEarliest }
 {}
 
-/// Labels that no link is shorter than, and that a link fits just at each node but the source, are the least transit sums over
-/// all walks from the source; and the least transit sums are such labels.
+/// Labels are the least transit sums over all walks from the source exactly under two conditions. The label of a link's head never exceeds
+/// the tail's label plus the transit time. Some link into each node except the source attains equality.
 pub fn least_transit_by_links()
     ensures { LeastTransitByLinks }
 {}
 
-/// Nothing is supplied by time 0; while no piece starts the supply grows at the rate; it never falls.
+/// The supply is 0 at time 0 and never falls. While no piece starts, the supply grows at its current rate.
 pub fn supply_goes_on()
     ensures { SupplyGoesOn }
 {}
 
-/// A link is active where its slack is at least 0, and resetting where it is above 0; slacks move with the labels.
+/// A link is active if its slack is at least 0, and resetting if its slack is positive. Slacks move with the labels.
 pub fn slacks_make_sets()
     ensures { SlacksMakeSets }
 {}
 
-/// First in, first out: where the inflow never falls, what has left a link by the exit of what enters at a time is just what had
-/// entered it by that time.
+/// First in, first out: if the inflow never falls, the outflow by the exit of an entry time is the inflow by that entry time.
 pub fn first_in_first_out()
     ensures { FirstInFirstOut }
 {}
 
-/// On a network of one link, a flow is an equilibrium exactly where the whole supply enters the link at once, the label of the
-/// sink is the exit, and outflow and queue are those of this inflow.
+/// On a network of one link, a flow is an equilibrium exactly under three conditions. The whole supply enters the link at once, the
+/// sink's label is the exit, and outflow and queue are those of this inflow.
 pub fn one_link_equilibrium()
     ensures { OneLinkEquilibrium }
 {}
 
-/// The equilibrium of one link that is supplied at one rate of at least its capacity: the queue grows by the rate less the
-/// capacity, and the flow leaves at the capacity.
+/// The equilibrium of one link, supplied at one rate of at least its capacity, has a queue that grows by the rate less the capacity. The
+/// flow leaves at the capacity.
 pub fn full_link_equilibrium()
     ensures { FullLinkEquilibrium }
 {}
 
-/// The equilibrium of one link that is unbounded, or supplied at one rate of at most its capacity: nothing waits.
+/// The equilibrium of one link that is unbounded, or supplied at one rate of at most its capacity, has no queue.
 pub fn tight_link_equilibrium()
     ensures { TightLinkEquilibrium }
 {}
 
-/// The definition of an equilibrium has a member beyond time 0: one link of transit time 1 and capacity 1, supplied at rate 2
-/// from time 0 to 2, up to time 2.
+/// Some network has an equilibrium beyond time 0. The network is one link of transit time 1 and capacity 1, supplied at rate 2 from time
+/// 0 to 2, up to time 2.
 pub fn equilibrium_has_member()
     ensures { HasMember }
 {}

@@ -1,4 +1,4 @@
--- What a network of this crate keeps.
+-- The stored parts of a network.
 use Rattle.std.specs.Prelude.{◌≡◌, ℕ, List, length, map}
 use Rattle.nf_model.specs.Walk.{Hop}
 use Rattle.nf_model.specs.Network.{Link, Piece, hop_of}
@@ -6,7 +6,7 @@ use Rattle.nf_formats.specs.Names.{Name}
 use Rattle.nf_formats.specs.Named.{NamedLink, Named}
 use Rattle.nf_formats.specs.WellNamed.{IsNamed}
 
--- source and sink are the first two nodes
+-- the network of these parts; source and sink are its first two nodes
 abbrev pub with_parts : ℕ → List Name → List Name → List Link → List Piece → List Name → List NamedLink → Named
 with_parts version node_names link_names links pieces idle_nodes idle_links = record {
   version = version;
@@ -17,7 +17,7 @@ with_parts version node_names link_names links pieces idle_nodes idle_links = re
   idle_links = idle_links;
 }
 
--- it is the network of an accepted file, and its hops are those of its links
+-- the network is that of an accepted file, and the stored hops are its links without capacities
 pub record IsKept (n : Named) (kept : List Hop) : Type 0 where
   pub named : IsNamed n
   pub hops : kept ≡ map hop_of n.net.links

@@ -1,4 +1,4 @@
--- The canonical text in parts.
+-- Parts of the canonical text.
 use Rattle.std.specs.Prelude.{◌≡◌, ℕ, ◌+◌, List, [], ◌∷◌, ◌++◌, drop, codes}
 use Rattle.nf_numerals.specs.Digits.{digits_of}
 use Rattle.nf_lines.specs.Words.{line_of_words}
@@ -12,7 +12,7 @@ head_text n = line_of_words (codes "nfot" ∷ digits_of n.version ∷ [])
     ++ line_of_words (codes "source" ∷ name_at n.node_names n.net.source ∷ [])
     ++ line_of_words (codes "sink" ∷ name_at n.node_names n.net.sink ∷ [])
 
--- the line of the link of this number is put behind a text
+-- the new text is the old one, followed by the line of link `number`
 pub record PushesLink (n : Named) (number : ℕ) (old new : List ℕ) : Type 0 where
   pub link : NamedLink
   pub is_link : drop number (active_links n) ≡ link ∷ drop (number + 1) (active_links n)

@@ -1,4 +1,4 @@
--- The supply as it is computed: one checked operation after the other.
+-- The operation sequence of the supply.
 use Rattle.std.specs.Prelude.{List, [], ◌∷◌, if◌then◌else◌, Ok}
 use Rattle.nf_rational.specs.Rational.{ℚ}
 use Rattle.nf_rational.specs.Operations.{0ℚ}
@@ -13,14 +13,14 @@ abbrev pub end_before : List Piece → ℚ → ℚ
 end_before [] time = time
 end_before (next ∷ later) time = min_ℚ time next.start
 
--- the amount so far, with that of a piece up to an end
+-- adds the amount of a piece from its start to `end` to the amount so far
 abbrev pub with_piece : Passing → ℚ → Piece → ℚ → Checked ℚ
 with_piece passes so_far piece end = do
   length ← checked passes Difference end piece.start
   amount ← checked passes Product piece.rate length
   checked passes Sum so_far amount
 
--- per piece that starts before the time, in order
+-- adds the amounts of the pieces that start before the time, in order
 abbrev pub supplied_after : Passing → ℚ → List Piece → ℚ → Checked ℚ
 supplied_after passes so_far [] time = Ok so_far
 supplied_after passes so_far (piece ∷ later) time =

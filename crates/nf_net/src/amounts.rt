@@ -1,4 +1,4 @@
-// The amount that the source is supplied with.
+// The amount supplied to the source.
 ghost use Rattle.std.specs.Prelude.{◌≡◌, drop, IfOk};
 ghost use Rattle.nf_rational.specs.Operations.{0ℚ};
 ghost use Rattle.nf_rational.specs.Order.{◌≤ℚ◌};
@@ -10,7 +10,7 @@ use crate::network::Network;
 use nf_frac::{Passed, Q};
 use nf_net_file::Piece;
 
-// The lesser of the next start and the time.
+// Returns the lesser of the next start and the time.
 fn end_of(later: &[Piece], time: Q) -> Q
     ensures { result ≡ end_before later.now time }
 {
@@ -20,7 +20,7 @@ fn end_of(later: &[Piece], time: Q) -> Q
     }
 }
 
-// The amount so far with that of a piece up to its end.
+// Returns the amount so far plus the amount of a piece from its start to `end`.
 fn with_amount(so_far: Q, piece: &Piece, end: Q) -> Result<Q, Passed<Q>>
     ensures { result ≡ with_piece passes_Q so_far piece.now end }
 {
@@ -42,10 +42,9 @@ fn amount_of(pieces: &[Piece], time: Q) -> Result<Q, Passed<Q>>
     Ok(so_far)
 }
 
-/// The amount that the source is supplied with from time 0 to a time of at least 0: for each piece the rate times how long the
-/// piece is the latest one started. It is refused exactly where one of these operations passes, and by the first of them: for
-/// each piece that starts before the time, in order, the difference of its end and its start, the product of rate and that, and
-/// the sum of what came before and that.
+/// Returns the amount supplied to the source from time 0 to `time`, which must be at least 0. Each piece adds its rate times the duration
+/// during which it is the latest one started. Fails exactly if an operation passes, with the first such operation. For each piece that
+/// starts before `time`, in order, the operations are the difference of end and start, the product with the rate, and the sum.
 pub fn supply(net: &Network, time: Q) -> Result<Q, Passed<Q>>
     requires { 0ℚ ≤ℚ time }
     ensures operations { result ≡ checked_supply passes_Q net.now.net time }

@@ -1,4 +1,4 @@
-// The network that a file stands for.
+// Building the network that a file stands for.
 ghost use Rattle.std.specs.Prelude.{◌≡◌, ◌<◌, ◌≤◌, [], ◌∷◌, true, is_some, length, map, not, IfOk, OnOk, Some};
 ghost use Rattle.nf_formats.specs.Names.{place_of, with_names, without};
 ghost use Rattle.nf_formats.specs.Named.{numbered, ends, names_of};
@@ -14,7 +14,7 @@ use nf_graph::{Hop, NodeId};
 use nf_net_file::{Draft, Link, Name, NamedLink, Names, hops_of};
 use std::alloc::{AllocError, Global};
 
-// The flag of a link's tail.
+// Returns the flag of a link's tail: whether the source reaches it.
 fn is_active(nodes: &Names, flags: &[bool], link: &NamedLink) -> bool
     requires { length nodes.now ≤ length flags.now }
     ensures { result ≡ flag_at flags.now (place_of nodes.now link.now.tail) }
@@ -27,7 +27,7 @@ fn is_active(nodes: &Names, flags: &[bool], link: &NamedLink) -> bool
     }
 }
 
-// The links whose tails are reached.
+// Returns the links whose tails are reached.
 fn active_of(
     alloc: Global,
     nodes: &Names,
@@ -46,7 +46,7 @@ fn active_of(
     Ok(active)
 }
 
-// The links whose tails aren't.
+// Returns the links whose tails are not reached.
 fn idle_of(
     alloc: Global,
     nodes: &Names,
@@ -65,7 +65,7 @@ fn idle_of(
     Ok(idle)
 }
 
-// Puts the ends of links behind the names, each if it isn't there.
+// Appends the names of the ends of these links, each if the list does not contain it yet.
 fn put_ends(names: &mut Names, links: &[NamedLink]) -> Result<(), AllocError>
     ensures { OnOk result (names.new ≡ with_names names.old (ends links.now)) }
 {
@@ -76,7 +76,7 @@ fn put_ends(names: &mut Names, links: &[NamedLink]) -> Result<(), AllocError>
     Ok(())
 }
 
-// The names of links.
+// Returns the names of the links.
 fn link_names(alloc: Global, links: &[NamedLink]) -> Result<Vec<Name>, AllocError>
     ensures { IfOk result (λ names. names.items ≡ names_of links.now) }
 {
@@ -87,7 +87,7 @@ fn link_names(alloc: Global, links: &[NamedLink]) -> Result<Vec<Name>, AllocErro
     Ok(names)
 }
 
-// The same names once more.
+// Copies the names.
 fn copied(alloc: Global, names: &[Name]) -> Result<Vec<Name>, AllocError>
     ensures { IfOk result (λ copies. copies.items ≡ names.now) }
 {
@@ -127,7 +127,7 @@ fn numbered_links(
     Ok(numbers)
 }
 
-// The names that aren't among these.
+// Returns the names that `these` does not contain.
 fn names_without(alloc: Global, these: &Names, names: &[Name]) -> Result<Vec<Name>, AllocError>
     ensures { IfOk result (λ others. others.items ≡ without these.now names.now) }
 {
@@ -140,7 +140,7 @@ fn names_without(alloc: Global, these: &Names, names: &[Name]) -> Result<Vec<Nam
     Ok(others)
 }
 
-// The nodes that idle links alone lead from and to.
+// Returns the nodes that occur in idle links only.
 fn idle_nodes(alloc: Global, nodes: &Names, idle: &[NamedLink]) -> Result<Vec<Name>, AllocError>
     ensures { IfOk result (λ others. others.items ≡ without nodes.now (with_names [] (ends idle.now))) }
 {
@@ -149,7 +149,7 @@ fn idle_nodes(alloc: Global, nodes: &Names, idle: &[NamedLink]) -> Result<Vec<Na
     names_without(alloc, nodes, names.as_slice())
 }
 
-// The nodes that aren't idle: the source, the sink, and the ends of links.
+// Returns the nodes that are not idle: the source, the sink, and the ends of active links.
 fn active_nodes(
     alloc: Global,
     source: &Name,
@@ -175,14 +175,14 @@ fn given(name: &Option<Name>) -> &Name
     }
 }
 
-// The links of a draft: those whose tails are reached, and the others.
+// The links of a draft. `active` holds those whose tails are reached, and `idle` the others.
 #[derive(Drop)]
 struct SortedLinks {
     active: Vec<NamedLink>,
     idle: Vec<NamedLink>,
 }
 
-// The links of a draft, by the flags of its nodes.
+// Divides the links of a draft by the flags of its nodes.
 fn sorted_links(alloc: Global, draft: &Draft, flags: &[bool]) -> Result<SortedLinks, AllocError>
     requires { length draft.now.nodes ≤ length flags.now }
     ensures { IfOk result (λ links. AreSorted (seen_draft draft.now) flags.now links) }
@@ -192,14 +192,14 @@ fn sorted_links(alloc: Global, draft: &Draft, flags: &[bool]) -> Result<SortedLi
     Ok(SortedLinks { active, idle })
 }
 
-// The nodes of a draft: those that have numbers, and the others.
+// The nodes of a draft. `active` holds those that have numbers, and `idle` the others.
 #[derive(Drop)]
 struct SortedNodes {
     active: Names,
     idle: Vec<Name>,
 }
 
-// The nodes of a draft, by the links that lead from and to them.
+// Divides the nodes of a draft into the ends of active links, with source and sink, and the other ends.
 fn sorted_nodes(
     alloc: Global,
     draft: &Draft,
@@ -215,8 +215,7 @@ fn sorted_nodes(
     Ok(SortedNodes { active, idle })
 }
 
-// What a network keeps by numbers: the names of its nodes and of its links, the links between numbered nodes, and those without
-// capacities.
+// The tables of a network by number. They hold the names of nodes and links, the links, and the links without capacities.
 #[derive(Drop)]
 struct Tables {
     node_names: Vec<Name>,
@@ -225,7 +224,7 @@ struct Tables {
     hops: Vec<Hop>,
 }
 
-// The same links by their numbers, their ends by their places among these names.
+// Makes the tables of these links. The index of a name in `nodes` is the number of the node.
 fn tables_of(alloc: Global, nodes: &Names, links: &[NamedLink]) -> Result<Tables, AllocError>
     requires { length nodes.now ≤ most_nodes }
     ensures { IfOk result (λ tables. AreTablesOf nodes.now links.now tables) }
@@ -242,7 +241,7 @@ fn tables_of(alloc: Global, nodes: &Names, links: &[NamedLink]) -> Result<Tables
     })
 }
 
-/// What a network has beside the version and the pieces of its draft.
+/// The parts of a network without its version and pieces. The draft holds these two.
 #[derive(Drop)]
 pub struct Parts {
     links: SortedLinks,
@@ -250,7 +249,7 @@ pub struct Parts {
     tables: Tables,
 }
 
-/// The parts of the network that the lines of a file stand for, where they break no rule.
+/// Returns the parts of the network that the draft stands for. The draft must break no rule. Fails only if an allocation fails.
 pub fn parts_of(alloc: Global, draft: &Draft, flags: &[bool]) -> Result<Parts, AllocError>
     requires read { IsRead (seen_draft draft.now) }
     requires ends { HasEnds (seen_draft draft.now) }
@@ -268,7 +267,7 @@ pub fn parts_of(alloc: Global, draft: &Draft, flags: &[bool]) -> Result<Parts, A
     })
 }
 
-/// The network that a draft and its parts make.
+/// Makes the network of a draft and its parts.
 pub fn network_of(draft: Draft, parts: Parts) -> Network
     requires { ArePartsOf (seen_draft draft) parts }
     ensures { StandsFor (seen_draft draft) result }

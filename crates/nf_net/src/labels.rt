@@ -9,7 +9,7 @@ use nf_graph::{DistanceFault, distances};
 use nf_net_file::is_fraction;
 use std::alloc::{AllocError, Global};
 
-// The numbers, of which none is wanting.
+// Returns the numbers, none of which is missing.
 fn given_sums(alloc: Global, sums: &[Option<Q>]) -> Result<Vec<Q>, AllocError>
     requires { (v : ℕ) → slice_get sums.now v ≡ Some None → ⊥ }
     ensures { IfOk result (λ numbers. map (λ q. Some q) numbers.items ≡ sums.now) }
@@ -24,7 +24,7 @@ fn given_sums(alloc: Global, sums: &[Option<Q>]) -> Result<Vec<Q>, AllocError>
     Ok(numbers)
 }
 
-// A sum that passes can't be, where none does.
+// Converts the fault to an allocation failure. The fault must not be a sum of fractions that passes.
 fn never_passing(fault: DistanceFault) -> AllocError
     requires { HasFraction fault → ⊥ }
 {
@@ -41,8 +41,8 @@ fn never_passing(fault: DistanceFault) -> AllocError
     }
 }
 
-/// Of each node, the least transit sum over the walks from the source to it: the earliest arrival for departure 0, when nothing
-/// is on the links yet. An accepted file's sums fit.
+/// Returns, for each node, the least transit sum over the walks from the source. This is the earliest arrival time for departure 0, when
+/// the links are empty. Fails only if an allocation fails: the sums of an accepted file do not pass.
 pub fn start_labels(alloc: Global, net: &Network) -> Result<Vec<Q>, AllocError>
     ensures { IfOk result (λ labels. AreStartLabels net.now.net labels.items) }
 {

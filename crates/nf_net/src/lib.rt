@@ -1,5 +1,5 @@
-//! Networks, and the files that they are read from: one source, one sink, links with transit times and capacities, and what the
-//! source is supplied with. Times, amounts and rates are exact fractions. The file format is this project's own.
+//! This crate reads and prints networks: one source, one sink, links with transit times and capacities, and the supply of the source.
+//! Times, amounts and rates are exact fractions. The file format is this project's own.
 #![tactic(auto)]
 
 mod amounts;

@@ -13,9 +13,9 @@ use nf_graph::{Hop, LinkId, NodeId};
 use nf_net_file::{Link, Name, NamedLink, Piece, rate_of, start_after};
 use std::marker::Model;
 
-/// A network with its names: that of an accepted file. Node 0 is the source and node 1 the sink; the other nodes are numbered by
-/// first appearance in the lines of the links, and links and pieces in the order of their lines. In version 2 a network may have
-/// idle nodes, which no walk from the source reaches, and idle links, which leave them; those have no numbers here.
+/// The network of an accepted file, with its names. Node 0 is the source and node 1 the sink. The other nodes are numbered by first
+/// appearance in the lines of links. Links and pieces are numbered in the order of their lines. A network of version 2 may also have idle
+/// nodes, which no walk from the source reaches, and idle links out of these nodes. Idle nodes and links have no numbers here.
 #[derive(Drop)]
 pub struct Network {
     version: u32,
@@ -44,14 +44,14 @@ impl Model for Network {
         a.hops.items };
 }
 
-// The place of a name, if it is there.
+// Returns the index of a name, if the list contains it.
 fn place_of(names: &[Name], name: &Name) -> Option<usize>
     ensures { result ≡ position (bytes_eq name.now) names.now }
 {
     names.iter().position(|other| name == other)
 }
 
-// The place of the name that a text is, if it is there.
+// Returns the index of the name that `text` is, if the list contains it.
 #[tactic(auto, using(crate::proofs::Limits::not_there, crate::proofs::Limits::no_place, crate::proofs::Limits::position_there))]
 fn found(names: &[Name], text: &str) -> Option<u32>
     requires few { length names.now ≤ most_links }
@@ -69,7 +69,7 @@ fn found(names: &[Name], text: &str) -> Option<u32>
 
 #[tactic(auto, using(crate::proofs::Limits::few_nodes, crate::proofs::Limits::few_links, crate::proofs::Limits::few_idle_nodes, crate::proofs::Limits::as_many_names, crate::proofs::Limits::some_nodes, crate::proofs::Limits::named_nodes, crate::proofs::Limits::named_links, crate::proofs::Limits::few_link_names))]
 impl Network {
-    // The network of these parts.
+    // Makes the network of these parts.
     pub(crate) fn kept(
         version: u32,
         node_names: Vec<Name>,
@@ -96,7 +96,7 @@ impl Network {
         }
     }
 
-    /// Returns the version of its file's format: 1 or 2.
+    /// Returns the version of the file's format: 1 or 2.
     pub fn version(&self) -> u32
         ensures value { result ≡ self.now.version }
         ensures known { (result ≡ 1) ⊎ (result ≡ 2) }
@@ -104,48 +104,48 @@ impl Network {
         self.version
     }
 
-    /// What holds of every network, for proofs: it is named as that of an accepted file is. The call does nothing.
+    /// Does nothing. Proof: states that the network is that of an accepted file.
     pub fn recall(&self)
         ensures { IsNamed self.now }
     {
         let _ = &self.version;
     }
 
-    /// How many nodes it has, without idle ones.
+    /// Returns the number of nodes, without idle nodes.
     pub fn node_count(&self) -> u32
         ensures { result ≡ self.now.net.nodes }
     {
         self.node_names.len() as u32
     }
 
-    /// How many links it has, without idle ones.
+    /// Returns the number of links, without idle links.
     pub fn link_count(&self) -> u32
         ensures { result ≡ length self.now.net.links }
     {
         self.links.len() as u32
     }
 
-    /// The source.
+    /// Returns the source, which is node 0.
     pub fn source(&self) -> NodeId
         ensures value { result ≡ self.now.net.source }
         ensures node { result < self.now.net.nodes }
     {
-        // For the proof: a network that is read has a source and a sink.
+        // Proof: a network that was read has a source and a sink.
         let _ = &self.version;
         NodeId(0)
     }
 
-    /// The sink.
+    /// Returns the sink, which is node 1.
     pub fn sink(&self) -> NodeId
         ensures value { result ≡ self.now.net.sink }
         ensures node { result < self.now.net.nodes }
     {
-        // For the proof: a network that is read has a source and a sink.
+        // Proof: a network that was read has a source and a sink.
         let _ = &self.version;
         NodeId(1)
     }
 
-    /// The name of a node.
+    /// Returns the name of a node. The number must be less than `node_count`.
     pub fn node_name(&self, node: NodeId) -> &str
         requires { node < self.now.net.nodes }
         ensures { result.now ≡ name_at self.now.node_names node }
@@ -153,7 +153,7 @@ impl Network {
         self.node_names[node.index()].text()
     }
 
-    /// The name of a link.
+    /// Returns the name of a link. The number must be less than `link_count`.
     pub fn link_name(&self, link: LinkId) -> &str
         requires { link < length self.now.net.links }
         ensures { result.now ≡ name_at self.now.link_names link }
@@ -161,7 +161,7 @@ impl Network {
         self.link_names[link.index()].text()
     }
 
-    /// The node of a name; None exactly where no node has it. Idle nodes have none of the numbers.
+    /// Returns the node with this name. Returns None exactly if no node that is not idle has the name.
     pub fn node_named(&self, name: &str) -> Option<NodeId>
         ensures { MatchOption result (has_name self.now.node_names name.now ≡ false)
             (λ node. slice_get self.now.node_names node ≡ Some name.now) }
@@ -172,7 +172,7 @@ impl Network {
         }
     }
 
-    /// The link of a name; None exactly where no link has it, idle links aside.
+    /// Returns the link with this name. Returns None exactly if no link that is not idle has the name.
     pub fn link_named(&self, name: &str) -> Option<LinkId>
         ensures { MatchOption result (has_name self.now.link_names name.now ≡ false)
             (λ link. slice_get self.now.link_names link ≡ Some name.now) }
@@ -183,7 +183,7 @@ impl Network {
         }
     }
 
-    /// A link.
+    /// Returns a link. The number must be less than `link_count`.
     pub fn link(&self, link: LinkId) -> Link
         requires { link < length self.now.net.links }
         ensures link { IsLink self.now.net link result }
@@ -192,7 +192,7 @@ impl Network {
         self.links[link.index()]
     }
 
-    /// What the source is supplied with: the pieces, whose starts rise.
+    /// Returns the pieces of the supply, in increasing order of their starts.
     pub fn pieces(&self) -> &[Piece]
         ensures value { result.now ≡ self.now.net.pieces }
         ensures named { IsNamed self.now }
@@ -200,7 +200,7 @@ impl Network {
         &self.pieces
     }
 
-    /// The links without their capacities.
+    /// Returns the links without their capacities.
     pub fn hops(&self) -> &[Hop]
         ensures value { result.now ≡ hops_of self.now.net }
         ensures named { IsNamed self.now }
@@ -208,36 +208,36 @@ impl Network {
         &self.hops
     }
 
-    /// The rate at which the source is supplied from a time on: that of the last piece that starts at or before the time, and 0
-    /// where none does.
+    /// Returns the rate, in amount per unit of time, at which the source is supplied from `time` on. This is the rate of the last piece
+    /// that starts at or before `time`, or 0 if none does.
     pub fn rate_at(&self, time: Q) -> Q
         ensures { result ≡ rate_of_net self.now.net time }
     {
         rate_of(&self.pieces, time)
     }
 
-    /// The first start of a piece after a time; None exactly where there is none.
+    /// Returns the first start of a piece after `time`. Returns None exactly if no piece starts later.
     pub fn next_change(&self, time: Q) -> Option<Q>
         ensures { result ≡ change_of_net self.now.net time }
     {
         start_after(&self.pieces, time)
     }
 
-    // The idle links, in the order of their lines.
+    // Returns the idle links, in the order of their lines.
     pub(crate) fn idle_links(&self) -> &[NamedLink]
         ensures { result.now ≡ self.now.idle_links }
     {
         &self.idle_links
     }
 
-    /// How many idle nodes it has.
+    /// Returns the number of idle nodes.
     pub fn idle_count(&self) -> u32
         ensures { result ≡ length self.now.idle_nodes }
     {
         self.idle_nodes.len() as u32
     }
 
-    /// The name of an idle node.
+    /// Returns the name of an idle node. The index must be less than `idle_count`.
     pub fn idle_name(&self, index: u32) -> &str
         requires { index < length self.now.idle_nodes }
         ensures { result.now ≡ name_at self.now.idle_nodes index }

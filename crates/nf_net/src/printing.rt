@@ -24,7 +24,7 @@ fn push_bytes(out: &mut Vec<u8>, bytes: &[u8]) -> Result<(), AllocError>
     Ok(())
 }
 
-// A word behind a space.
+// Appends a space and a word.
 fn push_word(out: &mut Vec<u8>, word: &[u8]) -> Result<(), AllocError>
     ensures { OnOk result (out.new.items ≡ out.old.items ++ 32 ∷ word.now) }
 {
@@ -50,7 +50,7 @@ fn push_two(out: &mut Vec<u8>, key: &[u8], word: &[u8]) -> Result<(), AllocError
     Ok(())
 }
 
-// The word of a capacity.
+// Returns the word for a capacity: its number, or `inf` for an unbounded link.
 fn capacity_text(capacity: Option<Q>, room: &mut TextBuf) -> &[u8]
     ensures { result.now ≡ capacity_word capacity }
 {
@@ -89,7 +89,7 @@ fn push_link(
     Ok(())
 }
 
-// The link of this number.
+// Appends the line of the link with this number.
 fn push_numbered(out: &mut Vec<u8>, net: &Network, id: LinkId) -> Result<(), AllocError>
     requires { id < length net.now.net.links }
     ensures { OnOk result (PushesLink net.now id out.old.items out.new.items) }
@@ -102,7 +102,7 @@ fn push_numbered(out: &mut Vec<u8>, net: &Network, id: LinkId) -> Result<(), All
     Ok(())
 }
 
-// The links that aren't idle.
+// Appends the lines of the links that are not idle.
 fn push_links(out: &mut Vec<u8>, net: &Network) -> Result<(), AllocError>
     requires { IsNamed net.now }
     ensures { OnOk result (out.new.items ≡ out.old.items ++ flat_map line_of_words (map link_words (active_links net.now))) }
@@ -113,7 +113,7 @@ fn push_links(out: &mut Vec<u8>, net: &Network) -> Result<(), AllocError>
     Ok(())
 }
 
-// The idle links.
+// Appends the lines of the idle links.
 fn push_idle(out: &mut Vec<u8>, links: &[NamedLink]) -> Result<(), AllocError>
     ensures { OnOk result (out.new.items ≡ out.old.items ++ flat_map line_of_words (map link_words links.now)) }
 {
@@ -149,7 +149,7 @@ fn push_pieces(out: &mut Vec<u8>, pieces: &[Piece]) -> Result<(), AllocError>
     Ok(())
 }
 
-// The line of a version.
+// Appends the line of the version.
 fn push_version(out: &mut Vec<u8>, version: u32) -> Result<(), AllocError>
     requires { (version ≡ 1) ⊎ (version ≡ 2) }
     ensures { OnOk result (out.new.items ≡ out.old.items ++ line_of_words (codes "nfot" ∷ digits_of version ∷ [])) }
@@ -160,7 +160,7 @@ fn push_version(out: &mut Vec<u8>, version: u32) -> Result<(), AllocError>
     push_two(out, b"nfot", b"2")
 }
 
-// The line of a node.
+// Appends a line with the keyword `key` and the name of the node.
 fn push_node(out: &mut Vec<u8>, key: &[u8], net: &Network, node: NodeId) -> Result<(), AllocError>
     requires { node < net.now.net.nodes }
     ensures { OnOk result (out.new.items ≡ out.old.items ++ line_of_words (key.now ∷ name_at net.now.node_names node ∷ [])) }
@@ -169,7 +169,7 @@ fn push_node(out: &mut Vec<u8>, key: &[u8], net: &Network, node: NodeId) -> Resu
     push_two(out, key, name.as_bytes())
 }
 
-// The head: the version, the source and the sink.
+// Appends the head: the lines of version, source and sink.
 fn push_head(out: &mut Vec<u8>, net: &Network) -> Result<(), AllocError>
     ensures { OnOk result (out.new.items ≡ out.old.items ++ head_text net.now) }
 {
@@ -196,8 +196,8 @@ fn whole_text(alloc: Global, net: &Network) -> Result<Vec<u8>, AllocError>
     Ok(out)
 }
 
-/// The canonical text of a network: the version, the source, the sink, the links in order and then the idle ones in theirs, the
-/// pieces in order, and the end. It is read as the same network, with the same names.
+/// Returns the canonical text of a network. Its lines are the version, the source, the sink, the links in order, the idle links in order,
+/// the pieces in order, and `end`. Parsing the text returns the same network, with the same names. Fails only if an allocation fails.
 pub fn text(alloc: Global, net: &Network) -> Result<Vec<u8>, AllocError>
     ensures canonical { IfOk result (λ text. text.items ≡ canonical net.now) }
     ensures reads_back { IfOk result (λ text. Reads text.items (Ok net.now)) }

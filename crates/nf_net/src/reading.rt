@@ -1,4 +1,4 @@
-// The reading of a network file.
+// Parsing a network file.
 ghost use Rattle.std.specs.Prelude.{◌≡◌, ◌≤◌, length, map, None, Ok, Err, IfOk, IfErr, OnOk, MatchResult};
 ghost use Rattle.nf_lines.specs.Words.{read_lines};
 ghost use Rattle.nf_lines.specs.Faults.{first_fault, longest_text};
@@ -15,7 +15,7 @@ use nf_net_file::{Draft, NetFault, flags_of, hops_of, names_rule, read_draft, wa
 use nf_text::{Line, TextFault, lines};
 use std::alloc::Global;
 
-// The lines of the text, or the first line that has a fault.
+// Splits the text into lines, or returns the fault of the first line that has one.
 #[tactic(auto, using(nf_net_file::proofs::ContentLines::lines_within))]
 fn lines_of(alloc: Global, text: &[u8]) -> Result<Vec<Line>, NetFault>
     requires { length text.now ≤ longest_text }
@@ -43,7 +43,7 @@ fn lines_of(alloc: Global, text: &[u8]) -> Result<Vec<Line>, NetFault>
     Ok(read)
 }
 
-// The flags of the nodes by which they are reached, or the first rule of the file as a whole that is broken.
+// Returns a flag for each node, which states whether the node is reached. Fails with the first rule of the whole file that is broken.
 fn closing_flags(alloc: Global, draft: &Draft) -> Result<Vec<bool>, NetFault>
     requires { IsRead (seen_draft draft.now) }
     ensures { MatchResult result (λ flags. IsWhole (seen_draft draft.now) flags.items)
@@ -60,7 +60,7 @@ fn closing_flags(alloc: Global, draft: &Draft) -> Result<Vec<bool>, NetFault>
     }
 }
 
-// The network that lines stand for, or the first rule of the file as a whole that they break.
+// Returns the network that the lines stand for, or the first rule of the whole file that they break.
 fn close(alloc: Global, draft: Draft) -> Result<Network, NetFault>
     requires { IsRead (seen_draft draft) }
     ensures { MatchResult result (λ net. Closes (seen_draft draft) (Ok net))
@@ -71,8 +71,9 @@ fn close(alloc: Global, draft: Draft) -> Result<Network, NetFault>
     Ok(network_of(draft, parts))
 }
 
-/// The network that a text of at most 67,108,864 bytes stands for; or the first rule that it breaks, and the line. The rules of
-/// all bytes and lines come first, then those of the lines one by one, then those of the file as a whole, with line 0.
+/// Parses a network file of at most 67,108,864 bytes. Returns its network, or the first rule that the text breaks, with the line. The
+/// rules of all bytes and lines are tested first, then those of each line, then those of the whole file, with line 0. Also fails if an
+/// allocation fails.
 pub fn parse(alloc: Global, text: &[u8]) -> Result<Network, NetFault>
     requires { length text.now ≤ longest_text }
     ensures { MatchResult result (λ net. Reads text.now (Ok net)) (λ fault. IfBroken fault (λ broken. Reads text.now (Err broken))) }

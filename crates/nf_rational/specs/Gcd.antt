@@ -1,10 +1,10 @@
--- The greatest common divisor, by Euclid's algorithm, and the little that a reduced fraction needs of it.
+-- The greatest common divisor, by Euclid's algorithm.
 use Rattle.std.proofs.Common.{◌≡◌, ℕ, zero, suc, ◌*◌, ◌/◌, ◌%◌, ◌<◌, refl, sym, ◌∙◌, subst, arith}
 use native.Mathlib.Nat.{dvd_antisymm, dvd-mul_right, mul-dvd-mul_left, dvd_of_mul-dvd-mul_left, mod-lt, zero-lt-suc, mul-div_cancel', mul-one, eq_of_mul-eq-mul_left}
 use Rattle.std.specs.Int.{IsGcd}
 use Rattle.std.proofs.lemmas.Nat.Gcd.{IsGcd-from_zero, IsGcd-from_mod, same_from_IsGcd}
 
--- Euclid's algorithm, in at most so many steps
+-- runs at most `steps` steps of Euclid's algorithm
 abbrev gcd_within : ℕ → ℕ → ℕ → ℕ
 gcd_within zero a b = a
 gcd_within (suc steps) a zero = a
@@ -27,7 +27,7 @@ pub IsGcd-gcd : (a b : ℕ) → IsGcd a b (gcd a b)
 unfolding gcd
 IsGcd-gcd a b = IsGcd-within (suc b) a b (omega arith)
 
--- a common factor comes out
+-- a common factor c of both numbers is a factor of their greatest common divisor
 scaled_by : (c a b g k : ℕ) → 0 < c → IsGcd a b g → IsGcd (c * a) (c * b) (c * k) → c * k ≡ c * g
 scaled_by c a b g k some h found =
     dvd_antisymm (mul-dvd-mul_left k c (h.2 k (dvd_of_mul-dvd-mul_left k some found.0) (dvd_of_mul-dvd-mul_left k some found.1)))
@@ -41,7 +41,7 @@ IsGcd-scaled c a b g some h =
     subst (λ (m : ℕ). IsGcd (c * a) (c * b) m) (sym is_k) (IsGcd-gcd (c * a) (c * b)) in
     subst (λ (m : ℕ). IsGcd (c * a) (c * b) m) (scaled_by c a b g (gcd (c * a) (c * b) / c) some h found) found
 
--- what is left of two numbers after their greatest common divisor is taken out has no common factor
+-- two numbers divided by their greatest common divisor have no common factor
 pub gcd_of_quotients : (g a b : ℕ) → 0 < g → IsGcd (g * a) (g * b) g → gcd a b ≡ 1
 gcd_of_quotients g a b some h =
     eq_of_mul-eq-mul_left g some (gcd a b) 1

@@ -4,7 +4,7 @@ use Rattle.nf_rational.specs.Rational.{ℚ, ratio}
 
 infixl 65 ◌+ℚ◌ ◌-ℚ◌
 infixl 70 ◌*ℚ◌ ◌/ℚ◌
--- a whole number
+-- the rational number of a whole number
 unfoldable pub whole : ℤ → ℚ
 whole n = ratio n 1
 
@@ -31,10 +31,10 @@ abbrev pub signed_as : ℤ → ℕ → ℤ
 signed_as (pos n) d = pos d
 signed_as (negsuc n) d = neg_ℤ (pos d)
 
--- one over x, and 0 where x is 0
+-- the reciprocal of x, or 0 if x is 0
 unfoldable pub inv_ℚ : ℚ → ℚ
 inv_ℚ x = ratio (signed_as x.num x.den) (nat_abs x.num)
 
--- the quotient, and 0 where the divisor is 0
+-- the quotient, or 0 if the divisor is 0
 unfoldable pub ◌/ℚ◌ : ℚ → ℚ → ℚ
 x /ℚ y = x *ℚ inv_ℚ y

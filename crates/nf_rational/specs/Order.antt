@@ -1,4 +1,4 @@
--- The order of the rational numbers, by products crosswise, and the tests that decide it.
+-- The order of the rational numbers.
 use Rattle.std.specs.Prelude.{Bool, not, if◌then◌else◌, pos, ◌*ℤ◌, ◌≤ℤ◌, ◌<ℤ◌, int_le}
 use Rattle.std.specs.Ordering.{int_cmp}
 use Rattle.std.specs.declared.cmp.Ordering.{Ordering}
@@ -11,7 +11,7 @@ pub record ◌≤ℚ◌ (x y : ℚ) : Type 0 where
 pub record ◌<ℚ◌ (x y : ℚ) : Type 0 where
   pub lt : (x.num *ℤ pos y.den) <ℤ (y.num *ℤ pos x.den)
 
--- ---- the same, as tests
+-- ---- tests of the order
 unfoldable pub le_ℚ : ℚ → ℚ → Bool
 le_ℚ x y = int_le (x.num *ℤ pos y.den) (y.num *ℤ pos x.den)
 
@@ -21,7 +21,7 @@ lt_ℚ x y = not (le_ℚ y x)
 abbrev pub cmp_ℚ : ℚ → ℚ → Ordering
 cmp_ℚ x y = int_cmp (x.num *ℤ pos y.den) (y.num *ℤ pos x.den)
 
--- ---- the lesser and the greater of two
+-- ---- minimum and maximum
 unfoldable pub min_ℚ : ℚ → ℚ → ℚ
 min_ℚ x y = if le_ℚ x y then x else y
 

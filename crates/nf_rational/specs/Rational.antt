@@ -1,4 +1,4 @@
--- The rational numbers. Each is kept as its reduced fraction, so that equal numbers are one term.
+-- The rational numbers. A number is represented by its reduced fraction, so equal numbers are one term.
 use Rattle.std.proofs.Common.{◌≡◌, ℕ, zero, suc, ◌*◌, ◌/◌, ◌<◌, refl, sym, ap, subst, arith}
 use Prim.Native.Nat.{◌∣◌}
 use mathlib.Core.HLevel.{is_prop→PathP}
@@ -10,14 +10,14 @@ use Rattle.std.specs.Int.{IsGcd}
 use Rattle.std.specs.Coded.{Coded, coded×, coded_ℕ, coded_ℤ}
 use Rattle.nf_rational.specs.Gcd.{gcd, IsGcd-gcd, gcd_of_quotients}
 
--- a whole numerator over a positive denominator, with no common factor
+-- a whole numerator over a positive denominator, without common factor
 pub record ℚ : Type 0 where
   pub num : ℤ
   pub den : ℕ
   pub positive : 0 < den
   pub reduced : gcd (nat_abs num) den ≡ 1
 
--- equal parts make equal numbers
+-- numbers with equal numerators and equal denominators are equal
 pub same_parts : (x y : ℚ) → x.num ≡ y.num → x.den ≡ y.den → x ≡ y
 same_parts x y p q = λ i. record {
   num = p i;
@@ -26,7 +26,7 @@ same_parts x y p q = λ i. record {
   reduced = is_prop→PathP (λ j. gcd (nat_abs (p j)) (q j) ≡ 1) (λ j. ℕ_set (gcd (nat_abs (p j)) (q j)) 1) x.reduced y.reduced i;
 }
 
--- ---- what is left after the common factor is taken out
+-- ---- numerator and denominator, divided by their common factor
 pub gcd_pos : (a d : ℕ) → 0 < d → 0 < gcd a d
 gcd_pos a d some = pos_of_dvd_of_pos (IsGcd-gcd a d).1 some
 
@@ -59,7 +59,7 @@ pub one_reduced : gcd 0 1 ≡ 1
 unfolding gcd
 one_reduced = refl
 
--- n over d, reduced; 0 where d is 0
+-- n over d, reduced, or 0 if d is 0
 unfoldable pub ratio : ℤ → ℕ → ℚ
 ratio n zero = record { num = pos 0; den = 1; positive = suc_pos 0; reduced = one_reduced }
 ratio n (suc e) = record {
@@ -69,7 +69,7 @@ ratio n (suc e) = record {
   reduced = ratio_reduced n (suc e) (suc_pos e);
 }
 
--- ---- a rational is told from others by its two parts
+-- ---- numerator and denominator determine a rational number
 pub same_pairs : (x y : ℚ) → (coded× coded_ℤ coded_ℕ).code (x.num, x.den) ≡ (coded× coded_ℤ coded_ℕ).code (y.num, y.den) → x ≡ y
 same_pairs x y e = let p : ◌≡◌ {A = ℤ × ℕ} (x.num, x.den) (y.num, y.den) = (coded× coded_ℤ coded_ℕ).inj (x.num, x.den) (y.num, y.den) e in
     same_parts x y (ap (λ (t : ℤ × ℕ). t.0) p) (ap (λ (t : ℤ × ℕ). t.1) p)

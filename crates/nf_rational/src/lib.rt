@@ -1,2 +1,2 @@
-//! The rational numbers, as contracts and definitions speak of them. No code: see `specs/`.
+//! This crate defines the rational numbers of contracts and definitions, in `specs/`. The crate contains no code.
 #![tactic(auto)]

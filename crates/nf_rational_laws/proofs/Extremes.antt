@@ -5,7 +5,7 @@ use Rattle.nf_rational.specs.Order.{◌≤ℚ◌, ◌<ℚ◌, min_ℚ, max_ℚ}
 use Rattle.nf_rational_laws.proofs.Order.{≤ℚ_of_lt, ≤ℚ_of_same, ≤ℚ_antisymm, not_both_ℚ}
 use Rattle.nf_rational_laws.proofs.Tests.{min_ℚ_cases, max_ℚ_cases}
 
--- ---- what holds of both, holds of the one that it is
+-- ---- a property of both numbers holds for the one chosen
 pub min_keeps : (P : ℚ → Type 0) (x y : ℚ) → P x → P y → P (min_ℚ x y)
 min_keeps P x y p q = ⊎_elim
     (λ (w : (min_ℚ x y ≡ x) × (x ≤ℚ y)). subst P (sym w.0) p)

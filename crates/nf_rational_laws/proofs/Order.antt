@@ -89,7 +89,7 @@ less_nn x y h = nn_in _ _ (Is-less _ _ _ _ (Is-self y) (Is-self x)) (subst (λ (
 pub less_ps : (x y : ℚ) → x <ℚ y → 0ℚ <ℚ y -ℚ x
 less_ps x y h = ps_in _ _ (Is-less _ _ _ _ (Is-self y) (Is-self x)) (subst (λ (k : ℤ). pos 0 <ℤ k) (difference x.num (pos x.den) y.num (pos y.den)) (shifted_lt _ _ h.lt))
 
--- ---- what sums and products keep
+-- ---- sums and products preserve the order
 nn-sum : (a b : ℤ) → pos 0 ≤ℤ a → pos 0 ≤ℤ b → pos 0 ≤ℤ (a +ℤ b)
 nn-sum a b h k = omega (arith, ints)
 

@@ -1,4 +1,4 @@
--- What the parts of a rational say: ratios by products crosswise, and `Is x n d`, "x is n over d, reduced or not".
+-- Numerators and denominators of rationals: ratios by cross products, and `Is x n d`, "x is n over d, reduced or not".
 use Rattle.std.proofs.Common.{◌≡◌, ℕ, zero, suc, ◌*◌, ◌/◌, ◌<◌, [], ◌∷◌, refl, sym, ◌∙◌, ap, subst, arith}
 use Prim.Native.Nat.{◌∣◌}
 use native.Mathlib.Nat.{div-mul_cancel, mul_comm, dvd_antisymm, dvd-mul_left, mul-pos, mul-one}

@@ -1,4 +1,4 @@
--- What the tests of the order say, and which of two numbers is the lesser and the greater.
+-- The tests of the order, and the lesser and the greater of two numbers.
 use Rattle.std.proofs.Common.{◌≡◌, ◌⊎◌, inl, inr, ⊎_elim, Bool, true, false, not, cond, refl, ap, ◌∙◌, arith}
 use lib.IntN.{ℤ, pos, ◌*ℤ◌}
 use lib.Signed.{◌≤ℤ◌, ◌<ℤ◌, le_z}

@@ -5,27 +5,27 @@
 
 ghost use Rattle.nf_rational_laws.specs.Laws.{IsRing, HasQuotients, IsOrdered, IsDecided, RatiosAreReduced};
 
-/// Sums and products make a commutative ring.
+/// The rational numbers are a commutative ring.
 pub fn ring_laws()
     ensures { IsRing }
 {}
 
-/// Quotients undo products.
+/// Division by a number other than 0 is the inverse of multiplication.
 pub fn quotient_laws()
     ensures { HasQuotients }
 {}
 
-/// The order is total, and sums and products with positive numbers keep it.
+/// The order is total. Adding a number and multiplying by a positive number preserve the strict order.
 pub fn order_laws()
     ensures { IsOrdered }
 {}
 
-/// The tests of the order decide it, and min and max choose by it.
+/// The tests decide the order, and `min_ℚ` and `max_ℚ` return the lesser and the greater number.
 pub fn test_laws()
     ensures { IsDecided }
 {}
 
-/// Equal numbers have equal parts.
+/// Numbers with equal cross products are equal, and the ratio of a number's numerator and denominator is the number.
 pub fn reduced_laws()
     ensures { RatiosAreReduced }
 {}

@@ -1,4 +1,4 @@
--- The words of the rules of loads files and of reports.
+-- Printed names of rules.
 use Rattle.std.specs.Prelude.{ℕ, List, codes}
 use Rattle.nf_readings.specs.declared.LoadRule.{LoadRule}
 use Rattle.nf_readings.specs.declared.LoadRule.TheVariants.{L1, L2, L3, L4, L5, L6, L7, L8, L9, L10, L11, L12}

@@ -1,4 +1,4 @@
--- Of a file beside a network that breaks no rule: what each line keeps, all lines keep.
+-- A property that each line of an accepted side file preserves is preserved by all lines.
 use Rattle.std.proofs.Common.{◌≡◌, ℕ, List, [], ◌∷◌, Bool, true, false, Option, Some, None, Result, Ok, Err, refl, subst}
 use Rattle.nf_work.specs.Checked.{◌>>=◌}
 use Rattle.nf_lines.specs.Words.{ReadLine, read_lines, content_lines}

@@ -1,4 +1,4 @@
--- What is answered of a text, by what it reads as.
+-- The answer for a text, by its reading.
 use Rattle.std.proofs.Common.{◌≡◌, ℕ, List, Result, Ok, Err, MatchResult, IfOk, sym, ap, ◌∙◌}
 use Rattle.nf_plain_laws.proofs.Results.{same_Ok}
 use Rattle.nf_formats.specs.Named.{Named}

@@ -1,4 +1,4 @@
--- The lines of a report behind its head.
+-- The lines of a report after its head.
 use Rattle.std.proofs.Common.{◌≡◌, ◌≢◌, ℕ, suc, ◌<◌, ◌≤◌, Bool, true, false, not, ◌||◌, cond, nat_lt, List, [], ◌∷◌, length, drop, Option, Some, None, Result, Ok, Err, refl, sym, ap, ◌∙◌, arith}
 use Rattle.std.specs.Prelude.{is_none, is_some, if◌then◌else◌, set}
 use Rattle.std.proofs.lemmas.Bool.{le-ltb}

@@ -87,7 +87,7 @@ seen_with n d curves current = record {
 }
 
 module _ (n : Named) (d : Draft) where
-  -- the curve that was being read is one of those that were read
+  -- the current curve becomes a complete one
   pub closed_is : (curves : List (Option Trace)) (current : Option Trace) (trace : Trace) → d.current ≡ Some trace → current ≡ None → curves ≡ d.done.items ++ Some trace ∷ []
       → seen_with n d curves current ≡ closed (seen_draft n d)
   closed_is curves current trace some none e =
@@ -225,7 +225,7 @@ done_few n d within = by_current d.current within.curves
     by_current None h = h
     by_current (Some trace) h = omega (arith, h)
 
--- ---- nothing stands just for idle nodes
+-- ---- only idle nodes have no curve
 none_behind : (curves : List (Option Trace)) (curve : Option Trace) (i : ℕ) → slice_get (curves ++ curve ∷ []) i ≡ Some None → (slice_get curves i ≡ Some None) ⊎ ((i ≡ length curves) × (curve ≡ None))
 none_behind [] curve zero e = inr (refl, same curve e)
   where

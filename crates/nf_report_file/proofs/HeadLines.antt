@@ -1,4 +1,4 @@
--- The lines of a report's head, by what stands behind the first word.
+-- The lines of a report's head, by the words after the first one.
 use Rattle.std.proofs.Common.{◌≡◌, ℕ, ◌<◌, Bool, true, false, not, ◌||◌, cond, List, length, drop, Result, Ok, Err, refl, ◌∙◌, ap, bytes_eq, codes}
 use Rattle.std.specs.Prelude.{Option, Some, None, is_none, is_some}
 use Rattle.std.specs.Bool.{beq}

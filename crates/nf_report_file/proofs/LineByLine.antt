@@ -1,4 +1,4 @@
--- Lines that are read one after the other, with the line behind each.
+-- Reading lines in order, each together with the line after it.
 use Rattle.std.proofs.Common.{◌≡◌, ℕ, suc, List, [], ◌∷◌, length, map, Option, Some, None, option_map, Result, Ok, Err, MatchOption, sym, ap, subst, ◌∙◌, arith}
 use Rattle.std.proofs.lemmas.List.{length-map}
 use Rattle.nf_work.specs.Checked.{◌>>=◌}

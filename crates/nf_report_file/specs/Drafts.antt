@@ -1,4 +1,4 @@
--- What is read of a report so far, as the definitions have it.
+-- The view of the parser state in contracts.
 use Rattle.std.specs.Prelude.{◌≡◌, ℕ, ◌+◌, ◌≤◌, List, [], ◌∷◌, length, drop, Option, Some, None, slice_get}
 use Rattle.nf_curve.specs.declared.flow.Trace.{Trace}
 use Rattle.nf_formats.specs.Named.{Named}
@@ -18,12 +18,12 @@ seen_stage Body = lines.InBody
 seen_stage End = lines.AtEnd
 
 -- ---- curves, by the keys of their numbers
--- a curve with its rates, or nothing for an idle node
+-- returns a curve with its rates, or no points for an idle node
 abbrev pub seen_curve : CurveKey → Option Trace → ReadCurve
 seen_curve key None = record { key = key; points = []; rates = [] }
 seen_curve key (Some trace) = record { key = key; points = trace.curve.points; rates = trace.rates.items }
 
--- the curves from a number on
+-- the curves from this number on
 abbrev pub seen_done : Named → ℕ → List (Option Trace) → List ReadCurve
 seen_done n index [] = []
 seen_done n index (curve ∷ curves) = seen_curve (key_at n index) curve ∷ seen_done n (index + 1) curves
@@ -32,7 +32,7 @@ abbrev pub seen_current : CurveKey → Option Trace → Option ReadCurve
 seen_current key None = None
 seen_current key (Some trace) = Some (seen_curve key (Some trace))
 
--- how many curves begin with a point so far
+-- the number of curves that have begun
 abbrev pub with_open : ℕ → Option Trace → ℕ
 with_open done None = done
 with_open done (Some trace) = done + 1
@@ -53,11 +53,11 @@ seen_draft n d = record {
   states = d.states;
 }
 
--- nothing stands just for idle nodes
+-- only idle nodes have no curve
 abbrev pub LacksIdleOnly : Named → List (Option Trace) → Type 0
 LacksIdleOnly n curves = (i : ℕ) → slice_get curves i ≡ Some None → (key_at n i).kind ≡ lines.OfNever
 
--- no more curves than the network has, none missing, and a state or none for each link
+-- the state has at most the network's curves, lacks only those of idle nodes, and has an entry for each link
 pub record IsWithin (n : Named) (draft : Draft) : Type 0 where
   pub curves : begun_count draft ≤ length (curve_keys n)
   pub idle : LacksIdleOnly n draft.done.items

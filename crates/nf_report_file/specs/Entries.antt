@@ -1,4 +1,4 @@
--- What a line of a report says, and the draft behind it.
+-- Lines of a report, and their effects.
 use Rattle.std.specs.Prelude.{◌≡◌, suc, ◌<◌, true, List, [], ◌∷◌, ◌++◌, length, set, Option, Some, None, IsSome, Result, Ok, Err}
 use Rattle.std.specs.List.{last_or}
 use Rattle.nf_formats.specs.Named.{Named}
@@ -10,18 +10,18 @@ use Rattle.nf_report_file.specs.declared.entry.Opening.TheVariants.{GoesOn, Begi
 use Rattle.nf_report_file.specs.declared.entry.Entry.{Entry}
 use Rattle.nf_report_file.specs.declared.entry.Entry.TheVariants.{Version, Horizon, Reached, Cause, OfCurve, Never, OfLink, End}
 
--- of a line that says such a thing, or breaks a rule
+-- applies f to the meaning of a line, and returns a broken rule unchanged
 abbrev pub said_by : {A B : Type 0} → (A → B) → Result A ReportRule → Result B ReportRule
 said_by f (Ok x) = Ok (f x)
 said_by f (Err rule) = Err rule
 
--- ---- the curve that a line adds to
--- the next curve, with no point, behind those that were read
+-- ---- the curve that a line extends
+-- the next curve, without points, after the complete ones
 abbrev pub begun_by : List ReadCurve → List CurveKey → Opened
 begun_by done [] = record { curve = record { key = key_of lines.OfNever []; points = []; rates = [] }; done = done; keys = [] }
 begun_by done (key ∷ keys) = record { curve = record { key = key; points = []; rates = [] }; done = done; keys = keys }
 
--- the curve that is being read
+-- the current curve
 abbrev pub going_on : List ReadCurve → Option ReadCurve → List CurveKey → Opened
 going_on done None keys = begun_by done keys
 going_on done (Some curve) keys = record { curve = curve; done = done; keys = keys }
@@ -30,13 +30,13 @@ abbrev pub opened_by : ReportDraft → Opening → Opened
 opened_by draft Begins = begun_by (with_current draft.done draft.current) draft.keys
 opened_by draft GoesOn = going_on draft.done draft.current draft.keys
 
--- there is such a curve
+-- the current or next curve exists
 abbrev pub CanOpen : ReportDraft → Opening → Type 0
 CanOpen draft Begins = 0 < length draft.keys
 CanOpen draft GoesOn = IsSome draft.current
 
--- ---- the draft behind a line
--- no curve is being read any more
+-- ---- the parser state after a line
+-- completes the current curve
 abbrev pub closed : ReportDraft → ReportDraft
 closed draft = record draft { done = with_current draft.done draft.current; current = None }
 
@@ -54,12 +54,12 @@ drafted n draft (OfLink link state) =
     record (closed draft) { next_state = suc link; states = set draft.states link (Some state) }
 drafted n draft End = record (closed draft) { stage = lines.AtEnd }
 
--- an idle node comes next
+-- the next curve is an idle node
 abbrev pub IsNeverNext : List CurveKey → Type 0
 IsNeverNext [] = ⊥
 IsNeverNext (key ∷ keys) = key.kind ≡ lines.OfNever
 
--- the points of a curve have rising times, an idle node comes where one is passed, and links are of the network
+-- times of points increase, a `never` line belongs to the next curve, and a link belongs to the network
 abbrev pub Fits : Named → ReportDraft → Entry → Type 0
 Fits n draft (OfCurve opening p) = CanOpen draft opening × (comes_after (last_or None (opened_by draft opening).curve.points) p.time ≡ true)
 Fits n draft Never = IsNeverNext draft.keys

@@ -1,4 +1,4 @@
--- Reports that are read, and rules that they break.
+-- Reports and faults in contracts.
 use Rattle.std.specs.Prelude.{◌≡◌, Result, Ok, Err}
 use Rattle.nf_work.specs.Checked.{◌>>=◌}
 use Rattle.nf_curve.specs.Flows.{flow_of}
@@ -8,20 +8,20 @@ use Rattle.nf_readings.specs.ReportFile.{ReportBroken, if_at_end}
 use Rattle.nf_report_file.specs.declared.report.Report.{Report}
 use Rattle.nf_report_file.specs.declared.fault.ReportFault.{ReportFault}
 
--- of a rule that is broken in a line, unless memory is wanting
+-- P holds of the broken rule, unless an allocation failed
 abbrev pub IfBroken : ReportFault → (ReportBroken → Type 0) → Type 0
 IfBroken (ReportFault.Broken rule line) P = P (record { rule = rule; line = line })
 IfBroken ReportFault.Memory P = Unit {0}
 
--- what was read, at the end of the text
+-- returns the report of the parser state at the end of the text
 abbrev pub closed_by : Result ReportDraft ReportBroken → Result formats.Report ReportBroken
 closed_by read = read >>= λ draft. if_at_end draft.stage draft
 
--- the report that a value stands for
+-- the report that a value represents
 abbrev pub report_of : Report → formats.Report
 report_of r = record { horizon = r.horizon; flow = flow_of r.flow; stop = r.stopped; last = r.last }
 
--- this report is answered, unless memory is wanting
+-- the result is this report, unless an allocation failed
 abbrev pub Shows : formats.Report → Result Report ReportFault → Type 0
 Shows report (Ok read) = report_of read ≡ report
 Shows report (Err (ReportFault.Broken rule line)) = ⊥

@@ -1,4 +1,4 @@
--- The keys of a report's curves, by their numbers.
+-- The keys of a report's curves, by number.
 use Rattle.std.specs.Prelude.{ℕ, zero, suc, Bool, false, List, [], ◌∷◌, flat_map, Option, Some, None, slice_get, unwrap_or}
 use Rattle.nf_formats.specs.Names.{Name}
 use Rattle.nf_formats.specs.Named.{Named}
@@ -22,20 +22,20 @@ seen_key key = key_of (seen_kind key.kind) key.name.now
 abbrev pub link_keys : List Name → List CurveKey
 link_keys names = flat_map (λ name. key_of lines.OfInflow name ∷ key_of lines.OfOutflow name ∷ key_of lines.OfQueue name ∷ []) names
 
--- the key of the curve of a number, if there is one
+-- returns the key of the curve with this number, if there is one
 abbrev pub key_of_number : Named → ℕ → Option CurveKey
 key_of_number n index = slice_get (curve_keys n) index
 
--- the same where there is one
+-- returns the key of the curve with this number, or an arbitrary key
 abbrev pub key_at : Named → ℕ → CurveKey
 key_at n index = unwrap_or (slice_get (curve_keys n) index) (key_of lines.OfNever [])
 
--- there is a key, of this kind and name
+-- the key exists and has this kind and name
 abbrev pub is_some_key : lines.Kind → Name → Option CurveKey → Bool
 is_some_key kind name None = false
 is_some_key kind name (Some key) = is_key kind name key
 
--- the kind of a link's curve by its number among the three
+-- returns the kind of a link's curve, by its number among the three
 abbrev pub kind_of_three : ℕ → lines.Kind
 kind_of_three zero = lines.OfInflow
 kind_of_three (suc zero) = lines.OfOutflow

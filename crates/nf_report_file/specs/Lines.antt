@@ -1,4 +1,4 @@
--- What lines of a report tell of.
+-- Kinds of lines of a report.
 use Rattle.std.specs.Prelude.{◌≡◌, ℕ, ◌<◌, true, List, length, Option, Some, None, Result}
 use Rattle.nf_rational.specs.Rational.{ℚ}
 use Rattle.nf_work.specs.Checked.{◌>>=◌}
@@ -20,16 +20,16 @@ seen_line_kind LineKind.Never = lines.OfCurve lines.OfNever
 seen_line_kind LineKind.State = lines.OfState
 seen_line_kind LineKind.End = lines.OfEnd
 
--- the words of the line that comes next, if there is one
+-- the words of the next line, if there is one
 abbrev pub words_behind : Option ReadLine → Option (List (List ℕ))
 words_behind None = None
 words_behind (Some line) = Some line.words
 
--- the state of a link with this capacity
+-- reads the state of a link with this capacity
 abbrev pub state_read : Option ℚ → List ℕ → Result State ReportRule
 state_read capacity word = or_rule P9 (lines.state_in word) >>= lines.state_of_link capacity
 
--- a name is there, at this place
+-- the list contains the name, and its index is `link`
 pub record IsLinkNamed (names : List Name) (name : Name) (link : ℕ) : Type 0 where
   pub there : has_name names name ≡ true
   pub place : place_of names name ≡ link

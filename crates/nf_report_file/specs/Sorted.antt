@@ -1,4 +1,4 @@
--- Curves by what they tell of.
+-- The curves of a report, by kind.
 use Rattle.std.specs.Prelude.{◌≡◌, List, map}
 use Rattle.nf_curve.specs.Flows.{trace_of}
 use Rattle.nf_readings.specs.ReportLines.{OfLabel, OfInflow, OfOutflow, OfQueue, ReadCurve}

@@ -1,4 +1,4 @@
-// The lines of a report behind its head.
+// The lines of a report after its head.
 ghost use Rattle.std.specs.Prelude.{◌≡◌, ◌<◌, false, length, drop, option_map, IfOk, MatchOption};
 ghost use Rattle.std.specs.Option.{option_copied};
 ghost use Rattle.nf_formats.specs.Names.{has_name};
@@ -17,7 +17,7 @@ use nf_net::{LinkId, Network};
 use nf_readings::ReportRule;
 use nf_text::{ReadLine, is_word};
 
-/// What a line behind the head tells of.
+/// The kind of a line after the head.
 #[derive(Clone, Copy)]
 pub enum LineKind {
     Label,
@@ -29,7 +29,7 @@ pub enum LineKind {
     End,
 }
 
-// What a line tells of by its first word, of which `never` comes with version 2.
+// Returns the kind of a line, given its first word. `never` is a keyword from version 2 on.
 fn kind_of_line(version: u32, word: &[u8]) -> Option<LineKind>
     ensures { option_map seen_line_kind result ≡ line_kind version word.now }
 {
@@ -66,12 +66,12 @@ fn state_named(word: &[u8]) -> Option<State>
     }
 }
 
-// The link that a word names.
+// Returns the link that a word names.
 #[tactic(auto, using(crate::proofs::LinkNames::is_there, crate::proofs::LinkNames::no_text))]
 fn link_of(net: &Network, word: &[u8]) -> Option<LinkId>
     ensures { MatchOption result (has_name net.now.link_names word.now ≡ false) (λ link. IsLinkNamed net.now.link_names word.now link) }
 {
-    // For the proof: names of links differ.
+    // Proof: the names of links differ.
     net.recall();
     match std::str::from_utf8(word) {
         Ok(name) => net.link_named(name),
@@ -79,7 +79,7 @@ fn link_of(net: &Network, word: &[u8]) -> Option<LinkId>
     }
 }
 
-// The state of a link, or else P9.
+// Reads the state of a link. Fails with P9 if the word is unknown, or if an unbounded link is full.
 fn read_state(net: &Network, link: LinkId, word: &[u8]) -> Result<State, ReportRule>
     requires { link < length net.now.net.links }
     ensures { result ≡ state_read (capacity_at net.now.net.links link) word.now }
@@ -90,7 +90,7 @@ fn read_state(net: &Network, link: LinkId, word: &[u8]) -> Result<State, ReportR
     }
 }
 
-// The line behind another one begins with these two words.
+// Returns whether the next line begins with the word of this kind and this name.
 fn goes_on(next: Option<&ReadLine>, kind: Kind, name: &[u8]) -> bool
     ensures { result ≡ begins_with (key_word (seen_kind kind)) name.now (words_behind (option_copied next.entry)) }
 {
@@ -102,7 +102,7 @@ fn goes_on(next: Option<&ReadLine>, kind: Kind, name: &[u8]) -> bool
     }
 }
 
-// Both, or neither.
+// Returns whether both are equal.
 fn are_alike(left: bool, right: bool) -> bool
     ensures { result ≡ are_alike_by left right }
 {
@@ -110,7 +110,7 @@ fn are_alike(left: bool, right: bool) -> bool
 }
 
 impl Draft {
-    // `label NODE TIME VALUE` and `queue LINK TIME VALUE`
+    // Reads `label NODE TIME VALUE` and `queue LINK TIME VALUE`.
     fn read_point(&self, net: &Network, kind: Kind, line: &ReadLine) -> Result<Entry, ReportRule>
         requires words { 0 < length line.now.words }
         requires within { IsWithin net.now self.now }
@@ -137,8 +137,7 @@ impl Draft {
         ))
     }
 
-    // `inflow LINK TIME VALUE RATE` and `outflow`: there is no rate just on the last point of a curve, behind which the next line begins
-    // otherwise.
+    // Reads `inflow LINK TIME VALUE RATE` and `outflow ..`. The rate is `-` exactly if the next line does not continue this curve.
     fn read_rated(
         &self,
         net: &Network,
@@ -173,7 +172,7 @@ impl Draft {
         Ok(Entry::OfCurve(opening, RatedPoint { time, value, rate }))
     }
 
-    // `never NODE`
+    // Reads `never NODE`.
     fn read_never(&self, net: &Network, line: &ReadLine) -> Result<Entry, ReportRule>
         requires words { 0 < length line.now.words }
         requires within { IsWithin net.now self.now }
@@ -190,7 +189,7 @@ impl Draft {
         Ok(Entry::Never)
     }
 
-    // `state LINK STATE`
+    // Reads `state LINK STATE`.
     fn read_state(&self, net: &Network, line: &ReadLine) -> Result<Entry, ReportRule>
         requires words { 0 < length line.now.words }
         requires within { IsWithin net.now self.now }
@@ -201,7 +200,7 @@ impl Draft {
         if line.len() != 3 {
             return Err(ReportRule::P6);
         }
-        // For the proof: each link has a name.
+        // Proof: each link has a name.
         net.recall();
         let link = match link_of(net, line.at(1)) {
             Some(link) if link.0 >= self.next_state => link,
@@ -217,7 +216,7 @@ impl Draft {
         Ok(Entry::OfLink(link, state))
     }
 
-    // `end`
+    // Reads `end`.
     fn read_end(&self, net: &Network, line: &ReadLine) -> Result<Entry, ReportRule>
         requires words { 0 < length line.now.words }
         requires within { IsWithin net.now self.now }
@@ -234,7 +233,7 @@ impl Draft {
         Ok(Entry::End)
     }
 
-    /// What a line behind the head says, or the first rule that it breaks; `next` is the line behind it.
+    /// Returns the meaning of a line after the head, or the first rule that the line breaks. `next` is the line after it.
     pub fn read_body(
         &self,
         net: &Network,

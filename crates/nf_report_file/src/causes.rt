@@ -51,7 +51,7 @@ fn op_named(word: &[u8]) -> Option<Op>
     }
 }
 
-// A part of the work, or else P9.
+// Reads a part of the work. Otherwise fails with P9.
 fn read_part(word: &[u8]) -> Result<Part, ReportRule>
     ensures { result ≡ or_rule P9 (part_of word.now) }
 {
@@ -61,7 +61,7 @@ fn read_part(word: &[u8]) -> Result<Part, ReportRule>
     }
 }
 
-// An operation, or else P9.
+// Reads an operation. Otherwise fails with P9.
 fn read_op(word: &[u8]) -> Result<Op, ReportRule>
     ensures { result ≡ or_rule P9 (op_of word.now) }
 {
@@ -71,7 +71,7 @@ fn read_op(word: &[u8]) -> Result<Op, ReportRule>
     }
 }
 
-// `cause done`
+// Reads `cause done`.
 fn read_done(line: &ReadLine) -> Result<Option<Stop>, ReportRule>
     requires { 1 < length line.now.words }
     ensures { result ≡ done_cause (drop 2 line.now.words) }
@@ -82,7 +82,7 @@ fn read_done(line: &ReadLine) -> Result<Option<Stop>, ReportRule>
     Ok(None)
 }
 
-// `cause phases MADE`
+// Reads `cause phases MADE`.
 fn read_phases(line: &ReadLine) -> Result<Option<Stop>, ReportRule>
     requires { 1 < length line.now.words }
     ensures { result ≡ phases_cause (drop 2 line.now.words) }
@@ -94,7 +94,7 @@ fn read_phases(line: &ReadLine) -> Result<Option<Stop>, ReportRule>
     Ok(Some(Stop::Phases { made }))
 }
 
-// `cause patterns PHASE TRIED`
+// Reads `cause patterns PHASE TRIED`.
 fn read_patterns(line: &ReadLine) -> Result<Option<Stop>, ReportRule>
     requires { 1 < length line.now.words }
     ensures { result ≡ patterns_cause (drop 2 line.now.words) }
@@ -107,7 +107,7 @@ fn read_patterns(line: &ReadLine) -> Result<Option<Stop>, ReportRule>
     Ok(Some(Stop::Patterns { phase, tried }))
 }
 
-// `cause nopattern PHASE`
+// Reads `cause nopattern PHASE`.
 fn read_no_pattern(line: &ReadLine) -> Result<Option<Stop>, ReportRule>
     requires { 1 < length line.now.words }
     ensures { result ≡ nopattern_cause (drop 2 line.now.words) }
@@ -119,7 +119,7 @@ fn read_no_pattern(line: &ReadLine) -> Result<Option<Stop>, ReportRule>
     Ok(Some(Stop::NoPattern { phase }))
 }
 
-// The words behind `passed`: the numbers are read before the words.
+// Reads the words after `passed`. Reads the numbers before the words.
 fn read_operation(
     phase: &[u8],
     part: &[u8],
@@ -148,7 +148,7 @@ fn read_operation(
     }))
 }
 
-// `cause passed PHASE PART PLACE OP LEFT RIGHT`
+// Reads `cause passed PHASE PART PLACE OP LEFT RIGHT`.
 fn read_passed(line: &ReadLine) -> Result<Option<Stop>, ReportRule>
     requires { 1 < length line.now.words }
     ensures { result ≡ passed_cause (drop 2 line.now.words) }
@@ -166,7 +166,7 @@ fn read_passed(line: &ReadLine) -> Result<Option<Stop>, ReportRule>
     )
 }
 
-/// Why the run of a report stopped, by the words of its line behind the first: or P6, P8 or P9, by what the words are.
+/// Reads the words of a `cause` line. Returns None for `done`, and otherwise the cause of the stop. Fails with P6, P8 or P9.
 pub fn read_cause(line: &ReadLine) -> Result<Option<Stop>, ReportRule>
     requires { 0 < length line.now.words }
     ensures { result ≡ cause_in (drop 1 line.now.words) }

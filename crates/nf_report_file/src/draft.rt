@@ -1,4 +1,4 @@
-// What is read of a report so far.
+// The parser state of a report.
 ghost use Rattle.std.specs.Prelude.{◌≡◌, true, ◌+◌, ◌<◌, ◌≤◌, [], ◌∷◌, ◌++◌, length, IfOk, OnOk, IsSome, IfSome};
 ghost use Rattle.std.specs.List.{last_or};
 ghost use Rattle.nf_formats.specs.Named.{Named};
@@ -17,7 +17,7 @@ use nf_net::{LinkId, Network};
 use nf_pattern::Pattern;
 use std::alloc::{AllocError, Global};
 
-/// The line that comes next: one of the head, one behind it, or one behind `end`.
+/// The expected line is one of the head, one after the head, or none after `end`.
 #[derive(Clone, Copy)]
 pub enum Stage {
     Version,
@@ -28,8 +28,8 @@ pub enum Stage {
     End,
 }
 
-/// What the lines so far say: the head, the curves by their numbers, with nothing for an idle node, the curve that is being read, and
-/// the states of the links.
+/// The parser state after some lines. The fields hold the numbers of the head, the complete curves by number (None for an idle node), the
+/// current curve, and the states of the links. `next_state` is the least number of a link that a `state` line may name next.
 #[derive(Drop)]
 pub struct Draft {
     pub stage: Stage,
@@ -42,7 +42,7 @@ pub struct Draft {
     pub states: Pattern,
 }
 
-// The rates with one more, if it is there.
+// Appends a rate, if there is one.
 fn push_rate(rates: &mut Vec<Q>, rate: Option<Q>) -> Result<(), AllocError>
     ensures { OnOk result (rates.new.items ≡ with_rate rates.old.items rate) }
 {
@@ -52,7 +52,7 @@ fn push_rate(rates: &mut Vec<Q>, rate: Option<Q>) -> Result<(), AllocError>
     Ok(())
 }
 
-// A curve that begins with a point at time 0.
+// Begins a curve with a point at time 0.
 fn begun(alloc: Global, point: &RatedPoint) -> Result<Trace, AllocError>
     requires { comes_after None point.now.time ≡ true }
     ensures points { IfOk result (λ trace. trace.curve.points ≡ (point.now.time, point.now.value) ∷ []) }
@@ -64,25 +64,25 @@ fn begun(alloc: Global, point: &RatedPoint) -> Result<Trace, AllocError>
     Ok(Trace { curve, rates })
 }
 
-// A point goes behind the others of a curve.
+// Appends a point to a curve. Its time must be later than those of the curve's points.
 fn put_behind(trace: &mut Trace, point: &RatedPoint) -> Result<(), AllocError>
     requires { comes_after (last_or None trace.old.curve.points) point.now.time ≡ true }
     ensures points { OnOk result (trace.new.curve.points ≡ trace.old.curve.points ++ (point.now.time, point.now.value) ∷ []) }
     ensures rates { OnOk result (trace.new.rates.items ≡ with_rate trace.old.rates.items point.now.rate) }
 {
-    // For the proof: a curve has a point.
+    // Proof: a curve has a point.
     let _ = trace.curve.len();
     push_rate(&mut trace.rates, point.rate)?;
     trace.curve.push(point.time, point.value)
 }
 
 impl Draft {
-    /// Nothing is read.
+    /// Returns the state before the first line.
     pub fn new(alloc: Global, net: &Network) -> Result<Draft, AllocError>
         ensures draft { IfOk result (λ draft. seen_draft net.now draft ≡ empty_report net.now) }
         ensures within { IfOk result (λ draft. IsWithin net.now draft) }
     {
-        // For the proof: each link has a name.
+        // Proof: each link has a name.
         net.recall();
         Ok(Draft {
             stage: Stage::Version,
@@ -96,14 +96,14 @@ impl Draft {
         })
     }
 
-    /// How many curves were read, without the one that is being read.
+    /// Returns the number of complete curves, without the current one.
     pub fn done_count(&self) -> usize
         ensures { result ≡ length self.now.done.items }
     {
         self.done.len()
     }
 
-    /// How many curves have begun.
+    /// Returns the number of curves that have begun, including the current one.
     pub fn begun_count(&self) -> usize
         requires { begun_count self.now < 18446744073709551616 }
         ensures { result ≡ begun_count self.now }
@@ -114,7 +114,7 @@ impl Draft {
         }
     }
 
-    /// Every curve of the network has begun.
+    /// Returns whether every curve of the network has begun.
     pub fn has_all(&self, net: &Network) -> bool
         requires { IsWithin net.now self.now }
         ensures { result ≡ has_all_by (seen_draft net.now self.now).keys }
@@ -122,7 +122,7 @@ impl Draft {
         self.begun_count() == curve_count(net)
     }
 
-    // The curve that is being read is one of those that were read.
+    // Moves the current curve, if there is one, to the complete curves.
     fn close(&mut self) -> Result<(), AllocError>
         ensures draft { OnOk result ((n : Named) → seen_draft n self.new ≡ closed (seen_draft n self.old)) }
         ensures count { OnOk result (length self.new.done.items ≡ begun_count self.old) }
@@ -136,7 +136,7 @@ impl Draft {
         Ok(())
     }
 
-    // A curve begins with a point, behind the others.
+    // Completes the current curve, and begins the next one with a point.
     fn begin(&mut self, alloc: Global, point: &RatedPoint) -> Result<(), AllocError>
         requires { comes_after None point.now.time ≡ true }
         ensures draft { OnOk result ((n : Named) → begun_count self.old < length (curve_keys n)
@@ -150,7 +150,7 @@ impl Draft {
         Ok(())
     }
 
-    // The curve that is being read goes on with a point.
+    // Appends a point to the current curve.
     fn go_on(&mut self, point: &RatedPoint) -> Result<(), AllocError>
         requires some { IsSome self.old.current }
         requires later { IfSome self.old.current (λ trace. comes_after (last_or None trace.curve.points) point.now.time ≡ true) }
@@ -165,7 +165,7 @@ impl Draft {
         }
     }
 
-    // A point of the curve that is being read, or of the next one.
+    // Appends a point to the current curve, or begins the next curve with it.
     fn add_point(
         &mut self,
         alloc: Global,
@@ -179,7 +179,7 @@ impl Draft {
             (seen_draft net.now self.new ≡ drafted net.now (seen_draft net.now self.old) (OfCurve opening point.now)) }
         ensures within { OnOk result (IsWithin net.now self.new) }
     {
-        // For the proof: the clauses speak of the network's curves.
+        // Proof: the clauses refer to the network's curves.
         let _ = net;
         match opening {
             Opening::Begins => self.begin(alloc, point),
@@ -187,28 +187,28 @@ impl Draft {
         }
     }
 
-    // An idle node is passed.
+    // Completes the current curve, and adds an idle node, which has no curve.
     fn add_never(&mut self, net: &Network) -> Result<(), AllocError>
         requires within { IsWithin net.now self.old }
         requires fits { Fits net.now (seen_draft net.now self.old) Never }
         ensures draft { OnOk result (seen_draft net.now self.new ≡ drafted net.now (seen_draft net.now self.old) Never) }
         ensures within { OnOk result (IsWithin net.now self.new) }
     {
-        // For the proof: the clauses speak of the network's curves.
+        // Proof: the clauses refer to the network's curves.
         let _ = net;
         self.close()?;
         self.done.push(None)?;
         Ok(())
     }
 
-    // A link has a state.
+    // Completes the current curve, and sets the state of a link.
     fn add_state(&mut self, net: &Network, link: LinkId, state: State) -> Result<(), AllocError>
         requires within { IsWithin net.now self.old }
         requires fits { Fits net.now (seen_draft net.now self.old) (OfLink link state) }
         ensures draft { OnOk result (seen_draft net.now self.new ≡ drafted net.now (seen_draft net.now self.old) (OfLink link state)) }
         ensures within { OnOk result (IsWithin net.now self.new) }
     {
-        // For the proof: links are few.
+        // Proof: the number of links is small.
         net.recall();
         self.close()?;
         self.next_state = link.0 + 1;
@@ -216,20 +216,20 @@ impl Draft {
         Ok(())
     }
 
-    // The last line is read.
+    // Completes the current curve, and marks the report as ended.
     fn add_end(&mut self, net: &Network) -> Result<(), AllocError>
         requires { IsWithin net.now self.old }
         ensures draft { OnOk result (seen_draft net.now self.new ≡ drafted net.now (seen_draft net.now self.old) End) }
         ensures within { OnOk result (IsWithin net.now self.new) }
     {
-        // For the proof: the clauses speak of the network's curves.
+        // Proof: the clauses refer to the network's curves.
         let _ = net;
         self.close()?;
         self.stage = Stage::End;
         Ok(())
     }
 
-    /// Adds what a line says.
+    /// Applies the meaning of a line to the state. Fails only if an allocation fails.
     pub fn add(&mut self, alloc: Global, net: &Network, entry: &Entry) -> Result<(), AllocError>
         requires within { IsWithin net.now self.old }
         requires fits { Fits net.now (seen_draft net.now self.old) entry.now }

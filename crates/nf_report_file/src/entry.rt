@@ -1,17 +1,17 @@
-// What a line of a report says by itself and behind the lines before it.
+// The meaning of a line of a report.
 use nf_curve::Stop;
 use nf_frac::Q;
 use nf_model::State;
 use nf_net::LinkId;
 
-/// Which curve a line adds to: the one that is being read, or the next.
+/// The curve that a line extends. `GoesOn` means the current curve, and `Begins` the next one.
 #[derive(Clone, Copy)]
 pub enum Opening {
     GoesOn,
     Begins,
 }
 
-/// A point of a curve, and the rate from it on, where the line has one.
+/// A point of a curve. `rate` is the slope to the next point, if the line has one.
 #[derive(Clone, Copy)]
 pub struct RatedPoint {
     pub time: Q,
@@ -19,7 +19,7 @@ pub struct RatedPoint {
     pub rate: Option<Q>,
 }
 
-/// What a line says.
+/// The meaning of a line.
 #[derive(Drop)]
 pub enum Entry {
     Version,

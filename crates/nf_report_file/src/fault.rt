@@ -1,4 +1,4 @@
-// Why a report is refused.
+// Faults of reports.
 ghost use Rattle.std.specs.Prelude.{◌≡◌};
 ghost use Rattle.nf_report_file.specs.declared.fault.ReportFault.TheVariants as ReportFault;
 
@@ -6,13 +6,13 @@ use nf_readings::ReportRule;
 use std::alloc::{AllocError, AllocFailed};
 use thiserror::Error;
 
-/// Why a text is no report.
+/// The reason why a text is not a report.
 #[derive(Clone, Copy, Debug, Error)]
 pub enum ReportFault {
-    /// This rule is the first that is broken, seen in this line; 0 stands for the file as a whole.
+    /// This rule is the first broken one, in this line. Line 0 means the whole file.
     #[error("line {line} breaks {rule:?}")]
     Broken { rule: ReportRule, line: u32 },
-    /// Memory is wanting.
+    /// An allocation failed.
     #[error("memory is wanting")]
     Memory,
 }

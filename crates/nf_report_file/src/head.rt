@@ -18,7 +18,7 @@ use nf_numerals::write_count;
 use nf_readings::ReportRule;
 use nf_text::{ReadLine, is_word};
 
-// A word is the network's version.
+// Returns whether the word is the decimal form of this number.
 fn is_number(word: &[u8], number: u64) -> bool
     ensures { result ≡ bytes_eq word.now (digits_of number) }
 {
@@ -27,7 +27,7 @@ fn is_number(word: &[u8], number: u64) -> bool
     is_word(word, text.text())
 }
 
-/// Whether a line is `report`, with the version of the network.
+/// Returns whether a line is `report` with the version of the network.
 pub fn is_version(net: &Network, line: &ReadLine) -> bool
     ensures { result ≡ is_version_by net.now line.now.words }
 {
@@ -36,7 +36,7 @@ pub fn is_version(net: &Network, line: &ReadLine) -> bool
         && is_number(line.at(1), u64::from(net.version()))
 }
 
-// The number of a line of two words.
+// Returns the number of a line that has exactly two words. Fails with P6 or P8.
 fn second_number(line: &ReadLine) -> Result<Q, ReportRule>
     requires { 0 < length line.now.words }
     ensures { result ≡ number_alone (drop 1 line.now.words) }
@@ -47,7 +47,7 @@ fn second_number(line: &ReadLine) -> Result<Q, ReportRule>
     read_number(line.at(1))
 }
 
-/// The number of the line `horizon`; or P5, P6, P8 or P10, the first in this order.
+/// Reads the line `horizon`. Fails with the first broken rule of P5, P6, P8 and P10.
 pub fn read_horizon(line: &ReadLine) -> Result<Q, ReportRule>
     requires { 0 < length line.now.words }
     ensures { (draft : ReportDraft) → horizon_line draft line.now.words
@@ -64,7 +64,7 @@ pub fn read_horizon(line: &ReadLine) -> Result<Q, ReportRule>
 }
 
 impl Draft {
-    /// The number of the line `reached`; or P5, P6, P8 or P10, the first in this order.
+    /// Reads the line `reached`. Fails with the first broken rule of P5, P6, P8 and P10.
     pub fn read_reached(&self, line: &ReadLine) -> Result<Q, ReportRule>
         requires { 0 < length line.now.words }
         ensures { (n : Named) → reached_line (seen_draft n self.now) line.now.words
@@ -80,7 +80,7 @@ impl Draft {
         Ok(reached)
     }
 
-    /// Why the run stopped, by the line `cause`; or P5, P6, P8, P9 or P10, the first in this order.
+    /// Reads the line `cause`. Returns None for `done`. Fails with P5, P6, P8, P9 or P10. P5 is tested first, and P10 last.
     pub fn read_stop(&self, line: &ReadLine) -> Result<Option<Stop>, ReportRule>
         requires { 0 < length line.now.words }
         ensures { (n : Named) → cause_line (seen_draft n self.now) line.now.words

@@ -1,5 +1,5 @@
-// The curves of a report, by their numbers: first the labels of the nodes, then the idle nodes, then of each link its inflow, its
-// outflow and its queue.
+// The curves of a report, by number. The labels of the nodes precede the idle nodes. The inflow, the outflow and the queue of each link
+// follow.
 ghost use Rattle.std.specs.Prelude.{◌≡◌, ◌<◌, length, option_map, slice_get};
 ghost use Rattle.nf_readings.specs.ReportLines.{key_word, curve_keys};
 ghost use Rattle.nf_report_file.specs.Keys.{seen_kind, seen_key, key_of_number, link_keys, is_some_key, kind_of_three as kind_by_three};
@@ -7,7 +7,7 @@ ghost use Rattle.nf_report_file.specs.Keys.{seen_kind, seen_key, key_of_number, 
 use nf_net::{LinkId, Network, NodeId};
 use nf_text::is_word;
 
-/// What a curve tells of; `Never` stands for an idle node, which has none.
+/// The kind of a curve. `Never` marks an idle node, which has no curve.
 #[derive(Clone, Copy)]
 pub enum Kind {
     Label,
@@ -17,7 +17,7 @@ pub enum Kind {
     Queue,
 }
 
-/// The kind of a curve, and the name of its node or link.
+/// The key of a curve. `name` is the name of its node or link.
 #[derive(Clone, Copy)]
 pub struct Key<'a> {
     pub kind: Kind,
@@ -25,7 +25,7 @@ pub struct Key<'a> {
 }
 
 impl Kind {
-    /// The first word of its lines.
+    /// Returns the first word of the curve's lines.
     pub fn word(self) -> &'static [u8]
         ensures { result.now ≡ key_word (seen_kind self) }
     {
@@ -39,16 +39,16 @@ impl Kind {
     }
 }
 
-/// How many curves a report of the network has, idle nodes among them.
+/// Returns the number of curves of a report of the network, including one for each idle node.
 pub fn curve_count(net: &Network) -> usize
     ensures { result ≡ length (curve_keys net.now) }
 {
-    // For the proof: each node and each link has a name.
+    // Proof: each node and each link has a name.
     net.recall();
     net.node_count() as usize + net.idle_count() as usize + 3 * net.link_count() as usize
 }
 
-// The kind of a link's curve by its number among the three.
+// Returns the kind of a link's curve: inflow for 0, outflow for 1, queue for any other number.
 fn kind_of_three(place: usize) -> Kind
     ensures { seen_kind result ≡ kind_by_three place }
 {
@@ -59,11 +59,11 @@ fn kind_of_three(place: usize) -> Kind
     }
 }
 
-// The key of the curve of this number behind those of nodes.
+// Returns the key of a link's curve. `index` counts the curves of links, which follow those of nodes.
 fn link_key(net: &Network, index: usize) -> Option<Key<'_>>
     ensures { option_map seen_key result ≡ slice_get (link_keys net.now.link_names) index }
 {
-    // For the proof: each link has a name.
+    // Proof: each link has a name.
     net.recall();
     let link = index / 3;
     if link >= net.link_count() as usize {
@@ -74,11 +74,11 @@ fn link_key(net: &Network, index: usize) -> Option<Key<'_>>
     Some(Key { kind, name })
 }
 
-/// The key of the curve of this number, if there is one.
+/// Returns the key of the curve with this number, if there is one.
 pub fn key_at(net: &Network, index: usize) -> Option<Key<'_>>
     ensures { option_map seen_key result ≡ key_of_number net.now index }
 {
-    // For the proof: each node has a name.
+    // Proof: each node has a name.
     net.recall();
     let nodes = net.node_count() as usize;
     if index < nodes {
@@ -100,7 +100,7 @@ pub fn key_at(net: &Network, index: usize) -> Option<Key<'_>>
     link_key(net, behind - idle)
 }
 
-/// Whether the curve of this number has this kind and name.
+/// Returns whether the curve with this number exists and has this kind and name.
 pub fn is_key_at(net: &Network, index: usize, kind: Kind, name: &[u8]) -> bool
     ensures { result ≡ is_some_key (seen_kind kind) name.now (key_of_number net.now index) }
 {

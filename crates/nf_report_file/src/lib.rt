@@ -1,5 +1,5 @@
-//! The reading of reports: which report a text is, or which rule it breaks first. Times, amounts and rates are exact fractions. The
-//! file format is this project's own.
+//! This crate reads reports. The result is the report that a text is, or the first rule that the text breaks. Times, amounts and rates are
+//! exact fractions. The file format is this project's own.
 #![tactic(auto)]
 
 mod body;

@@ -1,4 +1,4 @@
-// A line of a report, and what is read with it.
+// A line of a report changes the parser state.
 ghost use Rattle.std.specs.Prelude.{◌≡◌, ◌<◌, length, IfOk, OnOk, IsErr, MatchResult};
 ghost use Rattle.std.specs.Option.{option_copied};
 ghost use Rattle.nf_formats.specs.Named.{Named};
@@ -18,7 +18,7 @@ use nf_readings::ReportRule;
 use nf_text::ReadLine;
 use std::alloc::Global;
 
-// `report` with the version, or else P4.
+// Reads `report` and the version. Otherwise fails with P4.
 fn read_version(net: &Network, line: &ReadLine) -> Result<Entry, ReportRule>
     ensures says { (draft : ReportDraft) → version_line net.now draft line.now.words ≡ said_by (drafted net.now draft) result }
     ensures fits { (draft : ReportDraft) → IfOk result (λ entry. Fits net.now draft entry) }
@@ -29,7 +29,7 @@ fn read_version(net: &Network, line: &ReadLine) -> Result<Entry, ReportRule>
     Ok(Entry::Version)
 }
 
-// What a line behind `end` breaks: a rule of any line, or else P14.
+// Refuses a line after `end`: with the rule that the line breaks, or else with P14.
 fn read_nothing(said: Result<Entry, ReportRule>) -> Result<Entry, ReportRule>
     ensures says { (n : Named) → (draft : ReportDraft) → nothing_more (said_by (drafted n draft) said) ≡ said_by (drafted n draft) result }
     ensures none { IsErr result }
@@ -41,7 +41,7 @@ fn read_nothing(said: Result<Entry, ReportRule>) -> Result<Entry, ReportRule>
 }
 
 impl Draft {
-    // What a line of words says where it stands, or the first rule that it breaks; `next` is the line behind it.
+    // Returns the meaning of a line with words at this stage, or the first rule that the line breaks. `next` is the line after it.
     fn read_staged(
         &self,
         net: &Network,
@@ -74,7 +74,7 @@ impl Draft {
         }
     }
 
-    // What a line says, or the first of P3 to P14 that it breaks; `next` is the line behind it.
+    // Returns the meaning of a line, or the first of P3 to P14 that the line breaks. `next` is the line after it.
     fn read_entry(
         &self,
         net: &Network,
@@ -93,7 +93,8 @@ impl Draft {
         self.read_staged(net, line, next)
     }
 
-    /// Adds what a line says, or answers the first of P3 to P14 that it breaks, with its number; `next` is the line behind it.
+    /// Applies a line to the state. Fails with the first of P3 to P14 that the line breaks, and the line's number, or if an allocation
+    /// fails. `next` is the line after it.
     pub fn add_line(
         &mut self,
         alloc: Global,

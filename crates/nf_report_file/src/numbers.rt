@@ -1,4 +1,4 @@
-// Numbers and counts of a report: words that are just their printed forms.
+// Numbers and counts of a report, in their printed form.
 ghost use Rattle.std.specs.Prelude.{◌≡◌};
 ghost use Rattle.std.specs.Str.{bytes_eq};
 ghost use Rattle.nf_numerals.specs.Digits.{count_of};
@@ -13,7 +13,7 @@ use nf_numerals::count;
 use nf_readings::ReportRule;
 use nf_text::is_word;
 
-// A word is the printed form of this number.
+// Returns whether the word is the printed form of this number.
 fn is_printed(word: &[u8], number: Q) -> bool
     ensures { result ≡ bytes_eq word.now (printed number) }
 {
@@ -22,7 +22,7 @@ fn is_printed(word: &[u8], number: Q) -> bool
     is_word(word, text.text())
 }
 
-// The number that a word is the printed form of: it is read, and printed again to be compared with the word.
+// Returns the number whose printed form is the word. Reads the number, prints it, and compares the text with the word.
 fn any_number(word: &[u8]) -> Option<Q>
     ensures { result ≡ number_by word.now }
 {
@@ -32,7 +32,7 @@ fn any_number(word: &[u8]) -> Option<Q>
     }
 }
 
-// The number that a word is the printed form of, where nearly all words take a shorter way: their parts have at most 64 bits.
+// Returns the number whose printed form is the word. Tries `plain_number` first, which reads nearly all words faster.
 fn printed_number(word: &[u8]) -> Option<Q>
     ensures { result ≡ number_by word.now }
 {
@@ -42,7 +42,7 @@ fn printed_number(word: &[u8]) -> Option<Q>
     }
 }
 
-/// The number that a word is the printed form of, or else P8.
+/// Returns the number whose printed form is the word. Otherwise fails with P8.
 pub fn read_number(word: &[u8]) -> Result<Q, ReportRule>
     ensures { result ≡ or_rule P8 (number_by word.now) }
 {
@@ -52,7 +52,7 @@ pub fn read_number(word: &[u8]) -> Result<Q, ReportRule>
     }
 }
 
-/// The count that a word writes, or else P8.
+/// Returns the count that the word writes. Otherwise fails with P8.
 pub fn read_count(word: &[u8]) -> Result<u64, ReportRule>
     ensures { result ≡ or_rule P8 (count_of word.now) }
 {
@@ -62,7 +62,7 @@ pub fn read_count(word: &[u8]) -> Result<u64, ReportRule>
     }
 }
 
-/// The count that a word writes, or none where it is `-`, or else P8.
+/// Returns the count that the word writes, or None if the word is `-`. Otherwise fails with P8.
 pub fn read_place(word: &[u8]) -> Result<Option<u64>, ReportRule>
     ensures { result ≡ or_rule P8 (place_in word.now) }
 {
@@ -73,7 +73,7 @@ pub fn read_place(word: &[u8]) -> Result<Option<u64>, ReportRule>
     Ok(Some(place))
 }
 
-/// A rate, or none where the word is `-`, or else P8.
+/// Returns the rate that the word writes, or None if the word is `-`. Otherwise fails with P8.
 pub fn read_rate(word: &[u8]) -> Result<Option<Q>, ReportRule>
     ensures { result ≡ rate_word word.now }
 {

@@ -1,4 +1,4 @@
-// Which curve a line adds to, and whether its time may come there.
+// The curve that a line extends.
 ghost use Rattle.std.specs.Prelude.{◌≡◌, IfOk};
 ghost use Rattle.std.specs.List.{last_or};
 ghost use Rattle.nf_readings.specs.ReportLines as lines;
@@ -15,7 +15,7 @@ use nf_frac::Q;
 use nf_net::Network;
 use nf_readings::ReportRule;
 
-// Whether a time comes after those of a curve's points.
+// Returns whether a time is later than all times of the curve's points.
 fn is_later(curve: &Curve, time: Q) -> bool
     ensures { result ≡ comes_after_by (last_or None curve.now.points) time }
 {
@@ -24,7 +24,7 @@ fn is_later(curve: &Curve, time: Q) -> bool
 }
 
 impl Draft {
-    /// Which curve a line of this kind and name adds to, or else P7.
+    /// Returns whether a line of this kind and name extends the current curve or begins the next one. Fails with P7 if it does neither.
     pub fn opened(&self, net: &Network, kind: Kind, name: &[u8]) -> Result<Opening, ReportRule>
         requires { IsWithin net.now self.now }
         ensures says { let draft = seen_draft net.now self.now in
@@ -40,7 +40,7 @@ impl Draft {
         }
     }
 
-    /// Whether an idle node of this name comes next.
+    /// Returns whether the next curve is an idle node of this name.
     pub fn never_comes(&self, net: &Network, name: &[u8]) -> bool
         requires { IsWithin net.now self.now }
         ensures { result ≡ is_some_key lines.OfNever name.now (key_of_number net.now (begun_count self.now)) }
@@ -48,12 +48,12 @@ impl Draft {
         is_key_at(net, self.begun_count(), Kind::Never, name)
     }
 
-    /// Whether a time comes after those of the points of a curve; the first one is 0.
+    /// Returns whether a time may follow in a curve: it is later than the times of the curve's points, or 0 for the first point.
     pub fn comes_after(&self, net: &Network, opening: Opening, time: Q) -> bool
         requires { CanOpen (seen_draft net.now self.now) opening }
         ensures { result ≡ comes_after_by (last_or None (opened_by (seen_draft net.now self.now) opening).curve.points) time }
     {
-        // For the proof: the clauses speak of the network's curves.
+        // Proof: the clauses refer to the network's curves.
         let _ = net;
         match (opening, &self.current) {
             (Opening::GoesOn, Some(trace)) => is_later(&trace.curve, time),

@@ -1,4 +1,4 @@
-// Printed numbers with parts of at most 64 bits, read digit by digit: no such word is printed again to be compared.
+// Reading printed numbers whose numerator and denominator have at most 64 bits. The word is tested digit by digit, without printing.
 ghost use Rattle.std.specs.Prelude.{◌≡◌, ◌+◌, ◌<◌, ◌≤◌, pos, neg_ℤ, length, take, drop, IfSome, IsTrue, Some};
 ghost use Rattle.nf_numerals.specs.Digits.{are_digits, value_of, digits_of, is_plain};
 ghost use Rattle.nf_numerals.specs.Printed.{printed_parts};
@@ -6,13 +6,13 @@ ghost use Rattle.nf_readings.specs.ReportCauses.{printed_number as number_by};
 
 use nf_frac::Q;
 
-// A number up to this one has room for one more digit in 64 bits.
+// A number of at most `ROOM` has room for one more digit in 64 bits.
 const ROOM: u64 = 1_844_674_407_370_955_160;
 
-// The least denominator that is printed.
+// The least denominator of a printed form.
 const LEAST: u64 = 2;
 
-// Whether the digits that some bytes begin with have no zero before others.
+// Returns whether the first `end` bytes, which are digits, have no leading zero before another digit. False if `end` is 0.
 fn is_plain_to(bytes: &[u8], end: usize) -> bool
     requires within { end ≤ length bytes.now }
     requires digits { IsTrue (are_digits (take end bytes.now)) }
@@ -24,7 +24,7 @@ fn is_plain_to(bytes: &[u8], end: usize) -> bool
     end > 1 && bytes[0] != b'0'
 }
 
-// The number that these digits write, and how many they are, where they are its printed form.
+// Returns the number that the first `end` bytes write, and `end`, if these digits are the printed form of the number.
 fn plain_to(bytes: &[u8], number: u64, end: usize) -> Option<(u64, usize)>
     requires within { end ≤ length bytes.now }
     requires digits { IsTrue (are_digits (take end bytes.now)) }
@@ -39,7 +39,7 @@ fn plain_to(bytes: &[u8], number: u64, end: usize) -> Option<(u64, usize)>
     }
 }
 
-// The number that the digits write that some bytes begin with, and how many they are, where they are its printed form.
+// Returns the number that the leading digits write, and their count, if these digits are the printed form of the number.
 fn leading_number(bytes: &[u8]) -> Option<(u64, usize)>
     ensures within { IfSome result (λ p. p.1 ≤ length bytes.now) }
     ensures digits { IfSome result (λ p. take p.1 bytes.now ≡ digits_of p.0) }
@@ -57,7 +57,7 @@ fn leading_number(bytes: &[u8]) -> Option<(u64, usize)>
     plain_to(bytes, number, bytes.len())
 }
 
-// What stands behind a place.
+// Returns the bytes after the index `place`.
 fn behind(word: &[u8], place: usize) -> &[u8]
     requires { place < length word.now }
     ensures { result.now ≡ drop (place + 1) word.now }
@@ -65,7 +65,7 @@ fn behind(word: &[u8], place: usize) -> &[u8]
     &word[place + 1..]
 }
 
-// The parts of a word without a minus, where it is their printed form.
+// Returns numerator and denominator of a word without a minus, if the word is their printed form.
 fn unsigned_parts(word: &[u8]) -> Option<(u64, u64)>
     ensures { IfSome result (λ p. word.now ≡ printed_parts (pos p.0) p.1) }
 {
@@ -84,7 +84,7 @@ fn unsigned_parts(word: &[u8]) -> Option<(u64, u64)>
     Some((num, den))
 }
 
-// The whole number below 0 of this magnitude. None where that is 0: `-0` is no printed form.
+// Returns the negative whole number of this magnitude. Returns None for magnitude 0, since `-0` is not a printed form.
 fn negative(magnitude: u64) -> Option<i128>
     ensures value { IfSome result (λ n. n ≡ neg_ℤ (pos magnitude)) }
     ensures some { IfSome result (λ n. 0 < magnitude) }
@@ -96,7 +96,7 @@ fn negative(magnitude: u64) -> Option<i128>
     }
 }
 
-// The parts of a word, where it is their printed form.
+// Returns numerator and denominator of a word, if the word is their printed form.
 fn plain_parts(word: &[u8]) -> Option<(i128, u64)>
     ensures { IfSome result (λ p. word.now ≡ printed_parts p.0 p.1) }
 {
@@ -109,7 +109,8 @@ fn plain_parts(word: &[u8]) -> Option<(i128, u64)>
     Some((num, den))
 }
 
-/// The number that a word is the printed form of, where its parts are at most `ROOM` times ten and 9. None says nothing of the word.
+/// Returns the number whose printed form is the word, if numerator and denominator are at most ten times `ROOM` plus 9 in magnitude.
+/// None does not mean that the word is no printed form.
 pub(crate) fn plain_number(word: &[u8]) -> Option<Q>
     ensures { IfSome result (λ q. number_by word.now ≡ Some q) }
 {

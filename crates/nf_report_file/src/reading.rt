@@ -1,4 +1,4 @@
-// The reading of a report.
+// Parsing a report.
 ghost use Rattle.std.specs.Prelude.{◌≡◌, ◌≤◌, [], ◌∷◌, map, length, option_map, IfOk, IfErr, OnOk, MatchOption, MatchResult, Result};
 ghost use Rattle.nf_lines.specs.Words.{read_line};
 ghost use Rattle.nf_lines.specs.Faults.{first_fault_of, longest_text};
@@ -16,7 +16,7 @@ use nf_readings::ReportRule;
 use nf_text::{Cursor, ReadLine, TextFault};
 use std::alloc::Global;
 
-// The next line of a text; or P1 or P2 where it breaks them.
+// Reads the next line of a text. Fails with P1 or P2 if the line breaks one of them.
 fn next_line<'a>(
     alloc: Global,
     cursor: &mut Cursor<'a>,
@@ -41,7 +41,7 @@ fn next_line<'a>(
     }
 }
 
-// P1 and P2 for the lines that are still to come.
+// Tests P1 and P2 for all further lines.
 fn check_rest(alloc: Global, cursor: &mut Cursor) -> Result<(), ReportFault>
     ensures none { OnOk result (first_fault_of cursor.old ≡ None) }
     ensures fault { IfErr result (λ fault. IfBroken fault (λ broken. option_map as_report_rule (first_fault_of cursor.old) ≡ Some broken)) }
@@ -55,7 +55,7 @@ fn check_rest(alloc: Global, cursor: &mut Cursor) -> Result<(), ReportFault>
     }
 }
 
-// P1 and P2 of the lines that are still to come are broken before the rule of a line.
+// Returns the fault of a further line that breaks P1 or P2, if there is one, and otherwise `fault`.
 fn first_broken(alloc: Global, cursor: &mut Cursor, fault: ReportFault) -> ReportFault
     ensures { (read : Result SeenReport ReportBroken) → IfBroken fault (λ broken. read ≡ Err broken)
         → IfBroken result (λ broken. report_by_bytes (first_fault_of cursor.old) read ≡ Err broken) }
@@ -66,7 +66,7 @@ fn first_broken(alloc: Global, cursor: &mut Cursor, fault: ReportFault) -> Repor
     }
 }
 
-// Adds what lines say, each read with the line behind it: this line and the lines that are still to come.
+// Applies this line and all further lines to the state. Each line is read together with the line after it.
 fn add_lines(
     alloc: Global,
     net: &Network,
@@ -98,7 +98,7 @@ fn add_lines(
     Ok(())
 }
 
-// What the lines of a text say, read one after the other.
+// Reads the lines of a text in order, and returns the parser state.
 fn read_draft(alloc: Global, net: &Network, text: &[u8]) -> Result<Draft, ReportFault>
     requires { length text.now ≤ longest_text }
     ensures draft { IfOk result (λ draft. report_in net.now text.now ≡ if_at_end (seen_stage draft.stage) (seen_draft net.now draft)) }
@@ -123,7 +123,7 @@ fn read_draft(alloc: Global, net: &Network, text: &[u8]) -> Result<Draft, Report
     }
 }
 
-// The report that a text is.
+// Returns the report that a text is.
 fn read_report(alloc: Global, net: &Network, text: &[u8]) -> Result<Report, ReportFault>
     requires { length text.now ≤ longest_text }
     ensures { MatchResult result (λ report. report_in net.now text.now ≡ Ok (report_of report))
@@ -135,9 +135,9 @@ fn read_report(alloc: Global, net: &Network, text: &[u8]) -> Result<Report, Repo
     }
 }
 
-/// The report of a network that a text of at most 67,108,864 bytes is; or the first rule that it breaks, and the line. The rules of
-/// all bytes and lines come first, then those of the lines one by one, then that of the file as a whole, with line 0. Reads the text
-/// once, line by line.
+/// Parses a report of the network, from a text of at most 67,108,864 bytes. Returns the report, or the first rule that the text breaks,
+/// with the line. The rules of all bytes and lines are tested first, then those of each line, then that of the whole file, with line 0.
+/// Reads the text once, line by line. Also fails if an allocation fails.
 pub fn parse_report(alloc: Global, net: &Network, text: &[u8]) -> Result<Report, ReportFault>
     requires { length text.now ≤ longest_text }
     ensures reads { MatchResult result (λ report. report_in net.now text.now ≡ Ok (report_of report))
@@ -147,7 +147,7 @@ pub fn parse_report(alloc: Global, net: &Network, text: &[u8]) -> Result<Report,
     ensures all { (report : SeenReport) → IsWellFormed net.now.net report → IsReadable report → text.now ≡ report_text net.now report
         → Shows report result }
 {
-    // For the proof: the network is one of an accepted file.
+    // Proof: the network is that of an accepted file.
     net.recall();
     read_report(alloc, net, text)
 }

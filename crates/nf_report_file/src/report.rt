@@ -17,8 +17,7 @@ use nf_pattern::Pattern;
 use nf_readings::ReportRule;
 use std::alloc::{AllocError, Global};
 
-/// A report: how far the run was to go, its flow up to the time reached, why it stopped below the horizon, if it did, and the states
-/// of the links in its last phase.
+/// A report of a run. `stopped` is the cause of a stop before the horizon, and `last` holds the states of the links in the last phase.
 #[derive(Drop)]
 pub struct Report {
     pub horizon: Q,
@@ -27,7 +26,7 @@ pub struct Report {
     pub last: Pattern,
 }
 
-// Curves by what they tell of.
+// The curves of a report, by kind.
 #[derive(Drop)]
 struct Sorted {
     labels: Vec<Curve>,
@@ -48,7 +47,7 @@ impl Sorted {
         }
     }
 
-    // A curve goes behind the others of its kind. Each node but the idle ones and each link has one.
+    // Appends a curve to those of its kind. Every kind except `Never` must have a curve.
     fn put(&mut self, kind: Kind, curve: Option<Trace>) -> Result<(), AllocError>
         requires { curve ≡ None → seen_kind kind ≡ OfNever }
         ensures { OnOk result ((curves : List ReadCurve) → (key : CurveKey) → key.kind ≡ seen_kind kind → AreSorted curves self.old
@@ -72,13 +71,13 @@ impl Sorted {
     }
 }
 
-// The curves of a report by what they tell of.
+// Divides the curves of a report by kind.
 fn by_kind(alloc: Global, net: &Network, curves: Vec<Option<Trace>>) -> Result<Sorted, AllocError>
     requires count { length curves.items ≤ length (curve_keys net.now) }
     requires idle { LacksIdleOnly net.now curves.items }
     ensures { IfOk result (λ sorted. AreSorted (seen_done net.now 0 curves.items) sorted) }
 {
-    // For the proof: a network has few nodes and links.
+    // Proof: a network has few nodes and links.
     net.recall();
     let mut sorted = Sorted::new(alloc);
     let mut index = 0;
@@ -94,7 +93,7 @@ fn by_kind(alloc: Global, net: &Network, curves: Vec<Option<Trace>>) -> Result<S
 }
 
 impl Draft {
-    /// The report, or P14 where there was no `end`.
+    /// Returns the report. Fails with P14 if no `end` line was read, or if an allocation fails.
     pub fn report(self, alloc: Global, net: &Network) -> Result<Report, ReportFault>
         requires { IsWithin net.now self }
         ensures { let draft = seen_draft net.now self in

@@ -1,4 +1,4 @@
--- What holds of each entry of a list, for lists that are made of others.
+-- Properties of all entries of a list, for lists that are made of others.
 use Rattle.std.proofs.Common.{ℕ, zero, suc, ◌+◌, ◌<◌, List, [], ◌∷◌, length, map, flat_map, arith}
 use Rattle.std.specs.Prelude.{take, drop, slice_get, unwrap_or}
 use Rattle.std.specs.List.{AllByRecursion, enumerate_from}

@@ -81,7 +81,7 @@ sum-push : (hops : List Hop) (walk : List ℕ) (e : ℕ) → transit_sum hops (w
 sum-push hops [] e = alone (transit_of hops e) (transit_of hops e) refl
 sum-push hops (f ∷ walk) e = longer (transit_of hops f) (transit_sum hops (walk ++ e ∷ [])) (transit_sum hops walk) (transit_of hops e) (sum-push hops walk e)
 
--- what comes before the last hop of a least walk is least
+-- a least walk without its last hop is least
 less_before : (a b f t w : ℚ) → a ≡ f +ℚ t → b ≡ w +ℚ t → a ≤ℚ b → f ≤ℚ w
 less_before a b f t w e g h = linear_le (a ∷ b ∷ f ∷ t ∷ w ∷ []) (eq e ∷ eq g ∷ le h ∷ []) (search reading_of depth 12) tt
 

@@ -1,4 +1,4 @@
--- What a checker answers.
+-- The answers of a checker.
 use Rattle.std.proofs.Common.{◌≡◌, ◌≢◌, ◌↔◌, ℕ, ◌<◌, inl, length, refl, sym, ◌∙◌, arith}
 use Rattle.std.specs.Prelude.{Ok}
 use Rattle.nf_rational.specs.Rational.{ℚ}

@@ -1,4 +1,4 @@
--- What a checker answers for equilibria and for the reports of runs; and that the rule of shortest routes is never the first one that is broken.
+-- A checker answers yes for equilibria and reports of runs. The rule of shortest routes is never the first broken rule.
 use Rattle.std.specs.Prelude.{◌≡◌, ◌≢◌, ◌↔◌, ℕ, ◌<◌, length, Ok}
 use Rattle.nf_rational.specs.Rational.{ℚ}
 use Rattle.nf_work.specs.Passing.{Passing, passes_Q}
@@ -21,30 +21,30 @@ use Rattle.nf_readings.specs.ReportFile.{report_in}
 use Rattle.nf_run_text_laws.specs.ReadableLaws.{AreReadable}
 
 -- ---- yes
--- Where no operation passes, a checker answers yes for each equilibrium.
+-- If no operation passes, a checker answers yes for each equilibrium.
 abbrev pub EquilibriumIsAnsweredYes : Type 0
 EquilibriumIsAnsweredYes = (passes : Passing) (net : Network) (flow : Flow) (answer : Answer ℕ ℕ ℚ) → IsNetwork net → Equilibrium net flow
     → check_list passes net flow ≡ Ok answer → answer ≡ Yes
 
--- So it does for the report of a phase run of the same network, whatever the run stopped for.
+-- If no operation passes, a checker answers yes for the report of a phase run of the network, for any cause of a stop.
 abbrev pub RunIsAnsweredYes : Type 0
 RunIsAnsweredYes = (running checking : Passing) (net : Network) (bounds : Bounds) (report : Report) (answer : Answer ℕ ℕ ℚ) → IsNetwork net
     → IsRunReport running net bounds report
     → check_list checking net report.flow ≡ Ok answer → answer ≡ Yes
 
--- And it does for whatever report is read from the text of such a one.
+-- If no operation passes, a checker answers yes for each report that is read from the text of a run's report.
 abbrev pub WrittenIsAnsweredYes : Type 0
 WrittenIsAnsweredYes = (n : Named) (bounds : Bounds) (report read : Report) (answer : Answer ℕ ℕ ℚ) → IsNamed n → AreReadable bounds
     → IsWellFormed n.net report → IsRunReport passes_Q n.net bounds report
     → report_in n (report_text n report) ≡ Ok read → check_list passes_Q n.net read.flow ≡ Ok answer → answer ≡ Yes
 
 -- ---- shortest routes
--- all rules hold, but perhaps C8, that flow takes shortest routes only
+-- all rules except possibly C8 hold; C8 states that flow takes shortest routes only
 abbrev pub AllButRoutesHold : Network → Flow → Type 0
 AllButRoutesHold net flow = (test : Test) → IsTest net test → rule_of test ≢ C8 → Holds net flow test
 
--- Then C8 holds too, since flow that is conserved along earliest arrivals takes shortest routes: C1 to C7 hold exactly of equilibria. So nothing
--- breaks C8 where they hold, and no checker answers no for C8.
+-- If all rules except possibly C8 hold, C8 holds too: flow that is conserved along earliest arrivals takes shortest routes. Hence C1 to
+-- C7 hold exactly for equilibria. Nothing breaks C8 if they hold, and no checker answers no for C8.
 pub record RoutesAreKept : Type 0 where
   pub holds : (net : Network) (flow : Flow) (e : ℕ) → CanBeChecked net flow → AllButRoutesHold net flow → e < length net.links
       → Holds net flow (Route e)

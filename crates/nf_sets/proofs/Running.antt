@@ -1,4 +1,4 @@
--- A list of slacks, one link after the other: what is said at its end, and where an operation passes.
+-- The operation sequence of slacks: its value at the end, and the operation that passes.
 use Rattle.std.proofs.Common.{◌≡◌, ℕ, suc, ◌+◌, ◌<◌, ◌≤◌, List, [], ◌∷◌, ◌++◌, length, get_or, drop, drop-cons, add-one, refl, sym, ap, ◌∙◌}
 use Rattle.std.specs.Prelude.{Result, Ok, Err}
 use Rattle.std.proofs.Math.ListN.{drop_of_length-le}

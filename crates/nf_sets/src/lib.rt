@@ -1,4 +1,4 @@
-//! Slacks of links at labels of the nodes, and which links are active and resetting there (Koch and Skutella 2011).
+//! This crate computes slacks of links at labels of the nodes, and the active and resetting links there (Koch and Skutella 2011).
 #![tactic(auto)]
 
 ghost use Rattle.std.specs.Prelude.{◌≡◌, ◌<◌, length, map, IfOk};
@@ -16,7 +16,7 @@ use nf_frac::{Halt, Part, PassedAt, Q, at};
 use nf_graph::{Hop, LinkSets, NodeId};
 use std::alloc::{AllocError, Global};
 
-// The label of a node.
+// Returns the label of a node.
 fn label_of(labels: &[Q], node: NodeId) -> Q
     requires { node < length labels.now }
     ensures { result ≡ number_at labels.now node }
@@ -36,10 +36,10 @@ fn slack(labels: &[Q], hop: &Hop) -> Result<Q, PassedAt<Q>>
     Ok(slack)
 }
 
-/// Returns the slack of each link at labels of the nodes: the label of its head, less the sum of its tail's label and its transit
-/// time, in the unit of time. There must be a label for the ends of each link. The operations are those of `slack_list`
-/// (nf_lists/specs/Slack.antt): link by link, that sum and then the difference. Returns `Passed` exactly at the first of them that
-/// passes, with the part Slack. Otherwise fails only if an allocation fails.
+/// Returns the slack of each link at labels of the nodes, in units of time. The slack is the label of the head, less the sum of the
+/// tail's label and the transit time. Both ends of each link must have a label. The operation sequence is `slack_list` in
+/// nf_lists/specs/Slack.antt: for each link in order, the sum and then the difference. Returns `Passed` exactly if one of these
+/// operations passes: the first one, with the part Slack. Otherwise fails only if an allocation fails.
 pub fn slacks(alloc: Global, hops: &[Hop], labels: &[Q]) -> Result<Vec<Q>, Halt<Q>>
     requires { AreBelow (length labels.now) hops.now }
     ensures list { Gives (λ slacks. slacks.items) (λ q. q) result
@@ -54,28 +54,28 @@ pub fn slacks(alloc: Global, hops: &[Hop], labels: &[Q]) -> Result<Vec<Q>, Halt<
     Ok(slacks)
 }
 
-// The slack is at least 0.
+// Returns whether the link is active: its slack is at least 0.
 fn is_active(slack: Q) -> bool
     ensures { result ≡ le_ℚ 0ℚ slack }
 {
     slack >= Q::zero()
 }
 
-// The slack is above 0.
+// Returns whether the link is resetting: its slack is positive.
 fn is_resetting(slack: Q) -> bool
     ensures { result ≡ lt_ℚ 0ℚ slack }
 {
     slack > Q::zero()
 }
 
-// Of each slack, whether the link is active.
+// Returns, for each slack, whether the link is active.
 fn active_flags(alloc: Global, slacks: &[Q]) -> Result<Vec<bool>, AllocError>
     ensures { IfOk result (λ flags. flags.items ≡ map (le_ℚ 0ℚ) slacks.now) }
 {
     slacks.iter().map(|slack| is_active(*slack)).collect(alloc)
 }
 
-// Of each slack, whether the link is resetting.
+// Returns, for each slack, whether the link is resetting.
 fn resetting_flags(alloc: Global, slacks: &[Q]) -> Result<Vec<bool>, AllocError>
     ensures { IfOk result (λ flags. flags.items ≡ map (lt_ℚ 0ℚ) slacks.now) }
 {
@@ -85,8 +85,8 @@ fn resetting_flags(alloc: Global, slacks: &[Q]) -> Result<Vec<bool>, AllocError>
         .collect(alloc)
 }
 
-/// Returns which links are active, those with a slack of at least 0, and which are resetting, those with a slack above 0. Fails only
-/// if an allocation fails.
+/// Returns the active links, whose slacks are at least 0, and the resetting links, whose slacks are positive. Fails only if an allocation
+/// fails.
 pub fn sets(alloc: Global, slacks: &[Q]) -> Result<LinkSets, AllocError>
     ensures { IfOk result (λ sets. sets ≡ sets_of slacks.now) }
 {

@@ -1,17 +1,17 @@
--- A file beside a network as a whole: rules of bytes first, then the first line, the others one by one, and the whole.
+-- A side file as a whole. Its reading tests the rules of bytes, then the first line, then each other line, then the whole file.
 use Rattle.std.specs.Prelude.{ℕ, if◌then◌else◌, List, [], ◌∷◌, Option, Some, None, Result, Ok, Err}
 use Rattle.nf_work.specs.Checked.{◌>>=◌}
 use Rattle.nf_lines.specs.Words.{ReadLine, read_lines, content_lines}
 use Rattle.nf_lines.specs.Faults.{LineFault, NotAscii, LongLine, first_fault}
 use Rattle.nf_side_lists.specs.Lines.{is_head}
 
--- a rule that is broken, and the line in which it is seen; 0 stands for the file as a whole
+-- a broken rule and its line; 0 means the whole file
 pub record Broken (Rule : Type 0) : Type 0 where
   pub rule : Rule
   pub line : ℕ
 
--- What sets one kind of file apart: the rules of its bytes and of its first line, the keyword there, what no line has said yet, what
--- a line more makes of that, and what the whole gives.
+-- A frame distinguishes one kind of file. Its fields are the rules of bytes and of the first line, the keyword of that line, and the
+-- empty parser state. `add` adds a line to the state, and `close` gives the result of the whole file.
 pub record Frame (Rule Draft Given : Type 0) : Type 0 where
   pub not_ascii : Rule
   pub long_line : Rule
@@ -21,7 +21,7 @@ pub record Frame (Rule Draft Given : Type 0) : Type 0 where
   pub add : Draft → List (List ℕ) → Result Draft Rule
   pub close : Draft → Result Given (Broken Rule)
 
--- ---- lines, one after the other
+-- ---- lines in order
 abbrev pub in_line : {Draft Rule : Type 0} → ℕ → Result Draft Rule → Result Draft (Broken Rule)
 in_line number (Ok draft) = Ok draft
 in_line number (Err rule) = Err (record { rule = rule; line = number })

@@ -1,4 +1,4 @@
--- What single lines of a file beside a network say, with the rules that such a file has for them.
+-- Single lines of a side file.
 use Rattle.std.specs.Prelude.{ℕ, Bool, false, ◌&&◌, ◌||◌, nat_le, if◌then◌else◌, List, [], ◌∷◌, length, Option, Some, None, Result, Ok, Err, codes}
 use Rattle.std.specs.List.{last_or}
 use Rattle.std.specs.Result.{result_ok}
@@ -10,30 +10,30 @@ use Rattle.nf_formats.specs.Names.{Name, has_name, place_of}
 use Rattle.nf_formats.specs.Numbers.{greatest}
 use Rattle.nf_formats.specs.NetLines.{is_negative, is_not_after}
 
--- the first line: a keyword, and the version 1
+-- the first line: a keyword and the version 1
 abbrev pub is_head : List ℕ → List (List ℕ) → Bool
 is_head keyword (key ∷ version ∷ []) = bytes_eq key keyword && bytes_eq version (codes "1")
 is_head keyword words = false
 
--- `end`, or another number of words
+-- reads an `end` line, or refuses any further word
 abbrev pub end_line : {Entry Rule : Type 0} → Entry → Rule → List (List ℕ) → Result Entry Rule
 end_line end wrong_count [] = Ok end
 end_line end wrong_count words = Err wrong_count
 
--- a piece, if both words are numbers
+-- makes a piece, if both words are numbers
 abbrev pub piece_entry : {Entry Rule : Type 0} → (Piece → Entry) → Rule → Option ℚ → Option ℚ → Result Entry Rule
 piece_entry make no_number (Some start) (Some rate) = Ok (make (record { start = start; rate = rate }))
 piece_entry make no_number start rate = Err no_number
 
--- `rate NAME START RATE`
+-- reads `rate NAME START RATE`
 abbrev pub rate_line : {Entry Rule : Type 0} → (ℕ → Piece → Entry) → Rule → Rule → Rule → List Name → List (List ℕ) → Result Entry Rule
 rate_line make wrong_count unknown no_number names (name ∷ start ∷ rate ∷ []) =
     if has_name names name then piece_entry (make (place_of names name)) no_number (result_ok (number_of greatest start))
     (result_ok (number_of greatest rate)) else Err unknown
 rate_line make wrong_count unknown no_number names words = Err wrong_count
 
--- ---- rules of a line behind others
--- the first whose test is true
+-- ---- rules of a line that depend on earlier lines
+-- the rule of the first true test
 abbrev pub first_rule : {Rule : Type 0} → List (Bool × Rule) → Option Rule
 first_rule [] = None
 first_rule (test ∷ rest) = if test.0 then Some test.1 else first_rule rest
@@ -42,7 +42,7 @@ abbrev pub unless_rule : {Draft Rule : Type 0} → Option Rule → Draft → Res
 unless_rule None draft = Ok draft
 unless_rule (Some rule) draft = Err rule
 
--- of a piece behind those before it, where there may be so many in all
+-- the rule that a piece breaks, after the pieces `before`; at most `most` pieces are allowed
 abbrev pub piece_rule : {Rule : Type 0} → ℕ → Rule → Rule → Rule → List Piece → Piece → Option Rule
 piece_rule most negative not_after too_many before piece = first_rule (
     (is_negative piece.start || is_negative piece.rate, negative)

@@ -1,5 +1,5 @@
-//! The program: the words of its command line, real files, standard output, standard error and the exit status. All that it
-//! answers is answered by `nf_app::run`.
+//! This program passes the words of its command line, real files, standard output and standard error to `nf_app::run`. The exit status is
+//! the status that `run` returns.
 #![tactic(auto)]
 
 use nf_app::{Status, run};
@@ -9,16 +9,16 @@ use std::process::ExitCode;
 use std::rt::Env;
 use std::{env, io};
 
-/// The status where a word of the command line isn't text.
+/// The exit status if a word of the command line is not UTF-8 text.
 const NOT_TEXT: u8 = 17;
 
-// The words of the command line, with the program's name first.
+// Returns the words of the command line, with the program's name first.
 fn words<R: Env + AllocGlobal>(rt: &R) -> io::Result<Vec<String>> {
     let words = env::args(rt)?.collect(rt.alloc())?;
     Ok(words)
 }
 
-// The status where there are no words to be read.
+// Returns the exit status if the words cannot be read.
 fn status_without_words(error: &io::Error) -> u8 {
     match error.kind() {
         io::ErrorKind::OutOfMemory => Status::Memory.number(),

@@ -1,6 +1,6 @@
 // Calls that fail in a run.
 
-/// The numbers of the calls that fail, from 1 on; 0 stands for none.
+/// The numbers of the failing calls, counted from 1; 0 means that none fails.
 #[derive(Clone, Copy)]
 pub struct Faults {
     pub fetch: u32,
@@ -9,7 +9,7 @@ pub struct Faults {
 }
 
 impl Faults {
-    /// No call fails.
+    /// Returns the value with which no call fails.
     pub fn none() -> Faults {
         Faults {
             fetch: 0,
@@ -18,7 +18,7 @@ impl Faults {
         }
     }
 
-    /// With the one that a line of the input tells.
+    /// Returns these faults, changed by the fault that a line of the input states.
     pub fn with(self, line: &str) -> Faults {
         match line.split_once(' ') {
             Some(("fetch", call)) => Faults {

@@ -1,4 +1,4 @@
-// Files that stand in the input.
+// Files that the input contains.
 use case_lines::add_line;
 use std::alloc::{AllocError, Global};
 
@@ -10,7 +10,7 @@ pub struct File {
 }
 
 impl File {
-    /// A file with no bytes.
+    /// Returns an empty file with this name.
     pub fn new(alloc: Global, name: &str) -> Result<File, AllocError> {
         Ok(File {
             name: name.to_owned(alloc)?,
@@ -18,7 +18,7 @@ impl File {
         })
     }
 
-    /// Adds a line of the input.
+    /// Appends a line of the input.
     pub fn add_line(&mut self, line: &str) -> Result<(), AllocError> {
         match line.strip_prefix("++ ") {
             Some(count) => self.add_many(count.parse().unwrap_or(0)),

@@ -1,15 +1,15 @@
-//! Whole runs of the program over files and sinks in memory. The input is read line by line:
+//! This program runs `nf_app` over files and sinks in memory. The program reads its input line by line:
 //!
-//!     == NAME        begins the file NAME, in the place of an earlier one of that name
-//!     ++ COUNT       adds so many `#` to the file
-//!     LINE           any other line is one of the file, in the form of `case_lines`
-//!     !! out CALL    in the next run `out` takes a byte a write, and the write of this number fails
-//!     !! err CALL    the same of `err`
-//!     !! fetch CALL  in the next run the fetch of this number fails
-//!     $$ WORD ..     runs the program on these words, which are parted by single spaces
+//!     == NAME        begins the file NAME, which replaces an earlier one of that name
+//!     ++ COUNT       appends COUNT bytes `#` to the file
+//!     LINE           any other line belongs to the file, in the form of `case_lines`
+//!     !! out CALL    in the next run each write to `out` accepts one byte, and the write with number CALL fails
+//!     !! err CALL    the same for `err`
+//!     !! fetch CALL  in the next run the fetch with number CALL fails
+//!     $$ WORD ..     runs the program on these words, which are separated by single spaces
 //!
-//! Of each run its line is printed, then what `out` took, each line of what `err` took behind `! `, and the status behind `= `. Bytes
-//! that don't end with LF are followed by `\` and LF.
+//! For each run, the program prints the line, the bytes in `out`, the lines in `err` after `! `, and the status after `= `. If bytes
+//! do not end with LF, `\` and LF follow.
 #![tactic(auto)]
 
 mod faults;
@@ -21,7 +21,7 @@ use files::File;
 use std::alloc::{AllocError, Global};
 use std::io;
 
-// Takes in a line of a file, or the beginning of one.
+// Reads a line of a file, or the beginning of a file.
 fn take_file_line(alloc: Global, files: &mut Vec<File>, line: &str) -> Result<(), AllocError> {
     if let Some(name) = line.strip_prefix("== ") {
         let file = File::new(alloc, name)?;
@@ -34,7 +34,7 @@ fn take_file_line(alloc: Global, files: &mut Vec<File>, line: &str) -> Result<()
     }
 }
 
-// Takes in a line, and gives the calls that fail in the next run.
+// Reads a line, and returns the calls that fail in the next run.
 fn take_line<R: Print + AllocGlobal>(
     rt: &R,
     files: &mut Vec<File>,

@@ -1,4 +1,4 @@
-// A run over the files, and what it ends with.
+// A run over the files, and its outcome.
 ghost use Rattle.std.specs.Prelude.{◌<◌};
 
 use crate::faults::Faults;
@@ -8,7 +8,7 @@ use nf_edge::{MemShelf, MemSink};
 use std::alloc::{AllocError, Global};
 use std::io;
 
-// The most bytes that a sink takes in all, and in a write where none fails.
+// `ROOM` is the capacity of a sink in bytes. `MOST` is the greatest number of bytes of a write, if no write fails.
 const ROOM: u32 = 100_000;
 
 const MOST: u32 = 4096;
@@ -29,14 +29,14 @@ fn add_words(alloc: Global, words: &mut Vec<String>, line: &str) -> Result<(), A
     Ok(())
 }
 
-// The words, with the program's name first.
+// Returns the words of the command line, with the program's name first.
 fn words_of(alloc: Global, line: &str) -> Result<Vec<String>, AllocError> {
     let mut words = Vec::new(alloc);
     add_words(alloc, &mut words, line)?;
     Ok(words)
 }
 
-// Whether one of the words is this name.
+// Returns whether one of the words is this name.
 fn is_named(words: &[String], name: &str) -> bool {
     words.iter().any(|word| word.as_str() == name)
 }
@@ -57,21 +57,21 @@ fn fill(
     Ok(())
 }
 
-// The most bytes of a write: one where a write fails, so that each byte is a write.
+// Returns the greatest number of bytes of a write: one if a write fails, so that each byte is a write.
 fn most_of(failing: u32) -> u32
     ensures { 0 < result }
 {
     if failing == 0 { MOST } else { 1 }
 }
 
-// A sink whose write of this number fails, if it isn't 0.
+// Returns a sink whose write with this number fails; 0 means that none fails.
 fn sink(alloc: Global, failing: u32) -> Result<MemSink, AllocError> {
     let mut sink = MemSink::new(alloc, ROOM, most_of(failing))?;
     sink.fail(failing)?;
     Ok(sink)
 }
 
-// Bytes as text, with a mark where no LF ends them.
+// Prints bytes as text, each line after `mark`. Prints `\` if no LF ends them.
 fn tell_text<R: Print>(rt: &R, bytes: &[u8], mark: &str) -> io::Result<()> {
     let text = std::str::from_utf8(bytes).unwrap_or("?");
     for line in text.lines() {
@@ -84,7 +84,7 @@ fn tell_text<R: Print>(rt: &R, bytes: &[u8], mark: &str) -> io::Result<()> {
     Ok(())
 }
 
-// How a run ended.
+// Prints the outcome of a run.
 fn tell_ended<R: Print>(rt: &R, status: Status, out: &MemSink, err: &MemSink) -> io::Result<()> {
     tell_text(rt, out.bytes(), "")?;
     tell_text(rt, err.bytes(), "! ")?;
@@ -104,7 +104,7 @@ fn run_over<R: Print + AllocGlobal>(
     tell_ended(rt, status, &out, &err)
 }
 
-// Runs the program on these words, over those of the files that they name.
+// Runs the program on these words, over the files that they name.
 fn run_words<R: Print + AllocGlobal>(
     rt: &R,
     files: &[File],
@@ -117,7 +117,7 @@ fn run_words<R: Print + AllocGlobal>(
     run_over(rt, &mut shelf, faults, words)
 }
 
-/// Runs the program on the words of a line, and prints how that ended.
+/// Runs the program on the words of a line, and prints the outcome.
 pub fn tell<R: Print + AllocGlobal>(
     rt: &R,
     files: &[File],

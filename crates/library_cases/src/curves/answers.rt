@@ -1,10 +1,10 @@
-// What the calls answer to the cases.
+// The answers of the calls over curves.
 use crate::curves::reading::{Fault, curve, is_never_negative, time};
 use nf_curve::{Curve, Difference};
 use nf_frac::{Part, Q};
 use std::alloc::Global;
 
-/// What a call answers.
+/// The answer of a call.
 #[derive(Drop)]
 pub enum CurveAnswer {
     Value(Q),
@@ -12,7 +12,7 @@ pub enum CurveAnswer {
     Difference(Option<Difference>),
 }
 
-// What stands before the next `|`, and what stands behind it.
+// Splits the operands at the first `|`.
 fn split(operands: &str) -> Result<(&str, &str), Fault> {
     operands.split_once('|').ok_or(Fault::NoCase)
 }
@@ -26,7 +26,7 @@ fn short(alloc: Global, operands: &str) -> Result<CurveAnswer, Fault> {
     Ok(CurveAnswer::Curve(short))
 }
 
-// What a call on a curve and a time answers.
+// Answers a call on a curve and a time.
 fn at_time(alloc: Global, call: &str, curve: &Curve, at: &str) -> Result<CurveAnswer, Fault> {
     let at = time(at)?;
     match call {
@@ -35,7 +35,7 @@ fn at_time(alloc: Global, call: &str, curve: &Curve, at: &str) -> Result<CurveAn
     }
 }
 
-// The same of a curve that is written so.
+// Answers a call on a curve and a time, both given as words.
 fn of_one(alloc: Global, call: &str, operands: &str) -> Result<CurveAnswer, Fault> {
     let (points, at) = split(operands)?;
     let curve = curve(alloc, points)?;
@@ -60,7 +60,7 @@ fn difference(left: &Curve, right: &Curve, until: &str) -> Result<CurveAnswer, F
     Ok(CurveAnswer::Difference(found))
 }
 
-// What a call on two curves answers.
+// Answers a call on two curves.
 fn of_curves(
     alloc: Global,
     call: &str,
@@ -76,7 +76,7 @@ fn of_curves(
     }
 }
 
-// The same of the curves that are written so.
+// Answers a call on two curves, which are given as words.
 fn of_two(
     alloc: Global,
     call: &str,
@@ -89,20 +89,20 @@ fn of_two(
     of_curves(alloc, call, &left, &right, until)
 }
 
-// A call on two curves.
+// Answers a call on two curves without a time.
 fn of_pair(alloc: Global, call: &str, operands: &str) -> Result<CurveAnswer, Fault> {
     let (left, right) = split(operands)?;
     of_two(alloc, call, left, right, "")
 }
 
-// A call on two curves and a time.
+// Answers a call on two curves and a time.
 fn of_three(alloc: Global, call: &str, operands: &str) -> Result<CurveAnswer, Fault> {
     let (left, operands) = split(operands)?;
     let (right, until) = split(operands)?;
     of_two(alloc, call, left, right, until)
 }
 
-/// What the call of this case answers.
+/// Answers the call of this line.
 pub fn answer_to(alloc: Global, line: &str) -> Result<CurveAnswer, Fault> {
     let (call, operands) = line.split_once(' ').ok_or(Fault::NoCase)?;
     match call {

@@ -1,4 +1,4 @@
-// Numbers, times and curves as a case writes them.
+// Numbers, times and curves in the form of a case.
 ghost use Rattle.std.specs.Prelude.{◌≡◌, ◌<◌, ℕ, length, IfOk, IsTrue};
 ghost use Rattle.nf_rational.specs.Rational.{ℚ};
 ghost use Rattle.nf_rational.specs.Operations.{0ℚ};
@@ -10,7 +10,7 @@ use nf_curve::Curve;
 use nf_frac::{Halt, PassedAt, Q};
 use std::alloc::{AllocError, Global};
 
-/// Why a line isn't answered by a value: it is no case, an operation passes, or memory is wanting.
+/// The reason why a line has no value: the line is not a case, an operation passes, or an allocation failed.
 #[derive(Drop)]
 pub enum Fault {
     NoCase,
@@ -39,7 +39,7 @@ impl From<AllocError> for Fault {
     }
 }
 
-/// The time of a word: it isn't negative.
+/// Returns the time that a word writes. The time must not be negative.
 pub fn time(word: &str) -> Result<Q, Fault>
     ensures { IfOk result (λ time. 0ℚ ≤ℚ time) }
 {
@@ -49,7 +49,7 @@ pub fn time(word: &str) -> Result<Q, Fault>
     }
 }
 
-// One more point, at a time after the last.
+// Appends a point. Its time must be after the last one.
 #[tactic(auto, using(nf_curve::proofs::Points::after_last))]
 fn push_later(curve: &mut Curve, time: Q, value: Q) -> Result<(), Fault> {
     let (last, _) = curve.point(curve.len() - 1);
@@ -61,7 +61,7 @@ fn push_later(curve: &mut Curve, time: Q, value: Q) -> Result<(), Fault> {
     }
 }
 
-// Adds the points after the first.
+// Appends the points after the first.
 fn add_points(curve: &mut Curve, numbers: &[Q]) -> Result<(), Fault> {
     curve.reserve(numbers.len() / 2)?;
     for i in 1..numbers.len() / 2 {
@@ -70,7 +70,7 @@ fn add_points(curve: &mut Curve, numbers: &[Q]) -> Result<(), Fault> {
     Ok(())
 }
 
-// The curve of numbers: a time and a value for each point.
+// Returns the curve of these numbers, a time and a value for each point.
 fn curve_of(alloc: Global, numbers: &[Q]) -> Result<Curve, Fault> {
     if numbers.is_empty() || numbers.len() % 2 != 0 || !numbers[0].is_zero() {
         return Err(Fault::NoCase);
@@ -80,7 +80,7 @@ fn curve_of(alloc: Global, numbers: &[Q]) -> Result<Curve, Fault> {
     Ok(curve)
 }
 
-/// The curve of words that are numbers.
+/// Returns the curve whose numbers the words write.
 pub fn curve(alloc: Global, words: &str) -> Result<Curve, Fault> {
     match numbers(alloc, words) {
         Some(numbers) => curve_of(alloc, &numbers),
@@ -88,7 +88,7 @@ pub fn curve(alloc: Global, words: &str) -> Result<Curve, Fault> {
     }
 }
 
-/// No point has a negative value, and so the curve has none.
+/// Returns whether no point has a negative value. If so, no value of the curve is negative.
 pub fn is_never_negative(curve: &Curve) -> bool
     ensures { IsTrue result → (time : ℚ) → 0ℚ ≤ℚ time → 0ℚ ≤ℚ value_of curve.now.points time }
 {

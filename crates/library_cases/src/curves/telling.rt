@@ -6,7 +6,7 @@ use nf_curve::{Curve, Difference};
 use std::alloc::AllocError;
 use std::io;
 
-// What stands before a point.
+// Returns the separator before a point.
 fn before(place: usize) -> &'static str {
     if place == 0 { "" } else { " " }
 }
@@ -26,7 +26,7 @@ fn tell_difference(rt: &HostRuntime, found: Option<Difference>) -> io::Result<()
     }
 }
 
-/// Prints what a case comes to.
+/// Prints the answer to a case.
 pub fn tell(rt: &HostRuntime, answer: &Result<CurveAnswer, Fault>) -> io::Result<()> {
     match answer {
         Ok(CurveAnswer::Value(value)) => println!(rt; "{}", Shown(*value)),

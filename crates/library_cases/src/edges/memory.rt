@@ -5,7 +5,7 @@ use nf_edge::{MemShelf, MemSink, Shelf};
 use std::alloc::{AllocError, Global};
 use std::io;
 
-// Puts files on a shelf, of which the fifth fetch fails.
+// Puts files on a shelf whose fifth fetch fails.
 fn fill(alloc: Global, shelf: &mut MemShelf) -> Result<(), AllocError> {
     shelf.put(alloc, "A", b"one")?;
     shelf.put(alloc, "B", b"two two")?;
@@ -37,7 +37,7 @@ fn tell_fetches(rt: &HostRuntime, shelf: &mut MemShelf) -> io::Result<()> {
     Ok(())
 }
 
-/// What was put under a name last is given, unless it is longer than the limit or the call fails.
+/// Prints fetches from a shelf. A fetch returns the last file put under the name, unless it exceeds the limit or the call fails.
 pub fn shelf(rt: &HostRuntime) -> io::Result<()> {
     let mut shelf = MemShelf::new(rt.alloc());
     fill(rt.alloc(), &mut shelf)?;
@@ -49,7 +49,7 @@ fn tell_written(rt: &HostRuntime, sink: &mut MemSink) -> io::Result<()> {
     println!(rt; "`{}` {answer}", as_text(sink.bytes()))
 }
 
-// A text is written into a sink with so much room, which takes at most so many bytes a write, until a write fails.
+// Writes a text into a sink of `room` bytes. Each write accepts at most `most` bytes, and the write with number `failing` fails.
 fn written(rt: &HostRuntime, room: u32, most: u32, failing: u32) -> io::Result<()> {
     print!(rt; "room {room}, at most {most}, write {failing} fails: ")?;
     let mut sink = MemSink::new(rt.alloc(), room, most.max(1))?;
@@ -57,7 +57,7 @@ fn written(rt: &HostRuntime, room: u32, most: u32, failing: u32) -> io::Result<(
     tell_written(rt, &mut sink)
 }
 
-/// The first bytes are taken, up to the room or to a write that fails.
+/// Prints writes into sinks. A sink accepts the first bytes, up to its room or to a write that fails.
 pub fn sinks(rt: &HostRuntime) -> io::Result<()> {
     let cases: [(u32, u32, u32); 7] = [
         (9, 1, 0),

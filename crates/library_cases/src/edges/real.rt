@@ -8,7 +8,7 @@ use std::{fs, io};
 /// The name of the file.
 const NAME: &str = "library_cases.txt";
 
-// A text of 10,000 bytes.
+// Returns a text of 10,000 bytes.
 fn long_text(alloc: Global) -> Result<Vec<u8>, AllocError> {
     let mut text = Vec::new(alloc);
     for line in 0..2000u32 {
@@ -25,7 +25,7 @@ fn compared(bytes: &[u8], text: &[u8]) -> &'static str {
     }
 }
 
-// Fetches the file, at most so many bytes, and compares it with the text that was written.
+// Fetches the file with a limit, and compares its bytes with the text that was written.
 fn fetch<S: Shelf>(rt: &HostRuntime, shelf: &mut S, limit: u32, text: &[u8]) -> io::Result<()> {
     match shelf.fetch(rt.alloc(), NAME, limit) {
         Ok(bytes) => {
@@ -36,7 +36,7 @@ fn fetch<S: Shelf>(rt: &HostRuntime, shelf: &mut S, limit: u32, text: &[u8]) -> 
     }
 }
 
-// Whether the text could be written into the file.
+// Writes the text into the file, and returns whether this succeeds.
 fn write_file(rt: &HostRuntime, text: &[u8]) -> io::Result<bool> {
     let mut sink = StdSink::new(fs::create(rt, NAME)?);
     Ok(write_text(&mut sink, text).is_ok())
@@ -58,13 +58,13 @@ fn tell_file(rt: &HostRuntime, text: &[u8]) -> io::Result<()> {
     }
 }
 
-/// A file is written, and fetched within the limit, beyond it, and when it is gone.
+/// Writes a file, and fetches it within the limit, beyond the limit, and after its removal.
 pub fn file(rt: &HostRuntime) -> io::Result<()> {
     let text = long_text(rt.alloc())?;
     tell_file(rt, &text)
 }
 
-/// A writer with room for four bytes.
+/// Writes a text into a writer with room for four bytes.
 pub fn full_writer(rt: &HostRuntime) -> io::Result<()> {
     let mut room = [b'-'; 4];
     let mut sink = StdSink::new(room.as_mut_slice());

@@ -2,13 +2,13 @@
 use nf_frac::Frac;
 use std::io;
 
-// The parts that are made of two numbers.
+// Returns numerator and denominator of the fraction of two numbers.
 fn parts<const BITS: u32>(num: i128, den: i128) -> Option<(i128, i128)> {
     let value = Frac::<BITS>::make(num, den)?;
     Some((value.numer(), value.denom()))
 }
 
-// The same for a width that is known when the line is read.
+// Returns numerator and denominator of the fraction of two numbers, for a width that is known at run time.
 fn parts_of(bits: &str, num: i128, den: i128) -> Option<(i128, i128)> {
     match bits {
         "3" => parts::<3>(num, den),
@@ -20,7 +20,7 @@ fn parts_of(bits: &str, num: i128, den: i128) -> Option<(i128, i128)> {
     }
 }
 
-/// The parts of the fraction of these two numbers, or that there is none.
+/// Prints numerator and denominator of the fraction of these two numbers, or `none`.
 pub fn tell(rt: &HostRuntime, bits: &str, num: &str, den: &str) -> io::Result<()> {
     let (Ok(num), Ok(den)) = (num.parse::<i128>(), den.parse::<i128>()) else {
         return println!(rt; "no numbers");

@@ -1,9 +1,9 @@
-// The four operations, on narrow fractions, on small ones that stay so, and on wide ones in both their forms.
+// The four operations on narrow fractions, on small fractions with small results, and on wide fractions in both forms.
 use case_lines::{Shown, op_word};
 use nf_frac::{Frac, Op, Passed, Q, Scalar, Small};
 use std::io;
 
-// Which operation a word names.
+// Returns the operation that a word names.
 fn operation(word: &str) -> Option<Op> {
     match word {
         "sum" => Some(Op::Sum),
@@ -14,7 +14,7 @@ fn operation(word: &str) -> Option<Op> {
     }
 }
 
-// What is asked for: an operation and its operands.
+// A question: an operation and its operands.
 #[derive(Clone, Copy)]
 struct Question<const BITS: u32> {
     op: Op,
@@ -32,7 +32,7 @@ impl<const BITS: u32> Question<BITS> {
     }
 }
 
-// The answer of the operation; None for a quotient by 0, which isn't asked for.
+// Returns the answer of the operation. Returns None for a quotient by 0, which is not asked.
 fn worked<const BITS: u32>(
     asked: &Question<BITS>,
 ) -> Option<Result<Frac<BITS>, Passed<Frac<BITS>>>> {
@@ -46,7 +46,7 @@ fn worked<const BITS: u32>(
     }
 }
 
-// The value of the operation on the small forms of its operands; None where one of them has none.
+// Returns the value of the operation on the small forms of its operands. Returns None without these forms, or for a quotient by 0.
 fn worked_small(asked: &Question<127>) -> Option<Q> {
     let left = asked.left.small()?;
     let right = asked.right.small()?;
@@ -59,7 +59,7 @@ fn worked_small(asked: &Question<127>) -> Option<Q> {
     }
 }
 
-// The answer of the operation where no small fraction widens; None for a quotient by 0.
+// Returns the answer of the operation on small fractions, whose result must be small. Returns None for a quotient by 0.
 fn worked_short(op: Op, left: Small, right: Small) -> Option<Result<Small, Passed<Small>>> {
     match op {
         Op::Sum => Some(Scalar::sum(left, right)),
@@ -70,7 +70,7 @@ fn worked_short(op: Op, left: Small, right: Small) -> Option<Result<Small, Passe
     }
 }
 
-// The same with wide operands, which have a small form.
+// Returns the answer of `worked_short` on the small forms of wide operands. Returns None without these forms, or for a quotient by 0.
 fn worked_short_on(asked: &Question<127>) -> Option<Result<Q, Passed<Q>>> {
     let left = asked.left.small()?;
     let right = asked.right.small()?;
@@ -84,7 +84,7 @@ fn worked_short_on(asked: &Question<127>) -> Option<Result<Q, Passed<Q>>> {
     }
 }
 
-/// An operation that passes, with its operands.
+/// Prints an operation that passes, with its operands.
 pub fn tell_passed<const BITS: u32>(
     rt: &HostRuntime,
     passed: &Passed<Frac<BITS>>,
@@ -97,7 +97,7 @@ pub fn tell_passed<const BITS: u32>(
     )
 }
 
-/// What an operation comes to.
+/// Prints the result of an operation.
 pub fn tell_outcome<const BITS: u32>(
     rt: &HostRuntime,
     outcome: &Result<Frac<BITS>, Passed<Frac<BITS>>>,
@@ -108,7 +108,7 @@ pub fn tell_outcome<const BITS: u32>(
     }
 }
 
-// The form that a value is kept in.
+// Returns the form in which a value is stored.
 fn form(value: Q) -> &'static str {
     if value.small().is_some() {
         "small"
@@ -117,7 +117,7 @@ fn form(value: Q) -> &'static str {
     }
 }
 
-// Whether the small forms of the operands give the same value.
+// Returns whether the small forms of the operands give the same value.
 fn agreement(asked: &Question<127>, value: Q) -> &'static str {
     match worked_small(asked) {
         None => "of wide operands",
@@ -126,7 +126,7 @@ fn agreement(asked: &Question<127>, value: Q) -> &'static str {
     }
 }
 
-/// The operation on fractions of 15 bits.
+/// Prints the result of the operation on fractions of 15 bits.
 pub fn tell_narrow(rt: &HostRuntime, op: &str, left: &str, right: &str) -> io::Result<()> {
     let Some(asked) = Question::<15>::read(op, left, right) else {
         return println!(rt; "no operation");
@@ -137,7 +137,7 @@ pub fn tell_narrow(rt: &HostRuntime, op: &str, left: &str, right: &str) -> io::R
     }
 }
 
-/// The operation on small fractions that stay so.
+/// Prints the result of the operation on small fractions, whose result must be small.
 pub fn tell_short(rt: &HostRuntime, op: &str, left: &str, right: &str) -> io::Result<()> {
     let Some(asked) = Question::<127>::read(op, left, right) else {
         return println!(rt; "no operation");
@@ -148,13 +148,13 @@ pub fn tell_short(rt: &HostRuntime, op: &str, left: &str, right: &str) -> io::Re
     }
 }
 
-// The value of the operation, with its form, and whether small operands give the same.
+// Prints the value of the operation, its form, and whether small operands give the same value.
 fn tell_value(rt: &HostRuntime, asked: &Question<127>, value: Q) -> io::Result<()> {
     let agreement = agreement(asked, value);
     println!(rt; "{}, {}, {agreement}", Shown(value), form(value))
 }
 
-/// The operation on fractions of 127 bits, with the form of its value.
+/// Prints the result of the operation on fractions of 127 bits, with the form of its value.
 pub fn tell_wide(rt: &HostRuntime, op: &str, left: &str, right: &str) -> io::Result<()> {
     let Some(asked) = Question::<127>::read(op, left, right) else {
         return println!(rt; "no operation");

@@ -1,4 +1,4 @@
-// How two fractions compare.
+// Comparison of two fractions.
 use case_lines::Shown;
 use nf_frac::Q;
 use std::cmp::Ordering;
@@ -19,7 +19,7 @@ fn name(order: Ordering) -> &'static str {
     }
 }
 
-// Whether each call that compares says the same as `cmp`, also of the two negated.
+// Returns whether each comparing call agrees with `cmp`, also for the negated fractions.
 fn is_agreed(left: Q, right: Q) -> bool {
     let order = left.cmp(&right);
     right.cmp(&left) == order.reverse()
@@ -30,7 +30,7 @@ fn is_agreed(left: Q, right: Q) -> bool {
         && left.is_zero() == (left == Q::zero())
 }
 
-// Whether the small forms of the two, if both have one, say the same as they do.
+// Returns whether the small forms of the fractions, if both exist, compare in the same way.
 fn is_agreed_by_small(left: Q, right: Q) -> bool {
     match (left.small(), right.small()) {
         (Some(one), Some(other)) => {
@@ -42,7 +42,7 @@ fn is_agreed_by_small(left: Q, right: Q) -> bool {
     }
 }
 
-// Whether the calls agree.
+// Returns the printed agreement of the calls.
 fn agreement(left: Q, right: Q) -> &'static str {
     if is_agreed(left, right) && is_agreed_by_small(left, right) {
         ""
@@ -51,7 +51,7 @@ fn agreement(left: Q, right: Q) -> &'static str {
     }
 }
 
-// Whether the hashes are equal.
+// Returns whether the hashes are equal.
 fn hashes(left: Q, right: Q) -> &'static str {
     if hash_of(left) == hash_of(right) {
         "equal"
@@ -72,7 +72,7 @@ fn tell_order(rt: &HostRuntime, left: Q, right: Q) -> io::Result<()> {
     println!(rt; ", hashes {}", hashes(left, right))
 }
 
-/// How the two compare, whether the calls agree on it, the lesser, the greater, and whether their hashes are equal.
+/// Prints how two fractions compare, whether the calls agree, the lesser, the greater, and whether their hashes are equal.
 pub fn tell(rt: &HostRuntime, left: &str, right: &str) -> io::Result<()> {
     match (Q::read(left.as_bytes()), Q::read(right.as_bytes())) {
         (Ok(left), Ok(right)) => tell_order(rt, left, right),

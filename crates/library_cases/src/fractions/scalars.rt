@@ -14,7 +14,7 @@ use case_lines::{Shown, op_word};
 use nf_frac::{Frac, Halt, Part, Passed, PassedAt, Q, Scalar, at};
 use std::io;
 
-// a · b - c, proved from what `Scalar` says alone.
+// Computes a · b - c. Proof: only the contract of `Scalar` is used.
 #[tactic(auto, unfolding(crate::specs::Samples::product_less))]
 fn product_less<S: Scalar>(a: S, b: S, c: S) -> Result<S, Passed<S>>
     ensures { seen S.means S.means result ≡ product_less S.passes (S.means a) (S.means b) (S.means c) }
@@ -23,7 +23,7 @@ fn product_less<S: Scalar>(a: S, b: S, c: S) -> Result<S, Passed<S>>
     product.difference(c)
 }
 
-// The same in a part of the work.
+// Computes a · b - c in a part of the work.
 #[tactic(auto, unfolding(crate::specs::Samples::product_less))]
 fn product_less_at(a: Q, b: Q, c: Q) -> Result<Q, PassedAt<Q>>
     ensures { result ≡ at_part Part.Table (product_less (beyond (bound_of 127)) a b c) }
@@ -33,7 +33,7 @@ fn product_less_at(a: Q, b: Q, c: Q) -> Result<Q, PassedAt<Q>>
     Ok(less)
 }
 
-// The same beside what may want memory.
+// Computes a · b - c with an error type that also has an allocation failure.
 #[tactic(auto, unfolding(crate::specs::Samples::product_less))]
 fn product_less_or_halt<S: Scalar>(a: S, b: S, c: S) -> Result<S, Halt<S>>
     ensures { Gives S.means S.means result (at_part Part.Curve (product_less S.passes (S.means a) (S.means b) (S.means c))) }
@@ -43,7 +43,7 @@ fn product_less_or_halt<S: Scalar>(a: S, b: S, c: S) -> Result<S, Halt<S>>
     Ok(less)
 }
 
-// a / b, or 0 where b is 0.
+// Computes a / b, or 0 if b is 0.
 fn quotient_or_zero<S: Scalar>(a: S, b: S) -> Result<S, Passed<S>>
     ensures zero { S.means b ≡ 0ℚ → IfOk result (λ x. S.means x ≡ 0ℚ) }
     ensures quotient { S.means b ≢ 0ℚ → seen S.means S.means result ≡ checked S.passes Quotient (S.means a) (S.means b) }
@@ -54,19 +54,19 @@ fn quotient_or_zero<S: Scalar>(a: S, b: S) -> Result<S, Passed<S>>
     a.quotient(b)
 }
 
-// The lesser of the two.
+// Returns the lesser of two numbers.
 fn lesser<S: Scalar>(a: S, b: S) -> S
     ensures { S.means result ≡ min_ℚ (S.means a) (S.means b) }
 {
     if b < a { b } else { a }
 }
 
-// The fraction of a word, or 0.
+// Returns the fraction that a word writes, or 0.
 fn value<const BITS: u32>(word: &str) -> Frac<BITS> {
     Frac::read(word.as_bytes()).unwrap_or(Frac::zero())
 }
 
-// Where in the work the operation was, and what it was.
+// Prints the part of the work of an operation that passes, the operation, and its operands.
 fn tell_at(rt: &HostRuntime, at: &PassedAt<Q>) -> io::Result<()> {
     let (part, op) = (part_name(at.part), op_word(at.op));
     print!(rt;
@@ -91,7 +91,7 @@ fn tell_halt(rt: &HostRuntime, answer: &Result<Q, Halt<Q>>) -> io::Result<()> {
     }
 }
 
-/// a · b - c in the table's part and in the curves' part of 127 bits, then with 15 bits.
+/// Prints a · b - c in the table's part and in the curves' part of 127 bits, then with 15 bits.
 pub fn tell_less(rt: &HostRuntime, a: &str, b: &str, c: &str) -> io::Result<()> {
     let (left, right, taken) = (value::<127>(a), value::<127>(b), value::<127>(c));
     tell_table(rt, &product_less_at(left, right, taken))?;
@@ -101,7 +101,7 @@ pub fn tell_less(rt: &HostRuntime, a: &str, b: &str, c: &str) -> io::Result<()> 
     tell_outcome(rt, &narrow)
 }
 
-/// The quotient, or 0 where b is 0, and the lesser of the two.
+/// Prints the lesser of two numbers, then their quotient, or 0 if b is 0.
 pub fn tell_ratio(rt: &HostRuntime, a: &str, b: &str) -> io::Result<()> {
     let (left, right) = (value::<127>(a), value::<127>(b));
     print!(rt; "lesser {}, ", Shown(lesser(left, right)))?;
