@@ -47,8 +47,7 @@ fn solve_to(alloc: Global, net: &Network, horizon: Q, budgets: Budgets) -> Resul
 {
     // For the proof: the network is that of an accepted file, and the parts of the horizon are within the bound.
     net.recall();
-    let _ = horizon.numer();
-    let _ = horizon.denom();
+    horizon.recall();
     let solution = solve(alloc, net, horizon, budgets)?;
     Ok(Computed::Solved { horizon, solution })
 }
@@ -157,8 +156,7 @@ fn resume_to(
 {
     // For the proof: the network is that of an accepted file, and the parts of the horizon are within the bound.
     net.recall();
-    let _ = horizon.numer();
-    let _ = horizon.denom();
+    horizon.recall();
     let report = parse_report(alloc, net, text)?;
     match resume(alloc, net, &report, horizon, budgets) {
         Ok(solution) => Ok(Computed::Solved { horizon, solution }),

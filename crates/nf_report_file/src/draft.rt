@@ -71,7 +71,7 @@ fn put_behind(trace: &mut Trace, point: &RatedPoint) -> Result<(), AllocError>
     ensures rates { OnOk result (trace.new.rates.items ≡ with_rate trace.old.rates.items point.now.rate) }
 {
     // Proof: a curve has a point.
-    let _ = trace.curve.len();
+    trace.curve.recall();
     push_rate(&mut trace.rates, point.rate)?;
     trace.curve.push(point.time, point.value)
 }
