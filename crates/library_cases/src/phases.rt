@@ -72,7 +72,7 @@ fn begin(
     if !are_fit(net, &sets, last) {
         return Ok(None);
     }
-    let first = base(alloc, net.node_count(), net.hops(), &sets, last)?;
+    let first = base(alloc, net.hops(), &sets, last)?;
     Ok(Some((sets, first)))
 }
 

@@ -6,12 +6,9 @@ use Rattle.nf_model.specs.Network.{unbounded}
 use Rattle.nf_model.specs.ThinFlow.{Sets}
 use Rattle.nf_model.specs.Walk.{Hop}
 use Rattle.nf_pattern.proofs.FirstPatterns.{base_is_pattern}
-use Rattle.nf_thin.proofs.Hops.{below_nodes, hops_length, few_hops}
+use Rattle.nf_thin.proofs.Hops.{hops_length, few_hops}
 use Rattle.library_cases.proofs.Fitting.{active_count, sets_of_links}
 use Rattle.library_cases.proofs.phases.begin.Goals as goal
-
-pub base-requires-clause-ends : goal.base-requires-clause-ends
-base-requires-clause-ends c = rw (c.node_count.ensures, c.hops.ensures.value) (below_nodes c.args.net.now.net c.hops.ensures.named.network)
 
 pub returns-clause-base : goal.returns-clause-base
 returns-clause-base c = base_is_pattern c.hops.result.now c.in_ok-sets.sets (unbounded c.args.net.now.net) c.args.last.now c.in_ok-first.first c.in_ok-first.ensures

@@ -38,5 +38,5 @@ returns-in-Ok c file name =
 pub returns : goal.returns
 returns c file name =
     let old = report_of c.in_ok-report.report in
-    c.refuse_resume.ensures file name c.args.text.now c.args.horizon c.args.budgets.phases c.args.budgets.patterns old
+    c.refuse_resume.ensures c.args.net.now file name c.args.text.now c.args.horizon c.args.budgets.phases c.args.budgets.patterns old
     (a_report c.args.net.now c.recall.ensures c.args.text.now old c.in_ok-report.ensures.reads) c.in-Err.ensures.fault
