@@ -1,5 +1,5 @@
 // What a network file as a whole says: the rules N17 to N22.
-ghost use Rattle.std.specs.Prelude.{◌≡◌, ◌<◌, ◌≤◌, true, false, not, is_some, length, unwrap_or, [], IfOk, MatchOption, MatchBool};
+ghost use Rattle.std.specs.Prelude.{◌≡◌, ◌<◌, ◌≤◌, true, not, is_some, length, unwrap_or, [], IfOk, MatchOption, MatchBool};
 ghost use Rattle.std.specs.List.{list_any};
 ghost use Rattle.nf_model.specs.Network.{hop_of};
 ghost use Rattle.nf_formats.specs.Names.{place_of};
