@@ -9,6 +9,7 @@ ghost use Rattle.nf_quick.specs.Answered as answered;
 ghost use Rattle.nf_quick.specs.declared.fault.QuickFault.TheVariants as QuickFault;
 ghost use Rattle.nf_quick_lists.specs.Answers.{IsQuickFlow};
 ghost use Rattle.nf_rational.specs.Rational.{ℚ};
+ghost use Rattle.nf_formats.specs.Named.{Named};
 ghost use Rattle.nf_formats.specs.Report.{Report};
 ghost use Rattle.nf_resume.specs.Faults.{IsResumeFault};
 ghost use Rattle.nf_outside.specs.Files.{visit, report_limit};
@@ -47,8 +48,7 @@ fn solve_to(alloc: Global, net: &Network, horizon: Q, budgets: Budgets) -> Resul
 {
     // Proof: the network is that of an accepted file, and the parts of the horizon are within the bound.
     net.recall();
-    let _ = horizon.numer();
-    let _ = horizon.denom();
+    horizon.recall();
     let solution = solve(alloc, net, horizon, budgets)?;
     Ok(Computed::Solved { horizon, solution })
 }
@@ -132,9 +132,9 @@ fn settle_to(alloc: Global, net: &Network, text: &[u8]) -> Result<Computed, Refu
 }
 
 // Returns why a report isn't resumed: if its flow is no equilibrium, the verdict of the check.
-fn refuse_resume(net: &Network, fault: ResumeFault) -> Result<Computed, Refusal>
-    ensures { (file name text : List ℕ) (horizon : ℚ) (phases patterns : ℕ) (old : Report) → IsReportText net.now text old
-        → IsResumeFault passes_Q net.now.net old horizon fault → IsGiving net.now text (Resume file name horizon phases patterns) result }
+fn refuse_resume(fault: ResumeFault) -> Result<Computed, Refusal>
+    ensures { (net : Named) (file name text : List ℕ) (horizon : ℚ) (phases patterns : ℕ) (old : Report) → IsReportText net text old
+        → IsResumeFault passes_Q net.net old horizon fault → IsGiving net text (Resume file name horizon phases patterns) result }
 {
     match fault {
         ResumeFault::Earlier { .. } => Err(Refusal::Earlier),
@@ -157,12 +157,11 @@ fn resume_to(
 {
     // Proof: the network is that of an accepted file, and the parts of the horizon are within the bound.
     net.recall();
-    let _ = horizon.numer();
-    let _ = horizon.denom();
+    horizon.recall();
     let report = parse_report(alloc, net, text)?;
     match resume(alloc, net, &report, horizon, budgets) {
         Ok(solution) => Ok(Computed::Solved { horizon, solution }),
-        Err(fault) => refuse_resume(net, fault),
+        Err(fault) => refuse_resume(fault),
     }
 }
 

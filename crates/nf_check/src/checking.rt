@@ -82,7 +82,7 @@ fn know_curves(curves: &[Curve])
     ensures { (i : ℕ) → i < length curves.now → IsCurve (points_at (curves_of curves.now) i) }
 {
     for curve in curves {
-        let _ = curve.len();
+        curve.recall();
     }
 }
 
@@ -91,7 +91,7 @@ fn know_traces(traces: &[Trace])
     ensures { (i : ℕ) → i < length traces.now → IsCurve (points_at (points_of (map trace_of traces.now)) i) }
 {
     for trace in traces {
-        let _ = trace.curve.len();
+        trace.curve.recall();
     }
 }
 

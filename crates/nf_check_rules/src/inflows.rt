@@ -42,7 +42,7 @@ fn inflow_fault(curve: &Curve) -> Option<Difference>
     ensures { option_map difference_of result ≡ fault_by curve.now.points }
 {
     // Proof: there is a point.
-    let _ = curve.len();
+    curve.recall();
     let (_, first) = curve.point(0);
     if first.is_zero() {
         first_fall(curve)

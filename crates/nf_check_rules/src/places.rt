@@ -18,7 +18,7 @@ fn place_down(curve: &Curve, from: usize, time: Q) -> usize
     ensures { result ≤ place_of time curve.now.points }
 {
     // Proof: times rise.
-    let _ = curve.len();
+    curve.recall();
     let mut place = from;
     while place > 0 && time.is_below(curve.point(place - 1).0) {
         place -= 1;

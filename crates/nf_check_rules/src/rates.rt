@@ -41,7 +41,7 @@ fn check_trace(link: LinkId, trace: &Trace) -> Result<(), Ended>
     ensures { Tries (λ _. tt) result (rates_list passes_Q (OfLink link) trace.now.curve.points trace.now.rates.items) }
 {
     // Proof: times rise.
-    let _ = trace.curve.len();
+    trace.curve.recall();
     for (i, rate) in trace.rates.iter().enumerate() {
         let point = trace.curve.point(i);
         let next = trace.curve.point(i + 1);

@@ -82,7 +82,7 @@ impl Sent {
         ensures curves { IfOk result AreCurves }
     {
         // Proof: the exits are a curve.
-        let _ = exits.len();
+        exits.recall();
         let all_taken = Curve::compose(alloc, inflow, tail_label, last, Part::Check)?;
         let taken = Curve::short(alloc, &all_taken, Part::Check)?;
         let labels = Curve::short(alloc, head_label, Part::Check)?;

@@ -30,7 +30,7 @@ pub(crate) fn first_value(curve: &Curve) -> Q
     ensures nonnegative { AllByRecursion (λ q. 0ℚ ≤ℚ q.1) curve.now.points → 0ℚ ≤ℚ result }
 {
     // Proof: there is a point.
-    let _ = curve.len();
+    curve.recall();
     let (_, value) = curve.point(0);
     value
 }

@@ -1,7 +1,8 @@
 // The first undirected cycle of chosen links. The search adds the links one by one, and looks for a path between the ends of each along the
 // chosen links before it.
-ghost use Rattle.std.specs.Prelude.{◌≡◌, ◌<◌, ◌^◌, not, length, IfOk, MatchOption, Option, None, []};
+ghost use Rattle.std.specs.Prelude.{◌≡◌, ◌<◌, ◌^◌, not, length, IfOk, MatchOption, List, Bool, Option, None, []};
 ghost use Rattle.nf_model.specs.Entries.{Has};
+ghost use Rattle.nf_model.specs.Walk.{Hop as SeenHop};
 ghost use Rattle.nf_model.specs.Pattern.{IsForest};
 ghost use Rattle.nf_graph.specs.Graph.{AreBelow};
 ghost use Rattle.nf_complete.specs.Cycles.{IsClosed, IsFirstCycle, Closes, round_onto, lower as lower_of, lowest_from};
@@ -60,17 +61,10 @@ fn rounded(alloc: Global, steps: &[Step]) -> Result<Vec<Step>, AllocError>
 }
 
 // Returns the closed steps, reversed if they use their lowest link backward.
-fn with_lowest_forward(
-    alloc: Global,
-    hops: &[Hop],
-    chosen: &[bool],
-    steps: Vec<Step>,
-) -> Result<Vec<Step>, AllocError>
-    requires { IsClosed hops.now chosen.now steps.items }
-    ensures { IfOk result (λ all. IsFirstCycle hops.now chosen.now all.items) }
+fn with_lowest_forward(alloc: Global, steps: Vec<Step>) -> Result<Vec<Step>, AllocError>
+    ensures { (hops : List SeenHop) (chosen : List Bool) → IsClosed hops chosen steps.items
+        → IfOk result (λ all. IsFirstCycle hops chosen all.items) }
 {
-    let _ = hops;
-    let _ = chosen;
     if let Some(least) = lowest(&steps) {
         if !least.forward {
             return rounded(alloc, &steps);
@@ -113,7 +107,7 @@ pub(crate) fn first_cycle(
                         link: LinkId(e as u32),
                         forward: true,
                     })?;
-                    let steps = with_lowest_forward(alloc, hops, chosen, steps)?;
+                    let steps = with_lowest_forward(alloc, steps)?;
                     return Ok(Some(Cycle { steps, last: e }));
                 }
                 None => before[e] = true,

@@ -1,5 +1,6 @@
 // Settling of a thin flow. Cycles are cancelled until the interior links hold none.
 ghost use Rattle.std.specs.Prelude.{◌≡◌, ◌<◌, length, Ok, IfOk, MatchOption};
+ghost use Rattle.nf_rational.specs.Rational.{ℚ};
 ghost use Rattle.nf_rational.specs.Operations.{0ℚ};
 ghost use Rattle.nf_rational.specs.Order.{◌≤ℚ◌};
 ghost use Rattle.nf_work.specs.Passing.{passes_Q};
@@ -54,18 +55,16 @@ fn cancelled(
     alloc: Global,
     net: &Network,
     sets: &LinkSets,
-    rate: Q,
     fulls: &[Option<Q>],
     flows: &[Q],
     slopes: &[Q],
 ) -> Result<Vec<Q>, Halt<Q>>
     requires sets { AreGoodSets net.now.net sets.now }
-    requires thin { IsThinFlow net.now.net sets.now rate flows.now slopes.now }
+    requires thin { (rate : ℚ) × IsThinFlow net.now.net sets.now rate flows.now slopes.now }
     requires fulls { fulls_list passes_Q net.now.net sets.now slopes.now ≡ Ok fulls.now }
     ensures { ComesTo (Cancels passes_Q net.now.net sets.now slopes.now fulls.now flows.now) (λ new. new.items) result }
 {
-    // Proof: `rate` is the rate of the thin flow, and there are fewer than 2^32 links.
-    let _ = rate;
+    // Proof: there are fewer than 2^32 links.
     let _ = net.link_count();
     let mut new = flows.to_vec(alloc)?;
     let mut known = 0;
@@ -107,7 +106,7 @@ pub fn settle(
     // Proof: every network is well formed.
     net.recall();
     let fulls = fulls(alloc, net, sets, slopes)?;
-    let flows = cancelled(alloc, net, sets, rate, &fulls, flows, slopes)?;
+    let flows = cancelled(alloc, net, sets, &fulls, flows, slopes)?;
     let pattern = settled_pattern(alloc, net, sets, &fulls, &flows, slopes)?;
     Ok(Settled { flows, pattern })
 }

@@ -96,6 +96,15 @@ impl Curve {
         Ok(())
     }
 
+    /// Does nothing. Proof: states that the points are a curve, so that there is one.
+    #[tactic(auto, using(crate::proofs::Points::points_there))]
+    pub fn recall(&self)
+        ensures some { 0 < length self.now.points }
+        ensures curve { IsCurve self.now.points }
+    {
+        let _ = &self.points;
+    }
+
     /// Returns the number of points, which is at least 1.
     #[tactic(auto, using(crate::proofs::Points::points_there))]
     pub fn len(&self) -> usize

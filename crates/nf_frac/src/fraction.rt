@@ -1,7 +1,7 @@
 // Fractions whose parts have a bounded number of bits.
-ghost use Rattle.std.specs.Prelude.{◌≡◌, ◌≢◌, ◌≤◌, pos, nat_abs, ◌≤ℤ◌, SomeIff};
+ghost use Rattle.std.specs.Prelude.{◌≡◌, ◌≢◌, ◌≤◌, pos, nat_abs, ◌≤ℤ◌, SomeIff, false};
 ghost use Rattle.nf_rational.specs.Operations.{0ℚ, 1ℚ, whole, ◌/ℚ◌};
-ghost use Rattle.nf_work.specs.Passing.{bound_of};
+ghost use Rattle.nf_work.specs.Passing.{bound_of, is_wide};
 ghost use Rattle.nf_frac.specs.Parts.{greatest, IsWithin, IsMade};
 
 use crate::lowest::Lowest;
@@ -58,6 +58,13 @@ impl<const BITS: u32> Frac<BITS> {
             bound(BITS),
         )?;
         Some(Frac { value })
+    }
+
+    /// Does nothing. Proof: states that neither part exceeds the bound in magnitude.
+    pub fn recall(&self)
+        ensures { is_wide (bound_of BITS) self.now ≡ false }
+    {
+        let _ = &self.value;
     }
 
     /// Returns the numerator of the reduced fraction.

@@ -117,7 +117,7 @@ pub fn load_link(
     ensures loaded { IfOk result (λ l. IsLoaded transit capacity inflow.now.points until (loaded_of l)) }
 {
     // Proof: the points of the inflow are a curve.
-    let _ = inflow.len();
+    inflow.recall();
     let cut = inflow.cut(alloc, until, Part::Load)?;
     load_cut(alloc, transit, capacity, &cut, until)
 }

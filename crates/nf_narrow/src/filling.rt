@@ -1,5 +1,5 @@
 // Forced states of links: patterns with and without them, and the link sets without the forced links.
-ghost use Rattle.std.specs.Prelude.{◌≡◌, length, IfOk};
+ghost use Rattle.std.specs.Prelude.{◌≡◌, length, List, Bool, IfOk};
 ghost use Rattle.nf_graph.specs.Sets.{AreSets};
 ghost use Rattle.nf_listing_laws.specs.Forcing.{entrywise, free_state as free_state_of, given_state as given_state_of, still_active as still_active_of, now_resetting as now_resetting_of, left_of, filled, sets_left, IsForcing};
 
@@ -132,16 +132,13 @@ pub(crate) fn left_sets(
     alloc: Global,
     forced: &Pattern,
     sets: &LinkSets,
-    unbounded: &[bool],
     links: u32,
 ) -> Result<LinkSets, AllocError>
     requires links { length sets.now.active ≡ links }
     requires sets { AreSets sets.now }
-    requires forcing { IsForcing sets.now unbounded.now forced.now }
+    requires forcing { (unbounded : List Bool) × IsForcing sets.now unbounded forced.now }
     ensures { IfOk result (λ left. left ≡ sets_left forced.now sets.now) }
 {
-    // Proof: no unbounded link is forced to be Full.
-    let _ = unbounded;
     let active = active_left(alloc, forced, sets, links)?;
     let resetting = resetting_left(alloc, forced, sets, links)?;
     LinkSets::new(alloc, &active, &resetting)

@@ -40,7 +40,7 @@ pub fn narrow_listing(
     }) }
 {
     let links = hops.len() as u32;
-    let left = left_sets(alloc, forced, sets, unbounded, links)?;
+    let left = left_sets(alloc, forced, sets, links)?;
     let part = left_pattern(alloc, forced, base, links)?;
     Patterns::new(alloc, nodes, source, hops, &left, &part, unbounded)
 }

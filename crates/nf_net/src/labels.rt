@@ -6,7 +6,6 @@ ghost use Rattle.nf_net_file.specs.Closing.{HasFraction};
 use crate::network::Network;
 use nf_frac::Q;
 use nf_graph::{DistanceFault, distances};
-use nf_net_file::is_fraction;
 use std::alloc::{AllocError, Global};
 
 // Returns the numbers, none of which is missing.
@@ -34,7 +33,7 @@ fn never_passing(fault: DistanceFault) -> AllocError
             left,
             right: _,
         } => {
-            is_fraction(left);
+            left.recall();
             unreachable!()
         }
         DistanceFault::Memory => AllocError,

@@ -1,10 +1,8 @@
 // What a network file as a whole says: the rules N17 to N22.
-ghost use Rattle.std.specs.Prelude.{◌≡◌, ◌<◌, ◌≤◌, true, false, not, is_some, length, unwrap_or, [], IfOk, MatchOption, MatchBool};
+ghost use Rattle.std.specs.Prelude.{◌≡◌, ◌<◌, ◌≤◌, true, not, is_some, length, unwrap_or, [], IfOk, MatchOption, MatchBool};
 ghost use Rattle.std.specs.List.{list_any};
-ghost use Rattle.nf_work.specs.Passing.{is_wide};
 ghost use Rattle.nf_model.specs.Network.{hop_of};
 ghost use Rattle.nf_formats.specs.Names.{place_of};
-ghost use Rattle.nf_formats.specs.Numbers.{greatest};
 ghost use Rattle.nf_formats.specs.Named.{numbered, hops_among};
 ghost use Rattle.nf_formats.specs.NetClosing.{draft_hops, LeavesUnreached, HasZeroCycle, HasPassingSum};
 ghost use Rattle.nf_net_file.specs.Drafts.{seen_draft};
@@ -17,7 +15,6 @@ use crate::link::NamedLink;
 use crate::name::Name;
 use crate::names::Names;
 use nf_formats::NetRule;
-use nf_frac::Q;
 use nf_graph::{DistanceFault, Hop, NodeId, distances, reached, zero_cycle};
 use std::alloc::{AllocError, Global};
 
@@ -104,14 +101,6 @@ fn leaves_unreached(version: u32, flags: &[bool], sink: NodeId) -> bool
     }
 }
 
-/// Proof: each value of this type is a fraction that fits.
-pub fn is_fraction(value: Q)
-    ensures { is_wide greatest value ≡ false }
-{
-    let _num = value.numer();
-    let _den = value.denom();
-}
-
 /// Whether least transit sums were refused for a sum that passes, and not for want of memory.
 pub fn is_passing(fault: DistanceFault) -> Result<bool, AllocError>
     ensures { IfOk result (λ passing. (passing ≡ true) × HasFraction fault) }
@@ -122,7 +111,7 @@ pub fn is_passing(fault: DistanceFault) -> Result<bool, AllocError>
             left,
             right: _,
         } => {
-            is_fraction(left);
+            left.recall();
             Ok(true)
         }
         DistanceFault::Memory => Err(AllocError),

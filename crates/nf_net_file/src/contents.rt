@@ -1,5 +1,5 @@
 // The lines of a network file, one by one.
-ghost use Rattle.std.specs.Prelude.{◌≡◌, ◌<◌, ◌≤◌, ◌+◌, length, drop, Ok, Err, MatchResult};
+ghost use Rattle.std.specs.Prelude.{◌≡◌, ℕ, ◌<◌, ◌≤◌, ◌+◌, List, length, drop, Ok, Err, MatchResult};
 ghost use Rattle.nf_formats.specs.NetLines.{version_of, add_lines as add_all, draft_from};
 ghost use Rattle.nf_net_file.specs.Words.{AreWithin, word_at};
 ghost use Rattle.nf_net_file.specs.Drafts.{seen_draft};
@@ -33,12 +33,10 @@ fn read_version(words: &Words) -> Option<u32>
 }
 
 // How many lines without words stand before the first with words.
-fn first_content(text: &[u8], lines: &[Line]) -> usize
-    ensures first { IsFirstContent text.now lines.now result }
+fn first_content(lines: &[Line]) -> usize
+    ensures first { (text : List ℕ) → IsFirstContent text lines.now result }
     ensures within { result ≤ length lines.now }
 {
-    // Proof: the clause speaks of the text that the words stand in.
-    let _ = text;
     for (index, line) in lines.iter().enumerate() {
         if line.words.len() > 0 {
             return index;
@@ -85,7 +83,7 @@ pub fn read_draft(alloc: Global, text: &[u8], lines: &[Line]) -> Result<Draft, N
     ensures { MatchResult result (λ draft. draft_from (contents text.now lines.now) ≡ Ok (seen_draft draft))
         (λ fault. IfBroken fault (λ broken. draft_from (contents text.now lines.now) ≡ Err broken)) }
 {
-    let place = first_content(text, lines);
+    let place = first_content(lines);
     if place == lines.len() {
         return Err(NetFault::Broken {
             rule: NetRule::N3,

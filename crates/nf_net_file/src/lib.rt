@@ -14,7 +14,7 @@ mod pieces;
 mod sizes;
 mod words;
 
-pub use closing::{flags_of, hops_of, is_fraction, names_rule, walk_rule};
+pub use closing::{flags_of, hops_of, names_rule, walk_rule};
 pub use contents::read_draft;
 pub use draft::Draft;
 pub use fault::NetFault;

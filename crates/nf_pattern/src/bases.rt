@@ -2,7 +2,6 @@
 ghost use Rattle.std.specs.Prelude.{◌≡◌, ◌^◌, ◌<◌, length, IfOk, MatchBool};
 ghost use Rattle.nf_model.specs.Walk.{Hop as SeenHop, IsHop};
 ghost use Rattle.nf_model.specs.Pattern.{IsFirstInto, IsBase};
-ghost use Rattle.nf_graph.specs.Graph.{AreBelow};
 ghost use Rattle.nf_pattern.specs.Base.{Bars, IsBaseState};
 
 use crate::pattern::Pattern;
@@ -62,12 +61,10 @@ fn base_state(hops: &[Hop], sets: &LinkSets, last: &Pattern, link: LinkId) -> Op
 /// node that no resetting link enters. Otherwise it is Zero. Fails if an allocation fails.
 pub fn base(
     alloc: Global,
-    nodes: u32,
     hops: &[Hop],
     sets: &LinkSets,
     last: &Pattern,
 ) -> Result<Pattern, AllocError>
-    requires ends { AreBelow nodes hops.now }
     requires sets { length sets.now.active ≡ length hops.now }
     requires last { length last.now ≡ length hops.now }
     requires fewer { length hops.now < 2 ^ 32 }

@@ -1,5 +1,5 @@
 // The search for the thin flow of the next phase.
-ghost use Rattle.std.specs.Prelude.{◌≡◌, suc, Ok, IfOk, OnOk, IfErr};
+ghost use Rattle.std.specs.Prelude.{◌≡◌, ℕ, suc, Ok, IfOk, OnOk, IfErr};
 ghost use Rattle.nf_rational.specs.Rational.{ℚ};
 ghost use Rattle.nf_work.specs.Passing.{passes_Q};
 ghost use Rattle.nf_model.specs.Network.{hops as hops_of};
@@ -32,13 +32,14 @@ pub(crate) struct PhaseStart {
 impl Run {
     // Returns the slacks of the links, times. Refuses if an operation exceeds its bound, with the first one, or if memory can't be
     // allocated.
-    fn slacks(&self, alloc: Global, net: &Network, patterns: u64) -> Result<Vec<Q>, StepFault>
+    fn slacks(&self, alloc: Global, net: &Network) -> Result<Vec<Q>, StepFault>
         requires reaches { Reaches passes_Q net.now.net self.now }
         ensures named { IsNamed net.now }
         ensures slacks { IfOk result (λ slacks. slacks.items ≡ slacks_of (hops_of net.now.net) self.now.labels) }
         ensures list { OnOk result
             (slack_list passes_Q (hops_of net.now.net) self.now.labels ≡ Ok (slacks_of (hops_of net.now.net) self.now.labels)) }
-        ensures cause { IfErr result (StandsFor (FindsNone passes_Q net.now.net patterns self.now) (suc self.now.made)) }
+        ensures cause { (patterns : ℕ)
+            → IfErr result (StandsFor (FindsNone passes_Q net.now.net patterns self.now) (suc self.now.made)) }
     {
         let slacks = slacks(alloc, net.hops(), &self.labels)?;
         Ok(slacks)
@@ -56,7 +57,7 @@ impl Run {
         requires sets { sets.now ≡ sets_at net.now.net self.now.labels }
         ensures { (horizon : ℚ) → Finds (IsSearchHere passes_Q net.now.net horizon patterns self.now) patterns result }
     {
-        let base = base(alloc, net.node_count(), net.hops(), sets, &self.last)?;
+        let base = base(alloc, net.hops(), sets, &self.last)?;
         find_thin(alloc, net, sets, net.rate_at(self.reached), &base, patterns)
     }
 
@@ -72,7 +73,7 @@ impl Run {
         ensures found { IfOk result (IsFound passes_Q net.now.net patterns self.now) }
         ensures cause { IfErr result (StandsFor (FindsNone passes_Q net.now.net patterns self.now) (suc self.now.made)) }
     {
-        let slacks = self.slacks(alloc, net, patterns)?;
+        let slacks = self.slacks(alloc, net)?;
         let sets = sets(alloc, &slacks)?;
         let thin = self.thin(alloc, net, &sets, patterns)?;
         Ok(PhaseStart { slacks, sets, thin })

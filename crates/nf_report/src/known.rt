@@ -8,15 +8,14 @@ ghost use Rattle.nf_readings_laws.specs.Readable.{IsCount, IsCountOrNone, AreFra
 
 use nf_curve::{Curve, Stop, Trace};
 use nf_frac::Q;
-use nf_net_file::is_fraction;
 
 fn know_points(curve: &Curve)
     ensures { AreFractionPoints curve.now.points }
 {
     for index in 0..curve.len() {
         let here = curve.point(index);
-        is_fraction(here.0);
-        is_fraction(here.1);
+        here.0.recall();
+        here.1.recall();
     }
 }
 
@@ -24,7 +23,7 @@ fn know_rates(rates: &[Q])
     ensures { AllByRecursion IsFraction rates.now }
 {
     for rate in rates {
-        is_fraction(*rate);
+        rate.recall();
     }
 }
 
@@ -78,8 +77,8 @@ fn know_stop(stop: &Stop)
         Stop::Passed { phase, place, at } => {
             know_count(*phase);
             know_place(*place);
-            is_fraction(at.left);
-            is_fraction(at.right);
+            at.left.recall();
+            at.right.recall();
         }
         Stop::NoPattern { phase } => know_count(*phase),
     }

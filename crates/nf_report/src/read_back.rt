@@ -10,7 +10,6 @@ use crate::known::{know_cause, know_curves, know_traces};
 use nf_curve::{Flow, Stop};
 use nf_frac::Q;
 use nf_net::Network;
-use nf_net_file::is_fraction;
 use nf_pattern::Pattern;
 
 /// Shows that the text of a well-formed report is read back as this report, and is the text of no other readable report.
@@ -38,8 +37,8 @@ pub fn written_reads_back(
 {
     // Proof: the network is that of an accepted file.
     net.recall();
-    is_fraction(horizon);
-    is_fraction(flow.reached);
+    horizon.recall();
+    flow.reached.recall();
     know_cause(stopped);
     know_curves(&flow.labels);
     know_traces(&flow.inflows);

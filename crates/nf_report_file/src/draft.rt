@@ -71,7 +71,7 @@ fn put_behind(trace: &mut Trace, point: &RatedPoint) -> Result<(), AllocError>
     ensures rates { OnOk result (trace.new.rates.items ≡ with_rate trace.old.rates.items point.now.rate) }
 {
     // Proof: a curve has a point.
-    let _ = trace.curve.len();
+    trace.curve.recall();
     push_rate(&mut trace.rates, point.rate)?;
     trace.curve.push(point.time, point.value)
 }
@@ -188,14 +188,11 @@ impl Draft {
     }
 
     // Completes the current curve, and adds an idle node, which has no curve.
-    fn add_never(&mut self, net: &Network) -> Result<(), AllocError>
-        requires within { IsWithin net.now self.old }
-        requires fits { Fits net.now (seen_draft net.now self.old) Never }
-        ensures draft { OnOk result (seen_draft net.now self.new ≡ drafted net.now (seen_draft net.now self.old) Never) }
-        ensures within { OnOk result (IsWithin net.now self.new) }
+    fn add_never(&mut self) -> Result<(), AllocError>
+        ensures draft { (n : Named) → IsWithin n self.old → Fits n (seen_draft n self.old) Never
+            → OnOk result (seen_draft n self.new ≡ drafted n (seen_draft n self.old) Never) }
+        ensures within { (n : Named) → IsWithin n self.old → Fits n (seen_draft n self.old) Never → OnOk result (IsWithin n self.new) }
     {
-        // Proof: the clauses refer to the network's curves.
-        let _ = net;
         self.close()?;
         self.done.push(None)?;
         Ok(())
@@ -217,13 +214,10 @@ impl Draft {
     }
 
     // Completes the current curve, and marks the report as ended.
-    fn add_end(&mut self, net: &Network) -> Result<(), AllocError>
-        requires { IsWithin net.now self.old }
-        ensures draft { OnOk result (seen_draft net.now self.new ≡ drafted net.now (seen_draft net.now self.old) End) }
-        ensures within { OnOk result (IsWithin net.now self.new) }
+    fn add_end(&mut self) -> Result<(), AllocError>
+        ensures draft { (n : Named) → OnOk result (seen_draft n self.new ≡ drafted n (seen_draft n self.old) End) }
+        ensures within { (n : Named) → IsWithin n self.old → OnOk result (IsWithin n self.new) }
     {
-        // Proof: the clauses refer to the network's curves.
-        let _ = net;
         self.close()?;
         self.stage = Stage::End;
         Ok(())
@@ -251,9 +245,9 @@ impl Draft {
                 self.stage = Stage::Body;
             }
             Entry::OfCurve(opening, point) => return self.add_point(alloc, net, *opening, point),
-            Entry::Never => return self.add_never(net),
+            Entry::Never => return self.add_never(),
             Entry::OfLink(link, state) => return self.add_state(net, *link, *state),
-            Entry::End => return self.add_end(net),
+            Entry::End => return self.add_end(),
         }
         Ok(())
     }

@@ -1,6 +1,5 @@
 -- Which numbers are fractions of a file: 0 and 1, the results of operations that don't pass, and the numbers of a network.
-use Rattle.std.proofs.Common.{◌≡◌, ℕ, zero, suc, ◌*◌, ◌/◌, ◌≤◌, ◌||◌, Bool, true, false, if◌then◌else◌, List, [], ◌∷◌, nat_lt, nat_abs, ℤ, pos, negsuc, ◌+ℤ◌, ◌*ℤ◌, ◌≤ℤ◌, neg_ℤ, refl, sym, subst, arith, Option, Some, None, unwrap_or, lit≤}
-use borrow.Author.Differences.{ints}
+use Rattle.std.proofs.Common.{◌≡◌, ℕ, zero, suc, ◌*◌, ◌/◌, ◌≤◌, ◌||◌, Bool, true, false, if◌then◌else◌, List, [], ◌∷◌, nat_lt, nat_abs, ℤ, pos, negsuc, ◌+ℤ◌, ◌*ℤ◌, neg_ℤ, refl, sym, subst, arith, Option, Some, None, unwrap_or, lit≤}
 use Rattle.std.specs.List.{AllByRecursion}
 use Rattle.std.proofs.lemmas.Bool.{le-ltb, ltb-false, or_parts, or_from}
 use Rattle.nf_rational.specs.Gcd.{gcd}
@@ -64,15 +63,6 @@ abs_opposite (negsuc k) = refl
 pub opposite_fraction : (x : ℚ) → IsFraction x → IsFraction (neg_ℚ x)
 unfolding neg_ℚ
 opposite_fraction x h = let parts = within x h in ratio_fraction (neg_ℤ x.num) x.den (subst (λ (k : ℕ). k ≤ greatest) (sym (abs_opposite x.num)) parts.0) parts.1
-
-den_within : (d : ℤ) (k bound : ℕ) → d ≡ pos k → d ≤ℤ pos bound → k ≤ bound
-den_within d k bound e h = omega (arith, ints, e, h)
-
--- by its parts, as code gives them
-pub fraction_of_parts : (q : ℚ) (n d : ℤ) → n ≡ q.num → nat_abs n ≤ greatest → d ≡ pos q.den → d ≤ℤ pos greatest → IsFraction q
-fraction_of_parts q n d e h f k =
-    or_from (nat_lt greatest (nat_abs q.num)) (nat_lt greatest q.den)
-    (le-ltb greatest (nat_abs q.num) (subst (λ (z : ℤ). nat_abs z ≤ greatest) e h)) (le-ltb greatest q.den (den_within d q.den greatest f k))
 
 pub least_fraction : (x y : ℚ) → IsFraction x → IsFraction y → IsFraction (min_ℚ x y)
 unfolding min_ℚ

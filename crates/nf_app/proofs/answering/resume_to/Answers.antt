@@ -1,6 +1,5 @@
 use Rattle.std.proofs.Common.{arith}
 use Rattle.std.proofs.lemmas.Result.{err_from_is_err_and}
-use Rattle.nf_run_text_laws.proofs.Fractions.{fraction_of_parts}
 use Rattle.nf_resumed_laws.proofs.Reading.{resumed_reads_back}
 use Rattle.nf_report_file.specs.Files.{report_of}
 use Rattle.nf_phase.specs.Solution.{bounds_of, report_in}
@@ -28,7 +27,7 @@ returns-in-Ok c file name =
           e.not_earlier e.resumed e.formed e.equilibrium e.goes_on e.short e.ends
           (resumed_reads_back c.args.net.now c.recall.ensures bounds
           (record {
-            horizon = fraction_of_parts c.args.horizon c.numer.result c.denom.result c.numer.ensures.value c.numer.ensures.small c.denom.ensures.value c.denom.ensures.small;
+            horizon = c.recall-2.ensures;
             phases = omega arith;
             patterns = omega arith;
           })
@@ -39,5 +38,5 @@ returns-in-Ok c file name =
 pub returns : goal.returns
 returns c file name =
     let old = report_of c.in_ok-report.report in
-    c.refuse_resume.ensures file name c.args.text.now c.args.horizon c.args.budgets.phases c.args.budgets.patterns old
+    c.refuse_resume.ensures c.args.net.now file name c.args.text.now c.args.horizon c.args.budgets.phases c.args.budgets.patterns old
     (a_report c.args.net.now c.recall.ensures c.args.text.now old c.in_ok-report.ensures.reads) c.in-Err.ensures.fault

@@ -1,6 +1,5 @@
 use Rattle.std.proofs.Common.{refl, arith}
 use Rattle.nf_phase.specs.Solution.{bounds_of, report_in}
-use Rattle.nf_run_text_laws.proofs.Fractions.{fraction_of_parts}
 use Rattle.nf_run_text_laws.proofs.ReadingBack.{reads_back}
 use Rattle.nf_app.proofs.answering.solve_to.Goals as goal
 
@@ -21,7 +20,7 @@ returns c file text =
         ends = e.curves_end;
         reads_back = reads_back c.args.net.now (bounds_of c.args.horizon c.args.budgets) report c.recall.ensures
             (record {
-              horizon = fraction_of_parts c.args.horizon c.numer.result c.denom.result c.numer.ensures.value c.numer.ensures.small c.denom.ensures.value c.denom.ensures.small;
+              horizon = c.recall-2.ensures;
               phases = omega arith;
               patterns = omega arith;
             })

@@ -8,7 +8,7 @@ use Rattle.nf_check_rules.proofs.PointByPoint.{times_apart, slope_ends, other_en
 use Rattle.nf_check_rules.proofs.rates.check_trace.Goals as goal
 
 pub slope-requires : goal.slope-requires
-slope-requires c = times_apart c.args.trace.now.curve.points c.loop-i.i c.point-point.result c.point-next.result c.len.ensures.curve c.point-point.ensures c.point-next.ensures
+slope-requires c = times_apart c.args.trace.now.curve.points c.loop-i.i c.point-point.result c.point-next.result c.recall.ensures.curve c.point-point.ensures c.point-next.ensures
 
 pub returns-in_err-slope : goal.returns-in_err-slope
 returns-in_err-slope c =

@@ -14,25 +14,26 @@ use Rattle.nf_complete.proofs.settling.cancelled.Goals as goal
 
 pub loop-new-init : goal.loop-new-init
 loop-new-init c = (
-  cancels_first passes_Q c.args.net.now.net c.args.sets.now c.args.rate c.args.slopes.now c.args.fulls.now c.args.flows.now c.in_ok-new.new.items (c.in_ok-new.ensures.items_if_clones_equal (λ x y e. e)) c.requires.thin,
-  known_first passes_Q c.args.net.now.net c.args.sets.now c.args.rate c.args.slopes.now c.args.fulls.now c.args.flows.now c.in_ok-new.new.items 0 refl,
+  c.requires.thin.0,
+  cancels_first passes_Q c.args.net.now.net c.args.sets.now c.requires.thin.0 c.args.slopes.now c.args.fulls.now c.args.flows.now c.in_ok-new.new.items (c.in_ok-new.ensures.items_if_clones_equal (λ x y e. e)) c.requires.thin.1,
+  known_first passes_Q c.args.net.now.net c.args.sets.now c.requires.thin.0 c.args.slopes.now c.args.fulls.now c.args.flows.now c.in_ok-new.new.items 0 refl,
 )
 
 pub next_cycle-requires-clause-sets : goal.next_cycle-requires-clause-sets
 next_cycle-requires-clause-sets c = c.requires.sets.sets_are.count
 
 pub next_cycle-requires-clause-flows : goal.next_cycle-requires-clause-flows
-next_cycle-requires-clause-flows c = ap length c.deref.ensures.value ∙ c.loop-new.invariant.0.thin.flow_count
+next_cycle-requires-clause-flows c = ap length c.deref.ensures.value ∙ c.loop-new.invariant.1.thin.flow_count
 
 pub next_cycle-requires-clause-known : goal.next_cycle-requires-clause-known
-next_cycle-requires-clause-known c = subst (λ (f : List ℚ). AreForestBelow c.args.net.now.net c.args.sets.now c.args.slopes.now f c.loop-new.known) (sym c.deref.ensures.value) c.loop-new.invariant.1
+next_cycle-requires-clause-known c = subst (λ (f : List ℚ). AreForestBelow c.args.net.now.net c.args.sets.now c.args.slopes.now f c.loop-new.known) (sym c.deref.ensures.value) c.loop-new.invariant.2
 
 pub next_cycle-requires-clause-fulls : goal.next_cycle-requires-clause-fulls
 next_cycle-requires-clause-fulls c = c.requires.fulls
 
 pub cancel-requires-clause-count : goal.cancel-requires-clause-count
 cancel-requires-clause-count c = fulls_count passes_Q c.args.net.now.net c.args.sets.now c.args.slopes.now c.args.fulls.now c.requires.fulls
-    ∙ sym (ap length c.deref-in-Some-2.ensures.value ∙ c.loop-new.invariant.0.thin.flow_count)
+    ∙ sym (ap length c.deref-in-Some-2.ensures.value ∙ c.loop-new.invariant.1.thin.flow_count)
 
 pub cancel-requires-clause-fewer : goal.cancel-requires-clause-fewer
 cancel-requires-clause-fewer c =
@@ -46,7 +47,7 @@ returns-in_err-new-2 c =
     let p = err_from_is_err_and c.from_residual-in_err-new-2.result c.from_residual-in_err-new-2.ensures.1 in
     rw (p.1, p.2) (halts_of (Cancels passes_Q c.args.net.now.net c.args.sets.now c.args.slopes.now c.args.fulls.now c.args.flows.now) (λ (v : Vec ℚ Global). v.items)
     (cancel_list passes_Q c.deref-in-Some.result.now c.args.fulls.now c.deref-in-Some-2.result.now) c.in_err-new-2.field-0.0
-    (λ q e. cancels_stop passes_Q c.args.net.now.net c.args.sets.now c.args.rate c.args.slopes.now c.args.fulls.now c.args.flows.now c.loop-new.new.items c.loop-new.invariant.0 c.in-Some.cycle.steps.items next q
+    (λ q e. cancels_stop passes_Q c.args.net.now.net c.args.sets.now c.loop-new.invariant.0 c.args.slopes.now c.args.fulls.now c.args.flows.now c.loop-new.new.items c.loop-new.invariant.1 c.in-Some.cycle.steps.items next q
     (sym (list_at passes_Q c.args.fulls.now c.deref-in-Some.result.now c.in-Some.cycle.steps.items c.deref-in-Some-2.result.now c.loop-new.new.items c.deref-in-Some.ensures.value c.deref-in-Some-2.ensures.value) ∙ e))
     c.in_err-new-2.ensures)
 
@@ -59,8 +60,9 @@ loop-new-preserved c =
     ∙ value_of (cancel_list passes_Q c.deref-in-Some.result.now c.args.fulls.now c.deref-in-Some-2.result.now) c.in_ok-new-2.new.items (sym c.in_ok-new-2.ensures) in
     let closes : ClosesNext c.args.net.now.net c.args.sets.now c.args.slopes.now c.loop-new.new.items c.in-Some.cycle.last c.in-Some.cycle.steps.items =
     closes_at (λ cycle. cycle.last) (λ cycle. cycle.steps.items) c.args.net.now.net c.args.sets.now c.args.slopes.now c.deref.result.now c.loop-new.new.items c.in_ok-cycle.field-0 c.in-Some.cycle c.deref.ensures.value c.in-Some.is c.in_ok-cycle.ensures in (
-      cancels_more passes_Q c.args.net.now.net c.args.sets.now c.args.rate c.args.slopes.now c.args.fulls.now c.args.flows.now c.loop-new.new.items c.loop-new.invariant.0 c.in-Some.cycle.steps.items next c.requires.sets c.requires.fulls c.in_ok-new-2.new.items worked,
-      known_on passes_Q c.args.net.now.net c.args.sets.now c.args.rate c.args.slopes.now c.args.fulls.now c.args.flows.now c.loop-new.new.items c.loop-new.invariant.0 c.in-Some.cycle.steps.items next c.requires.sets c.requires.fulls c.in_ok-new-2.new.items worked c.in-Some.cycle.last closes.before,
+      c.loop-new.invariant.0,
+      cancels_more passes_Q c.args.net.now.net c.args.sets.now c.loop-new.invariant.0 c.args.slopes.now c.args.fulls.now c.args.flows.now c.loop-new.new.items c.loop-new.invariant.1 c.in-Some.cycle.steps.items next c.requires.sets c.requires.fulls c.in_ok-new-2.new.items worked,
+      known_on passes_Q c.args.net.now.net c.args.sets.now c.loop-new.invariant.0 c.args.slopes.now c.args.fulls.now c.args.flows.now c.loop-new.new.items c.loop-new.invariant.1 c.in-Some.cycle.steps.items next c.requires.sets c.requires.fulls c.in_ok-new-2.new.items worked c.in-Some.cycle.last closes.before,
     )
 
 pub loop-new-smaller : goal.loop-new-smaller
@@ -70,8 +72,8 @@ loop-new-smaller c =
     let worked : cancel_list passes_Q c.in-Some.cycle.steps.items c.args.fulls.now c.loop-new.new.items ≡ Ok c.in_ok-new-2.new.items =
     sym (list_at passes_Q c.args.fulls.now c.deref-in-Some.result.now c.in-Some.cycle.steps.items c.deref-in-Some-2.result.now c.loop-new.new.items c.deref-in-Some.ensures.value c.deref-in-Some-2.ensures.value)
     ∙ value_of (cancel_list passes_Q c.deref-in-Some.result.now c.args.fulls.now c.deref-in-Some-2.result.now) c.in_ok-new-2.new.items (sym c.in_ok-new-2.ensures) in
-    fewer_interior passes_Q c.args.net.now.net c.args.sets.now c.args.rate c.args.slopes.now c.args.fulls.now c.args.flows.now c.loop-new.new.items c.loop-new.invariant.0 c.in-Some.cycle.steps.items next c.requires.sets c.requires.fulls c.in_ok-new-2.new.items worked
+    fewer_interior passes_Q c.args.net.now.net c.args.sets.now c.loop-new.invariant.0 c.args.slopes.now c.args.fulls.now c.args.flows.now c.loop-new.new.items c.loop-new.invariant.1 c.in-Some.cycle.steps.items next c.requires.sets c.requires.fulls c.in_ok-new-2.new.items worked
 
 pub returns : goal.returns
-returns c = cancels_end passes_Q c.args.net.now.net c.args.sets.now c.args.rate c.args.slopes.now c.args.fulls.now c.args.flows.now c.loop-new.new.items c.loop-new.invariant.0
+returns c = cancels_end passes_Q c.args.net.now.net c.args.sets.now c.loop-new.invariant.0 c.args.slopes.now c.args.fulls.now c.args.flows.now c.loop-new.new.items c.loop-new.invariant.1
     (none_at (λ cycle. cycle.last) (λ cycle. cycle.steps.items) c.args.net.now.net c.args.sets.now c.args.slopes.now c.deref.result.now c.loop-new.new.items c.in_ok-cycle.field-0 c.deref.ensures.value c.in_default.is c.in_ok-cycle.ensures)

@@ -19,7 +19,7 @@ pub cancelled-requires-clause-sets : goal.cancelled-requires-clause-sets
 cancelled-requires-clause-sets c = good_sets c.args.net.now c.args.sets.now c.recall.ensures c.requires.sets
 
 pub cancelled-requires-clause-thin : goal.cancelled-requires-clause-thin
-cancelled-requires-clause-thin c = c.requires.thin
+cancelled-requires-clause-thin c = (c.args.rate, c.requires.thin)
 
 pub settled_pattern-requires-clause-sets : goal.settled_pattern-requires-clause-sets
 settled_pattern-requires-clause-sets c = c.requires.sets.sets_are.count

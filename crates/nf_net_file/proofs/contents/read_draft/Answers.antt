@@ -12,7 +12,7 @@ use Rattle.nf_net_file.proofs.contents.read_draft.Goals as goal
 pub returns-in_default : goal.returns-in_default
 returns-in_default c =
     let lt : c.first_content-place.result < length c.args.lines.now = omega arith in
-    first_line c.args.text.now c.args.lines.now c.first_content-place.result c.index-lines-place.result c.first_content-place.ensures.first lt c.index-lines-place.is
+    first_line c.args.text.now c.args.lines.now c.first_content-place.result c.index-lines-place.result (c.first_content-place.ensures.first c.args.text.now) lt c.index-lines-place.is
     ∙ ap (λ (o : Option ℕ). draft_after o c.index-lines-place.result.number (contents c.args.text.now (drop (c.first_content-place.result + 1) c.args.lines.now)))
     (ap version_of (sym (c.new-words.ensures ∙ ap (map (text_of c.args.text.now)) c.deref.ensures.value)) ∙ sym c.in_default.ensures)
 
@@ -27,7 +27,7 @@ returns-in_err-add_lines c =
     (λ broken. add_lines (seen_draft c.new-draft.result) (contents c.args.text.now (take (length c.args.lines.now - (c.first_content-place.result + 1)) (drop (c.first_content-place.result + 1) c.args.lines.now))) ≡ Err broken)
     (λ broken. draft_from (contents c.args.text.now c.args.lines.now) ≡ Err broken)
     (λ broken h. after_first c.args.text.now c.args.lines.now c.first_content-place.result c.in-Some.version c.index-lines-place.result (seen_draft c.new-draft.result) (Err broken)
-    c.first_content-place.ensures.first lt c.index-lines-place.is
+    (c.first_content-place.ensures.first c.args.text.now) lt c.index-lines-place.is
     (c.in-Some.ensures ∙ ap version_of (c.new-words.ensures ∙ ap (map (text_of c.args.text.now)) c.deref.ensures.value)) c.new-draft.ensures h)
     c.in_err-add_lines.ensures)
 
@@ -35,7 +35,7 @@ pub returns : goal.returns
 returns c =
     let lt : c.first_content-place.result < length c.args.lines.now = omega arith in
     after_first c.args.text.now c.args.lines.now c.first_content-place.result c.in-Some.version c.index-lines-place.result (seen_draft c.new-draft.result) _
-    c.first_content-place.ensures.first lt c.index-lines-place.is
+    (c.first_content-place.ensures.first c.args.text.now) lt c.index-lines-place.is
     (c.in-Some.ensures ∙ ap version_of (c.new-words.ensures ∙ ap (map (text_of c.args.text.now)) c.deref.ensures.value)) c.new-draft.ensures c.in_ok-add_lines.ensures
 
 pub new-words-requires : goal.new-words-requires
@@ -45,4 +45,4 @@ new-words-requires c =
     (within_at c.args.text.now c.args.lines.now c.first_content-place.result c.index-lines-place.result c.requires lt c.index-lines-place.is)
 
 pub returns-then-place-lines : goal.returns-then-place-lines
-returns-then-place-lines c = all_wordless c.args.text.now c.args.lines.now c.first_content-place.result c.first_content-place.ensures.first c.if-place-lines.true
+returns-then-place-lines c = all_wordless c.args.text.now c.args.lines.now c.first_content-place.result (c.first_content-place.ensures.first c.args.text.now) c.if-place-lines.true

@@ -5,7 +5,7 @@ use Rattle.nf_report.proofs.known.know_points.Goals as goal
 
 pub loop-index-preserved : goal.loop-index-preserved
 loop-index-preserved c =
-    one_more IsFractionPoint c.args.curve.now.points c.loop-index.index c.point-here.result c.point-here.ensures (c.is_fraction.ensures, c.is_fraction-in-loop-index.ensures) c.loop-index.invariant
+    one_more IsFractionPoint c.args.curve.now.points c.loop-index.index c.point-here.result c.point-here.ensures (c.recall.ensures, c.recall-in-loop-index.ensures) c.loop-index.invariant
 
 pub returns : goal.returns
 returns c =

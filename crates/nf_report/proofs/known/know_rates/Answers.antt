@@ -4,7 +4,7 @@ use Rattle.nf_report.proofs.known.know_rates.Goals as goal
 
 pub loop-rate-preserved : goal.loop-rate-preserved
 loop-rate-preserved c =
-    one_read IsFraction c.args.rates.now c.loop-rate.rate-index c.rate-item.result c.loop-rate-test.true c.rate-item.is c.is_fraction.ensures c.loop-rate.invariant
+    one_read IsFraction c.args.rates.now c.loop-rate.rate-index c.rate-item.result c.loop-rate-test.true c.rate-item.is c.recall.ensures c.loop-rate.invariant
 
 pub returns : goal.returns
 returns c = up_to_end IsFraction c.args.rates.now c.loop-rate.rate-index c.loop-rate-test.false c.loop-rate.invariant

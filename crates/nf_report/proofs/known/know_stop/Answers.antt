@@ -11,4 +11,4 @@ returns-in-Patterns c =
 pub returns-in-Passed : goal.returns-in-Passed
 returns-in-Passed c =
     subst (λ (stop : Cause ℚ). IsReadableCause (Some stop)) (sym c.in-Passed.is)
-    (c.know_count-in-Passed.ensures, c.know_place.ensures, c.is_fraction.ensures, c.is_fraction-in-Passed.ensures)
+    (c.know_count-in-Passed.ensures, c.know_place.ensures, c.recall.ensures, c.recall-in-Passed.ensures)

@@ -20,8 +20,8 @@ TracesAre traces = AllByRecursion IsFractionTrace (map trace_of traces)
 
 pub returns-clause-readable : goal.returns-clause-readable
 returns-clause-readable c = record {
-  horizon = c.is_fraction.ensures;
-  reached = c.is_fraction-2.ensures;
+  horizon = c.recall-2.ensures;
+  reached = c.recall-3.ensures;
   stop = c.know_cause.ensures;
   labels = subst CurvesAre c.deref.ensures.value c.know_curves.ensures;
   inflows = subst TracesAre c.deref-2.ensures.value c.know_traces.ensures;

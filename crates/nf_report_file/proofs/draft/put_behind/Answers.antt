@@ -1,7 +1,6 @@
-use Rattle.std.proofs.Common.{arith}
 use Rattle.nf_report_file.proofs.LastPoints.{time_is_later}
 use Rattle.nf_report_file.proofs.draft.put_behind.Goals as goal
 
 pub push-requires : goal.push-requires
 push-requires c =
-    time_is_later c.args.trace.now.curve.points c.args.point.now.time (omega (arith, c.len.ensures.count, c.len.ensures.some)) c.requires
+    time_is_later c.args.trace.now.curve.points c.args.point.now.time c.recall.ensures.some c.requires

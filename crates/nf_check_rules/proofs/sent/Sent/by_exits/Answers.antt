@@ -42,4 +42,4 @@ returns-clause-list c =
     ∙ after_ok Check (checked_short passes_Q c.args.head_label.now.points) _ c.in_ok-labels.labels.points c.in_ok-labels.ensures.list
 
 pub returns-clause-curves : goal.returns-clause-curves
-returns-clause-curves c = record { taken = c.in_ok-taken.ensures.short.curve; exits = c.len.ensures.curve; labels = c.in_ok-labels.ensures.short.curve }
+returns-clause-curves c = record { taken = c.in_ok-taken.ensures.short.curve; exits = c.recall.ensures.curve; labels = c.in_ok-labels.ensures.short.curve }

@@ -8,6 +8,11 @@ use Rattle.nf_phase.proofs.Found.{by_fault, search_cause}
 use Rattle.nf_phase.proofs.PhaseFound.{found_here}
 use Rattle.nf_phase.proofs.run.Run.find.Goals as goal
 
+pub returns-in_err-slacks-clause-cause : goal.returns-in_err-slacks-clause-cause
+returns-in_err-slacks-clause-cause c =
+    by_fault c.from_residual.result c.in_err-slacks.field-0.0 (StandsFor (FindsNone passes_Q c.args.net.now.net c.args.patterns c.args.self.now) (suc c.args.self.now.made))
+    c.from_residual.ensures.1 (c.in_err-slacks.ensures.cause c.args.patterns)
+
 pub returns-in_err-thin-clause-cause : goal.returns-in_err-thin-clause-cause
 returns-in_err-thin-clause-cause c =
     by_fault c.from_residual-in_err-thin.result (of_search c.in_err-thin.field-0.0) (StandsFor (FindsNone passes_Q c.args.net.now.net c.args.patterns c.args.self.now) (suc c.args.self.now.made))

@@ -18,17 +18,20 @@ slacks-requires c =
     rw (labels, c.hops.ensures.value, label_count_at c.args.net.now.net good c.args.self.now stands.well) (below_nodes c.args.net.now.net good)
 
 pub returns-in_err-slacks-clause-cause : goal.returns-in_err-slacks-clause-cause
-returns-in_err-slacks-clause-cause c =
-    by_fault c.from_residual.result (of_halt c.in_err-slacks.field-0.0) (StandsFor (FindsNone passes_Q c.args.net.now.net c.args.patterns c.args.self.now) (suc c.args.self.now.made)) c.from_residual.ensures.1
-    (slacks_cause passes_Q c.args.net.now.net c.args.patterns c.args.self.now c.hops.result.now c.deref.result.now c.hops.ensures.value
+returns-in_err-slacks-clause-cause c = λ patterns.
+    by_fault c.from_residual.result (of_halt c.in_err-slacks.field-0.0) (StandsFor (FindsNone passes_Q c.args.net.now.net patterns c.args.self.now) (suc c.args.self.now.made)) c.from_residual.ensures.1
+    (slacks_cause passes_Q c.args.net.now.net patterns c.args.self.now c.hops.result.now c.deref.result.now c.hops.ensures.value
     (c.deref.ensures.value ∙ ap (λ (s : Standing). s.labels) c.self.view_is) c.in_err-slacks.field-0.0 c.in_err-slacks.ensures.list)
 
 pub returns-clause-slacks : goal.returns-clause-slacks
 returns-clause-slacks c =
-    (slacks_made passes_Q c.args.net.now.net c.args.patterns c.args.self.now c.hops.result.now c.deref.result.now c.in_ok-slacks.slacks.items c.hops.ensures.value
+    (slacks_made passes_Q c.args.net.now.net 0 c.args.self.now c.hops.result.now c.deref.result.now c.in_ok-slacks.slacks.items c.hops.ensures.value
     (c.deref.ensures.value ∙ ap (λ (s : Standing). s.labels) c.self.view_is) c.in_ok-slacks.ensures.list).0
 
 pub returns-clause-list : goal.returns-clause-list
 returns-clause-list c =
-    (slacks_made passes_Q c.args.net.now.net c.args.patterns c.args.self.now c.hops.result.now c.deref.result.now c.in_ok-slacks.slacks.items c.hops.ensures.value
+    (slacks_made passes_Q c.args.net.now.net 0 c.args.self.now c.hops.result.now c.deref.result.now c.in_ok-slacks.slacks.items c.hops.ensures.value
     (c.deref.ensures.value ∙ ap (λ (s : Standing). s.labels) c.self.view_is) c.in_ok-slacks.ensures.list).1
+
+pub returns-clause-cause : goal.returns-clause-cause
+returns-clause-cause c = λ patterns. tt

@@ -6,12 +6,9 @@ use Rattle.nf_model.specs.ThinFlow.{Sets, sets_at}
 use Rattle.nf_model.specs.Pattern.{Pattern, IsPattern, IsBase}
 use Rattle.nf_lists.specs.PhaseRun.{Standing}
 use Rattle.nf_thin.specs.Searching.{AreSetsOf}
-use Rattle.nf_thin.proofs.Hops.{below_nodes, few_hops, hops_length}
+use Rattle.nf_thin.proofs.Hops.{few_hops, hops_length}
 use Rattle.nf_phase.proofs.Reached.{Stands-reached, active_count, sets_fit, base_fits}
 use Rattle.nf_phase.proofs.run.Run.thin.Goals as goal
-
-pub base-requires-clause-ends : goal.base-requires-clause-ends
-base-requires-clause-ends c = rw (c.node_count.ensures, c.hops.ensures.value) (below_nodes c.args.net.now.net c.hops.ensures.named.network)
 
 pub base-requires-clause-last : goal.base-requires-clause-last
 base-requires-clause-last c =
