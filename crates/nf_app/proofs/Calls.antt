@@ -21,7 +21,7 @@ use Rattle.nf_outside.proofs.Networks.{all_reached}
 use Rattle.nf_command_line.specs.Requests.{Request, request_of}
 use Rattle.nf_app.specs.Requests.{files_of, generated_by, OtherIsText}
 use Rattle.nf_app.specs.Given.{IsGiven}
-use Rattle.nf_app.specs.Runs.{Call, Reached, Read, IsRefused, IsAnswer}
+use Rattle.nf_app.specs.Runs.{Call, Reached, Read, IsRefusedCall, IsAnswer}
 use Rattle.nf_app.specs.Gathered.{IsGathered}
 use Rattle.nf_app.specs.Outcomes.{IsGiving, IsAnswered, with_net}
 
@@ -121,7 +121,7 @@ module _ (call : Call) (request : Request) (n : Named) (named : IsNamed n) (read
   wants_memory : IsAnswer call NoMemory
   wants_memory = inl (behind (files_of request) read.fetched refl)
     where
-      behind : (files : List Wanted) → FetchedAll call.shelf files → files_of request ≡ files → IsRefused call NoMemory
+      behind : (files : List Wanted) → FetchedAll call.shelf files → files_of request ≡ files → IsRefusedCall call NoMemory
       behind [] h e = inl (h.asked ∙ append-nil call.shelf.asked_before)
       behind (file ∷ others) h e =
           let last = all_reached call.shelf file others h in

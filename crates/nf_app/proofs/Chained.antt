@@ -28,14 +28,14 @@ use Rattle.nf_command_line.specs.Requests.{Request, Solve, Check, Resume, reques
 use Rattle.nf_app.specs.Requests.{files_of, generated_by, budgets_of, bounds_to}
 use Rattle.nf_app.specs.Answered.{SolveAnswer}
 use Rattle.nf_app.specs.Given.{IsGiven}
-use Rattle.nf_app.specs.Runs.{Call, Run, IsRefused, IsComputed, IsAnswer, Ran, NothingFailed, IsOneOf}
+use Rattle.nf_app.specs.Runs.{Call, Run, IsRefusedCall, IsComputed, IsAnswer, Ran, NoFault, IsOneOf}
 use Rattle.nf_app.specs.Completeness.{ReachesHorizon, ToldRequest}
-use Rattle.nf_app.specs.Resumption.{IsResumption}
+use Rattle.nf_app.specs.Resumption.{AsksToResumeRun}
 use Rattle.nf_app.specs.Chained.{WroteReport, ChecksSolved, SaysYes, ResumesSolved, ResumesSolvedText}
 use Rattle.nf_app.proofs.Fetched.{reads_told}
 use Rattle.nf_app.proofs.ToldRequests.{Answers, told_answers}
 use Rattle.nf_app.proofs.Solving.{no_stop}
-use Rattle.nf_app.proofs.Resuming.{resumption_written}
+use Rattle.nf_app.proofs.Resuming.{writes_report_of_one_run}
 use Rattle.nf_app.proofs.Only.{whole}
 
 same_ok : {A E : Type 0} (r : Result A E) (x y : A) → r ≡ Ok x → r ≡ Ok y → x ≡ y
@@ -62,7 +62,7 @@ report_status status (inr (inr (inl e))) = ap of_report e
 report_status status (inr (inr (inr (inl e)))) = ap of_report e
 report_status status (inr (inr (inr (inr h)))) = absurd h
 
-not_refused : (call : Call) (answer : ProgramAnswer) → IsRefused call answer → of_report (status_of answer) ≡ true → ⊥
+not_refused : (call : Call) (answer : ProgramAnswer) → IsRefusedCall call answer → of_report (status_of answer) ≡ true → ⊥
 not_refused call NoMemory h e = cc
 not_refused call NoRequest h e = cc
 not_refused call ShelfFailed h e = cc
@@ -195,15 +195,15 @@ module _ (run : Run) (c : ChecksSolved run.call) where
   said answer shown (inl e) = inl (shown.status_is ∙ ap status_of e, subst (λ (t : List ℕ). TookAll run.out t) (ap out_text e) shown.took.all)
   said answer shown (inr e) = inr (inl (shown.status_is ∙ e))
 
-  says : NothingFailed run → (answer : ProgramAnswer) → IsShownWhole answer run.out run.err run.status → Answers run.call told_check answer → Says
+  says : NoFault run → (answer : ProgramAnswer) → IsShownWhole answer run.out run.err run.status → Answers run.call told_check answer → Says
   unfolding told_check
-  says nothing answer shown (inl none) = inr (inr (shown.status_is ∙ ap status_of none))
-  says nothing answer shown (inr (inl h)) = absurd (nothing.shelf h.1)
-  says nothing answer shown (inr (inr h)) = said answer shown (yes_given answer h.1)
+  says no_fault answer shown (inl none) = inr (inr (shown.status_is ∙ ap status_of none))
+  says no_fault answer shown (inr (inl h)) = absurd (no_fault.shelf h.1)
+  says no_fault answer shown (inr (inr h)) = said answer shown (yes_given answer h.1)
 
 pub says_yes : (run : Run) → Ran run → SaysYes run
-says_yes run ran c nothing =
-    says run c nothing ran.answer (whole ran.answer run.out run.err run.status nothing.out ran.shown) (told_answers run.call (told_check run c) ran.answer ran.comes)
+says_yes run ran c no_fault =
+    says run c no_fault ran.answer (whole ran.answer run.out run.err run.status no_fault.out ran.shown) (told_answers run.call (told_check run c) ran.answer ran.comes)
 
 -- ---- `resume`
 module _ (run : Run) (r : ResumesSolved run.call) where
@@ -213,8 +213,8 @@ module _ (run : Run) (r : ResumesSolved run.call) where
   later : Written r.net r.later_text (bounds_to r.later.horizon r.later.phases r.later.patterns) r.later.run.status
   later = written_of run.call.shelf r.file r.later_text r.later r.network.text r.net r.network.told r.reads
 
-  resumption : IsResumption run.call
-  resumption = record {
+  asks_to_resume : AsksToResumeRun run.call
+  asks_to_resume = record {
     told = record {
       request = Resume r.file r.report_name r.horizon r.phases r.patterns;
       asks = r.asks;
@@ -247,8 +247,8 @@ module _ (run : Run) (r : ResumesSolved run.call) where
   }
 
   resumed : Ran run → run.status ≡ Status.Ok → TookAll run.out r.later_text
-  unfolding resumption
-  resumed ran ok = subst (λ (t : List ℕ). TookAll run.out t) (sym later.text_is) (resumption_written run ran resumption ok)
+  unfolding asks_to_resume
+  resumed ran ok = subst (λ (t : List ℕ). TookAll run.out t) (sym later.text_is) (writes_report_of_one_run run ran asks_to_resume ok)
 
 pub resumes_solved : (run : Run) → Ran run → ResumesSolvedText run
 resumes_solved run ran r ok = resumed run r ran ok

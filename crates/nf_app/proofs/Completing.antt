@@ -31,7 +31,7 @@ use Rattle.nf_answers.specs.Answers.{ProgramAnswer, status_of, status_of_stop, s
 use Rattle.nf_outside.specs.Shown.{IsShownWhole}
 use Rattle.nf_app.specs.Requests.{bounds_to}
 use Rattle.nf_app.specs.Given.{IsGiven}
-use Rattle.nf_app.specs.Runs.{Run, Ran, NothingFailed, IsOneOf}
+use Rattle.nf_app.specs.Runs.{Run, Ran, NoFault, IsOneOf}
 use Rattle.nf_app.specs.Completeness.{ends_of, best_ends_of, SecondReads, IsUnhindered, ToldRequest, EndsWell, IsComplete}
 use Rattle.nf_app.proofs.Only.{whole}
 use Rattle.nf_app.proofs.ToldRequests.{Answers, told_answers}
@@ -170,14 +170,14 @@ module _ (n : Named) (text : List ℕ) (good : IsNetwork n.net) (answer : Progra
   best_end (Routes file routes horizon) reads can (inr (inr g)) = absurd (can g.0 g.2)
 
 -- ---- a whole run
-module _ (run : Run) (ran : Ran run) (nothing : NothingFailed run) (t : ToldRequest run.call) where
+module _ (run : Run) (ran : Ran run) (no_fault : NoFault run) (t : ToldRequest run.call) where
   shown : IsShownWhole ran.answer run.out run.err run.status
-  shown = whole ran.answer run.out run.err run.status nothing.out ran.shown
+  shown = whole ran.answer run.out run.err run.status no_fault.out ran.shown
 
   ends_so : (ends : List Status) → (IsNetwork t.net.net → IsGiven t.net t.second t.request ran.answer → IsOneOf (status_of ran.answer) (Status.Memory ∷ ends)) → Answers run.call t ran.answer
       → IsOneOf run.status (Status.Memory ∷ ends)
   ends_so ends end (inl none) = inl (shown.status_is ∙ ap status_of none)
-  ends_so ends end (inr (inl h)) = absurd (nothing.shelf h.1)
+  ends_so ends end (inr (inl h)) = absurd (no_fault.shelf h.1)
   ends_so ends end (inr (inr h)) = subst (λ (s : Status). IsOneOf s (Status.Memory ∷ ends)) (sym shown.status_is) (end h.0.network h.1)
 
   ends_well : EndsWell run t
@@ -188,4 +188,4 @@ module _ (run : Run) (ran : Ran run) (nothing : NothingFailed run) (t : ToldRequ
   }
 
 pub complete : (run : Run) → Ran run → IsComplete run
-complete run ran nothing t = ends_well run ran nothing t
+complete run ran no_fault t = ends_well run ran no_fault t

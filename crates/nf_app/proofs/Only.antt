@@ -15,7 +15,7 @@ use Rattle.nf_outside.specs.Sinks.{Took}
 use Rattle.nf_outside.specs.Shown.{IsShown, IsShownWhole}
 use Rattle.nf_command_line.specs.Requests.{Request, request_of}
 use Rattle.nf_app.specs.Requests.{files_of, first_of, other_of, generated_by}
-use Rattle.nf_app.specs.Runs.{Call, Run, IsRefused, IsComputed, IsAnswer, Ran}
+use Rattle.nf_app.specs.Runs.{Call, Run, IsRefusedCall, IsComputed, IsAnswer, Ran}
 use Rattle.nf_app.specs.Told.{Telling, TellsText, TellsAll, BothFit, TextsGive, too_long, malformed, answered, WordsGive, IsToldAnswer}
 use Rattle.nf_app.specs.Only.{Shows, the_answer, no_memory, shelf_failed, ShowsOnlyThat}
 use Rattle.nf_app.proofs.Texts.{Holds, all_held, network_so, same_second, given_there, in_the_middle}
@@ -128,7 +128,7 @@ module _ (run : Run) (all : TellsAll run.call.words run.call.shelf.told) where
       (given_there h.net h.request h.second (second call h.request h.read.asks known) answer
       (same_second call.shelf (other_of h.request) h.second (second call h.request h.read.asks known) h.is_second (told_second call h.request h.read.asks known)) h.given))) shown
 
-  refused_shows : (answer : ProgramAnswer) → IsRefused call answer → IsShown answer run.out run.err run.status → Shows run
+  refused_shows : (answer : ProgramAnswer) → IsRefusedCall call answer → IsShown answer run.out run.err run.status → Shows run
   refused_shows NoMemory h (inl s) = no_memory s
   refused_shows NoMemory h (inr s) = absurd s.has_text
   refused_shows NoRequest h shown = shows_it NoRequest (record {

@@ -18,7 +18,7 @@ use Rattle.nf_run_text_laws.specs.ReadableLaws.{ReadsBack}
 use Rattle.nf_phase.specs.Restarting.{EndsAtItsLabels}
 use Rattle.nf_resume_lists.specs.Resuming.{resume_list}
 use Rattle.nf_resume_lists.specs.Meanings.{IsResumedReport, GoesOnFrom}
-use Rattle.nf_resume.specs.Faults.{IsRefused}
+use Rattle.nf_resume.specs.Faults.{IsRefusedReport}
 use Rattle.nf_answers.specs.declared.refusal.Refusal.{Refusal}
 use Rattle.nf_command_line.specs.Requests.{Resume}
 use Rattle.nf_app.specs.Requests.{bounds_to}
@@ -57,7 +57,7 @@ module _ (n : Named) (file name text : List ℕ) (horizon : ℚ) (phases pattern
       reads_back = back;
     })
 
-    pub no_start_given : (verdict : Verdict ℕ ℕ ℚ) → old.flow.reached ≤ℚ horizon → IsRefused passes_Q n.net old verdict
+    pub no_start_given : (verdict : Verdict ℕ ℕ ℚ) → old.flow.reached ≤ℚ horizon → IsRefusedReport passes_Q n.net old verdict
         → IsGiven n text (Resume file name horizon phases patterns) (Checked n verdict)
     no_start_given verdict later refused = inr (inr (inr (inr (verdict, refl, record { old = old; read = read; not_earlier = later; refused = refused }))))
 

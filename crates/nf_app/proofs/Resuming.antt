@@ -21,7 +21,7 @@ use Rattle.nf_app.specs.Requests.{bounds_to}
 use Rattle.nf_app.specs.Given.{IsGiven}
 use Rattle.nf_app.specs.Answered.{ResumeAnswer}
 use Rattle.nf_app.specs.Runs.{Call, Run, Ran}
-use Rattle.nf_app.specs.Resumption.{IsResumption, ResumesInOneRun, IsOneRun, IsResumedAsOne, ResumesAsOne}
+use Rattle.nf_app.specs.Resumption.{AsksToResumeRun, WritesReportOfOneRun, ReportIsOfOneRun, AnswerIsOfOneRun, ComputesReportOfOneRun}
 use Rattle.nf_app.proofs.ToldRequests.{Answers, told_answers}
 use Rattle.nf_app.proofs.Solving.{no_stop}
 
@@ -30,7 +30,7 @@ same_ok r x y h k = cc
 
 -- ---- the report that was read in this call
 module _ (n : Named) (text : List ℕ) (horizon : ℚ) (phases patterns : ℕ) (good : IsNetwork n.net) where
-  one_run : (answer : ProgramAnswer) (g : ResumeAnswer n text (bounds_to horizon phases patterns) answer) → IsOneRun n text (bounds_to horizon phases patterns) g.new
+  one_run : (answer : ProgramAnswer) (g : ResumeAnswer n text (bounds_to horizon phases patterns) answer) → ReportIsOfOneRun n text (bounds_to horizon phases patterns) g.new
   one_run answer g old reads first_bounds first later_budgets later rest ended =
       let same : g.old ≡ old = same_ok (report_in n text) g.old old g.read.reads reads in
       let on : IsResumedReport passes_Q n.net (bounds_to horizon phases patterns) old g.made g.new =
@@ -38,16 +38,16 @@ module _ (n : Named) (text : List ℕ) (horizon : ℚ) (phases patterns : ℕ) (
       resumed-solved passes_Q n.net good first_bounds (bounds_of horizon later_budgets) (bounds_to horizon phases patterns) old later.report g.new g.made first later.is_report later.no_stop on ended refl rest
 
   solved_one : (file name : List ℕ) (answer : ProgramAnswer) (new : Report) → answer ≡ Solved n new → IsGiven n text (Resume file name horizon phases patterns) answer
-      → IsOneRun n text (bounds_to horizon phases patterns) new
+      → ReportIsOfOneRun n text (bounds_to horizon phases patterns) new
   solved_one file name answer new e (inl g) =
       let same : g.new ≡ new = (let h : Solved n g.new ≡ Solved n new = sym g.is ∙ e in cc) in
-      subst (λ (r : Report). IsOneRun n text (bounds_to horizon phases patterns) r) same (one_run answer g)
+      subst (λ (r : Report). ReportIsOfOneRun n text (bounds_to horizon phases patterns) r) same (one_run answer g)
   solved_one file name answer new e (inr (inl g)) = absurd (let h : MalformedReport g.0 ≡ Solved n new = sym g.1 ∙ e in cc)
   solved_one file name answer new e (inr (inr (inl g))) = absurd (let h : Passes g.0 ≡ Solved n new = sym g.1 ∙ e in cc)
   solved_one file name answer new e (inr (inr (inr (inl g)))) = absurd (let h : Earlier ≡ Solved n new = sym g.0 ∙ e in cc)
   solved_one file name answer new e (inr (inr (inr (inr g)))) = absurd (let h : Checked n g.0 ≡ Solved n new = sym g.1 ∙ e in cc)
 
-given_one : (n : Named) (text : List ℕ) (request : Request) (answer : ProgramAnswer) → IsNetwork n.net → IsGiven n text request answer → IsResumedAsOne n text request answer
+given_one : (n : Named) (text : List ℕ) (request : Request) (answer : ProgramAnswer) → IsNetwork n.net → IsGiven n text request answer → AnswerIsOfOneRun n text request answer
 given_one n text (Solve file horizon phases patterns) answer good g = tt
 given_one n text (SolveForever file phases patterns) answer good g = tt
 given_one n text (Show file) answer good g = tt
@@ -59,11 +59,11 @@ given_one n text (Settle file flows) answer good g = tt
 given_one n text (Resume file name horizon phases patterns) answer good g = λ new e. solved_one n text horizon phases patterns good file name answer new e g
 given_one n text (Routes file routes horizon) answer good g = tt
 
-pub resumed_as_one : (run : Run) → ResumesAsOne run
-resumed_as_one run answer c = given_one c.net c.second c.request answer c.named.network c.given
+pub computes_report_of_one_run : (run : Run) → ComputesReportOfOneRun run
+computes_report_of_one_run run answer c = given_one c.net c.second c.request answer c.named.network c.given
 
 -- ---- a report that is known to proofs
-module _ (run : Run) (r : IsResumption run.call) where
+module _ (run : Run) (r : AsksToResumeRun run.call) where
   abbrev n : Named
   n = r.told.net
 
@@ -111,5 +111,5 @@ module _ (run : Run) (r : IsResumption run.call) where
       (by_answer ran.answer (sym h.status_is ∙ ok) (told_answers run.call r.told ran.answer ran.comes)) h.took.all
   by_shown ran ok (inr h) = absurd (ok_output run.status h.status_is ok)
 
-pub resumption_written : (run : Run) → Ran run → ResumesInOneRun run
-resumption_written run ran r ok = by_shown run r ran ok ran.shown
+pub writes_report_of_one_run : (run : Run) → Ran run → WritesReportOfOneRun run
+writes_report_of_one_run run ran r ok = by_shown run r ran ok ran.shown

@@ -14,7 +14,7 @@ use Rattle.nf_outside.specs.Fetching.{NetworkReads}
 use Rattle.nf_command_line.specs.Requests.{Request, request_of}
 use Rattle.nf_app.specs.Requests.{files_of, other_of, generated_by, OtherIsText}
 use Rattle.nf_app.specs.Given.{IsGiven}
-use Rattle.nf_app.specs.Runs.{Call, Asks, Reached, Read, IsRefused, IsComputed, IsAnswer}
+use Rattle.nf_app.specs.Runs.{Call, Asks, Reached, Read, IsRefusedCall, IsComputed, IsAnswer}
 use Rattle.nf_app.specs.Told.{NetworkIs}
 use Rattle.nf_app.specs.Completeness.{ToldRequest}
 use Rattle.nf_app.proofs.Texts.{Holds, all_held, network_so, same_second, given_there, in_the_middle}
@@ -64,7 +64,7 @@ module _ (call : Call) (t : ToldRequest call) where
   abbrev pub Answers : ProgramAnswer → Type 0
   Answers answer = (answer ≡ NoMemory) ⊎ ((status_of answer ≡ Status.Shelf) × Failed) ⊎ (IsNamed t.net × IsGiven t.net t.second t.request answer)
 
-  refused : (answer : ProgramAnswer) → IsRefused call answer → Answers answer
+  refused : (answer : ProgramAnswer) → IsRefusedCall call answer → Answers answer
   refused NoMemory h = inl refl
   refused NoRequest h = absurd (some_none (request_of call.words) t.request t.asks h.0)
   refused ShelfFailed h = inr (inl (refl, h.2.1))

@@ -20,7 +20,7 @@ use Rattle.nf_command_line.specs.Requests.{Request, Solve, SolveForever, Show, L
 use Rattle.nf_app.specs.Requests.{usual_budgets, bounds_to}
 use Rattle.nf_app.specs.Arrivals.{arrival_of, IsArrival}
 use Rattle.nf_app.specs.Given.{IsGiven}
-use Rattle.nf_app.specs.Runs.{Call, Run, IsRefused, IsAnswer, Ran}
+use Rattle.nf_app.specs.Runs.{Call, Run, IsRefusedCall, IsAnswer, Ran}
 use Rattle.nf_app.specs.Stops.{stop_of_arrival, stop_in, AlwaysHasPattern}
 
 -- ---- an answer without a run
@@ -33,7 +33,7 @@ no_run answer other e none = none_never (stop_in answer) (ap stop_in e ∙ none)
 with_stop : (answer other : ProgramAnswer) → answer ≡ other → NeverNoPattern (stop_in other) → NeverNoPattern (stop_in answer)
 with_stop answer other e never = subst (λ (a : ProgramAnswer). NeverNoPattern (stop_in a)) (sym e) never
 
-refused_never : (call : Call) (answer : ProgramAnswer) → IsRefused call answer → NeverNoPattern (stop_in answer)
+refused_never : (call : Call) (answer : ProgramAnswer) → IsRefusedCall call answer → NeverNoPattern (stop_in answer)
 refused_never call (Solved n report) h = absurd h
 refused_never call (SolvedForever n forever) h = absurd h
 refused_never call (Generated number rungs n made report) h = absurd h

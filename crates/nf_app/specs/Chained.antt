@@ -13,7 +13,7 @@ use Rattle.nf_outside.specs.Files.{Visit, network_limit, report_limit}
 use Rattle.nf_outside.specs.Sinks.{TookAll}
 use Rattle.nf_command_line.specs.Requests.{Solve, Check, Resume}
 use Rattle.nf_app.specs.Requests.{bounds_to}
-use Rattle.nf_app.specs.Runs.{Call, Run, Asks, Ran, NothingFailed, IsOneOf}
+use Rattle.nf_app.specs.Runs.{Call, Run, Asks, Ran, NoFault, IsOneOf}
 
 -- A call of `solve` wrote a report. Its shelf has the same known bytes of the network's file. Its output, whose bytes are known, took this
 -- text: the report to the horizon, or to the stop of the phase run.
@@ -47,7 +47,7 @@ pub record ChecksSolved (call : Call) : Type 0 where
 
 -- the answer is `yes`, unless an operation exceeds the bound or an allocation fails
 abbrev pub SaysYes : Run → Type 0
-SaysYes run = ChecksSolved run.call → NothingFailed run
+SaysYes run = ChecksSolved run.call → NoFault run
     → ((run.status ≡ Status.Ok) × TookAll run.out (line_of_words (codes "yes" ∷ []))) ⊎ (run.status ≡ Status.Passed)
     ⊎ (run.status ≡ Status.Memory)
 

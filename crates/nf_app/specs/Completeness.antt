@@ -22,7 +22,7 @@ use Rattle.nf_command_line.specs.Requests.{Request, Solve, SolveForever, Show, L
 use Rattle.nf_app.specs.Requests.{first_of, other_of, generated_by, budgets_of, bounds_to}
 use Rattle.nf_app.specs.Refused.{LoadPasses, CheckPasses, RoutesPasses, PassesQuick, SettlePasses, ResumePasses}
 use Rattle.nf_app.specs.Told.{TellsText, BothFit, NetworkIs}
-use Rattle.nf_app.specs.Runs.{Call, Run, Asks, NothingFailed, IsOneOf}
+use Rattle.nf_app.specs.Runs.{Call, Run, Asks, NoFault, IsOneOf}
 
 -- ---- runs
 -- the phase run of a network, within the budgets, reaches the horizon
@@ -122,4 +122,4 @@ pub record EndsWell (run : Run) (t : ToldRequest run.call) : Type 0 where
   pub unhindered : IsUnhindered t.net t.second t.request → IsOneOf run.status (Status.Memory ∷ best_ends_of t.request)
 
 abbrev pub IsComplete : Run → Type 0
-IsComplete run = NothingFailed run → (t : ToldRequest run.call) → EndsWell run t
+IsComplete run = NoFault run → (t : ToldRequest run.call) → EndsWell run t

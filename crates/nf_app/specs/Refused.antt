@@ -20,7 +20,7 @@ use Rattle.nf_quick.specs.Answered.{HasNoWay}
 use Rattle.nf_complete_lists.specs.FlowsFile.{FlowsBroken, GivenFlows, flows_in}
 use Rattle.nf_routes_lists.specs.RoutesFile.{RoutesBroken, NamedRoute, ReadsRoutes}
 use Rattle.nf_resume_lists.specs.Resuming.{resume_list}
-use Rattle.nf_resume.specs.Faults.{IsRefused}
+use Rattle.nf_resume.specs.Faults.{IsRefusedReport}
 use Rattle.nf_answers.specs.Answers.{ProgramAnswer, Checked, TooManyWalks, MalformedLoads, MalformedFlows, MalformedRoutes, MalformedReport, Passes, Unbounded, NotThin, Earlier}
 use Rattle.nf_app.specs.Lists.{loading_list, flow_list, departs_list, by_route_list}
 use Rattle.nf_app.specs.Reports.{IsReportText, IsNoReportText}
@@ -90,7 +90,7 @@ pub record IsNoStart (n : Named) (text : List ℕ) (horizon : ℚ) (verdict : Ve
   pub old : Report
   pub read : IsReportText n text old
   pub not_earlier : old.flow.reached ≤ℚ horizon
-  pub refused : IsRefused passes_Q n.net old verdict
+  pub refused : IsRefusedReport passes_Q n.net old verdict
 
 -- the horizon is before the departure that the report's flow has reached
 pub record IsBefore (n : Named) (text : List ℕ) (horizon : ℚ) : Type 0 where

@@ -20,23 +20,24 @@ use Rattle.nf_app.specs.Completeness.{ReachesHorizon, ToldRequest}
 -- The text is the report of a run of the network, to any horizon, within any budgets, whatever stopped it. One run from the start, within
 -- budgets of its own, reaches the horizon of `resume`. If the first run ended mid-phase, no operation of a table or verdict list exceeds
 -- the bound in the search for the remainder of that phase. Then the new report is that of the one run, if it isn't stopped.
-abbrev pub IsOneRun : Named → List ℕ → Bounds → Report → Type 0
-IsOneRun n text bounds new = (old : Report) → report_in n text ≡ Ok old
+abbrev pub ReportIsOfOneRun : Named → List ℕ → Bounds → Report → Type 0
+ReportIsOfOneRun n text bounds new = (old : Report) → report_in n text ≡ Ok old
     → (first_bounds : Bounds) (first : IsRunReport passes_Q n.net first_bounds old) (later_budgets : Budgets)
     (later : ReachesHorizon n bounds.horizon later_budgets) → RestFits passes_Q n.net bounds first.last → new.stop ≡ None
     → new ≡ later.report
 
-abbrev pub IsResumedAsOne : Named → List ℕ → Request → ProgramAnswer → Type 0
-IsResumedAsOne n text (Resume file name horizon phases patterns) answer =
-    (new : Report) → answer ≡ Solved n new → IsOneRun n text (bounds_to horizon phases patterns) new
-IsResumedAsOne n text request answer = Unit {0}
+-- `ReportIsOfOneRun` for every `Solved` answer to `resume`; trivial for other requests
+abbrev pub AnswerIsOfOneRun : Named → List ℕ → Request → ProgramAnswer → Type 0
+AnswerIsOfOneRun n text (Resume file name horizon phases patterns) answer =
+    (new : Report) → answer ≡ Solved n new → ReportIsOfOneRun n text (bounds_to horizon phases patterns) new
+AnswerIsOfOneRun n text request answer = Unit {0}
 
 -- whichever answer is computed from the text that was read in this call
-abbrev pub ResumesAsOne : Run → Type 0
-ResumesAsOne run = (answer : ProgramAnswer) (c : IsComputed run.call answer) → IsResumedAsOne c.net c.second c.request answer
+abbrev pub ComputesReportOfOneRun : Run → Type 0
+ComputesReportOfOneRun run = (answer : ProgramAnswer) (c : IsComputed run.call answer) → AnswerIsOfOneRun c.net c.second c.request answer
 
 -- ---- a report that is known to proofs: the same of the bytes that are written
-pub record IsResumption (call : Call) : Type 0 where
+pub record AsksToResumeRun (call : Call) : Type 0 where
   pub told : ToldRequest call
   pub file : List ℕ
   pub report_name : List ℕ
@@ -52,5 +53,5 @@ pub record IsResumption (call : Call) : Type 0 where
   pub later : ReachesHorizon told.net horizon later_budgets
   pub rest : RestFits passes_Q told.net.net (bounds_to horizon phases patterns) first.last
 
-abbrev pub ResumesInOneRun : Run → Type 0
-ResumesInOneRun run = (r : IsResumption run.call) → run.status ≡ Status.Ok → TookAll run.out (report_text r.told.net r.later.report)
+abbrev pub WritesReportOfOneRun : Run → Type 0
+WritesReportOfOneRun run = (r : AsksToResumeRun run.call) → run.status ≡ Status.Ok → TookAll run.out (report_text r.told.net r.later.report)

@@ -55,14 +55,14 @@ pub record Read (call : Call) (request : Request) (read : Result Named Broken) :
   pub fetched : FetchedAll call.shelf (files_of request)
   pub reads : NetworkReads call.shelf (generated_by request) (files_of request) read
 
--- when nothing is computed; allocation may fail before any file was fetched, and after each
-abbrev pub IsRefused : Call → ProgramAnswer → Type 0
-IsRefused call NoMemory = FetchedNone call.shelf ⊎ ((last : Wanted) × Reached call last)
-IsRefused call NoRequest = (request_of call.words ≡ None) × FetchedNone call.shelf
-IsRefused call ShelfFailed = (last : Wanted) × Reached call last × Failed call.shelf last
-IsRefused call ShelfTooLong = (last : Wanted) × Reached call last × HasTooMany call.shelf last
-IsRefused call (Malformed broken) = (request : Request) × Read call request (Err broken)
-IsRefused call answer = ⊥
+-- The call is refused, so nothing is computed. An allocation may fail before any file was fetched, and after each.
+abbrev pub IsRefusedCall : Call → ProgramAnswer → Type 0
+IsRefusedCall call NoMemory = FetchedNone call.shelf ⊎ ((last : Wanted) × Reached call last)
+IsRefusedCall call NoRequest = (request_of call.words ≡ None) × FetchedNone call.shelf
+IsRefusedCall call ShelfFailed = (last : Wanted) × Reached call last × Failed call.shelf last
+IsRefusedCall call ShelfTooLong = (last : Wanted) × Reached call last × HasTooMany call.shelf last
+IsRefusedCall call (Malformed broken) = (request : Request) × Read call request (Err broken)
+IsRefusedCall call answer = ⊥
 
 -- The request has its network, which is one that a file can give, and the bytes of its second file that were read in this call. It gives
 -- this answer with both.
@@ -77,7 +77,7 @@ pub record IsComputed (call : Call) (answer : ProgramAnswer) : Type 0 where
 
 -- when which answer is given
 abbrev pub IsAnswer : Call → ProgramAnswer → Type 0
-IsAnswer call answer = IsRefused call answer ⊎ IsComputed call answer
+IsAnswer call answer = IsRefusedCall call answer ⊎ IsComputed call answer
 
 -- ---- a whole run
 -- the run has an answer that its call may give, and its status and its sinks show this answer
@@ -86,8 +86,8 @@ pub record Ran (run : Run) : Type 0 where
   pub comes : IsAnswer run.call answer
   pub shown : IsShown answer run.out run.err run.status
 
--- neither the shelf nor the output failed in the call
-pub record NothingFailed (run : Run) : Type 0 where
+-- neither the shelf nor the output counted a fault in the call
+pub record NoFault (run : Run) : Type 0 where
   pub shelf : ¬ Rose run.call.shelf.faults_before run.call.shelf.faults_now
   pub out : ¬ Rose run.out.faults_before run.out.faults_now
 

@@ -7,7 +7,7 @@ ghost use Rattle.nf_app.specs.Completeness.{IsComplete};
 ghost use Rattle.nf_app.specs.Output.{OutputFails};
 ghost use Rattle.nf_app.specs.Stops.{AlwaysHasPattern};
 ghost use Rattle.nf_app.specs.Uniqueness.{AnswerIsSameInAll};
-ghost use Rattle.nf_app.specs.Resumption.{ResumesAsOne, ResumesInOneRun};
+ghost use Rattle.nf_app.specs.Resumption.{ComputesReportOfOneRun, WritesReportOfOneRun};
 ghost use Rattle.nf_app.specs.Chained.{SaysYes, ResumesSolvedText};
 
 use crate::answering::answer;
@@ -89,11 +89,11 @@ pub fn run<S: Shelf, O: Sink, E: Sink>(
 
     // If `resume` is given the report of a run, and both runs reach the horizon, its report is that of one run from the start. Mid-phase,
     // no operation of a table or verdict list may exceed the bound in the search for the remainder of the phase.
-    ensures one_run { ResumesAsOne
+    ensures one_run { ComputesReportOfOneRun
         (this_call S.Shelf O.Sink E.Sink words.now shelf.old shelf.new out.old out.new err.old err.new result) }
 
     // With known files and status 0, `resume` then writes the text of that report, byte for byte.
-    ensures resumes { ResumesInOneRun
+    ensures resumes { WritesReportOfOneRun
         (this_call S.Shelf O.Sink E.Sink words.now shelf.old shelf.new out.old out.new err.old err.new result) }
 
     // With known files and no fault of the shelf or of `out`, `check` says yes of a text that a call of `solve` wrote, unless an operation

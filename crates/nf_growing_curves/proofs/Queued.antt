@@ -20,11 +20,11 @@ size_passes passes link seen rate arrival slack above p same e f is g =
     ∙ after_ok Curve (checked passes Difference link.head_label arrival) _ slack (ap (at_part Curve) f)
     ∙ after_err Curve (size_at passes (is_positive slack) link.capacity slack) _ p (ap (λ (b : Bool). at_part Curve (size_at passes b link.capacity slack)) (sym is) ∙ g)
 
-pub queue_goes_on : (passes : Passing) (link seen : LinkPhase) (rate arrival slack size slope : ℚ) (above : Bool) → link ≡ seen
+pub queue_step_is : (passes : Passing) (link seen : LinkPhase) (rate arrival slack size slope : ℚ) (above : Bool) → link ≡ seen
     → checked passes Sum link.tail_label link.transit ≡ Ok arrival → checked passes Difference link.head_label arrival ≡ Ok slack
     → above ≡ is_positive slack → at_part Curve (size_at passes above link.capacity slack) ≡ Ok size → at_part Curve (slope_at passes link.filled link.capacity rate) ≡ Ok slope
     → at_part Curve (queue_step passes seen (Some rate)) ≡ Ok (Some (record { size = size; slope = slope }))
-queue_goes_on passes link seen rate arrival slack size slope above same e f is g h =
+queue_step_is passes link seen rate arrival slack size slope above same e f is g h =
     ap (λ (l : LinkPhase). at_part Curve (queue_step passes l (Some rate))) (sym same)
     ∙ after_ok Curve (checked passes Sum link.tail_label link.transit) _ arrival (ap (at_part Curve) e)
     ∙ after_ok Curve (checked passes Difference link.head_label arrival) _ slack (ap (at_part Curve) f)
@@ -70,9 +70,9 @@ module _ (passes : Passing) (length so_far : ℚ) (link seen : LinkPhase) (flowe
         ∙ after_ok Curve (rate_over passes (is_positive link.head_slope) link.flow link.head_slope) _ outflow (ap (λ (b : Bool). at_part Curve (rate_over passes b link.flow link.head_slope)) (sym is_head) ∙ outflow_is)
         ∙ after_err Curve (queue_step passes link inflow) _ p (ap (λ (l : LinkPhase). at_part Curve (queue_step passes l inflow)) same ∙ h)
 
-    pub link_goes_on : (outflow : Option ℚ) → at_part Curve (rate_over passes head link.flow link.head_slope) ≡ Ok outflow → (queue : Option QueueStep) → at_part Curve (queue_step passes seen inflow) ≡ Ok queue
+    pub link_step_is : (outflow : Option ℚ) → at_part Curve (rate_over passes head link.flow link.head_slope) ≡ Ok outflow → (queue : Option QueueStep) → at_part Curve (queue_step passes seen inflow) ≡ Ok queue
         → at_part Curve (link_step passes length so_far seen) ≡ Ok (record { amount = amount; inflow_rate = inflow; outflow_rate = outflow; queue = queue })
-    link_goes_on outflow outflow_is queue h =
+    link_step_is outflow outflow_is queue h =
         ap (λ (l : LinkPhase). at_part Curve (link_step passes length so_far l)) (sym same)
         ∙ after_ok Curve (checked passes Product length link.flow) _ flowed (ap (at_part Curve) e)
         ∙ after_ok Curve (checked passes Sum so_far flowed) _ amount (ap (at_part Curve) f)

@@ -6,7 +6,7 @@ ghost use Rattle.nf_work.specs.Passing.{passes_Q};
 ghost use Rattle.nf_work.specs.Checked.{at_part, Gives};
 ghost use Rattle.nf_lists.specs.Signs.{is_positive};
 ghost use Rattle.nf_lists.specs.Ends.{end_of};
-ghost use Rattle.nf_lists.specs.ReportCurves.{goes_on as goes_on_by, curve_with, queue_after, first_label_curve, first_queue as queue_at_start};
+ghost use Rattle.nf_lists.specs.ReportCurves.{keeps_slope as keeps_slope_by, curve_with, queue_after, first_label_curve, first_queue as queue_at_start};
 ghost use Rattle.nf_resume_lists.specs.Restoring.{growing as growing_by};
 ghost use Rattle.nf_growing_curves.specs.Growing.{HasRoom, IsAfter, corners_by, points_to, end_value, step_of};
 
@@ -50,8 +50,8 @@ impl Model for GrowingCurve {
 }
 
 // Returns whether the slope of the last piece is known and equals `slope`.
-fn goes_on_from(before: Option<Q>, slope: Q) -> bool
-    ensures { result ≡ goes_on_by before slope }
+fn keeps_slope_of(before: Option<Q>, slope: Q) -> bool
+    ensures { result ≡ keeps_slope_by before slope }
 {
     match before {
         Some(before) => before.is_same(slope),
@@ -60,12 +60,12 @@ fn goes_on_from(before: Option<Q>, slope: Q) -> bool
 }
 
 // Appends the end to the corners, unless the extension has the slope of the last piece.
-fn close_unless(goes: bool, corners: &mut Curve, end: Option<End>)
+fn close_unless(kept: bool, corners: &mut Curve, end: Option<End>)
     requires room { 0 < corners.old.spare }
     requires after { IsAfter corners.old.points end }
-    ensures { corners.new.points ≡ corners_by goes corners.old.points end }
+    ensures { corners.new.points ≡ corners_by kept corners.old.points end }
 {
-    if goes {
+    if kept {
         return;
     }
     if let Some(end) = end {
@@ -185,32 +185,32 @@ impl GrowingCurve {
     }
 
     /// Returns whether an extension with this slope has the slope of the last piece.
-    pub(crate) fn goes_on(&self, slope: Q) -> bool
-        ensures { result ≡ goes_on_by self.now.grown.slope slope }
+    pub(crate) fn keeps_slope(&self, slope: Q) -> bool
+        ensures { result ≡ keeps_slope_by self.now.grown.slope slope }
     {
-        goes_on_from(self.slope(), slope)
+        keeps_slope_of(self.slope(), slope)
     }
 
     /// Extends the curve to a later point, with this slope. Memory for a corner must be reserved.
-    pub(crate) fn go_on(&mut self, time: Q, value: Q, slope: Q)
+    pub(crate) fn extend(&mut self, time: Q, value: Q, slope: Q)
         requires room { HasRoom self.old }
         requires later { end_of self.old.grown.points <ℚ time }
         ensures { self.new.grown ≡ curve_with self.old.grown (time, value) slope }
     {
-        let goes = self.goes_on(slope);
-        close_unless(goes, &mut self.corners, self.end);
+        let kept = self.keeps_slope(slope);
+        close_unless(kept, &mut self.corners, self.end);
         self.end = Some(End { time, value, slope });
     }
 
     /// Extends the queue of a link until the label of its tail, to a size and with a slope. None means that the label is constant and the
     /// queue unchanged.
-    pub(crate) fn wait(&mut self, label: Q, step: Option<(Q, Q)>)
+    pub(crate) fn extend_or_hold(&mut self, label: Q, step: Option<(Q, Q)>)
         requires room { HasRoom self.old }
         requires later { IsSome step → end_of self.old.grown.points <ℚ label }
         ensures { self.new.grown ≡ queue_after self.old.grown label (step_of step) }
     {
         if let Some((size, slope)) = step {
-            self.go_on(label, size, slope);
+            self.extend(label, size, slope);
         }
     }
 

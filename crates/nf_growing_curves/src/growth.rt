@@ -64,7 +64,7 @@ pub fn reserve_links(curves: &mut [LinkCurves]) -> Result<(), AllocError>
 
 /// Extends the label curves to departure `time`, to these labels there, with these slopes. Memory for a corner of each curve must be
 /// reserved, and the curves must end before `time`. Cannot fail.
-pub fn labels_go_on(curves: &mut [GrowingCurve], time: Q, labels: &[Q], slopes: &[Q])
+pub fn extend_labels(curves: &mut [GrowingCurve], time: Q, labels: &[Q], slopes: &[Q])
     requires labels { length labels.now ≡ length curves.old }
     requires slopes { length slopes.now ≡ length curves.old }
     requires room { AllHaveRoom curves.old }
@@ -72,7 +72,7 @@ pub fn labels_go_on(curves: &mut [GrowingCurve], time: Q, labels: &[Q], slopes: 
     ensures { all_grown curves.new ≡ label_curves_after time labels.now slopes.now (all_grown curves.old) }
 {
     for v in 0..curves.len() {
-        curves[v].go_on(time, labels[v], slopes[v]);
+        curves[v].extend(time, labels[v], slopes[v]);
     }
 }
 

@@ -108,7 +108,7 @@ impl LinkCurves {
     }
 
     /// Extends the curves until the labels of the link's ends. No rate and no step mean that the label is constant and the curve unchanged.
-    pub(crate) fn go_on(
+    pub(crate) fn extend(
         &mut self,
         tail_label: Q,
         head_label: Q,
@@ -125,9 +125,9 @@ impl LinkCurves {
         ensures outflow { self.new.grown.outflow ≡ trace_after self.old.grown.outflow head_label amount outflow_rate }
         ensures queue { self.new.grown.queue ≡ queue_after self.old.grown.queue tail_label (step_of queue) }
     {
-        self.inflow.pass(tail_label, amount, inflow_rate);
-        self.outflow.pass(head_label, amount, outflow_rate);
-        self.queue.wait(tail_label, queue);
+        self.inflow.extend_or_hold(tail_label, amount, inflow_rate);
+        self.outflow.extend_or_hold(head_label, amount, outflow_rate);
+        self.queue.extend_or_hold(tail_label, queue);
     }
 
     /// Returns the curves so far: inflow, outflow and queue. Refuses only if memory can't be allocated.

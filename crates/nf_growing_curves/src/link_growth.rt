@@ -81,7 +81,7 @@ pub fn restore_links(
 }
 
 // Extends the curves of a link to these labels.
-fn link_goes_on(curves: &mut LinkCurves, link: &Link, labels: &[Q], step: &LinkStep)
+fn extend_link(curves: &mut LinkCurves, link: &Link, labels: &[Q], step: &LinkStep)
     requires tail { link.now.tail < length labels.now }
     requires head { link.now.head < length labels.now }
     requires room { HasRoom curves.old }
@@ -93,7 +93,7 @@ fn link_goes_on(curves: &mut LinkCurves, link: &Link, labels: &[Q], step: &LinkS
         Some(queue) => Some((queue.size, queue.slope)),
         None => None,
     };
-    curves.go_on(
+    curves.extend(
         tail,
         head,
         step.amount,
@@ -105,7 +105,7 @@ fn link_goes_on(curves: &mut LinkCurves, link: &Link, labels: &[Q], step: &LinkS
 
 /// Extends the curves of all links to these labels, by the steps of the links. Memory for a corner of each curve must be reserved, and the
 /// curves must end before the labels. Cannot fail.
-pub fn links_go_on(curves: &mut [LinkCurves], net: &Network, labels: &[Q], steps: &[LinkStep])
+pub fn extend_links(curves: &mut [LinkCurves], net: &Network, labels: &[Q], steps: &[LinkStep])
     requires labels { length labels.now ≡ net.now.net.nodes }
     requires curves { length curves.old ≡ length net.now.net.links }
     requires steps { length steps.now ≡ length net.now.net.links }
@@ -115,6 +115,6 @@ pub fn links_go_on(curves: &mut [LinkCurves], net: &Network, labels: &[Q], steps
 {
     for e in 0..net.link_count() {
         let link = net.link(LinkId(e));
-        link_goes_on(&mut curves[e as usize], &link, labels, &steps[e as usize]);
+        extend_link(&mut curves[e as usize], &link, labels, &steps[e as usize]);
     }
 }

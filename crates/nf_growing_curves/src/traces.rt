@@ -42,11 +42,11 @@ impl Model for GrowingTrace {
 }
 
 // Appends the rate of the last piece to the rates, unless the extension has that rate.
-fn close_unless(goes: bool, rates: &mut Vec<Q>, last: Option<Q>)
+fn close_unless(kept: bool, rates: &mut Vec<Q>, last: Option<Q>)
     requires { vec_len rates.old < vec_capacity rates.old }
-    ensures { rates.new.items ≡ rates_by goes rates.old.items last }
+    ensures { rates.new.items ≡ rates_by kept rates.old.items last }
 {
-    if goes {
+    if kept {
         return;
     }
     if let Some(rate) = last {
@@ -108,26 +108,26 @@ impl GrowingTrace {
     }
 
     /// Extends the trace to a later point, at this rate. Memory for a corner must be reserved.
-    pub(crate) fn go_on(&mut self, time: Q, amount: Q, rate: Q)
+    pub(crate) fn extend(&mut self, time: Q, amount: Q, rate: Q)
         requires room { HasRoom self.old }
         requires later { end_of self.old.grown.points <ℚ time }
         ensures { self.new.grown ≡ trace_with self.old.grown (time, amount) rate }
     {
-        let goes = self.curve.goes_on(rate);
+        let kept = self.curve.keeps_slope(rate);
         let last = self.curve.slope();
-        close_unless(goes, &mut self.rates, last);
-        self.curve.go_on(time, amount, rate);
+        close_unless(kept, &mut self.rates, last);
+        self.curve.extend(time, amount, rate);
     }
 
     /// Extends the trace until the label of its node, to this amount and at this rate. None means that the label is constant and the trace
     /// unchanged.
-    pub(crate) fn pass(&mut self, label: Q, amount: Q, rate: Option<Q>)
+    pub(crate) fn extend_or_hold(&mut self, label: Q, amount: Q, rate: Option<Q>)
         requires room { HasRoom self.old }
         requires later { IsSome rate → end_of self.old.grown.points <ℚ label }
         ensures { self.new.grown ≡ trace_after self.old.grown label amount rate }
     {
         if let Some(rate) = rate {
-            self.go_on(label, amount, rate);
+            self.extend(label, amount, rate);
         }
     }
 

@@ -15,9 +15,9 @@ use Rattle.nf_lists.specs.CurveList.{QueueStep, LinkStep}
 -- ---- one more point
 
 -- The curve has a last slope, and is extended with the same slope.
-abbrev pub goes_on : Option ℚ → ℚ → Bool
-goes_on None slope = false
-goes_on (Some before) slope = is_same before slope
+abbrev pub keeps_slope : Option ℚ → ℚ → Bool
+keeps_slope None slope = false
+keeps_slope (Some before) slope = is_same before slope
 
 -- The new point replaces the last point if the slope is the same, and is appended otherwise.
 abbrev pub with_point : Bool → List Point → Point → List Point
@@ -30,7 +30,7 @@ pub record GrowingCurve : Type 0 where
   pub slope : Option ℚ
 
 abbrev pub curve_with : GrowingCurve → Point → ℚ → GrowingCurve
-curve_with curve point slope = record { points = with_point (goes_on curve.slope slope) curve.points point; slope = Some slope }
+curve_with curve point slope = record { points = with_point (keeps_slope curve.slope slope) curve.points point; slope = Some slope }
 
 -- The rates of a curve, each from one point to the next, after one more point.
 abbrev pub with_rate : Bool → List ℚ → ℚ → List ℚ
@@ -39,8 +39,8 @@ with_rate false rates rate = rates ++ rate ∷ []
 
 abbrev pub trace_with : Trace → Point → ℚ → Trace
 trace_with trace point rate = record {
-  points = with_point (goes_on (last_or None trace.rates) rate) trace.points point;
-  rates = with_rate (goes_on (last_or None trace.rates) rate) trace.rates rate;
+  points = with_point (keeps_slope (last_or None trace.rates) rate) trace.points point;
+  rates = with_rate (keeps_slope (last_or None trace.rates) rate) trace.rates rate;
 }
 
 -- ---- the first points

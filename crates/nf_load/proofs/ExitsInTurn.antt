@@ -4,9 +4,9 @@ use Rattle.std.proofs.lemmas.List.{at_drop_more}
 use Rattle.nf_rational.specs.Rational.{ℚ}
 use Rattle.nf_model.specs.Curve.{Point}
 use Rattle.nf_lists.specs.Signs.{is_same}
-use Rattle.nf_load_lists.specs.Loading.{Leaves, outflow_from}
+use Rattle.nf_load_lists.specs.Loading.{Exit, outflow_from}
 
-module _ (all : List Leaves) (i : ℕ) (one : Leaves) (front whole : List Point) (last : ℚ) (below : i < length all) (is : one ≡ get_or all i one)
+module _ (all : List Exit) (i : ℕ) (one : Exit) (front whole : List Point) (last : ℚ) (below : i < length all) (is : one ≡ get_or all i one)
     (so_far : front ++ outflow_from last (drop i all) ≡ whole) where
   abbrev by_test : Bool → List Point
   by_test b = elim b [
@@ -17,8 +17,8 @@ module _ (all : List Leaves) (i : ℕ) (one : Leaves) (front whole : List Point)
   with_test : (b : Bool) → is_same last one.exit ≡ b → front ++ by_test b ≡ whole
   with_test b e =
       ap (λ (t : Bool). front ++ by_test t) (sym e)
-      ∙ ap (λ (l : Leaves). front ++ outflow_from last (l ∷ drop (i + 1) all)) is
-      ∙ sym (at_drop_more (λ (l : List Leaves). front ++ outflow_from last l) all i one below)
+      ∙ ap (λ (l : Exit). front ++ outflow_from last (l ∷ drop (i + 1) all)) is
+      ∙ sym (at_drop_more (λ (l : List Exit). front ++ outflow_from last l) all i one below)
       ∙ so_far
 
   -- an exit that is the one before

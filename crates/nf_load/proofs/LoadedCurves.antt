@@ -14,13 +14,13 @@ use Rattle.nf_work.specs.declared.Op.TheVariants.{Sum}
 use Rattle.nf_model.specs.Curve.{Point, value, IsCurve, NeverFalls}
 use Rattle.nf_model_laws.specs.Capacity.{IsPositive}
 use Rattle.nf_curve_lists.specs.Values.{checked_cut}
-use Rattle.nf_load_lists.specs.Loading.{Waits, Leaves, queue_point, exit_point, outflow_points, outflow_from, leaves, all_waits, checked_loading}
+use Rattle.nf_load_lists.specs.Loading.{Waits, Exit, queue_point, exit_point, outflow_points, outflow_from, exit_of, all_waits, checked_loading}
 use Rattle.nf_load_lists.specs.Meanings.{IsLoaded}
 use Rattle.nf_curve_laws.proofs.Operations.{checked-is}
 use Rattle.nf_curve_laws.proofs.Values.{Cut, checked_cut-is}
 use Rattle.nf_load_laws.proofs.Functions.{queue_at, exit_at, out_at}
 use Rattle.nf_load_laws.proofs.Waiting.{AllWaits, all_waits-chain}
-use Rattle.nf_load_laws.proofs.Leaving.{AllLeaves, leaves-are, queue-follows, exit-follows, all_out-follows}
+use Rattle.nf_load_laws.proofs.Exiting.{AllExits, exits-are, queue-follows, exit-follows, all_out-follows}
 use Rattle.nf_load_laws.proofs.Loading.{Follows, by_following, checked_loading-is}
 use Rattle.nf_curve.proofs.Exits.{was_ok}
 use Rattle.nf_load.specs.Loadings.{loaded_of}
@@ -42,24 +42,24 @@ module _ (passes : Passing) (transit : ℚ) (capacity : Option ℚ) (inflow : Li
       (by_following _ last (queue_point w.first) (map queue_point w.rest) w.begins (queue-follows transit capacity inflow c last w.first w.rest w.chain))).curve
 
   module _ (none : value inflow 0ℚ ≡ 0ℚ) (rises : NeverFalls (value inflow)) (waits_0 : 0ℚ ≤ℚ transit) (positive : IsPositive capacity)
-      (all : List Leaves) (all_are : each (leaves passes capacity transit) waits ≡ Ok all) where
-    all_leave : AllLeaves transit capacity inflow c passes all_wait.first all_wait.rest all
-    all_leave = leaves-are transit capacity inflow c passes last all_wait.first all_wait.rest all all_wait.chain
-        (ap (λ (l : List Waits). each (leaves passes capacity transit) l) (sym all_wait.waits_are) ∙ all_are)
+      (all : List Exit) (all_are : each (exit_of passes capacity transit) waits ≡ Ok all) where
+    all_exit : AllExits transit capacity inflow c passes all_wait.first all_wait.rest all
+    all_exit = exits-are transit capacity inflow c passes last all_wait.first all_wait.rest all all_wait.chain
+        (ap (λ (l : List Waits). each (exit_of passes capacity transit) l) (sym all_wait.waits_are) ∙ all_are)
 
     pub exit_curve : IsCurve (map exit_point all)
     exit_curve =
         let w = all_wait in
-        let a = all_leave in
-        (subst (λ (l : List Leaves). Follows (exit_at transit capacity inflow c) last (map exit_point l)) (sym a.all_are)
+        let a = all_exit in
+        (subst (λ (l : List Exit). Follows (exit_at transit capacity inflow c) last (map exit_point l)) (sym a.all_are)
         (by_following _ last (exit_point a.first) (map exit_point a.others) (ap (λ (y : Waits). y.time) a.are.0 ∙ w.begins)
         (exit-follows transit capacity inflow c positive rises waits_0 last w.first w.rest a.first a.others w.chain a.are))).curve
 
     pub outflow_curve : IsCurve (outflow_points all)
     outflow_curve =
         let w = all_wait in
-        let a = all_leave in
-        (subst (λ (l : List Leaves). Follows (out_at transit capacity inflow c) (exit_at transit capacity inflow c last) (outflow_points l)) (sym a.all_are)
+        let a = all_exit in
+        (subst (λ (l : List Exit). Follows (out_at transit capacity inflow c) (exit_at transit capacity inflow c last) (outflow_points l)) (sym a.all_are)
         (by_following _ _ (0ℚ, 0ℚ) (outflow_from 0ℚ (a.first ∷ a.others)) refl
         (all_out-follows transit capacity inflow c positive rises waits_0 last w.first w.rest a.first a.others w.begins none w.chain a.are))).curve
 

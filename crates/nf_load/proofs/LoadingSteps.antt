@@ -10,7 +10,7 @@ use Rattle.nf_work.specs.declared.Op.TheVariants.{Sum}
 use Rattle.nf_model.specs.Curve.{Point}
 use Rattle.nf_curve_lists.specs.Values.{checked_cut}
 use Rattle.nf_curve_lists.specs.Short.{checked_short}
-use Rattle.nf_load_lists.specs.Loading.{Waits, Leaves, queue_point, exit_point, outflow_points, leaves, all_waits, checked_loading}
+use Rattle.nf_load_lists.specs.Loading.{Waits, Exit, queue_point, exit_point, outflow_points, exit_of, all_waits, checked_loading}
 use Rattle.nf_curve.proofs.Exits.{after_err, after_ok, was_ok}
 use Rattle.nf_load.specs.InSteps.{AreCurves, LeadsToCurves, in_short_form, until_transit, behind_cut}
 
@@ -20,7 +20,7 @@ module _ (passes : Passing) (part : Part) where
   Stops step whole = (p : PassedAt ℚ) → at_part part step ≡ Err p → at_part part whole ≡ Err p
 
   -- ---- the curves in short form
-  module _ (waits : List Waits) (all : List Leaves) (whole : List Point) where
+  module _ (waits : List Waits) (all : List Exit) (whole : List Point) where
     pub queue_stops : Stops (checked_short passes (map queue_point waits)) (in_short_form passes waits all whole)
     unfolding in_short_form
     queue_stops p e = after_err part (checked_short passes (map queue_point waits)) _ p e
@@ -43,7 +43,7 @@ module _ (passes : Passing) (part : Part) where
             ∙ after_ok part (checked_short passes (map exit_point all)) _ exit e
 
   -- ---- the outflow up to its end
-  module _ (transit : ℚ) (waits : List Waits) (all : List Leaves) (last : ℚ) where
+  module _ (transit : ℚ) (waits : List Waits) (all : List Exit) (last : ℚ) where
     pub end_stops : Stops (checked passes Sum last transit) (until_transit passes transit waits all last)
     unfolding until_transit
     end_stops p e = after_err part (checked passes Sum last transit) _ p e
@@ -58,24 +58,24 @@ module _ (passes : Passing) (part : Part) where
       unfolding until_transit
       whole_goes whole e = after_ok part (checked passes Sum last transit) _ end end_is ∙ after_ok part (checked_cut passes (outflow_points all) end) _ whole e
 
-  -- ---- what waits, and when it leaves
+  -- ---- what waits, and its exit
   module _ (transit : ℚ) (capacity : Option ℚ) (cut : List Point) (last : ℚ) where
     pub waits_stop : Stops (all_waits passes capacity cut) (behind_cut passes transit capacity cut last)
     unfolding behind_cut
     waits_stop p e = after_err part (all_waits passes capacity cut) _ p e
 
     module _ (waits : List Waits) (waits_are : at_part part (all_waits passes capacity cut) ≡ Ok waits) where
-      pub leaves_stop : Stops (each (leaves passes capacity transit) waits) (behind_cut passes transit capacity cut last)
+      pub exits_stop : Stops (each (exit_of passes capacity transit) waits) (behind_cut passes transit capacity cut last)
       unfolding behind_cut
-      leaves_stop p e = after_ok part (all_waits passes capacity cut) _ waits waits_are ∙ after_err part (each (leaves passes capacity transit) waits) _ p e
+      exits_stop p e = after_ok part (all_waits passes capacity cut) _ waits waits_are ∙ after_err part (each (exit_of passes capacity transit) waits) _ p e
 
-      module _ (all : List Leaves) (all_are : at_part part (each (leaves passes capacity transit) waits) ≡ Ok all) where
-        pub leaves_go : at_part part (behind_cut passes transit capacity cut last) ≡ at_part part (until_transit passes transit waits all last)
+      module _ (all : List Exit) (all_are : at_part part (each (exit_of passes capacity transit) waits) ≡ Ok all) where
+        pub exits_go : at_part part (behind_cut passes transit capacity cut last) ≡ at_part part (until_transit passes transit waits all last)
         unfolding behind_cut
-        leaves_go = after_ok part (all_waits passes capacity cut) _ waits waits_are ∙ after_ok part (each (leaves passes capacity transit) waits) _ all all_are
+        exits_go = after_ok part (all_waits passes capacity cut) _ waits waits_are ∙ after_ok part (each (exit_of passes capacity transit) waits) _ all all_are
 
         pub are_curves : LeadsToCurves passes transit capacity cut → AreCurves waits all
-        are_curves curves = curves waits all (was_ok part (all_waits passes capacity cut) waits waits_are) (was_ok part (each (leaves passes capacity transit) waits) all all_are)
+        are_curves curves = curves waits all (was_ok part (all_waits passes capacity cut) waits waits_are) (was_ok part (each (exit_of passes capacity transit) waits) all all_are)
 
   -- ---- the inflow, cut at the last time
   module _ (transit : ℚ) (capacity : Option ℚ) (inflow : List Point) (last : ℚ) where

@@ -7,10 +7,10 @@ use Rattle.nf_work.specs.declared.Op.TheVariants.{Sum}
 use Rattle.nf_model.specs.Curve.{Point, IsCurve}
 use Rattle.nf_curve_lists.specs.Values.{checked_cut}
 use Rattle.nf_curve_lists.specs.Short.{checked_short}
-use Rattle.nf_load_lists.specs.Loading.{Waits, Leaves, Loaded, queue_point, exit_point, outflow_points, leaves, all_waits}
+use Rattle.nf_load_lists.specs.Loading.{Waits, Exit, Loaded, queue_point, exit_point, outflow_points, exit_of, all_waits}
 
 -- the operations after the whole outflow is known
-unfoldable pub in_short_form : Passing → List Waits → List Leaves → List Point → Checked Loaded
+unfoldable pub in_short_form : Passing → List Waits → List Exit → List Point → Checked Loaded
 in_short_form passes waits all whole = do
   queue ← checked_short passes (map queue_point waits)
   outflow ← checked_short passes whole
@@ -18,7 +18,7 @@ in_short_form passes waits all whole = do
   Ok (record { queue = queue; outflow = outflow; exit = exit })
 
 -- the operations after the exits are known
-unfoldable pub until_transit : Passing → ℚ → List Waits → List Leaves → ℚ → Checked Loaded
+unfoldable pub until_transit : Passing → ℚ → List Waits → List Exit → ℚ → Checked Loaded
 until_transit passes transit waits all last = do
   end ← checked passes Sum last transit
   whole ← checked_cut passes (outflow_points all) end
@@ -28,16 +28,16 @@ until_transit passes transit waits all last = do
 unfoldable pub behind_cut : Passing → ℚ → Option ℚ → List Point → ℚ → Checked Loaded
 behind_cut passes transit capacity cut last = do
   waits ← all_waits passes capacity cut
-  all ← each (leaves passes capacity transit) waits
+  all ← each (exit_of passes capacity transit) waits
   until_transit passes transit waits all last
 
 -- the queue, exit and outflow points each satisfy `IsCurve`
-pub record AreCurves (waits : List Waits) (all : List Leaves) : Type 0 where
+pub record AreCurves (waits : List Waits) (all : List Exit) : Type 0 where
   pub queue : IsCurve (map queue_point waits)
   pub exit : IsCurve (map exit_point all)
   pub outflow : IsCurve (outflow_points all)
 
 -- the moments and exits of the inflow `cut`, if no operation passes, satisfy `AreCurves`
 abbrev pub LeadsToCurves : Passing → ℚ → Option ℚ → List Point → Type 0
-LeadsToCurves passes transit capacity cut = (waits : List Waits) (all : List Leaves) → all_waits passes capacity cut ≡ Ok waits
-    → each (leaves passes capacity transit) waits ≡ Ok all → AreCurves waits all
+LeadsToCurves passes transit capacity cut = (waits : List Waits) (all : List Exit) → all_waits passes capacity cut ≡ Ok waits
+    → each (exit_of passes capacity transit) waits ≡ Ok all → AreCurves waits all

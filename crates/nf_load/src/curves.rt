@@ -11,7 +11,7 @@ ghost use Rattle.nf_curve_lists.specs.Short.{checked_short};
 ghost use Rattle.nf_load_lists.specs.Loading as lists;
 ghost use Rattle.nf_load_lists.specs.Loading.{queue_point, exit_point};
 
-use crate::waits::{Leaves, Waits};
+use crate::waits::{Exit, Waits};
 use nf_curve::{Curve, Point};
 use nf_frac::{Halt, Part, Q};
 use std::alloc::{AllocError, Global};
@@ -27,7 +27,7 @@ fn queue_points(alloc: Global, waits: &[Waits]) -> Result<Vec<Point>, AllocError
 }
 
 // Returns the points of the exits.
-fn exit_points(alloc: Global, all: &[Leaves]) -> Result<Vec<Point>, AllocError>
+fn exit_points(alloc: Global, all: &[Exit]) -> Result<Vec<Point>, AllocError>
     ensures { IfOk result (λ points. points.items ≡ map exit_point all.now) }
 {
     all.iter()
@@ -36,7 +36,7 @@ fn exit_points(alloc: Global, all: &[Leaves]) -> Result<Vec<Point>, AllocError>
 }
 
 // Returns the points of the outflow. The first is (0, 0). Each exit that differs from the one before adds a point.
-fn outflow_points(alloc: Global, all: &[Leaves]) -> Result<Vec<Point>, AllocError>
+fn outflow_points(alloc: Global, all: &[Exit]) -> Result<Vec<Point>, AllocError>
     ensures { IfOk result (λ points. points.items ≡ lists.outflow_points all.now) }
 {
     let mut points = Vec::new(alloc);
@@ -70,7 +70,7 @@ pub(crate) fn queue_curve(alloc: Global, waits: &[Waits]) -> Result<Curve, Halt<
 }
 
 /// Returns the exit by the time of entry, in short form.
-pub(crate) fn exit_curve(alloc: Global, all: &[Leaves]) -> Result<Curve, Halt<Q>>
+pub(crate) fn exit_curve(alloc: Global, all: &[Exit]) -> Result<Curve, Halt<Q>>
     requires { IsCurve (map exit_point all.now) }
     ensures { Gives (λ c. c.points) (λ q. q) result (at_part Load (checked_short passes_Q (map exit_point all.now))) }
 {
@@ -79,7 +79,7 @@ pub(crate) fn exit_curve(alloc: Global, all: &[Leaves]) -> Result<Curve, Halt<Q>
 }
 
 /// Returns the outflow by time, cut at the time `end`.
-pub(crate) fn outflow_until(alloc: Global, all: &[Leaves], end: Q) -> Result<Curve, Halt<Q>>
+pub(crate) fn outflow_until(alloc: Global, all: &[Exit], end: Q) -> Result<Curve, Halt<Q>>
     requires curve { IsCurve (lists.outflow_points all.now) }
     requires end { 0ℚ ≤ℚ end }
     ensures { Gives (λ c. c.points) (λ q. q) result (at_part Load (checked_cut passes_Q (lists.outflow_points all.now) end)) }

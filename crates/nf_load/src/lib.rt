@@ -4,7 +4,7 @@
 
 mod amounts;
 mod curves;
-mod leaving;
+mod exiting;
 mod loading;
 mod waiting;
 mod waits;

@@ -14,9 +14,9 @@ ghost use Rattle.nf_load.specs.Loadings.{loaded_of};
 ghost use Rattle.nf_load.specs.InSteps.{AreCurves, LeadsToCurves, in_short_form, until_transit, behind_cut};
 
 use crate::curves::{exit_curve, outflow_until, queue_curve};
-use crate::leaving::all_leaves;
+use crate::exiting::all_exits;
 use crate::waiting::all_waits;
-use crate::waits::{Leaves, Waits};
+use crate::waits::{Exit, Waits};
 use nf_curve::Curve;
 use nf_frac::{Halt, Part, PassedAt, Q, at};
 use std::alloc::Global;
@@ -44,7 +44,7 @@ fn after_transit(time: Q, transit: Q) -> Result<Q, PassedAt<Q>>
 fn short_curves(
     alloc: Global,
     waits: &[Waits],
-    all: &[Leaves],
+    all: &[Exit],
     whole_outflow: &Curve,
 ) -> Result<Loaded, Halt<Q>>
     requires { AreCurves waits.now all.now }
@@ -65,7 +65,7 @@ fn curves_until(
     alloc: Global,
     transit: Q,
     waits: &[Waits],
-    all: &[Leaves],
+    all: &[Exit],
     until: Q,
 ) -> Result<Loaded, Halt<Q>>
     requires transit { 0ℚ ≤ℚ transit }
@@ -93,8 +93,8 @@ fn load_cut(
     ensures { Gives loaded_of (λ q. q) result (at_part Load (behind_cut passes_Q transit capacity cut.now.points until)) }
 {
     let waits = all_waits(alloc, &capacity, cut)?;
-    let leaves = all_leaves(alloc, &capacity, transit, &waits)?;
-    curves_until(alloc, transit, &waits, &leaves, until)
+    let exits = all_exits(alloc, &capacity, transit, &waits)?;
+    curves_until(alloc, transit, &waits, &exits, until)
 }
 
 /// Loads a link by the law of the point queue (Koch and Skutella 2011). Returns queue and exit by time up to `until`, and the outflow up to

@@ -25,18 +25,18 @@ impl Model for Waits {
 
 /// A moment, with the exit of flow that enters then.
 #[derive(Clone, Copy)]
-pub(crate) struct Leaves {
+pub(crate) struct Exit {
     pub waits: Waits,
     pub exit: Q,
 }
 
-impl Model for Leaves {
-    ghost use Rattle.nf_load_lists.specs.Loading.{Leaves as SeenLeaves};
-    ghost use Rattle.nf_load.specs.Codes.{coded_leaves};
+impl Model for Exit {
+    ghost use Rattle.nf_load_lists.specs.Loading.{Exit as SeenExit};
+    ghost use Rattle.nf_load.specs.Codes.{coded_exit};
 
-    ghost Value = { SeenLeaves };
+    ghost Value = { SeenExit };
 
-    ghost coded = { coded_leaves };
+    ghost coded = { coded_exit };
 
     ghost view = { λ a. record { waits = a.waits; exit = a.exit } };
 

@@ -14,6 +14,6 @@ pub use labels::start_labels;
 pub use network::Network;
 pub use nf_formats::NetRule;
 pub use nf_graph::{Hop, LinkId, NodeId};
-pub use nf_net_file::{LONGEST_FILE, LONGEST_NAME, Link, NetFault, Piece};
+pub use nf_net_file::{LONGEST_FILE, LONGEST_NAME, Link, MOST_NODES, NetFault, Piece};
 pub use printing::text;
 pub use reading::parse;

@@ -22,4 +22,4 @@ pub use link::{Link, NamedLink, Piece};
 pub use name::{LONGEST_NAME, Name};
 pub use names::Names;
 pub use pieces::{rate_of, start_after};
-pub use sizes::LONGEST_FILE;
+pub use sizes::{LONGEST_FILE, MOST_NODES};

@@ -2,9 +2,9 @@
 //! horizon.
 #![tactic(auto)]
 
+mod extending;
 mod fault;
 mod finding;
-mod making;
 mod open_runs;
 mod phase;
 mod restoring;

@@ -111,7 +111,7 @@ impl Run {
     {
         let next = self.phase(alloc, net, horizon, patterns)?;
         let NextPhase { rests, phase } = next;
-        self.go_on_by(alloc, net, horizon, patterns, rests, phase)?;
+        self.extend_by_next(alloc, net, horizon, patterns, rests, phase)?;
         Ok(())
     }
 
@@ -149,7 +149,7 @@ impl Run {
             return Ok(Some(thin));
         };
         let phase = self.phase_by(alloc, net, end, patterns, found)?;
-        self.make(net, end, patterns, phase)?;
+        self.extend_by(net, end, patterns, phase)?;
         Ok(None)
     }
 

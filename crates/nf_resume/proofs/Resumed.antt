@@ -26,7 +26,7 @@ use Rattle.nf_resume_lists.specs.Meanings.{GoesOnFrom, IsResumedReport}
 use Rattle.nf_resume_laws.proofs.Stepping.{resumed-goes_on}
 use Rattle.nf_phase.specs.Solution.{IsFinished}
 use Rattle.nf_resume.specs.declared.fault.ResumeFault.{ResumeFault}
-use Rattle.nf_resume.specs.Faults.{of_halt, IsRefused, IsCause, IsResumeFault}
+use Rattle.nf_resume.specs.Faults.{of_halt, IsRefusedReport, IsCause, IsResumeFault}
 
 -- Whether a time is before another.
 pub below_or_not : (b : Bool) (x y : ℚ) → b ≡ lt_ℚ x y → MatchBool b (x <ℚ y) (y ≤ℚ x)
@@ -43,7 +43,7 @@ module _ (passes : Passing) (net : Network) (report : Report) where
   by_answer r e = ap (λ (r : Result (Answer ℕ ℕ ℚ) (PassedAt ℚ)). r >>= after_check passes net report) e
 
   -- The flow is no equilibrium.
-  refused : (answer : Answer ℕ ℕ ℚ) → (answer ≡ Yes → ⊥) → answered ≡ Ok answer → Checks net report.flow answer → IsExact net report.flow answer → IsRefused passes net report answer
+  refused : (answer : Answer ℕ ℕ ℚ) → (answer ≡ Yes → ⊥) → answered ≡ Ok answer → Checks net report.flow answer → IsExact net report.flow answer → IsRefusedReport passes net report answer
   refused Yes other e rules exact = absurd (other refl)
   refused (No rule subject time left right) other e rules exact = record { answers = e; ends = by_answer (Ok (No rule subject time left right)) e; rules = rules; none = exact.1 }
 

@@ -18,7 +18,7 @@ of_halt (Halt.Passed at) = ResumeFault.Passed at
 of_halt Halt.Memory = ResumeFault.Memory
 
 -- The report's flow is no equilibrium. The check gives the answer by its rules, and `resume_list` ends there.
-pub record IsRefused (passes : Passing) (net : Network) (report : Report) (answer : Answer ℕ ℕ ℚ) : Type 0 where
+pub record IsRefusedReport (passes : Passing) (net : Network) (report : Report) (answer : Answer ℕ ℕ ℚ) : Type 0 where
   pub answers : check_list passes net report.flow ≡ Ok answer
   pub ends : resume_list passes net report ≡ Ok (Refused answer)
   pub rules : Checks net report.flow answer
@@ -27,7 +27,7 @@ pub record IsRefused (passes : Passing) (net : Network) (report : Report) (answe
 -- The causes that don't depend on the horizon. An allocation failure implies nothing.
 abbrev pub IsCause : Passing → Network → Report → ResumeFault → Type 0
 IsCause passes net report (ResumeFault.Earlier reached) = ⊥
-IsCause passes net report (ResumeFault.No answer) = IsRefused passes net report answer
+IsCause passes net report (ResumeFault.No answer) = IsRefusedReport passes net report answer
 IsCause passes net report (ResumeFault.Passed at) = resume_list passes net report ≡ Err at
 IsCause passes net report ResumeFault.Memory = Unit {0}
 

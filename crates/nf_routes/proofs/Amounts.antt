@@ -24,12 +24,12 @@ use Rattle.nf_curve_laws.proofs.Following.{FollowsFrom}
 use Rattle.nf_curve_laws.proofs.Values.{Cut, checked_cut-is, follows-curve, follows-values}
 use Rattle.nf_curve_laws.proofs.Short.{checked_short-is}
 use Rattle.nf_curve_laws.proofs.Sums.{checked_sum-is}
-use Rattle.nf_load_lists.specs.Loading.{Waits, Leaves, Loaded, queue_point, exit_point, outflow_points, leaves, all_waits, checked_loading}
+use Rattle.nf_load_lists.specs.Loading.{Waits, Exit, Loaded, queue_point, exit_point, outflow_points, exit_of, all_waits, checked_loading}
 use Rattle.nf_load_lists.specs.Meanings.{IsCumulative}
 use Rattle.nf_load_laws.proofs.Cumulative.{follows-values_rise}
 use Rattle.nf_load_laws.proofs.Functions.{exit_at, exit_at-is}
 use Rattle.nf_load_laws.proofs.Waiting.{AllWaits, all_waits-chain}
-use Rattle.nf_load_laws.proofs.Leaving.{AllLeaves, leaves-are, exit-follows}
+use Rattle.nf_load_laws.proofs.Exiting.{AllExits, exits-are, exit-follows}
 use Rattle.nf_plain_laws.proofs.Results.{same_Ok}
 use Rattle.nf_routes.specs.Amounts.{IsAmount, AreExits}
 
@@ -105,7 +105,7 @@ module _ (passes : Passing) (transit : ℚ) (capacity : Option ℚ) (inflow : Li
   loaded_exits e =
       let cut = then_ok (checked_cut passes inflow last) _ loaded e in
       let waits = then_ok (all_waits passes capacity cut.between) _ loaded cut.next in
-      let all = then_ok (each (leaves passes capacity transit) waits.between) _ loaded waits.next in
+      let all = then_ok (each (exit_of passes capacity transit) waits.between) _ loaded waits.next in
       let end = then_ok (checked passes Sum last transit) _ loaded all.next in
       let out = then_ok (checked_cut passes (outflow_points all.between) end.between) _ loaded end.next in
       let q = then_ok (checked_short passes (map queue_point waits.between)) _ loaded out.next in
@@ -114,10 +114,10 @@ module _ (passes : Passing) (transit : ℚ) (capacity : Option ℚ) (inflow : Li
       let k : Cut passes inflow last cut.between = checked_cut-is passes inflow last cut.between amount.curve from_0 cut.first in
       let w : AllWaits transit capacity inflow amount.curve last waits.between = all_waits-chain passes transit capacity inflow amount.curve last k.first k.rest waits.between k.begins k.follows
       (ap (λ (l : List Point). all_waits passes capacity l) (sym k.cut_is) ∙ waits.first) in
-      let a : AllLeaves transit capacity inflow amount.curve passes w.first w.rest all.between = leaves-are transit capacity inflow amount.curve passes last w.first w.rest all.between w.chain
-      (ap (λ (l : List Waits). each (leaves passes capacity transit) l) (sym w.waits_are) ∙ all.first) in
+      let a : AllExits transit capacity inflow amount.curve passes w.first w.rest all.between = exits-are transit capacity inflow amount.curve passes last w.first w.rest all.between w.chain
+      (ap (λ (l : List Waits). each (exit_of passes capacity transit) l) (sym w.waits_are) ∙ all.first) in
       let exits : AreExits (map exit_point all.between) =
-      subst (λ (l : List Leaves). AreExits (map exit_point l)) (sym a.all_are)
+      subst (λ (l : List Exit). AreExits (map exit_point l)) (sym a.all_are)
       (by_points (exit_point a.first) (map exit_point a.others) (ap (λ (y : Waits). y.time) a.are.0 ∙ w.begins)
       (exit-follows transit capacity inflow amount.curve positive amount.rises waits_0 last w.first w.rest a.first a.others w.chain a.are)) in
       subst (λ (l : Loaded). AreExits l.exit) (same_Ok _ _ x.next)

@@ -26,10 +26,10 @@ use Rattle.nf_curve_laws.proofs.Short.{times-up_to, checked_short-end}
 use Rattle.nf_curve_laws.proofs.Times.{IsOne}
 use Rattle.nf_curve_laws.proofs.Values.{Cut, checked_cut-is}
 use Rattle.nf_load_lists.specs.Cumulative.{end_of, point_after_0, point_if_after_0, with_piece, cumulative_from, checked_cumulative}
-use Rattle.nf_load_lists.specs.Loading.{Waits, Leaves, Loaded, queue_point, exit_point, outflow_points, leaves, all_waits, checked_loading}
+use Rattle.nf_load_lists.specs.Loading.{Waits, Exit, Loaded, queue_point, exit_point, outflow_points, exit_of, all_waits, checked_loading}
 use Rattle.nf_load_laws.proofs.Functions.{exit_at}
 use Rattle.nf_load_laws.proofs.Waiting.{AllWaits, all_waits-chain}
-use Rattle.nf_load_laws.proofs.Leaving.{AllLeaves, leaves-are, exit-follows}
+use Rattle.nf_load_laws.proofs.Exiting.{AllExits, exits-are, exit-follows}
 use Rattle.nf_check_lists.specs.Curves.{last_value}
 use Rattle.nf_routes_lists.specs.RoutesList.{next_from, next_entry}
 use Rattle.nf_routes_laws.specs.Laws.{NoneBeyond, CanShare}
@@ -142,7 +142,7 @@ unfolding checked_loading
 loading-ends passes transit capacity inflow last loaded c rises waits_0 positive from_0 e =
     let cut = then_ok (checked_cut passes inflow last) _ loaded e in
     let waits = then_ok (all_waits passes capacity cut.between) _ loaded cut.next in
-    let all = then_ok (each (leaves passes capacity transit) waits.between) _ loaded waits.next in
+    let all = then_ok (each (exit_of passes capacity transit) waits.between) _ loaded waits.next in
     let end = then_ok (checked passes Sum last transit) _ loaded all.next in
     let out = then_ok (checked_cut passes (outflow_points all.between) end.between) _ loaded end.next in
     let q = then_ok (checked_short passes (map queue_point waits.between)) _ loaded out.next in
@@ -151,9 +151,9 @@ loading-ends passes transit capacity inflow last loaded c rises waits_0 positive
     let k : Cut passes inflow last cut.between = checked_cut-is passes inflow last cut.between c from_0 cut.first in
     let w : AllWaits transit capacity inflow c last waits.between = all_waits-chain passes transit capacity inflow c last k.first k.rest waits.between k.begins k.follows
     (ap (λ (l : List Point). all_waits passes capacity l) (sym k.cut_is) ∙ waits.first) in
-    let a : AllLeaves transit capacity inflow c passes w.first w.rest all.between = leaves-are transit capacity inflow c passes last w.first w.rest all.between w.chain
-    (ap (λ (l : List Waits). each (leaves passes capacity transit) l) (sym w.waits_are) ∙ all.first) in
-    let ends : EndsAtTime last (map exit_point all.between) = subst (λ (l : List Leaves). EndsAtTime last (map exit_point l)) (sym a.all_are)
+    let a : AllExits transit capacity inflow c passes w.first w.rest all.between = exits-are transit capacity inflow c passes last w.first w.rest all.between w.chain
+    (ap (λ (l : List Waits). each (exit_of passes capacity transit) l) (sym w.waits_are) ∙ all.first) in
+    let ends : EndsAtTime last (map exit_point all.between) = subst (λ (l : List Exit). EndsAtTime last (map exit_point l)) (sym a.all_are)
     (follows-end (exit_at transit capacity inflow c) last (exit_point a.first) (map exit_point a.others) (exit-follows transit capacity inflow c positive rises waits_0 last w.first w.rest a.first a.others w.chain a.are)) in
     subst (λ (l : Loaded). EndsAtTime last l.exit) (same_Ok _ _ x.next) (checked_short-end passes (map exit_point all.between) x.between last ends x.first)
 

@@ -14,7 +14,7 @@ use Rattle.nf_model.specs.Curve.{Point, slope, TimesRise, IsCurve, AreSlopes}
 use Rattle.nf_model_laws.proofs.Affine.{same_from_times}
 use Rattle.nf_model_laws.proofs.Curves.{slope-times, TimesRise-rest}
 use Rattle.nf_lists.specs.Signs.{is_same}
-use Rattle.nf_lists.specs.ReportCurves.{goes_on, with_point, with_rate}
+use Rattle.nf_lists.specs.ReportCurves.{keeps_slope, with_point, with_rate}
 use Rattle.nf_phase_laws.specs.CurveSteps.{LastPoint, GoesOnTo}
 use Rattle.nf_phase_laws.proofs.CurveSteps.{GoesOnTo-appended, GoesOnTo-replaced}
 use Rattle.nf_plain_laws.proofs.Entries.{last-append}
@@ -62,7 +62,7 @@ abbrev pub LastSlope : List Point → Option ℚ → Type 0
 LastSlope points None = Unit {0}
 LastSlope points (Some r) = EndsWithSlope points r
 
-same_slope : (points : List Point) (o : Option ℚ) (r : ℚ) → LastSlope points o → goes_on o r ≡ true → EndsWithSlope points r
+same_slope : (points : List Point) (o : Option ℚ) (r : ℚ) → LastSlope points o → keeps_slope o r ≡ true → EndsWithSlope points r
 same_slope points None r s e = absurd (false≢true e)
 same_slope points (Some b) r s e = subst (λ (z : ℚ). EndsWithSlope points z) (same_of_test b r e) s
 
@@ -127,12 +127,12 @@ module _ (points : List Point) (last new : Point) (r : ℚ) (l : LastPoint point
         (subst (λ (qs : List Point). Went (front ++ before ∷ last ∷ []) qs last new r) (sym (taken front before last new))
         (record { goes = goes; slopes = record { front = front; before = before; last = new; same = refl; slope_is = joined later } }))
 
-  went_by : (b : Bool) (o : Option ℚ) → LastSlope points o → goes_on o r ≡ b → Went points (with_point b points new) last new r
+  went_by : (b : Bool) (o : Option ℚ) → LastSlope points o → keeps_slope o r ≡ b → Went points (with_point b points new) last new r
   went_by true o s t = let at : Reached points last r = reached points last r l (same_slope points o r s t) in went_same at.front at.before at.same at.slope_is
   went_by false o s t = went_on
 
-  pub went : (o : Option ℚ) → LastSlope points o → Went points (with_point (goes_on o r) points new) last new r
-  went o s = went_by (goes_on o r) o s refl
+  pub went : (o : Option ℚ) → LastSlope points o → Went points (with_point (keeps_slope o r) points new) last new r
+  went o s = went_by (keeps_slope o r) o s refl
 
 -- ---- printed rates
 pushed : (p : Point) (points : List Point) (o : Option ℚ) → LastSlope points o → LastSlope (p ∷ points) o
@@ -170,7 +170,7 @@ AreSlopes-replaced (p ∷ q ∷ front) before last new [] h e = absurd h
 AreSlopes-replaced (p ∷ q ∷ front) before last new (x ∷ rates) h e = (h.0, AreSlopes-replaced (q ∷ front) before last new rates h.1 e)
 
 module _ (points : List Point) (rates : List ℚ) (last new : Point) (r : ℚ) (l : LastPoint points last) (h : last.0 <ℚ new.0) (e : slope last new ≡ r) (are : AreSlopes points rates) where
-  slopes_by : (b : Bool) → goes_on (last_or None rates) r ≡ b → AreSlopes (with_point b points new) (with_rate b rates r)
+  slopes_by : (b : Bool) → keeps_slope (last_or None rates) r ≡ b → AreSlopes (with_point b points new) (with_rate b rates r)
   slopes_by true t =
       let at : Reached points last r = reached points last r l (same_slope points (last_or None rates) r (LastSlope-rates points rates are) t) in
       let k : at.before.0 <ℚ new.0 = later points last new r l h e at.front at.before at.same at.slope_is in
@@ -181,5 +181,5 @@ module _ (points : List Point) (rates : List ℚ) (last new : Point) (r : ℚ) (
   slopes_by false t = subst (λ (ps : List Point). AreSlopes (ps ++ new ∷ []) (rates ++ r ∷ [])) (sym l.same)
       (AreSlopes-appended l.front last new rates r (subst (λ (ps : List Point). AreSlopes ps rates) l.same are) (sym e))
 
-  pub AreSlopes-after : AreSlopes (with_point (goes_on (last_or None rates) r) points new) (with_rate (goes_on (last_or None rates) r) rates r)
-  AreSlopes-after = slopes_by (goes_on (last_or None rates) r) refl
+  pub AreSlopes-after : AreSlopes (with_point (keeps_slope (last_or None rates) r) points new) (with_rate (keeps_slope (last_or None rates) r) rates r)
+  AreSlopes-after = slopes_by (keeps_slope (last_or None rates) r) refl

@@ -14,7 +14,7 @@ use Rattle.nf_model.specs.Equilibrium.{Trace}
 use Rattle.nf_model_laws.proofs.Affine.{quotient-times}
 use Rattle.nf_lists.specs.Signs.{is_positive}
 use Rattle.nf_lists.specs.CurveList.{LinkPhase}
-use Rattle.nf_lists.specs.ReportCurves.{GrowingCurve, goes_on, with_point, with_rate, trace_after, queue_after}
+use Rattle.nf_lists.specs.ReportCurves.{GrowingCurve, keeps_slope, with_point, with_rate, trace_after, queue_after}
 use Rattle.nf_phase_laws.specs.Invariant.{queue_by_slack}
 use Rattle.nf_phase_laws.specs.CurveSteps.{LastPoint, GoesOnTo}
 use Rattle.nf_run_laws.proofs.Points.{slope_is, LastSlope, Went, went, AreSlopes-after}
@@ -34,10 +34,10 @@ pub same_point : (a b y z : ℚ) → a ≡ b → y ≡ z → ◌≡◌ {A = ℚ 
 same_point a b y z e f = cc
 
 pub went_to : (points known : List Point) (o : Option ℚ) (r : ℚ) (last new raw : Point) → points ≡ known → LastSlope known o → LastPoint points last → last.0 <ℚ new.0
-    → r *ℚ (new.0 -ℚ last.0) ≡ new.1 -ℚ last.1 → raw ≡ new → Went points (with_point (goes_on o r) known raw) last new r
+    → r *ℚ (new.0 -ℚ last.0) ≡ new.1 -ℚ last.1 → raw ≡ new → Went points (with_point (keeps_slope o r) known raw) last new r
 went_to points known o r last new raw e s l h k f =
-    subst (λ (p : Point). Went points (with_point (goes_on o r) known p) last new r) (sym f)
-    (subst (λ (ps : List Point). Went ps (with_point (goes_on o r) known new) last new r) (sym e)
+    subst (λ (p : Point). Went points (with_point (keeps_slope o r) known p) last new r) (sym f)
+    (subst (λ (ps : List Point). Went ps (with_point (keeps_slope o r) known new) last new r) (sym e)
     (went known last new r (subst (λ (ps : List Point). LastPoint ps last) e l) h (slope_is last new r h k) o s))
 
 -- ---- a curve with its rates
@@ -54,12 +54,12 @@ module _ (trace : Trace) (flow sl : ℚ) (points : List Point) (a y t label amou
       let later : a <ℚ a +ℚ sl *ℚ t = later_by a sl t moves some in
       let times : flow /ℚ sl *ℚ ((a +ℚ sl *ℚ t) -ℚ a) ≡ (y +ℚ flow *ℚ t) -ℚ y = rate_line a y sl flow t (flow /ℚ sl) (quotient-times flow sl moves) in
       let raw : ◌≡◌ {A = ℚ × ℚ} (label, amount) (a +ℚ sl *ℚ t, y +ℚ flow *ℚ t) = same_point _ _ _ _ label_is amount_is in
-      let w : Went points (with_point (goes_on (last_or None trace.rates) (flow /ℚ sl)) trace.points (label, amount)) (a, y) (a +ℚ sl *ℚ t, y +ℚ flow *ℚ t) (flow /ℚ sl) =
+      let w : Went points (with_point (keeps_slope (last_or None trace.rates) (flow /ℚ sl)) trace.points (label, amount)) (a, y) (a +ℚ sl *ℚ t, y +ℚ flow *ℚ t) (flow /ℚ sl) =
       went_to points trace.points (last_or None trace.rates) (flow /ℚ sl) (a, y) (a +ℚ sl *ℚ t, y +ℚ flow *ℚ t) (label, amount) same last_slope l later times raw in
       record {
         goes = λ _. w.goes;
         stays = λ e. absurd (not_both_ℚ 0ℚ sl moves (≤ℚ_of_same _ _ e));
-        rates = subst (λ (p : Point). AreSlopes (with_point (goes_on (last_or None trace.rates) (flow /ℚ sl)) trace.points p) (with_rate (goes_on (last_or None trace.rates) (flow /ℚ sl)) trace.rates (flow /ℚ sl))) (sym raw)
+        rates = subst (λ (p : Point). AreSlopes (with_point (keeps_slope (last_or None trace.rates) (flow /ℚ sl)) trace.points p) (with_rate (keeps_slope (last_or None trace.rates) (flow /ℚ sl)) trace.rates (flow /ℚ sl))) (sym raw)
             (AreSlopes-after trace.points trace.rates (a, y) (a +ℚ sl *ℚ t, y +ℚ flow *ℚ t) (flow /ℚ sl) (subst (λ (ps : List Point). LastPoint ps (a, y)) same l) later
             (slope_is (a, y) (a +ℚ sl *ℚ t, y +ℚ flow *ℚ t) (flow /ℚ sl) later times) are);
       }

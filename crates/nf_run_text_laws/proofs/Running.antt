@@ -21,7 +21,7 @@ use Rattle.nf_formats.specs.WellNamed.{IsFraction, IsNamed}
 use Rattle.nf_formats.specs.Report.{Report}
 use Rattle.nf_lists.specs.Signs.{is_positive}
 use Rattle.nf_lists.specs.CurveList.{QueueStep, LinkStep}
-use Rattle.nf_lists.specs.ReportCurves.{GrowingCurve, LinkCurves, goes_on, with_point, with_rate, first_label_curve, first_trace, first_queue, first_curves, label_curves_after, trace_after, queue_after, link_curves_after, amount_so_far}
+use Rattle.nf_lists.specs.ReportCurves.{GrowingCurve, LinkCurves, keeps_slope, with_point, with_rate, first_label_curve, first_trace, first_queue, first_curves, label_curves_after, trace_after, queue_after, link_curves_after, amount_so_far}
 use Rattle.nf_lists.specs.Search.{SearchAnswer, Found, OverBudget, PassesAt, NoPattern}
 use Rattle.nf_lists.specs.PhaseRun.{Standing, Bounds, IsStart, standing_after, cause_of_search, Seeks, phase_lists, Goes, Fails, at_slack, at_search, at_lists, Runs, at_horizon, at_phases, fails, goes, report_of, IsRunReport}
 use Rattle.nf_lists_laws.proofs.Ending.{from_map}
@@ -60,34 +60,34 @@ rate_added false rates rate h k = all-append IsFraction rates (rate ∷ []) h (k
 trace_fractions : (trace : Trace) (label amount : ℚ) (rate : Option ℚ) → IsFractionTrace trace → IsFraction label → IsFraction amount → IsFractionOrNone rate → IsFractionTrace (trace_after trace label amount rate)
 trace_fractions trace label amount None h k l m = h
 trace_fractions trace label amount (Some rate) h k l m = (
-  point_added (goes_on (last_or None trace.rates) rate) trace.points (label, amount) h.0 (k, l),
-  rate_added (goes_on (last_or None trace.rates) rate) trace.rates rate h.1 m,
+  point_added (keeps_slope (last_or None trace.rates) rate) trace.points (label, amount) h.0 (k, l),
+  rate_added (keeps_slope (last_or None trace.rates) rate) trace.rates rate h.1 m,
 )
 
 queue_fractions : (curve : GrowingCurve) (label : ℚ) (step : Option QueueStep) → IsFractionCurve curve → IsFraction label → IsFractionQueueOrNone step → IsFractionCurve (queue_after curve label step)
 queue_fractions curve label None h k l = h
-queue_fractions curve label (Some step) h k l = point_added (goes_on curve.slope step.slope) curve.points (label, step.size) h (k, l.size)
+queue_fractions curve label (Some step) h k l = point_added (keeps_slope curve.slope step.slope) curve.points (label, step.size) h (k, l.size)
 
-labels_go_on : (time : ℚ) (labels slopes : List ℚ) (curves : List GrowingCurve) → IsFraction time → AreFractions labels → AllByRecursion IsFractionCurve curves
+labels_extended : (time : ℚ) (labels slopes : List ℚ) (curves : List GrowingCurve) → IsFraction time → AreFractions labels → AllByRecursion IsFractionCurve curves
     → AllByRecursion IsFractionCurve (label_curves_after time labels slopes curves)
-labels_go_on time [] slopes curves h k l = tt
-labels_go_on time (label ∷ labels) [] curves h k l = tt
-labels_go_on time (label ∷ labels) (slope ∷ slopes) [] h k l = tt
-labels_go_on time (label ∷ labels) (slope ∷ slopes) (curve ∷ curves) h k l =
-    (point_added (goes_on curve.slope slope) curve.points (time, label) l.0 (h, k.0), labels_go_on time labels slopes curves h k.1 l.1)
+labels_extended time [] slopes curves h k l = tt
+labels_extended time (label ∷ labels) [] curves h k l = tt
+labels_extended time (label ∷ labels) (slope ∷ slopes) [] h k l = tt
+labels_extended time (label ∷ labels) (slope ∷ slopes) (curve ∷ curves) h k l =
+    (point_added (keeps_slope curve.slope slope) curve.points (time, label) l.0 (h, k.0), labels_extended time labels slopes curves h k.1 l.1)
 
-links_go_on : (labels : List ℚ) (links : List Link) (curves : List LinkCurves) (steps : List LinkStep) → AreFractions labels → AllByRecursion AreFractionCurves curves → AllByRecursion IsFractionStep steps
+links_extended : (labels : List ℚ) (links : List Link) (curves : List LinkCurves) (steps : List LinkStep) → AreFractions labels → AllByRecursion AreFractionCurves curves → AllByRecursion IsFractionStep steps
     → AllByRecursion AreFractionCurves (link_curves_after labels links curves steps)
-links_go_on labels [] curves steps h k l = tt
-links_go_on labels (link ∷ links) [] steps h k l = tt
-links_go_on labels (link ∷ links) (c ∷ curves) [] h k l = tt
-links_go_on labels (link ∷ links) (c ∷ curves) (step ∷ steps) h k l = (
+links_extended labels [] curves steps h k l = tt
+links_extended labels (link ∷ links) [] steps h k l = tt
+links_extended labels (link ∷ links) (c ∷ curves) [] h k l = tt
+links_extended labels (link ∷ links) (c ∷ curves) (step ∷ steps) h k l = (
   record {
     inflow = trace_fractions c.inflow (number_at labels link.tail) step.amount step.inflow_rate k.0.inflow (number_fraction labels link.tail h) l.0.amount l.0.inflow_rate;
     outflow = trace_fractions c.outflow (number_at labels link.head) step.amount step.outflow_rate k.0.outflow (number_fraction labels link.head h) l.0.amount l.0.outflow_rate;
     queue = queue_fractions c.queue (number_at labels link.tail) step.queue k.0.queue (number_fraction labels link.tail h) l.0.queue;
   },
-  links_go_on labels links curves steps h k.1 l.1,
+  links_extended labels links curves steps h k.1 l.1,
 )
 
 -- ---- the first curves, and the amounts so far
@@ -207,9 +207,9 @@ module _ (n : Named) (named : IsNamed n) (bounds : Bounds) (within : AreReadable
           time = time;
           labels = labels;
           label_curves = subst (λ (w : Standing). AllByRecursion IsFractionCurve w.label_curves) (sym g.new_is)
-              (labels_go_on new.time g.step.labels g.slopes s.label_curves (subst (λ (w : Standing). IsFraction w.time) g.new_is time) steps.labels fit.label_curves);
+              (labels_extended new.time g.step.labels g.slopes s.label_curves (subst (λ (w : Standing). IsFraction w.time) g.new_is time) steps.labels fit.label_curves);
           link_curves = subst (λ (w : Standing). AllByRecursion AreFractionCurves w.link_curves) (sym g.new_is)
-              (links_go_on g.step.labels net.links s.link_curves g.step.links steps.labels fit.link_curves steps.links);
+              (links_extended g.step.labels net.links s.link_curves g.step.links steps.labels fit.link_curves steps.links);
         }
 
     -- ---- why none is made

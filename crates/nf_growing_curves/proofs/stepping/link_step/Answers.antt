@@ -1,7 +1,7 @@
 use Rattle.std.proofs.Common.{sym, ◌∙◌}
 use Rattle.std.proofs.lemmas.Result.{err_from_is_err_and}
 use Rattle.nf_work.specs.Passing.{passes_Q}
-use Rattle.nf_growing_curves.proofs.Queued.{inflow_passes, outflow_passes, queue_passes, link_goes_on}
+use Rattle.nf_growing_curves.proofs.Queued.{inflow_passes, outflow_passes, queue_passes, link_step_is}
 use Rattle.nf_phase_length.proofs.Signs.{positive_apart}
 use Rattle.nf_growing_curves.proofs.stepping.link_step.Goals as goal
 
@@ -31,6 +31,6 @@ returns-in_err-queue_step c =
 
 pub returns-3 : goal.returns-3
 returns-3 c =
-    sym (link_goes_on passes_Q c.args.length c.args.so_far _ c.args.link.now _ _ c.link.view_is (sym c.product.ensures ∙ c.in-Ok-at.is) (sym c.sum.ensures ∙ c.in-Ok-at-amount.is) c.is_positive.result c.is_positive.ensures
+    sym (link_step_is passes_Q c.args.length c.args.so_far _ c.args.link.now _ _ c.link.view_is (sym c.product.ensures ∙ c.in-Ok-at.is) (sym c.sum.ensures ∙ c.in-Ok-at-amount.is) c.is_positive.result c.is_positive.ensures
     c.in_ok-inflow_rate.inflow_rate (sym c.in_ok-inflow_rate.ensures) c.is_positive-2.result c.is_positive-2.ensures c.in_ok-outflow_rate.outflow_rate (sym c.in_ok-outflow_rate.ensures)
     c.in_ok-queue_step.field-0 (sym c.in_ok-queue_step.ensures))

@@ -1,7 +1,7 @@
 use Rattle.std.proofs.Common.{sym, ◌∙◌}
 use Rattle.std.proofs.lemmas.Result.{err_from_is_err_and}
 use Rattle.nf_work.specs.Passing.{passes_Q}
-use Rattle.nf_growing_curves.proofs.Queued.{size_passes, slope_passes, queue_goes_on}
+use Rattle.nf_growing_curves.proofs.Queued.{size_passes, slope_passes, queue_step_is}
 use Rattle.nf_growing_curves.proofs.stepping.queue_step.Goals as goal
 
 pub returns-in_err-slope-in-Some : goal.returns-in_err-slope-in-Some
@@ -18,5 +18,5 @@ returns-in_err-size-in-Some c =
 
 pub returns-in_ok-slope-in-Some : goal.returns-in_ok-slope-in-Some
 returns-in_ok-slope-in-Some c =
-    rw c.in-Some.is (sym (queue_goes_on passes_Q _ c.args.link.now c.in-Some.rate _ _ c.in_ok-size-in-Some.size c.in_ok-slope-in-Some.slope c.is_positive.result
+    rw c.in-Some.is (sym (queue_step_is passes_Q _ c.args.link.now c.in-Some.rate _ _ c.in_ok-size-in-Some.size c.in_ok-slope-in-Some.slope c.is_positive.result
     c.link.view_is (sym c.sum.ensures ∙ c.in-Ok-at.is) (sym c.difference.ensures ∙ c.in-Ok-at-slack.is) c.is_positive.ensures (sym c.in_ok-size-in-Some.ensures) (sym c.in_ok-slope-in-Some.ensures)))

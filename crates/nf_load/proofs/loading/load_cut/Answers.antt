@@ -4,10 +4,10 @@ use Rattle.std.proofs.lemmas.Result.{err_from_is_err_and}
 use Rattle.nf_work.specs.declared.Part.TheVariants.{Load}
 use Rattle.nf_work.specs.Passing.{passes_Q}
 use Rattle.nf_work.specs.Checked.{at_part, each}
-use Rattle.nf_load_lists.specs.Loading.{Waits, leaves, all_waits}
+use Rattle.nf_load_lists.specs.Loading.{Waits, exit_of, all_waits}
 use Rattle.nf_curve.proofs.Exits.{stops_on}
 use Rattle.nf_load.specs.InSteps.{behind_cut}
-use Rattle.nf_load.proofs.LoadingSteps.{waits_stop, leaves_stop, leaves_go, are_curves}
+use Rattle.nf_load.proofs.LoadingSteps.{waits_stop, exits_stop, exits_go, are_curves}
 use Rattle.nf_load.proofs.loading.load_cut.Goals as goal
 
 pub returns-in_err-waits : goal.returns-in_err-waits
@@ -17,22 +17,22 @@ returns-in_err-waits c =
     (at_part Load (behind_cut passes_Q c.args.transit c.args.capacity c.args.cut.now.points c.args.until))
     (waits_stop passes_Q Load c.args.transit c.args.capacity c.args.cut.now.points c.args.until) c.in_err-waits.ensures)
 
-pub returns-in_err-leaves : goal.returns-in_err-leaves
-returns-in_err-leaves c =
-    let p = err_from_is_err_and c.from_residual-in_err-leaves.result c.from_residual-in_err-leaves.ensures.1 in
-    rw (p.1, p.2) (stops_on c.in_err-leaves.field-0.0 (at_part Load (each (leaves passes_Q c.args.capacity c.args.transit) c.in_ok-waits.waits.items))
+pub returns-in_err-exits : goal.returns-in_err-exits
+returns-in_err-exits c =
+    let p = err_from_is_err_and c.from_residual-in_err-exits.result c.from_residual-in_err-exits.ensures.1 in
+    rw (p.1, p.2) (stops_on c.in_err-exits.field-0.0 (at_part Load (each (exit_of passes_Q c.args.capacity c.args.transit) c.in_ok-waits.waits.items))
     (at_part Load (behind_cut passes_Q c.args.transit c.args.capacity c.args.cut.now.points c.args.until))
-    (leaves_stop passes_Q Load c.args.transit c.args.capacity c.args.cut.now.points c.args.until c.in_ok-waits.waits.items c.in_ok-waits.ensures) (rw c.deref.ensures.value at c.in_err-leaves.ensures))
+    (exits_stop passes_Q Load c.args.transit c.args.capacity c.args.cut.now.points c.args.until c.in_ok-waits.waits.items c.in_ok-waits.ensures) (rw c.deref.ensures.value at c.in_err-exits.ensures))
 
 pub curves_until-requires-clause-curves : goal.curves_until-requires-clause-curves
 curves_until-requires-clause-curves c =
-    let all_are : at_part Load (each (leaves passes_Q c.args.capacity c.args.transit) c.in_ok-waits.waits.items) ≡ Ok c.in_ok-leaves.leaves.items =
-    ap (λ (l : List Waits). at_part Load (each (leaves passes_Q c.args.capacity c.args.transit) l)) (sym c.deref.ensures.value) ∙ c.in_ok-leaves.ensures in
-    rw (c.deref-2.ensures.value, c.deref-3.ensures.value) (are_curves passes_Q Load c.args.transit c.args.capacity c.args.cut.now.points c.args.until c.in_ok-waits.waits.items c.in_ok-waits.ensures c.in_ok-leaves.leaves.items all_are c.requires.curves)
+    let all_are : at_part Load (each (exit_of passes_Q c.args.capacity c.args.transit) c.in_ok-waits.waits.items) ≡ Ok c.in_ok-exits.exits.items =
+    ap (λ (l : List Waits). at_part Load (each (exit_of passes_Q c.args.capacity c.args.transit) l)) (sym c.deref.ensures.value) ∙ c.in_ok-exits.ensures in
+    rw (c.deref-2.ensures.value, c.deref-3.ensures.value) (are_curves passes_Q Load c.args.transit c.args.capacity c.args.cut.now.points c.args.until c.in_ok-waits.waits.items c.in_ok-waits.ensures c.in_ok-exits.exits.items all_are c.requires.curves)
 
 pub returns : goal.returns
 returns c =
-    let all_are : at_part Load (each (leaves passes_Q c.args.capacity c.args.transit) c.in_ok-waits.waits.items) ≡ Ok c.in_ok-leaves.leaves.items =
-    ap (λ (l : List Waits). at_part Load (each (leaves passes_Q c.args.capacity c.args.transit) l)) (sym c.deref.ensures.value) ∙ c.in_ok-leaves.ensures in
-    let e = leaves_go passes_Q Load c.args.transit c.args.capacity c.args.cut.now.points c.args.until c.in_ok-waits.waits.items c.in_ok-waits.ensures c.in_ok-leaves.leaves.items all_are in
+    let all_are : at_part Load (each (exit_of passes_Q c.args.capacity c.args.transit) c.in_ok-waits.waits.items) ≡ Ok c.in_ok-exits.exits.items =
+    ap (λ (l : List Waits). at_part Load (each (exit_of passes_Q c.args.capacity c.args.transit) l)) (sym c.deref.ensures.value) ∙ c.in_ok-exits.ensures in
+    let e = exits_go passes_Q Load c.args.transit c.args.capacity c.args.cut.now.points c.args.until c.in_ok-waits.waits.items c.in_ok-waits.ensures c.in_ok-exits.exits.items all_are in
     rw e (rw (c.deref-2.ensures.value, c.deref-3.ensures.value) at c.curves_until.ensures)

@@ -8,10 +8,10 @@ use Rattle.nf_phase.proofs.run.Run.step.Goals as goal
 pub returns-clause-goes : goal.returns-clause-goes
 returns-clause-goes c =
     steps_made passes_Q c.args.net.now.net c.phase.ensures.named.network c.args.horizon c.args.patterns c.args.self.now c.requires.reaches c.in_ok-next.next.phase c.in_ok-next.ensures.leads c.in_ok-next.next.rests c.in_ok-next.ensures.rests
-    c.go_on_by.new.self c.in_ok-go_on_by.ensures.made
+    c.extend_by_next.new.self c.in_ok-extend_by_next.ensures.made
 
 pub returns-clause-begins : goal.returns-clause-begins
-returns-clause-begins c = λ none. begin_step passes_Q c.args.net.now.net c.args.horizon c.args.patterns c.args.self.now c.go_on_by.new.self none (returns-clause-goes c)
+returns-clause-begins c = λ none. begin_step passes_Q c.args.net.now.net c.args.horizon c.args.patterns c.args.self.now c.extend_by_next.new.self none (returns-clause-goes c)
 
 pub returns-clause-only : goal.returns-clause-only
 returns-clause-only c = only_step passes_Q c.args.net.now.net c.phase.ensures.named.network c.args.self.now c.requires.reaches c.args.horizon c.args.patterns _ (returns-clause-goes c)
@@ -44,17 +44,17 @@ returns-in_err-next-clause-labels c = keeps_reached passes_Q c.args.net.now.net 
 pub returns-in_err-next-clause-short : goal.returns-in_err-next-clause-short
 returns-in_err-next-clause-short c = short_reached passes_Q c.args.net.now.net c.phase.ensures.named.network _ c.requires.reaches
 
-pub returns-in_err-go_on_by-clause-reaches : goal.returns-in_err-go_on_by-clause-reaches
-returns-in_err-go_on_by-clause-reaches c = subst (Reaches passes_Q c.args.net.now.net) (sym c.in_err-go_on_by.ensures.kept) c.requires.reaches
+pub returns-in_err-extend_by_next-clause-reaches : goal.returns-in_err-extend_by_next-clause-reaches
+returns-in_err-extend_by_next-clause-reaches c = subst (Reaches passes_Q c.args.net.now.net) (sym c.in_err-extend_by_next.ensures.kept) c.requires.reaches
 
-pub returns-in_err-go_on_by-clause-equilibrium : goal.returns-in_err-go_on_by-clause-equilibrium
-returns-in_err-go_on_by-clause-equilibrium c = equilibrium_reached passes_Q c.args.net.now.net c.phase.ensures.named.network _ (returns-in_err-go_on_by-clause-reaches c)
+pub returns-in_err-extend_by_next-clause-equilibrium : goal.returns-in_err-extend_by_next-clause-equilibrium
+returns-in_err-extend_by_next-clause-equilibrium c = equilibrium_reached passes_Q c.args.net.now.net c.phase.ensures.named.network _ (returns-in_err-extend_by_next-clause-reaches c)
 
-pub returns-in_err-go_on_by-clause-ends : goal.returns-in_err-go_on_by-clause-ends
-returns-in_err-go_on_by-clause-ends c = ends_reached passes_Q c.args.net.now.net c.phase.ensures.named.network _ (returns-in_err-go_on_by-clause-reaches c)
+pub returns-in_err-extend_by_next-clause-ends : goal.returns-in_err-extend_by_next-clause-ends
+returns-in_err-extend_by_next-clause-ends c = ends_reached passes_Q c.args.net.now.net c.phase.ensures.named.network _ (returns-in_err-extend_by_next-clause-reaches c)
 
-pub returns-in_err-go_on_by-clause-labels : goal.returns-in_err-go_on_by-clause-labels
-returns-in_err-go_on_by-clause-labels c = keeps_reached passes_Q c.args.net.now.net c.phase.ensures.named.network _ (returns-in_err-go_on_by-clause-reaches c)
+pub returns-in_err-extend_by_next-clause-labels : goal.returns-in_err-extend_by_next-clause-labels
+returns-in_err-extend_by_next-clause-labels c = keeps_reached passes_Q c.args.net.now.net c.phase.ensures.named.network _ (returns-in_err-extend_by_next-clause-reaches c)
 
-pub returns-in_err-go_on_by-clause-short : goal.returns-in_err-go_on_by-clause-short
-returns-in_err-go_on_by-clause-short c = short_reached passes_Q c.args.net.now.net c.phase.ensures.named.network _ (returns-in_err-go_on_by-clause-reaches c)
+pub returns-in_err-extend_by_next-clause-short : goal.returns-in_err-extend_by_next-clause-short
+returns-in_err-extend_by_next-clause-short c = short_reached passes_Q c.args.net.now.net c.phase.ensures.named.network _ (returns-in_err-extend_by_next-clause-reaches c)

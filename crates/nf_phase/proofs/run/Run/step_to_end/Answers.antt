@@ -47,19 +47,19 @@ returns-in_err-phase-clause-cause c =
     c.in-Some.end (ap (λ (o : Option ℚ). Ok o) (sym c.in-Some.is) ∙ c.in_ok-end.ensures.list)
     c.from_residual-in_err-phase.result c.in_err-phase.field-0.0 c.from_residual-in_err-phase.ensures.1 c.in_err-phase.ensures.cause
 
-pub returns-in_err-make-clause-cause : goal.returns-in_err-make-clause-cause
-returns-in_err-make-clause-cause c = by_fault c.from_residual-in_err-make.result StepFault.Memory _ c.from_residual-in_err-make.ensures.1 tt
+pub returns-in_err-extend_by-clause-cause : goal.returns-in_err-extend_by-clause-cause
+returns-in_err-extend_by-clause-cause c = by_fault c.from_residual-in_err-extend_by.result StepFault.Memory _ c.from_residual-in_err-extend_by.ensures.1 tt
 
 pub returns-clause-phase : goal.returns-clause-phase
 returns-clause-phase c =
     goes_to_end passes_Q c.args.net.now.net c.args.patterns c.args.self.now c.in_ok-found.found c.in_ok-found.ensures.found c.deref.result.now c.deref-2.result.now c.self.inside.reached
     c.deref.ensures.value c.deref-2.ensures.value (ap (λ (s : Standing). s.time) c.self.view_is)
     c.in-Some.end (ap (λ (o : Option ℚ). Ok o) (sym c.in-Some.is) ∙ c.in_ok-end.ensures.list)
-    c.in_ok-phase.phase c.in_ok-phase.ensures.leads c.in_ok-phase.ensures.slopes c.make.new.self c.in_ok-make.ensures.made
+    c.in_ok-phase.phase c.in_ok-phase.ensures.leads c.in_ok-phase.ensures.slopes c.extend_by.new.self c.in_ok-extend_by.ensures.made
 
 pub returns-clause-reaches : goal.returns-clause-reaches
 returns-clause-reaches c =
-    let g : GoesToEnd passes_Q c.args.net.now.net c.args.patterns c.args.self.now c.make.new.self = returns-clause-phase c in
+    let g : GoesToEnd passes_Q c.args.net.now.net c.args.patterns c.args.self.now c.extend_by.new.self = returns-clause-phase c in
     goes_on g.end c.args.patterns c.requires.reaches g.goes
 
 pub phase_by-requires-clause-reaches : goal.phase_by-requires-clause-reaches
@@ -75,17 +75,17 @@ pub phase_by-requires-clause-below : goal.phase_by-requires-clause-below
 phase_by-requires-clause-below c =
     subst (λ (s : Standing). s.time <ℚ c.in-Some.end) c.self.view_is (MatchOption-at_some _ (λ (end : ℚ). c.self.inside.reached <ℚ end) c.in-Some.end c.in-Some.is c.in_ok-end.ensures.later)
 
-pub make-requires-clause-reaches : goal.make-requires-clause-reaches
-make-requires-clause-reaches c = c.requires.reaches
+pub extend_by-requires-clause-reaches : goal.extend_by-requires-clause-reaches
+extend_by-requires-clause-reaches c = c.requires.reaches
 
-pub make-requires-clause-named : goal.make-requires-clause-named
-make-requires-clause-named c = c.in_ok-found.ensures.named
+pub extend_by-requires-clause-named : goal.extend_by-requires-clause-named
+extend_by-requires-clause-named c = c.in_ok-found.ensures.named
 
-pub make-requires-clause-more : goal.make-requires-clause-more
-make-requires-clause-more c = c.requires.more
+pub extend_by-requires-clause-more : goal.extend_by-requires-clause-more
+extend_by-requires-clause-more c = c.requires.more
 
-pub make-requires-clause-leads : goal.make-requires-clause-leads
-make-requires-clause-leads c = c.in_ok-phase.ensures.leads
+pub extend_by-requires-clause-leads : goal.extend_by-requires-clause-leads
+extend_by-requires-clause-leads c = c.in_ok-phase.ensures.leads
 
 pub returns-in_err-end-clause-reaches : goal.returns-in_err-end-clause-reaches
 returns-in_err-end-clause-reaches c = c.requires.reaches
@@ -105,11 +105,11 @@ returns-in_default-clause-reaches c = c.requires.reaches
 pub returns-in_default-clause-stays : goal.returns-in_default-clause-stays
 returns-in_default-clause-stays c = λ some. refl
 
-pub returns-in_err-make-clause-reaches : goal.returns-in_err-make-clause-reaches
-returns-in_err-make-clause-reaches c = subst (λ (s : Standing). Reaches passes_Q c.args.net.now.net s) (sym c.in_err-make.ensures.kept) c.requires.reaches
+pub returns-in_err-extend_by-clause-reaches : goal.returns-in_err-extend_by-clause-reaches
+returns-in_err-extend_by-clause-reaches c = subst (λ (s : Standing). Reaches passes_Q c.args.net.now.net s) (sym c.in_err-extend_by.ensures.kept) c.requires.reaches
 
-pub returns-in_err-make-clause-kept : goal.returns-in_err-make-clause-kept
-returns-in_err-make-clause-kept c = holds_anyway c.from_residual-in_err-make.result _ c.in_err-make.ensures.kept
+pub returns-in_err-extend_by-clause-kept : goal.returns-in_err-extend_by-clause-kept
+returns-in_err-extend_by-clause-kept c = holds_anyway c.from_residual-in_err-extend_by.result _ c.in_err-extend_by.ensures.kept
 
 pub returns-clause-stays : goal.returns-clause-stays
 returns-clause-stays c = λ some. absurd (false≢true some)
@@ -126,11 +126,11 @@ returns-in_err-phase-clause-phase c = IfOk-from_err c.from_residual-in_err-phase
 pub returns-in_err-phase-clause-stays : goal.returns-in_err-phase-clause-stays
 returns-in_err-phase-clause-stays c = IfOk-from_err c.from_residual-in_err-phase.result _ c.from_residual-in_err-phase.ensures.0
 
-pub returns-in_err-make-clause-phase : goal.returns-in_err-make-clause-phase
-returns-in_err-make-clause-phase c = IfOk-from_err c.from_residual-in_err-make.result _ c.from_residual-in_err-make.ensures.0
+pub returns-in_err-extend_by-clause-phase : goal.returns-in_err-extend_by-clause-phase
+returns-in_err-extend_by-clause-phase c = IfOk-from_err c.from_residual-in_err-extend_by.result _ c.from_residual-in_err-extend_by.ensures.0
 
-pub returns-in_err-make-clause-stays : goal.returns-in_err-make-clause-stays
-returns-in_err-make-clause-stays c = IfOk-from_err c.from_residual-in_err-make.result _ c.from_residual-in_err-make.ensures.0
+pub returns-in_err-extend_by-clause-stays : goal.returns-in_err-extend_by-clause-stays
+returns-in_err-extend_by-clause-stays c = IfOk-from_err c.from_residual-in_err-extend_by.result _ c.from_residual-in_err-extend_by.ensures.0
 
 pub same-self-in_err-end : goal.same-self-in_err-end
 same-self-in_err-end c = refl
@@ -202,14 +202,14 @@ returns-in_err-phase-clause-labels c = keeps_reached passes_Q c.args.net.now.net
 pub returns-in_err-phase-clause-short : goal.returns-in_err-phase-clause-short
 returns-in_err-phase-clause-short c = short_reached passes_Q c.args.net.now.net c.find.ensures.named.network _ c.requires.reaches
 
-pub returns-in_err-make-clause-equilibrium : goal.returns-in_err-make-clause-equilibrium
-returns-in_err-make-clause-equilibrium c = equilibrium_reached passes_Q c.args.net.now.net c.find.ensures.named.network _ (returns-in_err-make-clause-reaches c)
+pub returns-in_err-extend_by-clause-equilibrium : goal.returns-in_err-extend_by-clause-equilibrium
+returns-in_err-extend_by-clause-equilibrium c = equilibrium_reached passes_Q c.args.net.now.net c.find.ensures.named.network _ (returns-in_err-extend_by-clause-reaches c)
 
-pub returns-in_err-make-clause-ends : goal.returns-in_err-make-clause-ends
-returns-in_err-make-clause-ends c = ends_reached passes_Q c.args.net.now.net c.find.ensures.named.network _ (returns-in_err-make-clause-reaches c)
+pub returns-in_err-extend_by-clause-ends : goal.returns-in_err-extend_by-clause-ends
+returns-in_err-extend_by-clause-ends c = ends_reached passes_Q c.args.net.now.net c.find.ensures.named.network _ (returns-in_err-extend_by-clause-reaches c)
 
-pub returns-in_err-make-clause-labels : goal.returns-in_err-make-clause-labels
-returns-in_err-make-clause-labels c = keeps_reached passes_Q c.args.net.now.net c.find.ensures.named.network _ (returns-in_err-make-clause-reaches c)
+pub returns-in_err-extend_by-clause-labels : goal.returns-in_err-extend_by-clause-labels
+returns-in_err-extend_by-clause-labels c = keeps_reached passes_Q c.args.net.now.net c.find.ensures.named.network _ (returns-in_err-extend_by-clause-reaches c)
 
-pub returns-in_err-make-clause-short : goal.returns-in_err-make-clause-short
-returns-in_err-make-clause-short c = short_reached passes_Q c.args.net.now.net c.find.ensures.named.network _ (returns-in_err-make-clause-reaches c)
+pub returns-in_err-extend_by-clause-short : goal.returns-in_err-extend_by-clause-short
+returns-in_err-extend_by-clause-short c = short_reached passes_Q c.args.net.now.net c.find.ensures.named.network _ (returns-in_err-extend_by-clause-reaches c)

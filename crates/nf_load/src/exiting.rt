@@ -6,7 +6,7 @@ ghost use Rattle.nf_work.specs.Checked.{at_part, each, Gives};
 ghost use Rattle.nf_model_laws.specs.Capacity.{IsPositive};
 ghost use Rattle.nf_load_lists.specs.Loading as lists;
 
-use crate::waits::{Leaves, Waits};
+use crate::waits::{Exit, Waits};
 use nf_frac::{Halt, Part, PassedAt, Q, at};
 use std::alloc::Global;
 
@@ -31,30 +31,30 @@ fn exit_after(capacity: &Option<Q>, transit: Q, waits: &Waits) -> Result<Q, Pass
 }
 
 // Returns a moment with the exit of flow that enters then.
-fn leaves(capacity: &Option<Q>, transit: Q, waits: &Waits) -> Result<Leaves, PassedAt<Q>>
+fn exit_of(capacity: &Option<Q>, transit: Q, waits: &Waits) -> Result<Exit, PassedAt<Q>>
     requires { IsPositive capacity.now }
-    ensures { result ≡ at_part Load (lists.leaves passes_Q capacity.now transit waits.now) }
+    ensures { result ≡ at_part Load (lists.exit_of passes_Q capacity.now transit waits.now) }
 {
     let exit = exit_after(capacity, transit, waits)?;
-    Ok(Leaves {
+    Ok(Exit {
         waits: *waits,
         exit,
     })
 }
 
 /// Returns each moment with the exit of flow that enters then.
-pub(crate) fn all_leaves(
+pub(crate) fn all_exits(
     alloc: Global,
     capacity: &Option<Q>,
     transit: Q,
     waits: &[Waits],
-) -> Result<Vec<Leaves>, Halt<Q>>
+) -> Result<Vec<Exit>, Halt<Q>>
     requires { IsPositive capacity.now }
-    ensures { Gives (λ all. all.items) (λ q. q) result (at_part Load (each (lists.leaves passes_Q capacity.now transit) waits.now)) }
+    ensures { Gives (λ all. all.items) (λ q. q) result (at_part Load (each (lists.exit_of passes_Q capacity.now transit) waits.now)) }
 {
     let mut all = Vec::new(alloc);
     for moment in waits {
-        let one = leaves(capacity, transit, moment)?;
+        let one = exit_of(capacity, transit, moment)?;
         all.push(one)?;
     }
     Ok(all)

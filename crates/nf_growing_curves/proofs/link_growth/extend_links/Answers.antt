@@ -6,17 +6,17 @@ use Rattle.nf_lists.specs.ReportCurves.{LinkCurves, link_curves_after}
 use Rattle.nf_run_laws.proofs.AfterPhase.{link_after_at, link_after-length}
 use Rattle.nf_growing_curves.specs.Growing.{Roomy, all_grown}
 use Rattle.nf_growing_curves.proofs.Places.{grown_before, one_grown, all_are_grown}
-use Rattle.nf_growing_curves.proofs.link_growth.links_go_on.Goals as goal
+use Rattle.nf_growing_curves.proofs.link_growth.extend_links.Goals as goal
 
 pub loop-e-preserved : goal.loop-e-preserved
 loop-e-preserved c =
     let inside : c.loop-e.e < length c.loop-e.curves = omega arith in
-    one_grown (link_curves_after c.args.labels.now c.args.net.now.net.links (all_grown c.args.curves.now) c.args.steps.now) c.args.curves.now c.loop-e.curves c.loop-e.e c.link_goes_on.new.curves inside
+    one_grown (link_curves_after c.args.labels.now c.args.net.now.net.links (all_grown c.args.curves.now) c.args.steps.now) c.args.curves.now c.loop-e.curves c.loop-e.e c.extend_link.new.curves inside
     (link_after_at c.args.labels.now c.args.net.now.net.links (all_grown c.args.curves.now) c.args.steps.now c.loop-e.e c.link-link.result (get_or c.loop-e.curves c.loop-e.e c.index-curves-e.result).grown c.index-steps-e.result
     c.link-link.ensures.link
     (grown_before _ c.args.curves.now c.loop-e.curves c.loop-e.e _ (slice_get-get_or c.loop-e.curves c.loop-e.e c.index-curves-e.result inside) c.loop-e.invariant)
     (slice_get_read c.args.steps.now (length c.args.steps.now) c.loop-e.e c.index-steps-e.result refl (omega arith) c.index-steps-e.is)
-    ∙ ap (λ (g : LinkCurves). Some g) (sym c.link_goes_on.ensures))
+    ∙ ap (λ (g : LinkCurves). Some g) (sym c.extend_link.ensures))
     c.loop-e.invariant
 
 pub returns : goal.returns
@@ -26,19 +26,19 @@ returns c =
     (link_after-length c.args.labels.now c.args.net.now.net.links (all_grown c.args.curves.now) c.args.steps.now (omega arith) (omega arith) ∙ omega arith)
     (omega arith) c.loop-e.invariant
 
-pub link_goes_on-requires-clause-head : goal.link_goes_on-requires-clause-head
-link_goes_on-requires-clause-head c = omega (arith, c.link-link.ensures.named.network.heads c.loop-e.e c.link-link.result c.link-link.ensures.link, c.requires.labels)
+pub extend_link-requires-clause-head : goal.extend_link-requires-clause-head
+extend_link-requires-clause-head c = omega (arith, c.link-link.ensures.named.network.heads c.loop-e.e c.link-link.result c.link-link.ensures.link, c.requires.labels)
 
-pub link_goes_on-requires-clause-tail : goal.link_goes_on-requires-clause-tail
-link_goes_on-requires-clause-tail c = omega (arith, c.link-link.ensures.named.network.tails c.loop-e.e c.link-link.result c.link-link.ensures.link, c.requires.labels)
+pub extend_link-requires-clause-tail : goal.extend_link-requires-clause-tail
+extend_link-requires-clause-tail c = omega (arith, c.link-link.ensures.named.network.tails c.loop-e.e c.link-link.result c.link-link.ensures.link, c.requires.labels)
 
-pub link_goes_on-requires-clause-room : goal.link_goes_on-requires-clause-room
-link_goes_on-requires-clause-room c =
+pub extend_link-requires-clause-room : goal.extend_link-requires-clause-room
+extend_link-requires-clause-room c =
     let inside : c.loop-e.e < length c.loop-e.curves = omega arith in
     c.requires.room c.loop-e.e _ (sym (c.loop-e.invariant.rest c.loop-e.e (omega arith)) ∙ slice_get-get_or c.loop-e.curves c.loop-e.e c.index-curves-e.result inside)
 
-pub link_goes_on-requires-clause-later : goal.link_goes_on-requires-clause-later
-link_goes_on-requires-clause-later c =
+pub extend_link-requires-clause-later : goal.extend_link-requires-clause-later
+extend_link-requires-clause-later c =
     let inside : c.loop-e.e < length c.loop-e.curves = omega arith in
     c.requires.later c.loop-e.e c.link-link.result (get_or c.loop-e.curves c.loop-e.e c.index-curves-e.result).grown c.index-steps-e.result c.link-link.ensures.link
     (grown_before _ c.args.curves.now c.loop-e.curves c.loop-e.e _ (slice_get-get_or c.loop-e.curves c.loop-e.e c.index-curves-e.result inside) c.loop-e.invariant)

@@ -2,9 +2,9 @@ use Rattle.std.proofs.Common.{◌≡◌, drop}
 use Rattle.nf_work.specs.Passing.{passes_Q}
 use Rattle.nf_work.specs.Checked.{each}
 use Rattle.nf_work.proofs.Each.{with_front}
-use Rattle.nf_load_lists.specs.Loading.{leaves}
-use Rattle.nf_load.proofs.leaving.all_leaves.Given as goal
+use Rattle.nf_load_lists.specs.Loading.{exit_of}
+use Rattle.nf_load.proofs.exiting.all_exits.Given as goal
 
 -- the exits so far, and those of the moments from here on
 abbrev pub invariant-loop-moment : goal.invariant-loop-moment
-invariant-loop-moment l = with_front l.all.items (each (leaves passes_Q l.capacity l.transit) (drop l.moment-index l.waits)) ≡ each (leaves passes_Q l.capacity l.transit) l.waits
+invariant-loop-moment l = with_front l.all.items (each (exit_of passes_Q l.capacity l.transit) (drop l.moment-index l.waits)) ≡ each (exit_of passes_Q l.capacity l.transit) l.waits

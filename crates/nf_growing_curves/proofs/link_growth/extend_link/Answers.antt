@@ -6,23 +6,23 @@ use Rattle.nf_lists.specs.CurveList.{QueueStep, LinkStep}
 use Rattle.nf_lists.specs.ReportCurves.{trace_after, queue_after, curves_after}
 use Rattle.nf_growing_curves.specs.Growing.{step_of}
 use Rattle.nf_growing_curves.proofs.AtLabels.{number_read, ends_before}
-use Rattle.nf_growing_curves.proofs.link_growth.link_goes_on.Goals.{in-Some, in-None}
-use Rattle.nf_growing_curves.proofs.link_growth.link_goes_on.Goals as goal
+use Rattle.nf_growing_curves.proofs.link_growth.extend_link.Goals.{in-Some, in-None}
+use Rattle.nf_growing_curves.proofs.link_growth.extend_link.Goals as goal
 
-pub go_on-requires-clause-inflow : goal.go_on-requires-clause-inflow
-go_on-requires-clause-inflow c =
+pub extend-requires-clause-inflow : goal.extend-requires-clause-inflow
+extend-requires-clause-inflow c =
     ends_before c.step.inside.inflow_rate c.args.curves.now.grown.inflow.points _ c.index-labels-index.result
     (number_read c.args.labels.now c.args.link.now.tail c.index.result c.index-labels-index.result (c.index.ensures ∙ ap (λ (l : Link). l.tail) c.link.view_is) c.requires.tail c.index-labels-index.is)
     (λ rate e. c.requires.later.inflow rate (sym (ap (λ (s : LinkStep). s.inflow_rate) c.step.view_is) ∙ e))
 
-pub go_on-requires-clause-outflow : goal.go_on-requires-clause-outflow
-go_on-requires-clause-outflow c =
+pub extend-requires-clause-outflow : goal.extend-requires-clause-outflow
+extend-requires-clause-outflow c =
     ends_before c.step.inside.outflow_rate c.args.curves.now.grown.outflow.points _ c.index-labels-index-2.result
     (number_read c.args.labels.now c.args.link.now.head c.index-2.result c.index-labels-index-2.result (c.index-2.ensures ∙ ap (λ (l : Link). l.head) c.link.view_is) c.requires.head c.index-labels-index-2.is)
     (λ rate e. c.requires.later.outflow rate (sym (ap (λ (s : LinkStep). s.outflow_rate) c.step.view_is) ∙ e))
 
-pub go_on-requires-clause-queue : goal.go_on-requires-clause-queue
-go_on-requires-clause-queue c =
+pub extend-requires-clause-queue : goal.extend-requires-clause-queue
+extend-requires-clause-queue c =
     let tail = number_read c.args.labels.now c.args.link.now.tail c.index.result c.index-labels-index.result (c.index.ensures ∙ ap (λ (l : Link). l.tail) c.link.view_is) c.requires.tail c.index-labels-index.is in
     elim c.match-step.branch [
       | in-Some w ↦ λ some.
@@ -39,7 +39,7 @@ returns c =
       | in-Some w ↦ ap step_of w.queue-is ∙ ap (λ (q : QueueStep). Some q) w.queue.view_is ∙ sym w.in-Some.is
       | in-None w ↦ ap step_of w.queue-is ∙ sym w.in-None.is
     ] in
-    (λ i. record { inflow = c.go_on.ensures.inflow i; outflow = c.go_on.ensures.outflow i; queue = c.go_on.ensures.queue i })
+    (λ i. record { inflow = c.extend.ensures.inflow i; outflow = c.extend.ensures.outflow i; queue = c.extend.ensures.queue i })
     ∙ (λ i. record {
       inflow = trace_after c.args.curves.now.grown.inflow (sym tail i) c.step.inside.amount c.step.inside.inflow_rate;
       outflow = trace_after c.args.curves.now.grown.outflow (sym head i) c.step.inside.amount c.step.inside.outflow_rate;

@@ -6,10 +6,10 @@ use Rattle.nf_lists.specs.ReportCurves.{GrowingCurve}
 use Rattle.nf_lists.specs.Ends.{end_of}
 use Rattle.nf_growing_curves.specs.Growing.{Roomy}
 use Rattle.nf_growing_curves.proofs.Corners.{still_after}
-use Rattle.nf_growing_curves.proofs.growing.GrowingCurve.go_on.Goals as goal
+use Rattle.nf_growing_curves.proofs.growing.GrowingCurve.extend.Goals as goal
 
 pub invariant_of-self : goal.invariant_of-self
 invariant_of-self c =
     subst (λ (l : List Point). last_time l <ℚ c.args.time) (sym c.close_unless.ensures)
-    (still_after c.goes_on-goes.result c.self.inside.corners.points c.self.inside.end c.args.time c.self.invariant
+    (still_after c.keeps_slope-kept.result c.self.inside.corners.points c.self.inside.end c.args.time c.self.invariant
     (subst (λ (g : Roomy GrowingCurve). end_of g.grown.points <ℚ c.args.time) (sym c.self.view_is) c.requires.later))

@@ -10,7 +10,7 @@ ghost use Rattle.nf_phase.specs.Restarting.{after_rest};
 use crate::phase::Phase;
 use crate::run::Run;
 use nf_frac::Q;
-use nf_growing_curves::{labels_go_on, links_go_on, reserve_labels, reserve_links};
+use nf_growing_curves::{extend_labels, extend_links, reserve_labels, reserve_links};
 use nf_net::Network;
 use std::alloc::{AllocError, Global};
 
@@ -24,7 +24,7 @@ fn departure_in(net: &Network, labels: &[Q]) -> Q
 
 impl Run {
     // Extends the run by a phase. Refuses only if memory can't be allocated; the run is then unchanged.
-    pub(crate) fn make(
+    pub(crate) fn extend_by(
         &mut self,
         net: &Network,
         horizon: Q,
@@ -41,13 +41,13 @@ impl Run {
         reserve_labels(&mut self.label_curves)?;
         reserve_links(&mut self.link_curves)?;
         let reached = departure_in(net, &phase.labels);
-        labels_go_on(
+        extend_labels(
             &mut self.label_curves,
             reached,
             &phase.labels,
             &phase.slopes,
         );
-        links_go_on(&mut self.link_curves, net, &phase.labels, &phase.steps);
+        extend_links(&mut self.link_curves, net, &phase.labels, &phase.steps);
         self.reached = reached;
         self.labels = phase.labels;
         self.last = phase.pattern;
@@ -57,7 +57,7 @@ impl Run {
 
     // Extends the run by a phase. If the phase is the remainder of an interrupted one, the last pattern stays. Refuses only if memory can't
     // be allocated; the run is then unchanged.
-    pub(crate) fn go_on_by(
+    pub(crate) fn extend_by_next(
         &mut self,
         alloc: Global,
         net: &Network,
@@ -74,10 +74,10 @@ impl Run {
         ensures kept { OnErr result (self.new ≡ self.old) }
     {
         if !rests {
-            return self.make(net, horizon, patterns, phase);
+            return self.extend_by(net, horizon, patterns, phase);
         }
         let last = self.last.copy(alloc)?;
-        self.make(net, horizon, patterns, phase)?;
+        self.extend_by(net, horizon, patterns, phase)?;
         self.last = last;
         Ok(())
     }

@@ -6,16 +6,16 @@ use Rattle.nf_lists.specs.ReportCurves.{GrowingCurve, label_curves_after}
 use Rattle.nf_run_laws.proofs.AfterPhase.{label_after_at, label_after-length}
 use Rattle.nf_growing_curves.specs.Growing.{Roomy, all_grown}
 use Rattle.nf_growing_curves.proofs.Places.{grown_before, none_grown, one_grown, all_are_grown}
-use Rattle.nf_growing_curves.proofs.growth.labels_go_on.Goals as goal
+use Rattle.nf_growing_curves.proofs.growth.extend_labels.Goals as goal
 
-pub go_on-requires-clause-later : goal.go_on-requires-clause-later
-go_on-requires-clause-later c =
+pub extend-requires-clause-later : goal.extend-requires-clause-later
+extend-requires-clause-later c =
     let inside : c.loop-v.v < length c.loop-v.curves = omega arith in
     c.requires.later c.loop-v.v _
     (grown_before _ c.args.curves.now c.loop-v.curves c.loop-v.v _ (slice_get-get_or c.loop-v.curves c.loop-v.v c.index-curves-v.result inside) c.loop-v.invariant)
 
-pub go_on-requires-clause-room : goal.go_on-requires-clause-room
-go_on-requires-clause-room c =
+pub extend-requires-clause-room : goal.extend-requires-clause-room
+extend-requires-clause-room c =
     let inside : c.loop-v.v < length c.loop-v.curves = omega arith in
     c.requires.room c.loop-v.v _ (sym (c.loop-v.invariant.rest c.loop-v.v (omega arith)) ∙ slice_get-get_or c.loop-v.curves c.loop-v.v c.index-curves-v.result inside)
 
@@ -25,12 +25,12 @@ loop-v-init c = none_grown (label_curves_after c.args.time c.args.labels.now c.a
 pub loop-v-preserved : goal.loop-v-preserved
 loop-v-preserved c =
     let inside : c.loop-v.v < length c.loop-v.curves = omega arith in
-    one_grown (label_curves_after c.args.time c.args.labels.now c.args.slopes.now (all_grown c.args.curves.now)) c.args.curves.now c.loop-v.curves c.loop-v.v c.go_on.new.self inside
+    one_grown (label_curves_after c.args.time c.args.labels.now c.args.slopes.now (all_grown c.args.curves.now)) c.args.curves.now c.loop-v.curves c.loop-v.v c.extend.new.self inside
     (label_after_at c.args.time c.args.labels.now c.args.slopes.now (all_grown c.args.curves.now) c.loop-v.v c.index-labels-v.result c.index-slopes-v.result (get_or c.loop-v.curves c.loop-v.v c.index-curves-v.result).grown
     (slice_get_read c.args.labels.now (length c.args.labels.now) c.loop-v.v c.index-labels-v.result refl (omega arith) c.index-labels-v.is)
     (slice_get_read c.args.slopes.now (length c.args.slopes.now) c.loop-v.v c.index-slopes-v.result refl (omega arith) c.index-slopes-v.is)
     (grown_before _ c.args.curves.now c.loop-v.curves c.loop-v.v _ (slice_get-get_or c.loop-v.curves c.loop-v.v c.index-curves-v.result inside) c.loop-v.invariant)
-    ∙ ap (λ (g : GrowingCurve). Some g) (sym c.go_on.ensures))
+    ∙ ap (λ (g : GrowingCurve). Some g) (sym c.extend.ensures))
     c.loop-v.invariant
 
 pub returns : goal.returns
