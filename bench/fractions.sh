@@ -7,7 +7,7 @@ work=$(mktemp -d)
 trap 'rm -rf "$work"' EXIT
 mkdir -p "$work/repo/crates/bench_fractions/src" "$work/repo/crates/bench_fractions/specs"
 cp "$here/../HANDLES" "$work/repo/"
-for crate in nf_rational nf_rational_laws nf_plain_laws nf_work nf_numerals nf_frac; do
+for crate in nf_rational nf_rational_laws nf_frac_def nf_frac_words nf_frac; do
     cp -r "$here/../crates/$crate" "$work/repo/crates/"
     grep "^$crate:" "$here/../crates.txt" >>"$work/repo/crates.txt"
 done

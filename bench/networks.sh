@@ -7,7 +7,7 @@ work=$(mktemp -d)
 trap 'rm -rf "$work"' EXIT
 mkdir -p "$work/repo/crates/bench_networks/src" "$work/repo/crates/bench_networks/specs"
 cp "$here/../HANDLES" "$work/repo/"
-for crate in nf_rational nf_rational_laws nf_plain_laws nf_work nf_lines nf_formats_laws nf_numerals nf_model nf_model_laws nf_formats nf_frac nf_edge nf_text nf_graph nf_net_file nf_net; do
+for crate in nf_rational nf_rational_laws nf_model nf_model_laws nf_frac_def nf_frac_words nf_frac nf_text_def nf_text nf_edge nf_graph nf_net_def nf_net_laws nf_net_file nf_net; do
     cp -r "$here/../crates/$crate" "$work/repo/crates/"
     grep "^$crate:" "$here/../crates.txt" >>"$work/repo/crates.txt"
 done

@@ -11,13 +11,13 @@ cp "$here/../HANDLES" "$work/repo/"
 # The crates above the search are left out.
 awk '{
     above = 0
-    for (i = 1; i <= NF; i++) { name = $i; sub(":", "", name); if (name ~ /^(nf_phase|nf_forever|nf_resume|nf_answers|nf_app|nfot)$/) above = 1 }
+    for (i = 1; i <= NF; i++) { name = $i; sub(":", "", name); if (name ~ /^(nf_phase|nf_forever|nf_resume|nf_app_answers|nf_app|nfot)$/) above = 1 }
     if (!above) print
 }' "$here/../crates.txt" >"$work/repo/crates.txt"
 for crate in $(sed -n 's/^\([a-z_]*\):.*/\1/p' "$work/repo/crates.txt"); do
     cp -r "$here/../crates/$crate" "$work/repo/crates/"
 done
-echo 'bench_phases: nf_rational nf_work nf_model nf_formats nf_lists nf_edge nf_frac nf_graph nf_net_file nf_net nf_pattern nf_sets nf_guess nf_thin' >>"$work/repo/crates.txt"
+echo 'bench_phases: nf_rational nf_frac_def nf_model nf_net_def nf_thin_def nf_edge nf_frac nf_graph nf_net_file nf_net nf_pattern nf_sets nf_thin_guess nf_thin' >>"$work/repo/crates.txt"
 cp "$here/phases/main.txt" "$bench/src/main.rt"
 cp "$here/phases/phases.txt" "$bench/src/phases.rt"
 cp -r "$here/phases/proofs" "$bench/proofs/phases"

@@ -10,7 +10,7 @@ turns=1000
 bench=$work/repo/crates/bench_tables
 mkdir -p "$bench/src" "$bench/specs" "$bench/proofs/filled"
 cp "$here/../HANDLES" "$work/repo/"
-for crate in nf_rational nf_rational_laws nf_work nf_lines nf_numerals nf_model nf_formats nf_lists nf_lists_laws nf_plain_laws nf_linear_laws nf_frac nf_linear; do
+for crate in nf_rational nf_rational_laws nf_model nf_model_laws nf_frac_def nf_frac_words nf_frac nf_text_def nf_net_def nf_linear_laws nf_linear nf_thin_def nf_thin_laws; do
     cp -r "$here/../crates/$crate" "$work/repo/crates/"
     grep "^$crate:" "$here/../crates.txt" >>"$work/repo/crates.txt"
 done

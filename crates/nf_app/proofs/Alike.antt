@@ -8,21 +8,21 @@ use Rattle.nf_rational_laws.proofs.Chains.{≤ℚ_refl}
 use Rattle.nf_model.specs.Curve.{Within}
 use Rattle.nf_model.specs.Network.{Network, IsNetwork}
 use Rattle.nf_model.specs.Equilibrium.{label, Equilibrium}
-use Rattle.nf_formats.specs.declared.Cause.{Cause}
-use Rattle.nf_formats.specs.Named.{Named}
-use Rattle.nf_formats.specs.Report.{Report}
-use Rattle.nf_check_lists.specs.declared.Answer.{Answer as Verdict}
-use Rattle.nf_check_lists.specs.declared.Answer.TheVariants.{Yes, No}
+use Rattle.nf_net_def.specs.declared.Cause.{Cause}
+use Rattle.nf_net_def.specs.Named.{Named}
+use Rattle.nf_net_def.specs.Report.{Report}
+use Rattle.nf_check_def.specs.declared.Answer.{Answer as Verdict}
+use Rattle.nf_check_def.specs.declared.Answer.TheVariants.{Yes, No}
 use Rattle.nf_check.specs.Answers.{IsExact}
-use Rattle.nf_readings.specs.ReportFile.{report_in}
-use Rattle.nf_forever_lists.specs.ForeverRun.{Forever}
-use Rattle.nf_forever_lists.specs.Extended.{flow_until}
-use Rattle.nf_quick_lists.specs.Departures.{IsDeparture}
+use Rattle.nf_report_def.specs.ReportFile.{report_in}
+use Rattle.nf_forever_def.specs.ForeverRun.{Forever}
+use Rattle.nf_forever_def.specs.Extended.{flow_until}
+use Rattle.nf_quick_def.specs.Departures.{IsDeparture}
 use Rattle.nf_unique_laws.specs.UniqueLaws.{SameInAll}
 use Rattle.nf_unique_laws.proofs.Exits.{SameInAll-equilibrium}
-use Rattle.nf_command_line.specs.Requests.{Request, Solve, SolveForever, Show, Load, Check, Quick, Gen, Settle, Resume, Routes}
-use Rattle.nf_answers.specs.declared.arrival.Arrival.{Arrival}
-use Rattle.nf_answers.specs.Answers.{ProgramAnswer, Solved, SolvedForever, Shown, Loaded, Checked, Quickest, TooManyWalks, Generated, Settled, Distributed, MalformedLoads, MalformedFlows, MalformedRoutes, MalformedReport, Passes, Unbounded, NotThin, Earlier}
+use Rattle.nf_app_words.specs.Requests.{Request, Solve, SolveForever, Show, Load, Check, Quick, Gen, Settle, Resume, Routes}
+use Rattle.nf_app_answers.specs.declared.arrival.Arrival.{Arrival}
+use Rattle.nf_app_answers.specs.Answers.{ProgramAnswer, Solved, SolvedForever, Shown, Loaded, Checked, Quickest, TooManyWalks, Generated, Settled, Distributed, MalformedLoads, MalformedFlows, MalformedRoutes, MalformedReport, Passes, Unbounded, NotThin, Earlier}
 use Rattle.nf_app.specs.Arrivals.{arrival_of, ArrivesIn, IsArrival}
 use Rattle.nf_app.specs.Given.{IsGiven}
 use Rattle.nf_app.specs.Runs.{Run}

@@ -4,21 +4,21 @@ use Rattle.std.specs.Prelude.{Option, None, Some, slice_get, IfSome, Result, Ok,
 use Rattle.std.specs.Result.{result_map_both}
 use Rattle.std.proofs.lemmas.List.Elements.{All-nil}
 use Rattle.nf_edge.specs.Taken.{with_more}
-use Rattle.nf_formats.specs.Named.{Named}
-use Rattle.nf_formats.specs.NetLines.{Broken}
-use Rattle.nf_formats.specs.WellNamed.{IsNamed}
-use Rattle.nf_answers.specs.declared.outcome.Computed.{Computed}
-use Rattle.nf_answers.specs.declared.outcome.Outcome.{Outcome}
-use Rattle.nf_answers.specs.declared.refusal.Refusal.{Refusal}
-use Rattle.nf_answers.specs.declared.status.Status.{Status}
-use Rattle.nf_answers.specs.Answers.{ProgramAnswer, NoMemory, status_of, out_text, err_text}
-use Rattle.nf_answers.specs.Refusals.{answer_of}
-use Rattle.nf_outside.specs.Files.{Wanted, Visit, Fits, FetchedNone, FetchedAll, FetchedTo}
-use Rattle.nf_outside.specs.Fetching.{IsLastText, NetworkReads, AreRead}
-use Rattle.nf_outside.specs.Sinks.{Took, TookAll, TookText}
-use Rattle.nf_outside.specs.Shown.{IsShown}
-use Rattle.nf_outside.proofs.Networks.{all_reached}
-use Rattle.nf_command_line.specs.Requests.{Request, request_of}
+use Rattle.nf_net_def.specs.Named.{Named}
+use Rattle.nf_net_def.specs.NetLines.{Broken}
+use Rattle.nf_net_def.specs.WellNamed.{IsNamed}
+use Rattle.nf_app_answers.specs.declared.outcome.Computed.{Computed}
+use Rattle.nf_app_answers.specs.declared.outcome.Outcome.{Outcome}
+use Rattle.nf_app_answers.specs.declared.refusal.Refusal.{Refusal}
+use Rattle.nf_app_answers.specs.declared.status.Status.{Status}
+use Rattle.nf_app_answers.specs.Answers.{ProgramAnswer, NoMemory, status_of, out_text, err_text}
+use Rattle.nf_app_answers.specs.Refusals.{answer_of}
+use Rattle.nf_app_files.specs.Files.{Wanted, Visit, Fits, FetchedNone, FetchedAll, FetchedTo}
+use Rattle.nf_app_files.specs.Fetching.{IsLastText, NetworkReads, AreRead}
+use Rattle.nf_app_files.specs.Sinks.{Took, TookAll, TookText}
+use Rattle.nf_app_files.specs.Shown.{IsShown}
+use Rattle.nf_app_files.proofs.Networks.{all_reached}
+use Rattle.nf_app_words.specs.Requests.{Request, request_of}
 use Rattle.nf_app.specs.Requests.{files_of, generated_by, OtherIsText}
 use Rattle.nf_app.specs.Given.{IsGiven}
 use Rattle.nf_app.specs.Runs.{Call, Reached, Read, IsRefusedCall, IsAnswer}

@@ -4,27 +4,27 @@ use Rattle.std.specs.Prelude.{Some, IsOk, is_ok, Result, Ok, Err, codes}
 use Rattle.std.proofs.lemmas.Option.{same_Some}
 use Rattle.std.proofs.lemmas.List.{append_cancel_left}
 use Rattle.nf_rational.specs.Rational.{ℚ}
-use Rattle.nf_work.specs.Passing.{passes_Q}
+use Rattle.nf_frac_def.specs.Passing.{passes_Q}
 use Rattle.nf_edge.specs.Taken.{with_more}
-use Rattle.nf_lines.specs.Words.{line_of_words}
+use Rattle.nf_text_def.specs.Words.{line_of_words}
 use Rattle.nf_model.specs.Equilibrium.{Equilibrium}
-use Rattle.nf_formats.specs.Named.{Named}
-use Rattle.nf_formats.specs.NetLines.{Broken}
-use Rattle.nf_formats.specs.NetFile.{Reads}
-use Rattle.nf_formats.specs.Report.{Report, report_text}
-use Rattle.nf_formats_laws.proofs.Once.{reads_at_most_once}
-use Rattle.nf_lists.specs.PhaseRun.{Bounds, IsRunReport}
-use Rattle.nf_check_lists.specs.declared.Answer.{Answer as Verdict}
-use Rattle.nf_check_lists.specs.declared.Answer.TheVariants.{Yes, No}
+use Rattle.nf_net_def.specs.Named.{Named}
+use Rattle.nf_net_def.specs.NetLines.{Broken}
+use Rattle.nf_net_def.specs.NetFile.{Reads}
+use Rattle.nf_net_def.specs.Report.{Report, report_text}
+use Rattle.nf_net_laws.proofs.Once.{reads_at_most_once}
+use Rattle.nf_thin_def.specs.PhaseRun.{Bounds, IsRunReport}
+use Rattle.nf_check_def.specs.declared.Answer.{Answer as Verdict}
+use Rattle.nf_check_def.specs.declared.Answer.TheVariants.{Yes, No}
 use Rattle.nf_check.specs.Answers.{IsExact}
-use Rattle.nf_readings.specs.ReportFile.{report_in}
-use Rattle.nf_answers.specs.declared.status.Status.{Status}
-use Rattle.nf_answers.specs.Answers.{ProgramAnswer, Solved, SolvedForever, Shown, Loaded, Checked, Quickest, TooManyWalks, Generated, Settled, Distributed, NoMemory, NoRequest, ShelfFailed, ShelfTooLong, Malformed, MalformedLoads, MalformedFlows, MalformedRoutes, MalformedReport, Passes, Unbounded, NotThin, Earlier, status_of, status_of_stop, out_text}
-use Rattle.nf_outside.specs.Files.{Visit, network_file}
-use Rattle.nf_outside.specs.Fetching.{NetworkReads}
-use Rattle.nf_outside.specs.Sinks.{TookAll}
-use Rattle.nf_outside.specs.Shown.{IsShown, IsShownWhole}
-use Rattle.nf_command_line.specs.Requests.{Request, Solve, Check, Resume, request_of}
+use Rattle.nf_report_def.specs.ReportFile.{report_in}
+use Rattle.nf_app_answers.specs.declared.status.Status.{Status}
+use Rattle.nf_app_answers.specs.Answers.{ProgramAnswer, Solved, SolvedForever, Shown, Loaded, Checked, Quickest, TooManyWalks, Generated, Settled, Distributed, NoMemory, NoRequest, ShelfFailed, ShelfTooLong, Malformed, MalformedLoads, MalformedFlows, MalformedRoutes, MalformedReport, Passes, Unbounded, NotThin, Earlier, status_of, status_of_stop, out_text}
+use Rattle.nf_app_files.specs.Files.{Visit, network_file}
+use Rattle.nf_app_files.specs.Fetching.{NetworkReads}
+use Rattle.nf_app_files.specs.Sinks.{TookAll}
+use Rattle.nf_app_files.specs.Shown.{IsShown, IsShownWhole}
+use Rattle.nf_app_words.specs.Requests.{Request, Solve, Check, Resume, request_of}
 use Rattle.nf_app.specs.Requests.{files_of, generated_by, budgets_of, bounds_to}
 use Rattle.nf_app.specs.Answered.{SolveAnswer}
 use Rattle.nf_app.specs.Given.{IsGiven}

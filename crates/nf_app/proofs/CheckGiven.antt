@@ -2,23 +2,23 @@
 use Rattle.std.proofs.Common.{◌≡◌, ◌⊎◌, ℕ, List, refl, inl, inr}
 use Rattle.std.specs.Prelude.{Ok, Err}
 use Rattle.nf_rational.specs.Rational.{ℚ}
-use Rattle.nf_work.specs.declared.Halt.{Halt}
-use Rattle.nf_work.specs.Passing.{passes_Q}
-use Rattle.nf_work.specs.Checked.{Stops}
-use Rattle.nf_formats.specs.Named.{Named}
-use Rattle.nf_formats.specs.WellNamed.{IsNamed}
-use Rattle.nf_formats.specs.Report.{Report}
-use Rattle.nf_check_lists.specs.declared.Answer.{Answer as Verdict}
-use Rattle.nf_check_lists.specs.Rules.{Checks}
-use Rattle.nf_check_lists.specs.CheckList.{check_list}
+use Rattle.nf_frac_def.specs.declared.Halt.{Halt}
+use Rattle.nf_frac_def.specs.Passing.{passes_Q}
+use Rattle.nf_frac_def.specs.Checked.{Stops}
+use Rattle.nf_net_def.specs.Named.{Named}
+use Rattle.nf_net_def.specs.WellNamed.{IsNamed}
+use Rattle.nf_net_def.specs.Report.{Report}
+use Rattle.nf_check_def.specs.declared.Answer.{Answer as Verdict}
+use Rattle.nf_check_def.specs.Rules.{Checks}
+use Rattle.nf_check_def.specs.CheckList.{check_list}
 use Rattle.nf_check.specs.Answers.{IsExact}
-use Rattle.nf_readings.specs.ReportFile.{report_in}
-use Rattle.nf_report_file.specs.declared.fault.ReportFault.{ReportFault}
-use Rattle.nf_report_file.specs.Files.{IfBroken}
-use Rattle.nf_answers.specs.declared.refusal.Refusal.{Refusal}
-use Rattle.nf_command_line.specs.Requests.{Check}
-use Rattle.nf_answers.specs.Answers.{Checked}
-use Rattle.nf_answers.specs.Refusals.{answer_of, refusal_of_report, refusal_of_halt}
+use Rattle.nf_report_def.specs.ReportFile.{report_in}
+use Rattle.nf_report_read.specs.declared.fault.ReportFault.{ReportFault}
+use Rattle.nf_report_read.specs.Files.{IfBroken}
+use Rattle.nf_app_answers.specs.declared.refusal.Refusal.{Refusal}
+use Rattle.nf_app_words.specs.Requests.{Check}
+use Rattle.nf_app_answers.specs.Answers.{Checked}
+use Rattle.nf_app_answers.specs.Refusals.{answer_of, refusal_of_report, refusal_of_halt}
 use Rattle.nf_app.specs.Given.{IsGiven}
 use Rattle.nf_app.proofs.Reports.{a_report, no_report}
 

@@ -4,31 +4,31 @@ use Rattle.std.specs.Prelude.{Option, Some, None, IsSome, IsOk, Result, Ok, Err}
 use Rattle.nf_rational.specs.Rational.{ℚ}
 use Rattle.nf_rational.specs.Order.{◌≤ℚ◌}
 use Rattle.nf_rational_laws.proofs.Order.{not_both_ℚ}
-use Rattle.nf_work.specs.Passing.{passes_Q}
-use Rattle.nf_work.specs.declared.PassedAt.{PassedAt}
+use Rattle.nf_frac_def.specs.Passing.{passes_Q}
+use Rattle.nf_frac_def.specs.declared.PassedAt.{PassedAt}
 use Rattle.nf_model.specs.Network.{IsNetwork}
 use Rattle.nf_model.specs.Equilibrium.{Equilibrium}
-use Rattle.nf_formats.specs.declared.Cause.{Cause}
-use Rattle.nf_formats.specs.Named.{Named}
-use Rattle.nf_formats.specs.WellNamed.{IsNamed}
-use Rattle.nf_formats.specs.Report.{Report}
-use Rattle.nf_lists_laws.proofs.OneRun.{one_report}
-use Rattle.nf_check_lists.specs.declared.Answer.{Answer as Verdict}
-use Rattle.nf_check_lists.specs.declared.Answer.TheVariants.{Yes, No}
-use Rattle.nf_readings.specs.LoadsFile.{loads_in}
-use Rattle.nf_readings.specs.ReportFile.{report_in}
-use Rattle.nf_complete_lists.specs.FlowsFile.{flows_in}
-use Rattle.nf_forever_lists.specs.ForeverRun.{Forever}
+use Rattle.nf_net_def.specs.declared.Cause.{Cause}
+use Rattle.nf_net_def.specs.Named.{Named}
+use Rattle.nf_net_def.specs.WellNamed.{IsNamed}
+use Rattle.nf_net_def.specs.Report.{Report}
+use Rattle.nf_thin_laws.proofs.OneRun.{one_report}
+use Rattle.nf_check_def.specs.declared.Answer.{Answer as Verdict}
+use Rattle.nf_check_def.specs.declared.Answer.TheVariants.{Yes, No}
+use Rattle.nf_report_def.specs.LoadsFile.{loads_in}
+use Rattle.nf_report_def.specs.ReportFile.{report_in}
+use Rattle.nf_complete_def.specs.FlowsFile.{flows_in}
+use Rattle.nf_forever_def.specs.ForeverRun.{Forever}
 use Rattle.nf_forever_laws.proofs.OneForever.{one_forever}
-use Rattle.nf_resume_lists.specs.Meanings.{IsResumedReport}
-use Rattle.nf_routes_lists.specs.RoutesFile.{RoutesBroken, NamedRoute, ReadsRoutes, routes_in}
+use Rattle.nf_resume_def.specs.Meanings.{IsResumedReport}
+use Rattle.nf_routes_def.specs.RoutesFile.{RoutesBroken, NamedRoute, ReadsRoutes, routes_in}
 use Rattle.nf_routes_laws.proofs.FileReading.{only_reading}
 use Rattle.nf_unstopped_laws.specs.Stops.{NeverNoPattern}
 use Rattle.nf_unstopped_laws.proofs.Stops.{never_report, never_resumed, never_forever}
-use Rattle.nf_command_line.specs.Requests.{Request, Solve, SolveForever, Show, Load, Check, Quick, Gen, Settle, Resume, Routes}
-use Rattle.nf_answers.specs.declared.status.Status.{Status}
-use Rattle.nf_answers.specs.Answers.{ProgramAnswer, status_of, status_of_stop, status_of_forever, status_of_verdict}
-use Rattle.nf_outside.specs.Shown.{IsShownWhole}
+use Rattle.nf_app_words.specs.Requests.{Request, Solve, SolveForever, Show, Load, Check, Quick, Gen, Settle, Resume, Routes}
+use Rattle.nf_app_answers.specs.declared.status.Status.{Status}
+use Rattle.nf_app_answers.specs.Answers.{ProgramAnswer, status_of, status_of_stop, status_of_forever, status_of_verdict}
+use Rattle.nf_app_files.specs.Shown.{IsShownWhole}
 use Rattle.nf_app.specs.Requests.{bounds_to}
 use Rattle.nf_app.specs.Given.{IsGiven}
 use Rattle.nf_app.specs.Runs.{Run, Ran, NoFault, IsOneOf}

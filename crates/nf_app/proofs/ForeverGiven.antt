@@ -1,15 +1,15 @@
 -- What a run without a horizon gives: its tail, as the definitions see it, and how its flow ends.
 use Rattle.std.proofs.Common.{◌≡◌, ℕ, refl, sym, ap, subst, ◌∙◌}
 use Rattle.std.specs.Prelude.{◌↔◌, Option, Some, None, IsSome, IfSome, option_map}
-use Rattle.nf_work.specs.Passing.{Passing}
+use Rattle.nf_frac_def.specs.Passing.{Passing}
 use Rattle.nf_model.specs.Network.{Network, IsNetwork}
-use Rattle.nf_lists.specs.PhaseRun.{Standing, IsShortFlow, flow_of}
+use Rattle.nf_thin_def.specs.PhaseRun.{Standing, IsShortFlow, flow_of}
 use Rattle.nf_phase.specs.Stepping.{Reaches, starts, goes_on}
 use Rattle.nf_phase.specs.Restarting.{EndsAtItsLabels}
 use Rattle.nf_phase.proofs.ShortReached.{short_reached}
 use Rattle.nf_phase.proofs.Told.{ends_told}
-use Rattle.nf_forever_lists.specs.Tails.{Tail}
-use Rattle.nf_forever_lists.specs.ForeverRun.{End, Stops, NeverEnds, RunsForever, at_phases, fails, never_ends, goes, Forever, forever_of, IsForever}
+use Rattle.nf_forever_def.specs.Tails.{Tail}
+use Rattle.nf_forever_def.specs.ForeverRun.{End, Stops, NeverEnds, RunsForever, at_phases, fails, never_ends, goes, Forever, forever_of, IsForever}
 use Rattle.nf_forever.specs.declared.forever.Tail.{Tail as CodeTail}
 use Rattle.nf_forever.specs.Seen.{tail_in}
 

@@ -1,9 +1,9 @@
 -- The links of a network with their pieces, one after the other.
 use Rattle.std.proofs.Common.{◌≡◌, ℕ, zero, suc, ◌+◌, List, [], ◌∷◌, length, drop, refl, ap, add-one, arith}
 use Rattle.std.specs.Prelude.{Option, Some, None, Result, Ok, Err, slice_get, zip}
-use Rattle.nf_work.proofs.Each.{with_front}
+use Rattle.nf_frac_def.proofs.Each.{with_front}
 use Rattle.nf_model.specs.Network.{Link, Piece}
-use Rattle.nf_readings.specs.LoadsFile.{pieces_at}
+use Rattle.nf_report_def.specs.LoadsFile.{pieces_at}
 
 pub no_front : {B E : Type 0} (r : Result (List B) E) → with_front [] r ≡ r
 no_front (Ok ys) = refl

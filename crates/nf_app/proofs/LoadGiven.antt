@@ -4,23 +4,23 @@ use Rattle.std.specs.Prelude.{Some, Ok, Err, slice_get, unwrap_or}
 use Rattle.nf_rational.specs.Rational.{ℚ}
 use Rattle.nf_rational.specs.Operations.{0ℚ}
 use Rattle.nf_rational.specs.Order.{◌≤ℚ◌}
-use Rattle.nf_work.specs.declared.Halt.{Halt}
-use Rattle.nf_work.specs.declared.Part.TheVariants.{Load as LoadPart}
-use Rattle.nf_work.specs.Passing.{passes_Q}
-use Rattle.nf_work.specs.Checked.{Stops}
+use Rattle.nf_frac_def.specs.declared.Halt.{Halt}
+use Rattle.nf_frac_def.specs.declared.Part.TheVariants.{Load as LoadPart}
+use Rattle.nf_frac_def.specs.Passing.{passes_Q}
+use Rattle.nf_frac_def.specs.Checked.{Stops}
 use Rattle.nf_model.specs.Network.{Piece, ArePieces, IsNetwork}
-use Rattle.nf_formats.specs.Named.{Named}
-use Rattle.nf_load_lists.specs.Loading.{Loaded as Loading}
-use Rattle.nf_load_lists.specs.Loads.{load_list}
+use Rattle.nf_net_def.specs.Named.{Named}
+use Rattle.nf_load_def.specs.Loading.{Loaded as Loading}
+use Rattle.nf_load_def.specs.Loads.{load_list}
 use Rattle.nf_load_laws.proofs.Loads.{links_loaded}
 use Rattle.nf_curve.proofs.Exits.{was_ok}
-use Rattle.nf_readings.specs.LoadsFile.{loads_in, pieces_at}
-use Rattle.nf_loads_file.specs.declared.fault.LoadsFault.{LoadsFault}
-use Rattle.nf_loads_file.specs.Files.{IfBroken}
-use Rattle.nf_answers.specs.declared.refusal.Refusal.{Refusal}
-use Rattle.nf_command_line.specs.Requests.{Load}
-use Rattle.nf_answers.specs.Answers.{Loaded}
-use Rattle.nf_answers.specs.Refusals.{answer_of, refusal_of_loads, refusal_of_halt}
+use Rattle.nf_report_def.specs.LoadsFile.{loads_in, pieces_at}
+use Rattle.nf_load_read.specs.declared.fault.LoadsFault.{LoadsFault}
+use Rattle.nf_load_read.specs.Files.{IfBroken}
+use Rattle.nf_app_answers.specs.declared.refusal.Refusal.{Refusal}
+use Rattle.nf_app_words.specs.Requests.{Load}
+use Rattle.nf_app_answers.specs.Answers.{Loaded}
+use Rattle.nf_app_answers.specs.Refusals.{answer_of, refusal_of_loads, refusal_of_halt}
 use Rattle.nf_app.specs.Lists.{loading_list}
 use Rattle.nf_app.specs.Given.{IsGiven}
 

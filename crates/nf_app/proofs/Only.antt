@@ -6,14 +6,14 @@ use Rattle.std.proofs.lemmas.Option.{same_Some}
 use Rattle.std.proofs.lemmas.List.Elements.{All-head, All-tail}
 use Rattle.nf_edge.specs.Faults.{Rose}
 use Rattle.nf_edge.proofs.Rising.{rose}
-use Rattle.nf_formats.specs.Named.{Named}
-use Rattle.nf_formats.specs.NetLines.{Broken}
-use Rattle.nf_answers.specs.declared.status.Status.{Status}
-use Rattle.nf_answers.specs.Answers.{ProgramAnswer, Solved, SolvedForever, Shown, Loaded, Checked, Quickest, TooManyWalks, Generated, Settled, Distributed, NoMemory, NoRequest, ShelfFailed, ShelfTooLong, Malformed, MalformedLoads, MalformedFlows, MalformedRoutes, MalformedReport, Passes, Unbounded, NotThin, Earlier}
-use Rattle.nf_outside.specs.Files.{Wanted, Visit, Fits, FetchedAll, FetchedTo, HasTooMany}
-use Rattle.nf_outside.specs.Sinks.{Took}
-use Rattle.nf_outside.specs.Shown.{IsShown, IsShownWhole}
-use Rattle.nf_command_line.specs.Requests.{Request, request_of}
+use Rattle.nf_net_def.specs.Named.{Named}
+use Rattle.nf_net_def.specs.NetLines.{Broken}
+use Rattle.nf_app_answers.specs.declared.status.Status.{Status}
+use Rattle.nf_app_answers.specs.Answers.{ProgramAnswer, Solved, SolvedForever, Shown, Loaded, Checked, Quickest, TooManyWalks, Generated, Settled, Distributed, NoMemory, NoRequest, ShelfFailed, ShelfTooLong, Malformed, MalformedLoads, MalformedFlows, MalformedRoutes, MalformedReport, Passes, Unbounded, NotThin, Earlier}
+use Rattle.nf_app_files.specs.Files.{Wanted, Visit, Fits, FetchedAll, FetchedTo, HasTooMany}
+use Rattle.nf_app_files.specs.Sinks.{Took}
+use Rattle.nf_app_files.specs.Shown.{IsShown, IsShownWhole}
+use Rattle.nf_app_words.specs.Requests.{Request, request_of}
 use Rattle.nf_app.specs.Requests.{files_of, first_of, other_of, generated_by}
 use Rattle.nf_app.specs.Runs.{Call, Run, IsRefusedCall, IsComputed, IsAnswer, Ran}
 use Rattle.nf_app.specs.Told.{Telling, TellsText, TellsAll, BothFit, TextsGive, too_long, malformed, answered, WordsGive, IsToldAnswer}

@@ -8,35 +8,35 @@ use Rattle.nf_rational.specs.Rational.{ℚ}
 use Rattle.nf_rational.specs.Operations.{0ℚ}
 use Rattle.nf_rational.specs.Order.{◌≤ℚ◌}
 use Rattle.nf_rational_laws.proofs.Chains.{≤ℚ_refl}
-use Rattle.nf_work.specs.Passing.{passes_Q}
-use Rattle.nf_work.specs.declared.PassedAt.{PassedAt}
+use Rattle.nf_frac_def.specs.Passing.{passes_Q}
+use Rattle.nf_frac_def.specs.declared.PassedAt.{PassedAt}
 use Rattle.nf_model.specs.Curve.{Point, Within, value, IsCurve}
 use Rattle.nf_model.specs.Network.{Network, IsNetwork}
 use Rattle.nf_model.specs.Equilibrium.{inflow, label, points_at}
 use Rattle.nf_model.specs.Earliest.{IsEarliest}
 use Rattle.nf_model_laws.proofs.Curves.{EndsAt-value}
-use Rattle.nf_formats.specs.declared.Cause.{Cause}
-use Rattle.nf_formats.specs.Named.{Named}
-use Rattle.nf_formats.specs.Report.{Report}
-use Rattle.nf_lists.specs.Ends.{end_of}
-use Rattle.nf_lists.specs.ReportCurves.{GrowingCurve}
-use Rattle.nf_lists.specs.PhaseRun.{Bounds, Standing, report_of}
-use Rattle.nf_lists_laws.proofs.Ending.{run_ends}
+use Rattle.nf_net_def.specs.declared.Cause.{Cause}
+use Rattle.nf_net_def.specs.Named.{Named}
+use Rattle.nf_net_def.specs.Report.{Report}
+use Rattle.nf_thin_def.specs.Ends.{end_of}
+use Rattle.nf_thin_def.specs.ReportCurves.{GrowingCurve}
+use Rattle.nf_thin_def.specs.PhaseRun.{Bounds, Standing, report_of}
+use Rattle.nf_thin_laws.proofs.Ending.{run_ends}
 use Rattle.nf_phase.specs.Solution.{bounds_of, IsSolution}
-use Rattle.nf_answers.specs.declared.arrival.Arrival.{Arrival}
-use Rattle.nf_quick_lists.specs.Quick.{Quick as QuickFlow}
-use Rattle.nf_quick_lists.specs.Answers.{IsQuickFlow}
-use Rattle.nf_quick_lists.specs.InOrder.{ComesOfPushes, EndsAtBudget}
-use Rattle.nf_quick_lists.specs.Departures.{IsDeparture}
-use Rattle.nf_quick_lists.specs.Quick as lists
+use Rattle.nf_app_answers.specs.declared.arrival.Arrival.{Arrival}
+use Rattle.nf_quick_def.specs.Quick.{Quick as QuickFlow}
+use Rattle.nf_quick_def.specs.Answers.{IsQuickFlow}
+use Rattle.nf_quick_def.specs.InOrder.{ComesOfPushes, EndsAtBudget}
+use Rattle.nf_quick_def.specs.Departures.{IsDeparture}
+use Rattle.nf_quick_def.specs.Quick as lists
 use Rattle.nf_quick.specs.Answered.{HasNoWay, IsAnswered}
 use Rattle.nf_quick.specs.declared.fault.QuickFault.{QuickFault}
 use Rattle.nf_curve.specs.Flows.{flow_of as shown_flow}
 use Rattle.nf_curve.specs.declared.flow.Flow.{Flow as CodeFlow}
-use Rattle.nf_command_line.specs.Requests.{Quick}
-use Rattle.nf_price_laws.proofs.Feasible.{quickest-le}
+use Rattle.nf_app_words.specs.Requests.{Quick}
+use Rattle.nf_unique_laws.proofs.Feasible.{quickest-le}
 use Rattle.nf_app.specs.Requests.{usual_budgets}
-use Rattle.nf_answers.specs.Answers.{Quickest, TooManyWalks, Passes, Unbounded}
+use Rattle.nf_app_answers.specs.Answers.{Quickest, TooManyWalks, Passes, Unbounded}
 use Rattle.nf_app.specs.Given.{IsGiven}
 use Rattle.nf_app.specs.Lists.{flow_list, departs_list}
 use Rattle.nf_app.specs.Arrivals.{arrival_of, ArrivesIn, IsArrival}

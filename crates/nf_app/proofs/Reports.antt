@@ -1,14 +1,14 @@
 -- What a text is as a report, from what was read of it.
 use Rattle.std.proofs.Common.{◌≡◌, ◌≢◌, ℕ, List, sym, ap, ◌∙◌}
 use Rattle.std.specs.Prelude.{Result, Ok, Err}
-use Rattle.nf_formats.specs.Named.{Named}
-use Rattle.nf_formats.specs.WellNamed.{IsNamed}
-use Rattle.nf_formats.specs.Report.{Report, IsWellFormed, report_text}
-use Rattle.nf_readings.specs.ReportFile.{ReportBroken, report_in}
-use Rattle.nf_readings_laws.specs.Readable.{IsReadable}
-use Rattle.nf_readings_laws.proofs.ReportBack.{report_back}
-use Rattle.nf_readings_laws.proofs.ReportFit.{fit}
-use Rattle.nf_readings_laws.proofs.ReportKept.{report_kept}
+use Rattle.nf_net_def.specs.Named.{Named}
+use Rattle.nf_net_def.specs.WellNamed.{IsNamed}
+use Rattle.nf_net_def.specs.Report.{Report, IsWellFormed, report_text}
+use Rattle.nf_report_def.specs.ReportFile.{ReportBroken, report_in}
+use Rattle.nf_report_laws.specs.Readable.{IsReadable}
+use Rattle.nf_report_laws.proofs.ReportBack.{report_back}
+use Rattle.nf_report_laws.proofs.ReportFit.{fit}
+use Rattle.nf_report_laws.proofs.ReportKept.{report_kept}
 use Rattle.nf_app.specs.Reports.{IsReportText, IsNoReportText}
 
 ok_err : {A E : Type 0} (r : Result A E) (x : A) (e : E) → r ≡ Ok x → r ≡ Err e → ⊥

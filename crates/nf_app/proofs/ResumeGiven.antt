@@ -3,27 +3,27 @@ use Rattle.std.proofs.Common.{◌≡◌, ◌⊎◌, ℕ, List, refl, inl, inr}
 use Rattle.std.specs.Prelude.{Err}
 use Rattle.nf_rational.specs.Rational.{ℚ}
 use Rattle.nf_rational.specs.Order.{◌≤ℚ◌, ◌<ℚ◌}
-use Rattle.nf_work.specs.Passing.{passes_Q}
-use Rattle.nf_work.specs.declared.PassedAt.{PassedAt}
+use Rattle.nf_frac_def.specs.Passing.{passes_Q}
+use Rattle.nf_frac_def.specs.declared.PassedAt.{PassedAt}
 use Rattle.nf_model.specs.Equilibrium.{Equilibrium}
-use Rattle.nf_formats.specs.Named.{Named}
-use Rattle.nf_formats.specs.WellNamed.{IsNamed}
-use Rattle.nf_formats.specs.Report.{Report, IsWellFormed}
-use Rattle.nf_check_lists.specs.declared.Answer.{Answer as Verdict}
-use Rattle.nf_readings.specs.ReportFile.{report_in}
-use Rattle.nf_report_file.specs.declared.fault.ReportFault.{ReportFault}
-use Rattle.nf_report_file.specs.Files.{IfBroken}
-use Rattle.nf_lists.specs.PhaseRun.{IsShortFlow}
-use Rattle.nf_run_text_laws.specs.ReadableLaws.{ReadsBack}
+use Rattle.nf_net_def.specs.Named.{Named}
+use Rattle.nf_net_def.specs.WellNamed.{IsNamed}
+use Rattle.nf_net_def.specs.Report.{Report, IsWellFormed}
+use Rattle.nf_check_def.specs.declared.Answer.{Answer as Verdict}
+use Rattle.nf_report_def.specs.ReportFile.{report_in}
+use Rattle.nf_report_read.specs.declared.fault.ReportFault.{ReportFault}
+use Rattle.nf_report_read.specs.Files.{IfBroken}
+use Rattle.nf_thin_def.specs.PhaseRun.{IsShortFlow}
+use Rattle.nf_report_run_laws.specs.ReadableLaws.{ReadsBack}
 use Rattle.nf_phase.specs.Restarting.{EndsAtItsLabels}
-use Rattle.nf_resume_lists.specs.Resuming.{resume_list}
-use Rattle.nf_resume_lists.specs.Meanings.{IsResumedReport, GoesOnFrom}
+use Rattle.nf_resume_def.specs.Resuming.{resume_list}
+use Rattle.nf_resume_def.specs.Meanings.{IsResumedReport, GoesOnFrom}
 use Rattle.nf_resume.specs.Faults.{IsRefusedReport}
-use Rattle.nf_answers.specs.declared.refusal.Refusal.{Refusal}
-use Rattle.nf_command_line.specs.Requests.{Resume}
+use Rattle.nf_app_answers.specs.declared.refusal.Refusal.{Refusal}
+use Rattle.nf_app_words.specs.Requests.{Resume}
 use Rattle.nf_app.specs.Requests.{bounds_to}
-use Rattle.nf_answers.specs.Answers.{Solved, Checked, Passes, Earlier}
-use Rattle.nf_answers.specs.Refusals.{answer_of, refusal_of_report}
+use Rattle.nf_app_answers.specs.Answers.{Solved, Checked, Passes, Earlier}
+use Rattle.nf_app_answers.specs.Refusals.{answer_of, refusal_of_report}
 use Rattle.nf_app.specs.Reports.{IsReportText}
 use Rattle.nf_app.specs.Given.{IsGiven}
 use Rattle.nf_app.proofs.Reports.{no_report}

@@ -2,21 +2,21 @@
 use Rattle.std.proofs.Common.{◌≡◌, ◌⊎◌, ℕ, List, refl, sym, ap, subst, ◌∙◌, inl, inr}
 use Rattle.std.specs.Prelude.{None, Result, Ok, Err}
 use Rattle.nf_rational.specs.Rational.{ℚ}
-use Rattle.nf_work.specs.Passing.{passes_Q}
+use Rattle.nf_frac_def.specs.Passing.{passes_Q}
 use Rattle.nf_model.specs.Network.{IsNetwork}
 use Rattle.nf_model.specs.Equilibrium.{Equilibrium}
-use Rattle.nf_formats.specs.Named.{Named}
-use Rattle.nf_formats.specs.Report.{Report, report_text}
-use Rattle.nf_run_laws.proofs.Run.{report_equilibrium}
-use Rattle.nf_readings.specs.ReportFile.{report_in}
-use Rattle.nf_resume_lists.specs.Meanings.{IsResumedReport}
-use Rattle.nf_resumed_laws.proofs.Ends.{resumed-solved}
+use Rattle.nf_net_def.specs.Named.{Named}
+use Rattle.nf_net_def.specs.Report.{Report, report_text}
+use Rattle.nf_phase_laws.proofs.Run.{report_equilibrium}
+use Rattle.nf_report_def.specs.ReportFile.{report_in}
+use Rattle.nf_resume_def.specs.Meanings.{IsResumedReport}
+use Rattle.nf_resume_run_laws.proofs.Ends.{resumed-solved}
 use Rattle.nf_phase.specs.Solution.{bounds_of}
-use Rattle.nf_command_line.specs.Requests.{Request, Solve, SolveForever, Show, Load, Check, Quick, Gen, Settle, Resume, Routes}
-use Rattle.nf_answers.specs.declared.status.Status.{Status}
-use Rattle.nf_answers.specs.Answers.{ProgramAnswer, Solved, Checked, Passes, Earlier, MalformedReport, status_of, out_text}
-use Rattle.nf_outside.specs.Sinks.{TookAll}
-use Rattle.nf_outside.specs.Shown.{IsShown, IsShownWhole}
+use Rattle.nf_app_words.specs.Requests.{Request, Solve, SolveForever, Show, Load, Check, Quick, Gen, Settle, Resume, Routes}
+use Rattle.nf_app_answers.specs.declared.status.Status.{Status}
+use Rattle.nf_app_answers.specs.Answers.{ProgramAnswer, Solved, Checked, Passes, Earlier, MalformedReport, status_of, out_text}
+use Rattle.nf_app_files.specs.Sinks.{TookAll}
+use Rattle.nf_app_files.specs.Shown.{IsShown, IsShownWhole}
 use Rattle.nf_app.specs.Requests.{bounds_to}
 use Rattle.nf_app.specs.Given.{IsGiven}
 use Rattle.nf_app.specs.Answered.{ResumeAnswer}

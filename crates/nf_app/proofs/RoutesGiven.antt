@@ -3,22 +3,22 @@ use Rattle.std.proofs.Common.{◌≡◌, ◌⊎◌, ℕ, List, length, refl, sym
 use Rattle.std.specs.Prelude.{Ok, Err}
 use Rattle.std.proofs.lemmas.List.{length-map}
 use Rattle.nf_rational.specs.Rational.{ℚ}
-use Rattle.nf_work.specs.declared.Halt.{Halt}
-use Rattle.nf_work.specs.Checked.{Stops}
+use Rattle.nf_frac_def.specs.declared.Halt.{Halt}
+use Rattle.nf_frac_def.specs.Checked.{Stops}
 use Rattle.nf_model.specs.Network.{Network}
-use Rattle.nf_formats.specs.Named.{Named}
+use Rattle.nf_net_def.specs.Named.{Named}
 use Rattle.nf_load.specs.Loadings.{loaded_of}
-use Rattle.nf_routes_lists.specs.RoutesFile.{NamedRoute, routes_of, ReadsRoutes}
-use Rattle.nf_routes_lists.specs.RoutesList.{Routed}
-use Rattle.nf_routes_lists.specs.Meanings.{IsRouted, RoutesArrive}
+use Rattle.nf_routes_def.specs.RoutesFile.{NamedRoute, routes_of, ReadsRoutes}
+use Rattle.nf_routes_def.specs.RoutesList.{Routed}
+use Rattle.nf_routes_def.specs.Meanings.{IsRouted, RoutesArrive}
 use Rattle.nf_routes.specs.declared.routed.Routed.{Routed as CodeRouted}
 use Rattle.nf_routes.specs.Routed.{routed_of}
-use Rattle.nf_routes_file.specs.declared.fault.RoutesFault.{RoutesFault}
-use Rattle.nf_routes_file.specs.Files.{IfBroken}
-use Rattle.nf_answers.specs.declared.refusal.Refusal.{Refusal}
-use Rattle.nf_command_line.specs.Requests.{Routes}
-use Rattle.nf_answers.specs.Answers.{Distributed}
-use Rattle.nf_answers.specs.Refusals.{answer_of, refusal_of_routes, refusal_of_halt}
+use Rattle.nf_routes_read.specs.declared.fault.RoutesFault.{RoutesFault}
+use Rattle.nf_routes_read.specs.Files.{IfBroken}
+use Rattle.nf_app_answers.specs.declared.refusal.Refusal.{Refusal}
+use Rattle.nf_app_words.specs.Requests.{Routes}
+use Rattle.nf_app_answers.specs.Answers.{Distributed}
+use Rattle.nf_app_answers.specs.Refusals.{answer_of, refusal_of_routes, refusal_of_halt}
 use Rattle.nf_app.specs.Lists.{by_route_list}
 use Rattle.nf_app.specs.Given.{IsGiven}
 

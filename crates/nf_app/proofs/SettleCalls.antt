@@ -4,26 +4,26 @@ use Rattle.std.specs.Prelude.{Some, None, Result, Ok, Err, IsOk, is_ok, MatchBoo
 use Rattle.nf_rational.specs.Rational.{ℚ}
 use Rattle.nf_rational.specs.Operations.{0ℚ}
 use Rattle.nf_rational.specs.Order.{◌≤ℚ◌}
-use Rattle.nf_work.specs.Passing.{passes_Q}
-use Rattle.nf_work.specs.Checked.{at_part, placed, Stops}
-use Rattle.nf_work.specs.declared.Part.{Part}
-use Rattle.nf_work.specs.declared.Part.TheVariants.{Slack, Verdict}
-use Rattle.nf_work.specs.declared.Passed.{Passed}
-use Rattle.nf_work.specs.declared.PassedAt.{PassedAt}
-use Rattle.nf_work.specs.declared.Halt.{Halt}
+use Rattle.nf_frac_def.specs.Passing.{passes_Q}
+use Rattle.nf_frac_def.specs.Checked.{at_part, placed, Stops}
+use Rattle.nf_frac_def.specs.declared.Part.{Part}
+use Rattle.nf_frac_def.specs.declared.Part.TheVariants.{Slack, Verdict}
+use Rattle.nf_frac_def.specs.declared.Passed.{Passed}
+use Rattle.nf_frac_def.specs.declared.PassedAt.{PassedAt}
+use Rattle.nf_frac_def.specs.declared.Halt.{Halt}
 use Rattle.nf_model.specs.Walk.{Hop}
 use Rattle.nf_model.specs.Network.{Network, IsNetwork, hops, rate_at}
 use Rattle.nf_model.specs.ThinFlow.{Sets, sets_of, sets_at, IsThinFlow}
 use Rattle.nf_model.specs.Pattern.{IsListedIn, IsSolution}
 use Rattle.nf_model.specs.Phases.{AreStartLabels}
-use Rattle.nf_lists.specs.Slack.{slack_list}
-use Rattle.nf_lists_laws.proofs.Exact.{slacks_exact}
+use Rattle.nf_thin_def.specs.Slack.{slack_list}
+use Rattle.nf_thin_laws.proofs.Exact.{slacks_exact}
 use Rattle.nf_curve.proofs.Exits.{was_ok}
 use Rattle.nf_thin_laws.specs.ActiveLinks.{NoneEntersSource}
-use Rattle.nf_complete_lists.specs.Cancelling.{Settles}
-use Rattle.nf_complete_lists.specs.SettledPattern.{IsSettledPattern}
-use Rattle.nf_complete_lists.specs.ThinList.{thin_list}
-use Rattle.nf_complete_lists.specs.FlowsFile.{GivenFlows}
+use Rattle.nf_complete_def.specs.Cancelling.{Settles}
+use Rattle.nf_complete_def.specs.SettledPattern.{IsSettledPattern}
+use Rattle.nf_complete_def.specs.ThinList.{thin_list}
+use Rattle.nf_complete_def.specs.FlowsFile.{GivenFlows}
 use Rattle.nf_complete_laws.specs.SettleLaws.{AreGoodSets}
 use Rattle.nf_complete.specs.FitSets.{AreFitSets}
 use Rattle.nf_complete.specs.declared.settled.Settled.{Settled}

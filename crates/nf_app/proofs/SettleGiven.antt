@@ -2,17 +2,17 @@
 use Rattle.std.proofs.Common.{◌≡◌, ◌⊎◌, ℕ, List, length, refl, ◌∙◌, inl, inr}
 use Rattle.std.specs.Prelude.{Some, None, Ok, Err}
 use Rattle.nf_rational.specs.Rational.{ℚ}
-use Rattle.nf_work.specs.declared.Halt.{Halt}
-use Rattle.nf_formats.specs.Named.{Named}
+use Rattle.nf_frac_def.specs.declared.Halt.{Halt}
+use Rattle.nf_net_def.specs.Named.{Named}
 use Rattle.nf_thin_laws.proofs.ActiveLinks.{AreSets-sets_at}
-use Rattle.nf_complete_lists.specs.FlowsFile.{GivenFlows, flows_in}
+use Rattle.nf_complete_def.specs.FlowsFile.{GivenFlows, flows_in}
 use Rattle.nf_complete.specs.declared.settled.Settled.{Settled as CodeSettled}
-use Rattle.nf_flows_file.specs.declared.fault.FlowsFault.{FlowsFault}
-use Rattle.nf_flows_file.specs.Files.{IfBroken}
-use Rattle.nf_answers.specs.declared.refusal.Refusal.{Refusal}
-use Rattle.nf_command_line.specs.Requests.{Settle}
-use Rattle.nf_answers.specs.Answers.{Settled, NotThin}
-use Rattle.nf_answers.specs.Refusals.{answer_of, refusal_of_flows, refusal_of_halt}
+use Rattle.nf_complete_read.specs.declared.fault.FlowsFault.{FlowsFault}
+use Rattle.nf_complete_read.specs.Files.{IfBroken}
+use Rattle.nf_app_answers.specs.declared.refusal.Refusal.{Refusal}
+use Rattle.nf_app_words.specs.Requests.{Settle}
+use Rattle.nf_app_answers.specs.Answers.{Settled, NotThin}
+use Rattle.nf_app_answers.specs.Refusals.{answer_of, refusal_of_flows, refusal_of_halt}
 use Rattle.nf_app.specs.Settling.{SettlesAtStart}
 use Rattle.nf_app.specs.Given.{IsGiven}
 

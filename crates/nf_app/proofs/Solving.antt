@@ -2,15 +2,15 @@
 use Rattle.std.proofs.Common.{◌≡◌, ◌⊎◌, ℕ, List, [], refl, sym, ◌∙◌, ap, subst, inl, inr}
 use Rattle.std.specs.Prelude.{Option, Some, None}
 use Rattle.nf_rational.specs.Rational.{ℚ}
-use Rattle.nf_formats.specs.declared.Cause.{Cause}
-use Rattle.nf_formats.specs.Named.{Named}
-use Rattle.nf_formats.specs.Report.{Report, report_text}
-use Rattle.nf_lists.specs.PhaseRun.{Bounds}
-use Rattle.nf_command_line.specs.Requests.{Solve}
-use Rattle.nf_answers.specs.declared.status.Status.{Status}
-use Rattle.nf_answers.specs.Answers.{ProgramAnswer, Solved, status_of, status_of_stop, out_text}
-use Rattle.nf_outside.specs.Sinks.{TookAll}
-use Rattle.nf_outside.specs.Shown.{IsShown, IsShownWhole}
+use Rattle.nf_net_def.specs.declared.Cause.{Cause}
+use Rattle.nf_net_def.specs.Named.{Named}
+use Rattle.nf_net_def.specs.Report.{Report, report_text}
+use Rattle.nf_thin_def.specs.PhaseRun.{Bounds}
+use Rattle.nf_app_words.specs.Requests.{Solve}
+use Rattle.nf_app_answers.specs.declared.status.Status.{Status}
+use Rattle.nf_app_answers.specs.Answers.{ProgramAnswer, Solved, status_of, status_of_stop, out_text}
+use Rattle.nf_app_files.specs.Sinks.{TookAll}
+use Rattle.nf_app_files.specs.Shown.{IsShown, IsShownWhole}
 use Rattle.nf_app.specs.Requests.{bounds_to}
 use Rattle.nf_app.specs.Answered.{SolveAnswer}
 use Rattle.nf_app.specs.Runs.{Call, Run, Ran}

@@ -11,9 +11,9 @@ use Rattle.nf_model.specs.ThinFlow.{sets_at}
 use Rattle.nf_model.specs.Phases.{AreStartLabels}
 use Rattle.nf_model_laws.proofs.Slacks.{active_of_slack}
 use Rattle.nf_model_laws.proofs.Supply.{rate_from-not_negative}
-use Rattle.nf_lists.specs.ReportCurves.{first_label_curve, first_curves}
-use Rattle.nf_lists.specs.PhaseRun.{Standing, flow_of}
-use Rattle.nf_lists_laws.proofs.Ending.{from_map}
+use Rattle.nf_thin_def.specs.ReportCurves.{first_label_curve, first_curves}
+use Rattle.nf_thin_def.specs.PhaseRun.{Standing, flow_of}
+use Rattle.nf_thin_laws.proofs.Ending.{from_map}
 use Rattle.nf_graph.specs.Graph.{AreBelow}
 use Rattle.nf_phase_laws.specs.Invariant.{link_slack}
 use Rattle.nf_phase_laws.specs.CurveSteps.{at}
@@ -22,8 +22,8 @@ use Rattle.nf_phase_laws.proofs.CurveRun.{Grown}
 use Rattle.nf_phase_laws.proofs.Thin.{slack-is}
 use Rattle.nf_thin_laws.specs.ActiveLinks.{EachIsEntered, NoneEntersSource}
 use Rattle.nf_thin_laws.proofs.ActiveLinks.{HoldNoCycle-sets_at, NoneEntersSource-acyclic}
-use Rattle.nf_run_laws.proofs.WellRun.{WellRun, WellRun-start}
-use Rattle.nf_run_laws.proofs.Standing.{grown_at}
+use Rattle.nf_phase_laws.proofs.WellRun.{WellRun, WellRun-start}
+use Rattle.nf_phase_laws.proofs.Standing.{grown_at}
 use Rattle.nf_complete_laws.specs.SettleLaws.{AreGoodSets}
 use Rattle.nf_complete_laws.proofs.Stopped.{AreGoodSets-well}
 

@@ -2,22 +2,22 @@
 use Rattle.std.proofs.Common.{◌≡◌, ◌⊎◌, ℕ, List, sym, ap, subst, ◌∙◌, inl, inr}
 use Rattle.std.specs.Prelude.{Option, Some, None, Result, Ok, Err}
 use Rattle.nf_rational.specs.Rational.{ℚ}
-use Rattle.nf_work.specs.Passing.{passes_Q}
-use Rattle.nf_work.specs.declared.PassedAt.{PassedAt}
+use Rattle.nf_frac_def.specs.Passing.{passes_Q}
+use Rattle.nf_frac_def.specs.declared.PassedAt.{PassedAt}
 use Rattle.nf_model.specs.Network.{Network}
-use Rattle.nf_formats.specs.Named.{Named}
-use Rattle.nf_formats.specs.Report.{Report}
-use Rattle.nf_readings.specs.LoadsFile.{loads_in}
-use Rattle.nf_readings.specs.ReportFile.{ReportBroken, report_in}
-use Rattle.nf_quick_lists.specs.Quick.{Quick as QuickFlow}
-use Rattle.nf_quick_lists.specs.Quick as quick
-use Rattle.nf_complete_lists.specs.FlowsFile.{FlowsBroken, GivenFlows, flows_in}
-use Rattle.nf_routes_lists.specs.RoutesFile.{routes_in}
+use Rattle.nf_net_def.specs.Named.{Named}
+use Rattle.nf_net_def.specs.Report.{Report}
+use Rattle.nf_report_def.specs.LoadsFile.{loads_in}
+use Rattle.nf_report_def.specs.ReportFile.{ReportBroken, report_in}
+use Rattle.nf_quick_def.specs.Quick.{Quick as QuickFlow}
+use Rattle.nf_quick_def.specs.Quick as quick
+use Rattle.nf_complete_def.specs.FlowsFile.{FlowsBroken, GivenFlows, flows_in}
+use Rattle.nf_routes_def.specs.RoutesFile.{routes_in}
 use Rattle.nf_routes_laws.proofs.FileReading.{only_reading}
-use Rattle.nf_resume_lists.specs.Resuming as resuming
-use Rattle.nf_command_line.specs.Requests.{Request, Solve, SolveForever, Show, Load, Check, Quick, Gen, Settle, Resume, Routes}
-use Rattle.nf_answers.specs.declared.arrival.Arrival.{Arrival}
-use Rattle.nf_answers.specs.Answers.{ProgramAnswer, Loaded, Checked, Generated, Distributed}
+use Rattle.nf_resume_def.specs.Resuming as resuming
+use Rattle.nf_app_words.specs.Requests.{Request, Solve, SolveForever, Show, Load, Check, Quick, Gen, Settle, Resume, Routes}
+use Rattle.nf_app_answers.specs.declared.arrival.Arrival.{Arrival}
+use Rattle.nf_app_answers.specs.Answers.{ProgramAnswer, Loaded, Checked, Generated, Distributed}
 use Rattle.nf_app.specs.Requests.{bounds_to}
 use Rattle.nf_app.specs.Lists.{flow_list, departs_list}
 use Rattle.nf_app.specs.Arrivals.{IsArrival}

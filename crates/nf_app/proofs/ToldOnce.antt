@@ -6,45 +6,45 @@ use Rattle.nf_rational.specs.Rational.{ℚ}
 use Rattle.nf_rational.specs.Operations.{0ℚ}
 use Rattle.nf_rational.specs.Order.{◌<ℚ◌}
 use Rattle.nf_rational_laws.proofs.Order.{<ℚ_irrefl, not_both_ℚ}
-use Rattle.nf_work.specs.Passing.{passes_Q}
-use Rattle.nf_work.specs.Checked.{placed}
-use Rattle.nf_work.specs.declared.Part.TheVariants.{Slack, Verdict}
-use Rattle.nf_work.specs.declared.Passed.{Passed}
-use Rattle.nf_work.specs.declared.PassedAt.{PassedAt}
+use Rattle.nf_frac_def.specs.Passing.{passes_Q}
+use Rattle.nf_frac_def.specs.Checked.{placed}
+use Rattle.nf_frac_def.specs.declared.Part.TheVariants.{Slack, Verdict}
+use Rattle.nf_frac_def.specs.declared.Passed.{Passed}
+use Rattle.nf_frac_def.specs.declared.PassedAt.{PassedAt}
 use Rattle.nf_model.specs.Network.{Network, IsNetwork, hops, rate_at}
 use Rattle.nf_model.specs.Equilibrium.{label}
 use Rattle.nf_model.specs.ThinFlow.{sets_at}
 use Rattle.nf_model.specs.Pattern.{Pattern}
 use Rattle.nf_model.specs.Phases.{AreStartLabels}
-use Rattle.nf_formats.specs.Named.{Named}
-use Rattle.nf_formats.specs.NetLines.{Broken}
-use Rattle.nf_formats.specs.Report.{Report}
-use Rattle.nf_formats.specs.WellNamed.{IsNamed}
-use Rattle.nf_formats_laws.proofs.Once.{reads_at_most_once}
-use Rattle.nf_formats_laws.proofs.AcceptedNamed.{accepted_named}
-use Rattle.nf_lists.specs.Slack.{slack_list}
-use Rattle.nf_lists.specs.ReportCurves.{first_label_curve, first_curves}
-use Rattle.nf_lists.specs.PhaseRun.{Standing, Bounds}
-use Rattle.nf_lists_laws.proofs.OneRun.{one_start, one_run, one_report}
-use Rattle.nf_readings.specs.ReportFile.{ReportBroken, report_in}
-use Rattle.nf_readings_laws.proofs.ReportKept.{report_kept}
-use Rattle.nf_quick_lists.specs.Quick.{Quick as QuickFlow, FoundQuick, Budget}
-use Rattle.nf_quick_lists.specs.Quick as quick
+use Rattle.nf_net_def.specs.Named.{Named}
+use Rattle.nf_net_def.specs.NetLines.{Broken}
+use Rattle.nf_net_def.specs.Report.{Report}
+use Rattle.nf_net_def.specs.WellNamed.{IsNamed}
+use Rattle.nf_net_laws.proofs.Once.{reads_at_most_once}
+use Rattle.nf_net_laws.proofs.AcceptedNamed.{accepted_named}
+use Rattle.nf_thin_def.specs.Slack.{slack_list}
+use Rattle.nf_thin_def.specs.ReportCurves.{first_label_curve, first_curves}
+use Rattle.nf_thin_def.specs.PhaseRun.{Standing, Bounds}
+use Rattle.nf_thin_laws.proofs.OneRun.{one_start, one_run, one_report}
+use Rattle.nf_report_def.specs.ReportFile.{ReportBroken, report_in}
+use Rattle.nf_report_laws.proofs.ReportKept.{report_kept}
+use Rattle.nf_quick_def.specs.Quick.{Quick as QuickFlow, FoundQuick, Budget}
+use Rattle.nf_quick_def.specs.Quick as quick
 use Rattle.nf_quick.specs.Answered.{HasNoWay}
 use Rattle.nf_phase.specs.Solution.{bounds_of}
-use Rattle.nf_complete_lists.specs.Cancelling.{Settles}
-use Rattle.nf_complete_lists.specs.ThinList.{thin_list}
-use Rattle.nf_complete_lists.specs.FlowsFile.{FlowsBroken, GivenFlows, flows_in}
+use Rattle.nf_complete_def.specs.Cancelling.{Settles}
+use Rattle.nf_complete_def.specs.ThinList.{thin_list}
+use Rattle.nf_complete_def.specs.FlowsFile.{FlowsBroken, GivenFlows, flows_in}
 use Rattle.nf_complete_laws.proofs.OneSettling.{one_settling}
 use Rattle.nf_complete_laws.proofs.OnePattern.{one_pattern}
 use Rattle.nf_forever_laws.proofs.OneForever.{one_forever}
-use Rattle.nf_resume_lists.specs.Resuming.{Refused, Stands, resume_list}
-use Rattle.nf_resume_lists.specs.Resuming as resuming
-use Rattle.nf_resumed_laws.proofs.OneResumed.{one_resumed}
-use Rattle.nf_outside.specs.Files.{Wanted}
-use Rattle.nf_command_line.specs.Requests.{Request, Solve, SolveForever, Show, Load, Check, Quick, Gen, Settle, Resume, Routes, request_of}
-use Rattle.nf_answers.specs.declared.arrival.Arrival.{Arrival}
-use Rattle.nf_answers.specs.Answers.{ProgramAnswer, Solved, SolvedForever, Quickest, Generated, Settled, Passes, Malformed}
+use Rattle.nf_resume_def.specs.Resuming.{Refused, Stands, resume_list}
+use Rattle.nf_resume_def.specs.Resuming as resuming
+use Rattle.nf_resume_run_laws.proofs.OneResumed.{one_resumed}
+use Rattle.nf_app_files.specs.Files.{Wanted}
+use Rattle.nf_app_words.specs.Requests.{Request, Solve, SolveForever, Show, Load, Check, Quick, Gen, Settle, Resume, Routes, request_of}
+use Rattle.nf_app_answers.specs.declared.arrival.Arrival.{Arrival}
+use Rattle.nf_app_answers.specs.Answers.{ProgramAnswer, Solved, SolvedForever, Quickest, Generated, Settled, Passes, Malformed}
 use Rattle.nf_app.specs.Requests.{first_of, other_of, generated_by, bounds_to, usual_budgets}
 use Rattle.nf_app.specs.Lists.{flow_list, departs_list}
 use Rattle.nf_app.specs.Arrivals.{arrival_of}

@@ -4,14 +4,14 @@ use Rattle.std.specs.Prelude.{Option, Some, None, IfSome, Result, Ok, Err}
 use Rattle.std.specs.List.{All}
 use Rattle.std.proofs.lemmas.Option.{same_Some}
 use Rattle.nf_edge.specs.Faults.{Rose}
-use Rattle.nf_formats.specs.Named.{Named}
-use Rattle.nf_formats.specs.NetLines.{Broken}
-use Rattle.nf_formats.specs.WellNamed.{IsNamed}
-use Rattle.nf_answers.specs.declared.status.Status.{Status}
-use Rattle.nf_answers.specs.Answers.{ProgramAnswer, Solved, SolvedForever, Shown, Loaded, Checked, Quickest, TooManyWalks, Generated, Settled, Distributed, NoMemory, NoRequest, ShelfFailed, ShelfTooLong, Malformed, MalformedLoads, MalformedFlows, MalformedRoutes, MalformedReport, Passes, Unbounded, NotThin, Earlier, status_of}
-use Rattle.nf_outside.specs.Files.{Wanted, FetchedTo, HasTooMany}
-use Rattle.nf_outside.specs.Fetching.{NetworkReads}
-use Rattle.nf_command_line.specs.Requests.{Request, request_of}
+use Rattle.nf_net_def.specs.Named.{Named}
+use Rattle.nf_net_def.specs.NetLines.{Broken}
+use Rattle.nf_net_def.specs.WellNamed.{IsNamed}
+use Rattle.nf_app_answers.specs.declared.status.Status.{Status}
+use Rattle.nf_app_answers.specs.Answers.{ProgramAnswer, Solved, SolvedForever, Shown, Loaded, Checked, Quickest, TooManyWalks, Generated, Settled, Distributed, NoMemory, NoRequest, ShelfFailed, ShelfTooLong, Malformed, MalformedLoads, MalformedFlows, MalformedRoutes, MalformedReport, Passes, Unbounded, NotThin, Earlier, status_of}
+use Rattle.nf_app_files.specs.Files.{Wanted, FetchedTo, HasTooMany}
+use Rattle.nf_app_files.specs.Fetching.{NetworkReads}
+use Rattle.nf_app_words.specs.Requests.{Request, request_of}
 use Rattle.nf_app.specs.Requests.{files_of, other_of, generated_by, OtherIsText}
 use Rattle.nf_app.specs.Given.{IsGiven}
 use Rattle.nf_app.specs.Runs.{Call, Asks, Reached, Read, IsRefusedCall, IsComputed, IsAnswer}

@@ -3,42 +3,42 @@ use Rattle.std.specs.Prelude.{◌≡◌, ◌↔◌, ℕ, List, Option, None, IfS
 use Rattle.nf_rational.specs.Rational.{ℚ}
 use Rattle.nf_rational.specs.Operations.{0ℚ}
 use Rattle.nf_rational.specs.Order.{◌≤ℚ◌}
-use Rattle.nf_work.specs.Passing.{passes_Q}
+use Rattle.nf_frac_def.specs.Passing.{passes_Q}
 use Rattle.nf_model.specs.Network.{Piece}
 use Rattle.nf_model.specs.Pattern.{Pattern}
 use Rattle.nf_model.specs.Phases.{AreStartLabels}
 use Rattle.nf_model.specs.Equilibrium.{Equilibrium}
-use Rattle.nf_formats.specs.Named.{Named}
-use Rattle.nf_formats.specs.NetFile.{Reads}
-use Rattle.nf_formats.specs.NetText.{canonical}
-use Rattle.nf_formats.specs.Report.{Report, IsWellFormed}
-use Rattle.nf_lists.specs.PhaseRun.{Bounds, IsRunReport, IsShortFlow}
-use Rattle.nf_run_laws.specs.RunLaws.{KeepsLabels}
-use Rattle.nf_load_lists.specs.Loading.{Loaded as Loading}
-use Rattle.nf_load_lists.specs.Meanings.{AreLoaded}
-use Rattle.nf_check_lists.specs.declared.Answer.{Answer as Verdict}
-use Rattle.nf_check_lists.specs.Rules.{Checks}
-use Rattle.nf_check_lists.specs.CheckList.{check_list}
+use Rattle.nf_net_def.specs.Named.{Named}
+use Rattle.nf_net_def.specs.NetFile.{Reads}
+use Rattle.nf_net_def.specs.NetText.{canonical}
+use Rattle.nf_net_def.specs.Report.{Report, IsWellFormed}
+use Rattle.nf_thin_def.specs.PhaseRun.{Bounds, IsRunReport, IsShortFlow}
+use Rattle.nf_phase_laws.specs.RunLaws.{KeepsLabels}
+use Rattle.nf_load_def.specs.Loading.{Loaded as Loading}
+use Rattle.nf_load_def.specs.Meanings.{AreLoaded}
+use Rattle.nf_check_def.specs.declared.Answer.{Answer as Verdict}
+use Rattle.nf_check_def.specs.Rules.{Checks}
+use Rattle.nf_check_def.specs.CheckList.{check_list}
 use Rattle.nf_check.specs.Answers.{IsExact}
-use Rattle.nf_readings.specs.LoadsFile.{loads_in}
-use Rattle.nf_run_text_laws.specs.ReadableLaws.{ReadsBack}
-use Rattle.nf_quick_lists.specs.Quick.{Quick as QuickFlow, FoundQuick}
-use Rattle.nf_quick_lists.specs.Answers.{IsQuickFlow}
-use Rattle.nf_quick_lists.specs.InOrder.{ComesOfPushes}
-use Rattle.nf_quick_lists.specs.Departures.{IsDeparture}
+use Rattle.nf_report_def.specs.LoadsFile.{loads_in}
+use Rattle.nf_report_run_laws.specs.ReadableLaws.{ReadsBack}
+use Rattle.nf_quick_def.specs.Quick.{Quick as QuickFlow, FoundQuick}
+use Rattle.nf_quick_def.specs.Answers.{IsQuickFlow}
+use Rattle.nf_quick_def.specs.InOrder.{ComesOfPushes}
+use Rattle.nf_quick_def.specs.Departures.{IsDeparture}
 use Rattle.nf_quick.specs.Answered.{HasNoWay}
 use Rattle.nf_phase.specs.Restarting.{EndsAtItsLabels}
 use Rattle.nf_phase.specs.Solution.{EndsAll, IsSolution}
-use Rattle.nf_complete_lists.specs.FlowsFile.{GivenFlows, flows_in}
-use Rattle.nf_forever_lists.specs.ForeverRun.{Forever, IsForever}
-use Rattle.nf_forever_lists.specs.Extended.{flow_until}
-use Rattle.nf_growth_laws.specs.TailGrowth.{TailGrows}
-use Rattle.nf_resume_lists.specs.Meanings.{IsResumedReport, GoesOnFrom}
-use Rattle.nf_routes_lists.specs.RoutesFile.{NamedRoute, routes_of, ReadsRoutes}
-use Rattle.nf_routes_lists.specs.RoutesList.{Routed}
-use Rattle.nf_routes_lists.specs.Meanings.{IsRouted, RoutesArrive}
-use Rattle.nf_answers.specs.declared.arrival.Arrival.{Arrival}
-use Rattle.nf_answers.specs.Answers.{ProgramAnswer, Solved, SolvedForever, Shown, Loaded, Checked, Quickest, Generated, Settled, Distributed}
+use Rattle.nf_complete_def.specs.FlowsFile.{GivenFlows, flows_in}
+use Rattle.nf_forever_def.specs.ForeverRun.{Forever, IsForever}
+use Rattle.nf_forever_def.specs.Extended.{flow_until}
+use Rattle.nf_forever_laws.specs.TailGrowth.{TailGrows}
+use Rattle.nf_resume_def.specs.Meanings.{IsResumedReport, GoesOnFrom}
+use Rattle.nf_routes_def.specs.RoutesFile.{NamedRoute, routes_of, ReadsRoutes}
+use Rattle.nf_routes_def.specs.RoutesList.{Routed}
+use Rattle.nf_routes_def.specs.Meanings.{IsRouted, RoutesArrive}
+use Rattle.nf_app_answers.specs.declared.arrival.Arrival.{Arrival}
+use Rattle.nf_app_answers.specs.Answers.{ProgramAnswer, Solved, SolvedForever, Shown, Loaded, Checked, Quickest, Generated, Settled, Distributed}
 use Rattle.nf_app.specs.Lists.{loading_list, flow_list, departs_list, by_route_list}
 use Rattle.nf_app.specs.Reports.{IsReportText}
 use Rattle.nf_app.specs.Arrivals.{IsArrival}

@@ -6,10 +6,10 @@ use Rattle.nf_model.specs.Network.{Network, supply}
 use Rattle.nf_model.specs.Earliest.{IsEarliest}
 use Rattle.nf_model.specs.Equilibrium.{inflow, label}
 use Rattle.nf_model.specs.Quickest as times
-use Rattle.nf_formats.specs.declared.Cause.{Cause}
-use Rattle.nf_formats.specs.Report.{Report}
+use Rattle.nf_net_def.specs.declared.Cause.{Cause}
+use Rattle.nf_net_def.specs.Report.{Report}
 use Rattle.nf_phase.specs.Solution.{bounds_of, IsSolution}
-use Rattle.nf_answers.specs.declared.arrival.Arrival.{Arrival}
+use Rattle.nf_app_answers.specs.declared.arrival.Arrival.{Arrival}
 use Rattle.nf_app.specs.Requests.{usual_budgets}
 
 -- the arrival at this time, unless the run stopped

@@ -1,17 +1,17 @@
 -- Calls of `check` and `resume` after calls of `solve`.
 use Rattle.std.specs.Prelude.{◌≡◌, ◌⊎◌, ℕ, ◌≤◌, List, [], ◌∷◌, length, Some, Ok, codes}
 use Rattle.nf_rational.specs.Rational.{ℚ}
-use Rattle.nf_work.specs.Passing.{passes_Q}
-use Rattle.nf_lines.specs.Words.{line_of_words}
-use Rattle.nf_formats.specs.Named.{Named}
-use Rattle.nf_formats.specs.NetFile.{Reads}
-use Rattle.nf_formats.specs.Report.{Report}
-use Rattle.nf_lists.specs.PhaseRun.{IsRunReport}
-use Rattle.nf_resumed_laws.specs.ResumedLaws.{RestFits}
-use Rattle.nf_answers.specs.declared.status.Status.{Status}
-use Rattle.nf_outside.specs.Files.{Visit, network_limit, report_limit}
-use Rattle.nf_outside.specs.Sinks.{TookAll}
-use Rattle.nf_command_line.specs.Requests.{Solve, Check, Resume}
+use Rattle.nf_frac_def.specs.Passing.{passes_Q}
+use Rattle.nf_text_def.specs.Words.{line_of_words}
+use Rattle.nf_net_def.specs.Named.{Named}
+use Rattle.nf_net_def.specs.NetFile.{Reads}
+use Rattle.nf_net_def.specs.Report.{Report}
+use Rattle.nf_thin_def.specs.PhaseRun.{IsRunReport}
+use Rattle.nf_resume_run_laws.specs.ResumedLaws.{RestFits}
+use Rattle.nf_app_answers.specs.declared.status.Status.{Status}
+use Rattle.nf_app_files.specs.Files.{Visit, network_limit, report_limit}
+use Rattle.nf_app_files.specs.Sinks.{TookAll}
+use Rattle.nf_app_words.specs.Requests.{Solve, Check, Resume}
 use Rattle.nf_app.specs.Requests.{bounds_to}
 use Rattle.nf_app.specs.Runs.{Call, Run, Asks, Ran, NoFault, IsOneOf}
 

@@ -2,23 +2,23 @@
 use Rattle.std.specs.Prelude.{◌≡◌, ℕ, List, [], ◌∷◌, Option, Some, None, IsSome, IsOk, Ok}
 use Rattle.nf_rational.specs.Rational.{ℚ}
 use Rattle.nf_rational.specs.Order.{◌≤ℚ◌}
-use Rattle.nf_work.specs.Passing.{passes_Q}
-use Rattle.nf_work.specs.declared.PassedAt.{PassedAt}
+use Rattle.nf_frac_def.specs.Passing.{passes_Q}
+use Rattle.nf_frac_def.specs.declared.PassedAt.{PassedAt}
 use Rattle.nf_model.specs.Equilibrium.{Equilibrium}
-use Rattle.nf_formats.specs.declared.Cause.{Cause}
-use Rattle.nf_formats.specs.Named.{Named}
-use Rattle.nf_formats.specs.Report.{Report}
-use Rattle.nf_lists.specs.PhaseRun.{Bounds, IsRunReport}
-use Rattle.nf_readings.specs.LoadsFile.{loads_in}
-use Rattle.nf_readings.specs.ReportFile.{report_in}
+use Rattle.nf_net_def.specs.declared.Cause.{Cause}
+use Rattle.nf_net_def.specs.Named.{Named}
+use Rattle.nf_net_def.specs.Report.{Report}
+use Rattle.nf_thin_def.specs.PhaseRun.{Bounds, IsRunReport}
+use Rattle.nf_report_def.specs.LoadsFile.{loads_in}
+use Rattle.nf_report_def.specs.ReportFile.{report_in}
 use Rattle.nf_phase.specs.declared.solution.Budgets.{Budgets}
 use Rattle.nf_phase.specs.Solution.{bounds_of}
-use Rattle.nf_complete_lists.specs.FlowsFile.{flows_in}
-use Rattle.nf_forever_lists.specs.ForeverRun.{Forever, IsForever}
-use Rattle.nf_resume_lists.specs.Meanings.{IsResumedReport}
-use Rattle.nf_routes_lists.specs.RoutesFile.{NamedRoute, ReadsRoutes}
-use Rattle.nf_answers.specs.declared.status.Status.{Status}
-use Rattle.nf_command_line.specs.Requests.{Request, Solve, SolveForever, Show, Load, Check, Quick, Gen, Settle, Resume, Routes}
+use Rattle.nf_complete_def.specs.FlowsFile.{flows_in}
+use Rattle.nf_forever_def.specs.ForeverRun.{Forever, IsForever}
+use Rattle.nf_resume_def.specs.Meanings.{IsResumedReport}
+use Rattle.nf_routes_def.specs.RoutesFile.{NamedRoute, ReadsRoutes}
+use Rattle.nf_app_answers.specs.declared.status.Status.{Status}
+use Rattle.nf_app_words.specs.Requests.{Request, Solve, SolveForever, Show, Load, Check, Quick, Gen, Settle, Resume, Routes}
 use Rattle.nf_app.specs.Requests.{first_of, other_of, generated_by, budgets_of, bounds_to}
 use Rattle.nf_app.specs.Refused.{LoadPasses, CheckPasses, RoutesPasses, PassesQuick, SettlePasses, ResumePasses}
 use Rattle.nf_app.specs.Told.{TellsText, BothFit, NetworkIs}

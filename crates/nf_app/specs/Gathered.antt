@@ -1,9 +1,9 @@
 -- What a request has before it is answered: its network, and the bytes of the other file that it wants.
 use Rattle.std.specs.Prelude.{ℕ, List, Result, Ok, Err}
-use Rattle.nf_formats.specs.Named.{Named}
-use Rattle.nf_answers.specs.declared.refusal.Refusal.{Refusal}
-use Rattle.nf_answers.specs.Refusals.{answer_of}
-use Rattle.nf_command_line.specs.Requests.{Request}
+use Rattle.nf_net_def.specs.Named.{Named}
+use Rattle.nf_app_answers.specs.declared.refusal.Refusal.{Refusal}
+use Rattle.nf_app_answers.specs.Refusals.{answer_of}
+use Rattle.nf_app_words.specs.Requests.{Request}
 use Rattle.nf_app.specs.Requests.{OtherIsText}
 use Rattle.nf_app.specs.Runs.{Call, Read, IsAnswer}
 

@@ -1,8 +1,8 @@
 -- The answers of a request that has its network. `text` is the bytes of its second file, if it has one.
 use Rattle.std.specs.Prelude.{◌⊎◌, ℕ, List}
-use Rattle.nf_formats.specs.Named.{Named}
-use Rattle.nf_command_line.specs.Requests.{Request, Solve, SolveForever, Show, Load, Check, Quick, Gen, Settle, Resume, Routes}
-use Rattle.nf_answers.specs.Answers.{ProgramAnswer}
+use Rattle.nf_net_def.specs.Named.{Named}
+use Rattle.nf_app_words.specs.Requests.{Request, Solve, SolveForever, Show, Load, Check, Quick, Gen, Settle, Resume, Routes}
+use Rattle.nf_app_answers.specs.Answers.{ProgramAnswer}
 use Rattle.nf_app.specs.Requests.{bounds_to}
 use Rattle.nf_app.specs.Answered.{SolveAnswer, ForeverAnswer, ResumeAnswer, CheckAnswer, LoadAnswer, RoutesAnswer, QuickAnswer, GenAnswer, ShowAnswer, SettleAnswer}
 use Rattle.nf_app.specs.Refused.{LoadRefused, CheckRefused, RoutesRefused, QuickRefused, SettleRefused, ResumeRefused}

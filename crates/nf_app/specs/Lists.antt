@@ -1,20 +1,20 @@
 -- The lists of operations of the commands without phases.
 use Rattle.std.specs.Prelude.{ℕ, List, Option, Result}
 use Rattle.nf_rational.specs.Rational.{ℚ}
-use Rattle.nf_work.specs.Passing.{passes_Q}
-use Rattle.nf_work.specs.Checked.{at_part}
-use Rattle.nf_work.specs.declared.Part.TheVariants.{Load as LoadPart, Quick as QuickPart}
-use Rattle.nf_work.specs.declared.PassedAt.{PassedAt}
+use Rattle.nf_frac_def.specs.Passing.{passes_Q}
+use Rattle.nf_frac_def.specs.Checked.{at_part}
+use Rattle.nf_frac_def.specs.declared.Part.TheVariants.{Load as LoadPart, Quick as QuickPart}
+use Rattle.nf_frac_def.specs.declared.PassedAt.{PassedAt}
 use Rattle.nf_model.specs.Network.{Piece, Network}
-use Rattle.nf_formats.specs.Named.{Named}
-use Rattle.nf_load_lists.specs.Loading.{Loaded as Loading}
-use Rattle.nf_load_lists.specs.Loads.{load_list}
+use Rattle.nf_net_def.specs.Named.{Named}
+use Rattle.nf_load_def.specs.Loading.{Loaded as Loading}
+use Rattle.nf_load_def.specs.Loads.{load_list}
 use Rattle.nf_net.specs.Supply.{checked_supply}
-use Rattle.nf_quick_lists.specs.Quick.{quickest_list}
-use Rattle.nf_quick_lists.specs.Quick as lists
-use Rattle.nf_quick_lists.specs.Departures.{departure_list}
-use Rattle.nf_routes_lists.specs.RoutesFile.{NamedRoute, routes_of}
-use Rattle.nf_routes_lists.specs.RoutesList.{Routed, routes_list}
+use Rattle.nf_quick_def.specs.Quick.{quickest_list}
+use Rattle.nf_quick_def.specs.Quick as lists
+use Rattle.nf_quick_def.specs.Departures.{departure_list}
+use Rattle.nf_routes_def.specs.RoutesFile.{NamedRoute, routes_of}
+use Rattle.nf_routes_def.specs.RoutesList.{Routed, routes_list}
 
 -- `load`: the loading of each link by its pieces
 abbrev pub loading_list : Named → List (List Piece) → ℚ → Result (List Loading) (PassedAt ℚ)

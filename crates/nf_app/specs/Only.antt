@@ -1,9 +1,9 @@
 -- A call shows the one answer that its words have with the known bytes of their files.
 use Rattle.std.specs.Prelude.{◌≡◌}
 use Rattle.nf_edge.specs.Faults.{Rose}
-use Rattle.nf_answers.specs.declared.status.Status.{Status}
-use Rattle.nf_answers.specs.Answers.{ProgramAnswer, NoMemory, status_of}
-use Rattle.nf_outside.specs.Shown.{IsShown, IsShownWhole}
+use Rattle.nf_app_answers.specs.declared.status.Status.{Status}
+use Rattle.nf_app_answers.specs.Answers.{ProgramAnswer, NoMemory, status_of}
+use Rattle.nf_app_files.specs.Shown.{IsShown, IsShownWhole}
 use Rattle.nf_app.specs.Runs.{Run}
 use Rattle.nf_app.specs.Told.{IsToldAnswer, TellsAll}
 

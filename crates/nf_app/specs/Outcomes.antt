@@ -1,12 +1,12 @@
 -- When an outcome of a request, or a refusal, comes.
 use Rattle.std.specs.Prelude.{◌≡◌, ◌⊎◌, ℕ, List, Result, Ok, Err}
-use Rattle.nf_formats.specs.Named.{Named}
-use Rattle.nf_answers.specs.declared.outcome.Computed.{Computed}
-use Rattle.nf_answers.specs.declared.outcome.Outcome.{Outcome}
-use Rattle.nf_answers.specs.declared.refusal.Refusal.{Refusal}
-use Rattle.nf_answers.specs.Refusals.{answer_of}
-use Rattle.nf_answers.specs.Outcomes.{answer_with, HasTextWith, answer_in, HasText}
-use Rattle.nf_command_line.specs.Requests.{Request}
+use Rattle.nf_net_def.specs.Named.{Named}
+use Rattle.nf_app_answers.specs.declared.outcome.Computed.{Computed}
+use Rattle.nf_app_answers.specs.declared.outcome.Outcome.{Outcome}
+use Rattle.nf_app_answers.specs.declared.refusal.Refusal.{Refusal}
+use Rattle.nf_app_answers.specs.Refusals.{answer_of}
+use Rattle.nf_app_answers.specs.Outcomes.{answer_with, HasTextWith, answer_in, HasText}
+use Rattle.nf_app_words.specs.Requests.{Request}
 use Rattle.nf_app.specs.Given.{IsGiven}
 use Rattle.nf_app.specs.Runs.{Call, IsAnswer}
 

@@ -1,7 +1,7 @@
 -- When the status is that of a failed output.
 use Rattle.std.specs.Prelude.{◌≡◌, ◌≢◌, ◌↔◌, ◌<◌}
 use Rattle.nf_edge.specs.Faults.{greatest, Rose}
-use Rattle.nf_answers.specs.declared.status.Status.{Status}
+use Rattle.nf_app_answers.specs.declared.status.Status.{Status}
 use Rattle.nf_app.specs.Runs.{Run}
 
 -- With the status of a failed output a fault of `out` was counted in the call; with any other status none was. Below the greatest count the

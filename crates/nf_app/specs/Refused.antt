@@ -3,25 +3,25 @@ use Rattle.std.specs.Prelude.{◌≡◌, ◌⊎◌, ℕ, List, Result, Ok, Err}
 use Rattle.nf_rational.specs.Rational.{ℚ}
 use Rattle.nf_rational.specs.Operations.{0ℚ}
 use Rattle.nf_rational.specs.Order.{◌≤ℚ◌, ◌<ℚ◌}
-use Rattle.nf_work.specs.Passing.{passes_Q}
-use Rattle.nf_work.specs.declared.PassedAt.{PassedAt}
+use Rattle.nf_frac_def.specs.Passing.{passes_Q}
+use Rattle.nf_frac_def.specs.declared.PassedAt.{PassedAt}
 use Rattle.nf_model.specs.Network.{Piece, Network}
 use Rattle.nf_model.specs.Phases.{AreStartLabels}
-use Rattle.nf_formats.specs.Named.{Named}
-use Rattle.nf_formats.specs.Report.{Report}
-use Rattle.nf_check_lists.specs.declared.Answer.{Answer as Verdict}
-use Rattle.nf_check_lists.specs.CheckList.{check_list}
-use Rattle.nf_readings.specs.LoadsFile.{LoadsBroken, loads_in}
-use Rattle.nf_readings.specs.ReportFile.{ReportBroken}
-use Rattle.nf_quick_lists.specs.Steps.{IsUnboundedWalk}
-use Rattle.nf_quick_lists.specs.Quick.{Augment, Quick, FoundQuick, Budget}
-use Rattle.nf_quick_lists.specs.InOrder.{EndsAtBudget}
+use Rattle.nf_net_def.specs.Named.{Named}
+use Rattle.nf_net_def.specs.Report.{Report}
+use Rattle.nf_check_def.specs.declared.Answer.{Answer as Verdict}
+use Rattle.nf_check_def.specs.CheckList.{check_list}
+use Rattle.nf_report_def.specs.LoadsFile.{LoadsBroken, loads_in}
+use Rattle.nf_report_def.specs.ReportFile.{ReportBroken}
+use Rattle.nf_quick_def.specs.Steps.{IsUnboundedWalk}
+use Rattle.nf_quick_def.specs.Quick.{Augment, Quick, FoundQuick, Budget}
+use Rattle.nf_quick_def.specs.InOrder.{EndsAtBudget}
 use Rattle.nf_quick.specs.Answered.{HasNoWay}
-use Rattle.nf_complete_lists.specs.FlowsFile.{FlowsBroken, GivenFlows, flows_in}
-use Rattle.nf_routes_lists.specs.RoutesFile.{RoutesBroken, NamedRoute, ReadsRoutes}
-use Rattle.nf_resume_lists.specs.Resuming.{resume_list}
+use Rattle.nf_complete_def.specs.FlowsFile.{FlowsBroken, GivenFlows, flows_in}
+use Rattle.nf_routes_def.specs.RoutesFile.{RoutesBroken, NamedRoute, ReadsRoutes}
+use Rattle.nf_resume_def.specs.Resuming.{resume_list}
 use Rattle.nf_resume.specs.Faults.{IsRefusedReport}
-use Rattle.nf_answers.specs.Answers.{ProgramAnswer, Checked, TooManyWalks, MalformedLoads, MalformedFlows, MalformedRoutes, MalformedReport, Passes, Unbounded, NotThin, Earlier}
+use Rattle.nf_app_answers.specs.Answers.{ProgramAnswer, Checked, TooManyWalks, MalformedLoads, MalformedFlows, MalformedRoutes, MalformedReport, Passes, Unbounded, NotThin, Earlier}
 use Rattle.nf_app.specs.Lists.{loading_list, flow_list, departs_list, by_route_list}
 use Rattle.nf_app.specs.Reports.{IsReportText, IsNoReportText}
 use Rattle.nf_app.specs.Settling.{AreNotThin, PassesFirst}

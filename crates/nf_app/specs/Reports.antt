@@ -1,9 +1,9 @@
 -- Texts of reports.
 use Rattle.std.specs.Prelude.{◌≡◌, ◌≢◌, ℕ, List, Ok, Err}
-use Rattle.nf_formats.specs.Named.{Named}
-use Rattle.nf_formats.specs.Report.{Report, IsWellFormed, report_text}
-use Rattle.nf_readings.specs.ReportFile.{ReportBroken, report_in}
-use Rattle.nf_readings_laws.specs.Readable.{IsReadable}
+use Rattle.nf_net_def.specs.Named.{Named}
+use Rattle.nf_net_def.specs.Report.{Report, IsWellFormed, report_text}
+use Rattle.nf_report_def.specs.ReportFile.{ReportBroken, report_in}
+use Rattle.nf_report_laws.specs.Readable.{IsReadable}
 
 -- The text is that of this report of the network, and is read as just this report, which is well formed and has readable numbers.
 pub record IsReportText (n : Named) (text : List ℕ) (report : Report) : Type 0 where

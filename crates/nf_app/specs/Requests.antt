@@ -1,15 +1,15 @@
 -- The files of each request, the network that it makes, and the bounds of its run.
 use Rattle.std.specs.Prelude.{ℕ, ◌≤◌, List, [], ◌∷◌, length, Option, Some, None, slice_get, IfSome}
 use Rattle.nf_rational.specs.Rational.{ℚ}
-use Rattle.nf_formats.specs.Named.{Named}
-use Rattle.nf_lists.specs.PhaseRun.{Bounds}
+use Rattle.nf_net_def.specs.Named.{Named}
+use Rattle.nf_thin_def.specs.PhaseRun.{Bounds}
 use Rattle.nf_gen.specs.Ladder.{ladder}
 use Rattle.nf_phase.specs.declared.solution.Budgets.{Budgets}
 use Rattle.nf_phase.specs.Solution.{bounds_of}
-use Rattle.nf_command_line.specs.Numbers.{usual_phases, usual_patterns}
-use Rattle.nf_command_line.specs.Requests.{Request, Solve, SolveForever, Show, Load, Check, Quick, Gen, Settle, Resume, Routes}
-use Rattle.nf_outside.specs.Files.{Wanted, Visit, network_file, loads_file, flows_file, routes_file, report_file}
-use Rattle.nf_outside.specs.Fetching.{IsLastText}
+use Rattle.nf_app_words.specs.Numbers.{usual_phases, usual_patterns}
+use Rattle.nf_app_words.specs.Requests.{Request, Solve, SolveForever, Show, Load, Check, Quick, Gen, Settle, Resume, Routes}
+use Rattle.nf_app_files.specs.Files.{Wanted, Visit, network_file, loads_file, flows_file, routes_file, report_file}
+use Rattle.nf_app_files.specs.Fetching.{IsLastText}
 
 -- the files that are wanted, in the order in which they are fetched; the first is the network's
 abbrev pub files_of : Request → List Wanted

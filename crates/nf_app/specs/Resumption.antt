@@ -1,17 +1,17 @@
 -- A run that resumes a report to where one run from the start comes too.
 use Rattle.std.specs.Prelude.{◌≡◌, ℕ, List, None, Ok}
 use Rattle.nf_rational.specs.Rational.{ℚ}
-use Rattle.nf_work.specs.Passing.{passes_Q}
-use Rattle.nf_formats.specs.Named.{Named}
-use Rattle.nf_formats.specs.Report.{Report, report_text}
-use Rattle.nf_lists.specs.PhaseRun.{Bounds, IsRunReport}
-use Rattle.nf_readings.specs.ReportFile.{report_in}
-use Rattle.nf_resumed_laws.specs.ResumedLaws.{RestFits}
+use Rattle.nf_frac_def.specs.Passing.{passes_Q}
+use Rattle.nf_net_def.specs.Named.{Named}
+use Rattle.nf_net_def.specs.Report.{Report, report_text}
+use Rattle.nf_thin_def.specs.PhaseRun.{Bounds, IsRunReport}
+use Rattle.nf_report_def.specs.ReportFile.{report_in}
+use Rattle.nf_resume_run_laws.specs.ResumedLaws.{RestFits}
 use Rattle.nf_phase.specs.declared.solution.Budgets.{Budgets}
-use Rattle.nf_command_line.specs.Requests.{Request, Resume}
-use Rattle.nf_answers.specs.declared.status.Status.{Status}
-use Rattle.nf_answers.specs.Answers.{ProgramAnswer, Solved}
-use Rattle.nf_outside.specs.Sinks.{TookAll}
+use Rattle.nf_app_words.specs.Requests.{Request, Resume}
+use Rattle.nf_app_answers.specs.declared.status.Status.{Status}
+use Rattle.nf_app_answers.specs.Answers.{ProgramAnswer, Solved}
+use Rattle.nf_app_files.specs.Sinks.{TookAll}
 use Rattle.nf_app.specs.Requests.{bounds_to}
 use Rattle.nf_app.specs.Runs.{Call, Run, IsComputed}
 use Rattle.nf_app.specs.Completeness.{ReachesHorizon, ToldRequest}

@@ -5,16 +5,16 @@ use Rattle.nf_edge.specs.declared.Shelf.{Ghosts as ShelfGhosts}
 use Rattle.nf_edge.specs.declared.Sink.{Ghosts as SinkGhosts}
 use Rattle.nf_edge.specs.Faults.{Rose}
 use Rattle.nf_edge.specs.Names.{texts}
-use Rattle.nf_formats.specs.Named.{Named}
-use Rattle.nf_formats.specs.NetLines.{Broken}
-use Rattle.nf_formats.specs.WellNamed.{IsNamed}
-use Rattle.nf_answers.specs.declared.status.Status.{Status}
-use Rattle.nf_answers.specs.Answers.{ProgramAnswer, NoMemory, NoRequest, ShelfFailed, ShelfTooLong, Malformed}
-use Rattle.nf_outside.specs.Files.{Wanted, Visit, visit, FetchedNone, FetchedAll, FetchedTo, Failed, HasTooMany}
-use Rattle.nf_outside.specs.Fetching.{NetworkReads}
-use Rattle.nf_outside.specs.Sinks.{Took, took_of}
-use Rattle.nf_outside.specs.Shown.{IsShown}
-use Rattle.nf_command_line.specs.Requests.{Request, request_of}
+use Rattle.nf_net_def.specs.Named.{Named}
+use Rattle.nf_net_def.specs.NetLines.{Broken}
+use Rattle.nf_net_def.specs.WellNamed.{IsNamed}
+use Rattle.nf_app_answers.specs.declared.status.Status.{Status}
+use Rattle.nf_app_answers.specs.Answers.{ProgramAnswer, NoMemory, NoRequest, ShelfFailed, ShelfTooLong, Malformed}
+use Rattle.nf_app_files.specs.Files.{Wanted, Visit, visit, FetchedNone, FetchedAll, FetchedTo, Failed, HasTooMany}
+use Rattle.nf_app_files.specs.Fetching.{NetworkReads}
+use Rattle.nf_app_files.specs.Sinks.{Took, took_of}
+use Rattle.nf_app_files.specs.Shown.{IsShown}
+use Rattle.nf_app_words.specs.Requests.{Request, request_of}
 use Rattle.nf_app.specs.Requests.{files_of, generated_by, OtherIsText}
 use Rattle.nf_app.specs.Given.{IsGiven}
 

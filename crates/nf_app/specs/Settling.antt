@@ -2,21 +2,21 @@
 use Rattle.std.specs.Prelude.{◌≡◌, List, Option, Some, None, IsOk, Result, Ok, Err}
 use Rattle.nf_rational.specs.Rational.{ℚ}
 use Rattle.nf_rational.specs.Operations.{0ℚ}
-use Rattle.nf_work.specs.Passing.{passes_Q}
-use Rattle.nf_work.specs.Checked.{at_part, placed}
-use Rattle.nf_work.specs.declared.Part.TheVariants.{Slack, Verdict}
-use Rattle.nf_work.specs.declared.Passed.{Passed}
-use Rattle.nf_work.specs.declared.PassedAt.{PassedAt}
-use Rattle.nf_work.specs.declared.Halt.{Halt}
+use Rattle.nf_frac_def.specs.Passing.{passes_Q}
+use Rattle.nf_frac_def.specs.Checked.{at_part, placed}
+use Rattle.nf_frac_def.specs.declared.Part.TheVariants.{Slack, Verdict}
+use Rattle.nf_frac_def.specs.declared.Passed.{Passed}
+use Rattle.nf_frac_def.specs.declared.PassedAt.{PassedAt}
+use Rattle.nf_frac_def.specs.declared.Halt.{Halt}
 use Rattle.nf_model.specs.Network.{Network, hops, rate_at}
 use Rattle.nf_model.specs.ThinFlow.{Sets, sets_at, IsThinFlow}
 use Rattle.nf_model.specs.Pattern.{Pattern, IsListedIn, IsSolution}
 use Rattle.nf_model.specs.Phases.{AreStartLabels}
-use Rattle.nf_lists.specs.Slack.{slack_list}
-use Rattle.nf_complete_lists.specs.Cancelling.{Settles}
-use Rattle.nf_complete_lists.specs.SettledPattern.{IsSettledPattern}
-use Rattle.nf_complete_lists.specs.ThinList.{thin_list}
-use Rattle.nf_complete_lists.specs.FlowsFile.{GivenFlows}
+use Rattle.nf_thin_def.specs.Slack.{slack_list}
+use Rattle.nf_complete_def.specs.Cancelling.{Settles}
+use Rattle.nf_complete_def.specs.SettledPattern.{IsSettledPattern}
+use Rattle.nf_complete_def.specs.ThinList.{thin_list}
+use Rattle.nf_complete_def.specs.FlowsFile.{GivenFlows}
 use Rattle.nf_complete.specs.declared.settled.Settled.{Settled}
 
 -- ---- flows and slopes at labels of departure 0: for the sets of their slacks, and the rate then

@@ -1,18 +1,18 @@
 -- The headline: what a call of `solve` with a known network file writes.
 use Rattle.std.specs.Prelude.{◌≡◌, ◌≢◌, ◌↔◌, ℕ, ◌≤◌, List, length, Some, Ok}
 use Rattle.nf_rational.specs.Rational.{ℚ}
-use Rattle.nf_work.specs.Passing.{passes_Q}
+use Rattle.nf_frac_def.specs.Passing.{passes_Q}
 use Rattle.nf_model.specs.Equilibrium.{Equilibrium}
-use Rattle.nf_formats.specs.Named.{Named}
-use Rattle.nf_formats.specs.NetFile.{Reads}
-use Rattle.nf_formats.specs.Report.{Report, IsWellFormed, report_text}
-use Rattle.nf_lists.specs.PhaseRun.{Bounds, IsRunReport}
-use Rattle.nf_run_text_laws.specs.ReadableLaws.{ReadsBack}
-use Rattle.nf_answers.specs.declared.status.Status.{Status}
-use Rattle.nf_answers.specs.Answers.{status_of_stop}
-use Rattle.nf_outside.specs.Files.{network_limit}
-use Rattle.nf_outside.specs.Sinks.{TookAll}
-use Rattle.nf_command_line.specs.Requests.{Solve}
+use Rattle.nf_net_def.specs.Named.{Named}
+use Rattle.nf_net_def.specs.NetFile.{Reads}
+use Rattle.nf_net_def.specs.Report.{Report, IsWellFormed, report_text}
+use Rattle.nf_thin_def.specs.PhaseRun.{Bounds, IsRunReport}
+use Rattle.nf_report_run_laws.specs.ReadableLaws.{ReadsBack}
+use Rattle.nf_app_answers.specs.declared.status.Status.{Status}
+use Rattle.nf_app_answers.specs.Answers.{status_of_stop}
+use Rattle.nf_app_files.specs.Files.{network_limit}
+use Rattle.nf_app_files.specs.Sinks.{TookAll}
+use Rattle.nf_app_words.specs.Requests.{Solve}
 use Rattle.nf_app.specs.Requests.{bounds_to}
 use Rattle.nf_app.specs.Runs.{Call, Run, Asks}
 

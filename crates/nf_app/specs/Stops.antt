@@ -1,11 +1,11 @@
 -- No run that an answer tells of stopped since no pattern was left.
 use Rattle.std.specs.Prelude.{◌≡◌, Option, Some, None}
 use Rattle.nf_rational.specs.Rational.{ℚ}
-use Rattle.nf_formats.specs.declared.Cause.{Cause}
+use Rattle.nf_net_def.specs.declared.Cause.{Cause}
 use Rattle.nf_unstopped_laws.specs.Stops.{NeverNoPattern}
-use Rattle.nf_answers.specs.declared.arrival.Arrival.{Arrival}
-use Rattle.nf_answers.specs.declared.status.Status.{Status}
-use Rattle.nf_answers.specs.Answers.{ProgramAnswer, Solved, SolvedForever, Quickest, Generated}
+use Rattle.nf_app_answers.specs.declared.arrival.Arrival.{Arrival}
+use Rattle.nf_app_answers.specs.declared.status.Status.{Status}
+use Rattle.nf_app_answers.specs.Answers.{ProgramAnswer, Solved, SolvedForever, Quickest, Generated}
 use Rattle.nf_app.specs.Runs.{Run, IsAnswer}
 
 -- the cause that stopped the run to the departure, if one did

@@ -1,12 +1,12 @@
 -- The answer of words and of the known bytes of files alone. It speaks of nothing that was fetched, written or failed.
 use Rattle.std.specs.Prelude.{◌≡◌, ℕ, ◌≤◌, List, length, Option, Some, None, IfSome, IsSome, Result, Ok, Err}
 use Rattle.std.specs.List.{All}
-use Rattle.nf_formats.specs.Named.{Named}
-use Rattle.nf_formats.specs.NetLines.{Broken}
-use Rattle.nf_formats.specs.NetFile.{Reads}
-use Rattle.nf_outside.specs.Files.{Wanted}
-use Rattle.nf_command_line.specs.Requests.{Request, request_of}
-use Rattle.nf_answers.specs.Answers.{ProgramAnswer, NoRequest, ShelfTooLong, Malformed}
+use Rattle.nf_net_def.specs.Named.{Named}
+use Rattle.nf_net_def.specs.NetLines.{Broken}
+use Rattle.nf_net_def.specs.NetFile.{Reads}
+use Rattle.nf_app_files.specs.Files.{Wanted}
+use Rattle.nf_app_words.specs.Requests.{Request, request_of}
+use Rattle.nf_app_answers.specs.Answers.{ProgramAnswer, NoRequest, ShelfTooLong, Malformed}
 use Rattle.nf_app.specs.Requests.{files_of, first_of, other_of, generated_by}
 use Rattle.nf_app.specs.Given.{IsGiven}
 

@@ -5,18 +5,18 @@ use Rattle.nf_rational.specs.Operations.{0ℚ}
 use Rattle.nf_rational.specs.Order.{◌≤ℚ◌}
 use Rattle.nf_model.specs.Network.{Network}
 use Rattle.nf_model.specs.Equilibrium.{Flow, label, Equilibrium}
-use Rattle.nf_formats.specs.Named.{Named}
-use Rattle.nf_formats.specs.Report.{Report}
-use Rattle.nf_check_lists.specs.declared.Answer.{Answer as Verdict}
-use Rattle.nf_check_lists.specs.declared.Answer.TheVariants.{Yes, No}
-use Rattle.nf_readings.specs.ReportFile.{report_in}
-use Rattle.nf_forever_lists.specs.ForeverRun.{Forever}
-use Rattle.nf_forever_lists.specs.Extended.{flow_until}
-use Rattle.nf_quick_lists.specs.Departures.{IsDeparture}
+use Rattle.nf_net_def.specs.Named.{Named}
+use Rattle.nf_net_def.specs.Report.{Report}
+use Rattle.nf_check_def.specs.declared.Answer.{Answer as Verdict}
+use Rattle.nf_check_def.specs.declared.Answer.TheVariants.{Yes, No}
+use Rattle.nf_report_def.specs.ReportFile.{report_in}
+use Rattle.nf_forever_def.specs.ForeverRun.{Forever}
+use Rattle.nf_forever_def.specs.Extended.{flow_until}
+use Rattle.nf_quick_def.specs.Departures.{IsDeparture}
 use Rattle.nf_unique_laws.specs.UniqueLaws.{SameInAll}
-use Rattle.nf_command_line.specs.Requests.{Request, Check, Quick}
-use Rattle.nf_answers.specs.Answers.{ProgramAnswer, Solved, SolvedForever, Checked, Quickest, Generated}
-use Rattle.nf_answers.specs.declared.arrival.Arrival.{Arrival}
+use Rattle.nf_app_words.specs.Requests.{Request, Check, Quick}
+use Rattle.nf_app_answers.specs.Answers.{ProgramAnswer, Solved, SolvedForever, Checked, Quickest, Generated}
+use Rattle.nf_app_answers.specs.declared.arrival.Arrival.{Arrival}
 use Rattle.nf_app.specs.Runs.{Run, IsComputed}
 
 -- Of a run without a horizon: of the flow up to the departure reached; and with a tail, of the flow up to every departure from 0 on.

@@ -7,8 +7,8 @@ ghost use Rattle.nf_curve.specs.Flows.{flow_of};
 ghost use Rattle.nf_app.specs.Requests.{usual_budgets};
 ghost use Rattle.nf_app.specs.Arrivals.{IsArrival, ArrivesIn};
 
-use nf_answers::Arrival;
-use nf_command_line::{USUAL_PATTERNS, USUAL_PHASES};
+use nf_app_answers::Arrival;
+use nf_app_words::{USUAL_PATTERNS, USUAL_PHASES};
 use nf_curve::{Curve, Flow};
 use nf_frac::Q;
 use nf_net::{Network, NodeId};

@@ -1,21 +1,21 @@
 // Fetching a request's files: its network, and the bytes of its second file.
 ghost use Rattle.std.specs.Prelude.{◌≡◌, ◌≤◌, ℕ, List, [], Some, IfOk, IfErr};
 ghost use Rattle.std.specs.Result.{result_map_both};
-ghost use Rattle.nf_answers.specs.declared.refusal.Refusal.TheVariants as Refusal;
-ghost use Rattle.nf_outside.specs.Files.{visit, network_file};
-ghost use Rattle.nf_outside.specs.Fetching.{AreRead};
+ghost use Rattle.nf_app_answers.specs.declared.refusal.Refusal.TheVariants as Refusal;
+ghost use Rattle.nf_app_files.specs.Files.{visit, network_file};
+ghost use Rattle.nf_app_files.specs.Fetching.{AreRead};
 ghost use Rattle.nf_gen.specs.Ladder.{most_rungs, ladder};
-ghost use Rattle.nf_command_line.specs.Requests.{CanBeAsked, request_of};
-ghost use Rattle.nf_command_line.specs.RequestViews.{requested};
+ghost use Rattle.nf_app_words.specs.Requests.{CanBeAsked, request_of};
+ghost use Rattle.nf_app_words.specs.RequestViews.{requested};
 ghost use Rattle.nf_app.specs.Requests.{OtherFits};
 ghost use Rattle.nf_app.specs.Gathered.{IsGathered};
 
-use nf_answers::Refusal;
-use nf_command_line::Request;
+use nf_app_answers::Refusal;
+use nf_app_files::{fetch_network, fetch_network_with};
+use nf_app_words::Request;
 use nf_edge::Shelf;
 use nf_gen::generated;
 use nf_net::Network;
-use nf_outside::{fetch_network, fetch_network_with};
 use std::alloc::Global;
 
 /// The most bytes that a loads file may have.

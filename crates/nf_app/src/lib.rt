@@ -8,6 +8,6 @@ mod loading;
 mod running;
 mod settling;
 
-pub use nf_answers::Status;
+pub use nf_app_answers::Status;
 pub use nf_gen::generated;
 pub use running::run;

@@ -2,12 +2,12 @@
 ghost use Rattle.std.specs.Prelude.{◌≡◌, length, map, IfOk};
 ghost use Rattle.nf_rational.specs.Operations.{0ℚ};
 ghost use Rattle.nf_rational.specs.Order.{◌≤ℚ◌};
-ghost use Rattle.nf_work.specs.Passing.{passes_Q};
-ghost use Rattle.nf_work.specs.Checked.{at_part, Gives};
-ghost use Rattle.nf_work.specs.declared.Part.TheVariants.{Load};
+ghost use Rattle.nf_frac_def.specs.Passing.{passes_Q};
+ghost use Rattle.nf_frac_def.specs.Checked.{at_part, Gives};
+ghost use Rattle.nf_frac_def.specs.declared.Part.TheVariants.{Load};
 ghost use Rattle.nf_model.specs.Network.{ArePieces};
 ghost use Rattle.nf_model_laws.specs.Capacity.{IsPositive};
-ghost use Rattle.nf_load_lists.specs.Loads.{load_link_list};
+ghost use Rattle.nf_load_def.specs.Loads.{load_link_list};
 ghost use Rattle.nf_load.specs.Loadings.{loaded_of};
 ghost use Rattle.nf_app.specs.Lists.{loading_list};
 

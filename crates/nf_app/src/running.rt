@@ -11,9 +11,9 @@ ghost use Rattle.nf_app.specs.Resumption.{ComputesReportOfOneRun, WritesReportOf
 ghost use Rattle.nf_app.specs.Chained.{SaysYes, ResumesSolvedText};
 
 use crate::answering::answer;
-use nf_answers::{Outcome, Status};
+use nf_app_answers::{Outcome, Status};
+use nf_app_files::{give, refuse};
 use nf_edge::{Shelf, Sink};
-use nf_outside::{give, refuse};
 use std::alloc::Global;
 
 // Frees the outcome in a function of its own: the check of `run` then needn't follow the parts of each kind of outcome.

@@ -1,10 +1,10 @@
 // Settling a thin flow at departure 0.
 ghost use Rattle.std.specs.Prelude.{◌≡◌, length};
-ghost use Rattle.nf_flows_file.specs.Files.{given_of};
+ghost use Rattle.nf_complete_read.specs.Files.{given_of};
 ghost use Rattle.nf_app.specs.Settling.{AreStartSets, SettlesAtStart};
 
 use nf_complete::{Settled, is_thin, settle};
-use nf_flows_file::Flows;
+use nf_complete_read::Flows;
 use nf_frac::{Halt, Q};
 use nf_graph::LinkSets;
 use nf_net::{Network, start_labels};

@@ -5,20 +5,20 @@ use Rattle.std.specs.Prelude.{Result, Ok, Err, IfOk}
 use Rattle.nf_rational.specs.Rational.{ℚ}
 use Rattle.nf_rational.specs.Operations.{0ℚ}
 use Rattle.nf_rational.specs.Order.{◌≤ℚ◌}
-use Rattle.nf_work.specs.Passing.{Passing}
-use Rattle.nf_work.specs.declared.Halt.{Halt}
-use Rattle.nf_work.specs.declared.PassedAt.{PassedAt}
-use Rattle.nf_work.specs.Checked.{Gives}
+use Rattle.nf_frac_def.specs.Passing.{Passing}
+use Rattle.nf_frac_def.specs.declared.Halt.{Halt}
+use Rattle.nf_frac_def.specs.declared.PassedAt.{PassedAt}
+use Rattle.nf_frac_def.specs.Checked.{Gives}
 use Rattle.nf_model.specs.Curve.{IsCurve}
 use Rattle.nf_model.specs.Network.{Network, IsNetwork}
 use Rattle.nf_model.specs.Equilibrium.{Flow, AreCurves, points_at, points_of}
 use Rattle.nf_model.specs.Equilibrium as model
-use Rattle.nf_formats.specs.Report.{HaveRates}
-use Rattle.nf_check_lists.specs.declared.Answer.{Answer}
-use Rattle.nf_check_lists.specs.declared.Answer.TheVariants.{Yes, No}
-use Rattle.nf_check_lists.specs.Rules.{Checks}
-use Rattle.nf_check_lists.specs.Trial.{Trial, Passes, Breaks, answer_of}
-use Rattle.nf_check_lists.specs.CheckList.{trial, check_list}
+use Rattle.nf_net_def.specs.Report.{HaveRates}
+use Rattle.nf_check_def.specs.declared.Answer.{Answer}
+use Rattle.nf_check_def.specs.declared.Answer.TheVariants.{Yes, No}
+use Rattle.nf_check_def.specs.Rules.{Checks}
+use Rattle.nf_check_def.specs.Trial.{Trial, Passes, Breaks, answer_of}
+use Rattle.nf_check_def.specs.CheckList.{trial, check_list}
 use Rattle.nf_check_laws.specs.Laws.{CanBeChecked}
 use Rattle.nf_check_laws.proofs.Holding.{Equilibrium-holding, AllHold-equilibrium}
 use Rattle.nf_check_laws.proofs.Broken.{not-broken}

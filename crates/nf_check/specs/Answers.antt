@@ -3,8 +3,8 @@ use Rattle.std.specs.Prelude.{◌≢◌, ℕ}
 use Rattle.nf_rational.specs.Rational.{ℚ}
 use Rattle.nf_model.specs.Network.{Network}
 use Rattle.nf_model.specs.Equilibrium.{Flow, Equilibrium}
-use Rattle.nf_check_lists.specs.declared.Answer.{Answer}
-use Rattle.nf_check_lists.specs.declared.Answer.TheVariants.{Yes, No}
+use Rattle.nf_check_def.specs.declared.Answer.{Answer}
+use Rattle.nf_check_def.specs.declared.Answer.TheVariants.{Yes, No}
 
 -- `Yes` implies an equilibrium; `No` implies that there is none, and that the two values differ
 abbrev pub IsExact : Network → Flow → Answer ℕ ℕ ℚ → Type 0

@@ -1,11 +1,11 @@
 // The answer of a check.
 ghost use Rattle.std.specs.Prelude.{◌≡◌};
-ghost use Rattle.nf_work.specs.Checked.{Gives};
-ghost use Rattle.nf_check_lists.specs.declared.Answer.TheVariants.{No};
-ghost use Rattle.nf_check_lists.specs.Trial.{Trial, answer_of as answer_by};
+ghost use Rattle.nf_frac_def.specs.Checked.{Gives};
+ghost use Rattle.nf_check_def.specs.declared.Answer.TheVariants.{No};
+ghost use Rattle.nf_check_def.specs.Trial.{Trial, answer_of as answer_by};
 ghost use Rattle.nf_check_rules.specs.Trials.{Tries};
 
-use nf_check_lists::CheckRule;
+use nf_check_def::CheckRule;
 use nf_check_rules::{Ended, Subject};
 use nf_curve::Difference;
 use nf_frac::{Halt, Q};
@@ -13,7 +13,7 @@ use nf_graph::{LinkId, NodeId};
 
 /// The answer of a check: the flow is an equilibrium, or it breaks a rule. `No` holds the first broken rule, the node or link, the time,
 /// and two different values.
-pub type Answer = nf_check_lists::Answer<NodeId, LinkId, Q>;
+pub type Answer = nf_check_def::Answer<NodeId, LinkId, Q>;
 
 // Returns `No` with the two values that differ.
 fn no(rule: CheckRule, subject: Subject, sides: Difference) -> Answer

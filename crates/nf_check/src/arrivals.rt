@@ -2,18 +2,18 @@
 ghost use Rattle.std.specs.Prelude.{◌≡◌, ◌<◌, IfOk, OnOk};
 ghost use Rattle.nf_rational.specs.Operations.{0ℚ};
 ghost use Rattle.nf_rational.specs.Order.{◌≤ℚ◌};
-ghost use Rattle.nf_work.specs.Passing.{passes_Q};
-ghost use Rattle.nf_work.specs.Checked.{each};
-ghost use Rattle.nf_check_lists.specs.Rules.{nodes_but};
-ghost use Rattle.nf_check_lists.specs.Curves.{departures as departures_by};
-ghost use Rattle.nf_check_lists.specs.CheckList.{arrivals};
+ghost use Rattle.nf_frac_def.specs.Passing.{passes_Q};
+ghost use Rattle.nf_frac_def.specs.Checked.{each};
+ghost use Rattle.nf_check_def.specs.Rules.{nodes_but};
+ghost use Rattle.nf_check_def.specs.Curves.{departures as departures_by};
+ghost use Rattle.nf_check_def.specs.CheckList.{arrivals};
 ghost use Rattle.nf_curve.specs.Flows.{flow_of};
 ghost use Rattle.nf_check_rules.specs.Exits.{AreKept};
 ghost use Rattle.nf_check_rules.specs.Kept.{IsWorked, labels_in, loaded_in};
 ghost use Rattle.nf_check_rules.specs.Steps.{arrivals_list};
 ghost use Rattle.nf_check_rules.specs.Trials.{Tries, done};
 
-use nf_check_lists::CheckRule;
+use nf_check_def::CheckRule;
 use nf_check_rules::{Ended, Exits, Subject, Worked, compare, curve_at, least_exits};
 use nf_curve::{Curve, Flow};
 use nf_frac::Q;

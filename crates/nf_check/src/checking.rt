@@ -2,13 +2,13 @@
 ghost use Rattle.std.specs.Prelude.{◌≡◌, ◌<◌, ℕ, length, map, IfOk};
 ghost use Rattle.nf_rational.specs.Operations.{0ℚ};
 ghost use Rattle.nf_rational.specs.Order.{◌≤ℚ◌};
-ghost use Rattle.nf_work.specs.Passing.{passes_Q};
-ghost use Rattle.nf_work.specs.Checked.{Gives};
+ghost use Rattle.nf_frac_def.specs.Passing.{passes_Q};
+ghost use Rattle.nf_frac_def.specs.Checked.{Gives};
 ghost use Rattle.nf_model.specs.Curve.{IsCurve};
 ghost use Rattle.nf_model.specs.Equilibrium.{points_at, points_of};
-ghost use Rattle.nf_formats.specs.Report.{HaveRates};
-ghost use Rattle.nf_check_lists.specs.Rules.{Checks};
-ghost use Rattle.nf_check_lists.specs.CheckList.{trial, check_list};
+ghost use Rattle.nf_net_def.specs.Report.{HaveRates};
+ghost use Rattle.nf_check_def.specs.Rules.{Checks};
+ghost use Rattle.nf_check_def.specs.CheckList.{trial, check_list};
 ghost use Rattle.nf_curve.specs.Flows.{trace_of, flow_of};
 ghost use Rattle.nf_check.specs.Answers.{IsExact};
 ghost use Rattle.nf_check.specs.Given.{IsGivenFlow};

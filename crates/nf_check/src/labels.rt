@@ -2,17 +2,17 @@
 ghost use Rattle.std.specs.Prelude.{◌≡◌, ◌<◌, length, option_map};
 ghost use Rattle.nf_rational.specs.Operations.{0ℚ};
 ghost use Rattle.nf_rational.specs.Order.{◌≤ℚ◌};
-ghost use Rattle.nf_work.specs.Passing.{passes_Q};
-ghost use Rattle.nf_work.specs.Checked.{each};
-ghost use Rattle.nf_check_lists.specs.PointRules.{negative_point as negative_by};
-ghost use Rattle.nf_check_lists.specs.Rules.{all_nodes};
-ghost use Rattle.nf_check_lists.specs.CheckList.{label_cut};
+ghost use Rattle.nf_frac_def.specs.Passing.{passes_Q};
+ghost use Rattle.nf_frac_def.specs.Checked.{each};
+ghost use Rattle.nf_check_def.specs.PointRules.{negative_point as negative_by};
+ghost use Rattle.nf_check_def.specs.Rules.{all_nodes};
+ghost use Rattle.nf_check_def.specs.CheckList.{label_cut};
 ghost use Rattle.nf_curve.specs.Differences.{difference_of};
 ghost use Rattle.nf_curve.specs.Flows.{flow_of};
 ghost use Rattle.nf_check_rules.specs.Kept.{curves_of};
 ghost use Rattle.nf_check_rules.specs.Trials.{Tries};
 
-use nf_check_lists::CheckRule;
+use nf_check_def::CheckRule;
 use nf_check_rules::{Ended, Subject, curve_at, unless};
 use nf_curve::{Curve, Difference, Flow};
 use nf_frac::{Part, Q};

@@ -9,5 +9,5 @@ mod labels;
 
 pub use answer::Answer;
 pub use checking::check;
-pub use nf_check_lists::CheckRule;
+pub use nf_check_def::CheckRule;
 pub use nf_check_rules::Subject;

@@ -2,16 +2,16 @@
 use Rattle.std.proofs.Common.{◌≡◌, ℕ, List, Bool, true, false, not, refl, sym, ap, ◌∙◌}
 use Rattle.std.specs.Prelude.{◌==◌, if◌then◌else◌, Option, Ok}
 use Rattle.nf_rational.specs.Rational.{ℚ}
-use Rattle.nf_work.specs.Passing.{Passing}
-use Rattle.nf_work.specs.declared.Halt.{Halt}
-use Rattle.nf_work.specs.declared.Part.TheVariants.{Check}
-use Rattle.nf_work.specs.Checked.{Checked, Stops, at_part, ◌>>=◌}
+use Rattle.nf_frac_def.specs.Passing.{Passing}
+use Rattle.nf_frac_def.specs.declared.Halt.{Halt}
+use Rattle.nf_frac_def.specs.declared.Part.TheVariants.{Check}
+use Rattle.nf_frac_def.specs.Checked.{Checked, Stops, at_part, ◌>>=◌}
 use Rattle.nf_model.specs.Curve.{Point}
 use Rattle.nf_model.specs.Network.{Link}
 use Rattle.nf_model.specs.Equilibrium.{points_at}
-use Rattle.nf_load_lists.specs.Loading.{Loaded}
-use Rattle.nf_curve_lists.specs.Composed.{checked_composed}
-use Rattle.nf_check_lists.specs.Curves.{loaded_at, least_so_far, with_exit}
+use Rattle.nf_load_def.specs.Loading.{Loaded}
+use Rattle.nf_curve_def.specs.Composed.{checked_composed}
+use Rattle.nf_check_def.specs.Curves.{loaded_at, least_so_far, with_exit}
 use Rattle.nf_curve.proofs.Exits.{after_err, after_ok, stops_on}
 
 same_not : (a b : Bool) → not a ≡ not b → a ≡ b

@@ -5,9 +5,9 @@ use Rattle.std.proofs.lemmas.Option.{slice_get_read, slice_get-map}
 use Rattle.nf_model.specs.Curve.{Point, IsCurve}
 use Rattle.nf_model.specs.Equilibrium as model
 use Rattle.nf_model.specs.Equilibrium.{points_at, points_of}
-use Rattle.nf_load_lists.specs.Loading as lists
-use Rattle.nf_check_lists.specs.Curves.{loaded_at}
-use Rattle.nf_check_lists.specs.CheckList as lists_of_check
+use Rattle.nf_load_def.specs.Loading as lists
+use Rattle.nf_check_def.specs.Curves.{loaded_at}
+use Rattle.nf_check_def.specs.CheckList as lists_of_check
 use Rattle.nf_curve.specs.Points.{Grown}
 use Rattle.nf_curve.specs.Flows.{trace_of}
 use Rattle.nf_curve.specs.declared.flow.Trace.{Trace}

@@ -3,10 +3,10 @@ use Rattle.std.proofs.Common.{◌≡◌, ℕ, ◌+◌, ◌≤◌, List, ◌∷�
 use Rattle.std.specs.Prelude.{Ok}
 use Rattle.std.specs.List.{enumerate_from}
 use Rattle.nf_rational.specs.Rational.{ℚ}
-use Rattle.nf_work.specs.declared.Halt.{Halt}
-use Rattle.nf_work.specs.declared.Part.TheVariants.{Check}
-use Rattle.nf_work.specs.Checked.{Checked, Stops, at_part, fold_checked}
-use Rattle.nf_work.proofs.Each.{fold_ok}
+use Rattle.nf_frac_def.specs.declared.Halt.{Halt}
+use Rattle.nf_frac_def.specs.declared.Part.TheVariants.{Check}
+use Rattle.nf_frac_def.specs.Checked.{Checked, Stops, at_part, fold_checked}
+use Rattle.nf_frac_def.proofs.Each.{fold_ok}
 use Rattle.nf_curve.proofs.Exits.{after_err, was_ok, stops_on}
 use Rattle.nf_check_rules.proofs.Looping.{links_next, links_last}
 

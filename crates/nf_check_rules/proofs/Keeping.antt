@@ -3,24 +3,24 @@ use Rattle.std.proofs.Common.{◌≡◌, ℕ, zero, suc, List, [], ◌∷◌, le
 use Rattle.std.specs.Prelude.{Ok, IfSome}
 use Rattle.std.proofs.lemmas.List.{length-set, length-replicate}
 use Rattle.nf_rational.specs.Rational.{ℚ}
-use Rattle.nf_work.specs.Passing.{Passing, passes_Q}
-use Rattle.nf_work.specs.declared.Halt.{Halt}
-use Rattle.nf_work.specs.Checked.{Checked, Stops, at_part, ◌>>=◌}
-use Rattle.nf_work.specs.declared.Part.TheVariants.{Check}
-use Rattle.nf_work.proofs.Binding.{bind_ok}
+use Rattle.nf_frac_def.specs.Passing.{Passing, passes_Q}
+use Rattle.nf_frac_def.specs.declared.Halt.{Halt}
+use Rattle.nf_frac_def.specs.Checked.{Checked, Stops, at_part, ◌>>=◌}
+use Rattle.nf_frac_def.specs.declared.Part.TheVariants.{Check}
+use Rattle.nf_frac_def.proofs.Binding.{bind_ok}
 use Rattle.nf_model.specs.Curve.{Point}
 use Rattle.nf_model.specs.Network.{Link, Network, IsLink}
 use Rattle.nf_model.specs.Equilibrium.{Flow, points_at, points_of}
-use Rattle.nf_load_lists.specs.Loading.{Loaded}
-use Rattle.nf_curve_lists.specs.Lines.{Sides}
-use Rattle.nf_curve_lists.specs.Composed.{checked_composed}
-use Rattle.nf_curve_lists.specs.Short.{checked_short}
-use Rattle.nf_check_lists.specs.Curves.{loaded_at}
-use Rattle.nf_check_lists.specs.Routes.{detour_list}
-use Rattle.nf_check_lists.specs.CheckList.{route}
-use Rattle.nf_check_lists.specs.declared.CheckRule.TheVariants.{C8}
-use Rattle.nf_check_lists.specs.declared.Subject.TheVariants.{Link as OfLink}
-use Rattle.nf_check_lists.specs.Trial.{in_part, unless}
+use Rattle.nf_load_def.specs.Loading.{Loaded}
+use Rattle.nf_curve_def.specs.Lines.{Sides}
+use Rattle.nf_curve_def.specs.Composed.{checked_composed}
+use Rattle.nf_curve_def.specs.Short.{checked_short}
+use Rattle.nf_check_def.specs.Curves.{loaded_at}
+use Rattle.nf_check_def.specs.Routes.{detour_list}
+use Rattle.nf_check_def.specs.CheckList.{route}
+use Rattle.nf_check_def.specs.declared.CheckRule.TheVariants.{C8}
+use Rattle.nf_check_def.specs.declared.Subject.TheVariants.{Link as OfLink}
+use Rattle.nf_check_def.specs.Trial.{in_part, unless}
 use Rattle.nf_curve.specs.Points.{Grown}
 use Rattle.nf_curve.proofs.Exits.{was_ok}
 use Rattle.nf_check_rules.specs.declared.exits.Exits.{Exits}

@@ -6,23 +6,23 @@ use Rattle.std.specs.List.{enumerate_from, range_with_len}
 use Rattle.nf_rational.specs.Rational.{ℚ}
 use Rattle.nf_rational.specs.Operations.{0ℚ}
 use Rattle.nf_rational.specs.Order.{◌≤ℚ◌}
-use Rattle.nf_work.specs.Passing.{Passing}
-use Rattle.nf_work.specs.Checked.{Checked, each, ◌>>=◌}
-use Rattle.nf_work.specs.declared.Part.TheVariants.{Check}
+use Rattle.nf_frac_def.specs.Passing.{Passing}
+use Rattle.nf_frac_def.specs.Checked.{Checked, each, ◌>>=◌}
+use Rattle.nf_frac_def.specs.declared.Part.TheVariants.{Check}
 use Rattle.nf_model.specs.Curve.{Point, value, IsCurve}
 use Rattle.nf_model.specs.Network.{Network}
 use Rattle.nf_model.specs.Equilibrium.{Flow, points_at, points_of}
-use Rattle.nf_curve_lists.specs.Lines.{Sides}
-use Rattle.nf_curve_lists.specs.Values.{checked_cut}
+use Rattle.nf_curve_def.specs.Lines.{Sides}
+use Rattle.nf_curve_def.specs.Values.{checked_cut}
 use Rattle.nf_curve_laws.proofs.Values.{checked_cut-exact}
-use Rattle.nf_check_lists.specs.declared.CheckRule.{CheckRule}
-use Rattle.nf_check_lists.specs.declared.CheckRule.TheVariants.{C1}
-use Rattle.nf_check_lists.specs.declared.Subject.{Subject}
-use Rattle.nf_check_lists.specs.declared.Subject.TheVariants.{Node, Link as OfLink}
-use Rattle.nf_check_lists.specs.Rules.{Inflow, Holds, all_nodes, all_links}
-use Rattle.nf_check_lists.specs.Trial.{Trial, in_part, unless}
-use Rattle.nf_check_lists.specs.PointRules.{negative_point, inflow_fault}
-use Rattle.nf_check_lists.specs.CheckList.{label_cut, inflow_rule, loading}
+use Rattle.nf_check_def.specs.declared.CheckRule.{CheckRule}
+use Rattle.nf_check_def.specs.declared.CheckRule.TheVariants.{C1}
+use Rattle.nf_check_def.specs.declared.Subject.{Subject}
+use Rattle.nf_check_def.specs.declared.Subject.TheVariants.{Node, Link as OfLink}
+use Rattle.nf_check_def.specs.Rules.{Inflow, Holds, all_nodes, all_links}
+use Rattle.nf_check_def.specs.Trial.{Trial, in_part, unless}
+use Rattle.nf_check_def.specs.PointRules.{negative_point, inflow_fault}
+use Rattle.nf_check_def.specs.CheckList.{label_cut, inflow_rule, loading}
 use Rattle.nf_check_laws.specs.Laws.{CanBeChecked}
 use Rattle.nf_check_laws.proofs.Points.{IsLabel, cut_of, label-cut, negative-none, decides-inflow, value_from_all}
 use Rattle.nf_curve.specs.Points.{Grown}

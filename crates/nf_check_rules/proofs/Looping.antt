@@ -5,9 +5,9 @@ use Rattle.std.specs.List.{enumerate_from, range_with_len}
 use Rattle.std.proofs.lemmas.Bool.{eqb-true, eqb-false}
 use Rattle.std.proofs.lemmas.List.{drop_more, drop_all}
 use Rattle.std.proofs.lemmas.Option.{slice_get_within, get_or_from_slice_get}
-use Rattle.nf_work.specs.Checked.{each, ◌>>=◌}
-use Rattle.nf_work.proofs.Each.{with_front, each_ok}
-use Rattle.nf_check_lists.specs.Trial.{Trial}
+use Rattle.nf_frac_def.specs.Checked.{each, ◌>>=◌}
+use Rattle.nf_frac_def.proofs.Each.{with_front, each_ok}
+use Rattle.nf_check_def.specs.Trial.{Trial}
 use Rattle.nf_check_rules.specs.declared.ended.Ended.{Ended}
 use Rattle.nf_check_rules.specs.Trials.{EndsAs, done}
 use Rattle.nf_check_rules.proofs.Trying.{ends, ends_as, done_ends}

@@ -13,9 +13,9 @@ use Rattle.nf_rational_laws.proofs.Chains.{≤ℚ_trans}
 use Rattle.nf_rational_laws.proofs.Extremes.{min_is_left, min_is_right}
 use Rattle.nf_frac.proofs.Comparisons.{lt-cmp, gt-cmp, lesser_is_first, lesser_is_second}
 use Rattle.nf_model.specs.Curve.{Point, TimesRise, IsCurve}
-use Rattle.nf_curve_lists.specs.Times.{merged, merged_from, times_of}
+use Rattle.nf_curve_def.specs.Times.{merged, merged_from, times_of}
 use Rattle.nf_curve_laws.proofs.Times.{merged_from-cases}
-use Rattle.nf_check_lists.specs.Routes.{three_times}
+use Rattle.nf_check_def.specs.Routes.{three_times}
 use Rattle.nf_check_rules.specs.Sent.{moved_on}
 use Rattle.nf_check_rules.proofs.PointByPoint.{drop_one, drop_none}
 

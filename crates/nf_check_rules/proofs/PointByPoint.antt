@@ -7,22 +7,22 @@ use Rattle.nf_rational.specs.Operations.{0ℚ}
 use Rattle.nf_rational.specs.Order.{◌≤ℚ◌, ◌<ℚ◌, lt_ℚ, max_ℚ}
 use Rattle.nf_rational_laws.proofs.Order.{≤ℚ_antisymm}
 use Rattle.nf_rational_laws.proofs.Tests.{lt_ℚ_cases}
-use Rattle.nf_work.specs.Passing.{Passing}
-use Rattle.nf_work.specs.Checked.{at_part, ◌>>=◌}
-use Rattle.nf_work.specs.declared.Part.TheVariants.{Check}
-use Rattle.nf_work.specs.declared.PassedAt.{PassedAt}
+use Rattle.nf_frac_def.specs.Passing.{Passing}
+use Rattle.nf_frac_def.specs.Checked.{at_part, ◌>>=◌}
+use Rattle.nf_frac_def.specs.declared.Part.TheVariants.{Check}
+use Rattle.nf_frac_def.specs.declared.PassedAt.{PassedAt}
 use Rattle.nf_model.specs.Curve.{Point, IsCurve}
-use Rattle.nf_curve_lists.specs.Lines.{checked_slope}
+use Rattle.nf_curve_def.specs.Lines.{checked_slope}
 use Rattle.nf_curve.proofs.Placing.{rise-pairs, curve-rises}
 use Rattle.nf_curve.proofs.Shortening.{drop-at}
-use Rattle.nf_check_lists.specs.declared.CheckRule.TheVariants.{C2}
-use Rattle.nf_check_lists.specs.declared.Subject.{Subject}
-use Rattle.nf_check_lists.specs.Trial.{Passes, in_part, unless}
-use Rattle.nf_check_lists.specs.PointRules.{negative_point, falling_from, if_other, rates_from, rates_list}
-use Rattle.nf_check_lists.specs.Curves.{greatest_value, last_value}
+use Rattle.nf_check_def.specs.declared.CheckRule.TheVariants.{C2}
+use Rattle.nf_check_def.specs.declared.Subject.{Subject}
+use Rattle.nf_check_def.specs.Trial.{Passes, in_part, unless}
+use Rattle.nf_check_def.specs.PointRules.{negative_point, falling_from, if_other, rates_from, rates_list}
+use Rattle.nf_check_def.specs.Curves.{greatest_value, last_value}
 use Rattle.nf_model.specs.Network.{Network}
 use Rattle.nf_model.specs.Equilibrium.{Flow}
-use Rattle.nf_check_lists.specs.CheckList as lists_of_check
+use Rattle.nf_check_def.specs.CheckList as lists_of_check
 use Rattle.nf_check_rules.specs.declared.ended.Ended.{Ended}
 use Rattle.nf_check_rules.specs.Points.{first_fall, first_value}
 use Rattle.nf_check_rules.specs.Trials.{EndsAs}

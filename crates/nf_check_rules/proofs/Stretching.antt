@@ -9,21 +9,21 @@ use Rattle.nf_rational_laws.proofs.Polynomial.{reading_of}
 use Rattle.nf_rational_laws.proofs.Linear.{le, eq, linear_le, linear_eq, linear_false}
 use Rattle.nf_rational_laws.proofs.Quotient.{/ℚ-times}
 use Rattle.nf_frac.specs.Parts.{IsWithin, IsMade}
-use Rattle.nf_work.specs.Passing.{bound_of}
+use Rattle.nf_frac_def.specs.Passing.{bound_of}
 use Rattle.nf_curve_laws.proofs.Operations.{checked-is, then_ok}
-use Rattle.nf_work.specs.Passing.{Passing, passes_Q}
-use Rattle.nf_work.specs.Checked.{Checked, checked, at_part, ◌>>=◌}
-use Rattle.nf_work.specs.declared.Op.TheVariants.{Sum, Quotient}
-use Rattle.nf_work.specs.declared.Part.TheVariants.{Check}
-use Rattle.nf_work.specs.declared.PassedAt.{PassedAt}
+use Rattle.nf_frac_def.specs.Passing.{Passing, passes_Q}
+use Rattle.nf_frac_def.specs.Checked.{Checked, checked, at_part, ◌>>=◌}
+use Rattle.nf_frac_def.specs.declared.Op.TheVariants.{Sum, Quotient}
+use Rattle.nf_frac_def.specs.declared.Part.TheVariants.{Check}
+use Rattle.nf_frac_def.specs.declared.PassedAt.{PassedAt}
 use Rattle.nf_model.specs.Curve.{Point}
-use Rattle.nf_curve_lists.specs.Lines.{Sides}
-use Rattle.nf_curve_lists.specs.Values.{checked_value}
-use Rattle.nf_curve_lists.specs.Sums.{sides_at}
-use Rattle.nf_curve_lists.specs.Short.{checked_short}
-use Rattle.nf_curve_lists.specs.Composed.{checked_composed}
+use Rattle.nf_curve_def.specs.Lines.{Sides}
+use Rattle.nf_curve_def.specs.Values.{checked_value}
+use Rattle.nf_curve_def.specs.Sums.{sides_at}
+use Rattle.nf_curve_def.specs.Short.{checked_short}
+use Rattle.nf_curve_def.specs.Composed.{checked_composed}
 use Rattle.nf_curve.proofs.Exits.{after_err, after_ok, was_ok}
-use Rattle.nf_check_lists.specs.Routes.{three_times, checked_middle, on_rising, on_stretch, or_later, stretches_from, all_stretches, detour_list}
+use Rattle.nf_check_def.specs.Routes.{three_times, checked_middle, on_rising, on_stretch, or_later, stretches_from, all_stretches, detour_list}
 use Rattle.nf_curve.specs.Differences.{difference_of}
 use Rattle.nf_curve.specs.declared.curve.Difference.{Difference}
 use Rattle.nf_check_rules.specs.Sent.{sent_list}

@@ -2,23 +2,23 @@
 use Rattle.std.proofs.Common.{◌≡◌, ℕ, List, refl, sym, ap, ◌∙◌}
 use Rattle.std.specs.Prelude.{Ok, Err}
 use Rattle.std.specs.List.{enumerate_from}
-use Rattle.nf_work.specs.Passing.{Passing}
-use Rattle.nf_work.specs.Checked.{each, ◌>>=◌}
-use Rattle.nf_work.specs.declared.Part.TheVariants.{Load, Check}
+use Rattle.nf_frac_def.specs.Passing.{Passing}
+use Rattle.nf_frac_def.specs.Checked.{each, ◌>>=◌}
+use Rattle.nf_frac_def.specs.declared.Part.TheVariants.{Load, Check}
 use Rattle.nf_rational.specs.Rational.{ℚ}
 use Rattle.nf_model.specs.Curve.{Point}
-use Rattle.nf_curve_lists.specs.Sums.{checked_sum}
-use Rattle.nf_curve_lists.specs.Composed.{checked_composed}
-use Rattle.nf_load_lists.specs.Loading.{Loaded}
+use Rattle.nf_curve_def.specs.Sums.{checked_sum}
+use Rattle.nf_curve_def.specs.Composed.{checked_composed}
+use Rattle.nf_load_def.specs.Loading.{Loaded}
 use Rattle.nf_model.specs.Network.{Network}
 use Rattle.nf_model.specs.Equilibrium.{Flow, points_at, points_of}
-use Rattle.nf_load_lists.specs.Cumulative.{checked_cumulative}
-use Rattle.nf_check_lists.specs.declared.CheckRule.TheVariants.{C3, C7}
-use Rattle.nf_check_lists.specs.declared.Subject.TheVariants.{Node}
-use Rattle.nf_check_lists.specs.Rules.{all_nodes, all_links, nodes_but}
-use Rattle.nf_check_lists.specs.Trial.{Trial, in_part}
-use Rattle.nf_check_lists.specs.Curves.{departures, total_in, total_out}
-use Rattle.nf_check_lists.specs.CheckList.{compared, label_cut, inflow_rule, link_rates, loading, arrivals, outflow_rule, queue_rule, balance, sink_rules, route, trial}
+use Rattle.nf_load_def.specs.Cumulative.{checked_cumulative}
+use Rattle.nf_check_def.specs.declared.CheckRule.TheVariants.{C3, C7}
+use Rattle.nf_check_def.specs.declared.Subject.TheVariants.{Node}
+use Rattle.nf_check_def.specs.Rules.{all_nodes, all_links, nodes_but}
+use Rattle.nf_check_def.specs.Trial.{Trial, in_part}
+use Rattle.nf_check_def.specs.Curves.{departures, total_in, total_out}
+use Rattle.nf_check_def.specs.CheckList.{compared, label_cut, inflow_rule, link_rates, loading, arrivals, outflow_rule, queue_rule, balance, sink_rules, route, trial}
 use Rattle.nf_check_rules.specs.Trials.{done}
 use Rattle.nf_check_rules.proofs.PointByPoint.{first_same}
 use Rattle.nf_check_rules.specs.Points.{first_value}

@@ -2,11 +2,11 @@
 use Rattle.std.proofs.Common.{◌≡◌, refl, sym, ap, subst}
 use Rattle.std.specs.Prelude.{Result, Ok, Err}
 use Rattle.nf_rational.specs.Rational.{ℚ}
-use Rattle.nf_work.specs.declared.Halt.{Halt}
-use Rattle.nf_work.specs.declared.Part.{Part}
-use Rattle.nf_work.specs.declared.PassedAt.{PassedAt}
-use Rattle.nf_work.specs.Checked.{Checked, Stops, placed, at_part, ◌>>=◌}
-use Rattle.nf_check_lists.specs.Trial.{Passes, Trial, in_part}
+use Rattle.nf_frac_def.specs.declared.Halt.{Halt}
+use Rattle.nf_frac_def.specs.declared.Part.{Part}
+use Rattle.nf_frac_def.specs.declared.PassedAt.{PassedAt}
+use Rattle.nf_frac_def.specs.Checked.{Checked, Stops, placed, at_part, ◌>>=◌}
+use Rattle.nf_check_def.specs.Trial.{Passes, Trial, in_part}
 use Rattle.nf_curve.proofs.Exits.{was_ok}
 use Rattle.nf_check_rules.specs.declared.ended.Ended.{Ended}
 use Rattle.nf_check_rules.specs.Trials.{of_halt, EndsAs, Tries, done}

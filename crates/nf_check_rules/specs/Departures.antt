@@ -2,9 +2,9 @@
 use Rattle.std.specs.Prelude.{◌≡◌, Some, Ok}
 use Rattle.nf_rational.specs.Operations.{0ℚ}
 use Rattle.nf_rational.specs.Order.{◌≤ℚ◌}
-use Rattle.nf_work.specs.Passing.{passes_Q}
-use Rattle.nf_curve_lists.specs.Values.{checked_value}
-use Rattle.nf_curve_lists.specs.Sums.{sides_at}
+use Rattle.nf_frac_def.specs.Passing.{passes_Q}
+use Rattle.nf_curve_def.specs.Values.{checked_value}
+use Rattle.nf_curve_def.specs.Sums.{sides_at}
 use Rattle.nf_curve.specs.Differences.{difference_of}
 use Rattle.nf_curve.specs.declared.curve.Difference.{Difference}
 use Rattle.nf_check_rules.specs.Sent.{ArePlaces, AreWithin}

@@ -1,14 +1,14 @@
 -- Stored exits of links, by departure.
 use Rattle.std.specs.Prelude.{◌≡◌, ◌⊎◌, ℕ, List, length, set, Option, Some, slice_get, Ok, IfSome}
 use Rattle.nf_rational.specs.Rational.{ℚ}
-use Rattle.nf_work.specs.Passing.{Passing, passes_Q}
-use Rattle.nf_work.specs.Checked.{Checked, ◌>>=◌}
+use Rattle.nf_frac_def.specs.Passing.{Passing, passes_Q}
+use Rattle.nf_frac_def.specs.Checked.{Checked, ◌>>=◌}
 use Rattle.nf_model.specs.Curve.{Point}
 use Rattle.nf_model.specs.Network.{Link, Network, IsLink}
 use Rattle.nf_model.specs.Equilibrium.{points_at}
-use Rattle.nf_curve_lists.specs.Composed.{checked_composed}
-use Rattle.nf_curve_lists.specs.Short.{checked_short}
-use Rattle.nf_check_lists.specs.Curves.{loaded_at}
+use Rattle.nf_curve_def.specs.Composed.{checked_composed}
+use Rattle.nf_curve_def.specs.Short.{checked_short}
+use Rattle.nf_check_def.specs.Curves.{loaded_at}
 use Rattle.nf_curve.specs.Points.{Grown}
 use Rattle.nf_check_rules.specs.declared.exits.Exits.{Exits}
 use Rattle.nf_check_rules.specs.declared.worked.Worked.{Worked}

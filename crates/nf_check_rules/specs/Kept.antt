@@ -6,7 +6,7 @@ use Rattle.nf_rational.specs.Order.{◌≤ℚ◌}
 use Rattle.nf_model.specs.Curve.{Point, IsCurve}
 use Rattle.nf_model.specs.Network.{Network}
 use Rattle.nf_model.specs.Equilibrium.{points_at}
-use Rattle.nf_load_lists.specs.Loading as lists
+use Rattle.nf_load_def.specs.Loading as lists
 use Rattle.nf_curve.specs.Points.{Grown}
 use Rattle.nf_load.specs.Loadings.{loaded_of}
 use Rattle.nf_load.specs.declared.loading.Loaded.{Loaded}

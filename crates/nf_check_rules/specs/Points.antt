@@ -3,8 +3,8 @@ use Rattle.std.specs.Prelude.{List, [], ◌∷◌, Option, None}
 use Rattle.nf_rational.specs.Rational.{ℚ}
 use Rattle.nf_rational.specs.Operations.{0ℚ}
 use Rattle.nf_model.specs.Curve.{Point}
-use Rattle.nf_curve_lists.specs.Lines.{Sides}
-use Rattle.nf_check_lists.specs.PointRules.{falling_from}
+use Rattle.nf_curve_def.specs.Lines.{Sides}
+use Rattle.nf_check_def.specs.PointRules.{falling_from}
 
 -- the first point whose value exceeds the next value, with both values
 abbrev pub first_fall : List Point → Option Sides

@@ -1,10 +1,10 @@
 -- Results of the code, and trials.
 use Rattle.std.specs.Prelude.{◌≡◌, Result, Ok, Err}
 use Rattle.nf_rational.specs.Rational.{ℚ}
-use Rattle.nf_work.specs.declared.Halt.{Halt}
+use Rattle.nf_frac_def.specs.declared.Halt.{Halt}
 use Rattle.nf_curve.specs.Differences.{difference_of}
-use Rattle.nf_check_lists.specs.declared.Subject.TheVariants.{Node, Link}
-use Rattle.nf_check_lists.specs.Trial.{Passes, Breaks, Trial}
+use Rattle.nf_check_def.specs.declared.Subject.TheVariants.{Node, Link}
+use Rattle.nf_check_def.specs.Trial.{Passes, Breaks, Trial}
 use Rattle.nf_check_rules.specs.declared.ended.Ended.{Ended}
 
 abbrev pub of_halt : Halt ℚ → Ended

@@ -2,13 +2,13 @@
 ghost use Rattle.std.specs.Prelude.{◌≡◌, ◌<◌, length, Some, option_map};
 ghost use Rattle.nf_rational.specs.Operations.{0ℚ};
 ghost use Rattle.nf_rational.specs.Order.{◌≤ℚ◌};
-ghost use Rattle.nf_work.specs.declared.Part.TheVariants.{Check};
-ghost use Rattle.nf_work.specs.Passing.{passes_Q};
-ghost use Rattle.nf_work.specs.Checked.{at_part, Gives};
+ghost use Rattle.nf_frac_def.specs.declared.Part.TheVariants.{Check};
+ghost use Rattle.nf_frac_def.specs.Passing.{passes_Q};
+ghost use Rattle.nf_frac_def.specs.Checked.{at_part, Gives};
 ghost use Rattle.nf_model.specs.Network.{Link, IsLink};
 ghost use Rattle.nf_model.specs.Equilibrium.{points_at};
-ghost use Rattle.nf_curve_lists.specs.Composed.{checked_composed};
-ghost use Rattle.nf_check_lists.specs.Curves.{loaded_at as loaded_by, least_so_far as lesser_by, with_exit as with_exit_by, least_exits as least_by};
+ghost use Rattle.nf_curve_def.specs.Composed.{checked_composed};
+ghost use Rattle.nf_check_def.specs.Curves.{loaded_at as loaded_by, least_so_far as lesser_by, with_exit as with_exit_by, least_exits as least_by};
 ghost use Rattle.nf_check_rules.specs.Exits.{AreKept};
 ghost use Rattle.nf_check_rules.specs.Kept.{IsWorked, labels_in, loaded_in};
 

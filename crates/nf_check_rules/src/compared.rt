@@ -1,13 +1,13 @@
 // Comparison of two curves.
 ghost use Rattle.nf_rational.specs.Operations.{0ℚ};
 ghost use Rattle.nf_rational.specs.Order.{◌≤ℚ◌};
-ghost use Rattle.nf_work.specs.Passing.{passes_Q};
+ghost use Rattle.nf_frac_def.specs.Passing.{passes_Q};
 ghost use Rattle.nf_check_rules.specs.Steps.{compared_by};
 ghost use Rattle.nf_check_rules.specs.Trials.{Tries};
 
 use crate::ended::{Ended, unless};
 use crate::subject::Subject;
-use nf_check_lists::CheckRule;
+use nf_check_def::CheckRule;
 use nf_curve::Curve;
 use nf_frac::{Part, Q};
 

@@ -1,12 +1,12 @@
 // Reasons for the end of a check.
 ghost use Rattle.std.specs.Prelude.{◌≡◌, option_map};
-ghost use Rattle.nf_check_lists.specs.Trial.{unless as unless_by};
+ghost use Rattle.nf_check_def.specs.Trial.{unless as unless_by};
 ghost use Rattle.nf_curve.specs.Differences.{difference_of};
 ghost use Rattle.nf_check_rules.specs.Trials.{of_halt, Tries};
 ghost use Rattle.nf_check_rules.specs.declared.ended.Ended.TheVariants as Ended;
 
 use crate::subject::Subject;
-use nf_check_lists::CheckRule;
+use nf_check_def::CheckRule;
 use nf_curve::Difference;
 use nf_frac::{Halt, PassedAt, Q};
 use nf_graph::{LinkId, NodeId};

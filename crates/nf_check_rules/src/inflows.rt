@@ -1,10 +1,10 @@
 // Rule C1: each inflow is 0 at time 0 and never falls.
 ghost use Rattle.std.specs.Prelude.{◌≡◌, ◌<◌, length, option_map};
-ghost use Rattle.nf_work.specs.Passing.{passes_Q};
-ghost use Rattle.nf_work.specs.Checked.{each};
-ghost use Rattle.nf_check_lists.specs.PointRules.{inflow_fault as fault_by};
-ghost use Rattle.nf_check_lists.specs.Rules.{all_links};
-ghost use Rattle.nf_check_lists.specs.CheckList.{inflow_rule};
+ghost use Rattle.nf_frac_def.specs.Passing.{passes_Q};
+ghost use Rattle.nf_frac_def.specs.Checked.{each};
+ghost use Rattle.nf_check_def.specs.PointRules.{inflow_fault as fault_by};
+ghost use Rattle.nf_check_def.specs.Rules.{all_links};
+ghost use Rattle.nf_check_def.specs.CheckList.{inflow_rule};
 ghost use Rattle.nf_curve.specs.Differences.{difference_of};
 ghost use Rattle.nf_curve.specs.Flows.{flow_of};
 ghost use Rattle.nf_check_rules.specs.Points.{first_fall as first_fall_by};
@@ -13,7 +13,7 @@ ghost use Rattle.nf_check_rules.specs.Trials.{Tries, done};
 use crate::ended::{Ended, unless};
 use crate::subject::Subject;
 use crate::worked::trace_at;
-use nf_check_lists::CheckRule;
+use nf_check_def::CheckRule;
 use nf_curve::{Curve, Difference, Flow};
 use nf_frac::Q;
 use nf_graph::LinkId;

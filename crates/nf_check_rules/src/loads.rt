@@ -1,11 +1,11 @@
 // Loading of a flow's inflows.
 ghost use Rattle.std.specs.Prelude.{◌≡◌, ◌<◌, ℕ, length};
-ghost use Rattle.nf_work.specs.Passing.{passes_Q};
-ghost use Rattle.nf_work.specs.Checked.{each};
+ghost use Rattle.nf_frac_def.specs.Passing.{passes_Q};
+ghost use Rattle.nf_frac_def.specs.Checked.{each};
 ghost use Rattle.std.specs.List.{enumerate_from};
 ghost use Rattle.nf_model.specs.Network.{Link, IsLink, IsNetwork};
-ghost use Rattle.nf_check_lists.specs.Rules.{Inflow, Holds};
-ghost use Rattle.nf_check_lists.specs.CheckList.{loading};
+ghost use Rattle.nf_check_def.specs.Rules.{Inflow, Holds};
+ghost use Rattle.nf_check_def.specs.CheckList.{loading};
 ghost use Rattle.nf_curve.specs.Flows.{flow_of};
 ghost use Rattle.nf_load.specs.Loadings.{loaded_of};
 ghost use Rattle.nf_check_rules.specs.Kept.{curves_of, loadings_of};

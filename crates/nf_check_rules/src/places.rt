@@ -3,10 +3,10 @@
 ghost use Rattle.std.specs.Prelude.{◌≡◌, ◌≤◌, length};
 ghost use Rattle.nf_rational.specs.Operations.{0ℚ};
 ghost use Rattle.nf_rational.specs.Order.{◌≤ℚ◌};
-ghost use Rattle.nf_work.specs.declared.Part.TheVariants.{Check};
-ghost use Rattle.nf_work.specs.Passing.{passes_Q};
-ghost use Rattle.nf_work.specs.Checked.{at_part};
-ghost use Rattle.nf_curve_lists.specs.Values.{checked_value};
+ghost use Rattle.nf_frac_def.specs.declared.Part.TheVariants.{Check};
+ghost use Rattle.nf_frac_def.specs.Passing.{passes_Q};
+ghost use Rattle.nf_frac_def.specs.Checked.{at_part};
+ghost use Rattle.nf_curve_def.specs.Values.{checked_value};
 ghost use Rattle.nf_curve.specs.Places.{place_of};
 
 use nf_curve::{Curve, line};

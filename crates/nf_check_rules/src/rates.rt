@@ -1,12 +1,12 @@
 // Rule C2: each printed rate is the slope to the next point.
 ghost use Rattle.std.specs.Prelude.{◌≡◌, ◌<◌, suc, length, option_map};
-ghost use Rattle.nf_work.specs.Passing.{passes_Q};
-ghost use Rattle.nf_work.specs.Checked.{each};
-ghost use Rattle.nf_formats.specs.Report.{HaveRates};
-ghost use Rattle.nf_check_lists.specs.declared.Subject.TheVariants.{Link as OfLink};
-ghost use Rattle.nf_check_lists.specs.PointRules.{if_other, rates_list};
-ghost use Rattle.nf_check_lists.specs.Rules.{all_links};
-ghost use Rattle.nf_check_lists.specs.CheckList.{link_rates};
+ghost use Rattle.nf_frac_def.specs.Passing.{passes_Q};
+ghost use Rattle.nf_frac_def.specs.Checked.{each};
+ghost use Rattle.nf_net_def.specs.Report.{HaveRates};
+ghost use Rattle.nf_check_def.specs.declared.Subject.TheVariants.{Link as OfLink};
+ghost use Rattle.nf_check_def.specs.PointRules.{if_other, rates_list};
+ghost use Rattle.nf_check_def.specs.Rules.{all_links};
+ghost use Rattle.nf_check_def.specs.CheckList.{link_rates};
 ghost use Rattle.nf_curve.specs.Differences.{difference_of};
 ghost use Rattle.nf_curve.specs.Flows.{flow_of};
 ghost use Rattle.nf_check_rules.specs.Trials.{Tries, done};
@@ -14,7 +14,7 @@ ghost use Rattle.nf_check_rules.specs.Trials.{Tries, done};
 use crate::ended::{Ended, unless};
 use crate::subject::Subject;
 use crate::worked::trace_at;
-use nf_check_lists::CheckRule;
+use nf_check_def::CheckRule;
 use nf_curve::{Difference, Flow, Trace, slope};
 use nf_frac::{Part, Q};
 use nf_graph::LinkId;

@@ -3,13 +3,13 @@ ghost use Rattle.std.specs.Prelude.{◌≡◌, true, pos, option_map, IfOk, OnOk
 ghost use Rattle.std.specs.List.{AllByRecursion};
 ghost use Rattle.nf_rational.specs.Operations.{0ℚ, whole};
 ghost use Rattle.nf_rational.specs.Order.{◌≤ℚ◌};
-ghost use Rattle.nf_work.specs.declared.Part.TheVariants.{Check};
-ghost use Rattle.nf_work.specs.Passing.{passes_Q};
-ghost use Rattle.nf_work.specs.Checked.{at_part, seen_at};
-ghost use Rattle.nf_curve_lists.specs.Values.{checked_value};
-ghost use Rattle.nf_curve_lists.specs.Sums.{sides_at as sides_by};
-ghost use Rattle.nf_curve_lists.specs.Differences.{do_differ as do_differ_by};
-ghost use Rattle.nf_check_lists.specs.Routes.{checked_middle, at_middle as at_middle_by, on_rising as on_rising_by, on_stretch as on_stretch_by, all_stretches};
+ghost use Rattle.nf_frac_def.specs.declared.Part.TheVariants.{Check};
+ghost use Rattle.nf_frac_def.specs.Passing.{passes_Q};
+ghost use Rattle.nf_frac_def.specs.Checked.{at_part, seen_at};
+ghost use Rattle.nf_curve_def.specs.Values.{checked_value};
+ghost use Rattle.nf_curve_def.specs.Sums.{sides_at as sides_by};
+ghost use Rattle.nf_curve_def.specs.Differences.{do_differ as do_differ_by};
+ghost use Rattle.nf_check_def.specs.Routes.{checked_middle, at_middle as at_middle_by, on_rising as on_rising_by, on_stretch as on_stretch_by, all_stretches};
 ghost use Rattle.nf_curve.specs.Differences.{difference_of};
 ghost use Rattle.nf_check_rules.specs.Departures.{IsDeparture};
 ghost use Rattle.nf_check_rules.specs.Sent.{AreWithin};
@@ -34,7 +34,7 @@ fn two() -> Q
 }
 
 // Returns the departure in the middle of an interval.
-#[tactic(auto, unfolding(nf_check_lists::specs::Routes::checked_middle), using(crate::proofs::Stretching::apart_by_two))]
+#[tactic(auto, unfolding(nf_check_def::specs::Routes::checked_middle), using(crate::proofs::Stretching::apart_by_two))]
 fn middle(first: Q, next: Q) -> Result<Q, PassedAt<Q>>
     ensures { result ≡ at_part Check (checked_middle passes_Q first next) }
 {

@@ -2,7 +2,7 @@
 ghost use Rattle.std.specs.Prelude.{◌≡◌, ◌+◌, ◌^◌, ◌<◌, IfOk};
 ghost use Rattle.nf_rational.specs.Rational.{ℚ};
 ghost use Rattle.nf_rational.specs.Order.{cmp_ℚ, min_ℚ};
-ghost use Rattle.nf_curve_lists.specs.Times as lists;
+ghost use Rattle.nf_curve_def.specs.Times as lists;
 ghost use Rattle.nf_check_rules.specs.Sent.{moved_on};
 
 use nf_curve::Curve;

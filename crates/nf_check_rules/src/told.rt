@@ -1,10 +1,10 @@
 // Rules C4 and C5: printed outflows and queues result from the inflows.
 ghost use Rattle.std.specs.Prelude.{◌≡◌, ◌<◌, length};
 ghost use Rattle.std.specs.List.{enumerate_from};
-ghost use Rattle.nf_work.specs.Passing.{passes_Q};
-ghost use Rattle.nf_work.specs.Checked.{each};
+ghost use Rattle.nf_frac_def.specs.Passing.{passes_Q};
+ghost use Rattle.nf_frac_def.specs.Checked.{each};
 ghost use Rattle.nf_model.specs.Network.{Link, IsLink};
-ghost use Rattle.nf_check_lists.specs.CheckList.{outflow_rule, queue_rule};
+ghost use Rattle.nf_check_def.specs.CheckList.{outflow_rule, queue_rule};
 ghost use Rattle.nf_curve.specs.Flows.{flow_of};
 ghost use Rattle.nf_check_rules.specs.Kept.{IsWorked, labels_in, loaded_in};
 ghost use Rattle.nf_check_rules.specs.Trials.{Tries, done};
@@ -14,7 +14,7 @@ use crate::ended::Ended;
 use crate::subject::Subject;
 use crate::values::last_value;
 use crate::worked::{Worked, curve_at, loaded_at, trace_at};
-use nf_check_lists::CheckRule;
+use nf_check_def::CheckRule;
 use nf_curve::Flow;
 use nf_graph::LinkId;
 use nf_net::Network;

@@ -1,11 +1,11 @@
 // Total inflow and outflow of a node.
 ghost use Rattle.std.specs.Prelude.{◌≡◌, ◌<◌, length};
-ghost use Rattle.nf_work.specs.declared.Part.TheVariants.{Check};
-ghost use Rattle.nf_work.specs.Passing.{passes_Q};
-ghost use Rattle.nf_work.specs.Checked.{at_part, Gives};
+ghost use Rattle.nf_frac_def.specs.declared.Part.TheVariants.{Check};
+ghost use Rattle.nf_frac_def.specs.Passing.{passes_Q};
+ghost use Rattle.nf_frac_def.specs.Checked.{at_part, Gives};
 ghost use Rattle.nf_model.specs.Network.{Link, IsLink};
 ghost use Rattle.nf_model.specs.Equilibrium.{points_of};
-ghost use Rattle.nf_check_lists.specs.Curves.{with_outflow as with_outflow_by, total_in as total_in_by, with_inflow as with_inflow_by, total_out as total_out_by};
+ghost use Rattle.nf_check_def.specs.Curves.{with_outflow as with_outflow_by, total_in as total_in_by, with_inflow as with_inflow_by, total_out as total_out_by};
 ghost use Rattle.nf_curve.specs.Flows.{flow_of};
 ghost use Rattle.nf_check_rules.specs.Kept.{loadings_of};
 

@@ -3,7 +3,7 @@ ghost use Rattle.std.specs.Prelude.{◌≡◌};
 ghost use Rattle.std.specs.List.{AllByRecursion};
 ghost use Rattle.nf_rational.specs.Operations.{0ℚ};
 ghost use Rattle.nf_rational.specs.Order.{◌≤ℚ◌};
-ghost use Rattle.nf_check_lists.specs.Curves.{greatest_value as greatest_by, last_value as last_by};
+ghost use Rattle.nf_check_def.specs.Curves.{greatest_value as greatest_by, last_value as last_by};
 ghost use Rattle.nf_check_rules.specs.Points.{first_value as first_by};
 
 use nf_curve::Curve;

@@ -1,8 +1,8 @@
 // Labels and loadings computed from a flow.
 ghost use Rattle.std.specs.Prelude.{◌≡◌, ◌<◌, length, map, slice_get, Some};
 ghost use Rattle.nf_model.specs.Equilibrium.{points_at, points_of};
-ghost use Rattle.nf_check_lists.specs.CheckList.{trace_of as trace_in};
-ghost use Rattle.nf_check_lists.specs.Curves.{loaded_at as loaded_by};
+ghost use Rattle.nf_check_def.specs.CheckList.{trace_of as trace_in};
+ghost use Rattle.nf_check_def.specs.Curves.{loaded_at as loaded_by};
 ghost use Rattle.nf_curve.specs.Flows.{trace_of};
 ghost use Rattle.nf_load.specs.Loadings.{loaded_of};
 ghost use Rattle.nf_check_rules.specs.Kept.{curves_of, loadings_of};

@@ -7,17 +7,17 @@ use Rattle.nf_rational.specs.Rational.{ℚ}
 use Rattle.nf_rational.specs.Operations.{0ℚ, ◌+ℚ◌}
 use Rattle.nf_rational_laws.proofs.Polynomial.{reading_of}
 use Rattle.nf_rational_laws.proofs.Linear.{eq, linear_eq}
-use Rattle.nf_work.specs.Passing.{Passing}
-use Rattle.nf_work.specs.declared.Op.TheVariants.{Sum}
-use Rattle.nf_work.specs.declared.PassedAt.{PassedAt}
-use Rattle.nf_work.specs.declared.Part.TheVariants.{Verdict}
-use Rattle.nf_work.specs.Checked.{Checked, fold_checked, at_part, ◌>>=◌}
-use Rattle.nf_work.proofs.Binding.{bind_ok}
+use Rattle.nf_frac_def.specs.Passing.{Passing}
+use Rattle.nf_frac_def.specs.declared.Op.TheVariants.{Sum}
+use Rattle.nf_frac_def.specs.declared.PassedAt.{PassedAt}
+use Rattle.nf_frac_def.specs.declared.Part.TheVariants.{Verdict}
+use Rattle.nf_frac_def.specs.Checked.{Checked, fold_checked, at_part, ◌>>=◌}
+use Rattle.nf_frac_def.proofs.Binding.{bind_ok}
 use Rattle.nf_model.specs.Entries.{number_at}
 use Rattle.nf_model.specs.Network.{Link, Network, sum_in, sum_out}
 use Rattle.nf_model.specs.ThinFlow.{Sets}
-use Rattle.nf_plain_laws.proofs.Results.{same_Ok}
-use Rattle.nf_complete_lists.specs.ThinList.{Sums, sum_more, in_more, out_more, with_rate, sums_at}
+use Rattle.nf_rational_laws.proofs.Results.{same_Ok}
+use Rattle.nf_complete_def.specs.ThinList.{Sums, sum_more, in_more, out_more, with_rate, sums_at}
 use Rattle.nf_complete.specs.Testing.{Tells, same_test}
 use Rattle.nf_complete.specs.ThinParts.{active_flow, brought, taken_away, IsBalanced}
 use Rattle.nf_complete.proofs.Deciding.{says_by, Decides-same}

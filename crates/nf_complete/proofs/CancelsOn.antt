@@ -5,20 +5,20 @@ use Rattle.std.proofs.lemmas.Option.{MatchOption-at_some, MatchOption-at_none}
 use Rattle.nf_rational.specs.Rational.{ℚ}
 use Rattle.nf_rational.specs.Operations.{0ℚ}
 use Rattle.nf_rational.specs.Order.{◌≤ℚ◌}
-use Rattle.nf_work.specs.Passing.{Passing}
-use Rattle.nf_work.specs.declared.Passed.{Passed}
-use Rattle.nf_work.specs.declared.PassedAt.{PassedAt}
-use Rattle.nf_work.specs.declared.Halt.{Halt}
-use Rattle.nf_work.specs.declared.Part.TheVariants.{Verdict}
-use Rattle.nf_work.specs.Checked.{Checked, at_part, placed, seen_passed_at, Stops}
+use Rattle.nf_frac_def.specs.Passing.{Passing}
+use Rattle.nf_frac_def.specs.declared.Passed.{Passed}
+use Rattle.nf_frac_def.specs.declared.PassedAt.{PassedAt}
+use Rattle.nf_frac_def.specs.declared.Halt.{Halt}
+use Rattle.nf_frac_def.specs.declared.Part.TheVariants.{Verdict}
+use Rattle.nf_frac_def.specs.Checked.{Checked, at_part, placed, seen_passed_at, Stops}
 use Rattle.nf_model.specs.Entries.{Has}
 use Rattle.nf_model.specs.Network.{Network, hops}
 use Rattle.nf_model.specs.ThinFlow.{Sets, IsThinFlow}
 use Rattle.nf_model.specs.Pattern.{Pattern, IsForest, IsListedIn, IsSolution}
-use Rattle.nf_plain_laws.proofs.Results.{same_Err}
-use Rattle.nf_complete_lists.specs.Interior.{IsInterior, IsNextCycle}
-use Rattle.nf_complete_lists.specs.SettledPattern.{IsSettledPattern}
-use Rattle.nf_complete_lists.specs.Cancelling.{fulls_list, cancel_list, Cancels, no_cycle, cancels, passes_at, Settles, settles, stops}
+use Rattle.nf_rational_laws.proofs.Results.{same_Err}
+use Rattle.nf_complete_def.specs.Interior.{IsInterior, IsNextCycle}
+use Rattle.nf_complete_def.specs.SettledPattern.{IsSettledPattern}
+use Rattle.nf_complete_def.specs.Cancelling.{fulls_list, cancel_list, Cancels, no_cycle, cancels, passes_at, Settles, settles, stops}
 use Rattle.nf_complete_laws.specs.SettleLaws.{AreGoodSets}
 use Rattle.nf_complete_laws.proofs.Cancelled.{IsThinFlow-cancelled, interior-before, Ended, one-ended}
 use Rattle.nf_complete_laws.proofs.OneCycle.{weaker}

@@ -4,16 +4,16 @@ use Rattle.std.specs.Prelude.{Option, Some, None, slice_get, unwrap_or, Ok, Matc
 use Rattle.std.specs.List.{enumerate_from}
 use Rattle.std.proofs.lemmas.Option.{same_Some}
 use Rattle.nf_rational.specs.Rational.{ℚ}
-use Rattle.nf_work.specs.Passing.{Passing}
-use Rattle.nf_work.specs.declared.Op.TheVariants.{Product}
-use Rattle.nf_work.specs.declared.Part.TheVariants.{Verdict}
-use Rattle.nf_work.specs.Checked.{checked, each, at_part}
-use Rattle.nf_work.proofs.Binding.{bind_ok}
+use Rattle.nf_frac_def.specs.Passing.{Passing}
+use Rattle.nf_frac_def.specs.declared.Op.TheVariants.{Product}
+use Rattle.nf_frac_def.specs.declared.Part.TheVariants.{Verdict}
+use Rattle.nf_frac_def.specs.Checked.{checked, each, at_part}
+use Rattle.nf_frac_def.proofs.Binding.{bind_ok}
 use Rattle.nf_model.specs.Entries.{number_at, Has}
 use Rattle.nf_model.specs.Network.{Link, Network, IsLink}
 use Rattle.nf_model.specs.ThinFlow.{Sets}
-use Rattle.nf_plain_laws.proofs.Results.{same_Ok}
-use Rattle.nf_complete_lists.specs.Cancelling.{full_on, full_at, fulls_list}
+use Rattle.nf_rational_laws.proofs.Results.{same_Ok}
+use Rattle.nf_complete_def.specs.Cancelling.{full_on, full_at, fulls_list}
 use Rattle.nf_complete_laws.proofs.Eachs.{each-at, each-length}
 use Rattle.nf_complete.specs.Testing.{Tells}
 use Rattle.nf_complete.specs.ThinParts.{filling, KeepsSlopes, keeps_test, KeepsAt}

@@ -3,13 +3,13 @@ use Rattle.std.proofs.Common.{◌≡◌, ℕ, suc, ◌≤◌, List, length, drop
 use Rattle.std.specs.Prelude.{Some, slice_get, Result, Ok, Err}
 use Rattle.std.proofs.Math.ListN.{drop_of_length-le}
 use Rattle.nf_rational.specs.Rational.{ℚ}
-use Rattle.nf_work.specs.declared.Part.{Part}
-use Rattle.nf_work.specs.declared.Passed.{Passed}
-use Rattle.nf_work.specs.declared.PassedAt.{PassedAt}
-use Rattle.nf_work.specs.Checked.{fold_checked, placed, at_part}
-use Rattle.nf_work.proofs.Each.{fold_ok, fold_err}
-use Rattle.nf_lists_laws.proofs.Numbered.{drop_at}
-use Rattle.nf_plain_laws.proofs.Results.{same_Err}
+use Rattle.nf_frac_def.specs.declared.Part.{Part}
+use Rattle.nf_frac_def.specs.declared.Passed.{Passed}
+use Rattle.nf_frac_def.specs.declared.PassedAt.{PassedAt}
+use Rattle.nf_frac_def.specs.Checked.{fold_checked, placed, at_part}
+use Rattle.nf_frac_def.proofs.Each.{fold_ok, fold_err}
+use Rattle.nf_thin_laws.proofs.Numbered.{drop_at}
+use Rattle.nf_rational_laws.proofs.Results.{same_Err}
 
 module _ {A B : Type 0} (f : B → A → Result B (Passed ℚ)) (xs : List A) (start : B) where
   abbrev pub FoldsOn : B → ℕ → Type 0

@@ -12,7 +12,7 @@ use Rattle.nf_model.specs.Pattern.{IsTrail, AllDiffer}
 use Rattle.nf_graph.specs.Graph.{AreBelow}
 use Rattle.nf_graph.proofs.Flags.{Has-set_same, Has-set_other, Has-set_cases}
 use Rattle.nf_graph.proofs.Walks.{IsHop-unique}
-use Rattle.nf_complete_lists.specs.Interior.{links_of}
+use Rattle.nf_complete_def.specs.Interior.{links_of}
 use Rattle.nf_complete_laws.proofs.Trails.{contains_more, contains_first}
 use Rattle.nf_model_laws.proofs.Contained.{contains_none, contains_cases}
 use Rattle.nf_complete.specs.Trees.{begin_of, end_of, StepsOut, NoneStepsOut, begin_at, end_at, InTree, IsTree, way_back, IsWay, AreApart}

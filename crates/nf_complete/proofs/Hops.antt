@@ -4,8 +4,8 @@ use Rattle.std.proofs.lemmas.List.{length-map}
 use Rattle.nf_model.specs.Walk.{Hop}
 use Rattle.nf_model.specs.Network.{Network, IsNetwork, hop_of, hops}
 use Rattle.nf_model_laws.proofs.Networks.{by_link}
-use Rattle.nf_formats.specs.Named.{Named}
-use Rattle.nf_formats.specs.WellNamed.{IsNamed}
+use Rattle.nf_net_def.specs.Named.{Named}
+use Rattle.nf_net_def.specs.WellNamed.{IsNamed}
 use Rattle.nf_net.proofs.Limits.{few_links}
 use Rattle.nf_graph.specs.Graph.{AreBelow}
 

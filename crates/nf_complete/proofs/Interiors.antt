@@ -10,14 +10,14 @@ use Rattle.std.proofs.lemmas.Option.{none-some, same_Some, slice_get_within}
 use Rattle.nf_rational.specs.Rational.{ℚ}
 use Rattle.nf_rational.specs.Operations.{0ℚ, ◌*ℚ◌}
 use Rattle.nf_rational.specs.Order.{◌<ℚ◌, lt_ℚ}
-use Rattle.nf_work.specs.Passing.{Passing}
+use Rattle.nf_frac_def.specs.Passing.{Passing}
 use Rattle.nf_model.specs.Entries.{number_at, Has}
 use Rattle.nf_model.specs.Network.{Link, Network, IsLink}
 use Rattle.nf_model.specs.ThinFlow.{Sets}
-use Rattle.nf_plain_laws.proofs.Entries.{entry, slice_get-image}
+use Rattle.nf_rational_laws.proofs.Entries.{entry, slice_get-image}
 use Rattle.nf_thin_laws.proofs.Flags.{flag, flag-cases}
-use Rattle.nf_complete_lists.specs.Interior.{IsInterior}
-use Rattle.nf_complete_lists.specs.Cancelling.{fulls_list}
+use Rattle.nf_complete_def.specs.Interior.{IsInterior}
+use Rattle.nf_complete_def.specs.Cancelling.{fulls_list}
 use Rattle.nf_complete.specs.ThinParts.{filling}
 use Rattle.nf_complete.specs.InteriorFlags.{between, interior_test, interior_flags}
 use Rattle.nf_complete.proofs.Deciding.{Decides-less}

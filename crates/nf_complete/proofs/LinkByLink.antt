@@ -4,12 +4,12 @@ use Rattle.std.specs.Prelude.{Some, slice_get, Ok, Err}
 use Rattle.std.specs.List.{enumerate_from}
 use Rattle.std.proofs.lemmas.List.FromFn.{length-enumerate_from}
 use Rattle.nf_rational.specs.Rational.{ℚ}
-use Rattle.nf_work.specs.declared.Part.TheVariants.{Verdict}
-use Rattle.nf_work.specs.declared.PassedAt.{PassedAt}
-use Rattle.nf_work.specs.Checked.{Checked, fold_checked, at_part}
+use Rattle.nf_frac_def.specs.declared.Part.TheVariants.{Verdict}
+use Rattle.nf_frac_def.specs.declared.PassedAt.{PassedAt}
+use Rattle.nf_frac_def.specs.Checked.{Checked, fold_checked, at_part}
 use Rattle.nf_model.specs.Network.{Link, Network, IsLink}
-use Rattle.nf_plain_laws.proofs.Entries.{entry}
-use Rattle.nf_lists_laws.proofs.Numbered.{part_ok}
+use Rattle.nf_rational_laws.proofs.Entries.{entry}
+use Rattle.nf_thin_laws.proofs.Numbered.{part_ok}
 use Rattle.nf_complete.proofs.Folds.{FoldsOn, folds_more, fold_stops, fold_ends}
 use Rattle.nf_complete.proofs.Telling.{numbered_at}
 

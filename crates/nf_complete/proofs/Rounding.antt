@@ -4,7 +4,7 @@ use Rattle.std.specs.Prelude.{Contains}
 use Rattle.std.proofs.lemmas.Bool.Decides.{eqb_tells}
 use Rattle.nf_model.specs.Walk.{Hop}
 use Rattle.nf_model.specs.Pattern.{IsTrail, AllDiffer}
-use Rattle.nf_complete_lists.specs.Interior.{links_of, turn_of}
+use Rattle.nf_complete_def.specs.Interior.{links_of, turn_of}
 use Rattle.nf_complete_laws.proofs.Trails.{contains_more, contains_first}
 use Rattle.nf_complete.specs.Cycles.{round_onto, lower, lowest_from}
 use Rattle.nf_model_laws.proofs.Contained.{contains_cases}

@@ -8,18 +8,18 @@ use Rattle.std.proofs.lemmas.Bool.Decides.{Decides-like}
 use Rattle.std.proofs.lemmas.Option.{same_Some, none-some, slice_get_within, slice_get_read}
 use Rattle.nf_rational.specs.Rational.{ℚ}
 use Rattle.nf_rational.specs.Operations.{0ℚ, ◌*ℚ◌}
-use Rattle.nf_work.specs.Passing.{Passing}
+use Rattle.nf_frac_def.specs.Passing.{Passing}
 use Rattle.nf_model.specs.declared.State.{State}
 use Rattle.nf_model.specs.declared.State.TheVariants.{Tight, Full, Zero}
 use Rattle.nf_model.specs.Entries.{number_at, Has}
 use Rattle.nf_model.specs.Network.{Link, Network, IsLink}
 use Rattle.nf_model.specs.ThinFlow.{Sets, Enters}
 use Rattle.nf_model.specs.Pattern.{Pattern, HasState, NeedsState, Fills}
-use Rattle.nf_plain_laws.proofs.Entries.{entry}
-use Rattle.nf_plain_laws.proofs.Naturals.{before_or_at}
+use Rattle.nf_rational_laws.proofs.Entries.{entry}
+use Rattle.nf_rational_laws.proofs.Naturals.{before_or_at}
 use Rattle.nf_pattern.proofs.Setting.{set_same, set_other}
-use Rattle.nf_complete_lists.specs.SettledPattern.{IsBare, LeadsToBare, IsSettledPattern}
-use Rattle.nf_complete_lists.specs.Cancelling.{fulls_list}
+use Rattle.nf_complete_def.specs.SettledPattern.{IsBare, LeadsToBare, IsSettledPattern}
+use Rattle.nf_complete_def.specs.Cancelling.{fulls_list}
 use Rattle.nf_complete_laws.proofs.Deciding.{same_or_not}
 use Rattle.nf_complete.specs.Testing.{same_test}
 use Rattle.nf_complete.specs.ThinParts.{filling}

@@ -4,14 +4,14 @@ use Rattle.std.specs.Prelude.{Some, slice_get, Result, Ok, Err, IsOk, MatchBool}
 use Rattle.std.specs.List.{enumerate_from, range_with_len}
 use Rattle.std.proofs.lemmas.Option.{none-some, same_Some, slice_get_within}
 use Rattle.nf_rational.specs.Rational.{ℚ}
-use Rattle.nf_work.specs.declared.Part.TheVariants.{Verdict}
-use Rattle.nf_work.specs.declared.Passed.{Passed}
-use Rattle.nf_work.specs.declared.PassedAt.{PassedAt}
-use Rattle.nf_work.specs.Passing.{Passing, result_of}
-use Rattle.nf_work.specs.declared.Op.{Op}
-use Rattle.nf_work.specs.Checked.{Checked, checked, each, at_part, placed, ◌>>=◌}
-use Rattle.nf_plain_laws.proofs.Naturals.{before_or_at}
-use Rattle.nf_plain_laws.proofs.Results.{same_Ok, same_Err}
+use Rattle.nf_frac_def.specs.declared.Part.TheVariants.{Verdict}
+use Rattle.nf_frac_def.specs.declared.Passed.{Passed}
+use Rattle.nf_frac_def.specs.declared.PassedAt.{PassedAt}
+use Rattle.nf_frac_def.specs.Passing.{Passing, result_of}
+use Rattle.nf_frac_def.specs.declared.Op.{Op}
+use Rattle.nf_frac_def.specs.Checked.{Checked, checked, each, at_part, placed, ◌>>=◌}
+use Rattle.nf_rational_laws.proofs.Naturals.{before_or_at}
+use Rattle.nf_rational_laws.proofs.Results.{same_Ok, same_Err}
 use Rattle.nf_complete.specs.Testing.{Tells}
 use Rattle.nf_complete.proofs.Deciding.{says_like, says_both}
 

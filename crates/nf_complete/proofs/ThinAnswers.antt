@@ -3,15 +3,15 @@ use Rattle.std.proofs.Common.{◌≡◌, List, length, Bool, ◌&&◌, Option, r
 use Rattle.std.specs.Prelude.{Ok, Err, IsOk, MatchBool}
 use Rattle.std.specs.List.{range_with_len}
 use Rattle.nf_rational.specs.Rational.{ℚ}
-use Rattle.nf_work.specs.Passing.{Passing}
-use Rattle.nf_work.specs.declared.PassedAt.{PassedAt}
-use Rattle.nf_work.specs.declared.Part.TheVariants.{Verdict}
-use Rattle.nf_work.specs.Checked.{Checked, each, at_part, ◌>>=◌}
+use Rattle.nf_frac_def.specs.Passing.{Passing}
+use Rattle.nf_frac_def.specs.declared.PassedAt.{PassedAt}
+use Rattle.nf_frac_def.specs.declared.Part.TheVariants.{Verdict}
+use Rattle.nf_frac_def.specs.Checked.{Checked, each, at_part, ◌>>=◌}
 use Rattle.nf_model.specs.Network.{Network}
 use Rattle.nf_model.specs.ThinFlow.{Sets, IsThinFlow}
 use Rattle.nf_thin_laws.specs.ActiveLinks.{NoneEntersSource}
-use Rattle.nf_complete_lists.specs.Cancelling.{fulls_list}
-use Rattle.nf_complete_lists.specs.ThinList.{Sums, sums_at, thin_list}
+use Rattle.nf_complete_def.specs.Cancelling.{fulls_list}
+use Rattle.nf_complete_def.specs.ThinList.{Sums, sums_at, thin_list}
 use Rattle.nf_complete_laws.specs.SettleLaws.{AreGoodSets}
 use Rattle.nf_complete.specs.Testing.{Tells}
 use Rattle.nf_complete.specs.ThinParts.{IsProper}

@@ -4,7 +4,7 @@ use Rattle.nf_rational.specs.Rational.{ℚ}
 use Rattle.nf_model.specs.Network.{Network, hops}
 use Rattle.nf_model.specs.ThinFlow.{Sets}
 use Rattle.nf_model.specs.Pattern.{IsForest}
-use Rattle.nf_complete_lists.specs.Interior.{IsInterior, IsNextCycle}
+use Rattle.nf_complete_def.specs.Interior.{IsInterior, IsNextCycle}
 
 -- the interior links before `last` are a forest
 abbrev pub AreForestBelow : Network → Sets → List ℚ → List ℚ → ℕ → Type 0

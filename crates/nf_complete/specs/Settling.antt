@@ -1,16 +1,16 @@
 -- Results of testing and settling thin flows.
 use Rattle.std.specs.Prelude.{◌≡◌, Bool, List, Result, Ok, Err, IsOk}
 use Rattle.nf_rational.specs.Rational.{ℚ}
-use Rattle.nf_work.specs.Passing.{Passing}
-use Rattle.nf_work.specs.Checked.{Checked, at_part, placed}
-use Rattle.nf_work.specs.declared.Passed.{Passed}
-use Rattle.nf_work.specs.declared.PassedAt.{PassedAt}
-use Rattle.nf_work.specs.declared.Halt.{Halt}
-use Rattle.nf_work.specs.declared.Part.TheVariants.{Verdict}
+use Rattle.nf_frac_def.specs.Passing.{Passing}
+use Rattle.nf_frac_def.specs.Checked.{Checked, at_part, placed}
+use Rattle.nf_frac_def.specs.declared.Passed.{Passed}
+use Rattle.nf_frac_def.specs.declared.PassedAt.{PassedAt}
+use Rattle.nf_frac_def.specs.declared.Halt.{Halt}
+use Rattle.nf_frac_def.specs.declared.Part.TheVariants.{Verdict}
 use Rattle.nf_model.specs.Network.{Network}
 use Rattle.nf_model.specs.ThinFlow.{Sets}
-use Rattle.nf_complete_lists.specs.Cancelling.{Settles}
-use Rattle.nf_complete_lists.specs.ThinList.{thin_list}
+use Rattle.nf_complete_def.specs.Cancelling.{Settles}
+use Rattle.nf_complete_def.specs.ThinList.{thin_list}
 use Rattle.nf_complete.specs.declared.settled.Settled.{Settled}
 
 -- no operation of the sequence passes, or the error is the first one that passes

@@ -8,7 +8,7 @@ use Rattle.nf_model.specs.Entries.{number_at}
 use Rattle.nf_model.specs.Network.{Link, Network, IsLink}
 use Rattle.nf_model.specs.ThinFlow.{Sets}
 use Rattle.nf_model.specs.Pattern.{NeedsState, Fills}
-use Rattle.nf_complete_lists.specs.SettledPattern.{LeadsToBare}
+use Rattle.nf_complete_def.specs.SettledPattern.{LeadsToBare}
 use Rattle.nf_complete.specs.Testing.{same_test}
 use Rattle.nf_complete.specs.ThinParts.{LeadsInto, IsLevelAt, Brings}
 

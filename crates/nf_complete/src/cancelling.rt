@@ -1,12 +1,12 @@
 // Cancelling a cycle.
 ghost use Rattle.std.specs.Prelude.{◌≡◌, ◌<◌, ◌^◌, length, Some, None, unwrap_or, slice_get};
 ghost use Rattle.nf_rational.specs.Operations.{0ℚ};
-ghost use Rattle.nf_work.specs.declared.Part.TheVariants.{Verdict};
-ghost use Rattle.nf_work.specs.Passing.{passes_Q};
-ghost use Rattle.nf_work.specs.Checked.{at_part, each, Gives};
+ghost use Rattle.nf_frac_def.specs.declared.Part.TheVariants.{Verdict};
+ghost use Rattle.nf_frac_def.specs.Passing.{passes_Q};
+ghost use Rattle.nf_frac_def.specs.Checked.{at_part, each, Gives};
 ghost use Rattle.std.specs.List.{enumerate_from};
-ghost use Rattle.nf_complete_lists.specs.Interior.{turn_of};
-ghost use Rattle.nf_complete_lists.specs.Cancelling.{room_on, room_at, lesser_room, least_room, change_on, change_at, cancel_list};
+ghost use Rattle.nf_complete_def.specs.Interior.{turn_of};
+ghost use Rattle.nf_complete_def.specs.Cancelling.{room_on, room_at, lesser_room, least_room, change_on, change_at, cancel_list};
 
 use crate::step::Step;
 use nf_frac::{Halt, Part, PassedAt, Q, at};
@@ -152,7 +152,7 @@ fn amount(room: Option<Q>) -> Q
 /// Cancels a cycle: returns the flows after its forward links grow and its backward links shrink by one amount. The amount is the greatest
 /// for which each flow stays between 0 and the flow that fills its link, or 0 if no link limits it. Returns `Passed` exactly at the first
 /// operation that passes, with part Verdict. Otherwise refuses only if an allocation fails.
-#[tactic(auto, unfolding(nf_complete_lists::specs::Cancelling::cancel_list))]
+#[tactic(auto, unfolding(nf_complete_def::specs::Cancelling::cancel_list))]
 pub fn cancel(
     alloc: Global,
     steps: &[Step],

@@ -1,10 +1,10 @@
 // The flow that fills a link. An active link with a capacity is filled by the capacity times the slope of its head.
 ghost use Rattle.std.specs.Prelude.{◌≡◌, ◌<◌, length};
-ghost use Rattle.nf_work.specs.declared.Part.TheVariants.{Verdict};
-ghost use Rattle.nf_work.specs.Passing.{passes_Q};
-ghost use Rattle.nf_work.specs.Checked.{at_part, Gives};
+ghost use Rattle.nf_frac_def.specs.declared.Part.TheVariants.{Verdict};
+ghost use Rattle.nf_frac_def.specs.Passing.{passes_Q};
+ghost use Rattle.nf_frac_def.specs.Checked.{at_part, Gives};
 ghost use Rattle.nf_model.specs.Network.{Link as SeenLink, IsLink};
-ghost use Rattle.nf_complete_lists.specs.Cancelling.{full_on, full_at as full_at_by, fulls_list};
+ghost use Rattle.nf_complete_def.specs.Cancelling.{full_on, full_at as full_at_by, fulls_list};
 
 use nf_frac::{Halt, Part, PassedAt, Q, at};
 use nf_graph::{LinkId, LinkSets};

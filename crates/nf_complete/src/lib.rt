@@ -19,7 +19,7 @@ mod taken;
 mod thin;
 mod way;
 
-pub use nf_flows_file::{Flows, FlowsFault, FlowsRule, parse_flows};
+pub use nf_complete_read::{Flows, FlowsFault, FlowsRule, parse_flows};
 pub use settled::Settled;
 pub use settling::settle;
 pub use thin::is_thin;

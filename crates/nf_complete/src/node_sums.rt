@@ -3,12 +3,12 @@ ghost use Rattle.std.specs.Prelude.{◌≡◌, ◌<◌, ◌&&◌, ℕ, List, len
 ghost use Rattle.std.specs.List.{enumerate_from, range_with_len};
 ghost use Rattle.nf_rational.specs.Rational.{ℚ};
 ghost use Rattle.nf_rational.specs.Operations.{0ℚ};
-ghost use Rattle.nf_work.specs.declared.Part.TheVariants.{Verdict};
-ghost use Rattle.nf_work.specs.Passing.{passes_Q};
-ghost use Rattle.nf_work.specs.Checked.{at_part, each, fold_checked};
+ghost use Rattle.nf_frac_def.specs.declared.Part.TheVariants.{Verdict};
+ghost use Rattle.nf_frac_def.specs.Passing.{passes_Q};
+ghost use Rattle.nf_frac_def.specs.Checked.{at_part, each, fold_checked};
 ghost use Rattle.nf_model.specs.Network.{Network as SeenNetwork, Link as SeenLink, IsLink};
 ghost use Rattle.nf_model.specs.ThinFlow.{Sets};
-ghost use Rattle.nf_complete_lists.specs.ThinList.{is_active, sum_more, in_more, out_more, with_rate as with_rate_by, sums_at};
+ghost use Rattle.nf_complete_def.specs.ThinList.{is_active, sum_more, in_more, out_more, with_rate as with_rate_by, sums_at};
 ghost use Rattle.nf_complete.specs.Testing.{Tells};
 ghost use Rattle.nf_complete.specs.ThinParts.{IsBalanced};
 

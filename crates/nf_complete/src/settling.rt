@@ -3,13 +3,13 @@ ghost use Rattle.std.specs.Prelude.{◌≡◌, ◌<◌, length, Ok, IfOk, MatchO
 ghost use Rattle.nf_rational.specs.Rational.{ℚ};
 ghost use Rattle.nf_rational.specs.Operations.{0ℚ};
 ghost use Rattle.nf_rational.specs.Order.{◌≤ℚ◌};
-ghost use Rattle.nf_work.specs.Passing.{passes_Q};
+ghost use Rattle.nf_frac_def.specs.Passing.{passes_Q};
 ghost use Rattle.nf_model.specs.Network.{hops as hops_of};
 ghost use Rattle.nf_model.specs.ThinFlow.{IsThinFlow};
 ghost use Rattle.nf_model.specs.Pattern.{IsForest, IsListedIn, IsSolution};
-ghost use Rattle.nf_complete_lists.specs.Interior.{IsInterior};
-ghost use Rattle.nf_complete_lists.specs.Cancelling.{fulls_list, Cancels};
-ghost use Rattle.nf_complete_lists.specs.SettledPattern.{IsSettledPattern};
+ghost use Rattle.nf_complete_def.specs.Interior.{IsInterior};
+ghost use Rattle.nf_complete_def.specs.Cancelling.{fulls_list, Cancels};
+ghost use Rattle.nf_complete_def.specs.SettledPattern.{IsSettledPattern};
 ghost use Rattle.nf_complete_laws.specs.SettleLaws.{AreGoodSets};
 ghost use Rattle.nf_complete.specs.FitSets.{AreFitSets};
 ghost use Rattle.nf_complete.specs.Settling.{ComesTo, SettlesTo};
@@ -83,7 +83,7 @@ fn cancelled(
 /// They must be a thin flow of these sets (`is_thin` tests it). The active links must hold no cycle, and no resetting link may be
 /// unbounded.
 ///
-/// The operations are those of `Settles` (nf_complete_lists/specs/Cancelling.antt). First the flow that fills each link is computed. Then
+/// The operations are those of `Settles` (nf_complete_def/specs/Cancelling.antt). First the flow that fills each link is computed. Then
 /// for each cycle the room of each link and its new flow are computed. Returns `Passed` exactly at the first of them that passes, with the
 /// part Verdict. Otherwise fails only if an allocation fails.
 pub fn settle(

@@ -1,8 +1,8 @@
 // Slopes of active links in a thin flow.
 ghost use Rattle.std.specs.Prelude.{◌≡◌, ◌<◌, ◌||◌, ℕ, Bool, false, not, length, Some, None};
-ghost use Rattle.nf_work.specs.Passing.{passes_Q};
+ghost use Rattle.nf_frac_def.specs.Passing.{passes_Q};
 ghost use Rattle.nf_model.specs.Network.{Link as SeenLink, IsLink};
-ghost use Rattle.nf_complete_lists.specs.Cancelling.{full_at as full_at_by, fulls_list};
+ghost use Rattle.nf_complete_def.specs.Cancelling.{full_at as full_at_by, fulls_list};
 ghost use Rattle.nf_complete.specs.Testing.{Tells};
 ghost use Rattle.nf_complete.specs.ThinParts.{keeps_test, KeepsAt};
 

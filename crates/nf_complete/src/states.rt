@@ -1,10 +1,10 @@
 // The pattern of settled flows.
 ghost use Rattle.std.specs.Prelude.{◌≡◌, ◌<◌, length, Some, Ok, IfOk, MatchBool};
-ghost use Rattle.nf_work.specs.Passing.{passes_Q};
+ghost use Rattle.nf_frac_def.specs.Passing.{passes_Q};
 ghost use Rattle.nf_model.specs.Network.{Link as SeenLink, IsLink};
 ghost use Rattle.nf_model.specs.Pattern.{NeedsState};
-ghost use Rattle.nf_complete_lists.specs.Cancelling.{fulls_list};
-ghost use Rattle.nf_complete_lists.specs.SettledPattern.{IsBare, LeadsToBare, IsSettledPattern};
+ghost use Rattle.nf_complete_def.specs.Cancelling.{fulls_list};
+ghost use Rattle.nf_complete_def.specs.SettledPattern.{IsBare, LeadsToBare, IsSettledPattern};
 ghost use Rattle.nf_complete.specs.States.{BringsInto, LevelInto, NoneLevelBefore, full_test, IsStateAt};
 
 use crate::leading::{brings, is_level, leads_into};

@@ -1,6 +1,6 @@
 // The test for a thin flow.
 ghost use Rattle.std.specs.Prelude.{◌≡◌, length, IfOk, MatchBool};
-ghost use Rattle.nf_work.specs.Passing.{passes_Q};
+ghost use Rattle.nf_frac_def.specs.Passing.{passes_Q};
 ghost use Rattle.nf_model.specs.ThinFlow.{IsThinFlow};
 ghost use Rattle.nf_thin_laws.specs.ActiveLinks.{NoneEntersSource};
 ghost use Rattle.nf_complete.specs.FitSets.{AreFitSets};
@@ -19,7 +19,7 @@ use nf_net::Network;
 /// unit of departure time. `rate` is an amount per unit of time. The active links must hold no cycle and not enter the source, and no
 /// resetting link may be unbounded.
 ///
-/// The operations are those of `thin_list` (nf_complete_lists/specs/ThinList.antt). For each node the flows of the active links into it are
+/// The operations are those of `thin_list` (nf_complete_def/specs/ThinList.antt). For each node the flows of the active links into it are
 /// summed. The flows of the active links out of it are summed next, at the sink with the rate. After all nodes, each active link's capacity
 /// is multiplied by the slope of its head. Returns `Passed` exactly at the first of these operations that passes, whatever the answer would
 /// be, with the part Verdict. Allocates nothing.

@@ -15,7 +15,7 @@ use Rattle.nf_model.specs.ThinFlow.{Sets, surplus, IsThinFlow}
 use Rattle.nf_model_laws.proofs.Sums.{sum_in-same, sum_in-none, sum_out-each}
 use Rattle.nf_thin_laws.proofs.Flags.{flag, flag-cases}
 use Rattle.nf_model_laws.proofs.Totals.{IsThinFlow-sink}
-use Rattle.nf_complete_lists.specs.SettledPattern.{IsBare, IsFirstLevel, LeadsToBare}
+use Rattle.nf_complete_def.specs.SettledPattern.{IsBare, IsFirstLevel, LeadsToBare}
 use Rattle.nf_complete_laws.proofs.Deciding.{Decided, both, either, same_or_not, First, NoLink, first_or_none}
 
 pub flagged : (flags : List Bool) (e : ℕ) → Decided (Has flags e)

@@ -12,12 +12,12 @@ use Rattle.nf_rational_laws.proofs.Polynomial.{reading_of}
 use Rattle.nf_rational_laws.proofs.Order.{≤ℚ_of_same, ≤ℚ_of_lt, not_both_ℚ}
 use Rattle.nf_rational_laws.proofs.Linear.{le, lt, eq, eq_times, linear_le, linear_lt, linear_eq}
 use Rattle.nf_rational_laws.proofs.Chains.{≤ℚ_refl}
-use Rattle.nf_work.specs.Passing.{Passing, result_of}
-use Rattle.nf_work.specs.Checked.{checked, each}
-use Rattle.nf_work.proofs.Binding.{bind_ok}
-use Rattle.nf_work.specs.declared.Op.{Op}
-use Rattle.nf_work.specs.declared.Op.TheVariants.{Sum, Difference, Product}
-use Rattle.nf_work.specs.declared.Passed.{Passed}
+use Rattle.nf_frac_def.specs.Passing.{Passing, result_of}
+use Rattle.nf_frac_def.specs.Checked.{checked, each}
+use Rattle.nf_frac_def.proofs.Binding.{bind_ok}
+use Rattle.nf_frac_def.specs.declared.Op.{Op}
+use Rattle.nf_frac_def.specs.declared.Op.TheVariants.{Sum, Difference, Product}
+use Rattle.nf_frac_def.specs.declared.Passed.{Passed}
 use Rattle.nf_model.specs.Entries.{number_at, Has}
 use Rattle.nf_model.specs.Walk.{Hop}
 use Rattle.nf_model.specs.Network.{Link, Network, IsLink, IsNetwork, hops, sum_in, sum_out}
@@ -26,11 +26,11 @@ use Rattle.nf_model.specs.Pattern.{IsTrail, AllDiffer}
 use Rattle.nf_model_laws.proofs.Networks.{IsLink-unique, link_at}
 use Rattle.nf_model_laws.proofs.Sums.{sum_in-same, sum_out-same, sum_in-line, sum_out-line}
 use Rattle.nf_thin_laws.specs.ActiveLinks.{HoldNoCycle, IsActiveWalk}
-use Rattle.nf_plain_laws.proofs.Entries.{entry}
-use Rattle.nf_plain_laws.proofs.Results.{same_Ok}
+use Rattle.nf_rational_laws.proofs.Entries.{entry}
+use Rattle.nf_rational_laws.proofs.Results.{same_Ok}
 use Rattle.nf_thin_laws.proofs.Flags.{entry_beyond, number_at-beyond}
-use Rattle.nf_complete_lists.specs.Interior.{IsInterior, links_of, turn_of, IsCycle}
-use Rattle.nf_complete_lists.specs.Cancelling.{full_on, full_at, fulls_list, room_on, room_at, least_room, change_on, change_at, cancel_list}
+use Rattle.nf_complete_def.specs.Interior.{IsInterior, links_of, turn_of, IsCycle}
+use Rattle.nf_complete_def.specs.Cancelling.{full_on, full_at, fulls_list, room_on, room_at, least_room, change_on, change_at, cancel_list}
 use Rattle.nf_complete_laws.proofs.Trails.{signed, carried_by, turn-first, turn-contains, trail-allowed, carried-closed}
 use Rattle.nf_complete_laws.proofs.Eachs.{each-at, each-length}
 use Rattle.nf_complete_laws.proofs.Rooms.{least-some, least-bound, Taken, least-taken}

@@ -24,8 +24,8 @@ use Rattle.nf_thin_laws.proofs.Flags.{flag, flag-cases}
 use Rattle.nf_thin_laws.proofs.ExitSlopes.{exit_tight}
 use Rattle.nf_thin_laws.proofs.LinkLaws.{LinkLaw}
 use Rattle.nf_thin_laws.proofs.Slopes.{link_law}
-use Rattle.nf_complete_lists.specs.Interior.{IsInterior}
-use Rattle.nf_complete_lists.specs.SettledPattern.{IsBare, LeadsToBare, IsSettledPattern}
+use Rattle.nf_complete_def.specs.Interior.{IsInterior}
+use Rattle.nf_complete_def.specs.SettledPattern.{IsBare, LeadsToBare, IsSettledPattern}
 use Rattle.nf_complete_laws.specs.SettleLaws.{AreGoodSets}
 use Rattle.nf_complete_laws.proofs.Levels.{state_law, interior-level}
 use Rattle.nf_complete_laws.proofs.Deciding.{Decided, same_or_not, some_or_none, First, NoLink, first_or_none}

@@ -13,7 +13,7 @@ use Rattle.nf_thin_laws.specs.ActiveLinks.{HoldNoCycle}
 use Rattle.nf_thin_laws.proofs.Flags.{flag, flag-cases}
 use Rattle.nf_thin_laws.proofs.LinkLaws.{LinkLaw}
 use Rattle.nf_thin_laws.proofs.Slopes.{link_law}
-use Rattle.nf_complete_lists.specs.Interior.{IsInterior}
+use Rattle.nf_complete_def.specs.Interior.{IsInterior}
 
 pub level_by : (capacity : Option ℚ) (x s t : ℚ) → LinkLaw false capacity x s t → 0ℚ <ℚ x → ((c : ℚ) → capacity ≡ Some c → x <ℚ c *ℚ t) → t ≡ s
 level_by None x s t l h k = sym (l.used h)

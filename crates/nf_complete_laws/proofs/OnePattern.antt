@@ -8,9 +8,9 @@ use Rattle.nf_model.specs.Entries.{number_at}
 use Rattle.nf_model.specs.Network.{Link, Network, IsLink}
 use Rattle.nf_model.specs.ThinFlow.{Sets, IsThinFlow}
 use Rattle.nf_model.specs.Pattern.{Pattern, NeedsState}
-use Rattle.nf_lists_laws.proofs.Bases.{same_entries}
-use Rattle.nf_plain_laws.proofs.Entries.{entry}
-use Rattle.nf_complete_lists.specs.SettledPattern.{IsSettledPattern}
+use Rattle.nf_thin_laws.proofs.Bases.{same_entries}
+use Rattle.nf_rational_laws.proofs.Entries.{entry}
+use Rattle.nf_complete_def.specs.SettledPattern.{IsSettledPattern}
 use Rattle.nf_complete_laws.specs.SettleLaws.{AreGoodSets}
 use Rattle.nf_complete_laws.proofs.Settled.{Leads, Filled, Fits, chosen}
 

@@ -7,7 +7,7 @@ use Rattle.nf_rational.specs.Order.{◌≤ℚ◌, ◌<ℚ◌, min_ℚ}
 use Rattle.nf_rational_laws.proofs.Tests.{min_ℚ_cases}
 use Rattle.nf_rational_laws.proofs.Chains.{≤ℚ_refl, ≤ℚ_trans}
 use Rattle.nf_rational_laws.proofs.Extremes.{min_left, min_right}
-use Rattle.nf_complete_lists.specs.Cancelling.{lesser_room, least_room}
+use Rattle.nf_complete_def.specs.Cancelling.{lesser_room, least_room}
 
 -- it is at most each of them
 first_least : (x a : ℚ) (rest : Option ℚ) → lesser_room (Some x) rest ≡ Some a → a ≤ℚ x

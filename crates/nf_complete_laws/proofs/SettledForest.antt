@@ -22,8 +22,8 @@ use Rattle.nf_model_laws.proofs.Ways.{way_back}
 use Rattle.nf_thin_laws.specs.ActiveLinks.{HoldNoCycle, IsActiveWalk}
 use Rattle.nf_thin_laws.proofs.ActiveLinks.{Way, no_way_round}
 use Rattle.nf_thin_laws.proofs.Forests.{Dart, Carries, forest-none}
-use Rattle.nf_complete_lists.specs.Interior.{IsInterior, links_of, turn_of}
-use Rattle.nf_complete_lists.specs.SettledPattern.{IsBare, LeadsToBare, IsSettledPattern}
+use Rattle.nf_complete_def.specs.Interior.{IsInterior, links_of, turn_of}
+use Rattle.nf_complete_def.specs.SettledPattern.{IsBare, LeadsToBare, IsSettledPattern}
 use Rattle.nf_complete_laws.specs.SettleLaws.{AreGoodSets}
 use Rattle.nf_complete_laws.proofs.Trails.{mark, sum_in-only, signed, carried_by, turn-first, trail-allowed, carried-closed}
 use Rattle.nf_complete_laws.proofs.Deciding.{Decided, both, same_or_not, First, NoLink, first_or_none}

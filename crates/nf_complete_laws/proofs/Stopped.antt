@@ -5,24 +5,24 @@ use Rattle.std.proofs.lemmas.List.FromFn.{length-map-range_with_len, get_or-map-
 use Rattle.nf_rational.specs.Rational.{ℚ}
 use Rattle.nf_rational.specs.Operations.{0ℚ}
 use Rattle.nf_rational_laws.proofs.Order.{not_both_ℚ}
-use Rattle.nf_work.specs.Passing.{Passing}
-use Rattle.nf_work.specs.declared.PassedAt.{PassedAt}
+use Rattle.nf_frac_def.specs.Passing.{Passing}
+use Rattle.nf_frac_def.specs.declared.PassedAt.{PassedAt}
 use Rattle.nf_model.specs.Entries.{number_at}
 use Rattle.nf_model.specs.Network.{Network, IsNetwork, rate_at}
 use Rattle.nf_model.specs.ThinFlow.{sets_at, IsThinFlow}
 use Rattle.nf_model.specs.Equilibrium.{label}
-use Rattle.nf_formats.specs.declared.Cause.{Cause}
-use Rattle.nf_formats.specs.Report.{Report}
-use Rattle.nf_lists.specs.Search.{SearchAnswer, Found, OverBudget, PassesAt, NoPattern}
-use Rattle.nf_lists.specs.PhaseRun.{Standing, Bounds, Seeks, cause_of_search, Fails, at_slack, at_search, at_lists, Runs, at_horizon, at_phases, fails, goes, IsRunReport, flow_of}
+use Rattle.nf_net_def.specs.declared.Cause.{Cause}
+use Rattle.nf_net_def.specs.Report.{Report}
+use Rattle.nf_thin_def.specs.Search.{SearchAnswer, Found, OverBudget, PassesAt, NoPattern}
+use Rattle.nf_thin_def.specs.PhaseRun.{Standing, Bounds, Seeks, cause_of_search, Fails, at_slack, at_search, at_lists, Runs, at_horizon, at_phases, fails, goes, IsRunReport, flow_of}
 use Rattle.nf_model_laws.proofs.Slacks.{slack_of_resetting}
 use Rattle.nf_model_laws.proofs.Supply.{rate_from-not_negative}
 use Rattle.nf_thin_laws.proofs.ActiveLinks.{AreSets-sets_at, HoldNoCycle-sets_at}
-use Rattle.nf_plain_laws.proofs.Entries.{same_entries}
-use Rattle.nf_run_laws.proofs.WellRun.{WellRun, WellRun-start}
-use Rattle.nf_run_laws.proofs.Run.{WellRun-goes}
-use Rattle.nf_run_laws.proofs.Standing.{grown_at, label_count_at, unbounded_slack_at}
-use Rattle.nf_complete_lists.specs.Reached.{labels_reached, StopsForNoThinFlow}
+use Rattle.nf_rational_laws.proofs.Entries.{same_entries}
+use Rattle.nf_phase_laws.proofs.WellRun.{WellRun, WellRun-start}
+use Rattle.nf_phase_laws.proofs.Run.{WellRun-goes}
+use Rattle.nf_phase_laws.proofs.Standing.{grown_at, label_count_at, unbounded_slack_at}
+use Rattle.nf_complete_def.specs.Reached.{labels_reached, StopsForNoThinFlow}
 use Rattle.nf_complete_laws.specs.SettleLaws.{AreGoodSets}
 use Rattle.nf_complete_laws.proofs.Settled.{none-search}
 

@@ -3,19 +3,19 @@ use Rattle.std.specs.Prelude.{◌≡◌, ℕ, List, Ok, None}
 use Rattle.nf_rational.specs.Rational.{ℚ}
 use Rattle.nf_rational.specs.Operations.{0ℚ}
 use Rattle.nf_rational.specs.Order.{◌≤ℚ◌}
-use Rattle.nf_work.specs.Passing.{Passing}
-use Rattle.nf_work.specs.Checked.{Checked}
+use Rattle.nf_frac_def.specs.Passing.{Passing}
+use Rattle.nf_frac_def.specs.Checked.{Checked}
 use Rattle.nf_model.specs.Entries.{Has}
 use Rattle.nf_model.specs.Network.{Link, Network, IsLink, IsNetwork}
 use Rattle.nf_model.specs.ThinFlow.{Sets, IsThinFlow}
 use Rattle.nf_model.specs.Pattern.{Pattern, IsListedIn, IsSolution, IsSolvable}
-use Rattle.nf_formats.specs.Report.{Report}
-use Rattle.nf_lists.specs.Search.{NoPattern, IsSearch}
-use Rattle.nf_lists.specs.PhaseRun.{Bounds, IsRunReport}
+use Rattle.nf_net_def.specs.Report.{Report}
+use Rattle.nf_thin_def.specs.Search.{NoPattern, IsSearch}
+use Rattle.nf_thin_def.specs.PhaseRun.{Bounds, IsRunReport}
 use Rattle.nf_thin_laws.specs.ActiveLinks.{AreSets, HoldNoCycle}
-use Rattle.nf_complete_lists.specs.Cancelling.{Settles}
-use Rattle.nf_complete_lists.specs.SettledPattern.{IsSettledPattern}
-use Rattle.nf_complete_lists.specs.Reached.{StopsForNoThinFlow}
+use Rattle.nf_complete_def.specs.Cancelling.{Settles}
+use Rattle.nf_complete_def.specs.SettledPattern.{IsSettledPattern}
+use Rattle.nf_complete_def.specs.Reached.{StopsForNoThinFlow}
 
 -- the network is well formed, the active links hold no cycle, and no unbounded link is resetting; this holds for the sets of a phase
 pub record AreGoodSets (net : Network) (sets : Sets) : Type 0 where

@@ -9,12 +9,12 @@ use Rattle.nf_rational.specs.Rational.{ℚ}
 use Rattle.nf_rational.specs.Order.{◌≤ℚ◌, ◌<ℚ◌, lt_ℚ}
 use Rattle.nf_rational_laws.proofs.Order.{≤ℚ_of_lt, not_both_ℚ}
 use Rattle.nf_rational_laws.proofs.Tests.{lt_ℚ_cases, test_of_less}
-use Rattle.nf_work.specs.declared.Part.{Part}
-use Rattle.nf_work.specs.declared.PassedAt.{PassedAt}
-use Rattle.nf_work.specs.Checked.{Checked, at_part, each, ◌>>=◌}
+use Rattle.nf_frac_def.specs.declared.Part.{Part}
+use Rattle.nf_frac_def.specs.declared.PassedAt.{PassedAt}
+use Rattle.nf_frac_def.specs.Checked.{Checked, at_part, each, ◌>>=◌}
 use Rattle.nf_model.specs.Curve.{Point, TimesRise}
 use Rattle.nf_model_laws.proofs.Affine.{<_≤_trans}
-use Rattle.nf_curve_lists.specs.Composed.{points_between, points_along}
+use Rattle.nf_curve_def.specs.Composed.{points_between, points_along}
 use Rattle.nf_curve.specs.Places.{place_of}
 use Rattle.nf_curve.specs.Steps.{behind}
 use Rattle.nf_curve.proofs.Placing.{place-behind, place-past, place-rises, rises-rest}

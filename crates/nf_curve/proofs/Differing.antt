@@ -4,14 +4,14 @@ use Rattle.std.specs.Prelude.{Option, Some, None, Ok, Err, IfSome, if◌then◌e
 use Rattle.nf_rational.specs.Rational.{ℚ}
 use Rattle.nf_rational.specs.Order.{◌≤ℚ◌, ◌<ℚ◌, lt_ℚ}
 use Rattle.nf_rational_laws.proofs.Tests.{lt_ℚ_cases}
-use Rattle.nf_work.specs.Passing.{Passing}
-use Rattle.nf_work.specs.declared.Part.{Part}
-use Rattle.nf_work.specs.declared.PassedAt.{PassedAt}
-use Rattle.nf_work.specs.Checked.{Checked, at_part, ◌>>=◌}
+use Rattle.nf_frac_def.specs.Passing.{Passing}
+use Rattle.nf_frac_def.specs.declared.Part.{Part}
+use Rattle.nf_frac_def.specs.declared.PassedAt.{PassedAt}
+use Rattle.nf_frac_def.specs.Checked.{Checked, at_part, ◌>>=◌}
 use Rattle.nf_model.specs.Curve.{Point}
-use Rattle.nf_curve_lists.specs.Lines.{Sides}
-use Rattle.nf_curve_lists.specs.Sums.{sides_at}
-use Rattle.nf_curve_lists.specs.Differences.{do_differ, times_before, if_differ, differ_at, difference_here, difference_from}
+use Rattle.nf_curve_def.specs.Lines.{Sides}
+use Rattle.nf_curve_def.specs.Sums.{sides_at}
+use Rattle.nf_curve_def.specs.Differences.{do_differ, times_before, if_differ, differ_at, difference_here, difference_from}
 use Rattle.nf_curve.specs.Moments.{IsThere, times_left, only_before}
 use Rattle.nf_curve.specs.Steps.{difference_step}
 use Rattle.nf_curve.specs.declared.walk.Moment.{Moment}

@@ -6,13 +6,13 @@ use Rattle.nf_rational.specs.Operations.{0ℚ, ◌-ℚ◌, ◌*ℚ◌}
 use Rattle.nf_rational.specs.Order.{◌<ℚ◌}
 use Rattle.nf_rational_laws.proofs.Polynomial.{reading_of}
 use Rattle.nf_rational_laws.proofs.Linear.{lt, eq, eq_times, linear_eq, linear_false}
-use Rattle.nf_work.specs.Passing.{Passing}
-use Rattle.nf_work.specs.Checked.{Checked, checked}
-use Rattle.nf_work.specs.declared.Op.TheVariants.{Difference}
+use Rattle.nf_frac_def.specs.Passing.{Passing}
+use Rattle.nf_frac_def.specs.Checked.{Checked, checked}
+use Rattle.nf_frac_def.specs.declared.Op.TheVariants.{Difference}
 use Rattle.nf_model.specs.Curve.{Point, slope}
 use Rattle.nf_model_laws.proofs.Curves.{slope-times}
-use Rattle.nf_curve_lists.specs.Lines.{Sides, checked_slope}
-use Rattle.nf_curve_lists.specs.Least.{is_crossed}
+use Rattle.nf_curve_def.specs.Lines.{Sides, checked_slope}
+use Rattle.nf_curve_def.specs.Least.{is_crossed}
 use Rattle.nf_curve_laws.proofs.Operations.{checked-is, checked_slope-is}
 use Rattle.nf_curve_laws.proofs.Least.{Crossing, rises, falls, left_below, right_below, is_crossed-is}
 

@@ -9,15 +9,15 @@ use Rattle.nf_rational_laws.proofs.Order.{≤ℚ_of_lt, not_both_ℚ}
 use Rattle.nf_rational_laws.proofs.Polynomial.{reading_of}
 use Rattle.nf_rational_laws.proofs.Linear.{le, lt, linear_lt}
 use Rattle.nf_rational_laws.proofs.Tests.{lt_ℚ_cases}
-use Rattle.nf_work.specs.Passing.{Passing}
-use Rattle.nf_work.specs.Checked.{at_part}
-use Rattle.nf_work.specs.declared.Part.{Part}
-use Rattle.nf_work.specs.declared.PassedAt.{PassedAt}
+use Rattle.nf_frac_def.specs.Passing.{Passing}
+use Rattle.nf_frac_def.specs.Checked.{at_part}
+use Rattle.nf_frac_def.specs.declared.Part.{Part}
+use Rattle.nf_frac_def.specs.declared.PassedAt.{PassedAt}
 use Rattle.nf_model.specs.Curve.{Point, TimesRise, IsCurve}
 use Rattle.nf_model_laws.proofs.Affine.{<_≤_trans}
-use Rattle.nf_lists.specs.Signs.{is_same}
-use Rattle.nf_curve_lists.specs.Lines.{checked_line}
-use Rattle.nf_curve_lists.specs.Values.{value_from, checked_value}
+use Rattle.nf_rational.specs.Signs.{is_same}
+use Rattle.nf_curve_def.specs.Lines.{checked_line}
+use Rattle.nf_curve_def.specs.Values.{value_from, checked_value}
 use Rattle.nf_curve_laws.proofs.Operations.{is_same_cases}
 use Rattle.nf_curve.specs.Places.{place_of, value_between}
 use Rattle.nf_rational_laws.proofs.Chains.{≤ℚ_refl, ≤ℚ_trans}

@@ -6,12 +6,12 @@ use Rattle.nf_rational.specs.Operations.{0ℚ}
 use Rattle.nf_rational.specs.Order.{◌≤ℚ◌, ◌<ℚ◌, lt_ℚ}
 use Rattle.nf_rational_laws.proofs.Order.{≤ℚ_of_lt, ≤ℚ_of_same, not_both_ℚ}
 use Rattle.nf_rational_laws.proofs.Tests.{lt_ℚ_cases}
-use Rattle.nf_work.specs.Passing.{Passing}
-use Rattle.nf_work.specs.Checked.{Checked}
+use Rattle.nf_frac_def.specs.Passing.{Passing}
+use Rattle.nf_frac_def.specs.Checked.{Checked}
 use Rattle.nf_model.specs.Curve.{Point, TimesRise, IsCurve}
 use Rattle.nf_model_laws.proofs.Affine.{<_≤_trans}
-use Rattle.nf_lists.specs.Signs.{is_same}
-use Rattle.nf_curve_lists.specs.Differences.{turn_at, turns_from, checked_turn}
+use Rattle.nf_rational.specs.Signs.{is_same}
+use Rattle.nf_curve_def.specs.Differences.{turn_at, turns_from, checked_turn}
 use Rattle.nf_curve_laws.proofs.Operations.{is_same_cases}
 use Rattle.nf_curve.specs.Places.{place_of}
 use Rattle.nf_curve.specs.Steps.{turn_between}

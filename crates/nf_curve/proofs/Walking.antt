@@ -7,7 +7,7 @@ use Rattle.nf_rational.specs.Order.{◌≤ℚ◌, ◌<ℚ◌, lt_ℚ, min_ℚ}
 use Rattle.nf_rational_laws.proofs.Order.{≤ℚ_of_lt, ≤ℚ_of_same, not_both_ℚ}
 use Rattle.nf_rational_laws.proofs.Tests.{lt_ℚ_cases}
 use Rattle.nf_model.specs.Curve.{Point, TimesRise, IsCurve}
-use Rattle.nf_curve_lists.specs.Times.{merged, times_of, both_times}
+use Rattle.nf_curve_def.specs.Times.{merged, times_of, both_times}
 use Rattle.nf_curve_laws.proofs.Times.{merged_from-cases}
 use Rattle.nf_curve.specs.Places.{place_of, later, times_after, earlier_of, ComesNext}
 use Rattle.nf_curve.specs.Moments.{IsMoment, times_left}

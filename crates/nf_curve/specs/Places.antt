@@ -3,12 +3,12 @@ use Rattle.std.specs.Prelude.{◌≡◌, ℕ, zero, suc, if◌then◌else◌, Li
 use Rattle.nf_rational.specs.Rational.{ℚ}
 use Rattle.nf_rational.specs.Operations.{0ℚ}
 use Rattle.nf_rational.specs.Order.{◌<ℚ◌, lt_ℚ, min_ℚ}
-use Rattle.nf_work.specs.Passing.{Passing}
-use Rattle.nf_work.specs.Checked.{Checked}
+use Rattle.nf_frac_def.specs.Passing.{Passing}
+use Rattle.nf_frac_def.specs.Checked.{Checked}
 use Rattle.nf_model.specs.Curve.{Point}
-use Rattle.nf_lists.specs.Signs.{is_same}
-use Rattle.nf_curve_lists.specs.Lines.{checked_line}
-use Rattle.nf_curve_lists.specs.Times.{merged, times_of}
+use Rattle.nf_rational.specs.Signs.{is_same}
+use Rattle.nf_curve_def.specs.Lines.{checked_line}
+use Rattle.nf_curve_def.specs.Times.{merged, times_of}
 
 -- counts the leading points at or before a time
 abbrev pub place_of : ℚ → List Point → ℕ

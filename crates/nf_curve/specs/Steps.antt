@@ -1,13 +1,13 @@
 -- Single steps of the loops over curves.
 use Rattle.std.specs.Prelude.{Bool, false, List, [], ◌∷◌, ◌++◌, Option, Some, None, if◌then◌else◌, Ok}
 use Rattle.nf_rational.specs.Rational.{ℚ}
-use Rattle.nf_work.specs.Passing.{Passing}
-use Rattle.nf_work.specs.Checked.{Checked, ◌>>=◌}
+use Rattle.nf_frac_def.specs.Passing.{Passing}
+use Rattle.nf_frac_def.specs.Checked.{Checked, ◌>>=◌}
 use Rattle.nf_model.specs.Curve.{Point}
-use Rattle.nf_curve_lists.specs.Lines.{Sides}
-use Rattle.nf_curve_lists.specs.Sums.{sides_at}
-use Rattle.nf_curve_lists.specs.Differences.{do_differ, turn_at, differ_at}
-use Rattle.nf_curve_lists.specs.Least.{is_crossed, least_point, crossing}
+use Rattle.nf_curve_def.specs.Lines.{Sides}
+use Rattle.nf_curve_def.specs.Sums.{sides_at}
+use Rattle.nf_curve_def.specs.Differences.{do_differ, turn_at, differ_at}
+use Rattle.nf_curve_def.specs.Least.{is_crossed, least_point, crossing}
 
 -- appends the next points to `front`
 abbrev pub behind : List Point → Checked (List Point) → Checked (List Point)

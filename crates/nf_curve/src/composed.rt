@@ -4,10 +4,10 @@ ghost use Rattle.std.specs.List.{filter};
 ghost use Rattle.nf_rational.specs.Rational.{ℚ};
 ghost use Rattle.nf_rational.specs.Operations.{0ℚ};
 ghost use Rattle.nf_rational.specs.Order.{◌≤ℚ◌, ◌<ℚ◌, lt_ℚ};
-ghost use Rattle.nf_work.specs.Passing.{passes_Q};
-ghost use Rattle.nf_work.specs.Checked.{at_part, each, Gives};
+ghost use Rattle.nf_frac_def.specs.Passing.{passes_Q};
+ghost use Rattle.nf_frac_def.specs.Checked.{at_part, each, Gives};
 ghost use Rattle.nf_model.specs.Curve.{IsCurve, Within, value};
-ghost use Rattle.nf_curve_lists.specs.Composed.{corner_at as corner_by, points_along, composed_piece, composed_all, checked_composed};
+ghost use Rattle.nf_curve_def.specs.Composed.{corner_at as corner_by, points_along, composed_piece, composed_all, checked_composed};
 ghost use Rattle.nf_curve.specs.Places.{place_of};
 ghost use Rattle.nf_curve.specs.Steps.{behind};
 
@@ -180,7 +180,7 @@ fn composed_points(
 }
 
 /// Returns the points of the composition of `outer` and `inner`, for times from 0 to `last`.
-#[tactic(auto, unfolding(nf_curve_lists::specs::Composed::checked_composed))]
+#[tactic(auto, unfolding(nf_curve_def::specs::Composed::checked_composed))]
 pub(crate) fn composed_until(
     alloc: Global,
     outer: &[Point],

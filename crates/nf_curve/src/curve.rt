@@ -3,16 +3,16 @@ ghost use Rattle.std.specs.Prelude.{◌≡◌, ℕ, ◌+◌, ◌<◌, ◌≤◌,
 ghost use Rattle.nf_rational.specs.Rational.{ℚ};
 ghost use Rattle.nf_rational.specs.Operations.{0ℚ};
 ghost use Rattle.nf_rational.specs.Order.{◌≤ℚ◌, ◌<ℚ◌};
-ghost use Rattle.nf_work.specs.Passing.{passes_Q};
-ghost use Rattle.nf_work.specs.Checked.{at_part, seen_at, Gives};
+ghost use Rattle.nf_frac_def.specs.Passing.{passes_Q};
+ghost use Rattle.nf_frac_def.specs.Checked.{at_part, seen_at, Gives};
 ghost use Rattle.nf_model.specs.Curve.{IsCurve, Within, value as value_of};
-ghost use Rattle.nf_curve_lists.specs.Values.{checked_value, checked_cut};
-ghost use Rattle.nf_curve_lists.specs.Sums.{checked_sum};
-ghost use Rattle.nf_curve_lists.specs.Least.{checked_least};
-ghost use Rattle.nf_curve_lists.specs.Composed.{checked_composed};
-ghost use Rattle.nf_curve_lists.specs.Short.{checked_short};
-ghost use Rattle.nf_curve_lists.specs.Differences.{checked_difference};
-ghost use Rattle.nf_curve_lists.specs.Meanings.{IsSumOf, IsLeastOf, IsComposedOf, IsCutOf, IsShortOf, IsDifference};
+ghost use Rattle.nf_curve_def.specs.Values.{checked_value, checked_cut};
+ghost use Rattle.nf_curve_def.specs.Sums.{checked_sum};
+ghost use Rattle.nf_curve_def.specs.Least.{checked_least};
+ghost use Rattle.nf_curve_def.specs.Composed.{checked_composed};
+ghost use Rattle.nf_curve_def.specs.Short.{checked_short};
+ghost use Rattle.nf_curve_def.specs.Differences.{checked_difference};
+ghost use Rattle.nf_curve_def.specs.Meanings.{IsSumOf, IsLeastOf, IsComposedOf, IsCutOf, IsShortOf, IsDifference};
 ghost use Rattle.nf_curve.specs.Points.{last_time};
 ghost use Rattle.nf_curve.specs.Sides.{sides_of};
 ghost use Rattle.nf_curve.specs.Differences.{difference_of};
@@ -34,7 +34,7 @@ use std::marker::Model;
 /// chooses.
 ///
 /// Each computing call takes a `Part` and performs one operation sequence in order. The clause `list` of its contract names the
-/// sequence's definition, in nf_curve_lists. The call returns `Passed` exactly if one of these operations passes the bound. `Passed`
+/// sequence's definition, in nf_curve_def. The call returns `Passed` exactly if one of these operations passes the bound. `Passed`
 /// carries the first such operation and the part.
 #[derive(Drop)]
 pub struct Curve {
@@ -132,7 +132,7 @@ impl Curve {
     }
 
     /// Returns the value at `time`, which must be at least 0. The operation sequence is `checked_value` in
-    /// nf_curve_lists/specs/Values.antt. Returns `PassedAt` exactly if one of its operations passes: the first one, with `part`. Does not
+    /// nf_curve_def/specs/Values.antt. Returns `PassedAt` exactly if one of its operations passes: the first one, with `part`. Does not
     /// allocate.
     pub fn value(&self, time: Q, part: Part) -> Result<Q, PassedAt<Q>>
         requires { 0ℚ ≤ℚ time }
@@ -143,7 +143,7 @@ impl Curve {
         value_at(&self.points, place, time, part)
     }
 
-    /// Returns the pointwise sum of two curves. The operation sequence is `checked_sum` in nf_curve_lists/specs/Sums.antt. Returns
+    /// Returns the pointwise sum of two curves. The operation sequence is `checked_sum` in nf_curve_def/specs/Sums.antt. Returns
     /// `Passed` exactly if one of its operations passes: the first one, with `part`.
     pub fn sum(alloc: Global, left: &Curve, right: &Curve, part: Part) -> Result<Curve, Halt<Q>>
         ensures list { Gives (λ c. c.points) (λ q. q) result
@@ -154,7 +154,7 @@ impl Curve {
         Ok(Curve { points })
     }
 
-    /// Returns the pointwise minimum of two curves. The operation sequence is `checked_least` in nf_curve_lists/specs/Least.antt. Returns
+    /// Returns the pointwise minimum of two curves. The operation sequence is `checked_least` in nf_curve_def/specs/Least.antt. Returns
     /// `Passed` exactly if one of its operations passes: the first one, with `part`.
     pub fn least(alloc: Global, left: &Curve, right: &Curve, part: Part) -> Result<Curve, Halt<Q>>
         ensures list { Gives (λ c. c.points) (λ q. q) result
@@ -166,7 +166,7 @@ impl Curve {
     }
 
     /// Returns the curve up to the time `last`, which must be at least 0: its points before `last`, then a point at `last`. The operation
-    /// sequence is `checked_cut` in nf_curve_lists/specs/Values.antt. Returns `Passed` exactly if one of its operations passes: the first
+    /// sequence is `checked_cut` in nf_curve_def/specs/Values.antt. Returns `Passed` exactly if one of its operations passes: the first
     /// one, with `part`.
     pub fn cut(&self, alloc: Global, last: Q, part: Part) -> Result<Curve, Halt<Q>>
         requires { 0ℚ ≤ℚ last }
@@ -179,7 +179,7 @@ impl Curve {
     }
 
     /// Returns the composition `outer(inner(time))` for times from 0 to `until`, which must be at least 0. The values of `inner` at these
-    /// times must not be negative. The operation sequence is `checked_composed` in nf_curve_lists/specs/Composed.antt. Returns `Passed`
+    /// times must not be negative. The operation sequence is `checked_composed` in nf_curve_def/specs/Composed.antt. Returns `Passed`
     /// exactly if one of its operations passes: the first one, with `part`.
     pub fn compose(
         alloc: Global,
@@ -199,7 +199,7 @@ impl Curve {
     }
 
     /// Returns the same function in short form, without inner points at which the slope stays the same. The operation sequence is
-    /// `checked_short` in nf_curve_lists/specs/Short.antt. Returns `Passed` exactly if one of its operations passes: the first one, with
+    /// `checked_short` in nf_curve_def/specs/Short.antt. Returns `Passed` exactly if one of its operations passes: the first one, with
     /// `part`.
     pub fn short(alloc: Global, curve: &Curve, part: Part) -> Result<Curve, Halt<Q>>
         ensures list { Gives (λ c. c.points) (λ q. q) result
@@ -212,7 +212,7 @@ impl Curve {
 
     /// Returns the first corner in [0, `until`] at which two curves differ, with both values. Returns None exactly if the curves agree at
     /// all these times. Corners are time 0, `until`, and the times between at which the slope of either curve changes. `until` must be at
-    /// least 0. The operation sequence is `checked_difference` in nf_curve_lists/specs/Differences.antt. Returns `PassedAt` exactly if
+    /// least 0. The operation sequence is `checked_difference` in nf_curve_def/specs/Differences.antt. Returns `PassedAt` exactly if
     /// one of its operations passes: the first one, with `part`. Does not allocate.
     pub fn first_difference(
         left: &Curve,

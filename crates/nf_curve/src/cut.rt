@@ -2,10 +2,10 @@
 ghost use Rattle.std.specs.Prelude.{◌≡◌, ◌++◌, OnOk};
 ghost use Rattle.nf_rational.specs.Operations.{0ℚ};
 ghost use Rattle.nf_rational.specs.Order.{◌≤ℚ◌};
-ghost use Rattle.nf_work.specs.Passing.{passes_Q};
-ghost use Rattle.nf_work.specs.Checked.{at_part, Gives};
+ghost use Rattle.nf_frac_def.specs.Passing.{passes_Q};
+ghost use Rattle.nf_frac_def.specs.Checked.{at_part, Gives};
 ghost use Rattle.nf_model.specs.Curve.{IsCurve};
-ghost use Rattle.nf_curve_lists.specs.Values.{points_before, checked_cut};
+ghost use Rattle.nf_curve_def.specs.Values.{points_before, checked_cut};
 
 use crate::lines::Point;
 use crate::places::{place_up, value_at};
@@ -26,7 +26,7 @@ fn add_before(cut: &mut Vec<Point>, points: &[Point], last: Q) -> Result<(), All
 }
 
 /// Returns the points of a curve before `last`, followed by a point at `last`.
-#[tactic(auto, unfolding(nf_curve_lists::specs::Values::checked_cut))]
+#[tactic(auto, unfolding(nf_curve_def::specs::Values::checked_cut))]
 pub(crate) fn cut_points(
     alloc: Global,
     points: &[Point],

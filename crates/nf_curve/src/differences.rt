@@ -2,11 +2,11 @@
 ghost use Rattle.std.specs.Prelude.{◌≡◌, [], ◌∷◌, ◌≤◌, ◌-◌, length, slice_get, option_map};
 ghost use Rattle.nf_rational.specs.Operations.{0ℚ};
 ghost use Rattle.nf_rational.specs.Order.{◌≤ℚ◌, ◌<ℚ◌};
-ghost use Rattle.nf_work.specs.Passing.{passes_Q};
-ghost use Rattle.nf_work.specs.Checked.{at_part, seen_at};
+ghost use Rattle.nf_frac_def.specs.Passing.{passes_Q};
+ghost use Rattle.nf_frac_def.specs.Checked.{at_part, seen_at};
 ghost use Rattle.nf_model.specs.Curve.{IsCurve, TimesRise};
-ghost use Rattle.nf_lists.specs.Signs.{is_same as is_same_by};
-ghost use Rattle.nf_curve_lists.specs.Differences.{do_differ as do_differ_by, turn_at, checked_turn, turns_at, checked_difference};
+ghost use Rattle.nf_rational.specs.Signs.{is_same as is_same_by};
+ghost use Rattle.nf_curve_def.specs.Differences.{do_differ as do_differ_by, turn_at, checked_turn, turns_at, checked_difference};
 ghost use Rattle.nf_curve.specs.Sides.{sides_of};
 ghost use Rattle.nf_curve.specs.Places.{place_of};
 ghost use Rattle.nf_curve.specs.Moments.{IsMoment, only_before as only_before_by};

@@ -1,7 +1,7 @@
 // The flow over time of a run.
 use crate::curve::Curve;
-use nf_formats::Cause;
 use nf_frac::Q;
+use nf_net_def::Cause;
 
 /// A cumulative amount by time. Each point but the last has a rate: the slope from that point to the next.
 #[derive(Drop)]

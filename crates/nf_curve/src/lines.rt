@@ -1,10 +1,10 @@
 // Operations on pieces of curves. A piece leads from one point to a later one.
 ghost use Rattle.std.specs.Prelude.{◌≡◌, ◌≢◌, true};
 ghost use Rattle.nf_rational.specs.Order.{◌<ℚ◌};
-ghost use Rattle.nf_work.specs.Passing.{passes_Q};
-ghost use Rattle.nf_work.specs.Checked.{at_part};
-ghost use Rattle.nf_curve_lists.specs.Lines.{checked_slope, checked_line, checked_inverse, checked_cross};
-ghost use Rattle.nf_curve_lists.specs.Least.{is_crossed};
+ghost use Rattle.nf_frac_def.specs.Passing.{passes_Q};
+ghost use Rattle.nf_frac_def.specs.Checked.{at_part};
+ghost use Rattle.nf_curve_def.specs.Lines.{checked_slope, checked_line, checked_inverse, checked_cross};
+ghost use Rattle.nf_curve_def.specs.Least.{is_crossed};
 ghost use Rattle.nf_curve.specs.Sides.{sides_of};
 
 use nf_frac::{Part, PassedAt, Q, at};
@@ -22,7 +22,7 @@ pub struct Sides {
 
 /// Returns the slope from one point to a later one, in value per unit of time. Returns `PassedAt` exactly if an operation of
 /// `checked_slope` passes: the first one, with `part`. Does not allocate.
-#[tactic(auto, unfolding(nf_curve_lists::specs::Lines::checked_slope), using(crate::proofs::Pieces::run_apart))]
+#[tactic(auto, unfolding(nf_curve_def::specs::Lines::checked_slope), using(crate::proofs::Pieces::run_apart))]
 pub fn slope(p: &Point, q: &Point, part: Part) -> Result<Q, PassedAt<Q>>
     requires { p.now.0 <ℚ q.now.0 }
     ensures { result ≡ at_part part (checked_slope passes_Q p.now q.now) }
@@ -35,7 +35,7 @@ pub fn slope(p: &Point, q: &Point, part: Part) -> Result<Q, PassedAt<Q>>
 
 /// Returns the value at `time` on the line through a point and a later one. Returns `PassedAt` exactly if an operation of `checked_line`
 /// passes: the first one, with `part`. Does not allocate.
-#[tactic(auto, unfolding(nf_curve_lists::specs::Lines::checked_line))]
+#[tactic(auto, unfolding(nf_curve_def::specs::Lines::checked_line))]
 pub fn line(p: &Point, q: &Point, time: Q, part: Part) -> Result<Q, PassedAt<Q>>
     requires { p.now.0 <ℚ q.now.0 }
     ensures { result ≡ at_part part (checked_line passes_Q p.now q.now time) }
@@ -48,7 +48,7 @@ pub fn line(p: &Point, q: &Point, time: Q, part: Part) -> Result<Q, PassedAt<Q>>
 }
 
 /// Returns the time at which the line through two points of different values has this value.
-#[tactic(auto, unfolding(nf_curve_lists::specs::Lines::checked_inverse), using(crate::proofs::Pieces::slope_apart))]
+#[tactic(auto, unfolding(nf_curve_def::specs::Lines::checked_inverse), using(crate::proofs::Pieces::slope_apart))]
 pub(crate) fn inverse(p: &Point, q: &Point, value: Q, part: Part) -> Result<Q, PassedAt<Q>>
     requires later { p.now.0 <ℚ q.now.0 }
     requires apart { p.now.1 ≢ q.now.1 }
@@ -63,7 +63,7 @@ pub(crate) fn inverse(p: &Point, q: &Point, value: Q, part: Part) -> Result<Q, P
 
 /// Returns the time at which two curves cross. Both are linear between the two times, and the lower one at the first is the higher one at
 /// the second.
-#[tactic(auto, unfolding(nf_curve_lists::specs::Lines::checked_cross), using(crate::proofs::Pieces::change_apart))]
+#[tactic(auto, unfolding(nf_curve_def::specs::Lines::checked_cross), using(crate::proofs::Pieces::change_apart))]
 pub(crate) fn crossing_time(a: &Sides, b: &Sides, part: Part) -> Result<Q, PassedAt<Q>>
     requires { is_crossed (sides_of a.now) (sides_of b.now) ≡ true }
     ensures { result ≡ at_part part (checked_cross passes_Q (sides_of a.now) (sides_of b.now)) }

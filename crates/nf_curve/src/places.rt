@@ -2,10 +2,10 @@
 ghost use Rattle.std.specs.Prelude.{◌≡◌, ◌≤◌, length};
 ghost use Rattle.nf_rational.specs.Operations.{0ℚ};
 ghost use Rattle.nf_rational.specs.Order.{◌≤ℚ◌};
-ghost use Rattle.nf_work.specs.Passing.{beyond, passes_Q};
-ghost use Rattle.nf_work.specs.Checked.{at_part};
+ghost use Rattle.nf_frac_def.specs.Passing.{beyond, passes_Q};
+ghost use Rattle.nf_frac_def.specs.Checked.{at_part};
 ghost use Rattle.nf_model.specs.Curve.{IsCurve, TimesRise};
-ghost use Rattle.nf_curve_lists.specs.Values.{checked_value};
+ghost use Rattle.nf_curve_def.specs.Values.{checked_value};
 ghost use Rattle.nf_curve.specs.Places.{place_of};
 
 use crate::lines::{Point, line};

@@ -1,10 +1,10 @@
 // A curve in short form.
 ghost use Rattle.std.specs.Prelude.{◌≡◌, [], ◌∷◌, ◌++◌, if◌then◌else◌, OnOk};
-ghost use Rattle.nf_work.specs.Passing.{passes_Q};
-ghost use Rattle.nf_work.specs.Checked.{at_part, Gives};
+ghost use Rattle.nf_frac_def.specs.Passing.{passes_Q};
+ghost use Rattle.nf_frac_def.specs.Checked.{at_part, Gives};
 ghost use Rattle.nf_model.specs.Curve.{IsCurve};
-ghost use Rattle.nf_lists.specs.Signs.{is_same as is_same_by};
-ghost use Rattle.nf_curve_lists.specs.Short.{checked_short};
+ghost use Rattle.nf_rational.specs.Signs.{is_same as is_same_by};
+ghost use Rattle.nf_curve_def.specs.Short.{checked_short};
 
 use crate::lines::{Point, slope};
 use nf_frac::{Halt, Part, Q};

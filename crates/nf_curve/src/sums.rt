@@ -1,9 +1,9 @@
 // The sum of two curves.
 ghost use Rattle.std.specs.Prelude.{◌≡◌};
-ghost use Rattle.nf_work.specs.Passing.{passes_Q};
-ghost use Rattle.nf_work.specs.Checked.{at_part, Gives};
+ghost use Rattle.nf_frac_def.specs.Passing.{passes_Q};
+ghost use Rattle.nf_frac_def.specs.Checked.{at_part, Gives};
 ghost use Rattle.nf_model.specs.Curve.{IsCurve};
-ghost use Rattle.nf_curve_lists.specs.Sums.{sum_at as sum_by, checked_sum};
+ghost use Rattle.nf_curve_def.specs.Sums.{sum_at as sum_by, checked_sum};
 ghost use Rattle.nf_curve.specs.Moments.{IsMoment};
 
 use crate::lines::Point;

@@ -2,11 +2,11 @@
 ghost use Rattle.std.specs.Prelude.{◌≡◌, ◌∷◌, slice_get, option_map, IfSome, IfOk};
 ghost use Rattle.nf_rational.specs.Operations.{0ℚ};
 ghost use Rattle.nf_rational.specs.Order.{◌<ℚ◌};
-ghost use Rattle.nf_work.specs.Passing.{passes_Q};
-ghost use Rattle.nf_work.specs.Checked.{at_part, seen_at};
+ghost use Rattle.nf_frac_def.specs.Passing.{passes_Q};
+ghost use Rattle.nf_frac_def.specs.Checked.{at_part, seen_at};
 ghost use Rattle.nf_model.specs.Curve.{IsCurve};
-ghost use Rattle.nf_curve_lists.specs.Times.{both_times};
-ghost use Rattle.nf_curve_lists.specs.Sums.{sides_at as sides_by};
+ghost use Rattle.nf_curve_def.specs.Times.{both_times};
+ghost use Rattle.nf_curve_def.specs.Sums.{sides_at as sides_by};
 ghost use Rattle.nf_curve.specs.Sides.{sides_of};
 ghost use Rattle.nf_curve.specs.Places.{earlier_of, times_after};
 ghost use Rattle.nf_curve.specs.Moments.{IsMoment, IsThere, times_left};
@@ -83,7 +83,7 @@ pub fn next_moment(left: &[Point], right: &[Point], now: &Moment) -> Option<Mome
 }
 
 /// Returns both values at the time `now` of the merge, each in the unit of its curve. Returns `PassedAt` exactly if an operation of
-/// `sides_at` (nf_curve_lists/specs/Sums.antt) passes: the first one, with `part`. Does not allocate.
+/// `sides_at` (nf_curve_def/specs/Sums.antt) passes: the first one, with `part`. Does not allocate.
 pub fn sides_at(
     left: &[Point],
     right: &[Point],

@@ -3,16 +3,16 @@ use Rattle.std.specs.Prelude.{◌≡◌, List, [], ◌∷◌, ◌++◌, Option, 
 use Rattle.nf_rational.specs.Rational.{ℚ}
 use Rattle.nf_rational.specs.Operations.{0ℚ}
 use Rattle.nf_rational.specs.Order.{◌≤ℚ◌}
-use Rattle.nf_work.specs.Passing.{Passing}
+use Rattle.nf_frac_def.specs.Passing.{Passing}
 use Rattle.nf_model.specs.Curve.{Point, Within, value, IsCurve}
-use Rattle.nf_curve_lists.specs.Lines.{Sides}
-use Rattle.nf_curve_lists.specs.Values.{points_before, checked_value, checked_cut}
-use Rattle.nf_curve_lists.specs.Sums.{checked_sum}
-use Rattle.nf_curve_lists.specs.Least.{checked_least}
-use Rattle.nf_curve_lists.specs.Composed.{checked_composed}
-use Rattle.nf_curve_lists.specs.Short.{checked_short}
-use Rattle.nf_curve_lists.specs.Differences.{checked_difference}
-use Rattle.nf_curve_lists.specs.Meanings.{IsCutOf, IsSumOf, IsLeastOf, IsComposedOf, IsShortOf, IsDifference}
+use Rattle.nf_curve_def.specs.Lines.{Sides}
+use Rattle.nf_curve_def.specs.Values.{points_before, checked_value, checked_cut}
+use Rattle.nf_curve_def.specs.Sums.{checked_sum}
+use Rattle.nf_curve_def.specs.Least.{checked_least}
+use Rattle.nf_curve_def.specs.Composed.{checked_composed}
+use Rattle.nf_curve_def.specs.Short.{checked_short}
+use Rattle.nf_curve_def.specs.Differences.{checked_difference}
+use Rattle.nf_curve_def.specs.Meanings.{IsCutOf, IsSumOf, IsLeastOf, IsComposedOf, IsShortOf, IsDifference}
 
 abbrev pub ValueIs : Type 0
 ValueIs = (passes : Passing) (points : List Point) (time y : ℚ) → IsCurve points → 0ℚ ≤ℚ time → checked_value passes points time ≡ Ok y

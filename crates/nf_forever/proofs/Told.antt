@@ -5,26 +5,26 @@ use Rattle.std.proofs.lemmas.Option.{none-some}
 use Rattle.nf_rational.specs.Rational.{ℚ}
 use Rattle.nf_rational.specs.Operations.{0ℚ}
 use Rattle.nf_rational.specs.Order.{◌≤ℚ◌}
-use Rattle.nf_work.specs.Passing.{Passing}
+use Rattle.nf_frac_def.specs.Passing.{Passing}
 use Rattle.nf_model.specs.Network.{Network, IsNetwork}
 use Rattle.nf_model.specs.ThinFlow.{sets_at}
 use Rattle.nf_model.specs.Pattern.{Pattern, IsListedIn}
 use Rattle.nf_model.specs.Equilibrium.{Equilibrium}
-use Rattle.nf_formats.specs.declared.Cause.{Cause}
-use Rattle.nf_formats_laws.proofs.ReportFacts.{have_rates}
-use Rattle.nf_lists.specs.PhaseRun.{Standing, flow_of}
-use Rattle.nf_lists_laws.proofs.OneRun.{length-sets}
-use Rattle.nf_run_laws.proofs.WellRun.{WellRun}
-use Rattle.nf_run_laws.proofs.Run.{HasShape-well, HasSlopes-well}
+use Rattle.nf_net_def.specs.declared.Cause.{Cause}
+use Rattle.nf_net_laws.proofs.ReportFacts.{have_rates}
+use Rattle.nf_thin_def.specs.PhaseRun.{Standing, flow_of}
+use Rattle.nf_thin_laws.proofs.OneRun.{length-sets}
+use Rattle.nf_phase_laws.proofs.WellRun.{WellRun}
+use Rattle.nf_phase_laws.proofs.Run.{HasShape-well, HasSlopes-well}
 use Rattle.nf_curve.specs.Flows.{flow_of as flow_in}
-use Rattle.nf_forever_lists.specs.Tails.{Tail}
-use Rattle.nf_forever_lists.specs.ForeverRun.{GoesForever, End, Stops, NeverEnds, RunsForever, at_phases, fails, never_ends, goes, IsForeverRun, Forever, forever_of, IsForever}
-use Rattle.nf_forever_lists.specs.Extended.{flow_until}
-use Rattle.nf_forever_lists.specs.ForeverText.{HasForm}
-use Rattle.nf_lists_laws.proofs.OneRun.{goes_knows, start_knows}
+use Rattle.nf_forever_def.specs.Tails.{Tail}
+use Rattle.nf_forever_def.specs.ForeverRun.{GoesForever, End, Stops, NeverEnds, RunsForever, at_phases, fails, never_ends, goes, IsForeverRun, Forever, forever_of, IsForever}
+use Rattle.nf_forever_def.specs.Extended.{flow_until}
+use Rattle.nf_forever_def.specs.ForeverText.{HasForm}
+use Rattle.nf_thin_laws.proofs.OneRun.{goes_knows, start_knows}
 use Rattle.nf_forever_laws.proofs.Run.{well_forever, Equilibrium-forever, Equilibrium-until}
-use Rattle.nf_growth_laws.specs.TailGrowth.{TailGrows}
-use Rattle.nf_growth_laws.proofs.Tail.{TailGrows-forever}
+use Rattle.nf_forever_laws.specs.TailGrowth.{TailGrows}
+use Rattle.nf_forever_laws.proofs.Tail.{TailGrows-forever}
 use Rattle.nf_forever.specs.declared.forever.Tail as code
 use Rattle.nf_forever.specs.declared.forever.Forever as told
 use Rattle.nf_forever.specs.Seen.{tail_in, forever_in}

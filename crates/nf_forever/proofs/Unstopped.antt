@@ -1,8 +1,8 @@
 -- The result is a run without a horizon, which never stops because no pattern is left.
 use Rattle.std.specs.Prelude.{ℕ, Result, Ok, Err, IfOk}
-use Rattle.nf_work.specs.Passing.{passes_Q}
+use Rattle.nf_frac_def.specs.Passing.{passes_Q}
 use Rattle.nf_model.specs.Network.{Network, IsNetwork}
-use Rattle.nf_forever_lists.specs.ForeverRun.{IsForever}
+use Rattle.nf_forever_def.specs.ForeverRun.{IsForever}
 use Rattle.nf_unstopped_laws.specs.Stops.{NeverNoPattern}
 use Rattle.nf_unstopped_laws.proofs.Stops.{never_forever}
 use Rattle.nf_forever.specs.declared.forever.Forever.{Forever}

@@ -1,14 +1,14 @@
 -- The parts of the text of a run without a horizon.
 use Rattle.std.specs.Prelude.{List, [], ◌∷◌, ◌++◌, length, Option, codes}
 use Rattle.nf_rational.specs.Rational.{ℚ}
-use Rattle.nf_numerals.specs.Printed.{printed}
-use Rattle.nf_formats.specs.declared.Cause.{Cause}
-use Rattle.nf_formats.specs.Causes.{cause_words}
-use Rattle.nf_formats.specs.Named.{Named}
-use Rattle.nf_formats.specs.Report.{for_each, state_lines}
+use Rattle.nf_frac_words.specs.Printed.{printed}
+use Rattle.nf_net_def.specs.declared.Cause.{Cause}
+use Rattle.nf_net_def.specs.Causes.{cause_words}
+use Rattle.nf_net_def.specs.Named.{Named}
+use Rattle.nf_net_def.specs.Report.{for_each, state_lines}
 use Rattle.nf_report.specs.Written.{Line}
-use Rattle.nf_forever_lists.specs.ForeverRun.{Forever}
-use Rattle.nf_forever_lists.specs.ForeverText.{tail_lines}
+use Rattle.nf_forever_def.specs.ForeverRun.{Forever}
+use Rattle.nf_forever_def.specs.ForeverText.{tail_lines}
 
 -- The first lines: the departure reached, and why the run stopped.
 abbrev pub head_lines : ℚ → Option (Cause ℚ) → List Line

@@ -1,8 +1,8 @@
 -- The result of a run without a horizon that a value of this crate represents.
 use Rattle.std.specs.Prelude.{option_map}
 use Rattle.nf_curve.specs.Flows.{flow_of}
-use Rattle.nf_forever_lists.specs.Tails as lists
-use Rattle.nf_forever_lists.specs.ForeverRun as runs
+use Rattle.nf_forever_def.specs.Tails as lists
+use Rattle.nf_forever_def.specs.ForeverRun as runs
 use Rattle.nf_forever.specs.declared.forever.Tail.{Tail}
 use Rattle.nf_forever.specs.declared.forever.Forever.{Forever}
 

@@ -3,16 +3,16 @@ ghost use Rattle.std.specs.Prelude.{◌≡◌, ◌↔◌, None, IfOk, IfSome, Is
 ghost use Rattle.nf_rational.specs.Rational.{ℚ};
 ghost use Rattle.nf_rational.specs.Operations.{0ℚ};
 ghost use Rattle.nf_rational.specs.Order.{◌≤ℚ◌};
-ghost use Rattle.nf_work.specs.Passing.{passes_Q};
+ghost use Rattle.nf_frac_def.specs.Passing.{passes_Q};
 ghost use Rattle.nf_model.specs.Equilibrium.{Equilibrium};
-ghost use Rattle.nf_lists.specs.PhaseRun.{IsStart};
+ghost use Rattle.nf_thin_def.specs.PhaseRun.{IsStart};
 ghost use Rattle.nf_curve.specs.Flows.{flow_of};
 ghost use Rattle.nf_phase.specs.Stepping.{tail_of};
-ghost use Rattle.nf_forever_lists.specs.ForeverRun.{Stops, NeverEnds, IsForeverRun, forever_of, IsForever};
-ghost use Rattle.nf_forever_lists.specs.Extended.{flow_until};
-ghost use Rattle.nf_forever_lists.specs.ForeverText.{HasForm};
+ghost use Rattle.nf_forever_def.specs.ForeverRun.{Stops, NeverEnds, IsForeverRun, forever_of, IsForever};
+ghost use Rattle.nf_forever_def.specs.Extended.{flow_until};
+ghost use Rattle.nf_forever_def.specs.ForeverText.{HasForm};
 ghost use Rattle.nf_unstopped_laws.specs.Stops.{NeverNoPattern};
-ghost use Rattle.nf_growth_laws.specs.TailGrowth.{TailGrows};
+ghost use Rattle.nf_forever_laws.specs.TailGrowth.{TailGrows};
 ghost use Rattle.nf_forever.specs.Seen.{tail_in, forever_in};
 ghost use Rattle.nf_forever.specs.Ends.{end_in, IsStopBy};
 

@@ -1,10 +1,10 @@
 // The lines of a tail: the slope of each node's label, and the flow of each link.
 ghost use Rattle.std.specs.Prelude.{◌≡◌, ◌<◌, [], ◌∷◌, ◌++◌, length};
 ghost use Rattle.nf_model.specs.Entries.{number_at};
-ghost use Rattle.nf_numerals.specs.Printed.{printed};
-ghost use Rattle.nf_formats.specs.Report.{for_each};
+ghost use Rattle.nf_frac_words.specs.Printed.{printed};
+ghost use Rattle.nf_net_def.specs.Report.{for_each};
 ghost use Rattle.nf_report.specs.Pages.{GatheredLines};
-ghost use Rattle.nf_forever_lists.specs.ForeverText.{slope_line, flow_line};
+ghost use Rattle.nf_forever_def.specs.ForeverText.{slope_line, flow_line};
 ghost use Rattle.nf_forever.specs.Seen.{tail_in};
 
 use crate::forever::Tail;

@@ -14,7 +14,7 @@ use Rattle.nf_model.specs.Earliest.{Arrives, IsEarliest}
 use Rattle.nf_model.specs.Equilibrium.{Flow, Equilibrium, TakesFlow, inflow, label}
 use Rattle.nf_model_laws.proofs.Queues.{IsExit-after}
 use Rattle.nf_model_laws.proofs.Earliest.{IsPositive-link}
-use Rattle.nf_forever_lists.specs.Extended.{up_to}
+use Rattle.nf_forever_def.specs.Extended.{up_to}
 use Rattle.nf_check_laws.proofs.Rising.{label-rises}
 use Rattle.nf_rational_laws.proofs.Chains.{≤ℚ_refl, ≤ℚ_trans}
 

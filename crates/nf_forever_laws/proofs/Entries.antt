@@ -8,8 +8,8 @@ use Rattle.nf_model.specs.Curve.{Point}
 use Rattle.nf_model.specs.Network.{Link, hop_of}
 use Rattle.nf_model.specs.ThinFlow.{slack}
 use Rattle.nf_model.specs.Equilibrium.{Trace}
-use Rattle.nf_lists.specs.Signs.{is_positive}
-use Rattle.nf_forever_lists.specs.Extended.{value_after, labels_then, queue_then, with_end, trace_with_end, labels_with_end, inflows_with_end, outflows_with_end, queues_with_end}
+use Rattle.nf_rational.specs.Signs.{is_positive}
+use Rattle.nf_forever_def.specs.Extended.{value_after, labels_then, queue_then, with_end, trace_with_end, labels_with_end, inflows_with_end, outflows_with_end, queues_with_end}
 
 pub labels_then_at : (w : ℚ) (slopes : List ℚ) (curves : List (List Point)) (v : ℕ) (r : ℚ) (ps : List Point) → slice_get slopes v ≡ Some r → slice_get curves v ≡ Some ps
     → slice_get (labels_then w slopes curves) v ≡ Some (value_after ps w r)

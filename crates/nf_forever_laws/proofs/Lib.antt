@@ -6,3 +6,12 @@ pub mod Run
 pub mod Outcomes
 pub mod OneForever
 pub mod Stopped
+pub mod Cuts
+pub mod Endless
+pub mod Growth
+pub mod Least
+pub mod LeastCut
+pub mod LastRate
+pub mod Labels
+pub mod Travel
+pub mod Tail

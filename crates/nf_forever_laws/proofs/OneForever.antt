@@ -6,21 +6,21 @@ use Rattle.nf_rational.specs.Operations.{0ℚ, ◌+ℚ◌}
 use Rattle.nf_rational.specs.Order.{◌<ℚ◌}
 use Rattle.nf_rational_laws.proofs.Polynomial.{reading_of}
 use Rattle.nf_rational_laws.proofs.Linear.{lt, eq, linear_lt}
-use Rattle.nf_work.specs.Passing.{Passing}
-use Rattle.nf_work.proofs.Binding.{bind_ok}
-use Rattle.nf_work.specs.Checked.{Checked, checked}
-use Rattle.nf_work.specs.declared.Op.TheVariants.{Sum}
+use Rattle.nf_frac_def.specs.Passing.{Passing}
+use Rattle.nf_frac_def.proofs.Binding.{bind_ok}
+use Rattle.nf_frac_def.specs.Checked.{Checked, checked}
+use Rattle.nf_frac_def.specs.declared.Op.TheVariants.{Sum}
 use Rattle.nf_model.specs.Network.{Network, ArePieces}
 use Rattle.nf_model.specs.Pattern.{Pattern}
-use Rattle.nf_formats.specs.declared.Cause.{Cause}
-use Rattle.nf_lists.specs.Extend.{extend_list}
-use Rattle.nf_lists.specs.PhaseRun.{Standing}
-use Rattle.nf_lists_laws.proofs.OneRun.{one_start, goes_knows, start_knows}
+use Rattle.nf_net_def.specs.declared.Cause.{Cause}
+use Rattle.nf_thin_def.specs.Extend.{extend_list}
+use Rattle.nf_thin_def.specs.PhaseRun.{Standing}
+use Rattle.nf_thin_laws.proofs.OneRun.{one_start, goes_knows, start_knows}
 use Rattle.nf_curve_laws.proofs.Operations.{checked-is}
 use Rattle.nf_phase_laws.proofs.Length.{IsExtension-some}
-use Rattle.nf_run_laws.proofs.Extension.{extension_is}
-use Rattle.nf_forever_lists.specs.Tails.{Tail}
-use Rattle.nf_forever_lists.specs.ForeverRun.{end_after, end_list, End, Stops, NeverEnds, RunsForever, at_phases, fails, never_ends, goes, IsForeverRun, Forever, forever_of, IsForever}
+use Rattle.nf_phase_laws.proofs.Extension.{extension_is}
+use Rattle.nf_forever_def.specs.Tails.{Tail}
+use Rattle.nf_forever_def.specs.ForeverRun.{end_after, end_list, End, Stops, NeverEnds, RunsForever, at_phases, fails, never_ends, goes, IsForeverRun, Forever, forever_of, IsForever}
 use Rattle.nf_forever_laws.proofs.Outcomes.{Moves, Ends, Fault, one_outcome, fails-comes, goes-comes, ends-comes}
 
 -- ---- the end of a phase is later than its beginning

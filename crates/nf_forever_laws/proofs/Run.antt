@@ -5,26 +5,26 @@ use Rattle.nf_rational.specs.Rational.{ℚ}
 use Rattle.nf_rational.specs.Operations.{0ℚ}
 use Rattle.nf_rational.specs.Order.{◌≤ℚ◌, ◌<ℚ◌, lt_ℚ}
 use Rattle.nf_rational_laws.proofs.Tests.{lt_ℚ_cases}
-use Rattle.nf_work.specs.Passing.{Passing}
-use Rattle.nf_work.specs.Checked.{checked, ◌>>=◌}
-use Rattle.nf_work.specs.declared.Op.TheVariants.{Sum}
-use Rattle.nf_work.specs.declared.Passed.{Passed}
+use Rattle.nf_frac_def.specs.Passing.{Passing}
+use Rattle.nf_frac_def.specs.Checked.{checked, ◌>>=◌}
+use Rattle.nf_frac_def.specs.declared.Op.TheVariants.{Sum}
+use Rattle.nf_frac_def.specs.declared.Passed.{Passed}
 use Rattle.nf_model.specs.Network.{Network, IsNetwork, hops, rate_at}
 use Rattle.nf_model.specs.ThinFlow.{slacks_of, sets_at, IsThinFlow}
 use Rattle.nf_model.specs.Pattern.{Pattern}
 use Rattle.nf_model.specs.Phases.{IsUnending}
 use Rattle.nf_model.specs.Equilibrium.{Equilibrium}
-use Rattle.nf_lists.specs.Extend.{extend_list}
-use Rattle.nf_lists.specs.PhaseRun.{Standing, Bounds, flow_of}
+use Rattle.nf_thin_def.specs.Extend.{extend_list}
+use Rattle.nf_thin_def.specs.PhaseRun.{Standing, Bounds, flow_of}
 use Rattle.nf_thin_laws.proofs.Accepted.{IsThinFlow-accepted}
 use Rattle.nf_thin_laws.proofs.ActiveLinks.{AreSets-sets_at}
-use Rattle.nf_plain_laws.proofs.Results.{same_Ok}
-use Rattle.nf_run_laws.proofs.Extension.{unending_is}
-use Rattle.nf_run_laws.proofs.WellRun.{WellRun, WellRun-start}
-use Rattle.nf_run_laws.proofs.Run.{HasShape-well, HasSlopes-well, Equilibrium-well, WellRun-goes}
-use Rattle.nf_forever_lists.specs.Tails.{Tail}
-use Rattle.nf_forever_lists.specs.ForeverRun.{end_after, end_list, GoesForever, End, NeverEnds, RunsForever, at_phases, fails, never_ends, goes, IsForeverRun}
-use Rattle.nf_forever_lists.specs.Extended.{extended, up_to, flow_until}
+use Rattle.nf_rational_laws.proofs.Results.{same_Ok}
+use Rattle.nf_phase_laws.proofs.Extension.{unending_is}
+use Rattle.nf_phase_laws.proofs.WellRun.{WellRun, WellRun-start}
+use Rattle.nf_phase_laws.proofs.Run.{HasShape-well, HasSlopes-well, Equilibrium-well, WellRun-goes}
+use Rattle.nf_forever_def.specs.Tails.{Tail}
+use Rattle.nf_forever_def.specs.ForeverRun.{end_after, end_list, GoesForever, End, NeverEnds, RunsForever, at_phases, fails, never_ends, goes, IsForeverRun}
+use Rattle.nf_forever_def.specs.Extended.{extended, up_to, flow_until}
 use Rattle.nf_forever_laws.proofs.Before.{Equilibrium-before}
 use Rattle.nf_forever_laws.proofs.Tails.{Equilibrium-extended}
 

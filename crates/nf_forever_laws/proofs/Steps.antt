@@ -8,14 +8,14 @@ use Rattle.nf_rational.specs.Order.{◌<ℚ◌}
 use Rattle.nf_rational_laws.proofs.Order.{≤ℚ_of_same, not_both_ℚ}
 use Rattle.nf_model.specs.Curve.{Point, slope, AreSlopes}
 use Rattle.nf_model.specs.Equilibrium.{Trace}
-use Rattle.nf_lists.specs.Signs.{is_positive}
+use Rattle.nf_rational.specs.Signs.{is_positive}
 use Rattle.nf_phase_laws.specs.CurveSteps.{LastPoint, GoesOnTo}
 use Rattle.nf_phase_laws.proofs.CurveSteps.{GoesOnTo-appended}
-use Rattle.nf_run_laws.proofs.StepValues.{positive_of, none_of}
-use Rattle.nf_run_laws.proofs.Traces.{later_by, same_point, TraceStep}
-use Rattle.nf_run_laws.proofs.Points.{AreSlopes-appended}
-use Rattle.nf_forever_lists.specs.Extended.{last_point, with_end, trace_with_end}
-use Rattle.nf_plain_laws.proofs.Entries.{last-append}
+use Rattle.nf_phase_laws.proofs.StepValues.{positive_of, none_of}
+use Rattle.nf_phase_laws.proofs.Traces.{later_by, same_point, TraceStep}
+use Rattle.nf_phase_laws.proofs.Points.{AreSlopes-appended}
+use Rattle.nf_forever_def.specs.Extended.{last_point, with_end, trace_with_end}
+use Rattle.nf_rational_laws.proofs.Entries.{last-append}
 
 pub last_point-is : (points : List Point) (last : Point) → LastPoint points last → last_point points ≡ last
 last_point-is points last l = ap last_point l.same ∙ ap (λ (o : Option Point). option_map_or (λ (p : Point). p) o (0ℚ, 0ℚ)) (last-append None l.front last)

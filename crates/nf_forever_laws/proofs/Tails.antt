@@ -22,14 +22,14 @@ use Rattle.nf_phase_laws.specs.CurveRun.{Curves, curves_of}
 use Rattle.nf_phase_laws.proofs.Holds.{link_within}
 use Rattle.nf_phase_laws.proofs.CurveSteps.{ends_at, GoesOnTo-appended}
 use Rattle.nf_phase_laws.proofs.CurveRun.{Grown, Grown-after, Equilibrium-grown}
-use Rattle.nf_run_laws.proofs.WellRun.{number_is, points_is}
-use Rattle.nf_run_laws.proofs.Traces.{same_point, TraceStep}
-use Rattle.nf_forever_lists.specs.Tails.{Tail}
-use Rattle.nf_forever_lists.specs.Extended.{last_point, value_after, labels_then, queue_then, extended}
+use Rattle.nf_phase_laws.proofs.WellRun.{number_is, points_is}
+use Rattle.nf_phase_laws.proofs.Traces.{same_point, TraceStep}
+use Rattle.nf_forever_def.specs.Tails.{Tail}
+use Rattle.nf_forever_def.specs.Extended.{last_point, value_after, labels_then, queue_then, extended}
 use Rattle.nf_forever_laws.proofs.Entries.{labels_then_at, labels_with_end_at, labels_with_end-length, labels_then-length, inflow_new, outflow_new, queue_new, inflows_at, inflows-length, outflows_at, outflows-length, queues_at, queues-length}
 use Rattle.nf_forever_laws.proofs.Steps.{last_point-is, TraceStep-last, CurveStep, CurveStep-last}
 use Rattle.nf_rational_laws.proofs.Chains.{≤ℚ_refl}
-use Rattle.nf_plain_laws.proofs.Entries.{slice_get-image, entry}
+use Rattle.nf_rational_laws.proofs.Entries.{slice_get-image, entry}
 
 queue_same : (capacity : Option ℚ) (s : ℚ) → queue_then capacity s ≡ queue_by_slack capacity s
 queue_same None s = refl

@@ -3,18 +3,18 @@ use Rattle.std.specs.Prelude.{◌≡◌, ℕ, List, length, Some, Ok}
 use Rattle.nf_rational.specs.Rational.{ℚ}
 use Rattle.nf_rational.specs.Operations.{0ℚ}
 use Rattle.nf_rational.specs.Order.{◌≤ℚ◌, ◌<ℚ◌}
-use Rattle.nf_work.specs.Passing.{Passing}
+use Rattle.nf_frac_def.specs.Passing.{Passing}
 use Rattle.nf_model.specs.Network.{Network, IsNetwork, hops}
 use Rattle.nf_model.specs.ThinFlow.{slacks_of}
 use Rattle.nf_model.specs.Pattern.{Pattern}
 use Rattle.nf_model.specs.Equilibrium.{Flow, Equilibrium}
-use Rattle.nf_formats.specs.declared.Cause.{Cause}
-use Rattle.nf_lists.specs.Search.{Found}
-use Rattle.nf_lists.specs.PhaseRun.{Standing, Goes, Fails, flow_of}
-use Rattle.nf_complete_lists.specs.Reached.{StopsForNoThinFlow}
-use Rattle.nf_forever_lists.specs.Tails.{Tail}
-use Rattle.nf_forever_lists.specs.ForeverRun.{end_list, SeeksOn, GoesToEnd, FailsOn, End, NeverEnds, IsForeverRun, Forever, IsForever}
-use Rattle.nf_forever_lists.specs.Extended.{up_to, flow_until}
+use Rattle.nf_net_def.specs.declared.Cause.{Cause}
+use Rattle.nf_thin_def.specs.Search.{Found}
+use Rattle.nf_thin_def.specs.PhaseRun.{Standing, Goes, Fails, flow_of}
+use Rattle.nf_complete_def.specs.Reached.{StopsForNoThinFlow}
+use Rattle.nf_forever_def.specs.Tails.{Tail}
+use Rattle.nf_forever_def.specs.ForeverRun.{end_list, SeeksOn, GoesToEnd, FailsOn, End, NeverEnds, IsForeverRun, Forever, IsForever}
+use Rattle.nf_forever_def.specs.Extended.{up_to, flow_until}
 
 -- However the run ends, its flow is an equilibrium up to the departure reached.
 abbrev pub ForeverRunIsEquilibrium : Type 0

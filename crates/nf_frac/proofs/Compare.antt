@@ -12,7 +12,7 @@ use borrow.Author.Differences.{ints}
 use Rattle.nf_rational.specs.Rational.{ℚ}
 use Rattle.nf_rational.specs.Order.{cmp_ℚ}
 use Rattle.nf_rational_laws.proofs.Ints.{lt-times, le-times, pos_in}
-use Rattle.nf_plain_laws.proofs.Naturals.{compared}
+use Rattle.nf_rational_laws.proofs.Naturals.{compared}
 
 pub cmp_less : (x y : ℕ) → x < y → nat_cmp x y ≡ Less
 cmp_less x y h = grind arith

@@ -17,7 +17,7 @@ use Rattle.nf_rational_laws.proofs.Polynomial.{ring, combine, using, done, readi
 use Rattle.nf_rational_laws.proofs.IntegerRing.{ints_ring}
 use Rattle.nf_rational_laws.proofs.Ratio.{Is-same, Is-times, Is-whole, Is-ratio}
 use Rattle.nf_rational_laws.proofs.Quotient.{/ℚ-unique, abs_positive}
-use Rattle.nf_work.specs.Passing.{bound_of}
+use Rattle.nf_frac_def.specs.Passing.{bound_of}
 use Rattle.nf_frac.specs.Parts.{greatest, InForm, IsWithin, IsMade, signed}
 use Rattle.nf_frac.specs.Short.{IsShort}
 use Rattle.nf_frac.proofs.Bits.{cast_plain}

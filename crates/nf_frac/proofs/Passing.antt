@@ -8,10 +8,10 @@ use Rattle.nf_rational.specs.Gcd.{gcd}
 use Rattle.nf_rational.specs.Rational.{ℚ, part_pos}
 use Rattle.nf_rational.specs.Operations.{neg_ℚ, inv_ℚ, ◌+ℚ◌, ◌-ℚ◌, ◌*ℚ◌, ◌/ℚ◌}
 use Rattle.nf_rational_laws.proofs.Lowest.{plus_over_lcm}
-use Rattle.nf_work.specs.declared.Op.{Op}
-use Rattle.nf_work.specs.declared.Op.TheVariants.{Sum, Difference, Product, Quotient}
-use Rattle.nf_work.specs.Passing.{bound_of, beyond, is_wide, sum_is_wide, passes_Q}
-use Rattle.nf_work.specs.Checked.{checked}
+use Rattle.nf_frac_def.specs.declared.Op.{Op}
+use Rattle.nf_frac_def.specs.declared.Op.TheVariants.{Sum, Difference, Product, Quotient}
+use Rattle.nf_frac_def.specs.Passing.{bound_of, beyond, is_wide, sum_is_wide, passes_Q}
+use Rattle.nf_frac_def.specs.Checked.{checked}
 use Rattle.nf_frac.specs.Parts.{IsWithin, SumFits}
 use Rattle.nf_frac.specs.Narrow.{none_of, neither, at_most, narrow_in, narrow_out}
 use Rattle.nf_frac.proofs.Form.{ratio_within}

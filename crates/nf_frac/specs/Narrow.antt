@@ -2,7 +2,7 @@
 use Rattle.std.proofs.Common.{◌≡◌, ℕ, ◌≤◌, Bool, true, false, ◌||◌, ltb, nat_abs, refl, arith}
 use borrow.Author.Tests.{ltb-false}
 use Rattle.nf_rational.specs.Rational.{ℚ}
-use Rattle.nf_work.specs.Passing.{is_wide}
+use Rattle.nf_frac_def.specs.Passing.{is_wide}
 use Rattle.nf_frac.specs.Parts.{IsWithin}
 
 pub none_of : (a b : Bool) → (a || b) ≡ false → (a ≡ false) × (b ≡ false)

@@ -1,15 +1,15 @@
 // The four operations on fractions. Each returns the exact result, or an error with its operands if it exceeds the bound.
 ghost use Rattle.std.specs.Prelude.{◌≡◌, ◌≢◌, IfSome};
 ghost use Rattle.nf_rational.specs.Operations.{0ℚ, 1ℚ, neg_ℚ};
-ghost use Rattle.nf_work.specs.declared.Op.TheVariants.{Sum, Difference, Product, Quotient};
-ghost use Rattle.nf_work.specs.Passing.{bound_of, beyond};
-ghost use Rattle.nf_work.specs.Checked.{checked};
+ghost use Rattle.nf_frac_def.specs.declared.Op.TheVariants.{Sum, Difference, Product, Quotient};
+ghost use Rattle.nf_frac_def.specs.Passing.{bound_of, beyond};
+ghost use Rattle.nf_frac_def.specs.Checked.{checked};
 ghost use Rattle.nf_frac.specs.Short.{AreSmall};
 
 use crate::fraction::{Frac, bound};
 use crate::lowest::Lowest;
 use crate::small::Small;
-use nf_work::{Op, Passed};
+use nf_frac_def::{Op, Passed};
 
 impl<const BITS: u32> Frac<BITS> {
     // Both values as small numbers, if they are small and the bound is the widest. No operation on them exceeds this bound.

@@ -1,7 +1,7 @@
 // Fractions whose parts have a bounded number of bits.
 ghost use Rattle.std.specs.Prelude.{◌≡◌, ◌≢◌, ◌≤◌, pos, nat_abs, ◌≤ℤ◌, SomeIff, false};
 ghost use Rattle.nf_rational.specs.Operations.{0ℚ, 1ℚ, whole, ◌/ℚ◌};
-ghost use Rattle.nf_work.specs.Passing.{bound_of, is_wide};
+ghost use Rattle.nf_frac_def.specs.Passing.{bound_of, is_wide};
 ghost use Rattle.nf_frac.specs.Parts.{greatest, IsWithin, IsMade};
 
 use crate::lowest::Lowest;
@@ -19,7 +19,7 @@ pub type Q = Frac<127>;
 
 impl<const BITS: u32> Model for Frac<BITS> {
     ghost use Rattle.nf_rational.specs.Rational.{ℚ, coded_ℚ};
-    ghost use Rattle.nf_work.specs.Passing.{bound_of};
+    ghost use Rattle.nf_frac_def.specs.Passing.{bound_of};
     ghost use Rattle.nf_frac.specs.Parts.{IsWithin};
 
     ghost Value = { ℚ };

@@ -19,8 +19,8 @@ mod whole;
 mod words;
 
 pub use fraction::{Frac, Q};
-pub use nf_numerals::{NumberFault, TextBuf};
-pub use nf_work::{Halt, Op, Part, Passed, PassedAt};
+pub use nf_frac_def::{Halt, Op, Part, Passed, PassedAt};
+pub use nf_frac_words::{NumberFault, TextBuf};
 pub use scalar::Scalar;
 pub use small::Small;
 

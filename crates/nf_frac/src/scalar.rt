@@ -4,13 +4,13 @@ ghost use Rattle.std.specs.Cmp.{IsTotalOrder};
 ghost use Rattle.nf_rational.specs.Rational.{ℚ};
 ghost use Rattle.nf_rational.specs.Operations.{0ℚ, 1ℚ, ◌+ℚ◌, ◌*ℚ◌};
 ghost use Rattle.nf_rational.specs.Order.{◌<ℚ◌, cmp_ℚ};
-ghost use Rattle.nf_work.specs.declared.Op.TheVariants.{Sum, Difference, Product, Quotient};
-ghost use Rattle.nf_work.specs.Passing.{Passing, bound_of, beyond};
-ghost use Rattle.nf_work.specs.Checked.{checked, seen};
+ghost use Rattle.nf_frac_def.specs.declared.Op.TheVariants.{Sum, Difference, Product, Quotient};
+ghost use Rattle.nf_frac_def.specs.Passing.{Passing, bound_of, beyond};
+ghost use Rattle.nf_frac_def.specs.Checked.{checked, seen};
 ghost use Rattle.nf_frac.specs.Total.{cmp_total, same_values, sum_keeps_cmp, product_keeps_cmp, same_input};
 
 use crate::fraction::Frac;
-use nf_work::Passed;
+use nf_frac_def::Passed;
 use std::hash::Hash;
 
 /// Rational numbers with exact operations, each of which may exceed a bound. Each value stands for a rational number, and results

@@ -1,14 +1,14 @@
 // `Scalar` for small numbers: an operation exceeds the bound exactly if it does for fractions with 63 bits.
 ghost use Rattle.std.specs.Prelude.{◌≡◌, ◌≢◌, refl};
 ghost use Rattle.nf_rational.specs.Operations.{0ℚ, 1ℚ};
-ghost use Rattle.nf_work.specs.declared.Op.TheVariants.{Sum, Difference, Product, Quotient};
-ghost use Rattle.nf_work.specs.Passing.{bound_of, beyond};
-ghost use Rattle.nf_work.specs.Checked.{checked, seen};
+ghost use Rattle.nf_frac_def.specs.declared.Op.TheVariants.{Sum, Difference, Product, Quotient};
+ghost use Rattle.nf_frac_def.specs.Passing.{bound_of, beyond};
+ghost use Rattle.nf_frac_def.specs.Checked.{checked, seen};
 ghost use Rattle.nf_frac.specs.Total.{cmp_total, same_values, sum_keeps_cmp, product_keeps_cmp, same_small_input};
 
 use crate::scalar::Scalar;
 use crate::small::Small;
-use nf_work::{Op, Passed};
+use nf_frac_def::{Op, Passed};
 
 impl Scalar for Small {
     ghost means = { λ q. q };

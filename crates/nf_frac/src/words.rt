@@ -1,12 +1,12 @@
 // Parsing and printing fractions.
 ghost use Rattle.std.specs.Prelude.{◌≡◌, Ok};
-ghost use Rattle.nf_work.specs.Passing.{bound_of};
-ghost use Rattle.nf_numerals.specs.Numbers.{number_of, decimal_of};
-ghost use Rattle.nf_numerals.specs.Printed.{printed};
+ghost use Rattle.nf_frac_def.specs.Passing.{bound_of};
+ghost use Rattle.nf_frac_words.specs.Numbers.{number_of, decimal_of};
+ghost use Rattle.nf_frac_words.specs.Printed.{printed};
 
 use crate::fraction::{Frac, bound};
 use crate::lowest::Lowest;
-use nf_numerals::{NumberFault, TextBuf, decimal_parts, parts, write_parts};
+use nf_frac_words::{NumberFault, TextBuf, decimal_parts, parts, write_parts};
 
 impl<const BITS: u32> Frac<BITS> {
     /// Parses a word `a` or `a/b` of decimal digits, where `a` may begin with `-`, and returns its value, reduced.

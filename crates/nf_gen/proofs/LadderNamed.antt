@@ -8,18 +8,18 @@ use Rattle.nf_rational.specs.Gcd.{gcd}
 use Rattle.nf_rational.specs.Operations.{whole}
 use Rattle.nf_rational.specs.Order.{le_ℚ}
 use Rattle.nf_rational_laws.proofs.Order.{nn_whole}
-use Rattle.nf_formats.specs.Names.{Name, is_name, has_name, place_of, with_names}
-use Rattle.nf_formats.specs.Named.{NamedLink, numbered, links_by_name, active_links, ends, names_of}
-use Rattle.nf_formats.specs.NetClosing.{IsReached, LeavesUnreached, Breaks, closing_rules, marked, network_of, AreActive}
-use Rattle.nf_formats.specs.NetFile.{Reads}
-use Rattle.nf_formats.specs.NetText.{canonical}
-use Rattle.nf_formats.specs.WellNamed.{IsFractionPiece, IsNamedLink, IsNamed}
-use Rattle.nf_formats_laws.proofs.NameFacts.{name_at-place, place_below, bytes_eq-self}
-use Rattle.nf_formats_laws.proofs.LinesBack.{Rises, AreNotNegative}
-use Rattle.nf_formats_laws.proofs.DraftKept.{IsGoodDraft}
-use Rattle.nf_formats_laws.proofs.AcceptedNodes.{all_implied}
-use Rattle.nf_formats_laws.proofs.AcceptedNamed.{is_named}
-use Rattle.nf_formats_laws.proofs.CanonicalBack.{canonical_back}
+use Rattle.nf_net_def.specs.Names.{Name, is_name, has_name, place_of, with_names}
+use Rattle.nf_net_def.specs.Named.{NamedLink, numbered, links_by_name, active_links, ends, names_of}
+use Rattle.nf_net_def.specs.NetClosing.{IsReached, LeavesUnreached, Breaks, closing_rules, marked, network_of, AreActive}
+use Rattle.nf_net_def.specs.NetFile.{Reads}
+use Rattle.nf_net_def.specs.NetText.{canonical}
+use Rattle.nf_net_def.specs.WellNamed.{IsFractionPiece, IsNamedLink, IsNamed}
+use Rattle.nf_net_laws.proofs.NameFacts.{name_at-place, place_below, bytes_eq-self}
+use Rattle.nf_net_laws.proofs.LinesBack.{Rises, AreNotNegative}
+use Rattle.nf_net_laws.proofs.DraftKept.{IsGoodDraft}
+use Rattle.nf_net_laws.proofs.AcceptedNodes.{all_implied}
+use Rattle.nf_net_laws.proofs.AcceptedNamed.{is_named}
+use Rattle.nf_net_laws.proofs.CanonicalBack.{canonical_back}
 use Rattle.nf_gen.specs.Ladder.{drawn, upper, lower, Ends, rails_on, rung_at, links_in, links_along, links_down, links_out, ladder_ends, drawn_links, drawn_pieces, ladder_nodes, ladder_links, ladder}
 use Rattle.nf_gen.specs.Laws.{IsLadder}
 use Rattle.nf_gen.proofs.Wholes.{small_fraction, above_zero}

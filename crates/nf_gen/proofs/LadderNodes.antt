@@ -3,9 +3,9 @@ use Rattle.std.proofs.Common.{◌≡◌, ℕ, zero, suc, ◌+◌, ◌-◌, ◌*�
 use Rattle.std.specs.List.{AllByRecursion, list_all, range_with_len}
 use Rattle.std.proofs.lemmas.Bool.{and_from, or_from, or_left}
 use Rattle.std.proofs.lemmas.Grind.{flat_map-append}
-use Rattle.nf_formats.specs.Names.{Name, is_name, has_name, with_names}
-use Rattle.nf_formats.specs.Named.{NamedLink, ends, names_of}
-use Rattle.nf_formats_laws.proofs.NameFacts.{has_name-append, with_name_there, with_name_new, with_names-append}
+use Rattle.nf_net_def.specs.Names.{Name, is_name, has_name, with_names}
+use Rattle.nf_net_def.specs.Named.{NamedLink, ends, names_of}
+use Rattle.nf_net_laws.proofs.NameFacts.{has_name-append, with_name_there, with_name_new, with_names-append}
 use Rattle.nf_gen.specs.Ladder.{upper, lower, Ends, rails_on, rung_at, links_in, links_along, links_down, links_out, ladder_ends, drawn_links, rung_nodes, ladder_nodes}
 use Rattle.nf_gen.proofs.Ranges.{all_append, all_flat, all_map, count_push}
 use Rattle.nf_gen.proofs.LadderNames.{lettered_is_name, no_upper, no_lower, has_upper, has_lower}

@@ -1,6 +1,6 @@
 -- The words of a line, put behind a text one after the other.
 use Rattle.std.proofs.Common.{◌≡◌, ℕ, List, [], ◌∷◌, ◌++◌, codes, ◌∙◌, ap, append_assoc}
-use Rattle.nf_lines.specs.Words.{line_of_words}
+use Rattle.nf_text_def.specs.Words.{line_of_words}
 
 pub pushed : (out a b one two : List ℕ) → one ≡ out ++ a → two ≡ one ++ b → two ≡ out ++ (a ++ b)
 pushed out a b one two e f = f ∙ ap (λ (text : List ℕ). text ++ b) e ∙ append_assoc out a b

@@ -2,8 +2,8 @@
 use Rattle.std.proofs.Common.{◌≡◌, ℕ, zero, suc, ◌+◌, ◌<◌, ◌≤◌, List, [], ◌∷◌, ◌++◌, length, map, flat_map, inl, inr, ap, subst, ◌∙◌, arith}
 use Rattle.std.specs.List.{AllByRecursion, range_with_len}
 use Rattle.std.proofs.lemmas.Bool.{cases_eq}
-use Rattle.nf_formats_laws.proofs.WalkFacts.{slice_get-left, slice_get-right}
-use Rattle.nf_formats_laws.proofs.MarkedFacts.{Entry}
+use Rattle.nf_net_laws.proofs.WalkFacts.{slice_get-left, slice_get-right}
+use Rattle.nf_net_laws.proofs.MarkedFacts.{Entry}
 
 -- ---- each entry
 module _ {X : Type 0} (P : X → Type 0) where

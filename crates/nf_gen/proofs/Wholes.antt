@@ -9,13 +9,13 @@ use Rattle.nf_rational_laws.proofs.Field.{whole-plus}
 use Rattle.nf_rational_laws.proofs.Order.{ps_whole}
 use Rattle.nf_rational_laws.proofs.Polynomial.{reading_of}
 use Rattle.nf_rational_laws.proofs.Linear.{le, lt, eq, linear_false}
-use Rattle.nf_work.specs.declared.Op.TheVariants.{Sum}
-use Rattle.nf_work.specs.Passing.{bound_of, beyond, passes_Q}
-use Rattle.nf_numerals.specs.Digits.{digits_of}
-use Rattle.nf_numerals.specs.Printed.{printed, printed_parts}
-use Rattle.nf_numerals.proofs.Bytes.{printed_by_parts}
-use Rattle.nf_formats.specs.Numbers.{greatest}
-use Rattle.nf_formats.specs.WellNamed.{IsFraction}
+use Rattle.nf_frac_def.specs.declared.Op.TheVariants.{Sum}
+use Rattle.nf_frac_def.specs.Passing.{bound_of, beyond, passes_Q}
+use Rattle.nf_frac_words.specs.Digits.{digits_of}
+use Rattle.nf_frac_words.specs.Printed.{printed, printed_parts}
+use Rattle.nf_frac_words.proofs.Bytes.{printed_by_parts}
+use Rattle.nf_net_def.specs.Numbers.{greatest}
+use Rattle.nf_net_def.specs.WellNamed.{IsFraction}
 use Rattle.nf_frac.specs.Parts.{IsWithin}
 use Rattle.nf_frac.specs.Short.{short}
 use Rattle.nf_frac.proofs.SmallParts.{gcd_one}

@@ -5,17 +5,17 @@ use Rattle.std.proofs.lemmas.List.{length-map}
 use Rattle.std.proofs.lemmas.Grind.{flat_map-append}
 use Rattle.nf_rational.specs.Operations.{whole}
 use Rattle.nf_model.specs.Network.{Piece}
-use Rattle.nf_numerals.specs.Digits.{digits_of}
-use Rattle.nf_numerals.specs.Printed.{printed}
-use Rattle.nf_lines.specs.Words.{line_of_words}
-use Rattle.nf_lines.specs.Faults.{longest_text}
-use Rattle.nf_formats.specs.Names.{Name}
-use Rattle.nf_formats.specs.Named.{NamedLink, Named, active_links}
-use Rattle.nf_formats.specs.NetText.{link_words, inflow_words, canonical_lines, canonical}
-use Rattle.nf_formats.specs.WellNamed.{IsNamed}
-use Rattle.nf_formats_laws.proofs.LinkFacts.{map-append}
-use Rattle.nf_formats_laws.proofs.TextBack.{IsPlainLine}
-use Rattle.nf_formats_laws.proofs.PlainCanonical.{plain_canonical}
+use Rattle.nf_frac_words.specs.Digits.{digits_of}
+use Rattle.nf_frac_words.specs.Printed.{printed}
+use Rattle.nf_text_def.specs.Words.{line_of_words}
+use Rattle.nf_text_def.specs.Faults.{longest_text}
+use Rattle.nf_net_def.specs.Names.{Name}
+use Rattle.nf_net_def.specs.Named.{NamedLink, Named, active_links}
+use Rattle.nf_net_def.specs.NetText.{link_words, inflow_words, canonical_lines, canonical}
+use Rattle.nf_net_def.specs.WellNamed.{IsNamed}
+use Rattle.nf_net_laws.proofs.LinkFacts.{map-append}
+use Rattle.nf_net_laws.proofs.TextBack.{IsPlainLine}
+use Rattle.nf_net_laws.proofs.PlainCanonical.{plain_canonical}
 use Rattle.nf_gen.specs.Ladder.{next_value, drawn, upper, lower, Ends, link_from, rails_on, rung_at, ladder_ends, drawn_links, drawn_pieces, ladder_links, ladder}
 use Rattle.nf_gen.specs.Writing.{after_two, link_after, links_after, after_links, pieces_after, WritesLinks}
 use Rattle.nf_gen.proofs.Wholes.{printed-whole}

@@ -4,9 +4,9 @@ use Rattle.std.specs.Prelude.{ℕ, zero, suc, ◌+◌, ◌-◌, ◌*◌, ◌%◌
 use Rattle.std.specs.List.{range_with_len}
 use Rattle.nf_rational.specs.Operations.{whole}
 use Rattle.nf_model.specs.Network.{Piece}
-use Rattle.nf_numerals.specs.Digits.{digits_of}
-use Rattle.nf_formats.specs.Names.{Name}
-use Rattle.nf_formats.specs.Named.{NamedLink, Named, numbered, names_of}
+use Rattle.nf_frac_words.specs.Digits.{digits_of}
+use Rattle.nf_net_def.specs.Names.{Name}
+use Rattle.nf_net_def.specs.Named.{NamedLink, Named, numbered, names_of}
 
 -- ---- the generator
 unfoldable pub next_value : ℕ → ℕ

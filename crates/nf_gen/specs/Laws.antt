@@ -1,6 +1,6 @@
 -- Properties of every ladder.
 use Rattle.std.specs.Prelude.{◌≡◌, ℕ, ◌+◌, ◌*◌, ◌≤◌, length}
-use Rattle.nf_formats.specs.WellNamed.{IsNamed}
+use Rattle.nf_net_def.specs.WellNamed.{IsNamed}
 use Rattle.nf_gen.specs.Ladder.{most_rungs, ladder}
 
 pub record IsLadder (number rungs : ℕ) : Type 0 where

@@ -2,9 +2,9 @@
 use Rattle.std.specs.Prelude.{◌≡◌, ℕ, ◌+◌, ◌%◌, List, [], ◌∷◌, ◌++◌, map, flat_map, Some, pos}
 use Rattle.nf_rational.specs.Operations.{whole}
 use Rattle.nf_model.specs.Network.{Piece}
-use Rattle.nf_lines.specs.Words.{line_of_words}
-use Rattle.nf_formats.specs.Named.{NamedLink}
-use Rattle.nf_formats.specs.NetText.{link_words}
+use Rattle.nf_text_def.specs.Words.{line_of_words}
+use Rattle.nf_net_def.specs.Named.{NamedLink}
+use Rattle.nf_net_def.specs.NetText.{link_words}
 use Rattle.nf_gen.specs.Ladder.{next_value, Ends}
 
 -- the value two draws after x

@@ -1,7 +1,7 @@
 // The ladder as a text and as a network.
 ghost use Rattle.std.specs.Prelude.{◌≡◌, ◌++◌, ◌≤◌, map, flat_map, IfOk, OnOk};
-ghost use Rattle.nf_lines.specs.Words.{line_of_words};
-ghost use Rattle.nf_formats.specs.NetText.{inflow_words, canonical};
+ghost use Rattle.nf_text_def.specs.Words.{line_of_words};
+ghost use Rattle.nf_net_def.specs.NetText.{inflow_words, canonical};
 ghost use Rattle.nf_gen.specs.Ladder.{most_rungs, ladder};
 ghost use Rattle.nf_gen.specs.Writing.{pieces_after};
 

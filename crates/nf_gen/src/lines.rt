@@ -1,9 +1,9 @@
 // Appending lines of a network file to a text.
 ghost use Rattle.std.specs.Prelude.{◌≡◌, [], ◌∷◌, ◌++◌, codes, OnOk};
-ghost use Rattle.nf_numerals.specs.Digits.{digits_of};
-ghost use Rattle.nf_lines.specs.Words.{line_of_words};
+ghost use Rattle.nf_frac_words.specs.Digits.{digits_of};
+ghost use Rattle.nf_text_def.specs.Words.{line_of_words};
 
-use nf_numerals::{TextBuf, write_count};
+use nf_frac_words::{TextBuf, write_count};
 use std::alloc::AllocError;
 
 /// Appends the bytes. Fails only if an allocation fails.

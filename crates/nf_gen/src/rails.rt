@@ -1,12 +1,12 @@
 // The links of a ladder, in order, with their draws.
 ghost use Rattle.std.specs.Prelude.{◌≡◌, ◌+◌, ◌≤◌, [], ◌∷◌, IfOk, OnOk};
-ghost use Rattle.nf_numerals.specs.Digits.{digits_of};
+ghost use Rattle.nf_frac_words.specs.Digits.{digits_of};
 ghost use Rattle.nf_gen.specs.Ladder.{most_rungs, link_from, rung_at, links_in, links_along, links_down, links_out, ladder_ends};
 ghost use Rattle.nf_gen.specs.Writing.{WritesLinks};
 
 use crate::draws::Draws;
 use crate::lines::push_link_line;
-use nf_numerals::{TextBuf, write_count};
+use nf_frac_words::{TextBuf, write_count};
 use std::alloc::{AllocError, Global};
 
 // Returns the name that consists of a letter and a number.

@@ -6,10 +6,10 @@ use Rattle.nf_rational.specs.Rational.{ℚ}
 use Rattle.nf_rational.specs.Operations.{◌+ℚ◌}
 use Rattle.nf_rational.specs.Order.{◌≤ℚ◌}
 use Rattle.nf_rational_laws.proofs.Order.{≤ℚ_of_same}
-use Rattle.nf_work.specs.declared.Op.{Op}
-use Rattle.nf_work.specs.declared.Passed as Work
-use Rattle.nf_work.specs.Passing.{Passing, result_of}
-use Rattle.nf_work.specs.Checked.{checked}
+use Rattle.nf_frac_def.specs.declared.Op.{Op}
+use Rattle.nf_frac_def.specs.declared.Passed as Work
+use Rattle.nf_frac_def.specs.Passing.{Passing, result_of}
+use Rattle.nf_frac_def.specs.Checked.{checked}
 use Rattle.nf_model.specs.Walk.{Hop, IsHop}
 use Rattle.nf_graph.specs.declared.distance.Step.{Step}
 use Rattle.nf_graph.specs.declared.distance.DistanceFault.{DistanceFault}

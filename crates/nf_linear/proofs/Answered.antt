@@ -2,12 +2,12 @@
 use Rattle.std.proofs.Common.{◌≡◌, ℕ, List, [], length, refl, sym, ap, subst, ◌∙◌}
 use Rattle.std.specs.Prelude.{Option, Some, None, option_map, Result, Ok}
 use Rattle.nf_rational.specs.Rational.{ℚ}
-use Rattle.nf_work.specs.Passing.{Passing}
-use Rattle.nf_work.specs.declared.Halt.{Halt}
-use Rattle.nf_work.specs.declared.Part.TheVariants as Part
-use Rattle.nf_work.specs.declared.PassedAt.{PassedAt}
-use Rattle.nf_work.specs.Checked.{Checked, Stops, at_part, ◌>>=◌}
-use Rattle.nf_lists.specs.Table.{Row, Eliminated, eliminate_from, if_some, solution_from, solution_of, table_list}
+use Rattle.nf_frac_def.specs.Passing.{Passing}
+use Rattle.nf_frac_def.specs.declared.Halt.{Halt}
+use Rattle.nf_frac_def.specs.declared.Part.TheVariants as Part
+use Rattle.nf_frac_def.specs.declared.PassedAt.{PassedAt}
+use Rattle.nf_frac_def.specs.Checked.{Checked, Stops, at_part, ◌>>=◌}
+use Rattle.nf_thin_def.specs.Table.{Row, Eliminated, eliminate_from, if_some, solution_from, solution_of, table_list}
 use Rattle.nf_linear_laws.specs.Solution.{IsSquare, IsOnlySolution}
 use Rattle.nf_linear_laws.proofs.Solutions.{one_solution, not_one_solution}
 use Rattle.nf_linear.specs.Pivots.{eliminated}

@@ -4,15 +4,15 @@ use Rattle.std.specs.Prelude.{◌==◌, if◌then◌else◌, Ok, Err}
 use Rattle.std.specs.List.{AllByRecursion}
 use Rattle.std.proofs.Math.ListN.{drop_of_length-le}
 use Rattle.nf_rational.specs.Rational.{ℚ}
-use Rattle.nf_work.specs.Passing.{Passing}
-use Rattle.nf_work.specs.declared.PassedAt.{PassedAt}
-use Rattle.nf_work.specs.declared.Part.{Part}
-use Rattle.nf_work.specs.Checked.{Checked, at_part, ◌>>=◌}
-use Rattle.nf_work.proofs.Each.{with_front}
+use Rattle.nf_frac_def.specs.Passing.{Passing}
+use Rattle.nf_frac_def.specs.declared.PassedAt.{PassedAt}
+use Rattle.nf_frac_def.specs.declared.Part.{Part}
+use Rattle.nf_frac_def.specs.Checked.{Checked, at_part, ◌>>=◌}
+use Rattle.nf_frac_def.proofs.Each.{with_front}
 use Rattle.nf_model.specs.Entries.{number_at}
-use Rattle.nf_lists.specs.Signs.{is_zero}
-use Rattle.nf_lists.specs.Table as Lists
-use Rattle.nf_lists.specs.Table.{Row, row_at}
+use Rattle.nf_rational.specs.Signs.{is_zero}
+use Rattle.nf_thin_def.specs.Table as Lists
+use Rattle.nf_thin_def.specs.Table.{Row, row_at}
 use Rattle.nf_linear_laws.specs.Solution.{IsSquare}
 use Rattle.nf_linear.specs.Rows.{some_from, clear_unless, clear_each}
 use Rattle.nf_linear.proofs.Fronts.{take_set, drop_set, take_whole, first_before, one_before, stopped, stopped_before}

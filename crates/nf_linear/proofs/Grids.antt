@@ -4,7 +4,7 @@ use Rattle.std.specs.Prelude.{if◌then◌else◌}
 use Rattle.std.proofs.lemmas.List.{append-nil, length-replicate, take-append-drop, take_more_set}
 use Rattle.nf_rational.specs.Rational.{ℚ}
 use Rattle.nf_model.specs.Entries.{number_at}
-use Rattle.nf_lists.specs.Signs.{is_zero}
+use Rattle.nf_rational.specs.Signs.{is_zero}
 use Rattle.nf_linear.proofs.Fronts.{take_whole}
 
 pub row_set_cell : (cells : List ℚ) (right x : ℚ) (n column : ℕ) → column < n → n ≤ length cells → take n (set cells column x) ++ right ∷ [] ≡ set (take n cells ++ right ∷ []) column x

@@ -2,12 +2,12 @@
 use Rattle.std.proofs.Common.{◌≡◌, List, sym}
 use Rattle.std.specs.Prelude.{Option, Ok}
 use Rattle.nf_rational.specs.Rational.{ℚ}
-use Rattle.nf_work.specs.declared.Part.TheVariants as Part
-use Rattle.nf_work.specs.Passing.{passes_Q}
-use Rattle.nf_work.specs.Checked.{at_part}
-use Rattle.nf_lists.specs.Table.{Row, table_list}
-use Rattle.nf_lists_laws.proofs.Exact.{table_list_under}
-use Rattle.nf_lists_laws.proofs.Numbered.{part_ok}
+use Rattle.nf_frac_def.specs.declared.Part.TheVariants as Part
+use Rattle.nf_frac_def.specs.Passing.{passes_Q}
+use Rattle.nf_frac_def.specs.Checked.{at_part}
+use Rattle.nf_thin_def.specs.Table.{Row, table_list}
+use Rattle.nf_thin_laws.proofs.Exact.{table_list_under}
+use Rattle.nf_thin_laws.proofs.Numbered.{part_ok}
 use Rattle.nf_frac.proofs.Passing.{short_passes_first}
 use Rattle.nf_linear.specs.SmallTables.{passes_small}
 

@@ -3,12 +3,12 @@ use Rattle.std.proofs.Common.{◌≡◌, ℕ, zero, suc, ◌+◌, ◌<◌, List,
 use Rattle.std.specs.Prelude.{if◌then◌else◌, Ok, Err}
 use Rattle.nf_rational.specs.Rational.{ℚ}
 use Rattle.nf_rational.specs.Operations.{0ℚ}
-use Rattle.nf_work.specs.Passing.{Passing}
-use Rattle.nf_work.specs.declared.Op.TheVariants.{Quotient}
-use Rattle.nf_work.specs.Checked.{Checked, checked, fold_checked, ◌>>=◌}
+use Rattle.nf_frac_def.specs.Passing.{Passing}
+use Rattle.nf_frac_def.specs.declared.Op.TheVariants.{Quotient}
+use Rattle.nf_frac_def.specs.Checked.{Checked, checked, fold_checked, ◌>>=◌}
 use Rattle.nf_model.specs.Entries.{number_at}
-use Rattle.nf_lists.specs.Signs.{is_zero}
-use Rattle.nf_lists.specs.Table.{Row, less_unless, entries_less, cleared_row}
+use Rattle.nf_rational.specs.Signs.{is_zero}
+use Rattle.nf_thin_def.specs.Table.{Row, less_unless, entries_less, cleared_row}
 use Rattle.nf_linear.proofs.Fronts.{take_set, drop_set, take_whole}
 use Rattle.nf_linear.specs.Rows.{some_from, entry_less, clear_row}
 

@@ -6,14 +6,14 @@ use Rattle.std.proofs.Math.ListN.{drop_of_length-le}
 use Rattle.std.proofs.lemmas.List.{drop_more, append-nil}
 use Rattle.nf_rational.specs.Rational.{ℚ}
 use Rattle.nf_rational.specs.Operations.{0ℚ}
-use Rattle.nf_work.specs.Passing.{Passing}
-use Rattle.nf_work.specs.declared.Part.{Part}
-use Rattle.nf_work.specs.declared.PassedAt.{PassedAt}
-use Rattle.nf_work.specs.Checked.{Checked, at_part, fold_checked, ◌>>=◌}
-use Rattle.nf_work.proofs.Each.{fold_ok}
-use Rattle.nf_lists.specs.Table.{less_unless}
+use Rattle.nf_frac_def.specs.Passing.{Passing}
+use Rattle.nf_frac_def.specs.declared.Part.{Part}
+use Rattle.nf_frac_def.specs.declared.PassedAt.{PassedAt}
+use Rattle.nf_frac_def.specs.Checked.{Checked, at_part, fold_checked, ◌>>=◌}
+use Rattle.nf_frac_def.proofs.Each.{fold_ok}
+use Rattle.nf_thin_def.specs.Table.{less_unless}
 use Rattle.nf_model.specs.Entries.{number_at}
-use Rattle.nf_lists.specs.Signs.{is_zero}
+use Rattle.nf_rational.specs.Signs.{is_zero}
 use Rattle.nf_linear_laws.proofs.Pivots.{zero_tested, is_zero-at}
 use Rattle.nf_linear.specs.Rows.{some_from, entry_less}
 use Rattle.nf_linear.proofs.Fronts.{stopped}

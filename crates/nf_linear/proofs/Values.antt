@@ -5,14 +5,14 @@ use Rattle.std.proofs.Math.ListN.{drop_of_length-le}
 use Rattle.std.proofs.Math.Seq.{drop-cons}
 use Rattle.std.proofs.lemmas.List.{append-nil}
 use Rattle.nf_rational.specs.Rational.{ℚ}
-use Rattle.nf_work.specs.Passing.{Passing}
-use Rattle.nf_work.specs.declared.Op.TheVariants.{Quotient}
-use Rattle.nf_work.specs.declared.Part.TheVariants as Part
-use Rattle.nf_work.specs.declared.PassedAt.{PassedAt}
-use Rattle.nf_work.specs.Checked.{Checked, checked, checked_at, at_part, ◌>>=◌}
-use Rattle.nf_work.proofs.Each.{with_front}
+use Rattle.nf_frac_def.specs.Passing.{Passing}
+use Rattle.nf_frac_def.specs.declared.Op.TheVariants.{Quotient}
+use Rattle.nf_frac_def.specs.declared.Part.TheVariants as Part
+use Rattle.nf_frac_def.specs.declared.PassedAt.{PassedAt}
+use Rattle.nf_frac_def.specs.Checked.{Checked, checked, checked_at, at_part, ◌>>=◌}
+use Rattle.nf_frac_def.proofs.Each.{with_front}
 use Rattle.nf_model.specs.Entries.{number_at}
-use Rattle.nf_lists.specs.Table.{Row, row_at, solution_from}
+use Rattle.nf_thin_def.specs.Table.{Row, row_at, solution_from}
 use Rattle.nf_linear.specs.Pivots.{HasPivots}
 use Rattle.nf_linear.proofs.Fronts.{first_before, one_before, stopped, stopped_before}
 use Rattle.nf_linear.proofs.Taken.{ok_of_part}

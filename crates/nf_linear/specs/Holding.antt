@@ -3,7 +3,7 @@ use Rattle.std.proofs.Common.{Bool, true, not, IsTrue, refl, sym, subst}
 use Rattle.nf_rational.specs.Gcd.{gcd}
 use Rattle.nf_rational.specs.Rational.{ℚ, ratio}
 use Rattle.nf_rational.specs.Operations.{whole, 0ℚ, 1ℚ, neg_ℚ}
-use Rattle.nf_work.specs.Passing.{is_wide}
+use Rattle.nf_frac_def.specs.Passing.{is_wide}
 use Rattle.nf_frac.specs.Narrow.{narrow_in}
 use Rattle.nf_frac.specs.Parts.{IsWithin}
 use Rattle.nf_frac.specs.Short.{short}

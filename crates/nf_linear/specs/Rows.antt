@@ -2,12 +2,12 @@
 use Rattle.std.specs.Prelude.{ℕ, suc, Bool, true, false, not, ◌||◌, ◌==◌, if◌then◌else◌, List, [], ◌∷◌, map, set, Ok}
 use Rattle.nf_rational.specs.Rational.{ℚ}
 use Rattle.nf_rational.specs.Operations.{0ℚ}
-use Rattle.nf_work.specs.Passing.{Passing}
-use Rattle.nf_work.specs.Checked.{Checked, checked, fold_checked, ◌>>=◌}
-use Rattle.nf_work.specs.declared.Op.TheVariants.{Quotient}
+use Rattle.nf_frac_def.specs.Passing.{Passing}
+use Rattle.nf_frac_def.specs.Checked.{Checked, checked, fold_checked, ◌>>=◌}
+use Rattle.nf_frac_def.specs.declared.Op.TheVariants.{Quotient}
 use Rattle.nf_model.specs.Entries.{number_at}
-use Rattle.nf_lists.specs.Signs.{is_zero}
-use Rattle.nf_lists.specs.Table.{Row, less_unless}
+use Rattle.nf_rational.specs.Signs.{is_zero}
+use Rattle.nf_thin_def.specs.Table.{Row, less_unless}
 
 -- of each number, whether it is other than 0
 abbrev pub some_flags : Row → List Bool

@@ -2,12 +2,12 @@
 ghost use Rattle.std.specs.Prelude.{◌≡◌, ◌≢◌, ℕ, ◌<◌, ◌==◌, ◌||◌, ◌&&◌, not, [], length, Some, None, option_map, IfOk, IfSome, if◌then◌else◌};
 ghost use Rattle.std.specs.List.{AllByRecursion, list_any};
 ghost use Rattle.nf_rational.specs.Operations.{0ℚ};
-ghost use Rattle.nf_work.specs.declared.Part.TheVariants as Part;
-ghost use Rattle.nf_work.specs.Checked.{at_part, seen_at, Gives};
+ghost use Rattle.nf_frac_def.specs.declared.Part.TheVariants as Part;
+ghost use Rattle.nf_frac_def.specs.Checked.{at_part, seen_at, Gives};
 ghost use Rattle.nf_model.specs.Entries.{number_at};
-ghost use Rattle.nf_lists.specs.Signs as Signs;
-ghost use Rattle.nf_lists.specs.Table as Lists;
-ghost use Rattle.nf_lists.specs.Table.{row_at};
+ghost use Rattle.nf_rational.specs.Signs as Signs;
+ghost use Rattle.nf_thin_def.specs.Table as Lists;
+ghost use Rattle.nf_thin_def.specs.Table.{row_at};
 ghost use Rattle.nf_linear_laws.specs.Solution.{IsSquare};
 ghost use Rattle.nf_linear.specs.Rows.{clear_unless, clear_each};
 ghost use Rattle.nf_linear.specs.Pivots.{eliminated, HasPivots};

@@ -1,10 +1,10 @@
 // Linear systems on grids of fixed size.
 ghost use Rattle.std.specs.Prelude.{◌≡◌, ℕ, ◌+◌, ◌<◌, ◌≤◌, length, set, replicate, IfOk, IfErr};
 ghost use Rattle.nf_rational.specs.Operations.{0ℚ};
-ghost use Rattle.nf_work.specs.declared.Part.TheVariants as Part;
-ghost use Rattle.nf_work.specs.Passing.{passes_Q};
-ghost use Rattle.nf_work.specs.Checked.{at_part, seen_at};
-ghost use Rattle.nf_lists.specs.Table.{row_at, solution_from, table_list};
+ghost use Rattle.nf_frac_def.specs.declared.Part.TheVariants as Part;
+ghost use Rattle.nf_frac_def.specs.Passing.{passes_Q};
+ghost use Rattle.nf_frac_def.specs.Checked.{at_part, seen_at};
+ghost use Rattle.nf_thin_def.specs.Table.{row_at, solution_from, table_list};
 ghost use Rattle.nf_linear_laws.specs.Solution.{IsSquare};
 ghost use Rattle.nf_linear.specs.Pivots.{HasPivots};
 ghost use Rattle.nf_linear.specs.Grids.{values_if, IsTrueWith};

@@ -2,13 +2,13 @@
 ghost use Rattle.std.specs.Prelude.{◌≡◌, ◌≢◌, ℕ, ◌+◌, ◌-◌, ◌<◌, ◌≤◌, List, [], ◌∷◌, ◌++◌, length, set, take, drop, replicate, false, if◌then◌else◌};
 ghost use Rattle.std.specs.List.{AllByRecursion};
 ghost use Rattle.nf_rational.specs.Operations.{0ℚ};
-ghost use Rattle.nf_work.specs.declared.Part.TheVariants as Part;
-ghost use Rattle.nf_work.specs.declared.Op.TheVariants.{Quotient};
-ghost use Rattle.nf_work.specs.Passing.{passes_Q};
-ghost use Rattle.nf_work.specs.Checked.{at_part, checked_at, fold_checked, seen_at};
+ghost use Rattle.nf_frac_def.specs.declared.Part.TheVariants as Part;
+ghost use Rattle.nf_frac_def.specs.declared.Op.TheVariants.{Quotient};
+ghost use Rattle.nf_frac_def.specs.Passing.{passes_Q};
+ghost use Rattle.nf_frac_def.specs.Checked.{at_part, checked_at, fold_checked, seen_at};
 ghost use Rattle.nf_model.specs.Entries.{number_at};
-ghost use Rattle.nf_lists.specs.Signs as Signs;
-ghost use Rattle.nf_lists.specs.Table.{less_unless};
+ghost use Rattle.nf_rational.specs.Signs as Signs;
+ghost use Rattle.nf_thin_def.specs.Table.{less_unless};
 ghost use Rattle.nf_linear.specs.Rows.{some_from, entry_less, clear_row};
 
 use nf_frac::{Part, PassedAt, Q};

@@ -1,8 +1,8 @@
 // The solution of a table.
 ghost use Rattle.std.specs.Prelude.{◌≡◌, map, IfOk};
-ghost use Rattle.nf_work.specs.declared.Part.TheVariants as Part;
-ghost use Rattle.nf_work.specs.Checked.{at_part, Gives};
-ghost use Rattle.nf_lists.specs.Table.{solution_from, table_list};
+ghost use Rattle.nf_frac_def.specs.declared.Part.TheVariants as Part;
+ghost use Rattle.nf_frac_def.specs.Checked.{at_part, Gives};
+ghost use Rattle.nf_thin_def.specs.Table.{solution_from, table_list};
 ghost use Rattle.nf_linear_laws.specs.Solution.{IsSquare};
 ghost use Rattle.nf_linear.specs.Pivots.{HasPivots};
 ghost use Rattle.nf_linear.specs.Solved.{values_of, IsTrueOf};

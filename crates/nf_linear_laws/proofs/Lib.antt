@@ -5,3 +5,10 @@ pub mod Pivots
 pub mod Rows
 pub mod Elimination
 pub mod Solutions
+pub mod Forms
+pub mod Constraints
+pub mod Bounds
+pub mod LeastElimination
+pub mod Projection
+pub mod Least
+pub mod Choices

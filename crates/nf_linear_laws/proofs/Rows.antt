@@ -7,12 +7,12 @@ use Rattle.nf_rational_laws.proofs.Polynomial.{ring, reading, reading_of}
 use Rattle.nf_rational_laws.proofs.Field.{rationals}
 use Rattle.nf_rational_laws.proofs.Linear.{eq, eq_times, linear_eq}
 use Rattle.nf_rational_laws.proofs.Quotient.{/ℚ-times}
-use Rattle.nf_work.specs.declared.Op.TheVariants.{Quotient}
-use Rattle.nf_work.specs.Checked.{checked, ◌>>=◌}
+use Rattle.nf_frac_def.specs.declared.Op.TheVariants.{Quotient}
+use Rattle.nf_frac_def.specs.Checked.{checked, ◌>>=◌}
 use Rattle.nf_model.specs.Entries.{number_at}
-use Rattle.nf_lists.specs.Signs.{is_zero}
-use Rattle.nf_lists.specs.Table.{Row, row_at, less_unless, entries_less, clear_unless, clear_rows}
-use Rattle.nf_lists_laws.specs.Laws.{never}
+use Rattle.nf_rational.specs.Signs.{is_zero}
+use Rattle.nf_thin_def.specs.Table.{Row, row_at, less_unless, entries_less, clear_unless, clear_rows}
+use Rattle.nf_thin_laws.specs.ListLaws.{never}
 use Rattle.nf_linear_laws.proofs.Pivots.{zero_tested}
 
 pub bind_ok : {A B E : Type 0} (r : Result A E) (a : A) (f : A → Result B E) (s : Result B E) → r ≡ Ok a → f a ≡ s → (r >>= f) ≡ s

@@ -1,1 +1,3 @@
 pub mod Solution
+pub mod Systems
+pub mod LeastLaws

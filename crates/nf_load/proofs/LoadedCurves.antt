@@ -6,16 +6,16 @@ use Rattle.nf_rational.specs.Operations.{0ℚ, ◌+ℚ◌}
 use Rattle.nf_rational.specs.Order.{◌≤ℚ◌}
 use Rattle.nf_rational_laws.proofs.Polynomial.{reading_of}
 use Rattle.nf_rational_laws.proofs.Linear.{le, linear_le}
-use Rattle.nf_work.specs.Passing.{Passing}
-use Rattle.nf_work.specs.declared.Part.{Part}
-use Rattle.nf_work.specs.declared.Halt.{Halt}
-use Rattle.nf_work.specs.Checked.{checked, at_part, each, Gives}
-use Rattle.nf_work.specs.declared.Op.TheVariants.{Sum}
+use Rattle.nf_frac_def.specs.Passing.{Passing}
+use Rattle.nf_frac_def.specs.declared.Part.{Part}
+use Rattle.nf_frac_def.specs.declared.Halt.{Halt}
+use Rattle.nf_frac_def.specs.Checked.{checked, at_part, each, Gives}
+use Rattle.nf_frac_def.specs.declared.Op.TheVariants.{Sum}
 use Rattle.nf_model.specs.Curve.{Point, value, IsCurve, NeverFalls}
 use Rattle.nf_model_laws.specs.Capacity.{IsPositive}
-use Rattle.nf_curve_lists.specs.Values.{checked_cut}
-use Rattle.nf_load_lists.specs.Loading.{Waits, Exit, queue_point, exit_point, outflow_points, outflow_from, exit_of, all_waits, checked_loading}
-use Rattle.nf_load_lists.specs.Meanings.{IsLoaded}
+use Rattle.nf_curve_def.specs.Values.{checked_cut}
+use Rattle.nf_load_def.specs.Loading.{Waits, Exit, queue_point, exit_point, outflow_points, outflow_from, exit_of, all_waits, checked_loading}
+use Rattle.nf_load_def.specs.Meanings.{IsLoaded}
 use Rattle.nf_curve_laws.proofs.Operations.{checked-is}
 use Rattle.nf_curve_laws.proofs.Values.{Cut, checked_cut-is}
 use Rattle.nf_load_laws.proofs.Functions.{queue_at, exit_at, out_at}

@@ -4,15 +4,15 @@ use Rattle.std.specs.Prelude.{Some, Result, Ok, Err}
 use Rattle.nf_rational.specs.Rational.{ℚ}
 use Rattle.nf_rational.specs.Operations.{0ℚ}
 use Rattle.nf_rational.specs.Order.{lt_ℚ, le_ℚ}
-use Rattle.nf_work.specs.Passing.{Passing}
-use Rattle.nf_work.specs.declared.Part.TheVariants.{Load}
-use Rattle.nf_work.specs.declared.Passed.{Passed}
-use Rattle.nf_work.specs.declared.PassedAt.{PassedAt}
-use Rattle.nf_work.specs.Checked.{at_part}
+use Rattle.nf_frac_def.specs.Passing.{Passing}
+use Rattle.nf_frac_def.specs.declared.Part.TheVariants.{Load}
+use Rattle.nf_frac_def.specs.declared.Passed.{Passed}
+use Rattle.nf_frac_def.specs.declared.PassedAt.{PassedAt}
+use Rattle.nf_frac_def.specs.Checked.{at_part}
 use Rattle.nf_model.specs.Curve.{Point}
-use Rattle.nf_lists.specs.Signs.{is_zero, is_positive}
-use Rattle.nf_curve_lists.specs.Lines.{checked_slope}
-use Rattle.nf_load_lists.specs.Loading.{Waits, moves, stays_or_moves, after_piece}
+use Rattle.nf_rational.specs.Signs.{is_zero, is_positive}
+use Rattle.nf_curve_def.specs.Lines.{checked_slope}
+use Rattle.nf_load_def.specs.Loading.{Waits, moves, stays_or_moves, after_piece}
 use Rattle.nf_curve.proofs.Exits.{after_err, after_ok}
 
 module _ (passes : Passing) (capacity : ℚ) (before : Waits) (end : Point) where

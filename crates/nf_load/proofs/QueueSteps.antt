@@ -9,14 +9,14 @@ use Rattle.nf_rational.specs.Order.{◌<ℚ◌, lt_ℚ}
 use Rattle.nf_rational_laws.proofs.Polynomial.{reading_of}
 use Rattle.nf_rational_laws.proofs.Linear.{lt, eq, linear_false}
 use Rattle.nf_rational_laws.proofs.Tests.{lt_ℚ_cases}
-use Rattle.nf_work.specs.Passing.{Passing}
-use Rattle.nf_work.specs.declared.Part.{Part}
-use Rattle.nf_work.specs.declared.PassedAt.{PassedAt}
-use Rattle.nf_work.specs.Checked.{Checked, checked, at_part, ◌>>=◌}
-use Rattle.nf_work.specs.declared.Op.TheVariants.{Difference}
-use Rattle.nf_work.proofs.Each.{with_front}
+use Rattle.nf_frac_def.specs.Passing.{Passing}
+use Rattle.nf_frac_def.specs.declared.Part.{Part}
+use Rattle.nf_frac_def.specs.declared.PassedAt.{PassedAt}
+use Rattle.nf_frac_def.specs.Checked.{Checked, checked, at_part, ◌>>=◌}
+use Rattle.nf_frac_def.specs.declared.Op.TheVariants.{Difference}
+use Rattle.nf_frac_def.proofs.Each.{with_front}
 use Rattle.nf_model.specs.Curve.{Point, TimesRise, IsCurve}
-use Rattle.nf_load_lists.specs.Loading.{Waits, last_of, after_piece, waits_after, all_waits}
+use Rattle.nf_load_def.specs.Loading.{Waits, last_of, after_piece, waits_after, all_waits}
 use Rattle.nf_curve_laws.proofs.Operations.{checked-is}
 use Rattle.nf_curve.proofs.Exits.{was_ok, after_err, front_err, front_more}
 use Rattle.nf_curve.proofs.Shortening.{drop-at}

@@ -2,7 +2,7 @@
 use Rattle.std.specs.Prelude.{refl}
 use Rattle.std.specs.Coded.{Coded, code_by, coded×}
 use Rattle.nf_rational.specs.Rational.{ℚ, coded_ℚ}
-use Rattle.nf_load_lists.specs.Loading.{Waits, Exit}
+use Rattle.nf_load_def.specs.Loading.{Waits, Exit}
 
 abbrev pub coded_waits : Coded Waits
 coded_waits = code_by (ℚ × (ℚ × ℚ)) (coded× coded_ℚ (coded× coded_ℚ coded_ℚ))

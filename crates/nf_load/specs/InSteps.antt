@@ -1,13 +1,13 @@
 -- Remainders of a loading's operation sequence.
 use Rattle.std.specs.Prelude.{◌≡◌, List, Option, Ok, map}
 use Rattle.nf_rational.specs.Rational.{ℚ}
-use Rattle.nf_work.specs.Passing.{Passing}
-use Rattle.nf_work.specs.Checked.{Checked, checked, each, ◌>>=◌}
-use Rattle.nf_work.specs.declared.Op.TheVariants.{Sum}
+use Rattle.nf_frac_def.specs.Passing.{Passing}
+use Rattle.nf_frac_def.specs.Checked.{Checked, checked, each, ◌>>=◌}
+use Rattle.nf_frac_def.specs.declared.Op.TheVariants.{Sum}
 use Rattle.nf_model.specs.Curve.{Point, IsCurve}
-use Rattle.nf_curve_lists.specs.Values.{checked_cut}
-use Rattle.nf_curve_lists.specs.Short.{checked_short}
-use Rattle.nf_load_lists.specs.Loading.{Waits, Exit, Loaded, queue_point, exit_point, outflow_points, exit_of, all_waits}
+use Rattle.nf_curve_def.specs.Values.{checked_cut}
+use Rattle.nf_curve_def.specs.Short.{checked_short}
+use Rattle.nf_load_def.specs.Loading.{Waits, Exit, Loaded, queue_point, exit_point, outflow_points, exit_of, all_waits}
 
 -- the operations after the whole outflow is known
 unfoldable pub in_short_form : Passing → List Waits → List Exit → List Point → Checked Loaded

@@ -1,6 +1,6 @@
 -- Results of the loading code, as values of the definitions.
 use Rattle.std.specs.Prelude.{List, [], ◌∷◌, Option, Some, None}
-use Rattle.nf_load_lists.specs.Loading as lists
+use Rattle.nf_load_def.specs.Loading as lists
 use Rattle.nf_load.specs.declared.waiting.Over.{Over}
 use Rattle.nf_load.specs.declared.loading.Loaded.{Loaded}
 

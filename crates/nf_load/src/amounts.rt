@@ -2,13 +2,13 @@
 ghost use Rattle.std.specs.Prelude.{◌≡◌, ◌++◌, IfOk, OnOk};
 ghost use Rattle.nf_rational.specs.Operations.{0ℚ};
 ghost use Rattle.nf_rational.specs.Order.{◌≤ℚ◌};
-ghost use Rattle.nf_work.specs.declared.Part.TheVariants.{Load};
-ghost use Rattle.nf_work.specs.Passing.{passes_Q};
-ghost use Rattle.nf_work.specs.Checked.{at_part, Gives};
+ghost use Rattle.nf_frac_def.specs.declared.Part.TheVariants.{Load};
+ghost use Rattle.nf_frac_def.specs.Passing.{passes_Q};
+ghost use Rattle.nf_frac_def.specs.Checked.{at_part, Gives};
 ghost use Rattle.nf_model.specs.Network.{ArePieces};
-ghost use Rattle.nf_load_lists.specs.Cumulative as lists;
-ghost use Rattle.nf_load_lists.specs.Cumulative.{point_if_after_0, checked_cumulative};
-ghost use Rattle.nf_load_lists.specs.Meanings.{IsCumulative};
+ghost use Rattle.nf_load_def.specs.Cumulative as lists;
+ghost use Rattle.nf_load_def.specs.Cumulative.{point_if_after_0, checked_cumulative};
+ghost use Rattle.nf_load_def.specs.Meanings.{IsCumulative};
 
 use nf_curve::{Curve, Point};
 use nf_frac::{Halt, Part, PassedAt, Q, at};

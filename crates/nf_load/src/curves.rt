@@ -2,14 +2,14 @@
 ghost use Rattle.std.specs.Prelude.{◌≡◌, map, IfOk};
 ghost use Rattle.nf_rational.specs.Operations.{0ℚ};
 ghost use Rattle.nf_rational.specs.Order.{◌≤ℚ◌};
-ghost use Rattle.nf_work.specs.declared.Part.TheVariants.{Load};
-ghost use Rattle.nf_work.specs.Passing.{passes_Q};
-ghost use Rattle.nf_work.specs.Checked.{at_part, Gives};
+ghost use Rattle.nf_frac_def.specs.declared.Part.TheVariants.{Load};
+ghost use Rattle.nf_frac_def.specs.Passing.{passes_Q};
+ghost use Rattle.nf_frac_def.specs.Checked.{at_part, Gives};
 ghost use Rattle.nf_model.specs.Curve.{IsCurve};
-ghost use Rattle.nf_curve_lists.specs.Values.{checked_cut};
-ghost use Rattle.nf_curve_lists.specs.Short.{checked_short};
-ghost use Rattle.nf_load_lists.specs.Loading as lists;
-ghost use Rattle.nf_load_lists.specs.Loading.{queue_point, exit_point};
+ghost use Rattle.nf_curve_def.specs.Values.{checked_cut};
+ghost use Rattle.nf_curve_def.specs.Short.{checked_short};
+ghost use Rattle.nf_load_def.specs.Loading as lists;
+ghost use Rattle.nf_load_def.specs.Loading.{queue_point, exit_point};
 
 use crate::waits::{Exit, Waits};
 use nf_curve::{Curve, Point};

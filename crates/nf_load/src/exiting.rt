@@ -1,17 +1,17 @@
 // Exit times of a link.
 ghost use Rattle.std.specs.Prelude.{◌≡◌};
-ghost use Rattle.nf_work.specs.declared.Part.TheVariants.{Load};
-ghost use Rattle.nf_work.specs.Passing.{passes_Q};
-ghost use Rattle.nf_work.specs.Checked.{at_part, each, Gives};
+ghost use Rattle.nf_frac_def.specs.declared.Part.TheVariants.{Load};
+ghost use Rattle.nf_frac_def.specs.Passing.{passes_Q};
+ghost use Rattle.nf_frac_def.specs.Checked.{at_part, each, Gives};
 ghost use Rattle.nf_model_laws.specs.Capacity.{IsPositive};
-ghost use Rattle.nf_load_lists.specs.Loading as lists;
+ghost use Rattle.nf_load_def.specs.Loading as lists;
 
 use crate::waits::{Exit, Waits};
 use nf_frac::{Halt, Part, PassedAt, Q, at};
 use std::alloc::Global;
 
 // Returns the exit of flow that enters at a moment: the time, plus the transit time, plus the wait in the queue.
-#[tactic(auto, unfolding(nf_load_lists::specs::Loading::exit_after), using(crate::proofs::ExitSteps::capacity_apart))]
+#[tactic(auto, unfolding(nf_load_def::specs::Loading::exit_after), using(crate::proofs::ExitSteps::capacity_apart))]
 fn exit_after(capacity: &Option<Q>, transit: Q, waits: &Waits) -> Result<Q, PassedAt<Q>>
     requires { IsPositive capacity.now }
     ensures { result ≡ at_part Load (lists.exit_after passes_Q capacity.now transit waits.now) }

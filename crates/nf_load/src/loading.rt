@@ -2,14 +2,14 @@
 ghost use Rattle.std.specs.Prelude.{◌≡◌, IfOk};
 ghost use Rattle.nf_rational.specs.Operations.{0ℚ};
 ghost use Rattle.nf_rational.specs.Order.{◌≤ℚ◌};
-ghost use Rattle.nf_work.specs.declared.Part.TheVariants.{Load};
-ghost use Rattle.nf_work.specs.Passing.{passes_Q};
-ghost use Rattle.nf_work.specs.declared.Op.TheVariants.{Sum};
-ghost use Rattle.nf_work.specs.Checked.{checked, at_part, Gives};
+ghost use Rattle.nf_frac_def.specs.declared.Part.TheVariants.{Load};
+ghost use Rattle.nf_frac_def.specs.Passing.{passes_Q};
+ghost use Rattle.nf_frac_def.specs.declared.Op.TheVariants.{Sum};
+ghost use Rattle.nf_frac_def.specs.Checked.{checked, at_part, Gives};
 ghost use Rattle.nf_model.specs.Curve.{NeverFalls, value};
 ghost use Rattle.nf_model_laws.specs.Capacity.{IsPositive};
-ghost use Rattle.nf_load_lists.specs.Loading.{checked_loading};
-ghost use Rattle.nf_load_lists.specs.Meanings.{IsLoaded};
+ghost use Rattle.nf_load_def.specs.Loading.{checked_loading};
+ghost use Rattle.nf_load_def.specs.Meanings.{IsLoaded};
 ghost use Rattle.nf_load.specs.Loadings.{loaded_of};
 ghost use Rattle.nf_load.specs.InSteps.{AreCurves, LeadsToCurves, in_short_form, until_transit, behind_cut};
 

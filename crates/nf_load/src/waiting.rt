@@ -3,12 +3,12 @@ ghost use Rattle.std.specs.Prelude.{◌≡◌, ◌&&◌, [], ◌∷◌, ◌++◌
 ghost use Rattle.nf_rational.specs.Rational.{ℚ};
 ghost use Rattle.nf_rational.specs.Operations.{0ℚ};
 ghost use Rattle.nf_rational.specs.Order.{◌<ℚ◌, lt_ℚ, le_ℚ};
-ghost use Rattle.nf_work.specs.declared.Part.TheVariants.{Load};
-ghost use Rattle.nf_work.specs.Passing.{passes_Q};
-ghost use Rattle.nf_work.specs.Checked.{at_part, seen_at, Gives};
-ghost use Rattle.nf_lists.specs.Signs.{is_zero, is_positive};
-ghost use Rattle.nf_curve_lists.specs.Lines.{checked_slope, checked_line};
-ghost use Rattle.nf_load_lists.specs.Loading as lists;
+ghost use Rattle.nf_frac_def.specs.declared.Part.TheVariants.{Load};
+ghost use Rattle.nf_frac_def.specs.Passing.{passes_Q};
+ghost use Rattle.nf_frac_def.specs.Checked.{at_part, seen_at, Gives};
+ghost use Rattle.nf_rational.specs.Signs.{is_zero, is_positive};
+ghost use Rattle.nf_curve_def.specs.Lines.{checked_slope, checked_line};
+ghost use Rattle.nf_load_def.specs.Loading as lists;
 ghost use Rattle.nf_load.specs.Loadings.{over_list};
 
 use crate::waits::Waits;
@@ -40,7 +40,7 @@ fn empty_at(end: &Point) -> Over
 }
 
 // Returns the inflow rate over a piece.
-#[tactic(auto, unfolding(nf_curve_lists::specs::Lines::checked_slope), using(nf_curve::proofs::Pieces::run_apart))]
+#[tactic(auto, unfolding(nf_curve_def::specs::Lines::checked_slope), using(nf_curve::proofs::Pieces::run_apart))]
 fn inflow_rate(before: &Waits, end: &Point) -> Result<Q, PassedAt<Q>>
     requires { before.now.time <ℚ end.now.0 }
     ensures { result ≡ at_part Load (checked_slope passes_Q (before.now.time, before.now.amount) end.now) }
@@ -52,7 +52,7 @@ fn inflow_rate(before: &Waits, end: &Point) -> Result<Q, PassedAt<Q>>
 }
 
 // Returns the amount that has entered by a time of a piece.
-#[tactic(auto, unfolding(nf_curve_lists::specs::Lines::checked_line))]
+#[tactic(auto, unfolding(nf_curve_def::specs::Lines::checked_line))]
 fn amount_at(before: &Waits, end: &Point, time: Q) -> Result<Q, PassedAt<Q>>
     requires { before.now.time <ℚ end.now.0 }
     ensures { result ≡ at_part Load (checked_line passes_Q (before.now.time, before.now.amount) end.now time) }
@@ -65,7 +65,7 @@ fn amount_at(before: &Waits, end: &Point, time: Q) -> Result<Q, PassedAt<Q>>
 }
 
 // Returns the queue at `end` if it changes from `start` at the rate less the capacity.
-#[tactic(auto, unfolding(nf_load_lists::specs::Loading::grown))]
+#[tactic(auto, unfolding(nf_load_def::specs::Loading::grown))]
 fn grown(capacity: Q, rate: Q, queue: Q, start: Q, end: Q) -> Result<Q, PassedAt<Q>>
     ensures { result ≡ at_part Load (lists.grown passes_Q capacity rate queue start end) }
 {
@@ -77,7 +77,7 @@ fn grown(capacity: Q, rate: Q, queue: Q, start: Q, end: Q) -> Result<Q, PassedAt
 }
 
 // Returns the time at which the queue drains to 0. The rate is below the capacity.
-#[tactic(auto, unfolding(nf_load_lists::specs::Loading::drained), using(crate::proofs::QueueSteps::change_apart))]
+#[tactic(auto, unfolding(nf_load_def::specs::Loading::drained), using(crate::proofs::QueueSteps::change_apart))]
 fn drained(capacity: Q, rate: Q, queue: Q, start: Q) -> Result<Q, PassedAt<Q>>
     requires { lt_ℚ rate capacity ≡ true }
     ensures { result ≡ at_part Load (lists.drained passes_Q capacity rate queue start) }

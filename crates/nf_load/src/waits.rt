@@ -11,7 +11,7 @@ pub(crate) struct Waits {
 }
 
 impl Model for Waits {
-    ghost use Rattle.nf_load_lists.specs.Loading.{Waits as SeenWaits};
+    ghost use Rattle.nf_load_def.specs.Loading.{Waits as SeenWaits};
     ghost use Rattle.nf_load.specs.Codes.{coded_waits};
 
     ghost Value = { SeenWaits };
@@ -31,7 +31,7 @@ pub(crate) struct Exit {
 }
 
 impl Model for Exit {
-    ghost use Rattle.nf_load_lists.specs.Loading.{Exit as SeenExit};
+    ghost use Rattle.nf_load_def.specs.Loading.{Exit as SeenExit};
     ghost use Rattle.nf_load.specs.Codes.{coded_exit};
 
     ghost Value = { SeenExit };

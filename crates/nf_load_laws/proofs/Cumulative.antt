@@ -8,24 +8,24 @@ use Rattle.nf_rational_laws.proofs.Polynomial.{reading_of}
 use Rattle.nf_rational_laws.proofs.Linear.{le, lt, eq, eq_times, linear_lt, linear_eq}
 use Rattle.nf_rational_laws.proofs.Order.{≤ℚ_of_lt, ≤ℚ_of_same, ≤ℚ_antisymm, lt_or_le_ℚ, not_both_ℚ, less_nn}
 use Rattle.nf_rational_laws.proofs.Tests.{lt_ℚ_cases, max0_of}
-use Rattle.nf_work.specs.Passing.{Passing}
-use Rattle.nf_work.specs.Checked.{checked, ◌>>=◌}
-use Rattle.nf_work.specs.declared.Op.TheVariants.{Sum, Difference, Product}
+use Rattle.nf_frac_def.specs.Passing.{Passing}
+use Rattle.nf_frac_def.specs.Checked.{checked, ◌>>=◌}
+use Rattle.nf_frac_def.specs.declared.Op.TheVariants.{Sum, Difference, Product}
 use Rattle.nf_model.specs.Curve.{Point, IsCurve, NeverFalls}
 use Rattle.nf_model.specs.Network.{Piece, ArePieces, time_in, supplied}
 use Rattle.nf_model_laws.specs.Affine.{IsAffine}
 use Rattle.nf_model_laws.specs.CurveLaws.{ValuesRise}
 use Rattle.nf_model_laws.proofs.Curves.{NeverFalls-value}
 use Rattle.nf_model_laws.proofs.Supply.{StartsRise, StartsRise-pieces, NextFrom, supplied-none, supplied-rises, supplied-begins}
-use Rattle.nf_lists.specs.Signs.{is_same}
-use Rattle.nf_load_lists.specs.Cumulative.{end_of, point_after_0, point_if_after_0, with_piece, cumulative_from, checked_cumulative}
-use Rattle.nf_load_lists.specs.Meanings.{IsCumulative}
+use Rattle.nf_rational.specs.Signs.{is_same}
+use Rattle.nf_load_def.specs.Cumulative.{end_of, point_after_0, point_if_after_0, with_piece, cumulative_from, checked_cumulative}
+use Rattle.nf_load_def.specs.Meanings.{IsCumulative}
 use Rattle.nf_curve_laws.proofs.Operations.{then_ok, is_same_cases, checked-is}
 use Rattle.nf_curve_laws.proofs.Following.{FollowsFrom, ends, goes, follows-point, value-follows_past}
 use Rattle.nf_curve_laws.proofs.Values.{follows-curve, follows-values}
 use Rattle.nf_rational_laws.proofs.Chains.{≤ℚ_refl, ≤ℚ_trans}
 use Rattle.nf_rational_laws.proofs.Extremes.{min_is_left, min_is_right, min_left, min_keeps}
-use Rattle.nf_plain_laws.proofs.Results.{same_Ok}
+use Rattle.nf_rational_laws.proofs.Results.{same_Ok}
 
 -- ---- points after time 0
 after_0 : (t y : ℚ) → 0ℚ <ℚ t → point_if_after_0 t y ≡ (t, y) ∷ []

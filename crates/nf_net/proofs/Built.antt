@@ -6,13 +6,13 @@ use Rattle.std.specs.Str.{bytes_eq}
 use Rattle.std.proofs.lemmas.Simd.{map-map}
 use Rattle.nf_model.specs.Entries.{Has}
 use Rattle.nf_model.specs.Network.{hop_of}
-use Rattle.nf_formats.specs.Names.{Name, place_of, with_names, without}
-use Rattle.nf_formats.specs.Named.{NamedLink, Named, numbered, ends, names_of}
-use Rattle.nf_formats.specs.NetLines.{Draft}
-use Rattle.nf_formats.specs.NetClosing.{source_name, sink_name, IsReached, marked, network_of}
-use Rattle.nf_formats.specs.WellNamed.{IsNamed}
-use Rattle.nf_formats_laws.proofs.NameFacts.{same_names, has_none, with_name_new}
-use Rattle.nf_formats_laws.proofs.AcceptedNamed.{is_named}
+use Rattle.nf_net_def.specs.Names.{Name, place_of, with_names, without}
+use Rattle.nf_net_def.specs.Named.{NamedLink, Named, numbered, ends, names_of}
+use Rattle.nf_net_def.specs.NetLines.{Draft}
+use Rattle.nf_net_def.specs.NetClosing.{source_name, sink_name, IsReached, marked, network_of}
+use Rattle.nf_net_def.specs.WellNamed.{IsNamed}
+use Rattle.nf_net_laws.proofs.NameFacts.{same_names, has_none, with_name_new}
+use Rattle.nf_net_laws.proofs.AcceptedNamed.{is_named}
 use Rattle.nf_net.specs.declared.building.SortedLinks.{SortedLinks}
 use Rattle.nf_net.specs.declared.building.SortedNodes.{SortedNodes}
 use Rattle.nf_net.specs.declared.building.Tables.{Tables}

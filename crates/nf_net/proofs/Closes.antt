@@ -1,12 +1,12 @@
 -- The reading of a text from that of its lines and of the file as a whole.
 use Rattle.std.proofs.Common.{◌≡◌, ℕ, List, map, Option, None, Result, Ok, Err, MatchResult, refl, sym, ap, subst, ◌∙◌}
-use Rattle.nf_lines.specs.Words.{ReadLine, read_lines, content_lines}
-use Rattle.nf_lines.specs.Faults.{LineFault, first_fault}
+use Rattle.nf_text_def.specs.Words.{ReadLine, read_lines, content_lines}
+use Rattle.nf_text_def.specs.Faults.{LineFault, first_fault}
 use Rattle.nf_text.specs.declared.Line.{Line}
 use Rattle.nf_text.specs.Reading.{seen_line}
-use Rattle.nf_formats.specs.Named.{Named}
-use Rattle.nf_formats.specs.NetLines.{Broken, Draft, draft_from}
-use Rattle.nf_formats.specs.NetFile.{Closes, by_bytes, Reads}
+use Rattle.nf_net_def.specs.Named.{Named}
+use Rattle.nf_net_def.specs.NetLines.{Broken, Draft, draft_from}
+use Rattle.nf_net_def.specs.NetFile.{Closes, by_bytes, Reads}
 use Rattle.nf_net_file.specs.declared.fault.NetFault.{NetFault}
 use Rattle.nf_net_file.specs.Contents.{contents, IfBroken}
 use Rattle.nf_net_file.proofs.ContentLines.{broken_more}

@@ -5,11 +5,11 @@ use Rattle.std.specs.Str.{bytes_eq}
 use Rattle.std.proofs.lemmas.List.Quantifiers.{position-Some}
 use Rattle.std.proofs.lemmas.Bool.{lt-ltb}
 use Rattle.std.proofs.lemmas.Option.{slice_get-get_or}
-use Rattle.nf_formats_laws.proofs.NameFacts.{same_names}
+use Rattle.nf_net_laws.proofs.NameFacts.{same_names}
 use Rattle.nf_model.specs.Network.{Link}
-use Rattle.nf_formats.specs.Names.{Name, is_name, has_name}
-use Rattle.nf_formats.specs.Named.{Named, links_by_name, active_links, names_of}
-use Rattle.nf_formats.specs.WellNamed.{IsNamed}
+use Rattle.nf_net_def.specs.Names.{Name, is_name, has_name}
+use Rattle.nf_net_def.specs.Named.{Named, links_by_name, active_links, names_of}
+use Rattle.nf_net_def.specs.WellNamed.{IsNamed}
 
 pub few_nodes : (n : Named) → IsNamed n → length n.node_names ≤ 64
 few_nodes n h = omega (arith, h.limits.nodes, length-append n.node_names n.idle_nodes)

@@ -2,10 +2,10 @@
 use Rattle.std.proofs.Common.{◌≡◌, ℕ, List, [], ◌∷◌, ◌++◌, ◌∙◌, ap, append_assoc}
 use Rattle.std.specs.Prelude.{codes, Option}
 use Rattle.nf_rational.specs.Rational.{ℚ}
-use Rattle.nf_numerals.specs.Printed.{printed}
-use Rattle.nf_lines.specs.Words.{line_of_words}
-use Rattle.nf_formats.specs.Numbers.{capacity_word}
-use Rattle.nf_formats.specs.NetText.{link_words}
+use Rattle.nf_frac_words.specs.Printed.{printed}
+use Rattle.nf_text_def.specs.Words.{line_of_words}
+use Rattle.nf_net_def.specs.Numbers.{capacity_word}
+use Rattle.nf_net_def.specs.NetText.{link_words}
 
 and_then : (old mid new first next : List ℕ) → mid ≡ old ++ first → new ≡ mid ++ next → new ≡ old ++ (first ++ next)
 and_then old mid new first next e f = f ∙ ap (λ (l : List ℕ). l ++ next) e ∙ append_assoc old first next

@@ -14,9 +14,9 @@ use Rattle.std.specs.declared.alloc.AllocError.{AllocError}
 use Rattle.std.specs.declared.alloc.Global.{Global}
 use Rattle.nf_graph.specs.Graph.{AreBelow}
 use Rattle.nf_graph.specs.Distances.{NoneNegative, AreDistances}
-use Rattle.nf_formats.specs.Named.{Named}
-use Rattle.nf_formats.specs.WellNamed.{IsNamed}
-use Rattle.nf_formats_laws.proofs.WalkFacts.{CameFrom, came_from}
+use Rattle.nf_net_def.specs.Named.{Named}
+use Rattle.nf_net_def.specs.WellNamed.{IsNamed}
+use Rattle.nf_net_laws.proofs.WalkFacts.{CameFrom, came_from}
 
 module _ (n : Named) (h : IsNamed n) (kept : List Hop) (are : kept ≡ hops n.net) where
   tails : (e : ℕ) (hop : Hop) → IsHop (hops n.net) e hop → hop.tail < n.net.nodes

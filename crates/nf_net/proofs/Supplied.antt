@@ -10,15 +10,15 @@ use Rattle.nf_rational_laws.proofs.Order.{less_ps, ≤ℚ_of_lt}
 use Rattle.nf_rational_laws.proofs.Tests.{lt_ℚ_cases, max0_none, max0_of}
 use Rattle.nf_rational_laws.proofs.Extremes.{min_left, min_keeps}
 use Rattle.nf_rational_laws.proofs.Chains.{≤ℚ_trans}
-use Rattle.nf_work.specs.declared.Op.{Op}
-use Rattle.nf_work.specs.declared.Op.TheVariants.{Sum, Difference, Product}
-use Rattle.nf_work.specs.declared.Passed.{Passed}
-use Rattle.nf_work.specs.Passing.{Passing, result_of}
-use Rattle.nf_work.specs.Checked.{Checked, checked, ◌>>=◌}
+use Rattle.nf_frac_def.specs.declared.Op.{Op}
+use Rattle.nf_frac_def.specs.declared.Op.TheVariants.{Sum, Difference, Product}
+use Rattle.nf_frac_def.specs.declared.Passed.{Passed}
+use Rattle.nf_frac_def.specs.Passing.{Passing, result_of}
+use Rattle.nf_frac_def.specs.Checked.{Checked, checked, ◌>>=◌}
 use Rattle.nf_model.specs.Network.{Piece, ArePieces, time_in, supplied}
 use Rattle.nf_net.specs.Supply.{end_before, with_piece, supplied_after}
-use Rattle.nf_work.proofs.Binding.{bind_ok}
-use Rattle.nf_plain_laws.proofs.Results.{same_Ok}
+use Rattle.nf_frac_def.proofs.Binding.{bind_ok}
+use Rattle.nf_rational_laws.proofs.Results.{same_Ok}
 
 -- ---- computations that give a value
 

@@ -1,6 +1,6 @@
 -- The words of versions.
 use Rattle.std.proofs.Common.{◌≡◌, ◌⊎◌, inl, inr, ◌≢◌, ℕ, refl, sym, ◌∙◌, ap, codes}
-use Rattle.nf_numerals.specs.Digits.{digits_of}
+use Rattle.nf_frac_words.specs.Digits.{digits_of}
 
 one_digit : digits_of 1 ≡ codes "1"
 unfolding digits_of

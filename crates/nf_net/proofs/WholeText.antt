@@ -3,11 +3,11 @@ use Rattle.std.proofs.Common.{◌≡◌, ℕ, List, [], ◌∷◌, ◌++◌, map
 use Rattle.std.specs.List.{flat_map}
 use Rattle.std.proofs.lemmas.List.Concat.{flat_map-append}
 use Rattle.nf_model.specs.Network.{Piece}
-use Rattle.nf_numerals.specs.Digits.{digits_of}
-use Rattle.nf_lines.specs.Words.{line_of_words}
-use Rattle.nf_formats.specs.Names.{name_at}
-use Rattle.nf_formats.specs.Named.{NamedLink, Named, active_links}
-use Rattle.nf_formats.specs.NetText.{link_words, inflow_words, canonical}
+use Rattle.nf_frac_words.specs.Digits.{digits_of}
+use Rattle.nf_text_def.specs.Words.{line_of_words}
+use Rattle.nf_net_def.specs.Names.{name_at}
+use Rattle.nf_net_def.specs.Named.{NamedLink, Named, active_links}
+use Rattle.nf_net_def.specs.NetText.{link_words, inflow_words, canonical}
 use Rattle.nf_net.specs.Printing.{head_text}
 
 -- three lines, three lists of lines and one line

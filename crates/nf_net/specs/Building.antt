@@ -1,9 +1,9 @@
 -- The parts of the network that a draft stands for.
 use Rattle.std.specs.Prelude.{◌≡◌, not, Bool, List, [], ◌∷◌, map}
-use Rattle.nf_formats.specs.Names.{Name, with_names, without}
-use Rattle.nf_formats.specs.Named.{NamedLink, Named, numbered, hops_among, ends, names_of}
-use Rattle.nf_formats.specs.NetLines.{Draft}
-use Rattle.nf_formats.specs.NetClosing.{source_name, sink_name, marked, StandsFor}
+use Rattle.nf_net_def.specs.Names.{Name, with_names, without}
+use Rattle.nf_net_def.specs.Named.{NamedLink, Named, numbered, hops_among, ends, names_of}
+use Rattle.nf_net_def.specs.NetLines.{Draft}
+use Rattle.nf_net_def.specs.NetClosing.{source_name, sink_name, marked, StandsFor}
 use Rattle.nf_net.specs.declared.building.SortedLinks.{SortedLinks}
 use Rattle.nf_net.specs.declared.building.SortedNodes.{SortedNodes}
 use Rattle.nf_net.specs.declared.building.Tables.{Tables}

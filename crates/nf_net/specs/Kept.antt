@@ -2,9 +2,9 @@
 use Rattle.std.specs.Prelude.{◌≡◌, ℕ, List, length, map}
 use Rattle.nf_model.specs.Walk.{Hop}
 use Rattle.nf_model.specs.Network.{Link, Piece, hop_of}
-use Rattle.nf_formats.specs.Names.{Name}
-use Rattle.nf_formats.specs.Named.{NamedLink, Named}
-use Rattle.nf_formats.specs.WellNamed.{IsNamed}
+use Rattle.nf_net_def.specs.Names.{Name}
+use Rattle.nf_net_def.specs.Named.{NamedLink, Named}
+use Rattle.nf_net_def.specs.WellNamed.{IsNamed}
 
 -- the network of these parts; source and sink are its first two nodes
 abbrev pub with_parts : ℕ → List Name → List Name → List Link → List Piece → List Name → List NamedLink → Named

@@ -1,10 +1,10 @@
 -- Parts of the canonical text.
 use Rattle.std.specs.Prelude.{◌≡◌, ℕ, ◌+◌, List, [], ◌∷◌, ◌++◌, drop, codes}
-use Rattle.nf_numerals.specs.Digits.{digits_of}
-use Rattle.nf_lines.specs.Words.{line_of_words}
-use Rattle.nf_formats.specs.Names.{name_at}
-use Rattle.nf_formats.specs.Named.{NamedLink, Named, active_links}
-use Rattle.nf_formats.specs.NetText.{link_words}
+use Rattle.nf_frac_words.specs.Digits.{digits_of}
+use Rattle.nf_text_def.specs.Words.{line_of_words}
+use Rattle.nf_net_def.specs.Names.{name_at}
+use Rattle.nf_net_def.specs.Named.{NamedLink, Named, active_links}
+use Rattle.nf_net_def.specs.NetText.{link_words}
 
 -- the lines of the version, the source and the sink
 abbrev pub head_text : Named → List ℕ

@@ -3,9 +3,9 @@ use Rattle.std.specs.Prelude.{List, [], ◌∷◌, if◌then◌else◌, Ok}
 use Rattle.nf_rational.specs.Rational.{ℚ}
 use Rattle.nf_rational.specs.Operations.{0ℚ}
 use Rattle.nf_rational.specs.Order.{lt_ℚ, min_ℚ}
-use Rattle.nf_work.specs.declared.Op.TheVariants.{Sum, Difference, Product}
-use Rattle.nf_work.specs.Passing.{Passing}
-use Rattle.nf_work.specs.Checked.{Checked, checked, ◌>>=◌}
+use Rattle.nf_frac_def.specs.declared.Op.TheVariants.{Sum, Difference, Product}
+use Rattle.nf_frac_def.specs.Passing.{Passing}
+use Rattle.nf_frac_def.specs.Checked.{Checked, checked, ◌>>=◌}
 use Rattle.nf_model.specs.Network.{Piece, Network}
 
 -- the lesser of the next start and the time

@@ -1,13 +1,13 @@
 // Building the network that a file stands for.
 ghost use Rattle.std.specs.Prelude.{◌≡◌, ◌<◌, ◌≤◌, [], ◌∷◌, true, is_some, length, map, not, IfOk, OnOk, Some};
-ghost use Rattle.nf_formats.specs.Names.{place_of, with_names, without};
-ghost use Rattle.nf_formats.specs.Named.{numbered, ends, names_of};
-ghost use Rattle.nf_formats.specs.NetClosing.{marked, StandsFor};
+ghost use Rattle.nf_net_def.specs.Names.{place_of, with_names, without};
+ghost use Rattle.nf_net_def.specs.Named.{numbered, ends, names_of};
+ghost use Rattle.nf_net_def.specs.NetClosing.{marked, StandsFor};
 ghost use Rattle.nf_net_file.specs.Drafts.{seen_draft};
 ghost use Rattle.nf_net_file.specs.Contents.{IsRead};
 ghost use Rattle.nf_net_file.specs.Closing.{HasEnds, BreaksNone, AreFlags, flag_at, tail_flags};
 ghost use Rattle.nf_net.specs.Building.{AreSorted, AreNodesOf, AreTablesOf, ArePartsOf};
-ghost use Rattle.nf_formats.specs.Limits.{most_nodes};
+ghost use Rattle.nf_net_def.specs.Limits.{most_nodes};
 
 use crate::network::Network;
 use nf_graph::{Hop, NodeId};

@@ -3,10 +3,10 @@ ghost use Rattle.std.specs.Prelude.{◌≡◌, ◌<◌, ◌≤◌, ◌⊎◌, le
 ghost use Rattle.std.specs.List.{list_all};
 ghost use Rattle.std.specs.Str.{bytes_eq};
 ghost use Rattle.nf_model.specs.Network.{IsLink, hops as hops_of, rate_at as rate_of_net, next_change as change_of_net};
-ghost use Rattle.nf_formats.specs.Names.{has_name, is_name, name_at};
-ghost use Rattle.nf_formats.specs.WellNamed.{IsNamed};
+ghost use Rattle.nf_net_def.specs.Names.{has_name, is_name, name_at};
+ghost use Rattle.nf_net_def.specs.WellNamed.{IsNamed};
 ghost use Rattle.nf_net.specs.Kept.{with_parts, IsKept};
-ghost use Rattle.nf_formats.specs.Limits.{most_links};
+ghost use Rattle.nf_net_def.specs.Limits.{most_links};
 
 use nf_frac::Q;
 use nf_graph::{Hop, LinkId, NodeId};
@@ -29,7 +29,7 @@ pub struct Network {
 }
 
 impl Model for Network {
-    ghost use Rattle.nf_formats.specs.Named.{Named, coded_named};
+    ghost use Rattle.nf_net_def.specs.Named.{Named, coded_named};
     ghost use Rattle.nf_net.specs.Kept.{with_parts, IsKept};
 
     ghost Value = { Named };

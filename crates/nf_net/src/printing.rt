@@ -1,14 +1,14 @@
 // The canonical text of a network.
 ghost use Rattle.std.specs.Prelude.{◌≡◌, ◌<◌, ◌∷◌, ◌++◌, ◌⊎◌, codes, [], length, map, flat_map, IfOk, OnOk, Ok};
-ghost use Rattle.nf_numerals.specs.Digits.{digits_of};
-ghost use Rattle.nf_numerals.specs.Printed.{printed};
-ghost use Rattle.nf_lines.specs.Words.{line_of_words};
-ghost use Rattle.nf_formats.specs.Names.{name_at};
-ghost use Rattle.nf_formats.specs.Numbers.{capacity_word};
-ghost use Rattle.nf_formats.specs.Named.{active_links};
-ghost use Rattle.nf_formats.specs.WellNamed.{IsNamed};
-ghost use Rattle.nf_formats.specs.NetText.{link_words, inflow_words, canonical};
-ghost use Rattle.nf_formats.specs.NetFile.{Reads};
+ghost use Rattle.nf_frac_words.specs.Digits.{digits_of};
+ghost use Rattle.nf_frac_words.specs.Printed.{printed};
+ghost use Rattle.nf_text_def.specs.Words.{line_of_words};
+ghost use Rattle.nf_net_def.specs.Names.{name_at};
+ghost use Rattle.nf_net_def.specs.Numbers.{capacity_word};
+ghost use Rattle.nf_net_def.specs.Named.{active_links};
+ghost use Rattle.nf_net_def.specs.WellNamed.{IsNamed};
+ghost use Rattle.nf_net_def.specs.NetText.{link_words, inflow_words, canonical};
+ghost use Rattle.nf_net_def.specs.NetFile.{Reads};
 ghost use Rattle.nf_net.specs.Printing.{head_text, PushesLink};
 
 use crate::network::Network;

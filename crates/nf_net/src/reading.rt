@@ -1,16 +1,16 @@
 // Parsing a network file.
 ghost use Rattle.std.specs.Prelude.{◌≡◌, ◌≤◌, length, map, None, Ok, Err, IfOk, IfErr, OnOk, MatchResult};
-ghost use Rattle.nf_lines.specs.Words.{read_lines};
-ghost use Rattle.nf_lines.specs.Faults.{first_fault, longest_text};
+ghost use Rattle.nf_text_def.specs.Words.{read_lines};
+ghost use Rattle.nf_text_def.specs.Faults.{first_fault, longest_text};
 ghost use Rattle.nf_text.specs.Reading.{seen_line};
-ghost use Rattle.nf_formats.specs.NetFile.{Closes, Reads};
+ghost use Rattle.nf_net_def.specs.NetFile.{Closes, Reads};
 ghost use Rattle.nf_net_file.specs.Drafts.{seen_draft};
 ghost use Rattle.nf_net_file.specs.Contents.{AreLinesWithin, IfBroken, IsRead};
 ghost use Rattle.nf_net_file.specs.Closing.{IsWhole};
 
 use crate::building::{network_of, parts_of};
 use crate::network::Network;
-use nf_formats::NetRule;
+use nf_net_def::NetRule;
 use nf_net_file::{Draft, NetFault, flags_of, hops_of, names_rule, read_draft, walk_rule};
 use nf_text::{Line, TextFault, lines};
 use std::alloc::Global;

@@ -3,8 +3,8 @@ use Rattle.std.proofs.Common.{◌≡◌, ℕ, zero, suc, ◌+◌, ◌-◌, ◌<�
 use Rattle.std.proofs.lemmas.List.{at_drop_more, at_drop_all, length-map}
 use Rattle.std.proofs.lemmas.Bool.Decides.{nat_tests}
 use Rattle.std.proofs.lemmas.List.{take_rest}
-use Rattle.nf_work.specs.Checked.{◌>>=◌}
-use Rattle.nf_lines.specs.Words.{ReadLine}
+use Rattle.nf_frac_def.specs.Checked.{◌>>=◌}
+use Rattle.nf_text_def.specs.Words.{ReadLine}
 use Rattle.nf_text.specs.declared.Line.{Line}
 use Rattle.nf_text.specs.Reading.{seen_line, spans_of}
 use Rattle.nf_text.specs.declared.Span.{Span}
@@ -12,10 +12,10 @@ use Rattle.nf_text.specs.Spans.{text_of, Rise}
 use Rattle.std.specs.List.{All, AllByRecursion}
 use Rattle.std.proofs.lemmas.List.Elements.{All-nil, All-cons}
 use Rattle.std.proofs.lemmas.Option.{slice_get-get_or}
-use Rattle.nf_formats.specs.declared.NetRule.{NetRule}
-use Rattle.nf_formats.specs.declared.NetRule.TheVariants.{N3}
+use Rattle.nf_net_def.specs.declared.NetRule.{NetRule}
+use Rattle.nf_net_def.specs.declared.NetRule.TheVariants.{N3}
 use Rattle.nf_net_file.specs.Words.{AreWithin}
-use Rattle.nf_formats.specs.NetLines.{Broken, Draft, empty_draft, add_line, add_lines, in_line, version_of, draft_after, draft_from}
+use Rattle.nf_net_def.specs.NetLines.{Broken, Draft, empty_draft, add_line, add_lines, in_line, version_of, draft_after, draft_from}
 use Rattle.nf_net_file.specs.declared.fault.NetFault.{NetFault}
 use Rattle.nf_net_file.specs.Contents.{contents, AddsContent, AreLinesWithin, IfBroken, IsFirstContent}
 

@@ -10,23 +10,23 @@ use Rattle.nf_graph.specs.Steps.{ForPassed}
 use Rattle.std.specs.List.{AllByRecursion, list_all, list_any}
 use Rattle.nf_rational.specs.Rational.{ℚ}
 use Rattle.nf_rational.specs.Operations.{0ℚ}
-use Rattle.nf_work.specs.Passing.{is_wide, passes_Q}
-use Rattle.nf_work.specs.declared.Op.TheVariants.{Sum}
+use Rattle.nf_frac_def.specs.Passing.{is_wide, passes_Q}
+use Rattle.nf_frac_def.specs.declared.Op.TheVariants.{Sum}
 use Rattle.nf_model.specs.Entries.{Has}
 use Rattle.nf_model.specs.Walk.{Hop, IsHop, IsWalk, transit_of}
 use Rattle.nf_model.specs.Network.{hop_of}
 use Rattle.nf_graph.specs.Graph.{AreBelow}
 use Rattle.nf_graph.specs.Order.{IsZeroCycle}
 use Rattle.nf_graph.specs.Distances.{NoneNegative, PassesAt}
-use Rattle.nf_formats.specs.Names.{Name, has_name, place_of}
-use Rattle.nf_formats.specs.Numbers.{greatest}
-use Rattle.nf_formats.specs.Named.{NamedLink, numbered, ends}
-use Rattle.nf_formats.specs.NetLines.{Draft}
-use Rattle.nf_formats.specs.NetClosing.{draft_hops, source_name, sink_name, source_place, IsReached, LeavesUnreached, HasZeroCycle, HasPassingSum}
-use Rattle.nf_formats_laws.proofs.NameFacts.{place_below}
-use Rattle.nf_formats_laws.proofs.WalkFacts.{CameFrom, came_from, entry_all}
-use Rattle.nf_formats_laws.proofs.DraftKept.{IsGoodDraft, draft_kept}
-use Rattle.nf_formats_laws.proofs.AcceptedWalks.{file_transits}
+use Rattle.nf_net_def.specs.Names.{Name, has_name, place_of}
+use Rattle.nf_net_def.specs.Numbers.{greatest}
+use Rattle.nf_net_def.specs.Named.{NamedLink, numbered, ends}
+use Rattle.nf_net_def.specs.NetLines.{Draft}
+use Rattle.nf_net_def.specs.NetClosing.{draft_hops, source_name, sink_name, source_place, IsReached, LeavesUnreached, HasZeroCycle, HasPassingSum}
+use Rattle.nf_net_laws.proofs.NameFacts.{place_below}
+use Rattle.nf_net_laws.proofs.WalkFacts.{CameFrom, came_from, entry_all}
+use Rattle.nf_net_laws.proofs.DraftKept.{IsGoodDraft, draft_kept}
+use Rattle.nf_net_laws.proofs.AcceptedWalks.{file_transits}
 use Rattle.nf_net_file.specs.Contents.{IsRead}
 use Rattle.nf_net_file.specs.Closing.{HasEnds, flag_at, some_unreached, AreFlags, HasFraction}
 use Rattle.std.proofs.lemmas.Bool.{and_parts, not-false}

@@ -1,9 +1,9 @@
 -- The first rule that a file as a whole breaks.
 use Rattle.std.proofs.Common.{◌≡◌, true, false, ◌||◌, refl, inl, inr}
 use Rattle.std.specs.Prelude.{is_none}
-use Rattle.nf_formats.specs.declared.NetRule.TheVariants.{N17, N18, N19, N20, N21, N22}
-use Rattle.nf_formats.specs.NetLines.{Draft}
-use Rattle.nf_formats.specs.NetClosing.{LeavesUnreached, HasZeroCycle, HasPassingSum}
+use Rattle.nf_net_def.specs.declared.NetRule.TheVariants.{N17, N18, N19, N20, N21, N22}
+use Rattle.nf_net_def.specs.NetLines.{Draft}
+use Rattle.nf_net_def.specs.NetClosing.{LeavesUnreached, HasZeroCycle, HasPassingSum}
 use Rattle.nf_net_file.specs.Closing.{HasEnds, BreaksNone, BreaksFirst}
 
 module _ (draft : Draft) where

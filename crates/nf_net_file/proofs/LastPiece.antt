@@ -5,7 +5,7 @@ use Rattle.std.specs.List.{last_or}
 use Rattle.nf_rational.specs.Rational.{ℚ}
 use Rattle.nf_rational.specs.Order.{le_ℚ}
 use Rattle.nf_model.specs.Network.{Piece}
-use Rattle.nf_formats.specs.NetLines.{is_not_after}
+use Rattle.nf_net_def.specs.NetLines.{is_not_after}
 
 last_is : (o : Option Piece) (pieces : List Piece) (n : ℕ) (d : Piece) → length pieces ≡ suc n → last_or o pieces ≡ Some (get_or pieces n d)
 last_is o [] n d e = absurd (omega arith)

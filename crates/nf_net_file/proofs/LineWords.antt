@@ -3,11 +3,11 @@ use Rattle.std.proofs.Common.{◌≡◌, ◌≢◌, ℕ, ◌<◌, Bool, true, fa
 use Rattle.std.specs.Prelude.{codes, MatchResult, Some, None}
 use Rattle.std.specs.Str.{bytes_eq}
 use Rattle.std.proofs.lemmas.Bool.{cond-true, cond-false}
-use Rattle.nf_formats.specs.declared.NetRule.{NetRule}
-use Rattle.nf_formats.specs.declared.NetRule.TheVariants.{N5, N6, N7, N8}
-use Rattle.nf_formats.specs.Names.{Name, is_name}
-use Rattle.nf_formats.specs.Numbers.{number_in, capacity_in}
-use Rattle.nf_formats.specs.NetLines.{Entry, node_line, link_entry, link_line, inflow_entry, inflow_line, end_line, entry_of, Sink, End}
+use Rattle.nf_net_def.specs.declared.NetRule.{NetRule}
+use Rattle.nf_net_def.specs.declared.NetRule.TheVariants.{N5, N6, N7, N8}
+use Rattle.nf_net_def.specs.Names.{Name, is_name}
+use Rattle.nf_net_def.specs.Numbers.{number_in, capacity_in}
+use Rattle.nf_net_def.specs.NetLines.{Entry, node_line, link_entry, link_line, inflow_entry, inflow_line, end_line, entry_of, Sink, End}
 use Rattle.nf_net_file.specs.Reading.{said_by}
 use Rattle.nf_net_file.specs.Words.{word_at}
 

@@ -2,9 +2,9 @@
 use Rattle.std.proofs.Common.{◌≡◌, ◌≢◌, ℕ, zero, suc, Bool, true, false, cond, not, eqb, List, [], ◌∷◌, get_or, refl, ap, arith}
 use Rattle.std.proofs.lemmas.Bool.Decides.{nat_tests}
 use Rattle.std.specs.List.{list_any}
-use Rattle.nf_formats.specs.Names.{Name, has_name, without}
-use Rattle.nf_formats.specs.Named.{NamedLink}
-use Rattle.nf_formats.specs.NetClosing.{marked}
+use Rattle.nf_net_def.specs.Names.{Name, has_name, without}
+use Rattle.nf_net_def.specs.Named.{NamedLink}
+use Rattle.nf_net_def.specs.NetClosing.{marked}
 use Rattle.nf_net_file.specs.Closing.{flag_at, some_unreached}
 
 pub marked_with : (flag : Bool) (flags : List Bool) (l : NamedLink) (links : List NamedLink) → flag ≡ true → marked (flag ∷ flags) (l ∷ links) ≡ l ∷ marked flags links

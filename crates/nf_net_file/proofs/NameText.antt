@@ -6,8 +6,8 @@ use Rattle.std.specs.Str.{IsAscii, IsUtf8}
 use Rattle.std.proofs.lemmas.Str.{IsUtf8-from_ascii}
 use Rattle.std.proofs.lemmas.Str.Ascii.{IsAscii-nil, IsAscii-cons}
 use Rattle.std.proofs.lemmas.Bool.Decides.{nat_tests}
-use Rattle.nf_formats.specs.Names.{is_name, is_name_byte}
-use Rattle.nf_formats.specs.Limits.{longest_name}
+use Rattle.nf_net_def.specs.Names.{is_name, is_name_byte}
+use Rattle.nf_net_def.specs.Limits.{longest_name}
 use Rattle.nf_net_file.specs.Names.{IsKeptName}
 use Rattle.std.proofs.Common.{[], ◌∷◌, ◌++◌, ◌∙◌, ◌≤◌, ◌&&◌, refl, ap, take, nat_le, length}
 use Rattle.std.proofs.lemmas.List.{take_at}

@@ -1,16 +1,16 @@
 -- What a network file as a whole says, as it is found out.
 use Rattle.std.specs.Prelude.{◌≡◌, ℕ, Bool, true, false, not, ◌||◌, ◌==◌, if◌then◌else◌, List, length, map, is_none, slice_get, unwrap_or}
 use Rattle.std.specs.List.{AllByRecursion, list_any}
-use Rattle.nf_formats.specs.declared.NetRule.{NetRule}
-use Rattle.nf_formats.specs.Names.{Name, place_of}
-use Rattle.nf_formats.specs.Named.{NamedLink}
-use Rattle.nf_formats.specs.NetLines.{Draft}
-use Rattle.nf_formats.specs.NetClosing.{Breaks, closing_rules, IsFirst, draft_hops, source_place}
+use Rattle.nf_net_def.specs.declared.NetRule.{NetRule}
+use Rattle.nf_net_def.specs.Names.{Name, place_of}
+use Rattle.nf_net_def.specs.Named.{NamedLink}
+use Rattle.nf_net_def.specs.NetLines.{Draft}
+use Rattle.nf_net_def.specs.NetClosing.{Breaks, closing_rules, IsFirst, draft_hops, source_place}
 use Rattle.nf_graph.specs.Graph.{AreReached}
 use Rattle.nf_graph.specs.declared.distance.DistanceFault.{DistanceFault}
 use Rattle.nf_graph.specs.declared.distance.DistanceFault.TheVariants.{Passed, Memory}
-use Rattle.nf_work.specs.Passing.{is_wide}
-use Rattle.nf_formats.specs.Numbers.{greatest}
+use Rattle.nf_frac_def.specs.Passing.{is_wide}
+use Rattle.nf_net_def.specs.Numbers.{greatest}
 
 -- there is an `end`, a source and another node as sink
 pub record HasEnds (draft : Draft) : Type 0 where

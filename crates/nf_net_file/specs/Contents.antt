@@ -1,9 +1,9 @@
 -- The lines of a network file that have words, and what they say.
 use Rattle.std.specs.Prelude.{◌≡◌, ℕ, ◌<◌, List, [], ◌∷◌, length, map, drop, Some, slice_get, Result, Ok}
-use Rattle.nf_lines.specs.Words.{ReadLine, content_lines}
+use Rattle.nf_text_def.specs.Words.{ReadLine, content_lines}
 use Rattle.nf_text.specs.declared.Line.{Line}
 use Rattle.nf_text.specs.Reading.{seen_line}
-use Rattle.nf_formats.specs.NetLines.{Broken, Draft, add_lines, draft_from}
+use Rattle.nf_net_def.specs.NetLines.{Broken, Draft, add_lines, draft_from}
 use Rattle.nf_net_file.specs.declared.fault.NetFault.{NetFault}
 use Rattle.nf_net_file.specs.Words.{AreWithin}
 

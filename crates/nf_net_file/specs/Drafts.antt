@@ -1,7 +1,7 @@
 -- What the lines of a network file say, as the definitions have it.
 use Rattle.std.specs.Prelude.{ℕ, Bool, if◌then◌else◌}
-use Rattle.nf_formats.specs.declared.NetRule.{NetRule}
-use Rattle.nf_formats.specs.NetLines as lines
+use Rattle.nf_net_def.specs.declared.NetRule.{NetRule}
+use Rattle.nf_net_def.specs.NetLines as lines
 use Rattle.nf_net_file.specs.declared.draft.Draft.{Draft}
 use Rattle.nf_net_file.specs.declared.draft.NetLineFault.{NetLineFault}
 use Rattle.nf_net_file.specs.declared.draft.NetLineFault.TheVariants.{Broken, Memory}

@@ -5,8 +5,8 @@ use Rattle.std.specs.Cmp.{IsEquivalence, IsPartialEquivalence, partial_equiv_fro
 use Rattle.std.specs.Cmp.Lexicographic.{nat_list_eq_equiv, bytes_decides}
 use Rattle.std.specs.Hash as fed
 use Rattle.std.proofs.Common.{ap}
-use Rattle.nf_formats.specs.Names.{is_name}
-use Rattle.nf_formats.specs.Limits.{longest_name}
+use Rattle.nf_net_def.specs.Names.{is_name}
+use Rattle.nf_net_def.specs.Limits.{longest_name}
 
 -- the bytes in front are a name, and fit
 pub record IsKeptName (bytes : List ℕ) (len : ℕ) : Type 0 where

@@ -1,7 +1,7 @@
 -- What is read of a network file, as the definitions have it.
 use Rattle.std.specs.Prelude.{Result, Ok, Err}
-use Rattle.nf_formats.specs.declared.NetRule.{NetRule}
-use Rattle.nf_formats.specs.NetLines as lines
+use Rattle.nf_net_def.specs.declared.NetRule.{NetRule}
+use Rattle.nf_net_def.specs.NetLines as lines
 use Rattle.nf_net_file.specs.declared.entry.Entry.{Entry}
 use Rattle.nf_net_file.specs.declared.entry.Entry.TheVariants.{Source, Sink, Link, Inflow, End}
 

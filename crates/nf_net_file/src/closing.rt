@@ -2,20 +2,20 @@
 ghost use Rattle.std.specs.Prelude.{◌≡◌, ◌<◌, ◌≤◌, true, not, is_some, length, unwrap_or, [], IfOk, MatchOption, MatchBool};
 ghost use Rattle.std.specs.List.{list_any};
 ghost use Rattle.nf_model.specs.Network.{hop_of};
-ghost use Rattle.nf_formats.specs.Names.{place_of};
-ghost use Rattle.nf_formats.specs.Named.{numbered, hops_among};
-ghost use Rattle.nf_formats.specs.NetClosing.{draft_hops, LeavesUnreached, HasZeroCycle, HasPassingSum};
+ghost use Rattle.nf_net_def.specs.Names.{place_of};
+ghost use Rattle.nf_net_def.specs.Named.{numbered, hops_among};
+ghost use Rattle.nf_net_def.specs.NetClosing.{draft_hops, LeavesUnreached, HasZeroCycle, HasPassingSum};
 ghost use Rattle.nf_net_file.specs.Drafts.{seen_draft};
 ghost use Rattle.nf_net_file.specs.Contents.{IsRead};
 ghost use Rattle.nf_net_file.specs.Closing.{HasEnds, BreaksNone, BreaksFirst, flag_at, some_unreached, AreFlags, HasFraction};
-ghost use Rattle.nf_formats.specs.Limits.{most_nodes};
+ghost use Rattle.nf_net_def.specs.Limits.{most_nodes};
 
 use crate::draft::Draft;
 use crate::link::NamedLink;
 use crate::name::Name;
 use crate::names::Names;
-use nf_formats::NetRule;
 use nf_graph::{DistanceFault, Hop, NodeId, distances, reached, zero_cycle};
+use nf_net_def::NetRule;
 use std::alloc::{AllocError, Global};
 
 fn hop_between(nodes: &Names, link: &NamedLink) -> Hop

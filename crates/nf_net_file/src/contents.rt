@@ -1,6 +1,6 @@
 // The lines of a network file, one by one.
 ghost use Rattle.std.specs.Prelude.{◌≡◌, ℕ, ◌<◌, ◌≤◌, ◌+◌, List, length, drop, Ok, Err, MatchResult};
-ghost use Rattle.nf_formats.specs.NetLines.{version_of, add_lines as add_all, draft_from};
+ghost use Rattle.nf_net_def.specs.NetLines.{version_of, add_lines as add_all, draft_from};
 ghost use Rattle.nf_net_file.specs.Words.{AreWithin, word_at};
 ghost use Rattle.nf_net_file.specs.Drafts.{seen_draft};
 ghost use Rattle.nf_net_file.specs.Contents.{contents, AddsContent, AreLinesWithin, IfBroken, IsFirstContent};
@@ -8,7 +8,7 @@ ghost use Rattle.nf_net_file.specs.Contents.{contents, AddsContent, AreLinesWith
 use crate::draft::{Draft, NetLineFault};
 use crate::fault::NetFault;
 use crate::words::{Words, is_word};
-use nf_formats::NetRule;
+use nf_net_def::NetRule;
 use nf_text::Line;
 use std::alloc::Global;
 

@@ -2,14 +2,14 @@
 ghost use Rattle.std.specs.Prelude.{◌≡◌, ◌<◌, ◌≤◌, ◌+◌, ◌||◌, [], ◌∷◌, length, nat_lt, None, Ok, Err, OnOk, MatchResult};
 ghost use Rattle.std.specs.List.{last_or};
 ghost use Rattle.std.specs.Str.{bytes_eq};
-ghost use Rattle.nf_formats.specs.declared.NetRule.TheVariants.{N9, N10};
-ghost use Rattle.nf_formats.specs.Names.{has_name, with_name, with_names};
-ghost use Rattle.nf_formats.specs.Named.{names_of};
-ghost use Rattle.nf_formats.specs.NetLines.{LinkLine, InflowLine, empty_draft, after, first_rule, too_many_nodes, is_no_capacity, is_not_after, broken_rule, add_line};
+ghost use Rattle.nf_net_def.specs.declared.NetRule.TheVariants.{N9, N10};
+ghost use Rattle.nf_net_def.specs.Names.{has_name, with_name, with_names};
+ghost use Rattle.nf_net_def.specs.Named.{names_of};
+ghost use Rattle.nf_net_def.specs.NetLines.{LinkLine, InflowLine, empty_draft, after, first_rule, too_many_nodes, is_no_capacity, is_not_after, broken_rule, add_line};
 ghost use Rattle.nf_net_file.specs.declared.draft.NetLineFault.TheVariants as NetLineFault;
 ghost use Rattle.nf_net_file.specs.Reading.{seen_entry};
 ghost use Rattle.nf_net_file.specs.Drafts.{seen_draft, IfRule, one_unless};
-ghost use Rattle.nf_formats.specs.Limits.{most_nodes};
+ghost use Rattle.nf_net_def.specs.Limits.{most_nodes};
 
 use crate::entry::{Entry, read_entry};
 use crate::link::{NamedLink, Piece};
@@ -17,8 +17,8 @@ use crate::name::Name;
 use crate::names::Names;
 use crate::sizes::{MOST_LINKS, MOST_NODES, MOST_PIECES};
 use crate::words::Words;
-use nf_formats::NetRule;
 use nf_frac::Q;
+use nf_net_def::NetRule;
 use std::alloc::{AllocError, AllocFailed, Global};
 
 /// What the lines so far say: the source and the sink, the nodes that they name, in the order of first appearance, the links,

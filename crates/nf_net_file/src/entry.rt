@@ -1,18 +1,18 @@
 // One line of a network file by itself.
 ghost use Rattle.std.specs.Prelude.{◌≡◌, ◌<◌, true, false, length, drop, map, MatchResult};
-ghost use Rattle.nf_formats.specs.declared.NetRule.TheVariants.{N7};
-ghost use Rattle.nf_formats.specs.Names.{is_name};
-ghost use Rattle.nf_formats.specs.Numbers.{number_in, capacity_in};
-ghost use Rattle.nf_formats.specs.NetLines as lines;
-ghost use Rattle.nf_formats.specs.NetLines.{node_line, link_line, inflow_line, end_line, entry_of};
+ghost use Rattle.nf_net_def.specs.declared.NetRule.TheVariants.{N7};
+ghost use Rattle.nf_net_def.specs.Names.{is_name};
+ghost use Rattle.nf_net_def.specs.Numbers.{number_in, capacity_in};
+ghost use Rattle.nf_net_def.specs.NetLines as lines;
+ghost use Rattle.nf_net_def.specs.NetLines.{node_line, link_line, inflow_line, end_line, entry_of};
 ghost use Rattle.nf_net_file.specs.Words.{word_at};
 ghost use Rattle.nf_net_file.specs.Reading.{seen_entry, said_by};
 
 use crate::link::{NamedLink, Piece};
 use crate::name::Name;
 use crate::words::{Words, is_word};
-use nf_formats::NetRule;
 use nf_frac::Q;
+use nf_net_def::NetRule;
 
 /// What a line says.
 #[derive(Drop)]

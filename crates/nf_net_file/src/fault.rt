@@ -2,7 +2,7 @@
 ghost use Rattle.std.specs.Prelude.{◌≡◌};
 ghost use Rattle.nf_net_file.specs.declared.fault.NetFault.TheVariants as NetFault;
 
-use nf_formats::NetRule;
+use nf_net_def::NetRule;
 use std::alloc::{AllocError, AllocFailed};
 use thiserror::Error;
 

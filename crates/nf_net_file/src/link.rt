@@ -61,7 +61,7 @@ pub struct NamedLink {
 }
 
 impl Model for NamedLink {
-    ghost use Rattle.nf_formats.specs.Named.{NamedLink as SeenLink, coded_named_link};
+    ghost use Rattle.nf_net_def.specs.Named.{NamedLink as SeenLink, coded_named_link};
 
     ghost Value = { SeenLink };
 

@@ -3,7 +3,7 @@ ghost use Rattle.std.specs.Prelude.{◌≡◌, true, false, length, SomeIff, tak
 ghost use Rattle.std.specs.List.{list_all};
 ghost use Rattle.std.specs.Str.{bytes_eq};
 ghost use Rattle.std.specs.Hash as fed;
-ghost use Rattle.nf_formats.specs.Names.{is_name, is_name_byte};
+ghost use Rattle.nf_net_def.specs.Names.{is_name, is_name_byte};
 ghost use Rattle.nf_net_file.specs.Names.{IsKeptName, name_equivalence, name_partial_equivalence, same_name_hash};
 
 use std::hash::{Hash, Hasher};

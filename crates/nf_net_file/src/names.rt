@@ -1,7 +1,7 @@
 // Tables of names.
 ghost use Rattle.std.specs.Prelude.{◌≡◌, ◌≤◌, [], true, false, length, position, is_some, IsSome, OnOk, OnErr};
 ghost use Rattle.std.specs.Str.{bytes_eq};
-ghost use Rattle.nf_formats.specs.Names.{has_name, place_of, with_name};
+ghost use Rattle.nf_net_def.specs.Names.{has_name, place_of, with_name};
 
 use crate::name::Name;
 use indexmap::IndexSet;

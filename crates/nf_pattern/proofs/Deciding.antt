@@ -8,8 +8,8 @@ use Rattle.nf_model.specs.declared.State.TheVariants.{Tight, Full, Zero}
 use Rattle.nf_model.specs.Entries.{Has}
 use Rattle.nf_model.specs.Walk.{Hop, IsHop}
 use Rattle.nf_model.specs.Pattern.{Pattern, HasState, IsTrail, AllDiffer, IsBefore}
-use Rattle.nf_lists_laws.proofs.Sorted.{StandsIn, InOrder}
-use Rattle.nf_lists_laws.proofs.Listings.{IsBefore-transitive, ordered_by_place}
+use Rattle.nf_thin_laws.proofs.Sorted.{StandsIn, InOrder}
+use Rattle.nf_thin_laws.proofs.Listings.{IsBefore-transitive, ordered_by_place}
 use Rattle.nf_graph.proofs.Walks.{IsHop-unique}
 use Rattle.nf_pattern.specs.Forest.{AreJoined, TightBefore, LeadsBack, Closes}
 use Rattle.nf_pattern.specs.Entered.{MayCarry, IsEntered, EntersBy}

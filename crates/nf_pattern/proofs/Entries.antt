@@ -7,7 +7,7 @@ use Rattle.nf_model.specs.Pattern.{Pattern, HasState}
 use Rattle.nf_graph.proofs.Walks.{IsHop-unique, IsHop-read}
 use Rattle.nf_pattern.specs.Entered.{MayCarry, EntersBy, EnteredBefore, LeadsTo, IsLastInto, AreLastInto, AreChained, CanCarry, IsEndBefore, AreEndsBefore, Strands, Keeps}
 use Rattle.nf_pattern.proofs.Setting.{set_same, set_other, tell}
-use Rattle.nf_plain_laws.proofs.Naturals.{before_or_at}
+use Rattle.nf_rational_laws.proofs.Naturals.{before_or_at}
 use Rattle.nf_model.specs.Entries.{Has}
 use Rattle.nf_model.specs.declared.State.{State}
 

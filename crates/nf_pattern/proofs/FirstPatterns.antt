@@ -12,7 +12,7 @@ use Rattle.nf_model.specs.Pattern.{Pattern, HasState, NeedsState, IsPattern, IsF
 use Rattle.nf_graph.proofs.Walks.{IsHop-unique}
 use Rattle.nf_pattern.specs.Base.{Bars, IsBaseState}
 use Rattle.nf_pattern.proofs.Each.{EachEntry}
-use Rattle.nf_plain_laws.proofs.Naturals.{before_or_at}
+use Rattle.nf_rational_laws.proofs.Naturals.{before_or_at}
 
 module _ (hops : List Hop) (sets : Sets) where
   -- no link bars this one

@@ -9,7 +9,7 @@ use Rattle.nf_pattern.specs.Entered.{EnteredBefore, AreChained, AreEnds, Keeps}
 use Rattle.nf_pattern.specs.Trail.{Follows, IsOnWay}
 use Rattle.nf_pattern.specs.Firm.{AreCalm}
 use Rattle.nf_pattern.proofs.Calming.{calm_fewer}
-use Rattle.nf_plain_laws.proofs.Naturals.{before_or_at}
+use Rattle.nf_rational_laws.proofs.Naturals.{before_or_at}
 
 module _ (source : ℕ) (hops : List Hop) (resetting : List Bool) (p : Pattern) where
   -- one link more

@@ -2,8 +2,8 @@
 use Rattle.std.proofs.Common.{◌≡◌, ℕ, zero, suc, ◌+◌, ◌-◌, ◌^◌, min, List, [], ◌∷◌, ◌++◌, length, length-append, inl, inr, ◌⊎◌, ⊎_elim, Some, slice_get, refl, sym, ap, subst, ◌∙◌, arith}
 use Rattle.std.proofs.lemmas.Option.{none-some, same_Some, slice_get_within}
 use Rattle.nf_model.specs.Pattern.{Pattern, IsBefore}
-use Rattle.nf_lists_laws.proofs.Listings.{IsBefore-asymmetric, IsBefore-transitive, ordered_by_place}
-use Rattle.nf_lists_laws.proofs.Sorted.{StandsIn, InOrder}
+use Rattle.nf_thin_laws.proofs.Listings.{IsBefore-asymmetric, IsBefore-transitive, ordered_by_place}
+use Rattle.nf_thin_laws.proofs.Sorted.{StandsIn, InOrder}
 use Rattle.nf_pattern.specs.Given.{Question, IsListedBy, Given, AtStart, UpTo, IsNext, NoneLeft, Gives, next_place}
 use Rattle.nf_pattern.specs.Front.{IsListingOf, AreGiven, GivenAreFronts}
 use Rattle.nf_pattern.proofs.Each.{entry_pushed}

@@ -5,7 +5,7 @@ use Rattle.nf_model.specs.declared.State.TheVariants.{Tight, Full, Zero}
 use Rattle.nf_model.specs.Pattern.{Pattern, rank, changes, IsEarlier, IsBefore}
 use Rattle.nf_pattern.specs.Successor.{free}
 use Rattle.nf_pattern.proofs.Successors.{same_rank}
-use Rattle.nf_plain_laws.proofs.Naturals.{compared}
+use Rattle.nf_rational_laws.proofs.Naturals.{compared}
 
 abbrev pub Trio : Pattern → Pattern → Type 0
 Trio p q = IsEarlier p q ⊎ ((p ≡ q) ⊎ IsEarlier q p)

@@ -1,7 +1,7 @@
 -- Which links have a state, link by link.
 use Rattle.std.proofs.Common.{◌≡◌, ◌≢◌, ℕ, suc, ◌<◌, ◌≤◌, Bool, List, length, get_or, ⊎_elim, Some, None, slice_get, slice_set, sym, subst, ◌∙◌, arith}
 use Rattle.std.proofs.lemmas.Option.{same_Some, slice_get-get_or, slice_get_within}
-use Rattle.nf_plain_laws.proofs.Naturals.{before_or_at}
+use Rattle.nf_rational_laws.proofs.Naturals.{before_or_at}
 use Rattle.nf_model.specs.Pattern.{Pattern}
 use Rattle.nf_pattern.specs.declared.stated.StatedLinks.{StatedLinks}
 use Rattle.nf_pattern.specs.Stated.{AreIdle, IsNextFrom, IsLastTo, AreStated}

@@ -1,7 +1,7 @@
 -- The listing of a question, and its enumerated prefix.
 use Rattle.std.specs.Prelude.{◌≡◌, ℕ, ◌-◌, ◌^◌, ◌<◌, min, List, [], ◌∷◌, ◌++◌, length, Some, None, slice_get}
 use Rattle.nf_model.specs.Pattern.{Pattern, IsBefore}
-use Rattle.nf_lists.specs.Listing.{IsListing}
+use Rattle.nf_thin_def.specs.Listing.{IsListing}
 use Rattle.nf_pattern.specs.Given.{Question, IsQuestion, IsListedBy, Given, AtStart, IsLater, Gives}
 
 abbrev pub IsListingOf : Question → List Pattern → Type 0

@@ -6,19 +6,19 @@ use Rattle.std.proofs.lemmas.Option.{none-some, slice_get-map}
 use Rattle.nf_rational.specs.Rational.{ℚ}
 use Rattle.nf_rational.specs.Order.{◌≤ℚ◌, ◌<ℚ◌}
 use Rattle.nf_rational_laws.proofs.Order.{<ℚ_irrefl}
-use Rattle.nf_work.specs.Passing.{Passing, passes_Q}
+use Rattle.nf_frac_def.specs.Passing.{Passing, passes_Q}
 use Rattle.nf_model.specs.Network.{Link, Network, IsNetwork, hops}
 use Rattle.nf_model.specs.ThinFlow.{slacks_of}
 use Rattle.nf_model.specs.Equilibrium.{Equilibrium}
-use Rattle.nf_formats.specs.declared.Cause.{Cause}
-use Rattle.nf_formats.specs.Report.{Report, IsWellFormed}
-use Rattle.nf_formats_laws.proofs.ReportFacts.{well_formed}
-use Rattle.nf_lists.specs.PhaseRun.{Standing, Bounds, IsStart, Goes, IsPhaseRun, IsShortFlow, flow_of, report_of}
-use Rattle.nf_lists.specs.PhaseRun.{Runs, at_horizon as at_horizon_of_run, at_phases as at_phases_of_run, fails as fails_of_run, goes as goes_of_run}
-use Rattle.nf_resume_lists.specs.Open.{Continues, Steps, continues, begins, RunsOn, at_horizon, at_phases, fails, steps}
+use Rattle.nf_net_def.specs.declared.Cause.{Cause}
+use Rattle.nf_net_def.specs.Report.{Report, IsWellFormed}
+use Rattle.nf_net_laws.proofs.ReportFacts.{well_formed}
+use Rattle.nf_thin_def.specs.PhaseRun.{Standing, Bounds, IsStart, Goes, IsPhaseRun, IsShortFlow, flow_of, report_of}
+use Rattle.nf_thin_def.specs.PhaseRun.{Runs, at_horizon as at_horizon_of_run, at_phases as at_phases_of_run, fails as fails_of_run, goes as goes_of_run}
+use Rattle.nf_resume_def.specs.Open.{Continues, Steps, continues, begins, RunsOn, at_horizon, at_phases, fails, steps}
 use Rattle.nf_resume_laws.proofs.FirstPlace.{closed-at_start}
-use Rattle.nf_run_laws.proofs.Sequence.{sequence_ends}
-use Rattle.nf_run_laws.proofs.ShortRun.{run_keeps}
+use Rattle.nf_phase_laws.proofs.Sequence.{sequence_ends}
+use Rattle.nf_phase_laws.proofs.ShortRun.{run_keeps}
 use Rattle.nf_curve.specs.Flows.{flow_of as flow_in}
 use Rattle.nf_phase.specs.declared.solution.Solution.{Solution}
 use Rattle.nf_phase.specs.Solution.{IsSolution, IsFinished, report_in}
@@ -29,7 +29,7 @@ use Rattle.nf_phase.proofs.ShortReached.{short_reached}
 use Rattle.nf_phase.proofs.Told.{ends_told}
 use Rattle.nf_phase.proofs.Stepped.{equilibrium_reached, reaches_step, begin_step}
 use Rattle.nf_phase_laws.proofs.Phases.{IsPhaseLength-within}
-use Rattle.nf_lists_laws.proofs.OneRun.{fails_below}
+use Rattle.nf_thin_laws.proofs.OneRun.{fails_below}
 
 -- ---- no phase extends beyond the horizon
 module _ (passes : Passing) (net : Network) where

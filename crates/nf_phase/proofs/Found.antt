@@ -5,34 +5,34 @@ use Rattle.std.specs.Result.{IsErrAnd}
 use Rattle.nf_rational.specs.Rational.{ℚ}
 use Rattle.nf_rational.specs.Operations.{◌-ℚ◌}
 use Rattle.nf_rational.specs.Order.{◌<ℚ◌}
-use Rattle.nf_work.specs.Passing.{Passing}
-use Rattle.nf_work.specs.declared.Part.{Part}
-use Rattle.nf_work.specs.declared.Part.TheVariants.{Slack, Extend, Advance, Curve}
-use Rattle.nf_work.specs.declared.Passed.{Passed}
-use Rattle.nf_work.specs.declared.PassedAt.{PassedAt}
-use Rattle.nf_work.specs.declared.Halt.{Halt}
-use Rattle.nf_work.specs.Checked.{Checked, at_part, placed, Stops, ◌>>=◌}
+use Rattle.nf_frac_def.specs.Passing.{Passing}
+use Rattle.nf_frac_def.specs.declared.Part.{Part}
+use Rattle.nf_frac_def.specs.declared.Part.TheVariants.{Slack, Extend, Advance, Curve}
+use Rattle.nf_frac_def.specs.declared.Passed.{Passed}
+use Rattle.nf_frac_def.specs.declared.PassedAt.{PassedAt}
+use Rattle.nf_frac_def.specs.declared.Halt.{Halt}
+use Rattle.nf_frac_def.specs.Checked.{Checked, at_part, placed, Stops, ◌>>=◌}
 use Rattle.nf_model.specs.Walk.{Hop}
 use Rattle.nf_model.specs.Network.{Network, hops}
 use Rattle.nf_model.specs.ThinFlow.{slacks_of, sets_at}
 use Rattle.nf_model.specs.Pattern.{Pattern}
 use Rattle.nf_model.specs.Phases.{IsExtension, IsUnending, IsPhaseLength}
-use Rattle.nf_formats.specs.declared.Cause.{Cause}
-use Rattle.nf_lists.specs.Slack.{slack_list}
-use Rattle.nf_lists.specs.Extend.{extend_list}
-use Rattle.nf_lists.specs.Advance.{Advanced, cut_at, advance_list}
-use Rattle.nf_lists.specs.CurveList.{LinkStep, curve_list}
-use Rattle.nf_lists.specs.ReportCurves.{amount_so_far}
-use Rattle.nf_lists.specs.Search.{SearchAnswer, Found, OverBudget, PassesAt, NoPattern}
-use Rattle.nf_lists.specs.PhaseRun.{Standing, PhaseStep, Seeks, IsSearchHere, phase_lists}
-use Rattle.nf_lists.specs.PhaseRun.{Fails, at_slack as at_slack_below, at_search as at_search_below, at_lists as at_lists_below}
-use Rattle.nf_forever_lists.specs.ForeverRun.{end_list, SeeksOn}
-use Rattle.nf_forever_lists.specs.ForeverRun.{FailsOn, at_slack as at_slack_on, at_search as at_search_on, at_extend as at_extend_on, at_lists as at_lists_on}
-use Rattle.nf_lists_laws.proofs.Exact.{slacks_exact, advanced_exact}
+use Rattle.nf_net_def.specs.declared.Cause.{Cause}
+use Rattle.nf_thin_def.specs.Slack.{slack_list}
+use Rattle.nf_thin_def.specs.Extend.{extend_list}
+use Rattle.nf_thin_def.specs.Advance.{Advanced, cut_at, advance_list}
+use Rattle.nf_thin_def.specs.CurveList.{LinkStep, curve_list}
+use Rattle.nf_thin_def.specs.ReportCurves.{amount_so_far}
+use Rattle.nf_thin_def.specs.Search.{SearchAnswer, Found, OverBudget, PassesAt, NoPattern}
+use Rattle.nf_thin_def.specs.PhaseRun.{Standing, PhaseStep, Seeks, IsSearchHere, phase_lists}
+use Rattle.nf_thin_def.specs.PhaseRun.{Fails, at_slack as at_slack_below, at_search as at_search_below, at_lists as at_lists_below}
+use Rattle.nf_forever_def.specs.ForeverRun.{end_list, SeeksOn}
+use Rattle.nf_forever_def.specs.ForeverRun.{FailsOn, at_slack as at_slack_on, at_search as at_search_on, at_extend as at_extend_on, at_lists as at_lists_on}
+use Rattle.nf_thin_laws.proofs.Exact.{slacks_exact, advanced_exact}
 use Rattle.nf_thin.specs.declared.fault.SearchFault.{SearchFault}
 use Rattle.nf_phase.specs.declared.fault.StepFault.{StepFault}
 use Rattle.nf_thin.specs.Searching.{Searches}
-use Rattle.nf_lists_laws.proofs.Numbered.{part_ok}
+use Rattle.nf_thin_laws.proofs.Numbered.{part_ok}
 use Rattle.nf_phase.specs.Faults.{of_halt, of_search}
 use Rattle.nf_phase.specs.Stepping.{StandsFor}
 use Rattle.nf_phase.specs.Finding.{FindsNone, at_slack, at_search, ListsPass, at_lists}

@@ -5,11 +5,11 @@ use Rattle.nf_rational.specs.Rational.{ℚ}
 use Rattle.nf_rational.specs.Order.{◌≤ℚ◌, ◌<ℚ◌, lt_ℚ}
 use Rattle.nf_rational_laws.proofs.Order.{≤ℚ_antisymm}
 use Rattle.nf_rational_laws.proofs.Tests.{lt_ℚ_cases}
-use Rattle.nf_work.specs.Passing.{Passing}
+use Rattle.nf_frac_def.specs.Passing.{Passing}
 use Rattle.nf_model.specs.Network.{Network, IsNetwork}
-use Rattle.nf_formats.specs.declared.Cause.{Cause}
-use Rattle.nf_lists.specs.PhaseRun.{Standing, Bounds, Goes, Fails}
-use Rattle.nf_resume_lists.specs.Open.{Steps, continues, begins, RunsOn, at_horizon, at_phases, fails, steps}
+use Rattle.nf_net_def.specs.declared.Cause.{Cause}
+use Rattle.nf_thin_def.specs.PhaseRun.{Standing, Bounds, Goes, Fails}
+use Rattle.nf_resume_def.specs.Open.{Steps, continues, begins, RunsOn, at_horizon, at_phases, fails, steps}
 use Rattle.nf_phase.specs.declared.fault.StepFault.{StepFault}
 use Rattle.nf_phase.specs.Stepping.{Reaches, IsCause}
 use Rattle.nf_phase.specs.Solution.{cause_of, stop_after}

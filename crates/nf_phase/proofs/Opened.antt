@@ -10,12 +10,12 @@ use Rattle.nf_model.specs.Network.{Link, Piece, Network, IsLink, IsPiece, hop_of
 use Rattle.nf_model.specs.ThinFlow.{slack, slacks_of}
 use Rattle.nf_model.specs.Pattern.{Pattern}
 use Rattle.nf_model_laws.proofs.Slacks.{slack_at}
-use Rattle.nf_lists.specs.Signs.{is_same}
-use Rattle.nf_lists.specs.PhaseRun.{Standing}
+use Rattle.nf_rational.specs.Signs.{is_same}
+use Rattle.nf_thin_def.specs.PhaseRun.{Standing}
 use Rattle.nf_curve_laws.proofs.Operations.{same_of, same_test}
-use Rattle.nf_plain_laws.proofs.Naturals.{before_or_at}
-use Rattle.nf_plain_laws.proofs.Entries.{entry}
-use Rattle.nf_resume_lists.specs.Open.{IsOpen, Continues}
+use Rattle.nf_rational_laws.proofs.Naturals.{before_or_at}
+use Rattle.nf_rational_laws.proofs.Entries.{entry}
+use Rattle.nf_resume_def.specs.Open.{IsOpen, Continues}
 use Rattle.nf_phase.specs.Restarting.{none_starts, ApartAt, AreApart}
 
 -- ---- no piece starts at a time

@@ -5,25 +5,25 @@ use Rattle.std.specs.Result.{IsErrAnd}
 use Rattle.std.proofs.lemmas.List.{length-map}
 use Rattle.nf_rational.specs.Rational.{ℚ}
 use Rattle.nf_rational.specs.Order.{◌<ℚ◌}
-use Rattle.nf_work.specs.Passing.{Passing}
-use Rattle.nf_work.specs.declared.Part.TheVariants.{Extend, Advance, Curve}
-use Rattle.nf_work.specs.declared.PassedAt.{PassedAt}
-use Rattle.nf_work.specs.declared.Halt.{Halt}
-use Rattle.nf_work.specs.Checked.{at_part, Stops}
+use Rattle.nf_frac_def.specs.Passing.{Passing}
+use Rattle.nf_frac_def.specs.declared.Part.TheVariants.{Extend, Advance, Curve}
+use Rattle.nf_frac_def.specs.declared.PassedAt.{PassedAt}
+use Rattle.nf_frac_def.specs.declared.Halt.{Halt}
+use Rattle.nf_frac_def.specs.Checked.{at_part, Stops}
 use Rattle.nf_model.specs.Network.{Network, IsNetwork, hop_of, hops}
 use Rattle.nf_model.specs.ThinFlow.{Sets, slack, slacks_of, sets_at}
 use Rattle.nf_model.specs.Phases.{IsExtension, IsUnending, IsPhaseLength}
-use Rattle.nf_lists.specs.Slack.{slack_list}
-use Rattle.nf_lists.specs.Extend.{extend_list}
-use Rattle.nf_lists.specs.Advance.{Advanced, advance_list}
-use Rattle.nf_lists.specs.CurveList.{LinkStep, curve_list}
-use Rattle.nf_lists.specs.ReportCurves.{LinkCurves, amount_so_far}
-use Rattle.nf_lists.specs.Search.{Found}
-use Rattle.nf_lists.specs.PhaseRun.{Standing, PhaseStep, IsSearchHere, phase_lists}
-use Rattle.nf_lists_laws.proofs.Exact.{advanced_exact}
-use Rattle.nf_lists_laws.proofs.Ending.{length-moved}
-use Rattle.nf_run_laws.proofs.Standing.{label_count_at}
-use Rattle.nf_lists_laws.proofs.Numbered.{part_ok}
+use Rattle.nf_thin_def.specs.Slack.{slack_list}
+use Rattle.nf_thin_def.specs.Extend.{extend_list}
+use Rattle.nf_thin_def.specs.Advance.{Advanced, advance_list}
+use Rattle.nf_thin_def.specs.CurveList.{LinkStep, curve_list}
+use Rattle.nf_thin_def.specs.ReportCurves.{LinkCurves, amount_so_far}
+use Rattle.nf_thin_def.specs.Search.{Found}
+use Rattle.nf_thin_def.specs.PhaseRun.{Standing, PhaseStep, IsSearchHere, phase_lists}
+use Rattle.nf_thin_laws.proofs.Exact.{advanced_exact}
+use Rattle.nf_thin_laws.proofs.Ending.{length-moved}
+use Rattle.nf_phase_laws.proofs.Standing.{label_count_at}
+use Rattle.nf_thin_laws.proofs.Numbered.{part_ok}
 use Rattle.nf_phase.specs.declared.fault.StepFault.{StepFault}
 use Rattle.nf_phase.specs.declared.finding.PhaseStart.{PhaseStart}
 use Rattle.nf_phase.specs.declared.phase.Phase.{Phase}

@@ -6,22 +6,22 @@ use Rattle.nf_rational.specs.Rational.{ℚ}
 use Rattle.nf_rational.specs.Operations.{0ℚ}
 use Rattle.nf_rational.specs.Order.{lt_ℚ}
 use Rattle.nf_rational_laws.proofs.Order.{not_both_ℚ}
-use Rattle.nf_work.specs.Passing.{Passing}
+use Rattle.nf_frac_def.specs.Passing.{Passing}
 use Rattle.nf_model.specs.declared.State.TheVariants.{Full}
 use Rattle.nf_model.specs.Entries.{Has}
 use Rattle.nf_model.specs.Network.{Link, Network, IsNetwork, IsLink, hop_of, hops, unbounded}
 use Rattle.nf_model.specs.ThinFlow.{slack, slacks_of, sets_at}
 use Rattle.nf_model.specs.Pattern.{Pattern, HasState, IsPattern, IsListedIn, IsBase}
 use Rattle.nf_model_laws.proofs.Slacks.{slack_of_resetting}
-use Rattle.nf_lists.specs.PhaseRun.{Standing, IsStart, Goes}
-use Rattle.nf_lists_laws.proofs.Ending.{from_map}
+use Rattle.nf_thin_def.specs.PhaseRun.{Standing, IsStart, Goes}
+use Rattle.nf_thin_laws.proofs.Ending.{from_map}
 use Rattle.nf_pattern.proofs.FirstPatterns.{base_is_pattern, none_full}
 use Rattle.nf_thin.specs.Searching.{NoneResetsUnbounded, AreSetsOf}
 use Rattle.nf_thin_laws.proofs.ActiveLinks.{AreSets-sets_at}
-use Rattle.nf_run_laws.proofs.WellRun.{WellRun, WellRun-start}
-use Rattle.nf_run_laws.proofs.Run.{WellRun-goes}
-use Rattle.nf_run_laws.proofs.Standing.{unbounded_slack_at}
-use Rattle.nf_resume_lists.specs.Open.{with_last}
+use Rattle.nf_phase_laws.proofs.WellRun.{WellRun, WellRun-start}
+use Rattle.nf_phase_laws.proofs.Run.{WellRun-goes}
+use Rattle.nf_phase_laws.proofs.Standing.{unbounded_slack_at}
+use Rattle.nf_resume_def.specs.Open.{with_last}
 use Rattle.nf_resume_laws.proofs.Stepping.{WellRun-last}
 use Rattle.nf_phase.specs.Restarting.{IsRestored}
 use Rattle.nf_phase.specs.Stepping.{Reaches, starts, restored, goes_on, keeps_on}

@@ -6,30 +6,30 @@ use Rattle.std.proofs.lemmas.List.{length-map}
 use Rattle.nf_rational.specs.Rational.{ℚ}
 use Rattle.nf_rational.specs.Order.{◌≤ℚ◌}
 use Rattle.nf_rational_laws.proofs.Chains.{≤ℚ_refl}
-use Rattle.nf_work.specs.Passing.{Passing}
-use Rattle.nf_work.specs.Checked.{Checked, each}
+use Rattle.nf_frac_def.specs.Passing.{Passing}
+use Rattle.nf_frac_def.specs.Checked.{Checked, each}
 use Rattle.nf_model.specs.Curve.{Point, value, IsCurve, IsShort}
 use Rattle.nf_model.specs.Network.{Link, Network, IsNetwork, IsLink}
 use Rattle.nf_model.specs.Pattern.{Pattern}
 use Rattle.nf_model.specs.Equilibrium.{Trace, Flow, points_at, points_of, label, Equilibrium}
 use Rattle.nf_model_laws.proofs.Curves.{EndsAt-value}
-use Rattle.nf_lists.specs.ReportCurves.{GrowingCurve, LinkCurves}
-use Rattle.nf_lists.specs.PhaseRun.{Standing, IsShortFlow, flow_of}
-use Rattle.nf_lists.specs.Ends.{end_of}
-use Rattle.nf_curve_lists.specs.Lines.{checked_slope}
+use Rattle.nf_thin_def.specs.ReportCurves.{GrowingCurve, LinkCurves}
+use Rattle.nf_thin_def.specs.PhaseRun.{Standing, IsShortFlow, flow_of}
+use Rattle.nf_thin_def.specs.Ends.{end_of}
+use Rattle.nf_curve_def.specs.Lines.{checked_slope}
 use Rattle.nf_curve_laws.proofs.Operations.{then_ok}
-use Rattle.nf_run_laws.proofs.Short.{HasOnePoint, IsShortCurve}
-use Rattle.nf_run_laws.proofs.ShortRun.{AreShort, ShortRun}
-use Rattle.nf_run_laws.proofs.WellRun.{label_points, inflow_points, outflow_points, queue_points, WellRun}
-use Rattle.nf_resume_lists.specs.Restoring.{link_curves_of, standing_of, last_slope, growing, restore_list}
-use Rattle.nf_resume_lists.specs.Resuming.{cut_flow}
-use Rattle.nf_resume_lists.specs.Open.{with_last}
+use Rattle.nf_phase_laws.proofs.Short.{HasOnePoint, IsShortCurve}
+use Rattle.nf_phase_laws.proofs.ShortRun.{AreShort, ShortRun}
+use Rattle.nf_phase_laws.proofs.WellRun.{label_points, inflow_points, outflow_points, queue_points, WellRun}
+use Rattle.nf_resume_def.specs.Restoring.{link_curves_of, standing_of, last_slope, growing, restore_list}
+use Rattle.nf_resume_def.specs.Resuming.{cut_flow}
+use Rattle.nf_resume_def.specs.Open.{with_last}
 use Rattle.nf_resume_laws.proofs.CutShort.{IsShortCut}
 use Rattle.nf_resume_laws.proofs.CutFlow.{each_length, entry_of, IsCutFlow, cut_flow-is}
 use Rattle.nf_resume_laws.proofs.Restored.{each_back, links-queue, growing-points, flow-same, WellRun-restored}
-use Rattle.nf_plain_laws.proofs.Results.{same_Ok}
+use Rattle.nf_rational_laws.proofs.Results.{same_Ok}
 use Rattle.nf_phase.specs.Restarting.{EndsAtItsLabels, IsRestored}
-use Rattle.nf_growing_curves.proofs.Corners.{end-append}
+use Rattle.nf_phase_curves.proofs.Corners.{end-append}
 
 -- ---- the last point of a curve
 point_is : (p : Point) (t y : ℚ) → p.0 ≡ t → p.1 ≡ y → p ≡ (t, y)

@@ -2,7 +2,7 @@
 use Rattle.std.proofs.Common.{◌≡◌, Bool, true, false, refl, sym}
 use Rattle.std.proofs.lemmas.Bool.{false≢true}
 use Rattle.nf_model.specs.Network.{Network}
-use Rattle.nf_lists.specs.PhaseRun.{Standing}
+use Rattle.nf_thin_def.specs.PhaseRun.{Standing}
 use Rattle.nf_phase.specs.declared.phase.Phase.{Phase}
 use Rattle.nf_phase.specs.Finding.{after_phase}
 use Rattle.nf_phase.specs.Restarting.{after_rest}

@@ -6,29 +6,29 @@ use Rattle.nf_rational.specs.Operations.{0ℚ, ◌+ℚ◌}
 use Rattle.nf_rational.specs.Order.{◌<ℚ◌}
 use Rattle.nf_rational_laws.proofs.Polynomial.{reading_of}
 use Rattle.nf_rational_laws.proofs.Linear.{lt, linear_lt}
-use Rattle.nf_work.specs.Passing.{Passing}
+use Rattle.nf_frac_def.specs.Passing.{Passing}
 use Rattle.nf_model.specs.Entries.{number_at}
 use Rattle.nf_model.specs.Network.{Network, IsNetwork, hops}
 use Rattle.nf_model.specs.ThinFlow.{slacks_of, sets_at}
 use Rattle.nf_model.specs.Pattern.{Pattern}
 use Rattle.nf_model.specs.Equilibrium.{Equilibrium}
-use Rattle.nf_lists.specs.ReportCurves.{GrowingCurve, LinkCurves, label_curves_after, link_curves_after}
-use Rattle.nf_lists.specs.PhaseRun.{Standing, Goes, flow_of}
-use Rattle.nf_lists.specs.Ends.{end_of, EndsAtLabels}
-use Rattle.nf_lists_laws.proofs.Ending.{PhaseParts, phase_parts}
+use Rattle.nf_thin_def.specs.ReportCurves.{GrowingCurve, LinkCurves, label_curves_after, link_curves_after}
+use Rattle.nf_thin_def.specs.PhaseRun.{Standing, Goes, flow_of}
+use Rattle.nf_thin_def.specs.Ends.{end_of, EndsAtLabels}
+use Rattle.nf_thin_laws.proofs.Ending.{PhaseParts, phase_parts}
 use Rattle.nf_phase_laws.proofs.Length.{IsPhaseLength-some}
 use Rattle.nf_thin_laws.proofs.Agree.{IsPhase-unique}
-use Rattle.nf_run_laws.specs.RunLaws.{reached_by}
-use Rattle.nf_run_laws.proofs.StepValues.{steps-length}
-use Rattle.nf_run_laws.proofs.Run.{IsPhase-goes, Equilibrium-well}
-use Rattle.nf_run_laws.proofs.Standing.{label_count_at, source_label_at, ends_at}
-use Rattle.nf_run_laws.proofs.Moving.{inflow_moves, outflow_moves, queue_steps}
-use Rattle.nf_resume_lists.specs.Open.{Continues, Steps, continues, begins}
+use Rattle.nf_phase_laws.specs.RunLaws.{reached_by}
+use Rattle.nf_phase_laws.proofs.StepValues.{steps-length}
+use Rattle.nf_phase_laws.proofs.Run.{IsPhase-goes, Equilibrium-well}
+use Rattle.nf_phase_laws.proofs.Standing.{label_count_at, source_label_at, ends_at}
+use Rattle.nf_phase_laws.proofs.Moving.{inflow_moves, outflow_moves, queue_steps}
+use Rattle.nf_resume_def.specs.Open.{Continues, Steps, continues, begins}
 use Rattle.nf_phase.specs.declared.phase.Phase.{Phase}
 use Rattle.nf_phase.specs.Restarting.{after_rest}
 use Rattle.nf_phase.specs.Stepping.{Reaches, goes_on, keeps_on, LeadsOnlyTo}
 use Rattle.nf_phase.specs.Finding.{step_in, after_phase, LeadsOn}
-use Rattle.nf_growing_curves.specs.LinkGrowth.{AllLinksEndBefore}
+use Rattle.nf_phase_curves.specs.LinkGrowth.{AllLinksEndBefore}
 use Rattle.nf_phase.proofs.Reached.{Stands, Stands-reached}
 
 -- ---- every reachable run state

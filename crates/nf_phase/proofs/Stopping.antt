@@ -3,7 +3,7 @@ use Rattle.std.proofs.Common.{◌≡◌, ℕ, subst}
 use Rattle.std.specs.Prelude.{Some}
 use Rattle.std.proofs.lemmas.Option.{same_Some}
 use Rattle.nf_rational.specs.Rational.{ℚ}
-use Rattle.nf_formats.specs.declared.Cause.{Cause}
+use Rattle.nf_net_def.specs.declared.Cause.{Cause}
 use Rattle.nf_thin.specs.declared.fault.SearchFault.TheVariants as SearchFault
 use Rattle.nf_phase.specs.declared.fault.StepFault.{StepFault}
 use Rattle.nf_phase.specs.Stepping.{StandsFor}

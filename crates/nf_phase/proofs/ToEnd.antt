@@ -3,16 +3,16 @@ use Rattle.std.proofs.Common.{◌≡◌, ℕ, suc, List, refl, sym, subst, ◌�
 use Rattle.std.specs.Prelude.{Option, Some, None, Result, Ok, Err, IfErr}
 use Rattle.std.specs.Result.{IsErrAnd}
 use Rattle.nf_rational.specs.Rational.{ℚ}
-use Rattle.nf_work.specs.Passing.{Passing}
-use Rattle.nf_work.specs.Checked.{Checked, at_part}
-use Rattle.nf_work.specs.declared.Part.TheVariants.{Extend}
-use Rattle.nf_work.specs.declared.PassedAt.{PassedAt}
+use Rattle.nf_frac_def.specs.Passing.{Passing}
+use Rattle.nf_frac_def.specs.Checked.{Checked, at_part}
+use Rattle.nf_frac_def.specs.declared.Part.TheVariants.{Extend}
+use Rattle.nf_frac_def.specs.declared.PassedAt.{PassedAt}
 use Rattle.nf_model.specs.Network.{Network, hops}
 use Rattle.nf_model.specs.ThinFlow.{slacks_of}
-use Rattle.nf_formats.specs.declared.Cause.TheVariants as Cause
-use Rattle.nf_lists.specs.PhaseRun.{Standing}
-use Rattle.nf_forever_lists.specs.ForeverRun.{end_list, GoesToEnd, GoesForever, FailsOn}
-use Rattle.nf_lists_laws.proofs.Numbered.{part_ok}
+use Rattle.nf_net_def.specs.declared.Cause.TheVariants as Cause
+use Rattle.nf_thin_def.specs.PhaseRun.{Standing}
+use Rattle.nf_forever_def.specs.ForeverRun.{end_list, GoesToEnd, GoesForever, FailsOn}
+use Rattle.nf_thin_laws.proofs.Numbered.{part_ok}
 use Rattle.nf_phase.specs.declared.fault.StepFault.{StepFault}
 use Rattle.nf_phase.specs.declared.finding.PhaseStart.{PhaseStart}
 use Rattle.nf_phase.specs.declared.phase.Phase.{Phase}

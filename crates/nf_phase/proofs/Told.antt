@@ -2,15 +2,15 @@
 use Rattle.std.proofs.Common.{◌≡◌, ℕ, ◌<◌, ap, ◌∙◌, arith}
 use Rattle.std.specs.Prelude.{Some, slice_get}
 use Rattle.std.proofs.lemmas.Option.{slice_get_within}
-use Rattle.nf_work.specs.Passing.{Passing}
+use Rattle.nf_frac_def.specs.Passing.{Passing}
 use Rattle.nf_model.specs.Entries.{number_at}
 use Rattle.nf_model.specs.Network.{Link, Network, IsNetwork, IsLink}
 use Rattle.nf_model.specs.Equilibrium.{label}
-use Rattle.nf_lists.specs.ReportCurves.{LinkCurves}
-use Rattle.nf_lists.specs.PhaseRun.{Standing, flow_of}
-use Rattle.nf_lists.specs.Ends.{end_of, EndsAtLabels}
-use Rattle.nf_run_laws.proofs.WellRun.{label_points, inflow_points, outflow_points, queue_points}
-use Rattle.nf_plain_laws.proofs.Entries.{entry}
+use Rattle.nf_thin_def.specs.ReportCurves.{LinkCurves}
+use Rattle.nf_thin_def.specs.PhaseRun.{Standing, flow_of}
+use Rattle.nf_thin_def.specs.Ends.{end_of, EndsAtLabels}
+use Rattle.nf_phase_laws.proofs.WellRun.{label_points, inflow_points, outflow_points, queue_points}
+use Rattle.nf_rational_laws.proofs.Entries.{entry}
 use Rattle.nf_phase.specs.Restarting.{EndsAtItsLabels}
 use Rattle.nf_phase.specs.Stepping.{Reaches}
 use Rattle.nf_phase.proofs.Reached.{Stands, Stands-reached}

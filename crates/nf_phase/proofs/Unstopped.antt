@@ -1,10 +1,10 @@
 -- A run never stops because no pattern is left, from any state.
 use Rattle.std.proofs.Common.{sym, ap, subst}
 use Rattle.std.specs.Prelude.{Result, Ok, Err, IfOk}
-use Rattle.nf_work.specs.Passing.{passes_Q}
+use Rattle.nf_frac_def.specs.Passing.{passes_Q}
 use Rattle.nf_model.specs.Network.{Network, IsNetwork}
-use Rattle.nf_formats.specs.Report.{Report}
-use Rattle.nf_lists.specs.PhaseRun.{Standing, Bounds}
+use Rattle.nf_net_def.specs.Report.{Report}
+use Rattle.nf_thin_def.specs.PhaseRun.{Standing, Bounds}
 use Rattle.nf_unstopped_laws.specs.Stops.{NeverNoPattern}
 use Rattle.nf_unstopped_laws.proofs.Stops.{never_on}
 use Rattle.nf_phase.specs.declared.solution.Solution.{Solution}

@@ -1,6 +1,6 @@
 -- The fault of a step for each fault of its parts.
 use Rattle.nf_rational.specs.Rational.{ℚ}
-use Rattle.nf_work.specs.declared.Halt.{Halt}
+use Rattle.nf_frac_def.specs.declared.Halt.{Halt}
 use Rattle.nf_thin.specs.declared.fault.SearchFault.{SearchFault}
 use Rattle.nf_phase.specs.declared.fault.StepFault.{StepFault}
 

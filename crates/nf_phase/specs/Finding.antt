@@ -1,20 +1,20 @@
 -- The result of the search for a phase, before the run is extended by it.
 use Rattle.std.specs.Prelude.{◌≡◌, ℕ, suc, List, Some, None, Ok, Err}
 use Rattle.nf_rational.specs.Rational.{ℚ}
-use Rattle.nf_work.specs.Passing.{Passing}
-use Rattle.nf_work.specs.Checked.{placed}
-use Rattle.nf_work.specs.declared.Part.TheVariants.{Slack}
-use Rattle.nf_work.specs.declared.Passed.{Passed}
-use Rattle.nf_work.specs.declared.PassedAt.{PassedAt}
+use Rattle.nf_frac_def.specs.Passing.{Passing}
+use Rattle.nf_frac_def.specs.Checked.{placed}
+use Rattle.nf_frac_def.specs.declared.Part.TheVariants.{Slack}
+use Rattle.nf_frac_def.specs.declared.Passed.{Passed}
+use Rattle.nf_frac_def.specs.declared.PassedAt.{PassedAt}
 use Rattle.nf_model.specs.Network.{Network, hops}
 use Rattle.nf_model.specs.ThinFlow.{slacks_of, sets_at}
 use Rattle.nf_model.specs.Pattern.{Pattern}
 use Rattle.nf_model.specs.Phases.{IsPhaseLength}
-use Rattle.nf_formats.specs.declared.Cause.{Cause}
-use Rattle.nf_lists.specs.Slack.{slack_list}
-use Rattle.nf_lists.specs.Search.{SearchAnswer, Found}
-use Rattle.nf_lists.specs.PhaseRun.{Standing, PhaseStep, Seeks, cause_of_search, phase_lists, standing_after}
-use Rattle.nf_forever_lists.specs.ForeverRun.{SeeksOn}
+use Rattle.nf_net_def.specs.declared.Cause.{Cause}
+use Rattle.nf_thin_def.specs.Slack.{slack_list}
+use Rattle.nf_thin_def.specs.Search.{SearchAnswer, Found}
+use Rattle.nf_thin_def.specs.PhaseRun.{Standing, PhaseStep, Seeks, cause_of_search, phase_lists, standing_after}
+use Rattle.nf_forever_def.specs.ForeverRun.{SeeksOn}
 use Rattle.nf_phase.specs.declared.finding.PhaseStart as code
 use Rattle.nf_phase.specs.declared.phase.Phase.{Phase}
 

@@ -2,17 +2,17 @@
 use Rattle.std.specs.Prelude.{◌≡◌, ◌≢◌, ℕ, ◌<◌, Bool, true, false, if◌then◌else◌, List, [], ◌∷◌, length, Some, None, Ok, slice_get}
 use Rattle.nf_rational.specs.Rational.{ℚ}
 use Rattle.nf_rational.specs.Operations.{0ℚ}
-use Rattle.nf_work.specs.Passing.{Passing}
+use Rattle.nf_frac_def.specs.Passing.{Passing}
 use Rattle.nf_model.specs.Entries.{number_at}
 use Rattle.nf_model.specs.Network.{Link, Piece, Network, IsLink}
 use Rattle.nf_model.specs.declared.State.TheVariants.{Full}
 use Rattle.nf_model.specs.Pattern.{Pattern, HasState}
 use Rattle.nf_model.specs.Equilibrium.{Flow, points_at, points_of, label, Equilibrium}
-use Rattle.nf_lists.specs.Signs.{is_same}
-use Rattle.nf_lists.specs.PhaseRun.{Standing, IsShortFlow}
-use Rattle.nf_lists.specs.Ends.{end_of}
-use Rattle.nf_resume_lists.specs.Restoring.{restore_list}
-use Rattle.nf_resume_lists.specs.Open.{with_last}
+use Rattle.nf_rational.specs.Signs.{is_same}
+use Rattle.nf_thin_def.specs.PhaseRun.{Standing, IsShortFlow}
+use Rattle.nf_thin_def.specs.Ends.{end_of}
+use Rattle.nf_resume_def.specs.Restoring.{restore_list}
+use Rattle.nf_resume_def.specs.Open.{with_last}
 use Rattle.nf_phase.specs.declared.phase.Phase.{Phase}
 use Rattle.nf_phase.specs.Finding.{after_phase}
 

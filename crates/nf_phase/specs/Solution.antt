@@ -1,15 +1,15 @@
 -- The result of solving to a horizon.
 use Rattle.std.specs.Prelude.{◌≡◌, ℕ, suc, Bool, if◌then◌else◌, List, length, Option, Some, None, slice_get}
 use Rattle.nf_rational.specs.Rational.{ℚ}
-use Rattle.nf_work.specs.Passing.{passes_Q}
+use Rattle.nf_frac_def.specs.Passing.{passes_Q}
 use Rattle.nf_model.specs.Network.{Network}
 use Rattle.nf_model.specs.Phases.{IsPhaseSequence}
 use Rattle.nf_model.specs.Equilibrium.{Equilibrium}
-use Rattle.nf_formats.specs.declared.Cause.{Cause}
-use Rattle.nf_formats.specs.Report.{Report, IsWellFormed}
-use Rattle.nf_lists.specs.PhaseRun.{Standing, Bounds, IsRunReport, IsShortFlow, report_of}
-use Rattle.nf_resume_lists.specs.Open.{RunsOn}
-use Rattle.nf_run_laws.specs.RunLaws.{KeepsLabels, reached_by}
+use Rattle.nf_net_def.specs.declared.Cause.{Cause}
+use Rattle.nf_net_def.specs.Report.{Report, IsWellFormed}
+use Rattle.nf_thin_def.specs.PhaseRun.{Standing, Bounds, IsRunReport, IsShortFlow, report_of}
+use Rattle.nf_resume_def.specs.Open.{RunsOn}
+use Rattle.nf_phase_laws.specs.RunLaws.{KeepsLabels, reached_by}
 use Rattle.nf_curve.specs.Flows.{flow_of}
 use Rattle.nf_phase.specs.Restarting.{EndsAtItsLabels}
 use Rattle.nf_thin.specs.declared.fault.SearchFault.TheVariants as SearchFault

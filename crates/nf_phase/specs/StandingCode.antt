@@ -4,9 +4,9 @@ use Rattle.std.specs.Coded.{Coded, code_by, coded×, coded_ℕ, coded_list}
 use Rattle.nf_rational.specs.Rational.{ℚ, coded_ℚ}
 use Rattle.nf_model.specs.Pattern.{Pattern}
 use Rattle.nf_model.specs.Codes.{coded_pattern}
-use Rattle.nf_lists.specs.ReportCurves.{GrowingCurve, LinkCurves}
-use Rattle.nf_lists.specs.PhaseRun.{Standing}
-use Rattle.nf_growing_curves.specs.Growing.{coded_growing, coded_curves}
+use Rattle.nf_thin_def.specs.ReportCurves.{GrowingCurve, LinkCurves}
+use Rattle.nf_thin_def.specs.PhaseRun.{Standing}
+use Rattle.nf_phase_curves.specs.Growing.{coded_growing, coded_curves}
 
 abbrev pub coded_standing : Coded Standing
 coded_standing = code_by (ℚ × (List ℚ × (List GrowingCurve × (List LinkCurves × (ℕ × Pattern)))))

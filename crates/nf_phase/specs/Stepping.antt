@@ -1,14 +1,14 @@
 -- The reachable run states, and the reasons why no further phase is computed.
 use Rattle.std.specs.Prelude.{◌≡◌, ℕ, suc, List, Some, None}
 use Rattle.nf_rational.specs.Rational.{ℚ}
-use Rattle.nf_work.specs.Passing.{Passing}
+use Rattle.nf_frac_def.specs.Passing.{Passing}
 use Rattle.nf_model.specs.Network.{Network}
 use Rattle.nf_model.specs.Phases.{IsPhase}
-use Rattle.nf_formats.specs.declared.Cause.{Cause}
-use Rattle.nf_lists.specs.PhaseRun.{Standing, IsStart, Goes, Fails}
-use Rattle.nf_resume_lists.specs.Open.{Continues, with_last}
-use Rattle.nf_forever_lists.specs.Tails.{Tail}
-use Rattle.nf_forever_lists.specs.ForeverRun.{FailsOn}
+use Rattle.nf_net_def.specs.declared.Cause.{Cause}
+use Rattle.nf_thin_def.specs.PhaseRun.{Standing, IsStart, Goes, Fails}
+use Rattle.nf_resume_def.specs.Open.{Continues, with_last}
+use Rattle.nf_forever_def.specs.Tails.{Tail}
+use Rattle.nf_forever_def.specs.ForeverRun.{FailsOn}
 use Rattle.nf_thin.specs.declared.fault.SearchFault.TheVariants as SearchFault
 use Rattle.nf_thin.specs.declared.thin.ThinFlow.{ThinFlow}
 use Rattle.nf_phase.specs.declared.fault.StepFault.{StepFault}

@@ -1,8 +1,8 @@
 // The extension of a run by a phase.
 ghost use Rattle.std.specs.Prelude.{◌≡◌, ◌<◌, ◌^◌, ◌-◌, length, OnOk, OnErr};
-ghost use Rattle.nf_work.specs.Passing.{passes_Q};
+ghost use Rattle.nf_frac_def.specs.Passing.{passes_Q};
 ghost use Rattle.nf_model.specs.Entries.{number_at};
-ghost use Rattle.nf_formats.specs.WellNamed.{IsNamed};
+ghost use Rattle.nf_net_def.specs.WellNamed.{IsNamed};
 ghost use Rattle.nf_phase.specs.Stepping.{Reaches};
 ghost use Rattle.nf_phase.specs.Finding.{LeadsOn, after_phase};
 ghost use Rattle.nf_phase.specs.Restarting.{after_rest};
@@ -10,8 +10,8 @@ ghost use Rattle.nf_phase.specs.Restarting.{after_rest};
 use crate::phase::Phase;
 use crate::run::Run;
 use nf_frac::Q;
-use nf_growing_curves::{extend_labels, extend_links, reserve_labels, reserve_links};
 use nf_net::Network;
+use nf_phase_curves::{extend_labels, extend_links, reserve_labels, reserve_links};
 use std::alloc::{AllocError, Global};
 
 // Returns the label of the source, which equals the departure.

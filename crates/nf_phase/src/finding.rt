@@ -1,12 +1,12 @@
 // The search for the thin flow of the next phase.
 ghost use Rattle.std.specs.Prelude.{◌≡◌, ℕ, suc, Ok, IfOk, OnOk, IfErr};
 ghost use Rattle.nf_rational.specs.Rational.{ℚ};
-ghost use Rattle.nf_work.specs.Passing.{passes_Q};
+ghost use Rattle.nf_frac_def.specs.Passing.{passes_Q};
 ghost use Rattle.nf_model.specs.Network.{hops as hops_of};
 ghost use Rattle.nf_model.specs.ThinFlow.{slacks_of, sets_at};
-ghost use Rattle.nf_formats.specs.WellNamed.{IsNamed};
-ghost use Rattle.nf_lists.specs.PhaseRun.{IsSearchHere};
-ghost use Rattle.nf_lists.specs.Slack.{slack_list};
+ghost use Rattle.nf_net_def.specs.WellNamed.{IsNamed};
+ghost use Rattle.nf_thin_def.specs.PhaseRun.{IsSearchHere};
+ghost use Rattle.nf_thin_def.specs.Slack.{slack_list};
 ghost use Rattle.nf_thin.specs.Finding.{Finds};
 ghost use Rattle.nf_phase.specs.Stepping.{Reaches, StandsFor};
 ghost use Rattle.nf_phase.specs.Finding.{IsFound, FindsNone};

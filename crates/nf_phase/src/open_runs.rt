@@ -1,10 +1,10 @@
 // The test whether the next phase of a run is the remainder of an interrupted phase.
 ghost use Rattle.std.specs.Prelude.{◌≡◌, ◌<◌, length, MatchBool};
-ghost use Rattle.nf_work.specs.Passing.{passes_Q};
+ghost use Rattle.nf_frac_def.specs.Passing.{passes_Q};
 ghost use Rattle.nf_model.specs.Network.{hops as hops_of};
 ghost use Rattle.nf_model.specs.ThinFlow.{slacks_of};
-ghost use Rattle.nf_formats.specs.WellNamed.{IsNamed};
-ghost use Rattle.nf_resume_lists.specs.Open.{IsOpen, Continues};
+ghost use Rattle.nf_net_def.specs.WellNamed.{IsNamed};
+ghost use Rattle.nf_resume_def.specs.Open.{IsOpen, Continues};
 ghost use Rattle.nf_phase.specs.Restarting.{none_starts as none_starts_by, ApartAt, AreApart};
 ghost use Rattle.nf_phase.specs.Stepping.{Reaches};
 

@@ -1,13 +1,13 @@
 // A phase before the run is extended by it: its length, and the changes of labels and links.
 ghost use Rattle.std.specs.Prelude.{◌≡◌, suc, Ok, IfOk, IfErr, MatchBool};
 ghost use Rattle.nf_rational.specs.Order.{◌<ℚ◌};
-ghost use Rattle.nf_work.specs.Passing.{passes_Q};
+ghost use Rattle.nf_frac_def.specs.Passing.{passes_Q};
 ghost use Rattle.nf_model.specs.Network.{hops as hops_of};
 ghost use Rattle.nf_model.specs.ThinFlow.{slacks_of};
 ghost use Rattle.nf_model.specs.Phases.{IsPhaseLength};
-ghost use Rattle.nf_formats.specs.WellNamed.{IsNamed};
-ghost use Rattle.nf_lists.specs.PhaseRun.{phase_lists};
-ghost use Rattle.nf_resume_lists.specs.Open.{Continues};
+ghost use Rattle.nf_net_def.specs.WellNamed.{IsNamed};
+ghost use Rattle.nf_thin_def.specs.PhaseRun.{phase_lists};
+ghost use Rattle.nf_resume_def.specs.Open.{Continues};
 ghost use Rattle.nf_phase.specs.Stepping.{Reaches, StandsFor, IsCause};
 ghost use Rattle.nf_phase.specs.Finding.{IsFound, ListsPass, LeadsOn};
 
@@ -15,9 +15,9 @@ use crate::fault::StepFault;
 use crate::finding::PhaseStart;
 use crate::run::Run;
 use nf_frac::Q;
-use nf_growing_curves::{LinkStep, amounts, link_steps};
 use nf_net::Network;
 use nf_pattern::Pattern;
+use nf_phase_curves::{LinkStep, amounts, link_steps};
 use nf_phase_length::{Advanced, advance, extension};
 use nf_thin::ThinFlow;
 use std::alloc::Global;

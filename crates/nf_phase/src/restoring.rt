@@ -1,13 +1,13 @@
 // Runs restored from a flow.
 ghost use Rattle.std.specs.Prelude.{◌≡◌, length, map, IfOk};
-ghost use Rattle.nf_work.specs.declared.Part.TheVariants.{Curve as CurvePart};
-ghost use Rattle.nf_work.specs.Passing.{passes_Q};
-ghost use Rattle.nf_work.specs.Checked.{at_part, Gives};
+ghost use Rattle.nf_frac_def.specs.declared.Part.TheVariants.{Curve as CurvePart};
+ghost use Rattle.nf_frac_def.specs.Passing.{passes_Q};
+ghost use Rattle.nf_frac_def.specs.Checked.{at_part, Gives};
 ghost use Rattle.nf_model.specs.Equilibrium.{Equilibrium};
-ghost use Rattle.nf_lists.specs.PhaseRun.{IsShortFlow, flow_of};
-ghost use Rattle.nf_lists.specs.Ends.{EndsAtLabels};
-ghost use Rattle.nf_resume_lists.specs.Restoring.{value_at_end, restore_list};
-ghost use Rattle.nf_run_laws.specs.RunLaws.{KeepsLabels};
+ghost use Rattle.nf_thin_def.specs.PhaseRun.{IsShortFlow, flow_of};
+ghost use Rattle.nf_thin_def.specs.Ends.{EndsAtLabels};
+ghost use Rattle.nf_resume_def.specs.Restoring.{value_at_end, restore_list};
+ghost use Rattle.nf_phase_laws.specs.RunLaws.{KeepsLabels};
 ghost use Rattle.nf_curve.specs.Flows.{flow_of as flow_in};
 ghost use Rattle.nf_phase.specs.Restarting.{EndsAtItsLabels, NoneFull};
 ghost use Rattle.nf_phase.specs.Stepping.{Reaches};
@@ -15,9 +15,9 @@ ghost use Rattle.nf_phase.specs.Stepping.{Reaches};
 use crate::run::Run;
 use nf_curve::{Curve, Flow};
 use nf_frac::{Halt, Q};
-use nf_growing_curves::{restore_labels, restore_links};
 use nf_net::Network;
 use nf_pattern::Pattern;
+use nf_phase_curves::{restore_labels, restore_links};
 use std::alloc::{AllocError, Global};
 
 // Returns the last values of these curves.

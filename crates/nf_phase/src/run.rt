@@ -1,13 +1,13 @@
 // Runs: flows over time that are extended phase by phase.
 ghost use Rattle.std.specs.Prelude.{◌≡◌, ◌<◌, ◌^◌, ◌-◌, MatchOption, IsSome, IfOk, OnOk, OnErr, IfErr};
 ghost use Rattle.nf_rational.specs.Order.{◌<ℚ◌};
-ghost use Rattle.nf_work.specs.Passing.{passes_Q};
+ghost use Rattle.nf_frac_def.specs.Passing.{passes_Q};
 ghost use Rattle.nf_model.specs.Equilibrium.{Equilibrium};
-ghost use Rattle.nf_lists.specs.PhaseRun.{IsStart, Goes, IsShortFlow, flow_of};
-ghost use Rattle.nf_lists.specs.Ends.{EndsAtLabels};
-ghost use Rattle.nf_resume_lists.specs.Open.{Continues, Steps};
-ghost use Rattle.nf_forever_lists.specs.ForeverRun.{GoesToEnd, GoesForever};
-ghost use Rattle.nf_run_laws.specs.RunLaws.{KeepsLabels, reached_by};
+ghost use Rattle.nf_thin_def.specs.PhaseRun.{IsStart, Goes, IsShortFlow, flow_of};
+ghost use Rattle.nf_thin_def.specs.Ends.{EndsAtLabels};
+ghost use Rattle.nf_resume_def.specs.Open.{Continues, Steps};
+ghost use Rattle.nf_forever_def.specs.ForeverRun.{GoesToEnd, GoesForever};
+ghost use Rattle.nf_phase_laws.specs.RunLaws.{KeepsLabels, reached_by};
 ghost use Rattle.nf_curve.specs.Flows.{flow_of as flow_in};
 ghost use Rattle.nf_phase.specs.Stepping.{Reaches, IsCause, IsCauseOn, LeadsOnlyTo, tail_of};
 
@@ -16,11 +16,9 @@ use crate::finding::PhaseStart;
 use crate::phase::NextPhase;
 use nf_curve::Flow;
 use nf_frac::Q;
-use nf_growing_curves::{
-    GrowingCurve, LinkCurves, copy_labels, copy_links, first_labels, first_links,
-};
 use nf_net::{Network, start_labels};
 use nf_pattern::Pattern;
+use nf_phase_curves::{GrowingCurve, LinkCurves, copy_labels, copy_links, first_labels, first_links};
 use nf_phase_length::end_of;
 use nf_thin::ThinFlow;
 use std::alloc::{AllocError, Global};
@@ -39,8 +37,8 @@ pub struct Run {
 }
 
 impl Model for Run {
-    ghost use Rattle.nf_lists.specs.PhaseRun.{Standing};
-    ghost use Rattle.nf_growing_curves.specs.Growing.{all_grown};
+    ghost use Rattle.nf_thin_def.specs.PhaseRun.{Standing};
+    ghost use Rattle.nf_phase_curves.specs.Growing.{all_grown};
     ghost use Rattle.nf_phase.specs.StandingCode.{coded_standing};
 
     ghost Value = { Standing };

@@ -2,10 +2,10 @@
 ghost use Rattle.std.specs.Prelude.{◌≡◌, IfOk, MatchBool};
 ghost use Rattle.nf_rational.specs.Operations.{0ℚ};
 ghost use Rattle.nf_rational.specs.Order.{◌≤ℚ◌, ◌<ℚ◌, lt_ℚ};
-ghost use Rattle.nf_work.specs.Passing.{passes_Q};
-ghost use Rattle.nf_formats.specs.WellNamed.{IsNamed};
-ghost use Rattle.nf_lists.specs.PhaseRun.{flow_of};
-ghost use Rattle.nf_resume_lists.specs.Open.{RunsOn};
+ghost use Rattle.nf_frac_def.specs.Passing.{passes_Q};
+ghost use Rattle.nf_net_def.specs.WellNamed.{IsNamed};
+ghost use Rattle.nf_thin_def.specs.PhaseRun.{flow_of};
+ghost use Rattle.nf_resume_def.specs.Open.{RunsOn};
 ghost use Rattle.nf_unstopped_laws.specs.Stops.{NeverNoPattern};
 ghost use Rattle.nf_curve.specs.Flows.{flow_of as flow_in};
 ghost use Rattle.nf_phase.specs.Stepping.{Reaches};
@@ -16,8 +16,8 @@ use crate::solution::{Budgets, Solution};
 use crate::stops::ended_by;
 use nf_curve::Stop;
 use nf_frac::Q;
-use nf_growing_curves::{finish_labels, finish_links};
 use nf_net::Network;
+use nf_phase_curves::{finish_labels, finish_links};
 use std::alloc::{AllocError, Global};
 
 impl Run {

@@ -7,3 +7,4 @@ pub mod LengthLaws
 pub mod CurveSteps
 pub mod DescriptionCurves
 pub mod CurveRun
+pub mod RunLaws

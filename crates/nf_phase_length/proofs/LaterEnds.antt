@@ -6,17 +6,17 @@ use Rattle.nf_rational.specs.Operations.{0ℚ, ◌+ℚ◌}
 use Rattle.nf_rational.specs.Order.{◌<ℚ◌}
 use Rattle.nf_rational_laws.proofs.Polynomial.{reading_of}
 use Rattle.nf_rational_laws.proofs.Linear.{lt, eq, linear_lt}
-use Rattle.nf_work.specs.Passing.{Passing}
-use Rattle.nf_work.specs.Checked.{Checked, checked, at_part}
-use Rattle.nf_work.specs.declared.Op.TheVariants.{Sum}
-use Rattle.nf_work.specs.declared.Part.TheVariants.{Extend}
-use Rattle.nf_work.specs.declared.PassedAt.{PassedAt}
+use Rattle.nf_frac_def.specs.Passing.{Passing}
+use Rattle.nf_frac_def.specs.Checked.{Checked, checked, at_part}
+use Rattle.nf_frac_def.specs.declared.Op.TheVariants.{Sum}
+use Rattle.nf_frac_def.specs.declared.Part.TheVariants.{Extend}
+use Rattle.nf_frac_def.specs.declared.PassedAt.{PassedAt}
 use Rattle.nf_model.specs.Network.{Network}
 use Rattle.nf_model.specs.Phases.{IsExtension, IsUnending}
-use Rattle.nf_forever_lists.specs.ForeverRun.{end_after}
+use Rattle.nf_forever_def.specs.ForeverRun.{end_after}
 use Rattle.nf_curve_laws.proofs.Operations.{then_ok, checked-is}
 use Rattle.nf_phase_laws.proofs.Length.{IsExtension-some}
-use Rattle.nf_lists_laws.proofs.Numbered.{part_ok}
+use Rattle.nf_thin_laws.proofs.Numbered.{part_ok}
 
 module _ (passes : Passing) (net : Network) (slacks slopes : List ℚ) (time : ℚ) where
   after : (e l : ℚ) → 0ℚ <ℚ l → e ≡ time +ℚ l → time <ℚ e

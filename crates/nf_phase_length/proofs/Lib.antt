@@ -1,4 +1,3 @@
-pub mod Signs
 pub mod Looping
 pub mod Meaning
 pub mod LaterEnds

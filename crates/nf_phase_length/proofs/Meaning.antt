@@ -2,16 +2,16 @@
 use Rattle.std.proofs.Common.{◌≡◌, List, sym, ap, ◌∙◌}
 use Rattle.std.specs.Prelude.{Option, Some, None, Result, Ok, Err, IfOk, MatchOption}
 use Rattle.nf_rational.specs.Rational.{ℚ}
-use Rattle.nf_work.specs.Passing.{Passing}
-use Rattle.nf_work.specs.declared.Part.TheVariants.{Extend}
-use Rattle.nf_work.specs.declared.PassedAt.{PassedAt}
-use Rattle.nf_work.specs.Checked.{Checked, at_part, ◌>>=◌}
+use Rattle.nf_frac_def.specs.Passing.{Passing}
+use Rattle.nf_frac_def.specs.declared.Part.TheVariants.{Extend}
+use Rattle.nf_frac_def.specs.declared.PassedAt.{PassedAt}
+use Rattle.nf_frac_def.specs.Checked.{Checked, at_part, ◌>>=◌}
 use Rattle.nf_model.specs.Network.{Network, ArePieces, next_change}
 use Rattle.nf_model.specs.Phases.{IsExtension, IsUnending}
-use Rattle.nf_lists.specs.Extend.{until_change, extend_list}
-use Rattle.nf_run_laws.proofs.Extension.{extension_is, unending_is}
+use Rattle.nf_thin_def.specs.Extend.{until_change, extend_list}
+use Rattle.nf_phase_laws.proofs.Extension.{extension_is, unending_is}
 use Rattle.nf_phase_length.specs.Lengths.{after_all}
-use Rattle.nf_lists_laws.proofs.Numbered.{part_ok}
+use Rattle.nf_thin_laws.proofs.Numbered.{part_ok}
 
 module _ (passes : Passing) (net : Network) (slacks slopes : List ℚ) (time : ℚ) (pieces : ArePieces net.pieces) where
   abbrev Means : Option ℚ → Type 0

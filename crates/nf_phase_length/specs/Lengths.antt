@@ -2,10 +2,10 @@
 use Rattle.std.specs.Prelude.{List, Option, None}
 use Rattle.std.specs.List.{enumerate_from}
 use Rattle.nf_rational.specs.Rational.{ℚ}
-use Rattle.nf_work.specs.Passing.{Passing}
-use Rattle.nf_work.specs.Checked.{Checked, fold_checked}
+use Rattle.nf_frac_def.specs.Passing.{Passing}
+use Rattle.nf_frac_def.specs.Checked.{Checked, fold_checked}
 use Rattle.nf_model.specs.Network.{Network}
-use Rattle.nf_lists.specs.Extend.{least_after}
+use Rattle.nf_thin_def.specs.Extend.{least_after}
 
 -- The least length after which the slack of a link reaches 0.
 abbrev pub after_all : Passing → Network → List ℚ → List ℚ → Checked (Option ℚ)

@@ -1,9 +1,9 @@
 // The length of a phase, and the labels at its end.
 ghost use Rattle.std.specs.Prelude.{◌≡◌, ◌<◌, length as count_of};
-ghost use Rattle.nf_work.specs.declared.Part.TheVariants.{Advance};
-ghost use Rattle.nf_work.specs.Passing.{passes_Q};
-ghost use Rattle.nf_work.specs.Checked.{at_part, Gives};
-ghost use Rattle.nf_lists.specs.Advance.{cut_at, label_after as label_after_by, labels_after as labels_after_by, advance_list};
+ghost use Rattle.nf_frac_def.specs.declared.Part.TheVariants.{Advance};
+ghost use Rattle.nf_frac_def.specs.Passing.{passes_Q};
+ghost use Rattle.nf_frac_def.specs.Checked.{at_part, Gives};
+ghost use Rattle.nf_thin_def.specs.Advance.{cut_at, label_after as label_after_by, labels_after as labels_after_by, advance_list};
 
 use nf_frac::{Halt, Part, PassedAt, Q, at};
 use std::alloc::Global;
@@ -17,7 +17,7 @@ pub struct Advanced {
 }
 
 impl Model for Advanced {
-    ghost use Rattle.nf_lists.specs.Advance.{Advanced as SeenAdvanced};
+    ghost use Rattle.nf_thin_def.specs.Advance.{Advanced as SeenAdvanced};
     ghost use Rattle.nf_phase_length.specs.StepCodes.{coded_advanced};
 
     ghost Value = { SeenAdvanced };
@@ -64,7 +64,7 @@ fn labels_after(alloc: Global, length: Q, labels: &[Q], slopes: &[Q]) -> Result<
 /// Returns the length of a phase that begins at `time`, and the labels at its end. The length is the extension length, but ends at the
 /// horizon at the latest. Refuses with Passed, of the part Advance, at the first operation of the advance list that exceeds its bound.
 /// Refuses with Memory only if memory can't be allocated.
-#[tactic(auto, unfolding(nf_lists::specs::Advance::advance_list))]
+#[tactic(auto, unfolding(nf_thin_def::specs::Advance::advance_list))]
 pub fn advance(
     alloc: Global,
     horizon: Q,

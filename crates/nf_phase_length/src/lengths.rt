@@ -2,14 +2,14 @@
 ghost use Rattle.std.specs.Prelude.{◌≡◌, ◌≢◌, ◌<◌, length, true, MatchOption, IfOk, IfSome};
 ghost use Rattle.nf_rational.specs.Operations.{0ℚ};
 ghost use Rattle.nf_rational.specs.Order.{◌<ℚ◌};
-ghost use Rattle.nf_work.specs.declared.Part.TheVariants.{Extend};
-ghost use Rattle.nf_work.specs.Passing.{passes_Q};
-ghost use Rattle.nf_work.specs.Checked.{at_part};
+ghost use Rattle.nf_frac_def.specs.declared.Part.TheVariants.{Extend};
+ghost use Rattle.nf_frac_def.specs.Passing.{passes_Q};
+ghost use Rattle.nf_frac_def.specs.Checked.{at_part};
 ghost use Rattle.nf_model.specs.Network.{Link as SeenLink, IsLink, ArePieces, next_change as change_of};
 ghost use Rattle.nf_model.specs.Phases.{IsExtension, IsUnending};
-ghost use Rattle.nf_lists.specs.Signs.{is_zero as is_zero_by, are_opposite as are_opposite_by};
-ghost use Rattle.nf_lists.specs.Extend.{lesser as lesser_of, to_zero as to_zero_by, after_link as after_link_by, least_after, until_change as until_change_by, extend_list};
-ghost use Rattle.nf_forever_lists.specs.ForeverRun.{end_after as end_after_by, end_list};
+ghost use Rattle.nf_rational.specs.Signs.{is_zero as is_zero_by, are_opposite as are_opposite_by};
+ghost use Rattle.nf_thin_def.specs.Extend.{lesser as lesser_of, to_zero as to_zero_by, after_link as after_link_by, least_after, until_change as until_change_by, extend_list};
+ghost use Rattle.nf_forever_def.specs.ForeverRun.{end_after as end_after_by, end_list};
 ghost use Rattle.nf_phase_length.specs.Lengths.{after_all};
 
 use nf_frac::{Part, PassedAt, Q, at};
@@ -126,7 +126,7 @@ fn next_change(net: &Network, time: Q) -> Option<Q>
 /// 2011). It is the greatest length for which each inactive link has slack at most 0, each resetting link has slack at least 0, and no
 /// change of the inflow rate comes before the end. Returns None exactly if every length is possible. Refuses with Passed, of the part
 /// Extend, exactly at the first operation of the extend list that exceeds its bound. Allocates nothing.
-#[tactic(auto, unfolding(nf_lists::specs::Extend::extend_list))]
+#[tactic(auto, unfolding(nf_thin_def::specs::Extend::extend_list))]
 pub fn extension(
     net: &Network,
     slacks: &[Q],
@@ -159,7 +159,7 @@ fn end_after(time: Q, length: Option<Q>) -> Result<Option<Q>, PassedAt<Q>>
 /// Returns the departure at which a phase of greatest length ends. The phase begins at `time`, with these slacks of the links and slopes of
 /// the nodes. Returns None exactly if every length is possible. Refuses with Passed, of the part Extend, exactly at the first operation of
 /// the extend list without a horizon that exceeds its bound. Allocates nothing.
-#[tactic(auto, unfolding(nf_forever_lists::specs::ForeverRun::end_list))]
+#[tactic(auto, unfolding(nf_forever_def::specs::ForeverRun::end_list))]
 pub fn end_of(net: &Network, slacks: &[Q], slopes: &[Q], time: Q) -> Result<Option<Q>, PassedAt<Q>>
     requires slacks { length slacks.now ≡ length net.now.net.links }
     requires slopes { length slopes.now ≡ net.now.net.nodes }

@@ -4,8 +4,6 @@
 
 mod advancing;
 mod lengths;
-mod phase_links;
 
 pub use advancing::{Advanced, advance};
 pub use lengths::{end_of, extension};
-pub use phase_links::{LinkPhase, link_phase};

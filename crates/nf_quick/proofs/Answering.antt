@@ -6,14 +6,14 @@ use Rattle.nf_rational.specs.Operations.{0ℚ}
 use Rattle.nf_rational.specs.Order.{◌≤ℚ◌, le_ℚ}
 use Rattle.nf_rational_laws.proofs.Order.{≤ℚ_antisymm}
 use Rattle.nf_rational_laws.proofs.Tests.{le_of_test}
-use Rattle.nf_work.specs.Passing.{Passing}
-use Rattle.nf_work.specs.declared.Halt.{Halt}
-use Rattle.nf_work.specs.declared.Part.TheVariants as Part
-use Rattle.nf_work.specs.Checked.{Checked, Stops, at_part, ◌>>=◌}
+use Rattle.nf_frac_def.specs.Passing.{Passing}
+use Rattle.nf_frac_def.specs.declared.Halt.{Halt}
+use Rattle.nf_frac_def.specs.declared.Part.TheVariants as Part
+use Rattle.nf_frac_def.specs.Checked.{Checked, Stops, at_part, ◌>>=◌}
 use Rattle.nf_model.specs.Network.{Network, IsNetwork}
-use Rattle.nf_quick_lists.specs.Steps.{IsLimited}
-use Rattle.nf_quick_lists.specs.Quick.{Quick, QuickStanding, Pushed, Done, OverBudget, QuickAnswer, FoundQuick, Budget, start_of, nothing, push_up_to, finish_list, answer_list, quickest_of, quickest_list}
-use Rattle.nf_quick_lists.specs.Answers.{IsQuickFlow}
+use Rattle.nf_quick_def.specs.Steps.{IsLimited}
+use Rattle.nf_quick_def.specs.Quick.{Quick, QuickStanding, Pushed, Done, OverBudget, QuickAnswer, FoundQuick, Budget, start_of, nothing, push_up_to, finish_list, answer_list, quickest_of, quickest_list}
+use Rattle.nf_quick_def.specs.Answers.{IsQuickFlow}
 use Rattle.nf_quick_laws.proofs.Nothing.{IsQuickFlow-list, IsMade-list, EndsAtBudget-list}
 use Rattle.nf_residual.proofs.Stopping.{ok_of_part, stopped, goes_on}
 use Rattle.nf_quick.specs.declared.fault.QuickFault.{QuickFault}

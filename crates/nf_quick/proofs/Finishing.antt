@@ -2,17 +2,17 @@
 use Rattle.std.proofs.Common.{◌≡◌, ℕ, List, Option, length, sym, ap, ◌∙◌}
 use Rattle.std.specs.Prelude.{Ok, Err}
 use Rattle.nf_rational.specs.Rational.{ℚ}
-use Rattle.nf_work.specs.Passing.{Passing}
-use Rattle.nf_work.specs.declared.Halt.{Halt}
-use Rattle.nf_work.specs.declared.Part.TheVariants as Part
-use Rattle.nf_work.specs.declared.PassedAt.{PassedAt}
-use Rattle.nf_work.specs.Checked.{Checked, Stops, at_part, ◌>>=◌}
+use Rattle.nf_frac_def.specs.Passing.{Passing}
+use Rattle.nf_frac_def.specs.declared.Halt.{Halt}
+use Rattle.nf_frac_def.specs.declared.Part.TheVariants as Part
+use Rattle.nf_frac_def.specs.declared.PassedAt.{PassedAt}
+use Rattle.nf_frac_def.specs.Checked.{Checked, Stops, at_part, ◌>>=◌}
 use Rattle.nf_model.specs.Network.{Network}
 use Rattle.nf_model.specs.Quickest.{Fed}
-use Rattle.nf_quick_lists.specs.Rounds.{distances_list}
-use Rattle.nf_quick_lists.specs.Walks.{walks_off}
-use Rattle.nf_quick_lists.specs.Cuts.{node_times_list, value_list}
-use Rattle.nf_quick_lists.specs.Quick.{Quick, finish_list}
+use Rattle.nf_quick_def.specs.Rounds.{distances_list}
+use Rattle.nf_quick_def.specs.Walks.{walks_off}
+use Rattle.nf_quick_def.specs.Cuts.{node_times_list, value_list}
+use Rattle.nf_quick_def.specs.Quick.{Quick, finish_list}
 use Rattle.nf_residual.proofs.Stopping.{stopped, stops, goes_on, stops_as}
 
 module _ (passes : Passing) (net : Network) (amount : ℚ) (flows given : List ℚ) (time : ℚ) (same : given ≡ flows) where

@@ -5,7 +5,7 @@ use Rattle.std.proofs.lemmas.List.{length-set, length-replicate}
 use Rattle.std.proofs.lemmas.Bool.Decides.{eqb_tells}
 use Rattle.nf_rational.specs.Rational.{ℚ}
 use Rattle.nf_model.specs.Network.{Link, Network, IsLink, IsNetwork}
-use Rattle.nf_quick_lists.specs.Steps.{IsUnboundedWalk}
+use Rattle.nf_quick_def.specs.Steps.{IsUnboundedWalk}
 use Rattle.nf_quick.specs.Ways.{Ways, way_at, leads_on, LeadsOn, NoneLeadsOn, AreWays, AreAllWays}
 
 -- ---- the number of nodes without a walk

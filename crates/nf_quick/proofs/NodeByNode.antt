@@ -6,14 +6,14 @@ use Rattle.std.proofs.lemmas.List.{drop_more, drop_all}
 use Rattle.std.proofs.lemmas.Option.{slice_get_within, get_or_from_slice_get}
 use Rattle.nf_rational.specs.Rational.{ℚ}
 use Rattle.nf_rational.specs.Operations.{0ℚ}
-use Rattle.nf_work.specs.Passing.{Passing}
-use Rattle.nf_work.specs.declared.Part.TheVariants as Part
-use Rattle.nf_work.specs.declared.PassedAt.{PassedAt}
-use Rattle.nf_work.specs.Checked.{Checked, at_part, each, fold_checked}
-use Rattle.nf_work.proofs.Each.{with_front}
+use Rattle.nf_frac_def.specs.Passing.{Passing}
+use Rattle.nf_frac_def.specs.declared.Part.TheVariants as Part
+use Rattle.nf_frac_def.specs.declared.PassedAt.{PassedAt}
+use Rattle.nf_frac_def.specs.Checked.{Checked, at_part, each, fold_checked}
+use Rattle.nf_frac_def.proofs.Each.{with_front}
 use Rattle.nf_curve.proofs.Exits.{each_goes, each_stops, each_ends}
 use Rattle.nf_model.specs.Network.{Link}
-use Rattle.nf_quick_lists.specs.Cuts.{node_time, node_time_at, node_times_list, value_after, value_list}
+use Rattle.nf_quick_def.specs.Cuts.{node_time, node_time_at, node_times_list, value_after, value_list}
 use Rattle.nf_residual.proofs.Folding.{FoldsOn, fold_all, fold_stops, fold_more}
 
 -- The cut times so far, and those from a node on.

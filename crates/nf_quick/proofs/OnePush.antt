@@ -5,17 +5,17 @@ use Rattle.nf_rational.specs.Rational.{ℚ}
 use Rattle.nf_rational.specs.Operations.{0ℚ}
 use Rattle.nf_rational.specs.Order.{◌≤ℚ◌, ◌<ℚ◌}
 use Rattle.nf_rational_laws.proofs.Signs.{nn_plus_ps}
-use Rattle.nf_work.specs.Passing.{Passing}
-use Rattle.nf_work.specs.declared.Op.TheVariants.{Sum}
-use Rattle.nf_work.specs.declared.Part.TheVariants as Part
-use Rattle.nf_work.specs.declared.PassedAt.{PassedAt}
-use Rattle.nf_work.specs.Checked.{Checked, at_part, checked, checked_at, ◌>>=◌}
+use Rattle.nf_frac_def.specs.Passing.{Passing}
+use Rattle.nf_frac_def.specs.declared.Op.TheVariants.{Sum}
+use Rattle.nf_frac_def.specs.declared.Part.TheVariants as Part
+use Rattle.nf_frac_def.specs.declared.PassedAt.{PassedAt}
+use Rattle.nf_frac_def.specs.Checked.{Checked, at_part, checked, checked_at, ◌>>=◌}
 use Rattle.nf_model.specs.Network.{Network}
-use Rattle.nf_quick_lists.specs.Rounds.{Walk, shortest_list}
-use Rattle.nf_quick_lists.specs.Answers.{IsShortestWalk, IsShortest}
-use Rattle.nf_quick_lists.specs.Pushes.{Times, push_list, time_list}
-use Rattle.nf_quick_lists.specs.Quick.{Augment, QuickStanding, is_early, push_on, next_of, next_list}
-use Rattle.nf_residual_laws.proofs.Offers.{checked-ok}
+use Rattle.nf_quick_def.specs.Rounds.{Walk, shortest_list}
+use Rattle.nf_quick_def.specs.Answers.{IsShortestWalk, IsShortest}
+use Rattle.nf_quick_def.specs.Pushes.{Times, push_list, time_list}
+use Rattle.nf_quick_def.specs.Quick.{Augment, QuickStanding, is_early, push_on, next_of, next_list}
+use Rattle.nf_quick_laws.proofs.Offers.{checked-ok}
 use Rattle.nf_residual.proofs.Stopping.{ok_of_part, stopped, goes_on}
 
 -- the sum of a rate of at least 0 and one above 0

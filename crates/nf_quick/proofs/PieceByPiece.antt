@@ -7,15 +7,15 @@ use Rattle.nf_rational.specs.Rational.{ℚ}
 use Rattle.nf_rational.specs.Operations.{0ℚ}
 use Rattle.nf_rational.specs.Order.{◌≤ℚ◌, ◌<ℚ◌, le_ℚ, lt_ℚ}
 use Rattle.nf_rational_laws.proofs.Tests.{le_of_test, lt_of_test}
-use Rattle.nf_work.specs.Passing.{Passing}
-use Rattle.nf_work.specs.declared.Part.TheVariants as Part
-use Rattle.nf_work.specs.declared.PassedAt.{PassedAt}
-use Rattle.nf_work.specs.Checked.{Checked, at_part, ◌>>=◌}
+use Rattle.nf_frac_def.specs.Passing.{Passing}
+use Rattle.nf_frac_def.specs.declared.Part.TheVariants as Part
+use Rattle.nf_frac_def.specs.declared.PassedAt.{PassedAt}
+use Rattle.nf_frac_def.specs.Checked.{Checked, at_part, ◌>>=◌}
 use Rattle.nf_model.specs.Network.{Piece, Network, ArePieces, supplied}
 use Rattle.nf_model_laws.proofs.Supply.{StartsRise-pieces}
 use Rattle.nf_net.specs.Supply.{with_piece, checked_supply}
 use Rattle.nf_net.proofs.Supplied.{value_supplied}
-use Rattle.nf_quick_lists.specs.Departures.{within_piece, last_piece, by_next, departs, departure_of, departure_list, IsDeparture}
+use Rattle.nf_quick_def.specs.Departures.{within_piece, last_piece, by_next, departs, departure_of, departure_list, IsDeparture}
 use Rattle.nf_quick_laws.proofs.Departing.{IsBefore, rate_before_next, before_next, before_first, IsDeparture-list}
 use Rattle.nf_curve.proofs.Exits.{if_ok}
 use Rattle.nf_residual.proofs.Stopping.{ok_of_part, stopped}

@@ -5,14 +5,14 @@ use Rattle.nf_rational.specs.Rational.{ℚ}
 use Rattle.nf_rational.specs.Operations.{0ℚ}
 use Rattle.nf_rational.specs.Order.{◌≤ℚ◌}
 use Rattle.nf_rational_laws.proofs.Chains.{≤ℚ_refl}
-use Rattle.nf_work.specs.Passing.{Passing}
-use Rattle.nf_work.specs.declared.Halt.{Halt}
-use Rattle.nf_work.specs.declared.Part.TheVariants as Part
-use Rattle.nf_work.specs.Checked.{Checked, Stops, at_part, ◌>>=◌}
+use Rattle.nf_frac_def.specs.Passing.{Passing}
+use Rattle.nf_frac_def.specs.declared.Halt.{Halt}
+use Rattle.nf_frac_def.specs.declared.Part.TheVariants as Part
+use Rattle.nf_frac_def.specs.Checked.{Checked, Stops, at_part, ◌>>=◌}
 use Rattle.nf_model.specs.Network.{Network}
-use Rattle.nf_quick_lists.specs.Flows.{IsSound}
-use Rattle.nf_quick_lists.specs.Rounds.{Walk}
-use Rattle.nf_quick_lists.specs.Quick.{QuickStanding, Pushed, Done, OverBudget, start_of, push_on, next_list, ended, push_and, push_up_to}
+use Rattle.nf_quick_def.specs.Flows.{IsSound}
+use Rattle.nf_quick_def.specs.Rounds.{Walk}
+use Rattle.nf_quick_def.specs.Quick.{QuickStanding, Pushed, Done, OverBudget, start_of, push_on, next_list, ended, push_and, push_up_to}
 use Rattle.nf_quick.specs.Answered.{of_halt, IsPushed}
 use Rattle.nf_residual.proofs.Stopping.{stops, goes_on, stops_as}
 

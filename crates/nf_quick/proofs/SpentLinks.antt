@@ -7,15 +7,15 @@ use Rattle.std.proofs.lemmas.Bool.{and_parts}
 use Rattle.nf_rational.specs.Rational.{ℚ}
 use Rattle.nf_rational.specs.Operations.{0ℚ}
 use Rattle.nf_rational.specs.Order.{lt_ℚ}
-use Rattle.nf_work.specs.Passing.{Passing}
-use Rattle.nf_work.specs.declared.Op.TheVariants.{Difference}
-use Rattle.nf_work.specs.declared.Part.TheVariants as Part
-use Rattle.nf_work.specs.Checked.{checked, fold_checked, at_part}
-use Rattle.nf_work.proofs.Binding.{bind_ok}
-use Rattle.nf_plain_laws.proofs.Results.{same_Ok}
+use Rattle.nf_frac_def.specs.Passing.{Passing}
+use Rattle.nf_frac_def.specs.declared.Op.TheVariants.{Difference}
+use Rattle.nf_frac_def.specs.declared.Part.TheVariants as Part
+use Rattle.nf_frac_def.specs.Checked.{checked, fold_checked, at_part}
+use Rattle.nf_frac_def.proofs.Binding.{bind_ok}
+use Rattle.nf_rational_laws.proofs.Results.{same_Ok}
 use Rattle.nf_model.specs.Entries.{number_at}
 use Rattle.nf_model.specs.Network.{Link}
-use Rattle.nf_quick_lists.specs.Walks.{first_out, take_link, take_list}
+use Rattle.nf_quick_def.specs.Walks.{first_out, take_link, take_list}
 use Rattle.nf_residual.proofs.Stopping.{ok_of_part}
 use Rattle.nf_quick.specs.Spent.{is_out, IsSpent, AreSpent, HaveFlow}
 use Rattle.nf_quick.proofs.WalkByWalk.{LooksOn, looks_first, looks_more}

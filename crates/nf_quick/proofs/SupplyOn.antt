@@ -10,8 +10,8 @@ use Rattle.nf_rational_laws.proofs.Polynomial.{reading_of}
 use Rattle.nf_rational_laws.proofs.Linear.{le, lt, linear_lt}
 use Rattle.nf_rational_laws.proofs.Chains.{≤ℚ_refl, ≤ℚ_trans}
 use Rattle.nf_rational_laws.proofs.Extremes.{min_is_right}
-use Rattle.nf_work.specs.Passing.{Passing}
-use Rattle.nf_work.specs.Checked.{Checked, ◌>>=◌}
+use Rattle.nf_frac_def.specs.Passing.{Passing}
+use Rattle.nf_frac_def.specs.Checked.{Checked, ◌>>=◌}
 use Rattle.nf_model.specs.Network.{Piece}
 use Rattle.nf_model_laws.proofs.Supply.{StartsRise}
 use Rattle.nf_net.specs.Supply.{end_before, with_piece, supplied_after}

@@ -7,16 +7,16 @@ use Rattle.std.proofs.lemmas.Option.{slice_get_within, get_or_from_slice_get, un
 use Rattle.std.proofs.lemmas.Bool.Decides.{eqb_tells}
 use Rattle.nf_rational.specs.Rational.{ℚ}
 use Rattle.nf_rational.specs.Operations.{0ℚ}
-use Rattle.nf_work.specs.Passing.{Passing}
-use Rattle.nf_work.specs.declared.Part.TheVariants as Part
-use Rattle.nf_work.specs.declared.PassedAt.{PassedAt}
-use Rattle.nf_work.specs.Checked.{Checked, at_part, ◌>>=◌}
-use Rattle.nf_work.proofs.Each.{with_front}
+use Rattle.nf_frac_def.specs.Passing.{Passing}
+use Rattle.nf_frac_def.specs.declared.Part.TheVariants as Part
+use Rattle.nf_frac_def.specs.declared.PassedAt.{PassedAt}
+use Rattle.nf_frac_def.specs.Checked.{Checked, at_part, ◌>>=◌}
+use Rattle.nf_frac_def.proofs.Each.{with_front}
 use Rattle.nf_curve.proofs.Exits.{front_err, front_more, front_ends}
 use Rattle.nf_model.specs.Entries.{number_at}
 use Rattle.nf_model.specs.Network.{Link, Network, IsLink}
 use Rattle.nf_model.specs.Quickest.{Fed}
-use Rattle.nf_quick_lists.specs.Walks.{first_out, head_of, way_from, way_out, least_along, take_list, walk_and, walks_off}
+use Rattle.nf_quick_def.specs.Walks.{first_out, head_of, way_from, way_out, least_along, take_list, walk_and, walks_off}
 use Rattle.nf_residual.proofs.Stopping.{stopped, goes_on}
 use Rattle.nf_quick.specs.Spent.{is_out}
 

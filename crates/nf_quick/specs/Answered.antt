@@ -3,14 +3,14 @@ use Rattle.std.specs.Prelude.{◌≡◌, ◌⊎◌, ℕ, Result, Ok, Err}
 use Rattle.nf_rational.specs.Rational.{ℚ}
 use Rattle.nf_rational.specs.Operations.{0ℚ}
 use Rattle.nf_rational.specs.Order.{◌<ℚ◌}
-use Rattle.nf_work.specs.declared.Part.TheVariants as Part
-use Rattle.nf_work.specs.declared.Halt.{Halt}
-use Rattle.nf_work.specs.Passing.{Passing}
-use Rattle.nf_work.specs.Checked.{at_part}
+use Rattle.nf_frac_def.specs.declared.Part.TheVariants as Part
+use Rattle.nf_frac_def.specs.declared.Halt.{Halt}
+use Rattle.nf_frac_def.specs.Passing.{Passing}
+use Rattle.nf_frac_def.specs.Checked.{at_part}
 use Rattle.nf_model.specs.Network.{Network}
-use Rattle.nf_quick_lists.specs.Steps.{IsUnboundedWalk, IsLimited}
-use Rattle.nf_quick_lists.specs.InOrder.{ComesOfPushes, EndsAtBudget}
-use Rattle.nf_quick_lists.specs.Quick.{Quick, QuickStanding, Done, OverBudget, FoundQuick, Budget, push_up_to, start_of, quickest_list}
+use Rattle.nf_quick_def.specs.Steps.{IsUnboundedWalk, IsLimited}
+use Rattle.nf_quick_def.specs.InOrder.{ComesOfPushes, EndsAtBudget}
+use Rattle.nf_quick_def.specs.Quick.{Quick, QuickStanding, Done, OverBudget, FoundQuick, Budget, push_up_to, start_of, quickest_list}
 use Rattle.nf_quick.specs.declared.fault.QuickFault.{QuickFault}
 
 abbrev pub of_halt : Halt ℚ → QuickFault

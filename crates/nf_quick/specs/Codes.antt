@@ -3,10 +3,10 @@ use Rattle.std.specs.Prelude.{ℕ, List, Option, refl}
 use Rattle.std.specs.Coded.{Coded, code_by, coded×, coded_ℕ, coded_list, coded_option}
 use Rattle.nf_rational.specs.Rational.{ℚ, coded_ℚ}
 use Rattle.nf_model.specs.Quickest.{Fed}
-use Rattle.nf_quick_lists.specs.Rounds.{Walk}
-use Rattle.nf_quick_lists.specs.Pushes.{Times}
-use Rattle.nf_quick_lists.specs.Codes.{coded_walk}
-use Rattle.nf_quick_lists.specs.Quick.{Augment, QuickStanding, Quick}
+use Rattle.nf_quick_def.specs.Rounds.{Walk}
+use Rattle.nf_quick_def.specs.Pushes.{Times}
+use Rattle.nf_quick_def.specs.Codes.{coded_walk}
+use Rattle.nf_quick_def.specs.Quick.{Augment, QuickStanding, Quick}
 
 abbrev pub coded_fed : Coded Fed
 coded_fed = code_by (ℚ × List ℕ) (coded× coded_ℚ (coded_list coded_ℕ)) (λ f. (f.rate, f.walk))

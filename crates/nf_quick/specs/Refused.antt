@@ -1,6 +1,6 @@
 -- The state after a refused push.
 use Rattle.std.specs.Prelude.{◌≡◌}
-use Rattle.nf_quick_lists.specs.Quick.{QuickStanding}
+use Rattle.nf_quick_def.specs.Quick.{QuickStanding}
 
 -- The two states differ at most in the flow.
 pub record DiffersByFlow (old new : QuickStanding) : Type 0 where

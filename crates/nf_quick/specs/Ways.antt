@@ -1,7 +1,7 @@
 -- Known walks of unbounded links from the source.
 use Rattle.std.specs.Prelude.{◌≡◌, ℕ, Bool, true, false, not, ◌&&◌, List, Option, Some, None, is_none, is_some, length, slice_get, unwrap_or}
 use Rattle.nf_model.specs.Network.{Link, Network, IsLink}
-use Rattle.nf_quick_lists.specs.Steps.{IsUnboundedWalk}
+use Rattle.nf_quick_def.specs.Steps.{IsUnboundedWalk}
 
 -- For each node the links of a walk to it, if one is known.
 abbrev pub Ways : Type 0

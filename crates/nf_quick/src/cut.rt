@@ -1,11 +1,11 @@
 // The cut over time of a static flow. The time of a node is the least of three numbers: the flow's time, the node's distance from the
 // source, and that time plus its distance from the sink.
 ghost use Rattle.std.specs.Prelude.{◌≡◌, ◌<◌, length, None, slice_get, unwrap_or, IfOk};
-ghost use Rattle.nf_work.specs.declared.Part.TheVariants.{Quick};
-ghost use Rattle.nf_work.specs.Passing.{passes_Q};
-ghost use Rattle.nf_work.specs.Checked.{at_part, Gives};
+ghost use Rattle.nf_frac_def.specs.declared.Part.TheVariants.{Quick};
+ghost use Rattle.nf_frac_def.specs.Passing.{passes_Q};
+ghost use Rattle.nf_frac_def.specs.Checked.{at_part, Gives};
 ghost use Rattle.nf_model.specs.Entries.{number_at};
-ghost use Rattle.nf_quick_lists.specs.Cuts.{at_most as at_most_by, node_time as node_time_by, node_times_list, value_along as value_along_by, value_after as value_after_by, value_list};
+ghost use Rattle.nf_quick_def.specs.Cuts.{at_most as at_most_by, node_time as node_time_by, node_times_list, value_along as value_along_by, value_after as value_after_by, value_list};
 
 use nf_frac::{Halt, Part, PassedAt, Q};
 use nf_graph::NodeId;

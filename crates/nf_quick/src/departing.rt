@@ -2,11 +2,11 @@
 ghost use Rattle.std.specs.Prelude.{◌≡◌, IfOk, slice_get, option_map};
 ghost use Rattle.nf_rational.specs.Operations.{0ℚ};
 ghost use Rattle.nf_rational.specs.Order.{◌≤ℚ◌, ◌<ℚ◌, lt_ℚ};
-ghost use Rattle.nf_work.specs.declared.Part.TheVariants.{Quick};
-ghost use Rattle.nf_work.specs.Passing.{passes_Q};
-ghost use Rattle.nf_work.specs.Checked.{at_part};
+ghost use Rattle.nf_frac_def.specs.declared.Part.TheVariants.{Quick};
+ghost use Rattle.nf_frac_def.specs.Passing.{passes_Q};
+ghost use Rattle.nf_frac_def.specs.Checked.{at_part};
 ghost use Rattle.nf_net.specs.Supply.{with_piece as with_piece_by, checked_supply};
-ghost use Rattle.nf_quick_lists.specs.Departures.{within_piece, last_piece, departs as departs_by, departure_list, IsDeparture};
+ghost use Rattle.nf_quick_def.specs.Departures.{within_piece, last_piece, departs as departs_by, departure_list, IsDeparture};
 
 use nf_frac::{Part, PassedAt, Q};
 use nf_net::{Network, Piece};
@@ -79,7 +79,7 @@ fn departs(net: &Network, amount: Q) -> Result<Option<Q>, PassedAt<Q>>
 /// exactly if the supply never reaches `amount`. Refuses with Passed, of the part Quick, at the first operation that exceeds its bound. The
 /// operations of each piece give the supply by the next start. In the piece that reaches the amount, they give the missing amount, its
 /// quotient by the rate, and the sum of that and the piece's start.
-#[tactic(auto, unfolding(nf_quick_lists::specs::Departures::departure_list))]
+#[tactic(auto, unfolding(nf_quick_def::specs::Departures::departure_list))]
 pub fn departure(net: &Network, amount: Q) -> Result<Option<Q>, PassedAt<Q>>
     requires amount { 0ℚ ≤ℚ amount }
     ensures list { result ≡ at_part Quick (departure_list passes_Q (checked_supply passes_Q net.now.net) amount net.now.net.pieces) }

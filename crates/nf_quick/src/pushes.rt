@@ -3,17 +3,17 @@ ghost use Rattle.std.specs.Prelude.{◌≡◌, IfOk, IfSome, OnErr};
 ghost use Rattle.nf_rational.specs.Rational.{ℚ};
 ghost use Rattle.nf_rational.specs.Operations.{0ℚ};
 ghost use Rattle.nf_rational.specs.Order.{◌≤ℚ◌, ◌<ℚ◌};
-ghost use Rattle.nf_work.specs.declared.Op.TheVariants.{Sum};
-ghost use Rattle.nf_work.specs.declared.Part.TheVariants.{Quick};
-ghost use Rattle.nf_work.specs.Passing.{passes_Q};
-ghost use Rattle.nf_work.specs.Checked.{at_part, checked_at, Gives};
+ghost use Rattle.nf_frac_def.specs.declared.Op.TheVariants.{Sum};
+ghost use Rattle.nf_frac_def.specs.declared.Part.TheVariants.{Quick};
+ghost use Rattle.nf_frac_def.specs.Passing.{passes_Q};
+ghost use Rattle.nf_frac_def.specs.Checked.{at_part, checked_at, Gives};
 ghost use Rattle.nf_model.specs.Network.{Network as SeenNetwork};
-ghost use Rattle.nf_quick_lists.specs.Steps.{IsLimited};
-ghost use Rattle.nf_quick_lists.specs.Flows.{IsSound};
-ghost use Rattle.nf_quick_lists.specs.Answers.{IsShortestWalk};
+ghost use Rattle.nf_quick_def.specs.Steps.{IsLimited};
+ghost use Rattle.nf_quick_def.specs.Flows.{IsSound};
+ghost use Rattle.nf_quick_def.specs.Answers.{IsShortestWalk};
 ghost use Rattle.nf_quick.specs.Refused.{DiffersByFlow};
-ghost use Rattle.nf_quick_lists.specs.Pushes.{time_list};
-ghost use Rattle.nf_quick_lists.specs.Quick.{is_early as is_early_by, start_of, next_of, next_list, push_on as push_on_by};
+ghost use Rattle.nf_quick_def.specs.Pushes.{time_list};
+ghost use Rattle.nf_quick_def.specs.Quick.{is_early as is_early_by, start_of, next_of, next_list, push_on as push_on_by};
 
 use crate::rated::Augment;
 use nf_frac::{Halt, Part, PassedAt, Q};
@@ -31,7 +31,7 @@ struct Times {
 }
 
 impl Model for Times {
-    ghost use Rattle.nf_quick_lists.specs.Pushes.{Times as SeenTimes};
+    ghost use Rattle.nf_quick_def.specs.Pushes.{Times as SeenTimes};
     ghost use Rattle.nf_quick.specs.Codes.{coded_times};
 
     ghost Value = { SeenTimes };
@@ -48,7 +48,7 @@ fn sum(left: Q, right: Q) -> Result<Q, PassedAt<Q>>
 }
 
 // Returns the totals after one more walk of this rate and length. Refuses exactly if an operation exceeds its bound.
-#[tactic(auto, unfolding(nf_quick_lists::specs::Pushes::time_list))]
+#[tactic(auto, unfolding(nf_quick_def::specs::Pushes::time_list))]
 fn time_with(
     amount: Q,
     rate_so_far: Q,
@@ -95,7 +95,7 @@ pub struct QuickStanding {
 }
 
 impl Model for QuickStanding {
-    ghost use Rattle.nf_quick_lists.specs.Quick.{QuickStanding as SeenStanding};
+    ghost use Rattle.nf_quick_def.specs.Quick.{QuickStanding as SeenStanding};
     ghost use Rattle.nf_quick.specs.Codes.{coded_standing};
 
     ghost Value = { SeenStanding };

@@ -1,8 +1,8 @@
 // Pushes of shortest residual walks in succession.
 ghost use Rattle.std.specs.Prelude.{IfOk};
-ghost use Rattle.nf_work.specs.Passing.{passes_Q};
-ghost use Rattle.nf_quick_lists.specs.Steps.{IsLimited};
-ghost use Rattle.nf_quick_lists.specs.Flows.{IsSound};
+ghost use Rattle.nf_frac_def.specs.Passing.{passes_Q};
+ghost use Rattle.nf_quick_def.specs.Steps.{IsLimited};
+ghost use Rattle.nf_quick_def.specs.Flows.{IsSound};
 ghost use Rattle.nf_quick.specs.Answered.{IsPushed};
 
 use crate::fault::QuickFault;

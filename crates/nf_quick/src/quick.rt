@@ -14,7 +14,7 @@ pub struct Quick {
 }
 
 impl Model for Quick {
-    ghost use Rattle.nf_quick_lists.specs.Quick.{Quick as SeenQuick};
+    ghost use Rattle.nf_quick_def.specs.Quick.{Quick as SeenQuick};
     ghost use Rattle.nf_quick.specs.Codes.{coded_quick};
 
     ghost Value = { SeenQuick };

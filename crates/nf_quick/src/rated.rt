@@ -31,7 +31,7 @@ pub struct Augment {
 }
 
 impl Model for Augment {
-    ghost use Rattle.nf_quick_lists.specs.Quick.{Augment as SeenAugment};
+    ghost use Rattle.nf_quick_def.specs.Quick.{Augment as SeenAugment};
     ghost use Rattle.nf_quick.specs.Codes.{coded_augment};
 
     ghost Value = { SeenAugment };

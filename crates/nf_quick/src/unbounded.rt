@@ -1,6 +1,6 @@
 // Walks of unbounded links from source to sink.
 ghost use Rattle.std.specs.Prelude.{◌≡◌, ℕ, ◌<◌, List, [], ◌∷◌, ◌++◌, length, set, replicate, Some, None, is_some, IfOk, MatchOption};
-ghost use Rattle.nf_quick_lists.specs.Steps.{IsUnboundedWalk, IsLimited};
+ghost use Rattle.nf_quick_def.specs.Steps.{IsUnboundedWalk, IsLimited};
 ghost use Rattle.nf_quick.specs.Ways.{way_at, leads_on as leads_on_by, LeadsOn, NoneLeadsOn, AreAllWays};
 
 use nf_graph::NodeId;

@@ -2,11 +2,11 @@
 // Its rate is the least flow on its links.
 ghost use Rattle.std.specs.Prelude.{◌≡◌, ℕ, ◌<◌, ◌==◌, length, set, slice_get, Some, None, unwrap_or, IfOk, OnOk};
 ghost use Rattle.std.specs.List.{AllByRecursion};
-ghost use Rattle.nf_work.specs.declared.Part.TheVariants.{Quick};
-ghost use Rattle.nf_work.specs.Passing.{passes_Q};
-ghost use Rattle.nf_work.specs.Checked.{at_part, seen_at, Gives};
+ghost use Rattle.nf_frac_def.specs.declared.Part.TheVariants.{Quick};
+ghost use Rattle.nf_frac_def.specs.Passing.{passes_Q};
+ghost use Rattle.nf_frac_def.specs.Checked.{at_part, seen_at, Gives};
 ghost use Rattle.nf_quick.specs.Spent.{is_out as is_out_by, IsSpent, AreSpent, HaveFlow};
-ghost use Rattle.nf_quick_lists.specs.Walks.{first_out as first_out_by, way_out as way_out_by, least_along as least_along_by, take_list, walks_off as walks_off_by};
+ghost use Rattle.nf_quick_def.specs.Walks.{first_out as first_out_by, way_out as way_out_by, least_along as least_along_by, take_list, walks_off as walks_off_by};
 
 use crate::rated::Rated;
 use nf_frac::{Halt, Part, PassedAt, Q};

@@ -3,13 +3,13 @@ ghost use Rattle.std.specs.Prelude.{◌≡◌, ◌≤◌, IfOk};
 ghost use Rattle.nf_rational.specs.Rational.{ℚ};
 ghost use Rattle.nf_rational.specs.Operations.{0ℚ};
 ghost use Rattle.nf_rational.specs.Order.{◌≤ℚ◌, ◌<ℚ◌};
-ghost use Rattle.nf_work.specs.declared.Part.TheVariants as Part;
-ghost use Rattle.nf_work.specs.Passing.{passes_Q};
-ghost use Rattle.nf_work.specs.Checked.{at_part, Gives};
-ghost use Rattle.nf_quick_lists.specs.Steps.{IsLimited};
-ghost use Rattle.nf_quick_lists.specs.Flows.{IsSound};
-ghost use Rattle.nf_quick_lists.specs.Quick.{nothing as nothing_in, finish_list};
-ghost use Rattle.nf_quick_lists.specs.Answers.{IsQuickFlow};
+ghost use Rattle.nf_frac_def.specs.declared.Part.TheVariants as Part;
+ghost use Rattle.nf_frac_def.specs.Passing.{passes_Q};
+ghost use Rattle.nf_frac_def.specs.Checked.{at_part, Gives};
+ghost use Rattle.nf_quick_def.specs.Steps.{IsLimited};
+ghost use Rattle.nf_quick_def.specs.Flows.{IsSound};
+ghost use Rattle.nf_quick_def.specs.Quick.{nothing as nothing_in, finish_list};
+ghost use Rattle.nf_quick_def.specs.Answers.{IsQuickFlow};
 ghost use Rattle.nf_quick.specs.Answered.{IsAnswered, IsInOrder};
 
 use crate::cut::{node_times, value_of};
@@ -49,7 +49,7 @@ fn flows_of(alloc: Global, net: &Network, flow: &Residual) -> Result<Vec<Q>, All
 }
 
 // Returns the result for a flow and its time: the walks of the flow, the cut over time and its value.
-#[tactic(auto, unfolding(nf_quick_lists::specs::Quick::finish_list))]
+#[tactic(auto, unfolding(nf_quick_def::specs::Quick::finish_list))]
 fn finish(alloc: Global, net: &Network, flow: &Residual, time: Q) -> Result<Quick, Halt<Q>>
     requires { IsSound net.now.net flow.now }
     ensures { (amount : ℚ)

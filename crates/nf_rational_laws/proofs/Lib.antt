@@ -13,3 +13,7 @@ pub mod Quotient
 pub mod Tests
 pub mod Samples
 pub mod Extremes
+pub mod SignTests
+pub mod Results
+pub mod Naturals
+pub mod Entries

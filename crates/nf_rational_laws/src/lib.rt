@@ -1,6 +1,9 @@
 //! The laws of the rational numbers, and the solver that proves linear facts about them.
 //!
 //! The laws themselves are contracts of the functions below, which do nothing; the lemmas and the solver are in `proofs/`.
+//!
+//! Plain lemmas that several crates use and std doesn't state: on results, on natural numbers and on the entries of lists. See
+//! `proofs/`.
 #![tactic(auto)]
 
 ghost use Rattle.nf_rational_laws.specs.Laws.{IsRing, HasQuotients, IsOrdered, IsDecided, RatiosAreReduced};

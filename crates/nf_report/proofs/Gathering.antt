@@ -4,7 +4,7 @@ use Rattle.std.specs.Prelude.{flat_map, Option, Some, None, Result, Ok, Err, IsE
 use Rattle.std.proofs.lemmas.Grind.{flat_map-append}
 use Rattle.nf_edge.specs.Taken.{with_more, Wrote}
 use Rattle.nf_edge.proofs.Pieces.{Wrote-append, Wrote-longer}
-use Rattle.nf_lines.specs.Words.{line_of_words}
+use Rattle.nf_text_def.specs.Words.{line_of_words}
 use Rattle.nf_report.specs.Written.{Line}
 use Rattle.nf_report.specs.Pages.{Kept, Gathered, GatheredLines}
 use Rattle.nf_report.proofs.Written.{wrote_front}

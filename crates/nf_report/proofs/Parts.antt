@@ -11,13 +11,13 @@ use Rattle.std.proofs.lemmas.List.FromFn.{get_or-range_with_len, length-range_wi
 use Rattle.nf_rational.specs.Rational.{ℚ}
 use Rattle.nf_model.specs.Equilibrium.{points_at}
 use Rattle.nf_model.specs.Equilibrium as model
-use Rattle.nf_formats.specs.Report.{for_each, trace_at}
+use Rattle.nf_net_def.specs.Report.{for_each, trace_at}
 use Rattle.nf_curve.specs.Points.{Grown}
 use Rattle.nf_curve.specs.Flows.{trace_of}
 use Rattle.nf_curve.specs.declared.flow.Trace.{Trace}
-use Rattle.nf_lines.specs.Words.{line_of_words}
-use Rattle.nf_formats.specs.Names.{Name, name_at}
-use Rattle.nf_formats.specs.Report.{point_lines, trace_lines}
+use Rattle.nf_text_def.specs.Words.{line_of_words}
+use Rattle.nf_net_def.specs.Names.{Name, name_at}
+use Rattle.nf_net_def.specs.Report.{point_lines, trace_lines}
 use Rattle.nf_report.specs.Written.{Line, after_words, point_line, trace_line, never_lines}
 
 -- ---- what a function makes of the elements, one after the other

@@ -4,7 +4,7 @@ use Rattle.std.specs.Prelude.{flat_map, Option, Result, Ok, Err, IsErr}
 use Rattle.std.proofs.lemmas.Grind.{flat_map-append}
 use Rattle.nf_edge.specs.Taken.{Wrote}
 use Rattle.nf_edge.proofs.Pieces.{Wrote-append, Wrote-longer}
-use Rattle.nf_lines.specs.Words.{line_of_words}
+use Rattle.nf_text_def.specs.Words.{line_of_words}
 use Rattle.nf_report.specs.Written.{Line, WroteLines}
 
 -- ---- texts

@@ -1,7 +1,7 @@
 -- What a sink took of a text that is written page by page.
 use Rattle.std.specs.Prelude.{◌≡◌, ℕ, List, [], ◌++◌, flat_map, Option, Result, OnOk, OnErr}
 use Rattle.nf_edge.specs.Taken.{with_more, Wrote}
-use Rattle.nf_lines.specs.Words.{line_of_words}
+use Rattle.nf_text_def.specs.Words.{line_of_words}
 use Rattle.nf_report.specs.Written.{Line}
 
 -- without a fault the sink took a prefix of the text, and the remainder is on the page

@@ -2,15 +2,15 @@
 use Rattle.std.specs.Prelude.{ℕ, List, [], ◌∷◌, flat_map, map, Option, Some, None, Result, codes, ◌++◌, length}
 use Rattle.nf_rational.specs.Rational.{ℚ}
 use Rattle.nf_model.specs.Equilibrium.{Flow}
-use Rattle.nf_numerals.specs.Digits.{digits_of}
-use Rattle.nf_numerals.specs.Printed.{printed}
+use Rattle.nf_frac_words.specs.Digits.{digits_of}
+use Rattle.nf_frac_words.specs.Printed.{printed}
 use Rattle.nf_edge.specs.Taken.{Wrote}
-use Rattle.nf_lines.specs.Words.{line_of_words}
-use Rattle.nf_formats.specs.Names.{Name}
-use Rattle.nf_formats.specs.declared.Cause.{Cause}
-use Rattle.nf_formats.specs.Causes.{cause_words}
-use Rattle.nf_formats.specs.Named.{Named}
-use Rattle.nf_formats.specs.Report.{for_each, label_lines, link_lines}
+use Rattle.nf_text_def.specs.Words.{line_of_words}
+use Rattle.nf_net_def.specs.Names.{Name}
+use Rattle.nf_net_def.specs.declared.Cause.{Cause}
+use Rattle.nf_net_def.specs.Causes.{cause_words}
+use Rattle.nf_net_def.specs.Named.{Named}
+use Rattle.nf_net_def.specs.Report.{for_each, label_lines, link_lines}
 
 -- the words of a line
 abbrev pub Line : Type 0

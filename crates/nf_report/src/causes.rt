@@ -1,10 +1,10 @@
 // The line that says why a run stopped, and the line of a link's state.
 ghost use Rattle.std.specs.Prelude.{◌≡◌, [], ◌∷◌, Some, None, codes};
 ghost use Rattle.std.specs.Option.{option_copied};
-ghost use Rattle.nf_numerals.specs.Digits.{digits_of};
-ghost use Rattle.nf_numerals.specs.Printed.{printed};
-ghost use Rattle.nf_formats.specs.Causes.{part_word, op_word, cause_words, passed_words};
-ghost use Rattle.nf_formats.specs.Report.{state_word, state_line};
+ghost use Rattle.nf_frac_words.specs.Digits.{digits_of};
+ghost use Rattle.nf_frac_words.specs.Printed.{printed};
+ghost use Rattle.nf_net_def.specs.Causes.{part_word, op_word, cause_words, passed_words};
+ghost use Rattle.nf_net_def.specs.Report.{state_word, state_line};
 ghost use Rattle.nf_report.specs.Written.{WroteLines};
 ghost use Rattle.nf_report.specs.Pages.{GatheredLines};
 
@@ -13,8 +13,8 @@ use crate::pages::Page;
 use nf_curve::Stop;
 use nf_edge::{Sink, SinkFault, write_text};
 use nf_frac::{Op, Part, PassedAt, Q, TextBuf};
+use nf_frac_words::write_count;
 use nf_model::State;
-use nf_numerals::write_count;
 
 fn part_text(part: Part) -> &'static [u8]
     ensures { result.now ≡ part_word part }

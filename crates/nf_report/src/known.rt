@@ -2,9 +2,9 @@
 ghost use Rattle.std.specs.Prelude.{Some, map};
 ghost use Rattle.std.specs.List.{AllByRecursion};
 ghost use Rattle.std.specs.Option.{option_copied};
-ghost use Rattle.nf_formats.specs.WellNamed.{IsFraction};
+ghost use Rattle.nf_net_def.specs.WellNamed.{IsFraction};
 ghost use Rattle.nf_curve.specs.Flows.{trace_of};
-ghost use Rattle.nf_readings_laws.specs.Readable.{IsCount, IsCountOrNone, AreFractionPoints, IsFractionTrace, IsReadableCause};
+ghost use Rattle.nf_report_laws.specs.Readable.{IsCount, IsCountOrNone, AreFractionPoints, IsFractionTrace, IsReadableCause};
 
 use nf_curve::{Curve, Stop, Trace};
 use nf_frac::Q;

@@ -15,7 +15,7 @@ mod report;
 pub use causes::{put_cause, put_number, write_passed_call, write_stop};
 pub use curves::write_curve;
 pub use line::{put_line, write_line};
-pub use nf_report_file::{Report, ReportFault, ReportRule, parse_report};
+pub use nf_report_read::{Report, ReportFault, ReportRule, parse_report};
 pub use pages::Page;
 pub use read_back::written_reads_back;
 pub use report::{put_flow, put_states, write_report};

@@ -1,9 +1,9 @@
 // The text of a report is read back as this report.
 ghost use Rattle.std.specs.Prelude.{◌≡◌, Ok};
 ghost use Rattle.std.specs.Option.{option_copied};
-ghost use Rattle.nf_formats.specs.Report.{Report, IsWellFormed, report_text};
-ghost use Rattle.nf_readings.specs.ReportFile.{report_in};
-ghost use Rattle.nf_readings_laws.specs.Readable.{IsReadable};
+ghost use Rattle.nf_net_def.specs.Report.{Report, IsWellFormed, report_text};
+ghost use Rattle.nf_report_def.specs.ReportFile.{report_in};
+ghost use Rattle.nf_report_laws.specs.Readable.{IsReadable};
 ghost use Rattle.nf_curve.specs.Flows.{flow_of};
 
 use crate::known::{know_cause, know_curves, know_traces};

@@ -1,13 +1,13 @@
 // The parts of a report by the nodes and links of a network.
 ghost use Rattle.std.specs.Prelude.{◌≡◌, ◌<◌, [], ◌∷◌, length, codes, Ok};
 ghost use Rattle.std.specs.Option.{option_copied};
-ghost use Rattle.nf_numerals.specs.Digits.{digits_of};
+ghost use Rattle.nf_frac_words.specs.Digits.{digits_of};
 ghost use Rattle.nf_edge.specs.Taken.{Wrote};
 ghost use Rattle.nf_model.specs.Equilibrium.{HasShape};
-ghost use Rattle.nf_formats.specs.Report.{IsWellFormed, report_lines, report_text};
-ghost use Rattle.nf_formats.specs.Names.{name_at};
-ghost use Rattle.nf_formats.specs.Report.{for_each, label_lines, link_lines, state_lines};
-ghost use Rattle.nf_readings.specs.ReportFile.{report_in};
+ghost use Rattle.nf_net_def.specs.Report.{IsWellFormed, report_lines, report_text};
+ghost use Rattle.nf_net_def.specs.Names.{name_at};
+ghost use Rattle.nf_net_def.specs.Report.{for_each, label_lines, link_lines, state_lines};
+ghost use Rattle.nf_report_def.specs.ReportFile.{report_in};
 ghost use Rattle.nf_curve.specs.Flows.{flow_of};
 ghost use Rattle.nf_report.specs.Written.{never_lines, flow_lines, head_lines};
 ghost use Rattle.nf_report.specs.Pages.{GatheredLines};
@@ -20,8 +20,8 @@ use crate::read_back::written_reads_back;
 use nf_curve::{Flow, Stop};
 use nf_edge::{Sink, SinkFault, write_text};
 use nf_frac::{Q, TextBuf};
+use nf_frac_words::write_count;
 use nf_net::{LinkId, Network, NodeId};
-use nf_numerals::write_count;
 use nf_pattern::Pattern;
 
 // Puts the label of a node.

@@ -3,21 +3,21 @@ use Rattle.std.proofs.Common.{◌≡◌, ℕ, ◌<◌, List, length, map, option
 use Rattle.std.specs.Prelude.{Ok, Err}
 use Rattle.std.specs.List.{AllByRecursion}
 use Rattle.nf_rational.specs.Rational.{ℚ}
-use Rattle.nf_work.specs.Passing.{Passing}
-use Rattle.nf_work.specs.declared.Halt.{Halt}
-use Rattle.nf_work.specs.declared.Part.TheVariants as Part
-use Rattle.nf_work.specs.declared.PassedAt.{PassedAt}
-use Rattle.nf_work.specs.Checked.{Checked, Stops, at_part, ◌>>=◌}
+use Rattle.nf_frac_def.specs.Passing.{Passing}
+use Rattle.nf_frac_def.specs.declared.Halt.{Halt}
+use Rattle.nf_frac_def.specs.declared.Part.TheVariants as Part
+use Rattle.nf_frac_def.specs.declared.PassedAt.{PassedAt}
+use Rattle.nf_frac_def.specs.Checked.{Checked, Stops, at_part, ◌>>=◌}
 use Rattle.nf_model.specs.Network.{Network, IsNetwork}
-use Rattle.nf_quick_lists.specs.Steps.{Step, IsLimited}
-use Rattle.nf_quick_lists.specs.Order.{Reach}
-use Rattle.nf_quick_lists.specs.Flows.{IsSound}
-use Rattle.nf_quick_lists.specs.Rounds.{Known, Walk, known_at, reaches_list, with_room, shortest_list, distances_list}
-use Rattle.nf_quick_lists.specs.Answers.{IsShortest, AreLeastLengths}
-use Rattle.nf_residual_laws.specs.ResidualLaws.{IsFoundAt}
-use Rattle.nf_residual_laws.proofs.Found.{IsFoundAt-list}
-use Rattle.nf_residual_laws.proofs.Lists.{IsShortest-list, AreLeastLengths-list}
-use Rattle.nf_residual_laws.proofs.Pushes.{links_within}
+use Rattle.nf_quick_def.specs.Steps.{Step, IsLimited}
+use Rattle.nf_quick_def.specs.Order.{Reach}
+use Rattle.nf_quick_def.specs.Flows.{IsSound}
+use Rattle.nf_quick_def.specs.Rounds.{Known, Walk, known_at, reaches_list, with_room, shortest_list, distances_list}
+use Rattle.nf_quick_def.specs.Answers.{IsShortest, AreLeastLengths}
+use Rattle.nf_quick_laws.specs.ResidualLaws.{IsFoundAt}
+use Rattle.nf_quick_laws.proofs.Found.{IsFoundAt-list}
+use Rattle.nf_quick_laws.proofs.Lists.{IsShortest-list, AreLeastLengths-list}
+use Rattle.nf_quick_laws.proofs.Pushes.{links_within}
 use Rattle.nf_residual.proofs.Fits.{all_of}
 use Rattle.nf_residual.proofs.Stopping.{ok_of_part, stops, goes_on, stops_as}
 

@@ -5,19 +5,19 @@ use Rattle.std.specs.List.{AllByRecursion}
 use Rattle.nf_rational.specs.Rational.{ℚ}
 use Rattle.nf_rational.specs.Operations.{0ℚ}
 use Rattle.nf_rational.specs.Order.{◌≤ℚ◌, ◌<ℚ◌}
-use Rattle.nf_work.specs.Passing.{Passing}
-use Rattle.nf_work.specs.declared.Part.{Part}
-use Rattle.nf_work.specs.Checked.{Checked, at_part, fold_checked}
+use Rattle.nf_frac_def.specs.Passing.{Passing}
+use Rattle.nf_frac_def.specs.declared.Part.{Part}
+use Rattle.nf_frac_def.specs.Checked.{Checked, at_part, fold_checked}
 use Rattle.nf_model.specs.Network.{Network, IsNetwork}
-use Rattle.nf_quick_lists.specs.Steps.{Step}
-use Rattle.nf_quick_lists.specs.Flows.{IsSound}
-use Rattle.nf_quick_lists.specs.Rounds.{Walk}
-use Rattle.nf_quick_lists.specs.Pushes.{push_step, push_list}
-use Rattle.nf_quick_lists.specs.Answers.{IsShortestWalk}
-use Rattle.nf_residual_laws.specs.ResidualLaws.{IsPush}
-use Rattle.nf_residual_laws.proofs.Apart.{EachStep}
-use Rattle.nf_residual_laws.proofs.Pushes.{links_within, IsPush-list}
-use Rattle.nf_residual_laws.proofs.NewSteps.{IsSound-pushed}
+use Rattle.nf_quick_def.specs.Steps.{Step}
+use Rattle.nf_quick_def.specs.Flows.{IsSound}
+use Rattle.nf_quick_def.specs.Rounds.{Walk}
+use Rattle.nf_quick_def.specs.Pushes.{push_step, push_list}
+use Rattle.nf_quick_def.specs.Answers.{IsShortestWalk}
+use Rattle.nf_quick_laws.specs.ResidualLaws.{IsPush}
+use Rattle.nf_quick_laws.proofs.Apart.{EachStep}
+use Rattle.nf_quick_laws.proofs.Pushes.{links_within, IsPush-list}
+use Rattle.nf_quick_laws.proofs.NewSteps.{IsSound-pushed}
 
 pub all_of : (n : ℕ) (steps : List Step) → EachStep (λ step. step.link < n) steps → AllByRecursion (λ (step : Step). step.link < n) steps
 all_of n [] e = tt

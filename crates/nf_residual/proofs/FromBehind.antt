@@ -5,10 +5,10 @@ use Rattle.std.specs.declared.cmp.Ordering.{Ordering}
 use Rattle.std.specs.declared.cmp.Ordering.TheVariants.{Less, Equal, Greater}
 use Rattle.std.proofs.lemmas.Bool.Decides.{eqb_tells, leb_tells}
 use Rattle.std.proofs.lemmas.List.{length_push}
-use Rattle.nf_quick_lists.specs.Steps.{Step, place}
+use Rattle.nf_quick_def.specs.Steps.{Step, place}
 use Rattle.nf_rational.specs.Order.{cmp_ℚ, lt_ℚ}
 use Rattle.nf_frac.proofs.Comparisons.{lt-cmp, gt-cmp}
-use Rattle.nf_quick_lists.specs.Order.{Reach, are_before, are_fewer_or_before, is_better}
+use Rattle.nf_quick_def.specs.Order.{Reach, are_before, are_fewer_or_before, is_better}
 use Rattle.nf_residual.specs.declared.ways.Twig.{Twig}
 use Rattle.nf_residual.specs.Ways.{twig_at, steps_back, way_at, one_before}
 use Rattle.nf_residual.proofs.Twigs.{steps_are}

@@ -4,12 +4,12 @@ use Rattle.std.specs.Prelude.{Ok, Err}
 use Rattle.std.proofs.lemmas.List.{drop_more, drop_all}
 use Rattle.std.proofs.lemmas.Option.{slice_get_within, get_or_from_slice_get}
 use Rattle.nf_rational.specs.Rational.{ℚ}
-use Rattle.nf_work.specs.Passing.{Passing}
-use Rattle.nf_work.specs.Checked.{Checked, fold_checked, ◌>>=◌}
+use Rattle.nf_frac_def.specs.Passing.{Passing}
+use Rattle.nf_frac_def.specs.Checked.{Checked, fold_checked, ◌>>=◌}
 use Rattle.nf_model.specs.Entries.{number_at}
 use Rattle.nf_model.specs.Network.{Link, Network, IsNetwork}
-use Rattle.nf_quick_lists.specs.Steps.{Step, begin_of, end_of, can_go}
-use Rattle.nf_quick_lists.specs.Rounds.{Known, known_at, steps_from, along, along_step, round_list}
+use Rattle.nf_quick_def.specs.Steps.{Step, begin_of, end_of, can_go}
+use Rattle.nf_quick_def.specs.Rounds.{Known, known_at, steps_from, along, along_step, round_list}
 use Rattle.nf_residual.specs.declared.legs.Leg.{Leg}
 use Rattle.nf_residual.specs.Legs.{leg_of, legs_from, AreLegs, along_leg}
 

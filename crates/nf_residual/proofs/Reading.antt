@@ -4,7 +4,7 @@ use Rattle.std.specs.Prelude.{IfSome}
 use Rattle.std.proofs.lemmas.List.{length-map}
 use Rattle.nf_rational.specs.Rational.{ℚ}
 use Rattle.nf_model.specs.Entries.{number_at}
-use Rattle.nf_quick_lists.specs.Rounds.{Known, known_at}
+use Rattle.nf_quick_def.specs.Rounds.{Known, known_at}
 use Rattle.nf_residual.specs.declared.ways.Twig.{Twig}
 use Rattle.nf_residual.specs.Ways.{twig_at, way_at, Places, place_at, known_by, AreWithin}
 use Rattle.nf_residual.proofs.Twigs.{known_at-by}

@@ -5,13 +5,13 @@ use Rattle.std.proofs.lemmas.List.{drop_more, drop_all, length-set, length-repli
 use Rattle.std.proofs.lemmas.Option.{slice_get_within, slice_get_read}
 use Rattle.nf_rational.specs.Rational.{ℚ}
 use Rattle.nf_rational.specs.Operations.{0ℚ}
-use Rattle.nf_work.specs.Passing.{Passing}
-use Rattle.nf_work.specs.declared.Halt.{Halt}
-use Rattle.nf_work.specs.declared.Part.TheVariants as Part
-use Rattle.nf_work.specs.Checked.{Checked, Stops, at_part, fold_checked, ◌>>=◌}
+use Rattle.nf_frac_def.specs.Passing.{Passing}
+use Rattle.nf_frac_def.specs.declared.Halt.{Halt}
+use Rattle.nf_frac_def.specs.declared.Part.TheVariants as Part
+use Rattle.nf_frac_def.specs.Checked.{Checked, Stops, at_part, fold_checked, ◌>>=◌}
 use Rattle.nf_model.specs.Network.{Network}
-use Rattle.nf_quick_lists.specs.Order.{Reach}
-use Rattle.nf_quick_lists.specs.Rounds.{Known, known_at, first_known, along, round_list, rounds_list, reaches_list}
+use Rattle.nf_quick_def.specs.Order.{Reach}
+use Rattle.nf_quick_def.specs.Rounds.{Known, known_at, first_known, along, round_list, rounds_list, reaches_list}
 use Rattle.nf_residual.specs.declared.ways.Twig.{Twig}
 use Rattle.nf_residual.specs.declared.legs.Leg.{Leg}
 use Rattle.nf_residual.specs.Ways.{first_twig, way_at, IsTree, Places, place_at, first_places, AreWithin, known_by, Grows}

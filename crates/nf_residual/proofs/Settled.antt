@@ -6,14 +6,14 @@ use Rattle.nf_rational.specs.Rational.{ℚ}
 use Rattle.nf_rational.specs.Order.{◌<ℚ◌}
 use Rattle.nf_rational_laws.proofs.Polynomial.{reading_of}
 use Rattle.nf_rational_laws.proofs.Linear.{lt, eq, linear_false}
-use Rattle.nf_work.specs.Passing.{Passing}
-use Rattle.nf_work.specs.Checked.{Checked, checked, ◌>>=◌}
-use Rattle.nf_work.proofs.Binding.{bind_ok}
-use Rattle.nf_plain_laws.proofs.Results.{same_Ok}
-use Rattle.nf_quick_lists.specs.Steps.{Step, place}
-use Rattle.nf_quick_lists.specs.Order.{Reach, AreFirst, AreFewerOrFirst, IsAtMost, is_better}
-use Rattle.nf_quick_lists.specs.Rounds.{Known, op_of, known_at, better_of, offered, along}
-use Rattle.nf_residual_laws.proofs.Orders.{IsAtMost-refl, IsAtMost-trans, is_better-true, is_better-false}
+use Rattle.nf_frac_def.specs.Passing.{Passing}
+use Rattle.nf_frac_def.specs.Checked.{Checked, checked, ◌>>=◌}
+use Rattle.nf_frac_def.proofs.Binding.{bind_ok}
+use Rattle.nf_rational_laws.proofs.Results.{same_Ok}
+use Rattle.nf_quick_def.specs.Steps.{Step, place}
+use Rattle.nf_quick_def.specs.Order.{Reach, AreFirst, AreFewerOrFirst, IsAtMost, is_better}
+use Rattle.nf_quick_def.specs.Rounds.{Known, op_of, known_at, better_of, offered, along}
+use Rattle.nf_quick_laws.proofs.Orders.{IsAtMost-refl, IsAtMost-trans, is_better-true, is_better-false}
 use Rattle.nf_residual.specs.declared.legs.Leg.{Leg}
 use Rattle.nf_residual.specs.Legs.{along_leg}
 use Rattle.nf_residual.specs.Ways.{longer}

@@ -3,15 +3,15 @@ use Rattle.std.proofs.Common.{◌≡◌, List, Option, Some, None, sym, ap, subs
 use Rattle.std.specs.Prelude.{Result, Ok, Err, unwrap_or}
 use Rattle.nf_rational.specs.Rational.{ℚ}
 use Rattle.nf_rational.specs.Operations.{0ℚ}
-use Rattle.nf_work.specs.Passing.{Passing}
-use Rattle.nf_work.specs.declared.Halt.{Halt}
-use Rattle.nf_work.specs.declared.Part.TheVariants as Part
-use Rattle.nf_work.specs.declared.PassedAt.{PassedAt}
-use Rattle.nf_work.specs.Checked.{Checked, Stops, at_part, fold_checked, seen_passed_at, ◌>>=◌}
+use Rattle.nf_frac_def.specs.Passing.{Passing}
+use Rattle.nf_frac_def.specs.declared.Halt.{Halt}
+use Rattle.nf_frac_def.specs.declared.Part.TheVariants as Part
+use Rattle.nf_frac_def.specs.declared.PassedAt.{PassedAt}
+use Rattle.nf_frac_def.specs.Checked.{Checked, Stops, at_part, fold_checked, seen_passed_at, ◌>>=◌}
 use Rattle.nf_model.specs.Network.{Network}
-use Rattle.nf_quick_lists.specs.Steps.{Step}
-use Rattle.nf_quick_lists.specs.Order.{Reach}
-use Rattle.nf_quick_lists.specs.Rounds.{room_after, with_room}
+use Rattle.nf_quick_def.specs.Steps.{Step}
+use Rattle.nf_quick_def.specs.Order.{Reach}
+use Rattle.nf_quick_def.specs.Rounds.{room_after, with_room}
 
 pub ok_of_part : {A : Type 0} (r : Checked A) (x : A) → at_part Part.Quick r ≡ Ok x → r ≡ Ok x
 ok_of_part (Ok a) x e = let h = e in cc

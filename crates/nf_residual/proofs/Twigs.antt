@@ -4,9 +4,9 @@ use Rattle.std.proofs.lemmas.List.{map-set, map-append, reverse-append, length_p
 use Rattle.std.proofs.lemmas.Option.{unwrap_or-slice_get}
 use Rattle.std.specs.Prelude.{set, map, take, get_or}
 use Rattle.nf_rational.specs.Rational.{ℚ}
-use Rattle.nf_quick_lists.specs.Steps.{Step}
-use Rattle.nf_quick_lists.specs.Order.{Reach}
-use Rattle.nf_quick_lists.specs.Rounds.{Known, known_at}
+use Rattle.nf_quick_def.specs.Steps.{Step}
+use Rattle.nf_quick_def.specs.Order.{Reach}
+use Rattle.nf_quick_def.specs.Rounds.{Known, known_at}
 use Rattle.nf_residual.specs.declared.ways.Twig.{Twig}
 use Rattle.nf_residual.specs.Ways.{first_twig, twig_at, steps_back, way_at, longer, twig_after, IsTree, Places, place_at, AreWithin, known_by}
 

@@ -10,9 +10,9 @@ use Rattle.nf_rational.specs.Order.{cmp_ℚ}
 use Rattle.nf_rational.proofs.Lowest.{num-ratio, den-ratio}
 use Rattle.nf_rational_laws.proofs.Field.{whole-plus, whole-times}
 use Rattle.nf_rational_laws.proofs.Quotient.{/ℚ-unique}
-use Rattle.nf_work.specs.Passing.{passes_Q, bound_of}
-use Rattle.nf_work.specs.Checked.{checked}
-use Rattle.nf_quick_lists.specs.Rounds.{op_of}
+use Rattle.nf_frac_def.specs.Passing.{passes_Q, bound_of}
+use Rattle.nf_frac_def.specs.Checked.{checked}
+use Rattle.nf_quick_def.specs.Rounds.{op_of}
 use Rattle.nf_frac.specs.Parts.{IsWithin, IsMade}
 use Rattle.nf_frac.specs.Short.{short}
 use Rattle.nf_frac.proofs.SmallSums.{sum_fits}

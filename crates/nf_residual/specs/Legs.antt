@@ -1,12 +1,12 @@
 -- Residual arcs of a flow with their end nodes, and the paths they offer.
 use Rattle.std.specs.Prelude.{◌≡◌, ℕ, suc, ◌<◌, Bool, true, false, if◌then◌else◌, List, [], ◌∷◌, ◌++◌, Some, slice_get, Ok}
 use Rattle.nf_rational.specs.Rational.{ℚ}
-use Rattle.nf_work.specs.Passing.{Passing}
-use Rattle.nf_work.specs.Checked.{Checked}
+use Rattle.nf_frac_def.specs.Passing.{Passing}
+use Rattle.nf_frac_def.specs.Checked.{Checked}
 use Rattle.nf_model.specs.Entries.{number_at}
 use Rattle.nf_model.specs.Network.{Link}
-use Rattle.nf_quick_lists.specs.Steps.{begin_of, end_of, can_go}
-use Rattle.nf_quick_lists.specs.Rounds.{Known, known_at, along}
+use Rattle.nf_quick_def.specs.Steps.{begin_of, end_of, can_go}
+use Rattle.nf_quick_def.specs.Rounds.{Known, known_at, along}
 use Rattle.nf_residual.specs.declared.ways.Twig.{Twig}
 use Rattle.nf_residual.specs.declared.legs.Leg.{Leg}
 use Rattle.nf_residual.specs.Ways.{Places, place_at, known_by}

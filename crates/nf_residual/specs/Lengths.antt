@@ -2,9 +2,9 @@
 use Rattle.std.specs.Prelude.{◌≡◌, ℕ, ◌-◌, ◌^◌, ◌≤◌, Bool, true, false, ℤ, ◌+ℤ◌, ◌-ℤ◌, nat_abs, Ok}
 use Rattle.nf_rational.specs.Rational.{ℚ}
 use Rattle.nf_rational.specs.Operations.{whole}
-use Rattle.nf_work.specs.Passing.{passes_Q}
-use Rattle.nf_work.specs.Checked.{checked}
-use Rattle.nf_quick_lists.specs.Rounds.{op_of}
+use Rattle.nf_frac_def.specs.Passing.{passes_Q}
+use Rattle.nf_frac_def.specs.Checked.{checked}
+use Rattle.nf_quick_def.specs.Rounds.{op_of}
 use Rattle.nf_residual.specs.declared.length.Form.{Form}
 use Rattle.nf_residual.specs.declared.length.Form.TheVariants.{Whole, Other}
 

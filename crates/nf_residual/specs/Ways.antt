@@ -2,9 +2,9 @@
 use Rattle.std.specs.Prelude.{◌≡◌, ◌⊎◌, ℕ, zero, suc, ◌<◌, ◌≤◌, ◌==◌, nat_lt, Bool, true, if◌then◌else◌, List, [], ◌∷◌, ◌++◌, length, set, replicate, map, Option, Some, None, slice_get, unwrap_or, option_map}
 use Rattle.nf_rational.specs.Rational.{ℚ}
 use Rattle.nf_rational.specs.Operations.{0ℚ}
-use Rattle.nf_quick_lists.specs.Steps.{Step, place}
-use Rattle.nf_quick_lists.specs.Order.{Reach, is_better}
-use Rattle.nf_quick_lists.specs.Rounds.{Known}
+use Rattle.nf_quick_def.specs.Steps.{Step, place}
+use Rattle.nf_quick_def.specs.Order.{Reach, is_better}
+use Rattle.nf_quick_def.specs.Rounds.{Known}
 use Rattle.nf_residual.specs.declared.ways.Twig.{Twig}
 
 -- The path of no step.

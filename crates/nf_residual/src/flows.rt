@@ -1,7 +1,7 @@
 // Static flows: one rate for each link, indexed by link number.
 ghost use Rattle.std.specs.Prelude.{◌≡◌, ◌<◌, length, set};
 ghost use Rattle.nf_model.specs.Entries.{number_at};
-ghost use Rattle.nf_quick_lists.specs.Rounds.{lesser as lesser_by};
+ghost use Rattle.nf_quick_def.specs.Rounds.{lesser as lesser_by};
 
 use nf_frac::Q;
 use nf_graph::LinkId;

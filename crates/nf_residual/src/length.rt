@@ -2,10 +2,10 @@
 ghost use Rattle.std.specs.Prelude.{◌≡◌, ◌≤◌, nat_abs, ◌+ℤ◌, ◌-ℤ◌, SomeIff, IfSome};
 ghost use Rattle.nf_rational.specs.Operations.{whole};
 ghost use Rattle.nf_rational.specs.Order.{cmp_ℚ};
-ghost use Rattle.nf_work.specs.declared.Part.TheVariants.{Quick};
-ghost use Rattle.nf_work.specs.Passing.{passes_Q};
-ghost use Rattle.nf_work.specs.Checked.{checked_at};
-ghost use Rattle.nf_quick_lists.specs.Rounds.{op_of};
+ghost use Rattle.nf_frac_def.specs.declared.Part.TheVariants.{Quick};
+ghost use Rattle.nf_frac_def.specs.Passing.{passes_Q};
+ghost use Rattle.nf_frac_def.specs.Checked.{checked_at};
+ghost use Rattle.nf_quick_def.specs.Rounds.{op_of};
 ghost use Rattle.nf_residual.specs.Lengths.{most, along_by, measured, IsCounted, IsExact};
 
 use crate::step::changed;

@@ -1,6 +1,6 @@
 // The result of the Bellman-Ford rounds: for each node the best path to it, if there is one.
 ghost use Rattle.std.specs.Prelude.{◌≡◌, ◌<◌, length, map, option_map, IfOk};
-ghost use Rattle.nf_quick_lists.specs.Rounds.{known_at};
+ghost use Rattle.nf_quick_def.specs.Rounds.{known_at};
 ghost use Rattle.nf_residual.specs.Ways.{place_at, known_by, AreWithin};
 
 use crate::step::Step;
@@ -18,8 +18,8 @@ pub(crate) struct Reach {
 }
 
 impl Model for Reach {
-    ghost use Rattle.nf_quick_lists.specs.Order.{Reach as SeenReach};
-    ghost use Rattle.nf_quick_lists.specs.Codes.{coded_reach};
+    ghost use Rattle.nf_quick_def.specs.Order.{Reach as SeenReach};
+    ghost use Rattle.nf_quick_def.specs.Codes.{coded_reach};
 
     ghost Value = { SeenReach };
 
@@ -37,7 +37,7 @@ pub(crate) struct Reaches {
 
 impl Model for Reaches {
     ghost use Rattle.std.specs.Prelude.{length};
-    ghost use Rattle.nf_quick_lists.specs.Rounds.{Known};
+    ghost use Rattle.nf_quick_def.specs.Rounds.{Known};
     ghost use Rattle.nf_residual.specs.Ways.{known_by, AreWithin};
 
     ghost Value = { Known };

@@ -3,16 +3,16 @@ ghost use Rattle.std.specs.Prelude.{◌≡◌, ◌<◌, length, replicate, Some,
 ghost use Rattle.std.specs.List.{AllByRecursion};
 ghost use Rattle.nf_rational.specs.Operations.{0ℚ};
 ghost use Rattle.nf_rational.specs.Order.{◌≤ℚ◌, ◌<ℚ◌};
-ghost use Rattle.nf_work.specs.declared.Part.TheVariants.{Quick};
-ghost use Rattle.nf_work.specs.Passing.{passes_Q};
-ghost use Rattle.nf_work.specs.Checked.{at_part, fold_checked, seen_at, Gives};
+ghost use Rattle.nf_frac_def.specs.declared.Part.TheVariants.{Quick};
+ghost use Rattle.nf_frac_def.specs.Passing.{passes_Q};
+ghost use Rattle.nf_frac_def.specs.Checked.{at_part, fold_checked, seen_at, Gives};
 ghost use Rattle.nf_model.specs.Entries.{number_at};
-ghost use Rattle.nf_quick_lists.specs.Order.{Reach as SeenReach};
-ghost use Rattle.nf_quick_lists.specs.Rounds.{with_room as with_room_by, shortest_list, distances_list};
-ghost use Rattle.nf_quick_lists.specs.Pushes.{push_step, push_list};
-ghost use Rattle.nf_quick_lists.specs.Flows.{IsSound};
-ghost use Rattle.nf_quick_lists.specs.Steps.{IsLimited};
-ghost use Rattle.nf_quick_lists.specs.Answers.{IsShortestWalk, IsShortest, AreLeastLengths};
+ghost use Rattle.nf_quick_def.specs.Order.{Reach as SeenReach};
+ghost use Rattle.nf_quick_def.specs.Rounds.{with_room as with_room_by, shortest_list, distances_list};
+ghost use Rattle.nf_quick_def.specs.Pushes.{push_step, push_list};
+ghost use Rattle.nf_quick_def.specs.Flows.{IsSound};
+ghost use Rattle.nf_quick_def.specs.Steps.{IsLimited};
+ghost use Rattle.nf_quick_def.specs.Answers.{IsShortestWalk, IsShortest, AreLeastLengths};
 
 use crate::flows::put_flow;
 use crate::reaches::Reach;
@@ -149,7 +149,7 @@ impl Residual {
 
     /// Pushes `amount`, a rate, along a shortest residual walk. The amount is above 0 and at most the room of the walk. The flow stays
     /// sound. Refuses with Passed, of the part Quick, if an operation exceeds its bound; the flow is then unchanged. Allocates nothing.
-    #[tactic(auto, unfolding(nf_quick_lists::specs::Pushes::push_list))]
+    #[tactic(auto, unfolding(nf_quick_def::specs::Pushes::push_list))]
     pub fn push(&mut self, net: &Network, walk: &Walk, amount: Q) -> Result<(), PassedAt<Q>>
         requires sound { IsSound net.now.net self.old }
         requires walk { IsShortestWalk net.now.net self.old walk.now }

@@ -1,10 +1,10 @@
 // The room along a walk.
 ghost use Rattle.std.specs.Prelude.{◌≡◌, ◌<◌, length, None};
 ghost use Rattle.std.specs.List.{AllByRecursion};
-ghost use Rattle.nf_work.specs.declared.Part.TheVariants.{Quick};
-ghost use Rattle.nf_work.specs.Passing.{passes_Q};
-ghost use Rattle.nf_work.specs.Checked.{at_part, fold_checked};
-ghost use Rattle.nf_quick_lists.specs.Rounds.{room_along as room_along_by, room_after as room_after_by};
+ghost use Rattle.nf_frac_def.specs.declared.Part.TheVariants.{Quick};
+ghost use Rattle.nf_frac_def.specs.Passing.{passes_Q};
+ghost use Rattle.nf_frac_def.specs.Checked.{at_part, fold_checked};
+ghost use Rattle.nf_quick_def.specs.Rounds.{room_along as room_along_by, room_after as room_after_by};
 
 use crate::flows::{flow_at, lesser};
 use crate::step::Step;

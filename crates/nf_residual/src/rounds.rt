@@ -1,10 +1,10 @@
 // Bellman-Ford rounds. In each round every residual arc whose begin has a known path offers an extended path to its end. Offering a path
 // again changes nothing, so a round uses only the paths found in the round before.
 ghost use Rattle.std.specs.Prelude.{◌≡◌, ℕ, ◌<◌, ◌≤◌, length, set, true, Some, None, IfOk, IfSome, OnOk};
-ghost use Rattle.nf_work.specs.declared.Part.TheVariants.{Quick};
-ghost use Rattle.nf_work.specs.Passing.{passes_Q};
-ghost use Rattle.nf_work.specs.Checked.{at_part, fold_checked, Gives};
-ghost use Rattle.nf_quick_lists.specs.Rounds.{along as along_by, reaches_list};
+ghost use Rattle.nf_frac_def.specs.declared.Part.TheVariants.{Quick};
+ghost use Rattle.nf_frac_def.specs.Passing.{passes_Q};
+ghost use Rattle.nf_frac_def.specs.Checked.{at_part, fold_checked, Gives};
+ghost use Rattle.nf_quick_def.specs.Rounds.{along as along_by, reaches_list};
 ghost use Rattle.nf_residual.specs.Legs.{AreLegs, along_leg, AreSettled};
 ghost use Rattle.nf_residual.specs.Ways.{place_at, way_at, known_by, first_places as first_places_by, AreWithin, IsTree, Grows};
 

@@ -2,11 +2,11 @@
 ghost use Rattle.std.specs.Prelude.{◌≡◌};
 ghost use Rattle.nf_rational.specs.Operations.{0ℚ};
 ghost use Rattle.nf_rational.specs.Order.{lt_ℚ};
-ghost use Rattle.nf_work.specs.declared.Part.TheVariants.{Quick};
-ghost use Rattle.nf_work.specs.Passing.{passes_Q};
-ghost use Rattle.nf_work.specs.Checked.{checked_at};
-ghost use Rattle.nf_quick_lists.specs.Steps.{begin_of as begin_by, end_of as end_by, can_go as can_go_by};
-ghost use Rattle.nf_quick_lists.specs.Rounds.{op_of};
+ghost use Rattle.nf_frac_def.specs.declared.Part.TheVariants.{Quick};
+ghost use Rattle.nf_frac_def.specs.Passing.{passes_Q};
+ghost use Rattle.nf_frac_def.specs.Checked.{checked_at};
+ghost use Rattle.nf_quick_def.specs.Steps.{begin_of as begin_by, end_of as end_by, can_go as can_go_by};
+ghost use Rattle.nf_quick_def.specs.Rounds.{op_of};
 
 use nf_frac::{Part, PassedAt, Q};
 use nf_graph::{LinkId, NodeId};
@@ -21,8 +21,8 @@ pub struct Step {
 }
 
 impl Model for Step {
-    ghost use Rattle.nf_quick_lists.specs.Steps.{Step as SeenStep};
-    ghost use Rattle.nf_quick_lists.specs.Codes.{coded_step};
+    ghost use Rattle.nf_quick_def.specs.Steps.{Step as SeenStep};
+    ghost use Rattle.nf_quick_def.specs.Codes.{coded_step};
 
     ghost Value = { SeenStep };
 
@@ -43,8 +43,8 @@ pub struct Walk {
 }
 
 impl Model for Walk {
-    ghost use Rattle.nf_quick_lists.specs.Rounds.{Walk as SeenWalk};
-    ghost use Rattle.nf_quick_lists.specs.Codes.{coded_walk};
+    ghost use Rattle.nf_quick_def.specs.Rounds.{Walk as SeenWalk};
+    ghost use Rattle.nf_quick_def.specs.Codes.{coded_walk};
 
     ghost Value = { SeenWalk };
 

@@ -1,12 +1,12 @@
 // Paths from one node, each with an index, and their order: by length, then by number of steps, then lexicographically by their steps.
 ghost use Rattle.std.specs.Prelude.{◌≡◌, ◌+◌, ◌^◌, ◌<◌, ◌++◌, [], ◌∷◌, suc, length, option_map, IfOk, IfSome, OnOk};
 ghost use Rattle.nf_rational.specs.Order.{cmp_ℚ};
-ghost use Rattle.nf_work.specs.declared.Part.TheVariants.{Quick};
-ghost use Rattle.nf_work.specs.Passing.{passes_Q};
-ghost use Rattle.nf_work.specs.Checked.{checked_at};
-ghost use Rattle.nf_quick_lists.specs.Steps.{place as place_of};
-ghost use Rattle.nf_quick_lists.specs.Rounds.{op_of};
-ghost use Rattle.nf_quick_lists.specs.Order.{are_before as are_before_by, are_fewer_or_before as are_fewer_or_before_by, is_better as is_better_by};
+ghost use Rattle.nf_frac_def.specs.declared.Part.TheVariants.{Quick};
+ghost use Rattle.nf_frac_def.specs.Passing.{passes_Q};
+ghost use Rattle.nf_frac_def.specs.Checked.{checked_at};
+ghost use Rattle.nf_quick_def.specs.Steps.{place as place_of};
+ghost use Rattle.nf_quick_def.specs.Rounds.{op_of};
+ghost use Rattle.nf_quick_def.specs.Order.{are_before as are_before_by, are_fewer_or_before as are_fewer_or_before_by, is_better as is_better_by};
 ghost use Rattle.nf_residual.specs.Ways.{first_twig, twig_at, way_at, longer, one_before, gains, twig_after, IsTree};
 
 use crate::legs::Leg;

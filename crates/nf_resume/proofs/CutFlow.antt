@@ -4,17 +4,17 @@ use Rattle.std.specs.Prelude.{Ok, Err}
 use Rattle.nf_rational.specs.Rational.{ℚ}
 use Rattle.nf_rational.specs.Operations.{0ℚ}
 use Rattle.nf_rational.specs.Order.{◌≤ℚ◌}
-use Rattle.nf_work.specs.Passing.{Passing}
-use Rattle.nf_work.specs.declared.Part.{Part}
-use Rattle.nf_work.specs.declared.PassedAt.{PassedAt}
-use Rattle.nf_work.specs.declared.Halt.{Halt}
-use Rattle.nf_work.specs.Checked.{Stops, at_part, each}
+use Rattle.nf_frac_def.specs.Passing.{Passing}
+use Rattle.nf_frac_def.specs.declared.Part.{Part}
+use Rattle.nf_frac_def.specs.declared.PassedAt.{PassedAt}
+use Rattle.nf_frac_def.specs.declared.Halt.{Halt}
+use Rattle.nf_frac_def.specs.Checked.{Stops, at_part, each}
 use Rattle.nf_model.specs.Curve.{Point}
 use Rattle.nf_model.specs.Network.{Network, IsNetwork}
 use Rattle.nf_model.specs.Equilibrium.{Trace, Flow, points_at, Equilibrium}
 use Rattle.nf_curve.proofs.Exits.{was_ok, after_ok, after_err, stops_on}
-use Rattle.nf_resume_lists.specs.Restoring.{value_at_end}
-use Rattle.nf_resume_lists.specs.Resuming.{OfLink, CutLink, links_with, cut_short, cut_link, cut_flow_of, cut_flow}
+use Rattle.nf_resume_def.specs.Restoring.{value_at_end}
+use Rattle.nf_resume_def.specs.Resuming.{OfLink, CutLink, links_with, cut_short, cut_link, cut_flow_of, cut_flow}
 use Rattle.nf_resume_laws.proofs.CutFlow.{each_length, end-nn}
 use Rattle.nf_resume.specs.Cuts.{AreLists}
 

@@ -6,15 +6,15 @@ use Rattle.std.specs.Option.{option_map_or}
 use Rattle.std.proofs.lemmas.Option.{slice_get_read}
 use Rattle.nf_rational.specs.Rational.{ℚ}
 use Rattle.nf_rational.specs.Operations.{0ℚ}
-use Rattle.nf_work.specs.Passing.{Passing}
+use Rattle.nf_frac_def.specs.Passing.{Passing}
 use Rattle.nf_model.specs.Curve.{Point}
 use Rattle.nf_model.specs.Network.{Link}
 use Rattle.nf_model.specs.Equilibrium.{points_at}
 use Rattle.nf_curve.specs.Points.{Grown}
 use Rattle.nf_curve.specs.Flows.{trace_of}
 use Rattle.nf_curve.specs.declared.flow.Trace.{Trace}
-use Rattle.nf_resume_lists.specs.Restoring.{value_at_end}
-use Rattle.nf_resume_lists.specs.Resuming.{OfLink, links_with, cut_link}
+use Rattle.nf_resume_def.specs.Restoring.{value_at_end}
+use Rattle.nf_resume_def.specs.Resuming.{OfLink, links_with, cut_link}
 use Rattle.nf_resume_laws.proofs.CutFlow.{entry_of, points_at-is, of_link, links_with-at}
 use Rattle.nf_resume.specs.Cuts.{curves_of, cut_ends}
 

@@ -3,10 +3,10 @@ use Rattle.std.proofs.Common.{◌≡◌, ℕ, ◌+◌, ◌≤◌, suc, List, [],
 use Rattle.std.specs.Prelude.{Result, Ok, Err, Some, slice_get}
 use Rattle.std.proofs.lemmas.List.{drop_all}
 use Rattle.nf_rational.specs.Rational.{ℚ}
-use Rattle.nf_work.specs.declared.Part.{Part}
-use Rattle.nf_work.specs.declared.Halt.{Halt}
-use Rattle.nf_work.specs.Checked.{Checked, Stops, at_part, each}
-use Rattle.nf_work.proofs.Each.{with_front}
+use Rattle.nf_frac_def.specs.declared.Part.{Part}
+use Rattle.nf_frac_def.specs.declared.Halt.{Halt}
+use Rattle.nf_frac_def.specs.Checked.{Checked, Stops, at_part, each}
+use Rattle.nf_frac_def.proofs.Each.{with_front}
 use Rattle.nf_curve.proofs.Exits.{each_goes, each_stops, each_ends, stops_on}
 use Rattle.nf_curve.proofs.Shortening.{drop-at}
 

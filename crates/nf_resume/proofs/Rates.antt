@@ -4,14 +4,14 @@ use Rattle.std.specs.Prelude.{Ok, Err, Some, slice_get}
 use Rattle.std.proofs.lemmas.List.{drop_all}
 use Rattle.nf_rational.specs.Rational.{ℚ}
 use Rattle.nf_rational.specs.Order.{◌<ℚ◌}
-use Rattle.nf_work.specs.Passing.{Passing}
-use Rattle.nf_work.specs.declared.Part.{Part}
-use Rattle.nf_work.specs.declared.PassedAt.{PassedAt}
-use Rattle.nf_work.specs.Checked.{Checked, at_part, ◌>>=◌}
-use Rattle.nf_work.proofs.Each.{with_front}
+use Rattle.nf_frac_def.specs.Passing.{Passing}
+use Rattle.nf_frac_def.specs.declared.Part.{Part}
+use Rattle.nf_frac_def.specs.declared.PassedAt.{PassedAt}
+use Rattle.nf_frac_def.specs.Checked.{Checked, at_part, ◌>>=◌}
+use Rattle.nf_frac_def.proofs.Each.{with_front}
 use Rattle.nf_model.specs.Curve.{Point, IsCurve}
-use Rattle.nf_curve_lists.specs.Lines.{checked_slope}
-use Rattle.nf_curve_lists.specs.Short.{checked_slopes}
+use Rattle.nf_curve_def.specs.Lines.{checked_slope}
+use Rattle.nf_curve_def.specs.Short.{checked_slopes}
 use Rattle.nf_curve.proofs.Exits.{after_err, was_ok, front_err, front_more, front_ends}
 use Rattle.nf_curve.proofs.Placing.{rise-pairs, curve-rises}
 use Rattle.nf_resume.proofs.Looping.{drop_next}

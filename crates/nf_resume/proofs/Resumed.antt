@@ -4,25 +4,25 @@ use Rattle.std.specs.Prelude.{Result, Ok, Err, IfErr, OnOk, MatchBool, MatchResu
 use Rattle.nf_rational.specs.Rational.{ℚ}
 use Rattle.nf_rational.specs.Order.{◌≤ℚ◌, ◌<ℚ◌, lt_ℚ}
 use Rattle.nf_rational_laws.proofs.Tests.{less_of_test, lt_ℚ_cases}
-use Rattle.nf_work.specs.Passing.{Passing, passes_Q}
-use Rattle.nf_work.specs.declared.Part.TheVariants.{Curve}
-use Rattle.nf_work.specs.declared.PassedAt.{PassedAt}
-use Rattle.nf_work.specs.declared.Halt.{Halt}
-use Rattle.nf_work.specs.Checked.{Stops, at_part, ◌>>=◌}
+use Rattle.nf_frac_def.specs.Passing.{Passing, passes_Q}
+use Rattle.nf_frac_def.specs.declared.Part.TheVariants.{Curve}
+use Rattle.nf_frac_def.specs.declared.PassedAt.{PassedAt}
+use Rattle.nf_frac_def.specs.declared.Halt.{Halt}
+use Rattle.nf_frac_def.specs.Checked.{Stops, at_part, ◌>>=◌}
 use Rattle.nf_model.specs.Network.{Network, IsNetwork}
 use Rattle.nf_model.specs.Pattern.{Pattern}
 use Rattle.nf_model.specs.Equilibrium.{Flow, Equilibrium}
-use Rattle.nf_formats.specs.Report.{Report}
-use Rattle.nf_lists.specs.PhaseRun.{Standing, Bounds}
-use Rattle.nf_check_lists.specs.declared.Answer.{Answer}
-use Rattle.nf_check_lists.specs.declared.Answer.TheVariants.{Yes, No}
-use Rattle.nf_check_lists.specs.Rules.{Checks}
-use Rattle.nf_check_lists.specs.CheckList.{check_list}
+use Rattle.nf_net_def.specs.Report.{Report}
+use Rattle.nf_thin_def.specs.PhaseRun.{Standing, Bounds}
+use Rattle.nf_check_def.specs.declared.Answer.{Answer}
+use Rattle.nf_check_def.specs.declared.Answer.TheVariants.{Yes, No}
+use Rattle.nf_check_def.specs.Rules.{Checks}
+use Rattle.nf_check_def.specs.CheckList.{check_list}
 use Rattle.nf_check.specs.Answers.{IsExact}
 use Rattle.nf_curve.proofs.Exits.{after_ok, after_err, stops_on}
-use Rattle.nf_resume_lists.specs.Restoring.{restore_list}
-use Rattle.nf_resume_lists.specs.Resuming.{Stands, cut_flow, restart_list, after_check, resume_list}
-use Rattle.nf_resume_lists.specs.Meanings.{GoesOnFrom, IsResumedReport}
+use Rattle.nf_resume_def.specs.Restoring.{restore_list}
+use Rattle.nf_resume_def.specs.Resuming.{Stands, cut_flow, restart_list, after_check, resume_list}
+use Rattle.nf_resume_def.specs.Meanings.{GoesOnFrom, IsResumedReport}
 use Rattle.nf_resume_laws.proofs.Stepping.{resumed-goes_on}
 use Rattle.nf_phase.specs.Solution.{IsFinished}
 use Rattle.nf_resume.specs.declared.fault.ResumeFault.{ResumeFault}

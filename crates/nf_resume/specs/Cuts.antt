@@ -1,11 +1,11 @@
 -- Cut curves, as the operation sequences give them.
 use Rattle.std.specs.Prelude.{◌≡◌, List, map, Ok}
 use Rattle.nf_rational.specs.Rational.{ℚ}
-use Rattle.nf_work.specs.Passing.{Passing}
-use Rattle.nf_work.specs.Checked.{Checked, ◌>>=◌}
+use Rattle.nf_frac_def.specs.Passing.{Passing}
+use Rattle.nf_frac_def.specs.Checked.{Checked, ◌>>=◌}
 use Rattle.nf_model.specs.Curve.{Point}
 use Rattle.nf_model.specs.Equilibrium.{Trace}
-use Rattle.nf_resume_lists.specs.Resuming as lists
+use Rattle.nf_resume_def.specs.Resuming as lists
 use Rattle.nf_curve.specs.Points.{Grown}
 use Rattle.nf_curve.specs.Flows.{trace_of}
 use Rattle.nf_resume.specs.declared.links.CutLink.{CutLink}

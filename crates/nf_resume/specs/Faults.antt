@@ -2,15 +2,15 @@
 use Rattle.std.specs.Prelude.{◌≡◌, ℕ, Ok, Err}
 use Rattle.nf_rational.specs.Rational.{ℚ}
 use Rattle.nf_rational.specs.Order.{◌≤ℚ◌, ◌<ℚ◌}
-use Rattle.nf_work.specs.Passing.{Passing}
-use Rattle.nf_work.specs.declared.Halt.{Halt}
+use Rattle.nf_frac_def.specs.Passing.{Passing}
+use Rattle.nf_frac_def.specs.declared.Halt.{Halt}
 use Rattle.nf_model.specs.Network.{Network}
 use Rattle.nf_model.specs.Equilibrium.{Equilibrium}
-use Rattle.nf_formats.specs.Report.{Report}
-use Rattle.nf_check_lists.specs.declared.Answer.{Answer}
-use Rattle.nf_check_lists.specs.Rules.{Checks}
-use Rattle.nf_check_lists.specs.CheckList.{check_list}
-use Rattle.nf_resume_lists.specs.Resuming.{Refused, resume_list}
+use Rattle.nf_net_def.specs.Report.{Report}
+use Rattle.nf_check_def.specs.declared.Answer.{Answer}
+use Rattle.nf_check_def.specs.Rules.{Checks}
+use Rattle.nf_check_def.specs.CheckList.{check_list}
+use Rattle.nf_resume_def.specs.Resuming.{Refused, resume_list}
 use Rattle.nf_resume.specs.declared.fault.ResumeFault.{ResumeFault}
 
 abbrev pub of_halt : Halt ℚ → ResumeFault

@@ -2,14 +2,14 @@
 ghost use Rattle.std.specs.Prelude.{◌≡◌, ◌<◌, length};
 ghost use Rattle.nf_rational.specs.Operations.{0ℚ};
 ghost use Rattle.nf_rational.specs.Order.{◌≤ℚ◌};
-ghost use Rattle.nf_work.specs.declared.Part.TheVariants.{Curve as OfCurve};
-ghost use Rattle.nf_work.specs.Passing.{passes_Q};
-ghost use Rattle.nf_work.specs.Checked.{at_part, Gives};
+ghost use Rattle.nf_frac_def.specs.declared.Part.TheVariants.{Curve as OfCurve};
+ghost use Rattle.nf_frac_def.specs.Passing.{passes_Q};
+ghost use Rattle.nf_frac_def.specs.Checked.{at_part, Gives};
 ghost use Rattle.nf_model.specs.Equilibrium.{points_at};
-ghost use Rattle.nf_curve_lists.specs.Short.{checked_slopes};
+ghost use Rattle.nf_curve_def.specs.Short.{checked_slopes};
 ghost use Rattle.nf_curve.specs.Flows.{trace_of};
-ghost use Rattle.nf_resume_lists.specs.Restoring.{value_at_end};
-ghost use Rattle.nf_resume_lists.specs.Resuming.{cut_short as cut_short_by, cut_trace as cut_trace_by};
+ghost use Rattle.nf_resume_def.specs.Restoring.{value_at_end};
+ghost use Rattle.nf_resume_def.specs.Resuming.{cut_short as cut_short_by, cut_trace as cut_trace_by};
 ghost use Rattle.nf_resume.specs.Cuts.{curves_of};
 
 use nf_curve::{Curve, Trace, slope};

@@ -2,11 +2,11 @@
 ghost use Rattle.std.specs.Prelude.{◌≡◌, ◌++◌, [], ◌∷◌, map, IfOk, OnOk};
 ghost use Rattle.nf_rational.specs.Operations.{0ℚ};
 ghost use Rattle.nf_rational.specs.Order.{◌≤ℚ◌};
-ghost use Rattle.nf_work.specs.declared.Part.TheVariants.{Curve as OfCurve};
-ghost use Rattle.nf_work.specs.Passing.{passes_Q};
-ghost use Rattle.nf_work.specs.Checked.{at_part, each, Gives};
+ghost use Rattle.nf_frac_def.specs.declared.Part.TheVariants.{Curve as OfCurve};
+ghost use Rattle.nf_frac_def.specs.Passing.{passes_Q};
+ghost use Rattle.nf_frac_def.specs.Checked.{at_part, each, Gives};
 ghost use Rattle.nf_model.specs.Equilibrium.{Equilibrium};
-ghost use Rattle.nf_resume_lists.specs.Resuming.{cut_short as cut_short_by, cut_flow as cut_flow_by};
+ghost use Rattle.nf_resume_def.specs.Resuming.{cut_short as cut_short_by, cut_flow as cut_flow_by};
 ghost use Rattle.nf_curve.specs.Flows.{trace_of, flow_of};
 ghost use Rattle.nf_resume.specs.Cuts.{curves_of, cut_in, AreLists};
 
@@ -74,7 +74,7 @@ fn in_lists(alloc: Global, cuts: Vec<CutLink>) -> Result<OfLinks, AllocError>
 /// Returns an equilibrium, cut at the departure that it reached. Its labels end there. Inflow and queue of a link end at the label of its
 /// tail there, the outflow at that of its head. All curves are in short form and have their rates. Refuses at the first operation that
 /// exceeds its bound, or if memory can't be allocated.
-#[tactic(auto, unfolding(nf_resume_lists::specs::Resuming::cut_flow))]
+#[tactic(auto, unfolding(nf_resume_def::specs::Resuming::cut_flow))]
 pub(crate) fn cut_flow(alloc: Global, net: &Network, flow: &Flow) -> Result<Flow, Halt<Q>>
     requires { Equilibrium net.now.net (flow_of flow.now) }
     ensures { Gives flow_of (λ q. q) result (at_part OfCurve (cut_flow_by passes_Q net.now.net (flow_of flow.now))) }

@@ -1,19 +1,19 @@
 // Resumption of a report: it is checked, and a run from the end of its flow continues to a later horizon.
 ghost use Rattle.std.specs.Prelude.{◌≡◌, ◌≢◌, Ok, IfOk, OnOk, IfErr, MatchBool, MatchResult};
 ghost use Rattle.nf_rational.specs.Order.{◌≤ℚ◌, ◌<ℚ◌};
-ghost use Rattle.nf_work.specs.declared.Part.TheVariants.{Curve as OfCurve};
-ghost use Rattle.nf_work.specs.Passing.{passes_Q};
-ghost use Rattle.nf_work.specs.Checked.{at_part, Gives};
+ghost use Rattle.nf_frac_def.specs.declared.Part.TheVariants.{Curve as OfCurve};
+ghost use Rattle.nf_frac_def.specs.Passing.{passes_Q};
+ghost use Rattle.nf_frac_def.specs.Checked.{at_part, Gives};
 ghost use Rattle.nf_model.specs.Equilibrium.{Equilibrium};
-ghost use Rattle.nf_formats.specs.Report.{IsWellFormed};
-ghost use Rattle.nf_check_lists.specs.declared.Answer.TheVariants.{Yes};
-ghost use Rattle.nf_check_lists.specs.CheckList.{check_list};
-ghost use Rattle.nf_lists.specs.PhaseRun.{IsShortFlow};
-ghost use Rattle.nf_resume_lists.specs.Resuming.{restart_list};
-ghost use Rattle.nf_resume_lists.specs.Meanings.{GoesOnFrom, IsResumedReport};
+ghost use Rattle.nf_net_def.specs.Report.{IsWellFormed};
+ghost use Rattle.nf_check_def.specs.declared.Answer.TheVariants.{Yes};
+ghost use Rattle.nf_check_def.specs.CheckList.{check_list};
+ghost use Rattle.nf_thin_def.specs.PhaseRun.{IsShortFlow};
+ghost use Rattle.nf_resume_def.specs.Resuming.{restart_list};
+ghost use Rattle.nf_resume_def.specs.Meanings.{GoesOnFrom, IsResumedReport};
 ghost use Rattle.nf_unstopped_laws.specs.Stops.{NeverNoPattern};
 ghost use Rattle.nf_curve.specs.Flows.{flow_of};
-ghost use Rattle.nf_report_file.specs.Files.{report_of};
+ghost use Rattle.nf_report_read.specs.Files.{report_of};
 ghost use Rattle.nf_phase.specs.Restarting.{EndsAtItsLabels};
 ghost use Rattle.nf_phase.specs.Stepping.{Reaches};
 ghost use Rattle.nf_phase.specs.Solution.{bounds_of, report_in};
@@ -26,7 +26,7 @@ use nf_check::{Answer, check};
 use nf_frac::{Halt, Q};
 use nf_net::Network;
 use nf_phase::{Budgets, Run, Solution};
-use nf_report_file::Report;
+use nf_report_read::Report;
 use std::alloc::Global;
 
 // Returns whether the horizon is before the departure reached.

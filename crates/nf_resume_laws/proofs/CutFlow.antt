@@ -8,21 +8,21 @@ use Rattle.std.proofs.lemmas.List.{length-map}
 use Rattle.nf_rational.specs.Rational.{ℚ}
 use Rattle.nf_rational.specs.Operations.{0ℚ}
 use Rattle.nf_rational.specs.Order.{◌≤ℚ◌}
-use Rattle.nf_work.specs.Passing.{Passing}
-use Rattle.nf_work.specs.Checked.{each}
+use Rattle.nf_frac_def.specs.Passing.{Passing}
+use Rattle.nf_frac_def.specs.Checked.{each}
 use Rattle.nf_model.specs.Curve.{Point, value, IsCurve, AreSlopes}
 use Rattle.nf_model.specs.Network.{Link, Network, IsNetwork, IsLink}
 use Rattle.nf_model.specs.Equilibrium.{Trace, Flow, points_at, points_of, label, HasSlopes, Equilibrium}
-use Rattle.nf_curve_lists.specs.Short.{checked_slopes}
+use Rattle.nf_curve_def.specs.Short.{checked_slopes}
 use Rattle.nf_curve_laws.proofs.Operations.{then_ok}
 use Rattle.nf_curve_laws.proofs.Short.{SlopesFrom, slopes-are}
 use Rattle.nf_phase_laws.specs.CurveSteps.{LastPoint}
-use Rattle.nf_resume_lists.specs.Restoring.{value_at_end}
-use Rattle.nf_resume_lists.specs.Resuming.{OfLink, CutLink, links_with, cut_short, cut_trace, cut_link, cut_flow_of, cut_flow}
+use Rattle.nf_resume_def.specs.Restoring.{value_at_end}
+use Rattle.nf_resume_def.specs.Resuming.{OfLink, CutLink, links_with, cut_short, cut_trace, cut_link, cut_flow_of, cut_flow}
 use Rattle.nf_resume_laws.proofs.Printed.{label-nn}
 use Rattle.nf_resume_laws.proofs.CutShort.{IsShortCut, cut_short-is}
 use Rattle.nf_rational_laws.proofs.Chains.{≤ℚ_refl}
-use Rattle.nf_plain_laws.proofs.Results.{same_Ok}
+use Rattle.nf_rational_laws.proofs.Results.{same_Ok}
 
 -- ---- lists, entry by entry
 same_some : {A : Type 0} (x y : A) → ◌≡◌ {A = Option A} (Some x) (Some y) → x ≡ y

@@ -17,9 +17,9 @@ use Rattle.nf_model.specs.ThinFlow.{slack, slacks_of, sets_at}
 use Rattle.nf_model.specs.Pattern.{Pattern, HasState, NeedsState, IsPattern}
 use Rattle.nf_model.specs.Phases.{Lasts, IsExtension, moved, slack_after}
 use Rattle.nf_model_laws.proofs.Slacks.{slack_at, slack_after-moved, active_of_slack, slack_of_resetting}
-use Rattle.nf_lists.specs.PhaseRun.{Standing}
+use Rattle.nf_thin_def.specs.PhaseRun.{Standing}
 use Rattle.nf_phase_laws.proofs.Length.{Lasts-some}
-use Rattle.nf_resume_lists.specs.Open.{IsOpen}
+use Rattle.nf_resume_def.specs.Open.{IsOpen}
 use Rattle.nf_rational_laws.proofs.Chains.{≤ℚ_refl, ≤ℚ_trans}
 
 -- ---- over plain numbers: a slack s that changes at c, d and w lengths

@@ -5,7 +5,7 @@ use Rattle.nf_rational.specs.Rational.{ℚ}
 use Rattle.nf_rational.specs.Operations.{0ℚ}
 use Rattle.nf_rational.specs.Order.{◌≤ℚ◌, ◌<ℚ◌}
 use Rattle.nf_rational_laws.proofs.Order.{≤ℚ_of_lt, ≤ℚ_of_same, lt_or_le_ℚ}
-use Rattle.nf_work.specs.Passing.{Passing}
+use Rattle.nf_frac_def.specs.Passing.{Passing}
 use Rattle.std.specs.Prelude.{Ok}
 use Rattle.nf_model.specs.Curve.{Point, Within, value, NeverFalls}
 use Rattle.nf_model.specs.Network.{Link, Network, IsNetwork, IsLink}
@@ -18,10 +18,10 @@ use Rattle.nf_phase_laws.specs.CurveRun.{curves_of}
 use Rattle.nf_phase_laws.proofs.Holds.{link_within, IsNashFlow-from_HoldsUpTo}
 use Rattle.nf_phase_laws.proofs.Description.{IsOutflow-described, IsQueue-described}
 use Rattle.nf_phase_laws.proofs.CurveRun.{Grown}
-use Rattle.nf_lists.specs.PhaseRun.{IsShortFlow}
-use Rattle.nf_resume_lists.specs.Restoring.{value_at_end}
-use Rattle.nf_resume_lists.specs.Resuming.{cut_flow}
-use Rattle.nf_resume_lists.specs.Meanings.{GoesOnFrom}
+use Rattle.nf_thin_def.specs.PhaseRun.{IsShortFlow}
+use Rattle.nf_resume_def.specs.Restoring.{value_at_end}
+use Rattle.nf_resume_def.specs.Resuming.{cut_flow}
+use Rattle.nf_resume_def.specs.Meanings.{GoesOnFrom}
 use Rattle.nf_resume_laws.proofs.Printed.{label-nn, rises-link}
 use Rattle.nf_resume_laws.proofs.Invariant.{HoldsUpTo-equilibrium, DescribesLinks-equilibrium}
 use Rattle.nf_resume_laws.proofs.Same.{AgreeUpTo, HoldsUpTo-same, DescribesLinks-same}

@@ -2,24 +2,24 @@
 use Rattle.std.proofs.Common.{◌≡◌, ℕ, zero, suc, List, [], ◌∷◌, length, Option, Some, None, slice_get, map, sym, ap, subst, refl, ◌∙◌, arith}
 use Rattle.std.specs.Prelude.{Result, Ok}
 use Rattle.nf_rational.specs.Rational.{ℚ}
-use Rattle.nf_work.specs.Passing.{Passing}
-use Rattle.nf_work.specs.Checked.{each}
+use Rattle.nf_frac_def.specs.Passing.{Passing}
+use Rattle.nf_frac_def.specs.Checked.{each}
 use Rattle.nf_model.specs.Curve.{Point}
 use Rattle.nf_model.specs.Network.{Network, IsNetwork}
 use Rattle.nf_model.specs.Pattern.{Pattern}
 use Rattle.nf_model.specs.Equilibrium.{Trace, Flow, Equilibrium}
-use Rattle.nf_lists.specs.ReportCurves.{GrowingCurve, LinkCurves}
-use Rattle.nf_lists.specs.PhaseRun.{Standing, flow_of}
-use Rattle.nf_curve_lists.specs.Lines.{checked_slope}
+use Rattle.nf_thin_def.specs.ReportCurves.{GrowingCurve, LinkCurves}
+use Rattle.nf_thin_def.specs.PhaseRun.{Standing, flow_of}
+use Rattle.nf_curve_def.specs.Lines.{checked_slope}
 use Rattle.nf_curve_laws.proofs.Operations.{then_ok, checked_slope-is}
 use Rattle.nf_phase_laws.specs.CurveRun.{curves_of}
 use Rattle.nf_phase_laws.proofs.CurveRun.{Grown}
-use Rattle.nf_run_laws.proofs.Points.{EndsWithSlope, LastSlope}
-use Rattle.nf_run_laws.proofs.WellRun.{WellRun}
-use Rattle.nf_resume_lists.specs.Restoring.{value_at_end, link_curves_of, standing_of, last_slope, growing}
+use Rattle.nf_phase_laws.proofs.Points.{EndsWithSlope, LastSlope}
+use Rattle.nf_phase_laws.proofs.WellRun.{WellRun}
+use Rattle.nf_resume_def.specs.Restoring.{value_at_end, link_curves_of, standing_of, last_slope, growing}
 use Rattle.nf_resume_laws.proofs.CutFlow.{each_length, IsCutFlow}
 use Rattle.nf_resume_laws.proofs.Restarted.{Grown-cut}
-use Rattle.nf_plain_laws.proofs.Results.{same_Ok}
+use Rattle.nf_rational_laws.proofs.Results.{same_Ok}
 
 -- ---- lists
 same_some : {A : Type 0} (x y : A) → ◌≡◌ {A = Option A} (Some x) (Some y) → x ≡ y

@@ -16,7 +16,7 @@ use Rattle.nf_model.specs.ThinFlow.{Sets, slack, sets_at}
 use Rattle.nf_model.specs.Pattern.{Pattern, HasState, NeedsState, IsTrail, IsListedIn, IsBase, Equation, Inequality, Solves, IsSolution}
 use Rattle.nf_model_laws.proofs.Networks.{by_link, hop_at}
 use Rattle.nf_model_laws.proofs.Slacks.{active_of_slack, slack_of_active, resetting_of_slack, slack_of_resetting}
-use Rattle.nf_lists.specs.CurveList.{is_filled}
+use Rattle.nf_thin_def.specs.CurveList.{is_filled}
 use Rattle.nf_resume_laws.proofs.CutFlow.{entry_within}
 
 -- ---- the state of a link in the remainder: o before and b after; r and t say whether it is resetting before and after

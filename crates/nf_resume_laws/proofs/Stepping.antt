@@ -5,38 +5,38 @@ use Rattle.nf_rational.specs.Rational.{ℚ}
 use Rattle.nf_rational.specs.Operations.{0ℚ}
 use Rattle.nf_rational.specs.Order.{◌≤ℚ◌, ◌<ℚ◌}
 use Rattle.nf_rational_laws.proofs.Order.{≤ℚ_of_lt, ≤ℚ_antisymm, lt_or_le_ℚ}
-use Rattle.nf_work.specs.Passing.{Passing}
-use Rattle.nf_work.specs.Checked.{Checked, at_part, each, ◌>>=◌}
-use Rattle.nf_work.specs.declared.Part.TheVariants.{Curve}
-use Rattle.nf_work.specs.declared.PassedAt.{PassedAt}
+use Rattle.nf_frac_def.specs.Passing.{Passing}
+use Rattle.nf_frac_def.specs.Checked.{Checked, at_part, each, ◌>>=◌}
+use Rattle.nf_frac_def.specs.declared.Part.TheVariants.{Curve}
+use Rattle.nf_frac_def.specs.declared.PassedAt.{PassedAt}
 use Rattle.nf_model.specs.Entries.{number_at}
 use Rattle.nf_model.specs.Curve.{Point, Within, value}
 use Rattle.nf_model.specs.Network.{Network, IsNetwork}
 use Rattle.nf_model.specs.Pattern.{Pattern}
 use Rattle.nf_model.specs.Equilibrium.{Flow, label, Equilibrium}
-use Rattle.nf_formats.specs.declared.Cause.{Cause}
-use Rattle.nf_formats.specs.Report.{Report}
-use Rattle.nf_lists.specs.PhaseRun.{Standing, Bounds, Goes, flow_of, standing_after}
-use Rattle.nf_check_lists.specs.declared.Answer.{Answer}
-use Rattle.nf_check_lists.specs.declared.Answer.TheVariants.{Yes, No}
-use Rattle.nf_check_lists.specs.CheckList.{check_list}
+use Rattle.nf_net_def.specs.declared.Cause.{Cause}
+use Rattle.nf_net_def.specs.Report.{Report}
+use Rattle.nf_thin_def.specs.PhaseRun.{Standing, Bounds, Goes, flow_of, standing_after}
+use Rattle.nf_check_def.specs.declared.Answer.{Answer}
+use Rattle.nf_check_def.specs.declared.Answer.TheVariants.{Yes, No}
+use Rattle.nf_check_def.specs.CheckList.{check_list}
 use Rattle.nf_curve_laws.proofs.Operations.{then_ok}
 use Rattle.nf_phase_laws.specs.CurveSteps.{at, CurvesGoOn}
 use Rattle.nf_phase_laws.specs.DescriptionCurves.{DescriptionCurvesGoOn}
 use Rattle.nf_phase_laws.specs.CurveRun.{curves_of}
 use Rattle.nf_phase_laws.proofs.Length.{IsPhase-some}
-use Rattle.nf_run_laws.proofs.WellRun.{WellRun}
-use Rattle.nf_run_laws.proofs.Goes.{curves_go, description_goes}
-use Rattle.nf_run_laws.proofs.Run.{parts_of, WellRun-goes, IsPhase-goes, Equilibrium-well}
-use Rattle.nf_resume_lists.specs.Restoring.{growing, restore_list}
-use Rattle.nf_resume_lists.specs.Open.{with_last, Steps, continues, begins, RunsOn, at_horizon, at_phases, fails, steps}
-use Rattle.nf_resume_lists.specs.Resuming.{Outcome, Stands, cut_flow, restart_list, after_check, resume_list}
-use Rattle.nf_resume_lists.specs.Meanings.{GoesOnFrom, IsResumedReport}
+use Rattle.nf_phase_laws.proofs.WellRun.{WellRun}
+use Rattle.nf_phase_laws.proofs.Goes.{curves_go, description_goes}
+use Rattle.nf_phase_laws.proofs.Run.{parts_of, WellRun-goes, IsPhase-goes, Equilibrium-well}
+use Rattle.nf_resume_def.specs.Restoring.{growing, restore_list}
+use Rattle.nf_resume_def.specs.Open.{with_last, Steps, continues, begins, RunsOn, at_horizon, at_phases, fails, steps}
+use Rattle.nf_resume_def.specs.Resuming.{Outcome, Stands, cut_flow, restart_list, after_check, resume_list}
+use Rattle.nf_resume_def.specs.Meanings.{GoesOnFrom, IsResumedReport}
 use Rattle.nf_resume_laws.proofs.CutFlow.{IsCutFlow, cut_flow-is}
 use Rattle.nf_resume_laws.proofs.Restarted.{GoesOnFrom-cut}
 use Rattle.nf_resume_laws.proofs.Restored.{flow-same, WellRun-restored}
 use Rattle.nf_rational_laws.proofs.Chains.{≤ℚ_refl, ≤ℚ_trans}
-use Rattle.nf_plain_laws.proofs.Results.{same_Ok}
+use Rattle.nf_rational_laws.proofs.Results.{same_Ok}
 
 -- ---- one phase
 module _ (passes : Passing) (net : Network) (good : IsNetwork net) (bounds : Bounds) where

@@ -3,7 +3,7 @@ use Rattle.std.specs.Prelude.{◌≡◌, ℕ, List, length, Ok}
 use Rattle.nf_rational.specs.Rational.{ℚ}
 use Rattle.nf_rational.specs.Operations.{0ℚ, ◌+ℚ◌, ◌-ℚ◌}
 use Rattle.nf_rational.specs.Order.{◌≤ℚ◌, ◌<ℚ◌}
-use Rattle.nf_work.specs.Passing.{Passing}
+use Rattle.nf_frac_def.specs.Passing.{Passing}
 use Rattle.nf_model.specs.Network.{Network, IsNetwork, hops, unbounded}
 use Rattle.nf_model.specs.ThinFlow.{slacks_of, sets_at}
 use Rattle.nf_model.specs.Pattern.{Pattern, IsPattern, IsListedIn, IsBase, IsSolution}
@@ -11,11 +11,11 @@ use Rattle.nf_model.specs.Phases.{Lasts, IsExtension, moved}
 use Rattle.nf_model.specs.Equilibrium.{Flow, label, inflow, outflow, queue, Equilibrium}
 use Rattle.nf_phase_laws.specs.Invariant.{HoldsUpTo}
 use Rattle.nf_phase_laws.specs.Description.{DescribesLinks}
-use Rattle.nf_resume_lists.specs.Resuming.{cut_flow}
-use Rattle.nf_formats.specs.Report.{Report}
-use Rattle.nf_lists.specs.PhaseRun.{Standing, Bounds, IsStart, IsShortFlow}
-use Rattle.nf_resume_lists.specs.Open.{IsOpen, Continues}
-use Rattle.nf_resume_lists.specs.Meanings.{GoesOnFrom, IsResumedReport}
+use Rattle.nf_resume_def.specs.Resuming.{cut_flow}
+use Rattle.nf_net_def.specs.Report.{Report}
+use Rattle.nf_thin_def.specs.PhaseRun.{Standing, Bounds, IsStart, IsShortFlow}
+use Rattle.nf_resume_def.specs.Open.{IsOpen, Continues}
+use Rattle.nf_resume_def.specs.Meanings.{GoesOnFrom, IsResumedReport}
 
 -- Any equilibrium satisfies the invariant of phases up to the departure that it reached, and describes its links.
 pub record EquilibriumHasInvariant : Type 0 where

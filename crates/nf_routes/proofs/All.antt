@@ -5,16 +5,16 @@ use Rattle.std.proofs.lemmas.List.{drop_all, take_all, take-append-drop}
 use Rattle.nf_rational.specs.Rational.{ℚ}
 use Rattle.nf_rational.specs.Operations.{0ℚ}
 use Rattle.nf_rational.specs.Order.{◌≤ℚ◌}
-use Rattle.nf_work.specs.declared.Halt.{Halt}
-use Rattle.nf_work.specs.declared.Part.TheVariants.{Load}
-use Rattle.nf_work.specs.Passing.{Passing}
-use Rattle.nf_work.specs.Checked.{Checked, Stops, at_part, ◌>>=◌}
+use Rattle.nf_frac_def.specs.declared.Halt.{Halt}
+use Rattle.nf_frac_def.specs.declared.Part.TheVariants.{Load}
+use Rattle.nf_frac_def.specs.Passing.{Passing}
+use Rattle.nf_frac_def.specs.Checked.{Checked, Stops, at_part, ◌>>=◌}
 use Rattle.nf_model.specs.Network.{Link, Network, IsLink, IsNetwork}
 use Rattle.nf_curve.proofs.Exits.{after_err, was_ok, stops_on}
-use Rattle.nf_routes_lists.specs.Routes.{Route, AreRoutes, HoldCircle, all_pairs, loading_order}
-use Rattle.nf_routes_lists.specs.RoutesList.{SoFar, load_here, load_all}
+use Rattle.nf_routes_def.specs.Routes.{Route, AreRoutes, HoldCircle, all_pairs, loading_order}
+use Rattle.nf_routes_def.specs.RoutesList.{SoFar, load_here, load_all}
 use Rattle.nf_routes_laws.proofs.Ordering.{takes_all-straight}
-use Rattle.nf_routes_file.proofs.Taking.{IsPlaced, order_placed}
+use Rattle.nf_routes_read.proofs.Taking.{IsPlaced, order_placed}
 use Rattle.nf_routes.specs.Beginning.{nothing_loaded, nothing_sent, all_loaded}
 use Rattle.nf_routes.specs.Standing.{MayLoad, IsComplete}
 use Rattle.nf_routes.proofs.Folds.{drop_at}

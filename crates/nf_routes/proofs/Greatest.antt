@@ -8,11 +8,11 @@ use Rattle.nf_rational_laws.proofs.Order.{≤ℚ_antisymm}
 use Rattle.nf_rational_laws.proofs.Chains.{≤ℚ_refl, ≤ℚ_trans}
 use Rattle.nf_rational_laws.proofs.Extremes.{max_left, max_right, max_keeps}
 use Rattle.nf_model.specs.Curve.{Point}
-use Rattle.nf_check_lists.specs.Curves.{last_value}
-use Rattle.nf_routes_lists.specs.Routes.{pairs_of, all_pairs}
-use Rattle.nf_routes_lists.specs.RoutesFile.{NamedRoute, routes_of}
-use Rattle.nf_routes_lists.specs.RoutesList.{LoadedLink, exit_end, end_by}
-use Rattle.nf_routes_file.proofs.Pairs.{pairs_at, pairs_none, all_pairs_at}
+use Rattle.nf_check_def.specs.Curves.{last_value}
+use Rattle.nf_routes_def.specs.Routes.{pairs_of, all_pairs}
+use Rattle.nf_routes_def.specs.RoutesFile.{NamedRoute, routes_of}
+use Rattle.nf_routes_def.specs.RoutesList.{LoadedLink, exit_end, end_by}
+use Rattle.nf_routes_read.proofs.Pairs.{pairs_at, pairs_none, all_pairs_at}
 
 max_least : (x y z : ℚ) → x ≤ℚ z → y ≤ℚ z → max_ℚ x y ≤ℚ z
 max_least x y z h k = max_keeps (λ (a : ℚ). a ≤ℚ z) x y h k

@@ -5,17 +5,17 @@ use Rattle.nf_rational.specs.Rational.{ℚ}
 use Rattle.nf_rational.specs.Operations.{0ℚ}
 use Rattle.nf_rational.specs.Order.{◌≤ℚ◌}
 use Rattle.nf_rational_laws.proofs.Chains.{≤ℚ_trans}
-use Rattle.nf_work.specs.declared.PassedAt.{PassedAt}
-use Rattle.nf_work.specs.declared.Part.TheVariants.{Load}
-use Rattle.nf_work.specs.Passing.{Passing}
-use Rattle.nf_work.specs.Checked.{Checked, at_part, ◌>>=◌}
+use Rattle.nf_frac_def.specs.declared.PassedAt.{PassedAt}
+use Rattle.nf_frac_def.specs.declared.Part.TheVariants.{Load}
+use Rattle.nf_frac_def.specs.Passing.{Passing}
+use Rattle.nf_frac_def.specs.Checked.{Checked, at_part, ◌>>=◌}
 use Rattle.nf_model.specs.Curve.{Point}
 use Rattle.nf_model.specs.Network.{Link, Network, IsLink, IsNetwork}
 use Rattle.nf_model_laws.proofs.Earliest.{IsPositive-link}
-use Rattle.nf_load_lists.specs.Loading.{Loaded, checked_loading}
+use Rattle.nf_load_def.specs.Loading.{Loaded, checked_loading}
 use Rattle.nf_curve.proofs.Exits.{after_err, after_ok, was_ok}
-use Rattle.nf_routes_lists.specs.Routes.{Route, all_pairs}
-use Rattle.nf_routes_lists.specs.RoutesList.{SoFar, begins_with, begin_if, end_by, begin_all, sum_from, next_all, load_here}
+use Rattle.nf_routes_def.specs.Routes.{Route, all_pairs}
+use Rattle.nf_routes_def.specs.RoutesList.{SoFar, begins_with, begin_if, end_by, begin_all, sum_from, next_all, load_here}
 use Rattle.nf_routes.specs.Amounts.{IsAmount, AreExits}
 use Rattle.nf_routes.proofs.Amounts.{no_amount, loaded_exits}
 use Rattle.nf_routes.specs.Standing.{Along, MayBegin, Sends, MayLoad}

@@ -2,9 +2,9 @@
 use Rattle.std.proofs.Common.{◌≡◌, ℕ, zero, suc, ◌+◌, ◌<◌, ◌≤◌, List, [], ◌∷◌, ◌++◌, length, take, map, refl, sym, ap, ◌∙◌, arith}
 use Rattle.std.proofs.lemmas.List.{map-append}
 use Rattle.std.specs.Prelude.{Some, slice_get}
-use Rattle.nf_work.specs.Passing.{Passing}
+use Rattle.nf_frac_def.specs.Passing.{Passing}
 use Rattle.nf_model.specs.Curve.{Point}
-use Rattle.nf_routes_lists.specs.RoutesList.{last_entry, but_last}
+use Rattle.nf_routes_def.specs.RoutesList.{last_entry, but_last}
 
 pub last_push : (sent : List (List Point)) (x : List Point) → last_entry (sent ++ x ∷ []) ≡ x
 last_push [] x = refl

@@ -6,19 +6,19 @@ use Rattle.std.proofs.lemmas.Bool.Decides.{eqb_tells}
 use Rattle.nf_rational.specs.Rational.{ℚ}
 use Rattle.nf_rational.specs.Operations.{0ℚ}
 use Rattle.nf_rational.specs.Order.{◌≤ℚ◌}
-use Rattle.nf_work.specs.Passing.{Passing}
+use Rattle.nf_frac_def.specs.Passing.{Passing}
 use Rattle.nf_model.specs.Curve.{Point}
 use Rattle.nf_model.specs.Network.{ArePieces}
-use Rattle.nf_curve_lists.specs.Short.{checked_short}
+use Rattle.nf_curve_def.specs.Short.{checked_short}
 use Rattle.nf_curve_laws.proofs.Operations.{then_ok}
 use Rattle.nf_curve_laws.proofs.Short.{checked_short-is}
-use Rattle.nf_load_lists.specs.Cumulative.{checked_cumulative}
+use Rattle.nf_load_def.specs.Cumulative.{checked_cumulative}
 use Rattle.nf_load_laws.proofs.Cumulative.{checked_cumulative-is}
-use Rattle.nf_plain_laws.proofs.Results.{same_Ok}
-use Rattle.nf_routes_lists.specs.Routes.{Route, pairs_of, all_pairs, is_taken}
-use Rattle.nf_routes_lists.specs.RoutesList.{begins_with, goes_over, last_entry, next_entry, begin_if, add_if, sum_from, next_if}
-use Rattle.nf_routes_file.proofs.Pairs.{all-append, test}
-use Rattle.nf_routes_file.proofs.Taking.{taken-push}
+use Rattle.nf_rational_laws.proofs.Results.{same_Ok}
+use Rattle.nf_routes_def.specs.Routes.{Route, pairs_of, all_pairs, is_taken}
+use Rattle.nf_routes_def.specs.RoutesList.{begins_with, goes_over, last_entry, next_entry, begin_if, add_if, sum_from, next_if}
+use Rattle.nf_routes_read.proofs.Pairs.{all-append, test}
+use Rattle.nf_routes_read.proofs.Taking.{taken-push}
 use Rattle.nf_routes.specs.Amounts.{IsAmount, AreExits}
 use Rattle.nf_routes.proofs.Amounts.{short_amount, summed_amount, supplied_amount}
 use Rattle.nf_routes.proofs.Sharing.{next_amount}

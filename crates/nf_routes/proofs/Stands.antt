@@ -9,17 +9,17 @@ use Rattle.nf_rational.specs.Rational.{ℚ}
 use Rattle.nf_rational.specs.Operations.{0ℚ}
 use Rattle.nf_rational.specs.Order.{◌≤ℚ◌}
 use Rattle.nf_rational_laws.proofs.Chains.{≤ℚ_trans}
-use Rattle.nf_work.specs.Passing.{Passing}
+use Rattle.nf_frac_def.specs.Passing.{Passing}
 use Rattle.nf_model.specs.Curve.{Point}
 use Rattle.nf_model.specs.Network.{Link, Network, IsLink, IsNetwork, hops}
 use Rattle.nf_model.specs.Walk.{IsWalk}
 use Rattle.nf_model_laws.proofs.Earliest.{IsPositive-link}
 use Rattle.nf_curve_laws.proofs.Operations.{then_ok}
-use Rattle.nf_load_lists.specs.Loading.{Loaded, checked_loading}
-use Rattle.nf_plain_laws.proofs.Results.{same_Ok}
-use Rattle.nf_routes_lists.specs.Routes.{Route, AreRoutes, all_pairs, is_taken, loading_order, takes_all}
-use Rattle.nf_routes_lists.specs.RoutesList.{LoadedLink, SoFar, begins_with, goes_over, end_by, begin_if, begin_all, sum_from, next_if, next_all, load_here}
-use Rattle.nf_routes_file.proofs.Taking.{taken-push, IsPlaced}
+use Rattle.nf_load_def.specs.Loading.{Loaded, checked_loading}
+use Rattle.nf_rational_laws.proofs.Results.{same_Ok}
+use Rattle.nf_routes_def.specs.Routes.{Route, AreRoutes, all_pairs, is_taken, loading_order, takes_all}
+use Rattle.nf_routes_def.specs.RoutesList.{LoadedLink, SoFar, begins_with, goes_over, end_by, begin_if, begin_all, sum_from, next_if, next_all, load_here}
+use Rattle.nf_routes_read.proofs.Taking.{taken-push, IsPlaced}
 use Rattle.nf_routes.specs.Amounts.{IsAmount, AreExits}
 use Rattle.nf_routes.proofs.Amounts.{no_amount, loaded_exits}
 use Rattle.nf_routes.specs.Beginning.{nothing_loaded, nothing_sent}

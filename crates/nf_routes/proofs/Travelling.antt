@@ -8,23 +8,23 @@ use Rattle.nf_rational.specs.Operations.{0ℚ}
 use Rattle.nf_rational.specs.Order.{◌≤ℚ◌, ◌<ℚ◌}
 use Rattle.nf_rational_laws.proofs.Order.{≤ℚ_antisymm, lt_or_le_ℚ}
 use Rattle.nf_rational_laws.proofs.Chains.{≤ℚ_refl, ≤ℚ_trans}
-use Rattle.nf_work.specs.declared.Halt.{Halt}
-use Rattle.nf_work.specs.declared.Part.TheVariants.{Load}
-use Rattle.nf_work.specs.Passing.{Passing}
-use Rattle.nf_work.specs.Checked.{Checked, Stops, at_part, each, ◌>>=◌}
+use Rattle.nf_frac_def.specs.declared.Halt.{Halt}
+use Rattle.nf_frac_def.specs.declared.Part.TheVariants.{Load}
+use Rattle.nf_frac_def.specs.Passing.{Passing}
+use Rattle.nf_frac_def.specs.Checked.{Checked, Stops, at_part, each, ◌>>=◌}
 use Rattle.nf_model.specs.Curve.{Point, Within, value, IsCurve}
 use Rattle.nf_model.specs.Network.{Network}
 use Rattle.nf_model_laws.specs.CurveLaws.{ValuesRise}
 use Rattle.nf_model_laws.proofs.Curves.{NeverFalls-value, value-first}
-use Rattle.nf_lists.specs.Signs.{is_zero}
+use Rattle.nf_rational.specs.Signs.{is_zero}
 use Rattle.nf_curve_laws.proofs.Operations.{is_same_cases}
-use Rattle.nf_curve_lists.specs.Composed.{checked_composed}
-use Rattle.nf_curve_lists.specs.Meanings.{IsComposedOf}
-use Rattle.nf_load_lists.specs.Loading.{Loaded}
-use Rattle.nf_check_lists.specs.Curves.{loaded_at, departures}
+use Rattle.nf_curve_def.specs.Composed.{checked_composed}
+use Rattle.nf_curve_def.specs.Meanings.{IsComposedOf}
+use Rattle.nf_load_def.specs.Loading.{Loaded}
+use Rattle.nf_check_def.specs.Curves.{loaded_at, departures}
 use Rattle.nf_curve.proofs.Exits.{after_err, was_ok, stops_on}
-use Rattle.nf_routes_lists.specs.Routes.{Route, AreRoutes}
-use Rattle.nf_routes_lists.specs.RoutesList.{LoadedLink, SoFar, exit_of, loaded_or, travel_on}
+use Rattle.nf_routes_def.specs.Routes.{Route, AreRoutes}
+use Rattle.nf_routes_def.specs.RoutesList.{LoadedLink, SoFar, exit_of, loaded_or, travel_on}
 use Rattle.nf_routes_laws.proofs.Arriving.{walk-links}
 use Rattle.nf_routes.specs.Amounts.{AreExits}
 use Rattle.nf_routes.specs.Standing.{IsComplete}

@@ -2,17 +2,17 @@
 use Rattle.std.proofs.Common.{◌≡◌, List, sym, ap, ◌∙◌}
 use Rattle.std.specs.Prelude.{Ok, Err, map}
 use Rattle.nf_rational.specs.Rational.{ℚ}
-use Rattle.nf_work.specs.declared.PassedAt.{PassedAt}
-use Rattle.nf_work.specs.declared.Part.TheVariants.{Load}
-use Rattle.nf_work.specs.Passing.{Passing}
-use Rattle.nf_work.specs.Checked.{Checked, at_part, each, ◌>>=◌}
+use Rattle.nf_frac_def.specs.declared.PassedAt.{PassedAt}
+use Rattle.nf_frac_def.specs.declared.Part.TheVariants.{Load}
+use Rattle.nf_frac_def.specs.Passing.{Passing}
+use Rattle.nf_frac_def.specs.Checked.{Checked, at_part, each, ◌>>=◌}
 use Rattle.nf_model.specs.Curve.{Point}
 use Rattle.nf_model.specs.Network.{Network}
-use Rattle.nf_load_lists.specs.Loading.{Loaded}
-use Rattle.nf_check_lists.specs.Curves.{departures}
+use Rattle.nf_load_def.specs.Loading.{Loaded}
+use Rattle.nf_check_def.specs.Curves.{departures}
 use Rattle.nf_curve.proofs.Exits.{after_err, after_ok}
-use Rattle.nf_routes_lists.specs.Routes.{Route}
-use Rattle.nf_routes_lists.specs.RoutesList.{SoFar, Routed, end_or, loaded_or, but_last, last_entry, travel_on, routes_list}
+use Rattle.nf_routes_def.specs.Routes.{Route}
+use Rattle.nf_routes_def.specs.RoutesList.{SoFar, Routed, end_or, loaded_or, but_last, last_entry, travel_on, routes_list}
 use Rattle.nf_routes.specs.Beginning.{all_loaded}
 use Rattle.nf_routes.specs.Travels.{travel_along}
 use Rattle.nf_routes.proofs.Travelling.{travel_on-is, each_same}

@@ -1,14 +1,14 @@
 -- Start and result of the whole loading.
 use Rattle.std.specs.Prelude.{◌≡◌, ℕ, List, [], length, map, Option, Some, None, slice_get}
 use Rattle.nf_rational.specs.Rational.{ℚ}
-use Rattle.nf_work.specs.Passing.{Passing}
-use Rattle.nf_work.specs.Checked.{Checked, ◌>>=◌}
+use Rattle.nf_frac_def.specs.Passing.{Passing}
+use Rattle.nf_frac_def.specs.Checked.{Checked, ◌>>=◌}
 use Rattle.nf_model.specs.Curve.{Point}
 use Rattle.nf_model.specs.Network.{Piece, Link, Network, ArePieces}
-use Rattle.nf_curve_lists.specs.Short.{checked_short}
-use Rattle.nf_load_lists.specs.Cumulative.{checked_cumulative}
-use Rattle.nf_routes_lists.specs.Routes.{Route, loading_order}
-use Rattle.nf_routes_lists.specs.RoutesList.{LoadedLink, SoFar, load_all}
+use Rattle.nf_curve_def.specs.Short.{checked_short}
+use Rattle.nf_load_def.specs.Cumulative.{checked_cumulative}
+use Rattle.nf_routes_def.specs.Routes.{Route, loading_order}
+use Rattle.nf_routes_def.specs.RoutesList.{LoadedLink, SoFar, load_all}
 
 -- the progress at the start: no link is loaded, and no route has sent anything
 abbrev pub nothing_loaded : List Link → List (Option LoadedLink)

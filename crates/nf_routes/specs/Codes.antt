@@ -3,8 +3,8 @@ use Rattle.std.specs.Prelude.{List, refl}
 use Rattle.std.specs.Coded.{Coded, code_by, coded×}
 use Rattle.nf_rational.specs.Rational.{ℚ, coded_ℚ}
 use Rattle.nf_model.specs.Codes.{coded_points}
-use Rattle.nf_load_lists.specs.Loading.{Loaded}
-use Rattle.nf_routes_lists.specs.RoutesList.{LoadedLink}
+use Rattle.nf_load_def.specs.Loading.{Loaded}
+use Rattle.nf_routes_def.specs.RoutesList.{LoadedLink}
 
 abbrev pub coded_loaded : Coded Loaded
 coded_loaded = code_by (List (ℚ × ℚ) × (List (ℚ × ℚ) × List (ℚ × ℚ))) (coded× coded_points (coded× coded_points coded_points))

@@ -1,6 +1,6 @@
 -- The result of the code, as a value of the definitions.
 use Rattle.std.specs.Prelude.{map}
-use Rattle.nf_routes_lists.specs.RoutesList as lists
+use Rattle.nf_routes_def.specs.RoutesList as lists
 use Rattle.nf_load.specs.Loadings.{loaded_of}
 use Rattle.nf_routes.specs.declared.routed.Routed.{Routed}
 

@@ -3,9 +3,9 @@ use Rattle.std.specs.Prelude.{◌≡◌, ℕ, ◌<◌, true, false, List, [], �
 use Rattle.std.specs.List.{AllByRecursion}
 use Rattle.nf_model.specs.Curve.{Point}
 use Rattle.nf_model.specs.Network.{Network, ArePieces}
-use Rattle.nf_routes_lists.specs.Routes.{Route}
-use Rattle.nf_routes_lists.specs.RoutesList as lists
-use Rattle.nf_routes_lists.specs.RoutesList.{LoadedLink, begins_with, goes_over}
+use Rattle.nf_routes_def.specs.Routes.{Route}
+use Rattle.nf_routes_def.specs.RoutesList as lists
+use Rattle.nf_routes_def.specs.RoutesList.{LoadedLink, begins_with, goes_over}
 use Rattle.nf_routes.specs.Amounts.{IsAmount, AreExits}
 use Rattle.nf_routes.specs.declared.so_far.SoFar.{SoFar}
 

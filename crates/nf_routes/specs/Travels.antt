@@ -1,14 +1,14 @@
 -- Arrival times along routes.
 use Rattle.std.specs.Prelude.{◌≡◌, ℕ, ◌<◌, List, [], ◌∷◌, length, Some, slice_get}
 use Rattle.nf_rational.specs.Rational.{ℚ}
-use Rattle.nf_work.specs.Passing.{Passing}
-use Rattle.nf_work.specs.Checked.{Checked, ◌>>=◌}
+use Rattle.nf_frac_def.specs.Passing.{Passing}
+use Rattle.nf_frac_def.specs.Checked.{Checked, ◌>>=◌}
 use Rattle.nf_model.specs.Curve.{Point}
-use Rattle.nf_curve_lists.specs.Composed.{checked_composed}
-use Rattle.nf_curve_lists.specs.Short.{checked_short}
-use Rattle.nf_load_lists.specs.Loading.{Loaded}
-use Rattle.nf_check_lists.specs.Curves.{loaded_at}
-use Rattle.nf_routes_lists.specs.Routes.{Route}
+use Rattle.nf_curve_def.specs.Composed.{checked_composed}
+use Rattle.nf_curve_def.specs.Short.{checked_short}
+use Rattle.nf_load_def.specs.Loading.{Loaded}
+use Rattle.nf_check_def.specs.Curves.{loaded_at}
+use Rattle.nf_routes_def.specs.Routes.{Route}
 use Rattle.nf_routes.specs.Amounts.{AreExits}
 
 -- the exits of each loaded link never fall and are at least 0

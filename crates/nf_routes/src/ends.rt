@@ -1,16 +1,16 @@
 // Ends of links. A link is loaded up to its end. That time is the greatest of the horizon and the end exits of the links directly before it
 // on a route. The end exit of a link is its exit at its own end.
 ghost use Rattle.std.specs.Prelude.{◌≡◌, slice_get};
-ghost use Rattle.nf_check_lists.specs.Curves.{last_value as last_by};
-ghost use Rattle.nf_routes_lists.specs.Routes.{pairs_of, all_pairs};
-ghost use Rattle.nf_routes_lists.specs.RoutesList.{exit_end as exit_end_by, end_by};
-ghost use Rattle.nf_routes_lists.specs.RoutesFile.{routes_of};
+ghost use Rattle.nf_check_def.specs.Curves.{last_value as last_by};
+ghost use Rattle.nf_routes_def.specs.Routes.{pairs_of, all_pairs};
+ghost use Rattle.nf_routes_def.specs.RoutesList.{exit_end as exit_end_by, end_by};
+ghost use Rattle.nf_routes_def.specs.RoutesFile.{routes_of};
 
 use crate::so_far::LoadedLink;
 use nf_curve::Curve;
 use nf_frac::Q;
 use nf_net::LinkId;
-use nf_routes_file::Route;
+use nf_routes_read::Route;
 
 // Returns the value of the last point.
 fn last_value(curve: &Curve) -> Q

@@ -2,12 +2,12 @@
 ghost use Rattle.std.specs.Prelude.{◌≡◌, ◌∷◌, [], length};
 ghost use Rattle.nf_rational.specs.Operations.{0ℚ};
 ghost use Rattle.nf_rational.specs.Order.{◌≤ℚ◌};
-ghost use Rattle.nf_work.specs.Passing.{passes_Q};
-ghost use Rattle.nf_work.specs.declared.Part.TheVariants.{Load};
-ghost use Rattle.nf_work.specs.Checked.{at_part, Gives};
+ghost use Rattle.nf_frac_def.specs.Passing.{passes_Q};
+ghost use Rattle.nf_frac_def.specs.declared.Part.TheVariants.{Load};
+ghost use Rattle.nf_frac_def.specs.Checked.{at_part, Gives};
 ghost use Rattle.nf_model.specs.Network.{ArePieces};
-ghost use Rattle.nf_routes_lists.specs.RoutesList as lists;
-ghost use Rattle.nf_routes_lists.specs.RoutesFile.{routes_of};
+ghost use Rattle.nf_routes_def.specs.RoutesList as lists;
+ghost use Rattle.nf_routes_def.specs.RoutesFile.{routes_of};
 ghost use Rattle.nf_routes.specs.Amounts.{AreExits};
 ghost use Rattle.nf_routes.specs.Beginning.{first_entry as first_by, HavePieces};
 ghost use Rattle.nf_routes.specs.Standing.{Along, Sends};
@@ -18,7 +18,7 @@ use nf_curve::Curve;
 use nf_frac::{Halt, Part, Q};
 use nf_load::cumulative;
 use nf_net::{LinkId, Piece};
-use nf_routes_file::Route;
+use nf_routes_read::Route;
 use std::alloc::Global;
 
 // Returns whether the first link of a route is `link`.

@@ -11,5 +11,5 @@ mod so_far;
 mod stages;
 mod travels;
 
-pub use nf_routes_file::{Routes, RoutesFault, RoutesRule, parse_routes};
+pub use nf_routes_read::{Routes, RoutesFault, RoutesRule, parse_routes};
 pub use routed::{Routed, load_routes};

@@ -2,12 +2,12 @@
 ghost use Rattle.std.specs.Prelude.{◌≡◌, ◌<◌, length, slice_get, IfOk};
 ghost use Rattle.nf_rational.specs.Operations.{0ℚ};
 ghost use Rattle.nf_rational.specs.Order.{◌≤ℚ◌};
-ghost use Rattle.nf_work.specs.Passing.{passes_Q};
-ghost use Rattle.nf_work.specs.declared.Part.TheVariants.{Load};
-ghost use Rattle.nf_work.specs.Checked.{at_part, Gives};
-ghost use Rattle.nf_routes_lists.specs.Routes.{AreRoutes, HoldCircle};
-ghost use Rattle.nf_routes_lists.specs.RoutesList as lists;
-ghost use Rattle.nf_routes_lists.specs.RoutesFile.{routes_of};
+ghost use Rattle.nf_frac_def.specs.Passing.{passes_Q};
+ghost use Rattle.nf_frac_def.specs.declared.Part.TheVariants.{Load};
+ghost use Rattle.nf_frac_def.specs.Checked.{at_part, Gives};
+ghost use Rattle.nf_routes_def.specs.Routes.{AreRoutes, HoldCircle};
+ghost use Rattle.nf_routes_def.specs.RoutesList as lists;
+ghost use Rattle.nf_routes_def.specs.RoutesFile.{routes_of};
 ghost use Rattle.nf_routes.specs.Beginning.{all_loaded};
 ghost use Rattle.nf_routes.specs.Standing.{seen_so_far, MayLoad, IsComplete};
 
@@ -17,7 +17,7 @@ use crate::so_far::{LoadedLink, SoFar};
 use nf_frac::{Halt, Q};
 use nf_load::load_link;
 use nf_net::{LinkId, Network};
-use nf_routes_file::{Route, loading_order};
+use nf_routes_read::{Route, loading_order};
 use std::alloc::Global;
 
 // Loads a link up to its end with the entries of the routes over it. Records the loading, and sends the routes' amounts on.

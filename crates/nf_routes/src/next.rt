@@ -2,14 +2,14 @@
 ghost use Rattle.std.specs.Prelude.{◌≡◌, ◌∷◌, map, IfOk};
 ghost use Rattle.nf_rational.specs.Rational.{ℚ};
 ghost use Rattle.nf_rational.specs.Operations.{0ℚ};
-ghost use Rattle.nf_work.specs.Passing.{passes_Q};
-ghost use Rattle.nf_work.specs.declared.Part.TheVariants.{Load};
-ghost use Rattle.nf_work.specs.Checked.{at_part, each, Gives};
+ghost use Rattle.nf_frac_def.specs.Passing.{passes_Q};
+ghost use Rattle.nf_frac_def.specs.declared.Part.TheVariants.{Load};
+ghost use Rattle.nf_frac_def.specs.Checked.{at_part, each, Gives};
 ghost use Rattle.nf_model.specs.Curve.{IsCurve};
-ghost use Rattle.nf_curve_lists.specs.Times.{both_times};
-ghost use Rattle.nf_curve_lists.specs.Sums.{sides_at as sides_by};
+ghost use Rattle.nf_curve_def.specs.Times.{both_times};
+ghost use Rattle.nf_curve_def.specs.Sums.{sides_at as sides_by};
 ghost use Rattle.nf_curve.specs.Sides.{sides_of};
-ghost use Rattle.nf_routes_lists.specs.RoutesList.{next_from, next_entry as next_by};
+ghost use Rattle.nf_routes_def.specs.RoutesList.{next_from, next_entry as next_by};
 ghost use Rattle.nf_routes_laws.specs.Laws.{CanShare, IsNext};
 ghost use Rattle.nf_routes.specs.Amounts.{IsAmount, AreExits};
 

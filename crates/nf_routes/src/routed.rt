@@ -2,13 +2,13 @@
 ghost use Rattle.std.specs.Prelude.{◌≡◌, map, IfOk};
 ghost use Rattle.nf_rational.specs.Operations.{0ℚ};
 ghost use Rattle.nf_rational.specs.Order.{◌≤ℚ◌};
-ghost use Rattle.nf_work.specs.Passing.{passes_Q};
-ghost use Rattle.nf_work.specs.declared.Part.TheVariants.{Load};
-ghost use Rattle.nf_work.specs.Checked.{at_part, Gives};
-ghost use Rattle.nf_routes_lists.specs.Routes.{AreWalks};
-ghost use Rattle.nf_routes_lists.specs.RoutesList.{end_or, loaded_or, but_last, last_entry, routes_list};
-ghost use Rattle.nf_routes_lists.specs.Meanings.{IsRouted, RoutesArrive};
-ghost use Rattle.nf_routes_lists.specs.RoutesFile.{routes_of};
+ghost use Rattle.nf_frac_def.specs.Passing.{passes_Q};
+ghost use Rattle.nf_frac_def.specs.declared.Part.TheVariants.{Load};
+ghost use Rattle.nf_frac_def.specs.Checked.{at_part, Gives};
+ghost use Rattle.nf_routes_def.specs.Routes.{AreWalks};
+ghost use Rattle.nf_routes_def.specs.RoutesList.{end_or, loaded_or, but_last, last_entry, routes_list};
+ghost use Rattle.nf_routes_def.specs.Meanings.{IsRouted, RoutesArrive};
+ghost use Rattle.nf_routes_def.specs.RoutesFile.{routes_of};
 ghost use Rattle.nf_load.specs.Loadings.{loaded_of};
 ghost use Rattle.nf_routes.specs.Standing.{AreLoaded, HaveSent};
 ghost use Rattle.nf_routes.specs.Routed.{routed_of};
@@ -21,7 +21,7 @@ use nf_curve::Curve;
 use nf_frac::{Halt, Q};
 use nf_load::Loaded;
 use nf_net::Network;
-use nf_routes_file::Routes;
+use nf_routes_read::Routes;
 use std::alloc::{AllocError, Global};
 
 /// The loading of a network along routes, by time. `ends` and `links` are indexed by link: each link is loaded up to its end, with queue,

@@ -1,13 +1,13 @@
 // Progress of a loading.
 ghost use Rattle.std.specs.Prelude.{◌≡◌, IfOk};
-ghost use Rattle.nf_routes_lists.specs.RoutesFile.{routes_of};
+ghost use Rattle.nf_routes_def.specs.RoutesFile.{routes_of};
 ghost use Rattle.nf_routes.specs.Beginning.{nothing_loaded, nothing_sent};
 
 use crate::stages::Stages;
 use nf_frac::Q;
 use nf_load::Loaded;
 use nf_net::Network;
-use nf_routes_file::Route;
+use nf_routes_read::Route;
 use std::alloc::{AllocError, Global};
 use std::marker::Model;
 
@@ -19,7 +19,7 @@ pub struct LoadedLink {
 }
 
 impl Model for LoadedLink {
-    ghost use Rattle.nf_routes_lists.specs.RoutesList.{LoadedLink as SeenLink};
+    ghost use Rattle.nf_routes_def.specs.RoutesList.{LoadedLink as SeenLink};
     ghost use Rattle.nf_load.specs.Loadings.{loaded_of};
     ghost use Rattle.nf_routes.specs.Codes.{coded_loaded_link};
 

@@ -1,7 +1,7 @@
 // The amounts one route has sent into its links.
 ghost use Rattle.std.specs.Prelude.{◌≡◌, ◌<◌, [], ◌∷◌, ◌++◌, length, map, OnOk, IsSome, IfSome};
-ghost use Rattle.nf_work.specs.Passing.{passes_Q};
-ghost use Rattle.nf_routes_lists.specs.RoutesList.{last_entry, but_last};
+ghost use Rattle.nf_frac_def.specs.Passing.{passes_Q};
+ghost use Rattle.nf_routes_def.specs.RoutesList.{last_entry, but_last};
 
 use nf_curve::Curve;
 use std::alloc::{AllocError, Global};

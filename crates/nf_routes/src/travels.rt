@@ -2,18 +2,18 @@
 ghost use Rattle.std.specs.Prelude.{◌≡◌, map, IfOk};
 ghost use Rattle.nf_rational.specs.Operations.{0ℚ};
 ghost use Rattle.nf_rational.specs.Order.{◌≤ℚ◌};
-ghost use Rattle.nf_work.specs.Passing.{passes_Q};
-ghost use Rattle.nf_work.specs.declared.Part.TheVariants.{Load};
-ghost use Rattle.nf_work.specs.Checked.{at_part, each, Gives};
-ghost use Rattle.nf_check_lists.specs.Curves.{departures as departures_by};
+ghost use Rattle.nf_frac_def.specs.Passing.{passes_Q};
+ghost use Rattle.nf_frac_def.specs.declared.Part.TheVariants.{Load};
+ghost use Rattle.nf_frac_def.specs.Checked.{at_part, each, Gives};
+ghost use Rattle.nf_check_def.specs.Curves.{departures as departures_by};
 ghost use Rattle.nf_load.specs.Loadings.{loaded_of};
-ghost use Rattle.nf_routes_lists.specs.RoutesFile.{routes_of};
+ghost use Rattle.nf_routes_def.specs.RoutesFile.{routes_of};
 ghost use Rattle.nf_routes.specs.Travels.{travel_along, HaveExits, GoOver, GoOverAll};
 
 use nf_curve::Curve;
 use nf_frac::{Halt, Part, Q};
 use nf_load::Loaded;
-use nf_routes_file::Route;
+use nf_routes_read::Route;
 use std::alloc::{AllocError, Global};
 
 // Returns the identity on times up to the horizon: each departure at itself.

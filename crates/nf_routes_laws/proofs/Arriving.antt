@@ -20,9 +20,9 @@ use Rattle.nf_model_laws.proofs.Earliest.{IsPositive-link}
 use Rattle.nf_model_laws.proofs.Exits.{IsOutflow-at_exit, IsExit-at_0}
 use Rattle.nf_model_laws.proofs.Networks.{link_at}
 use Rattle.nf_model_laws.proofs.Queues.{IsExit-after, IsExit-monotone, IsOutflow-early}
-use Rattle.nf_routes_lists.specs.Routes.{Route, AreRoutes}
-use Rattle.nf_routes_lists.specs.RoutesList.{Routed}
-use Rattle.nf_routes_lists.specs.Meanings.{link_loaded, exit_by, stages_at, arrival_at, travel_at, sent_by, sent_along, sent_by_routes, inflow_by, exits_along, IsRouted, RoutesArrive}
+use Rattle.nf_routes_def.specs.Routes.{Route, AreRoutes}
+use Rattle.nf_routes_def.specs.RoutesList.{Routed}
+use Rattle.nf_routes_def.specs.Meanings.{link_loaded, exit_by, stages_at, arrival_at, travel_at, sent_by, sent_along, sent_by_routes, inflow_by, exits_along, IsRouted, RoutesArrive}
 use Rattle.nf_rational_laws.proofs.Chains.{≤ℚ_refl, ≤ℚ_trans}
 
 -- ---- sums over routes and positions

@@ -6,36 +6,36 @@ use Rattle.nf_rational.specs.Operations.{0ℚ}
 use Rattle.nf_rational.specs.Order.{◌≤ℚ◌, ◌<ℚ◌, lt_ℚ}
 use Rattle.nf_rational_laws.proofs.Order.{≤ℚ_of_lt, ≤ℚ_of_same}
 use Rattle.nf_rational_laws.proofs.Tests.{lt_ℚ_cases}
-use Rattle.nf_work.specs.Passing.{Passing}
-use Rattle.nf_work.specs.Checked.{checked, each, ◌>>=◌}
-use Rattle.nf_work.specs.declared.Op.TheVariants.{Sum}
+use Rattle.nf_frac_def.specs.Passing.{Passing}
+use Rattle.nf_frac_def.specs.Checked.{checked, each, ◌>>=◌}
+use Rattle.nf_frac_def.specs.declared.Op.TheVariants.{Sum}
 use Rattle.nf_model.specs.Curve.{Point, value, TimesRise, IsCurve, NeverFalls}
 use Rattle.nf_model.specs.Network.{Piece}
 use Rattle.nf_model_laws.specs.Capacity.{IsPositive}
 use Rattle.nf_model_laws.proofs.Curves.{value-after}
-use Rattle.nf_lists.specs.Signs.{is_zero, is_same}
-use Rattle.nf_curve_lists.specs.Lines.{Sides}
-use Rattle.nf_curve_lists.specs.Times.{times_of, both_times}
-use Rattle.nf_curve_lists.specs.Values.{checked_cut}
-use Rattle.nf_curve_lists.specs.Short.{turning, short_points, checked_slopes, checked_short}
-use Rattle.nf_curve_lists.specs.Sums.{sides_at}
+use Rattle.nf_rational.specs.Signs.{is_zero, is_same}
+use Rattle.nf_curve_def.specs.Lines.{Sides}
+use Rattle.nf_curve_def.specs.Times.{times_of, both_times}
+use Rattle.nf_curve_def.specs.Values.{checked_cut}
+use Rattle.nf_curve_def.specs.Short.{turning, short_points, checked_slopes, checked_short}
+use Rattle.nf_curve_def.specs.Sums.{sides_at}
 use Rattle.nf_curve_laws.proofs.Operations.{then_ok}
 use Rattle.nf_curve_laws.proofs.Following.{end_time, EndsAtTime, follows-end}
 use Rattle.nf_curve_laws.proofs.Pieces.{AreSides, sides_at-is}
 use Rattle.nf_curve_laws.proofs.Short.{times-up_to, checked_short-end}
 use Rattle.nf_curve_laws.proofs.Times.{IsOne}
 use Rattle.nf_curve_laws.proofs.Values.{Cut, checked_cut-is}
-use Rattle.nf_load_lists.specs.Cumulative.{end_of, point_after_0, point_if_after_0, with_piece, cumulative_from, checked_cumulative}
-use Rattle.nf_load_lists.specs.Loading.{Waits, Exit, Loaded, queue_point, exit_point, outflow_points, exit_of, all_waits, checked_loading}
+use Rattle.nf_load_def.specs.Cumulative.{end_of, point_after_0, point_if_after_0, with_piece, cumulative_from, checked_cumulative}
+use Rattle.nf_load_def.specs.Loading.{Waits, Exit, Loaded, queue_point, exit_point, outflow_points, exit_of, all_waits, checked_loading}
 use Rattle.nf_load_laws.proofs.Functions.{exit_at}
 use Rattle.nf_load_laws.proofs.Waiting.{AllWaits, all_waits-chain}
 use Rattle.nf_load_laws.proofs.Exiting.{AllExits, exits-are, exit-follows}
-use Rattle.nf_check_lists.specs.Curves.{last_value}
-use Rattle.nf_routes_lists.specs.RoutesList.{next_from, next_entry}
+use Rattle.nf_check_def.specs.Curves.{last_value}
+use Rattle.nf_routes_def.specs.RoutesList.{next_from, next_entry}
 use Rattle.nf_routes_laws.specs.Laws.{NoneBeyond, CanShare}
 use Rattle.nf_routes_laws.proofs.Next.{both_times-either}
 use Rattle.nf_rational_laws.proofs.Chains.{≤ℚ_refl, ≤ℚ_trans}
-use Rattle.nf_plain_laws.proofs.Results.{same_Ok}
+use Rattle.nf_rational_laws.proofs.Results.{same_Ok}
 
 -- no point is later
 abbrev pub UpTo : List Point → ℚ → Type 0

@@ -5,16 +5,16 @@ use Rattle.nf_rational.specs.Rational.{ℚ}
 use Rattle.nf_rational.specs.Operations.{0ℚ}
 use Rattle.nf_rational.specs.Order.{◌≤ℚ◌, ◌<ℚ◌}
 use Rattle.nf_rational_laws.proofs.Order.{≤ℚ_of_lt, ≤ℚ_of_same, ≤ℚ_antisymm, lt_or_le_ℚ}
-use Rattle.nf_work.specs.Passing.{Passing}
+use Rattle.nf_frac_def.specs.Passing.{Passing}
 use Rattle.nf_model.specs.Curve.{Point, Within, NeverFalls, value, IsCurve, IsShort}
 use Rattle.nf_model.specs.Network.{Piece, ArePieces, supplied}
-use Rattle.nf_curve_lists.specs.Short.{checked_short}
-use Rattle.nf_curve_lists.specs.Meanings.{IsShortOf}
+use Rattle.nf_curve_def.specs.Short.{checked_short}
+use Rattle.nf_curve_def.specs.Meanings.{IsShortOf}
 use Rattle.nf_curve_laws.proofs.Short.{checked_short-is}
-use Rattle.nf_load_lists.specs.Cumulative.{checked_cumulative}
-use Rattle.nf_load_lists.specs.Meanings.{IsCumulative}
+use Rattle.nf_load_def.specs.Cumulative.{checked_cumulative}
+use Rattle.nf_load_def.specs.Meanings.{IsCumulative}
 use Rattle.nf_load_laws.proofs.Cumulative.{checked_cumulative-is}
-use Rattle.nf_routes_lists.specs.RoutesList.{next_entry}
+use Rattle.nf_routes_def.specs.RoutesList.{next_entry}
 use Rattle.nf_routes_laws.specs.Laws.{CanShare, IsNext}
 use Rattle.nf_routes_laws.proofs.Arriving.{takes}
 use Rattle.nf_routes_laws.proofs.Next.{next_entry-is}

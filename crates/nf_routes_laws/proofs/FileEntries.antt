@@ -4,13 +4,13 @@ use Rattle.std.specs.Prelude.{if◌then◌else◌}
 use Rattle.std.specs.List.{list_all}
 use Rattle.std.specs.Result.{result_ok}
 use Rattle.nf_rational.specs.Rational.{ℚ}
-use Rattle.nf_numerals.specs.Numbers.{number_of}
-use Rattle.nf_formats.specs.Names.{Name, is_name, has_name, place_of}
-use Rattle.nf_formats.specs.Numbers.{greatest}
-use Rattle.nf_side_lists.specs.Lines.{piece_entry}
-use Rattle.nf_routes_lists.specs.declared.RoutesRule.{RoutesRule}
-use Rattle.nf_routes_lists.specs.declared.RoutesRule.TheVariants.{G5, G7, G8, G9, G17}
-use Rattle.nf_routes_lists.specs.RoutesFile.{RoutesEntry, RouteLine, RateLine, End, route_line, rate_line, end_line, routes_entry}
+use Rattle.nf_frac_words.specs.Numbers.{number_of}
+use Rattle.nf_net_def.specs.Names.{Name, is_name, has_name, place_of}
+use Rattle.nf_net_def.specs.Numbers.{greatest}
+use Rattle.nf_side_def.specs.Lines.{piece_entry}
+use Rattle.nf_routes_def.specs.declared.RoutesRule.{RoutesRule}
+use Rattle.nf_routes_def.specs.declared.RoutesRule.TheVariants.{G5, G7, G8, G9, G17}
+use Rattle.nf_routes_def.specs.RoutesFile.{RoutesEntry, RouteLine, RateLine, End, route_line, rate_line, end_line, routes_entry}
 
 abbrev pub IsNew : RoutesEntry → Type 0
 IsNew (RouteLine name links) = (is_name name ≡ true) × (0 < length links)

@@ -8,25 +8,25 @@ use Rattle.std.proofs.lemmas.List.{length-append, length-set, map-append}
 use Rattle.std.proofs.lemmas.List.Folds.{list_all-append}
 use Rattle.std.proofs.lemmas.List.Elements.{All-nil, All-push, All-set, All-get_or, All-map, All-weaker}
 use Rattle.std.proofs.lemmas.Option.{none-some, same_Some, slice_get-get_or, slice_get_within}
-use Rattle.nf_work.specs.Checked.{◌>>=◌}
-use Rattle.nf_lines.specs.Words.{ReadLine}
+use Rattle.nf_frac_def.specs.Checked.{◌>>=◌}
+use Rattle.nf_text_def.specs.Words.{ReadLine}
 use Rattle.nf_model.specs.Walk.{IsWalk}
 use Rattle.nf_model.specs.Network.{Piece, Link, Network, ArePieces, hop_of, hops}
-use Rattle.nf_formats.specs.Names.{Name, is_name, has_name, AreNames}
-use Rattle.nf_formats.specs.Named.{Named}
-use Rattle.nf_formats_laws.proofs.NameFacts.{with_name_new}
-use Rattle.nf_formats_laws.proofs.DraftKept.{distinct_with_names}
-use Rattle.nf_plain_laws.proofs.Entries.{slice_get-image}
-use Rattle.nf_plain_laws.proofs.Results.{same_Ok, not_both}
-use Rattle.nf_side_lists.specs.Lines.{unless_rule}
-use Rattle.nf_side_lists.specs.Frame.{draft_of}
-use Rattle.nf_readings_laws.proofs.FrameKept.{rules_out, no_rule, draft_kept}
-use Rattle.nf_readings_laws.proofs.Outcomes.{and_true, both_ok, where_false}
-use Rattle.nf_readings_laws.proofs.PiecesKept.{GoOn, go_on_pieces, piece_kept}
-use Rattle.nf_routes_lists.specs.declared.RoutesRule.TheVariants.{G4, G10, G11, G12, G13, G14, G15}
-use Rattle.nf_routes_lists.specs.Routes.{Route, AreWalks, AreRoutes}
-use Rattle.nf_routes_lists.specs.RoutesFile.{NamedRoute, RoutesEntry, RouteLine, RateLine, End, RoutesDraft, route_names, routes_of, pieces_of, with_piece, longer, is_walk, tail_is, head_of, rule_behind, routes_entry, routes_rule_of, routes_after, add_route_line, routes_frame}
-use Rattle.nf_routes_lists.specs.Kept.{AreInForm, AreSound}
+use Rattle.nf_net_def.specs.Names.{Name, is_name, has_name, AreNames}
+use Rattle.nf_net_def.specs.Named.{Named}
+use Rattle.nf_net_laws.proofs.NameFacts.{with_name_new}
+use Rattle.nf_net_laws.proofs.DraftKept.{distinct_with_names}
+use Rattle.nf_rational_laws.proofs.Entries.{slice_get-image}
+use Rattle.nf_rational_laws.proofs.Results.{same_Ok, not_both}
+use Rattle.nf_side_def.specs.Lines.{unless_rule}
+use Rattle.nf_side_def.specs.Frame.{draft_of}
+use Rattle.nf_report_laws.proofs.FrameKept.{rules_out, no_rule, draft_kept}
+use Rattle.nf_report_laws.proofs.Outcomes.{and_true, both_ok, where_false}
+use Rattle.nf_report_laws.proofs.PiecesKept.{GoOn, go_on_pieces, piece_kept}
+use Rattle.nf_routes_def.specs.declared.RoutesRule.TheVariants.{G4, G10, G11, G12, G13, G14, G15}
+use Rattle.nf_routes_def.specs.Routes.{Route, AreWalks, AreRoutes}
+use Rattle.nf_routes_def.specs.RoutesFile.{NamedRoute, RoutesEntry, RouteLine, RateLine, End, RoutesDraft, route_names, routes_of, pieces_of, with_piece, longer, is_walk, tail_is, head_of, rule_behind, routes_entry, routes_rule_of, routes_after, add_route_line, routes_frame}
+use Rattle.nf_routes_def.specs.Kept.{AreInForm, AreSound}
 use Rattle.nf_routes_laws.proofs.FileEntries.{IsNew, Entered, entered}
 
 -- ---- walks

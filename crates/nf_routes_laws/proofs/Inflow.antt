@@ -9,17 +9,17 @@ use Rattle.nf_rational.specs.Operations.{0ℚ, ◌+ℚ◌}
 use Rattle.nf_rational.specs.Order.{◌≤ℚ◌}
 use Rattle.nf_rational_laws.proofs.Polynomial.{reading_of}
 use Rattle.nf_rational_laws.proofs.Linear.{eq, linear_eq}
-use Rattle.nf_work.specs.Passing.{Passing}
+use Rattle.nf_frac_def.specs.Passing.{Passing}
 use Rattle.nf_model.specs.Curve.{Point, value, IsCurve}
-use Rattle.nf_curve_lists.specs.Meanings.{IsSumOf}
+use Rattle.nf_curve_def.specs.Meanings.{IsSumOf}
 use Rattle.nf_curve_laws.proofs.Operations.{then_ok}
 use Rattle.nf_curve_laws.proofs.Sums.{checked_sum-is}
-use Rattle.nf_routes_lists.specs.Routes.{Route}
-use Rattle.nf_routes_lists.specs.RoutesList.{goes_over, last_entry, add_if, sum_from}
-use Rattle.nf_routes_lists.specs.Meanings.{sent_along, sent_by_routes}
+use Rattle.nf_routes_def.specs.Routes.{Route}
+use Rattle.nf_routes_def.specs.RoutesList.{goes_over, last_entry, add_if, sum_from}
+use Rattle.nf_routes_def.specs.Meanings.{sent_along, sent_by_routes}
 use Rattle.nf_routes_laws.proofs.Arriving.{along-none}
 use Rattle.nf_routes_laws.proofs.Stages.{over-at, over-place}
-use Rattle.nf_plain_laws.proofs.Results.{same_Ok, not_both}
+use Rattle.nf_rational_laws.proofs.Results.{same_Ok, not_both}
 
 -- ---- a sum with one term
 with_first : (b : Bool) (x s : ℚ) → b ≡ true → s ≡ 0ℚ → (if b then x +ℚ s else s) ≡ x

@@ -6,7 +6,7 @@ use Rattle.nf_rational.specs.Operations.{0ℚ, ◌+ℚ◌}
 use Rattle.nf_rational.specs.Order.{◌≤ℚ◌}
 use Rattle.nf_rational_laws.proofs.Polynomial.{reading_of}
 use Rattle.nf_rational_laws.proofs.Linear.{le, eq, linear_le, linear_eq}
-use Rattle.nf_work.specs.Passing.{Passing}
+use Rattle.nf_frac_def.specs.Passing.{Passing}
 use Rattle.nf_model.specs.Curve.{Point, Within, NeverFalls, value, IsCurve}
 use Rattle.nf_model.specs.Entries.{number_at}
 use Rattle.nf_model.specs.Network.{Link, Network, IsNetwork, IsLink}
@@ -16,12 +16,12 @@ use Rattle.nf_model_laws.proofs.Earliest.{IsPositive-link}
 use Rattle.nf_model_laws.proofs.Exits.{IsExit-at_0}
 use Rattle.nf_model_laws.proofs.Queues.{IsExit-after, IsExit-monotone, IsExit-same}
 use Rattle.nf_curve_laws.proofs.Following.{EndsAtTime}
-use Rattle.nf_load_lists.specs.Meanings.{IsLoaded}
+use Rattle.nf_load_def.specs.Meanings.{IsLoaded}
 use Rattle.nf_load_laws.proofs.Loading.{checked_loading-is}
-use Rattle.nf_check_lists.specs.Curves.{last_value}
-use Rattle.nf_routes_lists.specs.Routes.{Route, AreRoutes, IsBefore}
-use Rattle.nf_routes_lists.specs.RoutesList.{SoFar, Routed}
-use Rattle.nf_routes_lists.specs.Meanings.{link_loaded, exit_by, entry_at, sent_by, sent_by_routes, inflow_by, IsEnd}
+use Rattle.nf_check_def.specs.Curves.{last_value}
+use Rattle.nf_routes_def.specs.Routes.{Route, AreRoutes, IsBefore}
+use Rattle.nf_routes_def.specs.RoutesList.{SoFar, Routed}
+use Rattle.nf_routes_def.specs.Meanings.{link_loaded, exit_by, entry_at, sent_by, sent_by_routes, inflow_by, IsEnd}
 use Rattle.nf_routes_laws.specs.Laws.{CanShare, IsNext}
 use Rattle.nf_routes_laws.proofs.Arriving.{routes-le, routes-none}
 use Rattle.nf_routes_laws.proofs.Ordering.{In, in-either, placed}
@@ -32,7 +32,7 @@ use Rattle.nf_routes_laws.proofs.Inflow.{Enters, IsSumWith, sum-is}
 use Rattle.nf_routes_laws.proofs.Stages.{none_more}
 use Rattle.nf_routes_laws.proofs.Unrolled.{many, order, routed, LinkStep}
 use Rattle.nf_rational_laws.proofs.Chains.{≤ℚ_refl, ≤ℚ_trans}
-use Rattle.nf_plain_laws.proofs.Entries.{entry}
+use Rattle.nf_rational_laws.proofs.Entries.{entry}
 
 -- ---- a link that is loaded, of routes that are
 pub record LinkIs (net : Network) (routes : List Route) (horizon : ℚ) (all : Routed) (e : ℕ) : Type 0 where

@@ -7,25 +7,25 @@ use Rattle.nf_rational.specs.Order.{◌≤ℚ◌, ◌<ℚ◌}
 use Rattle.nf_rational_laws.proofs.Polynomial.{reading_of}
 use Rattle.nf_rational_laws.proofs.Order.{≤ℚ_of_lt, ≤ℚ_antisymm, lt_or_le_ℚ}
 use Rattle.nf_rational_laws.proofs.Linear.{lt, eq, eq_times, linear_lt, linear_eq}
-use Rattle.nf_work.specs.Passing.{Passing}
-use Rattle.nf_work.specs.Checked.{each}
+use Rattle.nf_frac_def.specs.Passing.{Passing}
+use Rattle.nf_frac_def.specs.Checked.{each}
 use Rattle.nf_model.specs.Curve.{Point, Within, value, slope, TimesRise, IsCurve}
 use Rattle.nf_model_laws.specs.Affine.{IsAffine}
 use Rattle.nf_model_laws.proofs.Affine.{same_from_times}
 use Rattle.nf_model_laws.proofs.Curves.{value-first, value-line, value-after, slope-times}
-use Rattle.nf_lists.specs.Signs.{is_same}
-use Rattle.nf_curve_lists.specs.Lines.{Sides}
-use Rattle.nf_curve_lists.specs.Times.{times_of, both_times, merged, merged_from}
-use Rattle.nf_curve_lists.specs.Sums.{sides_at}
-use Rattle.nf_curve_lists.specs.Meanings.{IsShortOf}
+use Rattle.nf_rational.specs.Signs.{is_same}
+use Rattle.nf_curve_def.specs.Lines.{Sides}
+use Rattle.nf_curve_def.specs.Times.{times_of, both_times, merged, merged_from}
+use Rattle.nf_curve_def.specs.Sums.{sides_at}
+use Rattle.nf_curve_def.specs.Meanings.{IsShortOf}
 use Rattle.nf_curve_laws.proofs.Operations.{then_ok, is_same_cases}
 use Rattle.nf_curve_laws.proofs.Times.{IsOne, AreNext, NextOnes, merged_from-cases, both_times-next}
 use Rattle.nf_curve_laws.proofs.Pieces.{left_affine, right_affine, left_flat, AreSides, sides_at-is}
 use Rattle.nf_curve_laws.proofs.Short.{checked_short-is}
-use Rattle.nf_routes_lists.specs.RoutesList.{next_from, next_entry}
+use Rattle.nf_routes_def.specs.RoutesList.{next_from, next_entry}
 use Rattle.nf_routes_laws.specs.Laws.{NoneBeyond, CanShare, IsNext}
 use Rattle.nf_rational_laws.proofs.Chains.{≤ℚ_refl, ≤ℚ_trans}
-use Rattle.nf_plain_laws.proofs.Results.{same_Ok}
+use Rattle.nf_rational_laws.proofs.Results.{same_Ok}
 
 -- ---- numbers: on an interval from a to b, exits have the rate e and entries the rate r; n is the slope of entries by exits
 on_line : (n e r d x y z v w : ℚ) → n *ℚ (w -ℚ x) ≡ z -ℚ y → w ≡ x +ℚ e *ℚ d → z ≡ y +ℚ r *ℚ d → 0ℚ <ℚ d → n *ℚ e ≡ r

@@ -7,7 +7,7 @@ use Rattle.std.proofs.lemmas.Bool.Decides.{eqb_tells}
 use Rattle.nf_model.specs.Network.{Network}
 use Rattle.nf_model_laws.proofs.Ways.{distinct_more}
 use Rattle.std.proofs.lemmas.Option.{slice_get_within}
-use Rattle.nf_routes_lists.specs.Routes.{Route, AreRoutes, pairs_of, all_pairs, IsBefore, LeadsTo, HoldCircle, is_taken, is_free, first_free, with_next, order_from, loading_order, takes_all}
+use Rattle.nf_routes_def.specs.Routes.{Route, AreRoutes, pairs_of, all_pairs, IsBefore, LeadsTo, HoldCircle, is_taken, is_free, first_free, with_next, order_from, loading_order, takes_all}
 use Rattle.nf_routes_laws.proofs.Arriving.{walk-links}
 
 -- ---- truth values

@@ -7,8 +7,8 @@ use Rattle.std.proofs.lemmas.Option.{slice_get_within}
 use Rattle.nf_rational.specs.Rational.{ℚ}
 use Rattle.nf_rational.specs.Operations.{0ℚ, ◌+ℚ◌}
 use Rattle.nf_rational.specs.Order.{◌≤ℚ◌}
-use Rattle.nf_work.specs.Passing.{Passing}
-use Rattle.nf_work.specs.Checked.{each}
+use Rattle.nf_frac_def.specs.Passing.{Passing}
+use Rattle.nf_frac_def.specs.Checked.{each}
 use Rattle.nf_model.specs.Curve.{Point, Within, value}
 use Rattle.nf_model.specs.Entries.{number_at}
 use Rattle.nf_model.specs.Walk.{IsWalk}
@@ -17,10 +17,10 @@ use Rattle.nf_model.specs.Queue.{IsQueue, IsExit, IsOutflow}
 use Rattle.nf_model_laws.proofs.Earliest.{IsPositive-link}
 use Rattle.nf_model_laws.proofs.Networks.{IsLink-unique}
 use Rattle.nf_model_laws.proofs.Queues.{IsExit-after, IsOutflow-unique, IsQueue-same, IsExit-same, IsOutflow-same}
-use Rattle.nf_check_lists.specs.Curves.{departures}
-use Rattle.nf_routes_lists.specs.Routes.{Route, AreRoutes, HoldCircle, is_taken, loading_order, takes_all}
-use Rattle.nf_routes_lists.specs.RoutesList.{SoFar, Routed, loaded_or, end_or, but_last, last_entry, load_all, exit_of, travel_on, routes_list}
-use Rattle.nf_routes_lists.specs.Meanings.{link_loaded, exit_by, stages_at, entry_at, travel_at, sent_by, sent_by_routes, inflow_by, exits_along, IsRouted}
+use Rattle.nf_check_def.specs.Curves.{departures}
+use Rattle.nf_routes_def.specs.Routes.{Route, AreRoutes, HoldCircle, is_taken, loading_order, takes_all}
+use Rattle.nf_routes_def.specs.RoutesList.{SoFar, Routed, loaded_or, end_or, but_last, last_entry, load_all, exit_of, travel_on, routes_list}
+use Rattle.nf_routes_def.specs.Meanings.{link_loaded, exit_by, stages_at, entry_at, travel_at, sent_by, sent_by_routes, inflow_by, exits_along, IsRouted}
 use Rattle.nf_curve_laws.proofs.Operations.{then_ok}
 use Rattle.nf_routes_laws.proofs.Arriving.{walk-links, arrive}
 use Rattle.nf_routes_laws.proofs.Ordering.{In, all-at, in-range, taken-in, takes_all-straight}
@@ -31,9 +31,9 @@ use Rattle.nf_routes_laws.proofs.Steps.{stage}
 use Rattle.nf_routes_laws.proofs.Travels.{AreDepartures, departures-are, Passable, IsTravel, travel-is}
 use Rattle.nf_routes_laws.proofs.Unrolled.{order, routed, RouteStands, Unrolled, stages-are, unrolled}
 use Rattle.nf_rational_laws.proofs.Chains.{≤ℚ_refl, ≤ℚ_trans}
-use Rattle.nf_plain_laws.proofs.Entries.{entry}
-use Rattle.nf_plain_laws.proofs.Naturals.{compared}
-use Rattle.nf_plain_laws.proofs.Results.{same_Ok}
+use Rattle.nf_rational_laws.proofs.Entries.{entry}
+use Rattle.nf_rational_laws.proofs.Naturals.{compared}
+use Rattle.nf_rational_laws.proofs.Results.{same_Ok}
 
 -- ---- the order takes each link
 all-ordered : (passes : Passing) (net : Network) (routes : List Route) (horizon : ℚ) → AreRoutes net routes → (HoldCircle routes → ⊥) → (e : ℕ) → e < length net.links → In e (order passes net routes horizon)

@@ -13,8 +13,8 @@ use Rattle.nf_model.specs.Queue.{IsExit}
 use Rattle.nf_model_laws.specs.Capacity.{IsPositive}
 use Rattle.nf_model_laws.proofs.Exits.{IsOutflow-at_exit}
 use Rattle.nf_model_laws.proofs.Queues.{IsOutflow-unique}
-use Rattle.nf_routes_lists.specs.Routes.{Route}
-use Rattle.nf_routes_lists.specs.Meanings.{sent_along, sent_by_routes}
+use Rattle.nf_routes_def.specs.Routes.{Route}
+use Rattle.nf_routes_def.specs.Meanings.{sent_along, sent_by_routes}
 use Rattle.nf_routes_laws.proofs.Arriving.{along-le, routes-le}
 use Rattle.nf_rational_laws.proofs.Chains.{≤ℚ_refl, ≤ℚ_trans}
 

@@ -4,16 +4,16 @@ use Rattle.std.specs.Prelude.{Result, Ok, map}
 use Rattle.std.proofs.lemmas.Bool.Decides.{eqb_tells}
 use Rattle.std.proofs.lemmas.Option.{same_Some}
 use Rattle.nf_rational.specs.Rational.{ℚ}
-use Rattle.nf_work.specs.Passing.{Passing}
-use Rattle.nf_work.specs.Checked.{each}
+use Rattle.nf_frac_def.specs.Passing.{Passing}
+use Rattle.nf_frac_def.specs.Checked.{each}
 use Rattle.nf_model.specs.Curve.{Point}
-use Rattle.nf_load_lists.specs.Loading.{Loaded}
-use Rattle.nf_check_lists.specs.Curves.{last_value}
-use Rattle.nf_routes_lists.specs.Routes.{Route}
-use Rattle.nf_routes_lists.specs.RoutesList.{LoadedLink, exit_end, begins_with, goes_over, last_entry, but_last, begin_if, begin_all, next_if, next_all, exit_of, loaded_or}
+use Rattle.nf_load_def.specs.Loading.{Loaded}
+use Rattle.nf_check_def.specs.Curves.{last_value}
+use Rattle.nf_routes_def.specs.Routes.{Route}
+use Rattle.nf_routes_def.specs.RoutesList.{LoadedLink, exit_end, begins_with, goes_over, last_entry, but_last, begin_if, begin_all, next_if, next_all, exit_of, loaded_or}
 use Rattle.nf_curve_laws.proofs.Operations.{then_ok}
 use Rattle.nf_routes_laws.proofs.Ordering.{taken-in, in-taken, In}
-use Rattle.nf_plain_laws.proofs.Results.{same_Ok}
+use Rattle.nf_rational_laws.proofs.Results.{same_Ok}
 
 -- ---- entries of lists
 pub none_more : {A : Type 0} (xs : List A) → xs ++ [] ≡ xs

@@ -3,19 +3,19 @@ use Rattle.std.proofs.Common.{◌≡◌, ℕ, zero, suc, ◌<◌, ◌≤◌, Lis
 use Rattle.std.specs.Prelude.{Ok}
 use Rattle.std.proofs.lemmas.Option.{same_Some, slice_get_within}
 use Rattle.nf_rational.specs.Rational.{ℚ}
-use Rattle.nf_work.specs.Passing.{Passing}
+use Rattle.nf_frac_def.specs.Passing.{Passing}
 use Rattle.nf_model.specs.Curve.{Point}
 use Rattle.nf_model.specs.Network.{Piece}
-use Rattle.nf_curve_lists.specs.Short.{checked_short}
-use Rattle.nf_load_lists.specs.Cumulative.{checked_cumulative}
-use Rattle.nf_routes_lists.specs.Routes.{Route, IsBefore}
-use Rattle.nf_routes_lists.specs.RoutesList.{begins_with, goes_over, last_entry, next_entry, begin_if, next_if}
+use Rattle.nf_curve_def.specs.Short.{checked_short}
+use Rattle.nf_load_def.specs.Cumulative.{checked_cumulative}
+use Rattle.nf_routes_def.specs.Routes.{Route, IsBefore}
+use Rattle.nf_routes_def.specs.RoutesList.{begins_with, goes_over, last_entry, next_entry, begin_if, next_if}
 use Rattle.nf_curve_laws.proofs.Operations.{then_ok}
 use Rattle.nf_routes_laws.proofs.Ordering.{In, in-front, in-back, in-either}
 use Rattle.nf_routes_laws.proofs.Stages.{none_more, nothing_before, over-at, begins-at, begins-place}
-use Rattle.nf_plain_laws.proofs.Entries.{entry}
-use Rattle.nf_plain_laws.proofs.Naturals.{compared, before_or_at}
-use Rattle.nf_plain_laws.proofs.Results.{same_Ok, not_both}
+use Rattle.nf_rational_laws.proofs.Entries.{entry}
+use Rattle.nf_rational_laws.proofs.Naturals.{compared, before_or_at}
+use Rattle.nf_rational_laws.proofs.Results.{same_Ok, not_both}
 
 -- exactly the first n of these links are in the prefix of the order
 pub record Stands (front links : List ℕ) (n : ℕ) : Type 0 where

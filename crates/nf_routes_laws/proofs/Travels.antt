@@ -7,19 +7,19 @@ use Rattle.nf_rational.specs.Order.{◌≤ℚ◌, ◌<ℚ◌}
 use Rattle.nf_rational_laws.proofs.Polynomial.{reading_of}
 use Rattle.nf_rational_laws.proofs.Linear.{eq, linear_eq}
 use Rattle.nf_rational_laws.proofs.Order.{≤ℚ_antisymm, lt_or_le_ℚ}
-use Rattle.nf_work.specs.Passing.{Passing}
+use Rattle.nf_frac_def.specs.Passing.{Passing}
 use Rattle.nf_model.specs.Curve.{Point, Within, value, slope, IsCurve, IsShort}
 use Rattle.nf_model_laws.proofs.Affine.{same_from_times}
 use Rattle.nf_model_laws.proofs.Curves.{value-line, slope-times}
-use Rattle.nf_lists.specs.Signs.{is_zero}
-use Rattle.nf_curve_lists.specs.Composed.{checked_composed}
-use Rattle.nf_curve_lists.specs.Meanings.{IsComposedOf, IsShortOf}
+use Rattle.nf_rational.specs.Signs.{is_zero}
+use Rattle.nf_curve_def.specs.Composed.{checked_composed}
+use Rattle.nf_curve_def.specs.Meanings.{IsComposedOf, IsShortOf}
 use Rattle.nf_curve_laws.proofs.Composed.{checked_composed-is}
 use Rattle.nf_curve_laws.proofs.Operations.{then_ok, is_same_cases}
 use Rattle.nf_curve_laws.proofs.Short.{checked_short-is}
-use Rattle.nf_check_lists.specs.Curves.{departures}
-use Rattle.nf_routes_lists.specs.RoutesList.{LoadedLink, Routed, exit_of, travel_on}
-use Rattle.nf_routes_lists.specs.Meanings.{link_loaded, exit_by, exits_along}
+use Rattle.nf_check_def.specs.Curves.{departures}
+use Rattle.nf_routes_def.specs.RoutesList.{LoadedLink, Routed, exit_of, travel_on}
+use Rattle.nf_routes_def.specs.Meanings.{link_loaded, exit_by, exits_along}
 use Rattle.nf_rational_laws.proofs.Chains.{≤ℚ_refl}
 
 -- ---- the departures themselves

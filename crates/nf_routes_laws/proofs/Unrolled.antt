@@ -10,22 +10,22 @@ use Rattle.nf_rational.specs.Operations.{0ℚ}
 use Rattle.nf_rational.specs.Order.{◌≤ℚ◌, ◌<ℚ◌, max_ℚ}
 use Rattle.nf_rational_laws.proofs.Order.{≤ℚ_of_lt, ≤ℚ_of_same}
 use Rattle.nf_rational_laws.proofs.Tests.{max_ℚ_cases}
-use Rattle.nf_work.specs.Passing.{Passing}
+use Rattle.nf_frac_def.specs.Passing.{Passing}
 use Rattle.nf_model.specs.Curve.{Point}
 use Rattle.nf_model.specs.Entries.{number_at}
 use Rattle.nf_model.specs.Network.{Link, Network, IsLink}
-use Rattle.nf_load_lists.specs.Loading.{Loaded, checked_loading}
-use Rattle.nf_check_lists.specs.Curves.{last_value}
-use Rattle.nf_routes_lists.specs.Routes.{Route, all_pairs, IsBefore, first_free, with_next, order_from}
-use Rattle.nf_routes_lists.specs.RoutesList.{LoadedLink, SoFar, Routed, exit_end, end_by, begins_with, goes_over, last_entry, but_last, begin_if, begin_all, sum_from, next_if, next_all, next_entry, load_here, load_all, end_or, loaded_or}
-use Rattle.nf_routes_lists.specs.Meanings.{link_loaded, stages_at, arrival_at, entry_at}
+use Rattle.nf_load_def.specs.Loading.{Loaded, checked_loading}
+use Rattle.nf_check_def.specs.Curves.{last_value}
+use Rattle.nf_routes_def.specs.Routes.{Route, all_pairs, IsBefore, first_free, with_next, order_from}
+use Rattle.nf_routes_def.specs.RoutesList.{LoadedLink, SoFar, Routed, exit_end, end_by, begins_with, goes_over, last_entry, but_last, begin_if, begin_all, sum_from, next_if, next_all, next_entry, load_here, load_all, end_or, loaded_or}
+use Rattle.nf_routes_def.specs.Meanings.{link_loaded, stages_at, arrival_at, entry_at}
 use Rattle.nf_curve_laws.proofs.Operations.{then_ok}
 use Rattle.nf_routes_laws.proofs.Ordering.{In, in-front, in-back, range-below, free-some, before-pair, before-of, placed}
 use Rattle.nf_routes_laws.proofs.Stages.{none_more, get-front, get-next, set-same, set-other, get-last, at-stage, exit_end-is, begun-count, begun-at, next-count, next-at, over-at, over-place}
 use Rattle.nf_routes_laws.proofs.Steps.{Stands, stage, stands-none, place-is, stands-over, stands-past, IsEntryOf, Over, over-is, past-is}
 use Rattle.nf_rational_laws.proofs.Chains.{≤ℚ_refl, ≤ℚ_trans}
-use Rattle.nf_plain_laws.proofs.Entries.{entry, slice_get-image}
-use Rattle.nf_plain_laws.proofs.Results.{same_Ok, not_both}
+use Rattle.nf_rational_laws.proofs.Entries.{entry, slice_get-image}
+use Rattle.nf_rational_laws.proofs.Results.{same_Ok, not_both}
 
 -- ---- the links of the order are links
 pub order-below : (pairs : List (ℕ × ℕ)) (many more : ℕ) (taken : List ℕ) (e : ℕ) → In e (order_from more pairs many taken) → e < many

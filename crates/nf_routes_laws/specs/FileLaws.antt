@@ -1,10 +1,10 @@
 -- Theorems on the reading of routes files.
 use Rattle.std.specs.Prelude.{◌≡◌, ℕ, List, Result, Ok, Err}
-use Rattle.nf_formats.specs.Named.{Named}
-use Rattle.nf_routes_lists.specs.declared.RoutesRule.TheVariants.{G17}
-use Rattle.nf_routes_lists.specs.Routes.{AreWalks}
-use Rattle.nf_routes_lists.specs.RoutesFile.{NamedRoute, RoutesBroken, routes_of, HoldsCircleIn, circle_broken, ReadsRoutes, routes_in}
-use Rattle.nf_routes_lists.specs.Kept.{AreKept}
+use Rattle.nf_net_def.specs.Named.{Named}
+use Rattle.nf_routes_def.specs.declared.RoutesRule.TheVariants.{G17}
+use Rattle.nf_routes_def.specs.Routes.{AreWalks}
+use Rattle.nf_routes_def.specs.RoutesFile.{NamedRoute, RoutesBroken, routes_of, HoldsCircleIn, circle_broken, ReadsRoutes, routes_in}
+use Rattle.nf_routes_def.specs.Kept.{AreKept}
 
 -- each text has exactly one reading, which the loading order decides
 pub record RoutesHaveOneReading : Type 0 where

@@ -3,12 +3,12 @@ use Rattle.std.specs.Prelude.{◌≡◌, true, false, List, ◌∷◌, ◌++◌,
 use Rattle.nf_rational.specs.Rational.{ℚ}
 use Rattle.nf_rational.specs.Operations.{0ℚ}
 use Rattle.nf_rational.specs.Order.{◌≤ℚ◌}
-use Rattle.nf_work.specs.Passing.{Passing}
+use Rattle.nf_frac_def.specs.Passing.{Passing}
 use Rattle.nf_model.specs.Curve.{Point, Within, value, IsCurve, IsShort}
 use Rattle.nf_model.specs.Network.{Network, IsNetwork}
-use Rattle.nf_routes_lists.specs.Routes.{Route, AreRoutes, HoldCircle, takes_all}
-use Rattle.nf_routes_lists.specs.RoutesList.{Routed, next_entry}
-use Rattle.nf_routes_lists.specs.Meanings.{IsRouted, RoutesArrive}
+use Rattle.nf_routes_def.specs.Routes.{Route, AreRoutes, HoldCircle, takes_all}
+use Rattle.nf_routes_def.specs.RoutesList.{Routed, next_entry}
+use Rattle.nf_routes_def.specs.Meanings.{IsRouted, RoutesArrive}
 
 -- no point of the curve is after `last`
 abbrev pub NoneBeyond : List Point → ℚ → Type 0

@@ -3,13 +3,13 @@ use Rattle.std.specs.Prelude.{◌≡◌, ℕ, suc, List, Ok}
 use Rattle.nf_rational.specs.Rational.{ℚ}
 use Rattle.nf_rational.specs.Operations.{0ℚ, ◌+ℚ◌}
 use Rattle.nf_rational.specs.Order.{◌≤ℚ◌}
-use Rattle.nf_work.specs.Passing.{Passing}
+use Rattle.nf_frac_def.specs.Passing.{Passing}
 use Rattle.nf_model.specs.Curve.{Within, value}
 use Rattle.nf_model.specs.Entries.{number_at}
 use Rattle.nf_model.specs.Network.{Link, Network, IsNetwork, IsLink}
-use Rattle.nf_routes_lists.specs.Routes.{Route, AreRoutes, HoldCircle}
-use Rattle.nf_routes_lists.specs.RoutesList.{Routed, routes_list}
-use Rattle.nf_routes_lists.specs.Meanings.{link_loaded, sent_by, sent_by_routes, IsRouted, RoutesArrive}
+use Rattle.nf_routes_def.specs.Routes.{Route, AreRoutes, HoldCircle}
+use Rattle.nf_routes_def.specs.RoutesList.{Routed, routes_list}
+use Rattle.nf_routes_def.specs.Meanings.{link_loaded, sent_by, sent_by_routes, IsRouted, RoutesArrive}
 
 -- routes of a network without a circle, loaded up to a horizon by the operation sequence
 pub record IsByList (net : Network) (routes : List Route) (horizon : ℚ) (routed : Routed) : Type 0 where

@@ -4,11 +4,11 @@ use Rattle.std.specs.Prelude.{Result, Ok, Err}
 use Rattle.std.proofs.Math.ListN.{drop_of_length-le}
 use Rattle.std.proofs.lemmas.List.{append-nil}
 use Rattle.nf_rational.specs.Rational.{ℚ}
-use Rattle.nf_work.specs.declared.Part.{Part}
-use Rattle.nf_work.specs.declared.Passed.{Passed}
-use Rattle.nf_work.specs.declared.PassedAt.{PassedAt}
-use Rattle.nf_work.specs.Checked.{each, at_part}
-use Rattle.nf_work.proofs.Each.{with_front, each_ok, each_err}
+use Rattle.nf_frac_def.specs.declared.Part.{Part}
+use Rattle.nf_frac_def.specs.declared.Passed.{Passed}
+use Rattle.nf_frac_def.specs.declared.PassedAt.{PassedAt}
+use Rattle.nf_frac_def.specs.Checked.{each, at_part}
+use Rattle.nf_frac_def.proofs.Each.{with_front, each_ok, each_err}
 
 -- after the last one
 pub all_said : {A : Type 0} (f : A → Result ℚ (Passed ℚ)) (xs : List A) (front : List ℚ) (i : ℕ) → length xs ≤ i → each f xs ≡ with_front front (each f (drop i xs)) → each f xs ≡ Ok front

@@ -4,12 +4,12 @@
 ghost use Rattle.std.specs.Prelude.{◌≡◌, ◌<◌, length, map, IfOk};
 ghost use Rattle.nf_rational.specs.Operations.{0ℚ};
 ghost use Rattle.nf_rational.specs.Order.{le_ℚ, lt_ℚ};
-ghost use Rattle.nf_work.specs.declared.Part.TheVariants.{Slack};
-ghost use Rattle.nf_work.specs.Passing.{passes_Q};
-ghost use Rattle.nf_work.specs.Checked.{at_part, Gives};
+ghost use Rattle.nf_frac_def.specs.declared.Part.TheVariants.{Slack};
+ghost use Rattle.nf_frac_def.specs.Passing.{passes_Q};
+ghost use Rattle.nf_frac_def.specs.Checked.{at_part, Gives};
 ghost use Rattle.nf_model.specs.Entries.{number_at};
 ghost use Rattle.nf_model.specs.ThinFlow.{sets_of, slacks_of};
-ghost use Rattle.nf_lists.specs.Slack.{slack_of, slack_list};
+ghost use Rattle.nf_thin_def.specs.Slack.{slack_of, slack_list};
 ghost use Rattle.nf_graph.specs.Graph.{AreBelow};
 
 use nf_frac::{Halt, Part, PassedAt, Q, at};
@@ -25,7 +25,7 @@ fn label_of(labels: &[Q], node: NodeId) -> Q
 }
 
 // Returns the slack of a link: the label of its head, less the sum of its tail's label and its transit time.
-#[tactic(auto, unfolding(nf_lists::specs::Slack::slack_of))]
+#[tactic(auto, unfolding(nf_thin_def::specs::Slack::slack_of))]
 fn slack(labels: &[Q], hop: &Hop) -> Result<Q, PassedAt<Q>>
     requires tail { hop.now.tail < length labels.now }
     requires head { hop.now.head < length labels.now }
@@ -38,7 +38,7 @@ fn slack(labels: &[Q], hop: &Hop) -> Result<Q, PassedAt<Q>>
 
 /// Returns the slack of each link at labels of the nodes, in units of time. The slack is the label of the head, less the sum of the
 /// tail's label and the transit time. Both ends of each link must have a label. The operation sequence is `slack_list` in
-/// nf_lists/specs/Slack.antt: for each link in order, the sum and then the difference. Returns `Passed` exactly if one of these
+/// nf_thin_def/specs/Slack.antt: for each link in order, the sum and then the difference. Returns `Passed` exactly if one of these
 /// operations passes: the first one, with the part Slack. Otherwise fails only if an allocation fails.
 pub fn slacks(alloc: Global, hops: &[Hop], labels: &[Q]) -> Result<Vec<Q>, Halt<Q>>
     requires { AreBelow (length labels.now) hops.now }

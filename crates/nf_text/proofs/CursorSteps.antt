@@ -2,9 +2,9 @@
 use Rattle.std.specs.Prelude.{◌≡◌, ℕ, ◌+◌, ◌<◌, List, ◌∷◌, length, drop, map, Option, None}
 use Rattle.std.proofs.Common.{◌∙◌, sym, ap, subst}
 use Rattle.std.specs.Option.{option_or}
-use Rattle.nf_lines.specs.Lines.{TextLine, lines_from}
-use Rattle.nf_lines.specs.Words.{ReadLine, read_line}
-use Rattle.nf_lines.specs.Faults.{LineFault, line_fault, first_fault_of}
+use Rattle.nf_text_def.specs.Lines.{TextLine, lines_from}
+use Rattle.nf_text_def.specs.Words.{ReadLine, read_line}
+use Rattle.nf_text_def.specs.Faults.{LineFault, line_fault, first_fault_of}
 use Rattle.nf_text.specs.declared.TextFault.{TextFault}
 use Rattle.nf_text.specs.Reading.{whole_len, first_line, Tells}
 use Rattle.nf_text.proofs.FirstLines.{lines_first}

@@ -7,7 +7,7 @@ use Rattle.std.proofs.lemmas.List.Splits.{slice_split_first, slice_split_none, l
 use Rattle.std.proofs.lemmas.List.Sums.{fails_before_first, passes_at_first}
 use Rattle.std.proofs.lemmas.Bool.{lt-ltb, le-ltb, ltb-true, eqb-true, ne_eqb}
 use native.Mathlib.Decide.{dec_lt}
-use Rattle.nf_lines.specs.Lines.{TextLine, lines_from, lines_of_parts, ended_line}
+use Rattle.nf_text_def.specs.Lines.{TextLine, lines_from, lines_of_parts, ended_line}
 use Rattle.nf_text.specs.Reading.{lf_place, has_lf, ends_with_cr, bytes_len, whole_len, first_line}
 use Rattle.nf_text.proofs.Positions.{position_or_len_within}
 

@@ -2,7 +2,7 @@
 use Rattle.std.specs.Prelude.{◌≡◌, ℕ, ◌+◌, ◌<◌, List, ◌∷◌, length, drop}
 use Rattle.std.proofs.Common.{arith, ◌∙◌, ap, length-drop}
 use Rattle.std.proofs.lemmas.List.{drop-drop}
-use Rattle.nf_lines.specs.Lines.{lines_from}
+use Rattle.nf_text_def.specs.Lines.{lines_from}
 use Rattle.nf_text.specs.Reading.{whole_len, first_line}
 use Rattle.nf_text.proofs.Extents.{lines_from-first}
 

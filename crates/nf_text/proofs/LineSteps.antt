@@ -6,9 +6,9 @@ use Rattle.std.proofs.lemmas.List.{map-append, drop-drop}
 use Rattle.std.proofs.lemmas.List.Elements.{All-from_recursion}
 use Rattle.std.specs.List.{AllByRecursion as ByRecursion}
 use Rattle.std.proofs.lemmas.Grind.{flat_map-append}
-use Rattle.nf_lines.specs.Lines.{lines_from}
-use Rattle.nf_lines.specs.Words.{ReadLine, read_line}
-use Rattle.nf_lines.specs.Faults.{LineFault, line_fault, first_fault_of}
+use Rattle.nf_text_def.specs.Lines.{lines_from}
+use Rattle.nf_text_def.specs.Words.{ReadLine, read_line}
+use Rattle.nf_text_def.specs.Faults.{LineFault, line_fault, first_fault_of}
 use Rattle.nf_text.specs.declared.Line.{Line}
 use Rattle.nf_text.specs.declared.TextFault.{TextFault}
 use Rattle.nf_text.specs.Spans.{Rise}

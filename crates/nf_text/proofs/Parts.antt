@@ -9,7 +9,7 @@ use Rattle.std.proofs.lemmas.Bool.{ne_eqb}
 use Rattle.std.proofs.lemmas.List.Splits.{slice_split_first, slice_split_none}
 use Rattle.std.proofs.lemmas.List.Sums.{fails_before_first}
 use native.Mathlib.Decide.{dec_lt, dec_le}
-use Rattle.nf_lines.specs.Words.{is_blank, parts_with_bytes}
+use Rattle.nf_text_def.specs.Words.{is_blank, parts_with_bytes}
 use Rattle.nf_text.specs.declared.Span.{Span}
 use Rattle.nf_text.specs.Spans.{text_of, Rise}
 use Rattle.nf_text.proofs.Positions.{position_or_len_within}

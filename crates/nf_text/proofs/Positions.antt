@@ -7,7 +7,7 @@ use Rattle.std.proofs.lemmas.Bool.{cond_below, cond_above}
 use Rattle.std.proofs.lemmas.List.Sums.{prefix_len-le-length, position_or_len_is}
 use Rattle.std.specs.Prelude.{not}
 use native.Mathlib.Decide.{dec_lt}
-use Rattle.nf_lines.specs.Words.{is_blank}
+use Rattle.nf_text_def.specs.Words.{is_blank}
 
 pub position_or_len_within : {X : Type 0} (p : X → Bool) (xs : List X) → position_or_len p xs ≤ length xs
 position_or_len_within p xs = prefix_len-le-length (λ x. not (p x)) xs

@@ -1,8 +1,8 @@
 -- A place in a text.
 use Rattle.std.specs.Prelude.{ℕ, ◌+◌, ◌≤◌, List, length, refl}
 use Rattle.std.specs.Coded.{Coded, code_by, coded×, coded_ℕ, coded_list}
-use Rattle.nf_lines.specs.Lines.{TextLine}
-use Rattle.nf_lines.specs.Faults.{longest_text}
+use Rattle.nf_text_def.specs.Lines.{TextLine}
+use Rattle.nf_text_def.specs.Faults.{longest_text}
 
 -- a line of this number begins at this place of a text
 pub record IsPlace (text : List ℕ) (start line_number : ℕ) : Type 0 where

@@ -1,9 +1,9 @@
 -- What is read of a text, line by line.
 use Rattle.std.specs.Prelude.{◌≡◌, ℕ, ◌+◌, ◌-◌, ◌==◌, ◌&&◌, Bool, nat_lt, if◌then◌else◌, List, [], ◌∷◌, length, take, map, slice_index, All, ◌≤◌, Option, Some}
 use Rattle.std.specs.List.{position_or_len, flat_map}
-use Rattle.nf_lines.specs.Lines.{TextLine}
-use Rattle.nf_lines.specs.Words.{ReadLine}
-use Rattle.nf_lines.specs.Faults.{LineFault, NotAscii, LongLine}
+use Rattle.nf_text_def.specs.Lines.{TextLine}
+use Rattle.nf_text_def.specs.Words.{ReadLine}
+use Rattle.nf_text_def.specs.Faults.{LineFault, NotAscii, LongLine}
 use Rattle.nf_text.specs.declared.Span.{Span}
 use Rattle.nf_text.specs.declared.Line.{Line}
 use Rattle.nf_text.specs.declared.TextFault.{TextFault}

@@ -1,8 +1,8 @@
 // A cursor over the lines of a text.
 ghost use Rattle.std.specs.Prelude.{◌≡◌, ◌≤◌, [], ◌∷◌, length, map, IfOk, IfErr, OnErr, MatchOption};
-ghost use Rattle.nf_lines.specs.Lines.{lines as lines_of};
-ghost use Rattle.nf_lines.specs.Words.{read_line as as_read};
-ghost use Rattle.nf_lines.specs.Faults.{first_fault_of, longest_text};
+ghost use Rattle.nf_text_def.specs.Lines.{lines as lines_of};
+ghost use Rattle.nf_text_def.specs.Words.{read_line as as_read};
+ghost use Rattle.nf_text_def.specs.Faults.{first_fault_of, longest_text};
 ghost use Rattle.nf_text.specs.Reading.{Tells};
 
 use crate::TextFault;
@@ -22,7 +22,7 @@ pub struct Cursor<'a> {
 impl<'a> Model for Cursor<'a> {
     ghost use Rattle.std.specs.Prelude.{List, drop};
     ghost use Rattle.std.specs.Coded.{coded_list};
-    ghost use Rattle.nf_lines.specs.Lines.{TextLine, lines_from};
+    ghost use Rattle.nf_text_def.specs.Lines.{TextLine, lines_from};
     ghost use Rattle.nf_text.specs.Places.{IsPlace, coded_text_line};
 
     ghost Value = { List TextLine };

@@ -19,7 +19,7 @@ pub struct ReadLine<'a> {
 
 impl<'a> Model for ReadLine<'a> {
     ghost use Rattle.std.specs.Prelude.{map};
-    ghost use Rattle.nf_lines.specs.Words.{ReadLine as SeenLine};
+    ghost use Rattle.nf_text_def.specs.Words.{ReadLine as SeenLine};
     ghost use Rattle.nf_text.specs.Spans.{text_of};
     ghost use Rattle.nf_text.specs.Within.{AreWithin};
 

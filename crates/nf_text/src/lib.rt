@@ -3,8 +3,8 @@
 #![tactic(auto)]
 
 ghost use Rattle.std.specs.Prelude.{◌≡◌, ◌+◌, ◌≤◌, length, map, All, None, IfOk, IfErr, OnOk};
-ghost use Rattle.nf_lines.specs.Words.{read_lines};
-ghost use Rattle.nf_lines.specs.Faults.{first_fault, longest_text};
+ghost use Rattle.nf_text_def.specs.Words.{read_lines};
+ghost use Rattle.nf_text_def.specs.Faults.{first_fault, longest_text};
 ghost use Rattle.nf_text.specs.Reading.{seen_line, spans_of, WordsAreIn, Tells};
 ghost use Rattle.nf_text.specs.Spans.{text_of, Rise};
 ghost use Rattle.nf_text.specs.declared.TextFault.TheVariants as TextFault;

@@ -1,7 +1,7 @@
 // The first place of a byte. Loops over places, for speed: `iter().position(..)` takes twice the instructions a byte, measured.
 ghost use Rattle.std.specs.Prelude.{◌≡◌, ◌==◌, ◌≤◌, ◌+◌, length, position, take, drop, not, true, IsTrue};
 ghost use Rattle.std.specs.List.{position_or_len, list_all};
-ghost use Rattle.nf_lines.specs.Words.{is_blank, without_comment};
+ghost use Rattle.nf_text_def.specs.Words.{is_blank, without_comment};
 
 // The number of bytes that are compared at once.
 const ROW: usize = 16;

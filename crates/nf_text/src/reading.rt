@@ -1,9 +1,9 @@
 // One line of a text.
 ghost use Rattle.std.specs.Prelude.{◌≡◌, ◌+◌, ◌<◌, ◌≤◌, ◌∷◌, Bool, false, true, length, drop, None, IfOk, IfErr, OnOk, MatchResult};
 ghost use Rattle.std.specs.List.{list_all};
-ghost use Rattle.nf_lines.specs.Lines.{lines_from};
-ghost use Rattle.nf_lines.specs.Words.{read_line as as_read};
-ghost use Rattle.nf_lines.specs.Faults.{is_allowed, fault_of, line_fault, longest_text};
+ghost use Rattle.nf_text_def.specs.Lines.{lines_from};
+ghost use Rattle.nf_text_def.specs.Words.{read_line as as_read};
+ghost use Rattle.nf_text_def.specs.Faults.{is_allowed, fault_of, line_fault, longest_text};
 ghost use Rattle.nf_text.specs.Spans.{Rise};
 ghost use Rattle.nf_text.specs.Reading.{seen_line, WordsAreIn, Tells, bytes_len, whole_len, first_line};
 

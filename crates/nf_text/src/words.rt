@@ -2,7 +2,7 @@
 ghost use Rattle.std.specs.Prelude.{◌≡◌, ◌+◌, ◌-◌, ◌<◌, ◌≤◌, [], ◌∷◌, ◌++◌, length, map, take, drop, All, IfOk, Bool, true, false, ℕ, List, MatchOption};
 ghost use Rattle.std.specs.List.{position_or_len, slice_split};
 ghost use Rattle.std.specs.Str.{bytes_eq};
-ghost use Rattle.nf_lines.specs.Words.{is_blank, parts_with_bytes, line_of_words, without_comment};
+ghost use Rattle.nf_text_def.specs.Words.{is_blank, parts_with_bytes, line_of_words, without_comment};
 ghost use Rattle.nf_text.specs.Spans.{text_of, Rise, space_before, GoesOn};
 
 use crate::Span;

@@ -5,7 +5,7 @@ use Rattle.nf_model.specs.ThinFlow.{Sets}
 use Rattle.nf_model.specs.Pattern.{Pattern, IsListedIn}
 use Rattle.std.specs.Prelude.{Option, Some, None, IfSome}
 use Rattle.nf_pattern.specs.Given.{Question, Given, IsQuestion, IsListedBy, Gives}
-use Rattle.nf_equation_laws.specs.Equations.{IsPatternIn}
+use Rattle.nf_thin_equation_laws.specs.Equations.{IsPatternIn}
 use Rattle.nf_thin.specs.Searching.{AreSetsOf, AsksOf, question_of}
 
 -- a listed pattern is one of the network's

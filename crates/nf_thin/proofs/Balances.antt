@@ -8,7 +8,7 @@ use Rattle.nf_rational.specs.Rational.{ℚ}
 use Rattle.nf_rational.specs.Operations.{0ℚ, ◌+ℚ◌, ◌-ℚ◌}
 use Rattle.nf_model.specs.Network.{Link, Network, IsLink}
 use Rattle.nf_pattern.proofs.Setting.{set_same, set_other, tell}
-use Rattle.nf_narrow.proofs.Entries.{length_set}
+use Rattle.nf_thin_narrow.proofs.Entries.{length_set}
 use Rattle.nf_thin.specs.declared.ranges.Range.{Range}
 use Rattle.nf_thin.specs.Ranges.{IsWithin}
 use Rattle.nf_thin.specs.Conserving.{AreWithin, surplus_of_first, BoundsFirst, BoundEach, AreSurpluses}

@@ -10,8 +10,8 @@ use Rattle.nf_rational.specs.Rational.{ℚ}
 use Rattle.nf_rational.specs.Operations.{0ℚ, ◌+ℚ◌, ◌-ℚ◌, neg_ℚ}
 use Rattle.nf_rational_laws.proofs.Polynomial.{reading_of}
 use Rattle.nf_rational_laws.proofs.Linear.{eq, linear_eq}
-use Rattle.nf_work.specs.declared.Op.TheVariants.{Product}
-use Rattle.nf_work.specs.Passing.{Passing}
+use Rattle.nf_frac_def.specs.declared.Op.TheVariants.{Product}
+use Rattle.nf_frac_def.specs.Passing.{Passing}
 use Rattle.nf_model.specs.declared.State.{State}
 use Rattle.nf_model.specs.Entries.{number_at}
 use Rattle.nf_model.specs.Network.{IsNetwork, Link, Network, IsLink, hop_of, hops, sum_in, sum_out}
@@ -22,7 +22,7 @@ use Rattle.nf_thin.specs.declared.ranges.Range.{Range}
 use Rattle.nf_thin.specs.Ranges.{IsWithin, MeetsState}
 use Rattle.nf_model_laws.proofs.Totals.{sink_takes}
 use Rattle.nf_thin.proofs.Within.{checked_is}
-use Rattle.nf_one_pattern.specs.Fulls.{full_of}
+use Rattle.nf_thin_one.specs.Fulls.{full_of}
 use Rattle.nf_thin.specs.Conserving.{full_by, CanFlow, surplus_by, surplus_of_first, BoundsFirst, Conserves}
 
 -- ---- one link more

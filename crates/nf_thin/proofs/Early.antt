@@ -6,12 +6,12 @@ use Rattle.std.proofs.lemmas.Bool.Decides.{leb_tells}
 use Rattle.nf_model.specs.Network.{Network, IsNetwork, hops, unbounded}
 use Rattle.nf_model.specs.ThinFlow.{Sets}
 use Rattle.nf_model.specs.Pattern.{Pattern, IsPattern}
-use Rattle.nf_lists.specs.Listing.{HasPlace}
-use Rattle.nf_listing_laws.specs.Ways.{AreSole, choices_of, ways_before}
-use Rattle.nf_listing_laws.proofs.Places.{bounded}
-use Rattle.nf_listing_laws.proofs.Choosing.{listed_in}
+use Rattle.nf_thin_def.specs.Listing.{HasPlace}
+use Rattle.nf_thin_laws.specs.Ways.{AreSole, choices_of, ways_before}
+use Rattle.nf_thin_laws.proofs.Places.{bounded}
+use Rattle.nf_thin_laws.proofs.Choosing.{listed_in}
 use Rattle.nf_pattern.specs.Front.{IsListingOf}
-use Rattle.nf_narrow.specs.Rows.{most}
+use Rattle.nf_thin_narrow.specs.Rows.{most}
 use Rattle.nf_thin.specs.Searching.{AreSetsOf, question_of}
 use Rattle.nf_thin.proofs.Hops.{hops_length, unbounded_length, below_nodes}
 

@@ -2,22 +2,22 @@
 use Rattle.std.proofs.Common.{◌≡◌, ℕ, List, sym, subst, ◌∙◌}
 use Rattle.std.specs.Prelude.{Some, Ok, Err}
 use Rattle.nf_rational.specs.Rational.{ℚ}
-use Rattle.nf_work.specs.Passing.{Passing}
+use Rattle.nf_frac_def.specs.Passing.{Passing}
 use Rattle.nf_model.specs.Network.{Network, IsNetwork, unbounded}
 use Rattle.nf_model.specs.ThinFlow.{Sets}
 use Rattle.nf_model.specs.Pattern.{Pattern, IsPattern, IsListedIn, IsSolvable}
-use Rattle.nf_lists.specs.Search.{Found, IsSearch}
+use Rattle.nf_thin_def.specs.Search.{Found, IsSearch}
 use Rattle.nf_pattern.specs.Given.{IsQuestion}
 use Rattle.nf_pattern.proofs.Deciding.{has_listing}
-use Rattle.nf_listing_laws.specs.Forcing.{IsForcing, HasForced}
-use Rattle.nf_listing_laws.specs.Laws.{Narrows}
-use Rattle.nf_listing_laws.proofs.Forced.{left_pattern, sets_count, flags_count}
-use Rattle.nf_listing_laws.proofs.Answered.{answer_within, answer_beyond}
-use Rattle.nf_listing_laws.specs.Forcing.{forced_by}
-use Rattle.nf_listing_laws.proofs.BySlopes.{forcing as forced_forcing, allowed as forced_allowed}
+use Rattle.nf_thin_laws.specs.Forcing.{IsForcing, HasForced}
+use Rattle.nf_thin_laws.specs.NarrowLaws.{Narrows}
+use Rattle.nf_thin_laws.proofs.Forced.{left_pattern, sets_count, flags_count}
+use Rattle.nf_thin_laws.proofs.Answered.{answer_within, answer_beyond}
+use Rattle.nf_thin_laws.specs.Forcing.{forced_by}
+use Rattle.nf_thin_laws.proofs.BySlopes.{forcing as forced_forcing, allowed as forced_allowed}
 use Rattle.nf_thin_laws.specs.ActiveLinks.{HoldNoCycle}
 use Rattle.nf_thin.specs.Slopes.{AreThinSlopes}
-use Rattle.nf_narrow.specs.Asking.{question_left}
+use Rattle.nf_thin_narrow.specs.Asking.{question_left}
 use Rattle.nf_thin.specs.declared.thin.Thin.{Thin}
 use Rattle.nf_thin.specs.declared.fault.SearchFault.{SearchFault}
 use Rattle.nf_thin.specs.Searching.{Searches, AreSetsOf, question_of}

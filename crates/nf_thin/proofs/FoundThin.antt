@@ -5,9 +5,9 @@ use Rattle.nf_rational.specs.Rational.{ℚ}
 use Rattle.nf_model.specs.Network.{Network, IsNetwork}
 use Rattle.nf_model.specs.ThinFlow.{Sets, IsThinFlow}
 use Rattle.nf_model.specs.Pattern.{Pattern, IsListedIn, IsSolution}
-use Rattle.nf_work.specs.Passing.{Passing}
-use Rattle.nf_lists.specs.Accepted.{IsAccepted}
-use Rattle.nf_lists.specs.Search.{Found, IsSearch}
+use Rattle.nf_frac_def.specs.Passing.{Passing}
+use Rattle.nf_thin_def.specs.Accepted.{IsAccepted}
+use Rattle.nf_thin_def.specs.Search.{Found, IsSearch}
 use Rattle.nf_thin_laws.proofs.Accepted.{IsThinFlow-accepted}
 use Rattle.nf_thin_laws.proofs.Slopes.{slopes-unique}
 use Rattle.nf_thin.specs.declared.thin.Thin.{Thin}

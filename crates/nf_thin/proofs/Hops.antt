@@ -4,9 +4,9 @@ use Rattle.std.specs.Prelude.{is_none}
 use Rattle.std.proofs.lemmas.List.{length-map}
 use Rattle.nf_model.specs.Walk.{Hop}
 use Rattle.nf_model.specs.Network.{Link, Network, IsNetwork, hop_of, hops, unbounded}
-use Rattle.nf_formats.specs.Named.{Named}
-use Rattle.nf_formats.specs.WellNamed.{IsNamed}
-use Rattle.nf_lists_laws.proofs.Ending.{from_map}
+use Rattle.nf_net_def.specs.Named.{Named}
+use Rattle.nf_net_def.specs.WellNamed.{IsNamed}
+use Rattle.nf_thin_laws.proofs.Ending.{from_map}
 use Rattle.nf_net.proofs.Limits.{few_links}
 use Rattle.nf_graph.specs.Graph.{AreBelow}
 

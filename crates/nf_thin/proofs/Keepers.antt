@@ -13,12 +13,12 @@ use Rattle.nf_model.specs.Walk.{Hop, IsHop}
 use Rattle.nf_model.specs.Network.{Link, Network, hop_of, hops}
 use Rattle.nf_model.specs.ThinFlow.{Sets}
 use Rattle.nf_model.specs.Pattern.{Pattern, HasState, IsListedIn}
-use Rattle.nf_lists_laws.proofs.Ending.{from_map}
-use Rattle.nf_plain_laws.proofs.Entries.{entry, slice_get-image}
-use Rattle.nf_plain_laws.proofs.Naturals.{before_or_at}
-use Rattle.nf_listing_laws.specs.Firm.{IsKeeper}
+use Rattle.nf_thin_laws.proofs.Ending.{from_map}
+use Rattle.nf_rational_laws.proofs.Entries.{entry, slice_get-image}
+use Rattle.nf_rational_laws.proofs.Naturals.{before_or_at}
+use Rattle.nf_thin_laws.specs.Firm.{IsKeeper}
 use Rattle.nf_pattern.proofs.Each.{EachEntry}
-use Rattle.nf_narrow.specs.declared.firm.Firm.{Firm}
+use Rattle.nf_thin_narrow.specs.declared.firm.Firm.{Firm}
 use Rattle.nf_thin.specs.Firming.{HaveFirm, MayKeep, AreKeepers, IsFirmOf}
 use Rattle.nf_thin.specs.Searching.{AreSetsOf}
 use Rattle.nf_thin.proofs.Hops.{hops_length}

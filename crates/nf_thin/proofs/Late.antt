@@ -4,15 +4,15 @@ use Rattle.std.specs.Prelude.{map}
 use Rattle.nf_model.specs.Network.{Network, hops, unbounded}
 use Rattle.nf_model.specs.ThinFlow.{Sets}
 use Rattle.nf_model.specs.Pattern.{Pattern, IsPattern, IsListedIn}
-use Rattle.nf_lists.specs.Listing.{HasPlace}
-use Rattle.nf_listing_laws.specs.Ways.{Choices}
-use Rattle.nf_listing_laws.specs.Firm.{choices_by, firm_before}
-use Rattle.nf_listing_laws.proofs.FirmListed.{firm_listed, all_ascend}
-use Rattle.nf_listing_laws.proofs.PlacesBelow.{bounded_below}
+use Rattle.nf_thin_def.specs.Listing.{HasPlace}
+use Rattle.nf_thin_laws.specs.Ways.{Choices}
+use Rattle.nf_thin_laws.specs.Firm.{choices_by, firm_before}
+use Rattle.nf_thin_laws.proofs.FirmListed.{firm_listed, all_ascend}
+use Rattle.nf_thin_laws.proofs.PlacesBelow.{bounded_below}
 use Rattle.nf_pattern.specs.Front.{IsListingOf}
-use Rattle.nf_narrow.specs.declared.firm.Firm.{Firm}
-use Rattle.nf_narrow.specs.Rows.{most}
-use Rattle.nf_narrow.specs.Firming.{states_of_firm, firm_choices}
+use Rattle.nf_thin_narrow.specs.declared.firm.Firm.{Firm}
+use Rattle.nf_thin_narrow.specs.Rows.{most}
+use Rattle.nf_thin_narrow.specs.Firming.{states_of_firm, firm_choices}
 use Rattle.nf_thin.specs.Firming.{HaveFirm}
 use Rattle.nf_thin.specs.Searching.{question_of}
 

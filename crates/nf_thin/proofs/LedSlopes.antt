@@ -4,7 +4,7 @@ use Rattle.nf_rational.specs.Rational.{ℚ}
 use Rattle.nf_model.specs.Network.{Network}
 use Rattle.nf_model.specs.ThinFlow.{Sets}
 use Rattle.nf_model.specs.Pattern.{Pattern, IsSolution}
-use Rattle.nf_equation_laws.specs.Equations.{IsPatternIn}
+use Rattle.nf_thin_equation_laws.specs.Equations.{IsPatternIn}
 use Rattle.nf_thin_laws.specs.PatternLaws.{EachIsLed}
 use Rattle.nf_thin_laws.proofs.Accepted.{IsThinFlow-accepted}
 use Rattle.nf_thin.specs.Slopes.{AreThinSlopes}

@@ -3,20 +3,20 @@ use Rattle.std.proofs.Common.{◌≡◌, ⊎_elim, ℕ, suc, ◌<◌, List, leng
 use Rattle.std.specs.Prelude.{Some, None, slice_get, Ok, Err}
 use Rattle.std.proofs.lemmas.Option.{same_Some}
 use Rattle.nf_rational.specs.Rational.{ℚ}
-use Rattle.nf_work.specs.Passing.{Passing}
+use Rattle.nf_frac_def.specs.Passing.{Passing}
 use Rattle.nf_model.specs.Network.{Network, IsNetwork, hops, unbounded}
 use Rattle.nf_model.specs.ThinFlow.{Sets}
 use Rattle.nf_model.specs.Pattern.{Pattern, IsPattern, IsListedIn, IsBefore}
-use Rattle.nf_lists.specs.Accepted.{IsAccepted}
-use Rattle.nf_plain_laws.proofs.Naturals.{before_or_at}
-use Rattle.nf_listing_laws.specs.Forcing.{filled, IsForcing}
-use Rattle.nf_listing_laws.specs.Laws.{Narrows, NoneFilledBefore}
-use Rattle.nf_listing_laws.proofs.Forced.{left_count, filled_listed}
-use Rattle.nf_listing_laws.proofs.Narrowed.{order_put, no_earlier_place}
+use Rattle.nf_thin_def.specs.Accepted.{IsAccepted}
+use Rattle.nf_rational_laws.proofs.Naturals.{before_or_at}
+use Rattle.nf_thin_laws.specs.Forcing.{filled, IsForcing}
+use Rattle.nf_thin_laws.specs.NarrowLaws.{Narrows, NoneFilledBefore}
+use Rattle.nf_thin_laws.proofs.Forced.{left_count, filled_listed}
+use Rattle.nf_thin_laws.proofs.Narrowed.{order_put, no_earlier_place}
 use Rattle.nf_pattern.specs.Given.{Question, IsListedBy, Given, Last, AtStart, UpTo, IsLater, IsNext, Gives}
-use Rattle.nf_narrow.specs.Asking.{question_left, StandsWithin, GivenUpTo, StandsAt}
-use Rattle.nf_narrow.proofs.Places.{given_next}
-use Rattle.nf_equation_laws.specs.Equations.{IsPatternIn}
+use Rattle.nf_thin_narrow.specs.Asking.{question_left, StandsWithin, GivenUpTo, StandsAt}
+use Rattle.nf_thin_narrow.proofs.Places.{given_next}
+use Rattle.nf_thin_equation_laws.specs.Equations.{IsPatternIn}
 use Rattle.nf_thin.specs.declared.thin.Thin.{Thin}
 use Rattle.nf_thin.specs.declared.fault.SearchFault.{SearchFault}
 use Rattle.nf_thin.specs.declared.vain.Vain.{Vain}

@@ -11,11 +11,11 @@ use Rattle.nf_rational_laws.proofs.Linear.{le, eq, linear_le, linear_eq}
 use Rattle.nf_rational_laws.proofs.Order.{≤ℚ_of_same}
 use Rattle.nf_rational_laws.proofs.Chains.{≤ℚ_trans}
 use Rattle.nf_rational_laws.proofs.Tests.{le_of_test, test_of_le}
-use Rattle.nf_work.specs.declared.Op.{Op}
-use Rattle.nf_work.specs.declared.Op.TheVariants.{Sum, Difference}
-use Rattle.nf_work.specs.declared.Passed.{Passed}
-use Rattle.nf_work.specs.Passing.{Passing, result_of}
-use Rattle.nf_work.specs.Checked.{checked}
+use Rattle.nf_frac_def.specs.declared.Op.{Op}
+use Rattle.nf_frac_def.specs.declared.Op.TheVariants.{Sum, Difference}
+use Rattle.nf_frac_def.specs.declared.Passed.{Passed}
+use Rattle.nf_frac_def.specs.Passing.{Passing, result_of}
+use Rattle.nf_frac_def.specs.Checked.{checked}
 use Rattle.nf_model.specs.declared.State.{State}
 use Rattle.nf_model.specs.declared.State.TheVariants.{Tight, Full, Zero}
 use Rattle.nf_model.specs.Pattern.{Fills, Equation, Inequality}

@@ -1,15 +1,15 @@
 -- The result of a search that tries only listed patterns with the forced states.
 use Rattle.std.specs.Prelude.{◌≡◌, ℕ, ◌<◌, ◌≤◌, List, Option, Some, None, Result, Ok, Err}
 use Rattle.nf_rational.specs.Rational.{ℚ}
-use Rattle.nf_work.specs.Passing.{Passing}
+use Rattle.nf_frac_def.specs.Passing.{Passing}
 use Rattle.nf_model.specs.Network.{Network}
 use Rattle.nf_model.specs.ThinFlow.{Sets}
 use Rattle.nf_model.specs.Pattern.{Pattern, IsSolution}
-use Rattle.nf_lists.specs.Accepted.{IsAccepted}
-use Rattle.nf_lists.specs.Listing.{HasPlace}
-use Rattle.nf_lists.specs.Search.{SearchAnswer, Found}
-use Rattle.nf_listing_laws.specs.Forcing.{filled}
-use Rattle.nf_listing_laws.specs.Laws.{Narrows, NoneFilledBefore}
+use Rattle.nf_thin_def.specs.Accepted.{IsAccepted}
+use Rattle.nf_thin_def.specs.Listing.{HasPlace}
+use Rattle.nf_thin_def.specs.Search.{SearchAnswer, Found}
+use Rattle.nf_thin_laws.specs.Forcing.{filled}
+use Rattle.nf_thin_laws.specs.NarrowLaws.{Narrows, NoneFilledBefore}
 use Rattle.nf_thin.specs.declared.thin.Thin.{Thin}
 use Rattle.nf_thin.specs.declared.thin.ThinFlow.{ThinFlow}
 use Rattle.nf_thin.specs.declared.fault.SearchFault.{SearchFault}

@@ -6,8 +6,8 @@ use Rattle.nf_model.specs.Walk.{Hop, IsHop}
 use Rattle.nf_model.specs.Network.{Network, hops, unbounded}
 use Rattle.nf_model.specs.ThinFlow.{Sets}
 use Rattle.nf_model.specs.Pattern.{Pattern, HasState}
-use Rattle.nf_listing_laws.specs.Firm.{AreFirm}
-use Rattle.nf_narrow.specs.declared.firm.Firm.{Firm}
+use Rattle.nf_thin_laws.specs.Firm.{AreFirm}
+use Rattle.nf_thin_narrow.specs.declared.firm.Firm.{Firm}
 
 abbrev pub HaveFirm : Network → Sets → Pattern → List Firm → Type 0
 HaveFirm net sets listed firm = AreFirm net.nodes net.source (hops net) sets (unbounded net) listed

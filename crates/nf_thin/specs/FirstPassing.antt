@@ -1,7 +1,7 @@
 -- The first pattern of which an operation passes, with its place.
 use Rattle.std.specs.Prelude.{ℕ, Option, Some, None}
 use Rattle.nf_rational.specs.Rational.{ℚ}
-use Rattle.nf_work.specs.declared.PassedAt.{PassedAt}
+use Rattle.nf_frac_def.specs.declared.PassedAt.{PassedAt}
 use Rattle.nf_thin.specs.declared.fault.SearchFault.{SearchFault}
 
 -- The first recorded pattern stays; the present one is recorded if there is none.

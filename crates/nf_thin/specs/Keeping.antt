@@ -2,7 +2,7 @@
 use Rattle.std.specs.Prelude.{◌≡◌, ℕ, true, false, Some}
 use Rattle.nf_model.specs.Pattern.{Pattern}
 use Rattle.nf_pattern.specs.Given.{Question, Given}
-use Rattle.nf_narrow.specs.Asking.{StandsWithin, IsBehind, StandsAt}
+use Rattle.nf_thin_narrow.specs.Asking.{StandsWithin, IsBehind, StandsAt}
 use Rattle.nf_thin.specs.declared.standing.Standing.{Standing}
 use Rattle.nf_thin.specs.declared.pace.Pace.{Pace}
 

@@ -1,11 +1,11 @@
 -- A pattern known to be accepted.
 use Rattle.std.specs.Prelude.{◌≡◌, ℕ, length}
 use Rattle.nf_rational.specs.Rational.{ℚ}
-use Rattle.nf_work.specs.Passing.{Passing}
+use Rattle.nf_frac_def.specs.Passing.{Passing}
 use Rattle.nf_model.specs.Network.{Network}
 use Rattle.nf_model.specs.ThinFlow.{Sets}
 use Rattle.nf_model.specs.Pattern.{IsSolution}
-use Rattle.nf_lists.specs.Accepted.{IsAccepted}
+use Rattle.nf_thin_def.specs.Accepted.{IsAccepted}
 use Rattle.nf_thin.specs.declared.thin.Thin.{Thin}
 use Rattle.nf_thin.specs.declared.known.Known.{Known}
 

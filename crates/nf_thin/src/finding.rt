@@ -1,12 +1,12 @@
 // The narrow search, by known slopes of a thin flow. It tries only listed patterns with the states that the slopes force.
 ghost use Rattle.std.specs.Prelude.{◌≡◌, IfOk, IfSome, None};
-ghost use Rattle.nf_work.specs.Passing.{passes_Q};
+ghost use Rattle.nf_frac_def.specs.Passing.{passes_Q};
 ghost use Rattle.nf_model.specs.Network.{IsNetwork, unbounded as unbounded_of};
 ghost use Rattle.nf_model.specs.Pattern.{IsPattern};
-ghost use Rattle.nf_lists.specs.Search.{IsSearch};
-ghost use Rattle.nf_listing_laws.specs.Forcing.{IsForcing};
+ghost use Rattle.nf_thin_def.specs.Search.{IsSearch};
+ghost use Rattle.nf_thin_laws.specs.Forcing.{IsForcing};
 ghost use Rattle.nf_pattern.specs.Given.{AtStart, IsQuestion};
-ghost use Rattle.nf_narrow.specs.Asking.{question_left};
+ghost use Rattle.nf_thin_narrow.specs.Asking.{question_left};
 ghost use Rattle.nf_thin.specs.Searching.{AreSetsOf, question_of};
 ghost use Rattle.nf_thin.specs.Sifting.{Guides};
 ghost use Rattle.nf_thin.specs.Finding.{NarrowFinds, FindsBy};
@@ -20,9 +20,9 @@ use crate::thin::{Thin, ThinFlow};
 use crate::vain::Vain;
 use nf_frac::Q;
 use nf_graph::{LinkSets, NodeId};
-use nf_narrow::{fill, forced_by, narrow_listing};
 use nf_net::Network;
 use nf_pattern::{Pattern, Patterns};
+use nf_thin_narrow::{fill, forced_by, narrow_listing};
 use std::alloc::{AllocError, Global};
 
 // Tries the patterns left without the forced links, with the forced states put in, until one is accepted or its rank in the whole listing

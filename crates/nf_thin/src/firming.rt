@@ -7,9 +7,9 @@ ghost use Rattle.nf_thin.specs.Searching.{AreSetsOf};
 
 use nf_graph::{LinkId, LinkSets, NodeId};
 use nf_model::State;
-use nf_narrow::Firm;
 use nf_net::Network;
 use nf_pattern::Pattern;
+use nf_thin_narrow::Firm;
 use std::alloc::{AllocError, Global};
 
 // Returns whether the state is Tight or Full, so that the link enters its head.

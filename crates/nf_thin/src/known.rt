@@ -1,17 +1,17 @@
 // A pattern known to be accepted. If it is listed, the search finds it without a table.
 ghost use Rattle.std.specs.Prelude.{IfOk, IfSome};
-ghost use Rattle.nf_work.specs.Passing.{passes_Q};
-ghost use Rattle.nf_guess.specs.Guessing.{IsSolved};
+ghost use Rattle.nf_frac_def.specs.Passing.{passes_Q};
+ghost use Rattle.nf_thin_guess.specs.Guessing.{IsSolved};
 ghost use Rattle.nf_thin.specs.Knowing.{IsKnown, IsThinAt};
 ghost use Rattle.nf_thin.specs.Slopes.{AreThinSlopes};
 
 use crate::thin::Thin;
 use nf_frac::{Halt, Q};
 use nf_graph::LinkSets;
-use nf_guess::SolvedPattern;
 use nf_net::Network;
-use nf_one_pattern::{Outcome, each_is_led, judge_values};
 use nf_pattern::Pattern;
+use nf_thin_guess::SolvedPattern;
+use nf_thin_one::{Outcome, each_is_led, judge_values};
 use std::alloc::{AllocError, Global};
 
 /// An accepted pattern, with the flow of each link and the slope of each node.

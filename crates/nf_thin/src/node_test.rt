@@ -2,7 +2,7 @@
 // fails the test is not accepted, and needs no table.
 ghost use Rattle.std.specs.Prelude.{◌≡◌, ◌<◌, ℕ, suc, true, List, length, slice_get, slice_set, Some, None, IfOk};
 ghost use Rattle.nf_rational.specs.Rational.{ℚ};
-ghost use Rattle.nf_work.specs.Passing.{beyond, passes_Q};
+ghost use Rattle.nf_frac_def.specs.Passing.{beyond, passes_Q};
 ghost use Rattle.nf_model.specs.Entries.{number_at};
 ghost use Rattle.nf_model.specs.Network.{Network as SeenNetwork, Link as SeenLink, IsLink, IsNetwork};
 ghost use Rattle.nf_thin.specs.Ranges.{IsWithin};
@@ -12,8 +12,8 @@ use crate::ranges::{Range, flow_range};
 use nf_frac::Q;
 use nf_graph::{LinkId, LinkSets, NodeId};
 use nf_net::Network;
-use nf_one_pattern::{full_flow, surplus};
 use nf_pattern::Pattern;
+use nf_thin_one::{full_flow, surplus};
 use std::alloc::{AllocError, Global};
 
 /// Returns the flow that fills each link at these slopes of the nodes, an amount per unit of time, in link order. An entry is `None` if the

@@ -8,9 +8,9 @@ ghost use Rattle.nf_thin.specs.Searching.{AreSetsOf, question_of};
 use crate::listings::listing;
 use crate::standing::{Standing, is_early, is_late};
 use nf_graph::LinkSets;
-use nf_narrow::goes_on_to;
 use nf_net::Network;
 use nf_pattern::{Pattern, Patterns};
+use nf_thin_narrow::goes_on_to;
 use std::alloc::{AllocError, Global};
 
 // The full listing is advanced only after this many rejected patterns. Before that, the next bounds often decide.

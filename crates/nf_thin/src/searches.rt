@@ -1,10 +1,10 @@
 // The search for a thin flow, by the first accepted pattern of the listing.
 ghost use Rattle.std.specs.Prelude.{◌≡◌, IfOk};
-ghost use Rattle.nf_work.specs.Passing.{passes_Q};
+ghost use Rattle.nf_frac_def.specs.Passing.{passes_Q};
 ghost use Rattle.nf_model.specs.Network.{IsNetwork, unbounded as unbounded_of};
 ghost use Rattle.nf_model.specs.ThinFlow.{IsThinFlow};
 ghost use Rattle.nf_model.specs.Pattern.{IsPattern};
-ghost use Rattle.nf_lists.specs.Search.{IsSearch};
+ghost use Rattle.nf_thin_def.specs.Search.{IsSearch};
 ghost use Rattle.nf_thin.specs.Searching.{Searches, SlopesAreOnly, AreSetsOf, AsksOf};
 ghost use Rattle.nf_thin.specs.Finding.{Finds};
 

@@ -1,10 +1,10 @@
 // Sifting of listed patterns by slopes of a thin flow: some are rejected without a table.
 ghost use Rattle.std.specs.Prelude.{◌≡◌, ◌≤◌, List, length, None, IfOk, IfSome};
 ghost use Rattle.nf_rational.specs.Rational.{ℚ};
-ghost use Rattle.nf_work.specs.Passing.{passes_Q};
+ghost use Rattle.nf_frac_def.specs.Passing.{passes_Q};
 ghost use Rattle.nf_model.specs.Network.{IsNetwork};
 ghost use Rattle.nf_model.specs.Pattern.{IsListedIn};
-ghost use Rattle.nf_equation_laws.specs.Equations.{IsPatternIn};
+ghost use Rattle.nf_thin_equation_laws.specs.Equations.{IsPatternIn};
 ghost use Rattle.nf_thin.specs.Searching.{AreSetsOf};
 ghost use Rattle.nf_thin.specs.Conserving.{CanFlow};
 ghost use Rattle.nf_thin.specs.Sifting.{Guides, SiftsNext};
@@ -19,10 +19,10 @@ use crate::trying_next::try_next;
 use crate::vain::Vain;
 use nf_frac::Q;
 use nf_graph::{LinkSets, NodeId};
-use nf_guess::guess;
 use nf_net::Network;
-use nf_one_pattern::is_one_pattern;
 use nf_pattern::Pattern;
+use nf_thin_guess::guess;
+use nf_thin_one::is_one_pattern;
 use std::alloc::{AllocError, Global};
 
 /// A pattern known to be accepted, with its flows and slopes, and the flows that fill the links at these slopes.

@@ -2,7 +2,7 @@
 ghost use Rattle.std.specs.Prelude.{◌≡◌, true, false, length, IfOk};
 ghost use Rattle.nf_model.specs.Network.{unbounded as unbounded_of};
 ghost use Rattle.nf_model.specs.Pattern.{IsPattern};
-ghost use Rattle.nf_narrow.specs.Asking.{StandsWithin};
+ghost use Rattle.nf_thin_narrow.specs.Asking.{StandsWithin};
 ghost use Rattle.nf_thin.specs.Keeping.{Tells};
 ghost use Rattle.nf_thin.specs.Searching.{AreSetsOf, question_of};
 
@@ -10,9 +10,9 @@ use crate::firming::firm_states;
 use crate::first::first_listed;
 use crate::listings::{listing, unbounded_flags};
 use nf_graph::LinkSets;
-use nf_narrow::{firm_ways_before, goes_on_to, sole_flags, ways_before};
 use nf_net::Network;
 use nf_pattern::Pattern;
+use nf_thin_narrow::{firm_ways_before, goes_on_to, sole_flags, ways_before};
 use std::alloc::{AllocError, Global};
 
 /// The budget status of a listed pattern, as far as it is known: its rank is within the budget, or beyond it.

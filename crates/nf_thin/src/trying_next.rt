@@ -1,7 +1,7 @@
 // One step of the search, within the budget.
 ghost use Rattle.std.specs.Prelude.{◌≤◌};
-ghost use Rattle.nf_work.specs.Passing.{passes_Q};
-ghost use Rattle.nf_equation_laws.specs.Equations.{IsPatternIn};
+ghost use Rattle.nf_frac_def.specs.Passing.{passes_Q};
+ghost use Rattle.nf_thin_equation_laws.specs.Equations.{IsPatternIn};
 ghost use Rattle.nf_thin.specs.Searching.{TriesNext};
 
 use crate::fault::SearchFault;
@@ -10,8 +10,8 @@ use crate::vain::Vain;
 use nf_frac::{Halt, Q};
 use nf_graph::LinkSets;
 use nf_net::Network;
-use nf_one_pattern::{Outcome, try_one};
 use nf_pattern::Pattern;
+use nf_thin_one::{Outcome, try_one};
 use std::alloc::Global;
 
 /// Tries the next pattern. Returns its thin flow, or `None` if the pattern is not accepted. Refuses if the budget is spent.

@@ -9,7 +9,7 @@ use Rattle.nf_model.specs.Phases.{AreStartLabels, moved, IsPhaseLength, IsPhase,
 use Rattle.nf_model_laws.proofs.OneValue.{IsLeastTransit-unique, IsPhaseLength-unique}
 use Rattle.nf_thin_laws.proofs.ActiveLinks.{HoldNoCycle-sets_at}
 use Rattle.nf_thin_laws.proofs.Slopes.{slopes-unique}
-use Rattle.nf_plain_laws.proofs.Entries.{same_entries}
+use Rattle.nf_rational_laws.proofs.Entries.{same_entries}
 
 pub AreStartLabels-unique : (net : Network) (labels others : List ℚ) → AreStartLabels net labels → AreStartLabels net others → labels ≡ others
 AreStartLabels-unique net labels others p q = same_entries 0ℚ labels others (p.count ∙ sym q.count)

@@ -17,7 +17,7 @@ use Rattle.nf_model_laws.proofs.Networks.{link_at}
 use Rattle.nf_thin_laws.specs.ActiveLinks.{AreSets}
 use Rattle.nf_thin_laws.specs.PatternLaws.{EachIsLed}
 use Rattle.nf_thin_laws.proofs.Flags.{flag, flag-cases}
-use Rattle.nf_plain_laws.proofs.Entries.{entry}
+use Rattle.nf_rational_laws.proofs.Entries.{entry}
 
 -- A filled link has a capacity, and two flows that fill it do so by this capacity.
 pub record FillBoth (x t y v : ℚ) : Type 0 where

@@ -31,7 +31,7 @@ use Rattle.nf_thin_laws.proofs.Cuts.{fall_none, fall_into, fall_out, fall_same, 
 use Rattle.nf_model_laws.proofs.Totals.{sink_takes}
 use Rattle.nf_thin_laws.proofs.Forests.{Dart, Carries, forest-none}
 use Rattle.nf_thin_laws.proofs.ActiveLinks.{none_first}
-use Rattle.nf_plain_laws.proofs.Entries.{entry, same_entries}
+use Rattle.nf_rational_laws.proofs.Entries.{entry, same_entries}
 
 -- ---- filled links: x and y are their flows, t and v the slopes of their heads
 fill_more : (x y c t v : ℚ) → 0ℚ <ℚ c → x ≡ c *ℚ t → y ≡ c *ℚ v → v <ℚ t → y <ℚ x

@@ -16,7 +16,7 @@ use Rattle.nf_thin_laws.proofs.Flags.{flag, flag-cases}
 use Rattle.nf_thin_laws.proofs.LinkLaws.{LinkLaw, LinkLaw-of, into_le, out_le, stuck}
 use Rattle.nf_thin_laws.proofs.Cuts.{fall_none, fall_into, fall_out, fall_same, into_equal, same_carried}
 use Rattle.nf_thin_laws.proofs.ActiveLinks.{none_first, NoneEntersSource-acyclic}
-use Rattle.nf_plain_laws.proofs.Entries.{same_entries}
+use Rattle.nf_rational_laws.proofs.Entries.{same_entries}
 
 pub EachIsEntered-thin : (net : Network) (sets : Sets) (rate : ℚ) (flows slopes : List ℚ) → IsThinFlow net sets rate flows slopes → EachIsEntered net sets
 EachIsEntered-thin net sets rate flows slopes thin v h other =

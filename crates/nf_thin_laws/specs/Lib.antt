@@ -2,3 +2,8 @@ pub mod ActiveLinks
 pub mod PatternLaws
 pub mod SlopeLaws
 pub mod MemberLaws
+pub mod ListLaws
+pub mod Forcing
+pub mod Ways
+pub mod Firm
+pub mod NarrowLaws

@@ -1,11 +1,20 @@
 //! Laws of thin flows with resetting: theorems between the definitions of the model, each the contract of a public function with
 //! an empty body. The proofs are in `proofs/`.
+//!
+//! Laws of searches and runs: there is at most one listing, one answer and one report, and where no operation passes the lists
+//! have their exact values. Each is the contract of a function that does nothing; the proofs are in `proofs/`.
+//!
+//! Laws of listings of which part is gone through: where slopes of a thin flow are known, the first accepted pattern is found among
+//! those that have the states which the slopes force; and at which place of the whole listing a pattern stands at most. Each is the
+//! contract of a public function with an empty body; the proofs are in `proofs/`.
 #![tactic(auto)]
 
 ghost use Rattle.nf_thin_laws.specs.ActiveLinks.{ActiveLinksHoldNoCycle};
 ghost use Rattle.nf_thin_laws.specs.PatternLaws.{AcceptedPatternIsThin, SlopesAllowStates, NoListedPatternIsSingular};
 ghost use Rattle.nf_thin_laws.specs.MemberLaws.{OneLinkHasPhase};
 ghost use Rattle.nf_thin_laws.specs.SlopeLaws.{SlopesAreUnique, PhaseSequencesAgree, ThinFlowComesToSink};
+ghost use Rattle.nf_thin_laws.specs.ListLaws.{ListingIsUnique, SearchHasOneAnswer, RunHasOneReport, RunEndsAtLabels, ValuesAreExact, StepsAreTheModels};
+ghost use Rattle.nf_thin_laws.specs.NarrowLaws.{ForcedPatternsAreListed, NarrowedSearchTells, SlopesForceStates, PlacesAreBounded, ListedStatesAreChoices, PlacesAreBoundedBelow, FirmAssignmentsAreListed, NarrowedSearchAnswers};
 
 /// The active links of labels hold no cycle. If the active links hold no cycle and lead to each node except the source, none leads to the
 /// source.
@@ -48,4 +57,81 @@ pub fn slopes_allow_states()
 /// The definitions of listed and solvable patterns and of phase sequences have members: those of a network of one link.
 pub fn one_link_has_phase()
     ensures { OneLinkHasPhase }
+{}
+
+/// A network's listed patterns have at most one listing, for each base pattern.
+pub fn listing_is_unique()
+    ensures { ListingIsUnique }
+{}
+
+/// A search has at most one answer, with all its values: a thin flow, an exceeded budget, a passing operation, or no pattern.
+pub fn search_has_one_answer()
+    ensures { SearchHasOneAnswer }
+{}
+
+/// The phase run of a network, with its horizon and budgets, has at most one report. Curves, rates, the time reached, the stop and the last
+/// pattern are all determined.
+pub fn run_has_one_report()
+    ensures { RunHasOneReport }
+{}
+
+/// The curves of a phase run end at the departure reached. A link's inflow and queue end at its tail's label there, and its outflow at its
+/// head's label.
+pub fn run_ends_at_labels()
+    ensures { RunEndsAtLabels }
+{}
+
+/// The value of an operation sequence does not depend on the bound on a fraction's numerator and denominator. If no operation passes, the
+/// value is exact.
+pub fn values_are_exact()
+    ensures { ValuesAreExact }
+{}
+
+/// If no operation passes, the slack operations give the links' slacks, and the advance operations move the labels. They move them for the
+/// extension length, cut at the horizon.
+pub fn steps_are_the_models()
+    ensures { StepsAreTheModels }
+{}
+
+/// The listed patterns with the forced states are those listed without the forced links, in the same order.
+pub fn forced_patterns_are_listed()
+    ensures { ForcedPatternsAreListed }
+{}
+
+/// A search among patterns with the forced states determines the result of the search among all patterns. This holds if each listed and
+/// solvable pattern has the forced states.
+pub fn narrowed_search_tells()
+    ensures { NarrowedSearchTells }
+{}
+
+/// The slopes of a thin flow force states that each listed and solvable pattern has, if the active links hold no cycle.
+pub fn slopes_force_states()
+    ensures { SlopesForceStates }
+{}
+
+/// The rank of a listed pattern is at most one more than the number of assignments of states before it.
+pub fn places_are_bounded()
+    ensures { PlacesAreBounded }
+{}
+
+/// No listed pattern has Full for an unbounded link, or Zero for a link that alone can enter its head.
+pub fn listed_states_are_choices()
+    ensures { ListedStatesAreChoices }
+{}
+
+/// The rank of a listed pattern is greater than the number of assignments of freely combinable states before it.
+pub fn places_are_bounded_below()
+    ensures { PlacesAreBoundedBelow }
+{}
+
+/// Each assignment of freely combinable states is listed. A link may be Tight only if it is Tight in a listed pattern, and no unbounded
+/// link may be Full. Into each node except the source, some link is resetting or may not be Zero.
+pub fn firm_assignments_are_listed()
+    ensures { FirmAssignmentsAreListed }
+{}
+
+/// A search among patterns with the forced states gives the answer of the search. This holds if the rank of the found pattern is known to
+/// be within the budget or beyond it.
+pub fn narrowed_search_answers()
+    ensures { NarrowedSearchAnswers }
 {}

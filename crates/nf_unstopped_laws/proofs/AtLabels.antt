@@ -9,32 +9,32 @@ use Rattle.nf_rational_laws.proofs.Polynomial.{reading_of}
 use Rattle.nf_rational_laws.proofs.Order.{not_both_ℚ}
 use Rattle.nf_rational_laws.proofs.Chains.{≤ℚ_refl}
 use Rattle.nf_rational_laws.proofs.Linear.{eq, linear_eq}
-use Rattle.nf_work.specs.Passing.{Passing}
+use Rattle.nf_frac_def.specs.Passing.{Passing}
 use Rattle.nf_model.specs.Curve.{Within}
 use Rattle.nf_model.specs.Network.{Link, Network, IsNetwork, IsLink, hop_of, rate_at}
 use Rattle.nf_model.specs.ThinFlow.{slack, sets_at}
 use Rattle.nf_model.specs.Equilibrium.{Flow, label, Equilibrium}
 use Rattle.nf_model_laws.proofs.Slacks.{active_of_slack, slack_of_resetting}
 use Rattle.nf_model_laws.proofs.Supply.{rate_from-not_negative}
-use Rattle.nf_formats.specs.declared.Cause.{Cause}
-use Rattle.nf_formats.specs.Report.{Report, IsWellFormed}
-use Rattle.nf_lists.specs.PhaseRun.{Standing, Bounds, Runs, at_horizon, at_phases, fails, goes, IsPhaseRun}
+use Rattle.nf_net_def.specs.declared.Cause.{Cause}
+use Rattle.nf_net_def.specs.Report.{Report, IsWellFormed}
+use Rattle.nf_thin_def.specs.PhaseRun.{Standing, Bounds, Runs, at_horizon, at_phases, fails, goes, IsPhaseRun}
 use Rattle.nf_thin_laws.specs.ActiveLinks.{EachIsEntered}
 use Rattle.nf_thin_laws.proofs.ActiveLinks.{AreSets-sets_at, HoldNoCycle-sets_at}
 use Rattle.nf_phase_laws.specs.Invariant.{link_slack, HoldsUpTo, LabelsAre}
-use Rattle.nf_run_laws.proofs.WellRun.{WellRun, WellRun-start}
-use Rattle.nf_run_laws.proofs.Run.{WellRun-goes}
-use Rattle.nf_run_laws.proofs.Standing.{grown_at}
-use Rattle.nf_forever_lists.specs.ForeverRun.{End, IsForeverRun}
+use Rattle.nf_phase_laws.proofs.WellRun.{WellRun, WellRun-start}
+use Rattle.nf_phase_laws.proofs.Run.{WellRun-goes}
+use Rattle.nf_phase_laws.proofs.Standing.{grown_at}
+use Rattle.nf_forever_def.specs.ForeverRun.{End, IsForeverRun}
 use Rattle.nf_forever_laws.proofs.Run.{well_forever}
-use Rattle.nf_resume_lists.specs.Open.{Steps, continues, begins, RunsOn, at_horizon as on_horizon, at_phases as on_phases, fails as fails_on, steps}
-use Rattle.nf_resume_lists.specs.Meanings.{IsResumed}
+use Rattle.nf_resume_def.specs.Open.{Steps, continues, begins, RunsOn, at_horizon as on_horizon, at_phases as on_phases, fails as fails_on, steps}
+use Rattle.nf_resume_def.specs.Meanings.{IsResumed}
 use Rattle.nf_resume_laws.proofs.Invariant.{HoldsUpTo-equilibrium}
 use Rattle.nf_resume_laws.proofs.Stepping.{WellRun-last}
-use Rattle.nf_resumed_laws.proofs.Restarting.{well_restarted}
-use Rattle.nf_existence_laws.specs.Oversupply.{ResetsAreBounded}
-use Rattle.nf_existence_laws.proofs.Supplied.{IsOversupply-some}
-use Rattle.nf_existence_laws.proofs.Exists.{thin_exists}
+use Rattle.nf_resume_run_laws.proofs.Restarting.{well_restarted}
+use Rattle.nf_complete_laws.specs.Oversupply.{ResetsAreBounded}
+use Rattle.nf_complete_laws.proofs.Supplied.{IsOversupply-some}
+use Rattle.nf_complete_laws.proofs.Exists.{thin_exists}
 use Rattle.nf_unstopped_laws.specs.ThinFlows.{HasThinFlow}
 
 -- ---- the invariant of phases holds

@@ -6,17 +6,17 @@ use Rattle.std.specs.List.{enumerate_from}
 use Rattle.nf_rational.specs.Rational.{ℚ}
 use Rattle.nf_rational.specs.Operations.{0ℚ, ◌-ℚ◌}
 use Rattle.nf_rational.specs.Order.{min_ℚ}
-use Rattle.nf_work.specs.declared.Op.{Op}
-use Rattle.nf_work.specs.declared.Op.TheVariants.{Difference, Quotient}
-use Rattle.nf_work.specs.Passing.{result_of}
-use Rattle.nf_work.specs.Checked.{checked, fold_checked, ◌>>=◌}
+use Rattle.nf_frac_def.specs.declared.Op.{Op}
+use Rattle.nf_frac_def.specs.declared.Op.TheVariants.{Difference, Quotient}
+use Rattle.nf_frac_def.specs.Passing.{result_of}
+use Rattle.nf_frac_def.specs.Checked.{checked, fold_checked, ◌>>=◌}
 use Rattle.nf_model.specs.Entries.{number_at}
 use Rattle.nf_model.specs.Network.{Network, ArePieces, next_change}
 use Rattle.nf_model.specs.Phases.{IsPhaseLength}
-use Rattle.nf_lists.specs.Signs.{is_zero, are_opposite}
-use Rattle.nf_lists.specs.Extend.{lesser, to_zero, after_link, least_after, until_change, extend_list}
-use Rattle.nf_lists_laws.specs.Laws.{never}
-use Rattle.nf_run_laws.proofs.Extension.{extension_is, unending_is}
+use Rattle.nf_rational.specs.Signs.{is_zero, are_opposite}
+use Rattle.nf_thin_def.specs.Extend.{lesser, to_zero, after_link, least_after, until_change, extend_list}
+use Rattle.nf_thin_laws.specs.ListLaws.{never}
+use Rattle.nf_phase_laws.proofs.Extension.{extension_is, unending_is}
 
 abbrev HasValue : {A E : Type 0} → Result A E → Type 0
 HasValue {A = A} r = (x : A) × (r ≡ Ok x)

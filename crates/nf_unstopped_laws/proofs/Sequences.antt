@@ -13,9 +13,9 @@ use Rattle.nf_model.specs.Walk.{Hop, IsHop, IsLeastTransit}
 use Rattle.nf_model.specs.Network.{Network, IsNetwork, hop_of, hops}
 use Rattle.nf_model.specs.ThinFlow.{slacks_of}
 use Rattle.nf_model.specs.Phases.{AreStartLabels, moved, IsPhaseLength, IsPhase, PhasesFrom, IsPhaseSequence}
-use Rattle.nf_formats_laws.proofs.Settling.{least_exists}
-use Rattle.nf_lists_laws.proofs.Ending.{from_map}
-use Rattle.nf_existence_laws.proofs.Numbers.{numbers, length-numbers, number_at-numbers}
+use Rattle.nf_net_laws.proofs.Settling.{least_exists}
+use Rattle.nf_thin_laws.proofs.Ending.{from_map}
+use Rattle.nf_complete_laws.proofs.Numbers.{numbers, length-numbers, number_at-numbers}
 use Rattle.nf_unstopped_laws.specs.ThinFlows.{HasThinFlow}
 use Rattle.nf_unstopped_laws.specs.Sequences.{ComesTo, PhaseSequencesGoOn}
 use Rattle.nf_unstopped_laws.proofs.Lengths.{some_length}

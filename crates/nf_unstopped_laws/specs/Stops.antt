@@ -1,13 +1,13 @@
 -- No run stops because no pattern is left.
 use Rattle.std.specs.Prelude.{◌≡◌, ℕ, Option, Some}
 use Rattle.nf_rational.specs.Rational.{ℚ}
-use Rattle.nf_work.specs.Passing.{Passing}
+use Rattle.nf_frac_def.specs.Passing.{Passing}
 use Rattle.nf_model.specs.Network.{Network, IsNetwork}
-use Rattle.nf_formats.specs.declared.Cause.{Cause}
-use Rattle.nf_formats.specs.Report.{Report, IsWellFormed}
-use Rattle.nf_lists.specs.PhaseRun.{Standing, Bounds, IsPhaseRun, IsRunReport}
-use Rattle.nf_forever_lists.specs.ForeverRun.{Forever, IsForever}
-use Rattle.nf_resume_lists.specs.Meanings.{IsResumedReport}
+use Rattle.nf_net_def.specs.declared.Cause.{Cause}
+use Rattle.nf_net_def.specs.Report.{Report, IsWellFormed}
+use Rattle.nf_thin_def.specs.PhaseRun.{Standing, Bounds, IsPhaseRun, IsRunReport}
+use Rattle.nf_forever_def.specs.ForeverRun.{Forever, IsForever}
+use Rattle.nf_resume_def.specs.Meanings.{IsResumedReport}
 
 -- The stop, if there is one, is not that no pattern is left.
 abbrev pub NeverNoPattern : Option (Cause ℚ) → Type 0

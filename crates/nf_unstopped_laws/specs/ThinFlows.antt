@@ -2,18 +2,18 @@
 use Rattle.std.specs.Prelude.{◌≡◌, ℕ, List, Option, Some, slice_get}
 use Rattle.nf_rational.specs.Rational.{ℚ}
 use Rattle.nf_rational.specs.Operations.{0ℚ}
-use Rattle.nf_work.specs.Passing.{Passing}
+use Rattle.nf_frac_def.specs.Passing.{Passing}
 use Rattle.nf_model.specs.Curve.{Within}
 use Rattle.nf_model.specs.Network.{Network, IsNetwork, rate_at}
 use Rattle.nf_model.specs.ThinFlow.{sets_at, IsThinFlow}
 use Rattle.nf_model.specs.Phases.{IsPhaseSequence}
 use Rattle.nf_model.specs.Equilibrium.{Flow, label, Equilibrium}
-use Rattle.nf_formats.specs.declared.Cause.{Cause}
-use Rattle.nf_formats.specs.Report.{Report, IsWellFormed}
-use Rattle.nf_lists.specs.PhaseRun.{Standing, Bounds, IsPhaseRun}
+use Rattle.nf_net_def.specs.declared.Cause.{Cause}
+use Rattle.nf_net_def.specs.Report.{Report, IsWellFormed}
+use Rattle.nf_thin_def.specs.PhaseRun.{Standing, Bounds, IsPhaseRun}
 use Rattle.nf_phase_laws.specs.Invariant.{LabelsAre}
-use Rattle.nf_forever_lists.specs.ForeverRun.{End, IsForeverRun}
-use Rattle.nf_resume_lists.specs.Meanings.{IsResumed}
+use Rattle.nf_forever_def.specs.ForeverRun.{End, IsForeverRun}
+use Rattle.nf_resume_def.specs.Meanings.{IsResumed}
 
 -- A thin flow exists for the sets of these labels and the supply rate at this departure.
 abbrev pub HasThinFlow : Network → ℚ → List ℚ → Type 0

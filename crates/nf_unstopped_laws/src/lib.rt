@@ -1,5 +1,5 @@
 //! Theorems between definitions: a run always ends at the horizon, in a phase that never ends, or at a bound, never because no thin flow
-//! exists. Each phase has a thin flow (`nf_existence_laws`). If no listed pattern is solvable, there is none (`nf_complete_laws`). So some
+//! exists. Each phase has a thin flow (`nf_complete_laws`). If no listed pattern is solvable, there is none (`nf_complete_laws`). So some
 //! pattern is always solvable. Each theorem is the contract of a public function with an empty body.
 #![tactic(auto)]
 

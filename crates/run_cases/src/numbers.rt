@@ -8,7 +8,7 @@
 //
 // The program prints the line, and then the answer or the fault.
 use crate::shown::as_text;
-use nf_numerals::{NumberFault, TextBuf, count, decimal_parts, parts, write_count, write_parts};
+use nf_frac_words::{NumberFault, TextBuf, count, decimal_parts, parts, write_count, write_parts};
 use std::io;
 
 /// 2^127 - 1.

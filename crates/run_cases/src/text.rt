@@ -1,6 +1,6 @@
 // A text as lines.
 ghost use Rattle.std.specs.Prelude.{◌≤◌, length};
-ghost use Rattle.nf_lines.specs.Faults.{longest_text};
+ghost use Rattle.nf_text_def.specs.Faults.{longest_text};
 
 use crate::shown::as_text;
 use nf_net::LONGEST_FILE;

@@ -1,5 +1,5 @@
 use Rattle.std.proofs.Common.{rules}
-use Rattle.nf_lists.specs.Slack.{slack_of}
+use Rattle.nf_thin_def.specs.Slack.{slack_of}
 use Rattle.nf_sets.proofs.slack.Goals as goal
 
 pub returns : goal.returns

@@ -1,14 +1,14 @@
 use Rattle.std.proofs.Common.{◌≡◌, List, drop, ◌+◌, sym, subst, ap, arith}
 use Rattle.nf_rational.specs.Rational.{ℚ}
-use Rattle.nf_work.specs.Checked.{each}
-use Rattle.nf_work.proofs.Each.{with_front}
+use Rattle.nf_frac_def.specs.Checked.{each}
+use Rattle.nf_frac_def.proofs.Each.{with_front}
 use Rattle.nf_graph.proofs.Walks.{IsHop-read}
 use Rattle.std.proofs.lemmas.Result.{IfOk-from_err, err_from_is_err_and}
-use Rattle.nf_work.specs.declared.Part.TheVariants.{Slack}
-use Rattle.nf_work.specs.Checked.{at_part}
-use Rattle.nf_work.specs.Passing.{passes_Q}
-use Rattle.nf_lists.specs.Slack.{slack_of, slack_list}
-use Rattle.nf_lists_laws.proofs.Exact.{slacks_exact}
+use Rattle.nf_frac_def.specs.declared.Part.TheVariants.{Slack}
+use Rattle.nf_frac_def.specs.Checked.{at_part}
+use Rattle.nf_frac_def.specs.Passing.{passes_Q}
+use Rattle.nf_thin_def.specs.Slack.{slack_of, slack_list}
+use Rattle.nf_thin_laws.proofs.Exact.{slacks_exact}
 use Rattle.nf_sets.proofs.Running.{all_said, given_in, passed_in}
 use Rattle.nf_sets.proofs.slacks.Goals as goal
 

@@ -1,7 +1,7 @@
 use Rattle.std.proofs.Common.{ℕ, List, sym, subst}
 use Rattle.std.proofs.lemmas.Result.{err_from_is_err_and}
-use Rattle.nf_command_line.specs.RequestViews.{requested}
-use Rattle.nf_outside.specs.Files.{visit}
+use Rattle.nf_app_words.specs.RequestViews.{requested}
+use Rattle.nf_app_files.specs.Files.{visit}
 use Rattle.nf_app.specs.Requests.{OtherFits, OtherIsText}
 use Rattle.nf_app.proofs.Calls.{given}
 use Rattle.nf_app.proofs.answering.answer_request.Goals as goal

@@ -3,7 +3,7 @@ use Rattle.std.specs.Prelude.{map}
 use Rattle.std.proofs.lemmas.List.{length-map}
 use Rattle.std.proofs.lemmas.Result.{err_from_is_err_and}
 use Rattle.nf_curve.specs.Flows.{trace_of}
-use Rattle.nf_report_file.specs.Files.{report_of}
+use Rattle.nf_report_read.specs.Files.{report_of}
 use Rattle.nf_app.proofs.CheckGiven.{report_refused, checking_stopped, verdict_given}
 use Rattle.nf_app.proofs.answering.check_report.Goals as goal
 

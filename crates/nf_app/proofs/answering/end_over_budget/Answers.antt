@@ -1,8 +1,8 @@
 use Rattle.std.proofs.Common.{refl, inl, ap, ◌∙◌}
 use Rattle.std.proofs.lemmas.Result.{err_from_is_err_and}
-use Rattle.nf_quick_lists.specs.Quick as lists
+use Rattle.nf_quick_def.specs.Quick as lists
 use Rattle.std.specs.Prelude.{List}
-use Rattle.nf_answers.specs.QuickText.{augments_text}
+use Rattle.nf_app_answers.specs.QuickText.{augments_text}
 use Rattle.nf_app.proofs.QuickTold.{budget_given}
 use Rattle.nf_app.proofs.answering.end_over_budget.Goals as goal
 

@@ -1,7 +1,7 @@
 use Rattle.std.proofs.Common.{◌≤◌, length, ap, sym, subst, arith}
-use Rattle.nf_command_line.specs.declared.request.Request as code
-use Rattle.nf_command_line.specs.Requests.{Request, CanBeAsked}
-use Rattle.nf_command_line.specs.RequestViews.{requested}
+use Rattle.nf_app_words.specs.declared.request.Request as code
+use Rattle.nf_app_words.specs.Requests.{Request, CanBeAsked}
+use Rattle.nf_app_words.specs.RequestViews.{requested}
 use Rattle.nf_app.specs.Requests.{OtherFits}
 use Rattle.nf_app.specs.Outcomes.{IsGiving}
 use Rattle.nf_app.proofs.answering.find.Goals as goal

@@ -1,7 +1,7 @@
 use Rattle.std.proofs.Common.{subst, inl, inr, refl}
 use Rattle.nf_rational.specs.Rational.{ℚ}
 use Rattle.nf_rational.specs.Order.{◌<ℚ◌}
-use Rattle.nf_work.specs.Passing.{passes_Q}
+use Rattle.nf_frac_def.specs.Passing.{passes_Q}
 use Rattle.nf_resume.specs.Faults.{IsResumeFault}
 use Rattle.nf_resume.specs.declared.fault.ResumeFault.{ResumeFault}
 use Rattle.nf_app.proofs.ResumeGiven.{no_start_given, passes_given, earlier_given}

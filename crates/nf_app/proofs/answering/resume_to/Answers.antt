@@ -1,7 +1,7 @@
 use Rattle.std.proofs.Common.{arith}
 use Rattle.std.proofs.lemmas.Result.{err_from_is_err_and}
-use Rattle.nf_resumed_laws.proofs.Reading.{resumed_reads_back}
-use Rattle.nf_report_file.specs.Files.{report_of}
+use Rattle.nf_resume_run_laws.proofs.Reading.{resumed_reads_back}
+use Rattle.nf_report_read.specs.Files.{report_of}
 use Rattle.nf_phase.specs.Solution.{bounds_of, report_in}
 use Rattle.nf_app.proofs.Reports.{a_report}
 use Rattle.nf_app.proofs.ResumeGiven.{old_refused, gone_on_given}

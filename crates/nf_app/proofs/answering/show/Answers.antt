@@ -1,6 +1,6 @@
 use Rattle.std.proofs.Common.{ℕ, List, refl, subst}
 use Rattle.std.specs.Prelude.{Ok}
-use Rattle.nf_formats.specs.NetFile.{Reads}
+use Rattle.nf_net_def.specs.NetFile.{Reads}
 use Rattle.nf_app.proofs.answering.show.Goals as goal
 
 pub returns : goal.returns

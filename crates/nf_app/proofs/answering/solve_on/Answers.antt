@@ -4,10 +4,10 @@ use Rattle.std.proofs.lemmas.Result.{err_from_is_err_and}
 use Rattle.nf_rational.specs.Rational.{ℚ}
 use Rattle.nf_rational.specs.Operations.{0ℚ}
 use Rattle.nf_rational.specs.Order.{◌≤ℚ◌}
-use Rattle.nf_work.specs.Passing.{passes_Q}
+use Rattle.nf_frac_def.specs.Passing.{passes_Q}
 use Rattle.nf_model.specs.Equilibrium.{Equilibrium}
-use Rattle.nf_forever_lists.specs.Extended.{flow_until}
-use Rattle.nf_growth_laws.specs.TailGrowth.{TailGrows}
+use Rattle.nf_forever_def.specs.Extended.{flow_until}
+use Rattle.nf_forever_laws.specs.TailGrowth.{TailGrows}
 use Rattle.nf_forever.specs.Seen.{forever_in}
 use Rattle.nf_app.proofs.ForeverGiven.{stop_seen, tail_seen, forever_short, forever_ends}
 use Rattle.nf_app.proofs.answering.solve_on.Goals as goal

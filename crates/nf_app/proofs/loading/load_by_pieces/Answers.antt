@@ -4,16 +4,16 @@ use Rattle.std.proofs.lemmas.Result.{err_from_is_err_and}
 use Rattle.nf_rational.specs.Rational.{ℚ}
 use Rattle.nf_rational.specs.Operations.{0ℚ}
 use Rattle.nf_rational.specs.Order.{◌≤ℚ◌}
-use Rattle.nf_work.specs.declared.Part.TheVariants.{Load}
-use Rattle.nf_work.specs.declared.PassedAt.{PassedAt}
-use Rattle.nf_work.specs.Passing.{passes_Q}
-use Rattle.nf_work.specs.Checked.{at_part, Gives}
+use Rattle.nf_frac_def.specs.declared.Part.TheVariants.{Load}
+use Rattle.nf_frac_def.specs.declared.PassedAt.{PassedAt}
+use Rattle.nf_frac_def.specs.Passing.{passes_Q}
+use Rattle.nf_frac_def.specs.Checked.{at_part, Gives}
 use Rattle.nf_model.specs.Curve.{Point}
 use Rattle.nf_model.specs.Network.{Link}
 use Rattle.nf_model_laws.specs.Capacity.{IsPositive}
-use Rattle.nf_load_lists.specs.Cumulative.{checked_cumulative}
-use Rattle.nf_load_lists.specs.Loading as lists
-use Rattle.nf_load_lists.specs.Loads.{load_link_list}
+use Rattle.nf_load_def.specs.Cumulative.{checked_cumulative}
+use Rattle.nf_load_def.specs.Loading as lists
+use Rattle.nf_load_def.specs.Loads.{load_link_list}
 use Rattle.nf_curve.proofs.Exits.{after_err, after_ok, stops_on}
 use Rattle.nf_load.specs.Loadings.{loaded_of}
 use Rattle.nf_app.proofs.loading.load_by_pieces.Goals as goal

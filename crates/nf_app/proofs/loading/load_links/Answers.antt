@@ -3,15 +3,15 @@ use Rattle.std.specs.Prelude.{Ok, Err, zip, map}
 use Rattle.std.proofs.lemmas.Result.{IfOk-from_err, err_from_is_err_and}
 use Rattle.std.proofs.lemmas.List.{map-append, length-append}
 use Rattle.nf_rational.specs.Rational.{ℚ}
-use Rattle.nf_work.specs.declared.Part.TheVariants.{Load}
-use Rattle.nf_work.specs.Passing.{passes_Q}
-use Rattle.nf_work.specs.Checked.{at_part, each, Gives}
-use Rattle.nf_work.proofs.Each.{with_front}
+use Rattle.nf_frac_def.specs.declared.Part.TheVariants.{Load}
+use Rattle.nf_frac_def.specs.Passing.{passes_Q}
+use Rattle.nf_frac_def.specs.Checked.{at_part, each, Gives}
+use Rattle.nf_frac_def.proofs.Each.{with_front}
 use Rattle.nf_model.specs.Network.{Link, Piece}
-use Rattle.nf_load_lists.specs.Loading as lists
-use Rattle.nf_load_lists.specs.Loads.{load_link_list, load_list}
+use Rattle.nf_load_def.specs.Loading as lists
+use Rattle.nf_load_def.specs.Loads.{load_link_list, load_list}
 use Rattle.nf_curve.proofs.Exits.{each_goes, each_stops, each_ends, stops_on}
-use Rattle.nf_readings.specs.LoadsFile.{pieces_at}
+use Rattle.nf_report_def.specs.LoadsFile.{pieces_at}
 use Rattle.nf_load.specs.Loadings.{loaded_of}
 use Rattle.nf_load.specs.declared.loading.Loaded as code
 use Rattle.nf_app.specs.Lists.{loading_list}

@@ -1,9 +1,9 @@
 use Rattle.std.proofs.Common.{◌≡◌, length, drop}
 use Rattle.std.specs.Prelude.{zip, map}
-use Rattle.nf_work.specs.Passing.{passes_Q}
-use Rattle.nf_work.specs.Checked.{each}
-use Rattle.nf_work.proofs.Each.{with_front}
-use Rattle.nf_load_lists.specs.Loads.{load_link_list}
+use Rattle.nf_frac_def.specs.Passing.{passes_Q}
+use Rattle.nf_frac_def.specs.Checked.{each}
+use Rattle.nf_frac_def.proofs.Each.{with_front}
+use Rattle.nf_load_def.specs.Loads.{load_link_list}
 use Rattle.nf_load.specs.Loadings.{loaded_of}
 use Rattle.nf_app.proofs.loading.load_links.Given as goal
 

@@ -1,7 +1,7 @@
 use Rattle.std.proofs.Common.{◌∙◌, sym, ap, length}
 use Rattle.std.proofs.lemmas.Result.{err_from_is_err_and}
-use Rattle.nf_work.specs.declared.Halt.{Halt}
-use Rattle.nf_flows_file.specs.Files.{given_of}
+use Rattle.nf_frac_def.specs.declared.Halt.{Halt}
+use Rattle.nf_complete_read.specs.Files.{given_of}
 use Rattle.nf_app.proofs.SettleCalls.{start_stopped, rate_there, Called, sets_good, sets_source, sets_rate, tested, thin_there, thin_again, not_thin, test_stopped, settling_stopped, settled_there, none_of, some_of}
 use Rattle.nf_app.proofs.settling.settle_at_start.Goals as goal
 

@@ -1,11 +1,11 @@
 use Rattle.std.proofs.lemmas.Result.{err_from_is_err_and}
 use Rattle.std.proofs.Common.{List, ap, ◌∙◌}
 use Rattle.nf_model.specs.Equilibrium.{points_at}
-use Rattle.nf_work.specs.Passing.{passes_Q}
+use Rattle.nf_frac_def.specs.Passing.{passes_Q}
 use Rattle.nf_curve.specs.Flows.{flow_of}
 use Rattle.nf_curve.specs.Points.{Grown}
-use Rattle.nf_check_lists.specs.declared.CheckRule.TheVariants.{C3}
-use Rattle.nf_check_lists.specs.declared.Subject.TheVariants.{Node}
+use Rattle.nf_check_def.specs.declared.CheckRule.TheVariants.{C3}
+use Rattle.nf_check_def.specs.declared.Subject.TheVariants.{Node}
 use Rattle.nf_check_rules.specs.Kept.{curves_of, labels_in, loaded_in}
 use Rattle.nf_check_rules.specs.Steps.{compared_by, arrivals_list}
 use Rattle.nf_check_rules.proofs.Trying.{ends, ends_as, goes_on, tries_as}

@@ -1,8 +1,8 @@
 use Rattle.std.proofs.Common.{◌<◌, sym, ◌∙◌, arith}
 use Rattle.std.proofs.lemmas.Result.{err_from_is_err_and}
-use Rattle.nf_work.specs.Passing.{passes_Q}
+use Rattle.nf_frac_def.specs.Passing.{passes_Q}
 use Rattle.nf_curve.specs.Flows.{flow_of}
-use Rattle.nf_check_lists.specs.CheckList.{arrivals}
+use Rattle.nf_check_def.specs.CheckList.{arrivals}
 use Rattle.nf_check_rules.specs.Kept.{labels_in, loaded_in}
 use Rattle.nf_check_rules.proofs.Looping.{but_ends, but_goes, but_skips, is_other, is_one}
 use Rattle.nf_check.proofs.arrivals.check_arrivals_at.Goals.{then-ne+in_ok-check_arrival, else-ne}

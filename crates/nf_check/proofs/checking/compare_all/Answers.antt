@@ -1,6 +1,6 @@
 use Rattle.std.proofs.lemmas.Result.{err_from_is_err_and}
 use Rattle.std.proofs.Common.{◌∙◌, rules}
-use Rattle.nf_work.specs.Passing.{passes_Q}
+use Rattle.nf_frac_def.specs.Passing.{passes_Q}
 use Rattle.nf_curve.specs.Flows.{flow_of}
 use Rattle.nf_check_rules.specs.Kept.{labels_in, loaded_in}
 use Rattle.nf_check_rules.specs.Steps.{arrivals_list, told_list, balances_list, compared_list}

@@ -1,8 +1,8 @@
 use Rattle.std.proofs.lemmas.Result.{err_from_is_err_and}
 use Rattle.std.proofs.Common.{◌∙◌}
-use Rattle.nf_work.specs.Passing.{passes_Q}
+use Rattle.nf_frac_def.specs.Passing.{passes_Q}
 use Rattle.nf_curve.specs.Flows.{flow_of}
-use Rattle.nf_check_lists.specs.CheckList.{trial}
+use Rattle.nf_check_def.specs.CheckList.{trial}
 use Rattle.nf_check_rules.specs.Kept.{labels_in, loaded_in}
 use Rattle.nf_check_rules.specs.Steps.{worked_list, tested_list}
 use Rattle.nf_check_rules.specs.Trials.{done}

@@ -1,11 +1,11 @@
 use Rattle.std.proofs.lemmas.Result.{err_from_is_err_and}
 use Rattle.std.proofs.Common.{◌∙◌}
 use Rattle.std.specs.List.{enumerate_from}
-use Rattle.nf_work.specs.Passing.{passes_Q}
-use Rattle.nf_work.specs.Checked.{each}
+use Rattle.nf_frac_def.specs.Passing.{passes_Q}
+use Rattle.nf_frac_def.specs.Checked.{each}
 use Rattle.nf_curve.specs.Flows.{flow_of}
-use Rattle.nf_check_lists.specs.Rules.{all_nodes, all_links}
-use Rattle.nf_check_lists.specs.CheckList.{label_cut, inflow_rule, link_rates, loading}
+use Rattle.nf_check_def.specs.Rules.{all_nodes, all_links}
+use Rattle.nf_check_def.specs.CheckList.{label_cut, inflow_rule, link_rates, loading}
 use Rattle.nf_check_rules.specs.Kept.{curves_of, loadings_of}
 use Rattle.nf_check_rules.specs.Steps.{worked_list}
 use Rattle.nf_check_rules.specs.Trials.{done}

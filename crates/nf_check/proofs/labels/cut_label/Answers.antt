@@ -1,16 +1,16 @@
 use Rattle.std.proofs.lemmas.Result.{err_from_is_err_and}
 use Rattle.std.proofs.Common.{◌≡◌, List, ap, ◌∙◌}
-use Rattle.nf_work.specs.Passing.{passes_Q}
-use Rattle.nf_work.specs.declared.Part.TheVariants.{Check}
+use Rattle.nf_frac_def.specs.Passing.{passes_Q}
+use Rattle.nf_frac_def.specs.declared.Part.TheVariants.{Check}
 use Rattle.nf_model.specs.Equilibrium.{points_at}
 use Rattle.nf_curve.specs.Flows.{flow_of}
 use Rattle.nf_curve.specs.Points.{Grown}
-use Rattle.nf_curve_lists.specs.Values.{checked_cut}
-use Rattle.nf_check_lists.specs.declared.CheckRule.TheVariants.{C1}
-use Rattle.nf_check_lists.specs.declared.Subject.TheVariants.{Node}
-use Rattle.nf_check_lists.specs.PointRules.{negative_point}
-use Rattle.nf_check_lists.specs.Trial.{unless}
-use Rattle.nf_check_lists.specs.CheckList.{label_cut}
+use Rattle.nf_curve_def.specs.Values.{checked_cut}
+use Rattle.nf_check_def.specs.declared.CheckRule.TheVariants.{C1}
+use Rattle.nf_check_def.specs.declared.Subject.TheVariants.{Node}
+use Rattle.nf_check_def.specs.PointRules.{negative_point}
+use Rattle.nf_check_def.specs.Trial.{unless}
+use Rattle.nf_check_def.specs.CheckList.{label_cut}
 use Rattle.nf_check_rules.specs.Kept.{curves_of}
 use Rattle.nf_check_rules.proofs.Trying.{goes_on, ends, ends_as, part_goes, part_stops}
 use Rattle.nf_check.proofs.labels.cut_label.Goals as goal

@@ -1,8 +1,8 @@
-use Rattle.nf_load_lists.specs.Loading as lists
+use Rattle.nf_load_def.specs.Loading as lists
 use Rattle.nf_curve.specs.Points.{Grown}
 use Rattle.nf_model.specs.Equilibrium.{points_at}
 use Rattle.nf_check_rules.specs.Kept.{curves_of, labels_in, loaded_in, loadings_of}
-use Rattle.nf_check_lists.specs.Curves.{loaded_at}
+use Rattle.nf_check_def.specs.Curves.{loaded_at}
 use Rattle.nf_load.specs.declared.loading.Loaded.{Loaded}
 use Rattle.nf_load.specs.Loadings.{loaded_of}
 use Rattle.nf_check_rules.proofs.Keeping.{same_some}

@@ -1,9 +1,9 @@
 use Rattle.std.proofs.Common.{◌<◌, ◌≤◌, length, None, refl, arith, rules}
 use Rattle.std.proofs.lemmas.Result.{err_from_is_err_and}
-use Rattle.nf_work.specs.Passing.{passes_Q}
+use Rattle.nf_frac_def.specs.Passing.{passes_Q}
 use Rattle.std.specs.Prelude.{option_map}
 use Rattle.nf_curve.specs.Points.{Grown}
-use Rattle.nf_check_lists.specs.Curves.{with_exit, least_exits}
+use Rattle.nf_check_def.specs.Curves.{with_exit, least_exits}
 use Rattle.nf_check_rules.specs.Kept.{labels_in, loaded_in}
 use Rattle.nf_check_rules.proofs.Looping.{link_there}
 use Rattle.nf_check_rules.proofs.Folding.{fold_first, fold_stops, fold_goes, fold_last}

@@ -1,7 +1,7 @@
 use Rattle.std.proofs.Common.{None}
 use Rattle.std.specs.Prelude.{option_map}
-use Rattle.nf_work.specs.Passing.{passes_Q}
-use Rattle.nf_check_lists.specs.Curves.{with_exit}
+use Rattle.nf_frac_def.specs.Passing.{passes_Q}
+use Rattle.nf_check_def.specs.Curves.{with_exit}
 use Rattle.nf_check_rules.specs.Exits.{AreKept}
 use Rattle.nf_check_rules.specs.Kept.{labels_in, loaded_in}
 use Rattle.nf_check_rules.proofs.Folding.{Folds}

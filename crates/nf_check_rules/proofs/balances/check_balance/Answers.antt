@@ -2,13 +2,13 @@ use Rattle.std.proofs.Common.{sym, ap, ◌∙◌}
 use Rattle.std.proofs.lemmas.Result.{err_from_is_err_and}
 use Rattle.nf_rational.specs.Rational.{ℚ}
 use Rattle.nf_model.specs.Equilibrium.{points_of}
-use Rattle.nf_work.specs.Passing.{passes_Q}
-use Rattle.nf_work.specs.declared.Part.TheVariants.{Check}
+use Rattle.nf_frac_def.specs.Passing.{passes_Q}
+use Rattle.nf_frac_def.specs.declared.Part.TheVariants.{Check}
 use Rattle.nf_curve.specs.Flows.{flow_of}
-use Rattle.nf_check_lists.specs.declared.CheckRule.TheVariants.{C6}
-use Rattle.nf_check_lists.specs.declared.Subject.TheVariants.{Node}
-use Rattle.nf_check_lists.specs.Curves.{total_in, total_out}
-use Rattle.nf_check_lists.specs.CheckList.{balance}
+use Rattle.nf_check_def.specs.declared.CheckRule.TheVariants.{C6}
+use Rattle.nf_check_def.specs.declared.Subject.TheVariants.{Node}
+use Rattle.nf_check_def.specs.Curves.{total_in, total_out}
+use Rattle.nf_check_def.specs.CheckList.{balance}
 use Rattle.nf_check_rules.specs.Kept.{labels_in, loaded_in}
 use Rattle.nf_check_rules.specs.Steps.{compared_by, with_supply_by}
 use Rattle.nf_check_rules.specs.Trials.{of_halt}

@@ -1,12 +1,12 @@
 use Rattle.std.proofs.lemmas.Result.{err_from_is_err_and}
 use Rattle.std.proofs.Common.{◌∙◌}
-use Rattle.nf_work.specs.Passing.{passes_Q}
-use Rattle.nf_work.specs.Checked.{each}
-use Rattle.nf_work.specs.declared.Part.TheVariants.{Load}
-use Rattle.nf_load_lists.specs.Cumulative.{checked_cumulative}
+use Rattle.nf_frac_def.specs.Passing.{passes_Q}
+use Rattle.nf_frac_def.specs.Checked.{each}
+use Rattle.nf_frac_def.specs.declared.Part.TheVariants.{Load}
+use Rattle.nf_load_def.specs.Cumulative.{checked_cumulative}
 use Rattle.nf_curve.specs.Flows.{flow_of}
-use Rattle.nf_check_lists.specs.Rules.{nodes_but}
-use Rattle.nf_check_lists.specs.CheckList.{balance}
+use Rattle.nf_check_def.specs.Rules.{nodes_but}
+use Rattle.nf_check_def.specs.CheckList.{balance}
 use Rattle.nf_check_rules.specs.Kept.{labels_in, loaded_in}
 use Rattle.nf_check_rules.specs.Steps.{balances_list}
 use Rattle.nf_check_rules.specs.Trials.{done}

@@ -1,14 +1,14 @@
 use Rattle.std.proofs.lemmas.Result.{err_from_is_err_and}
 use Rattle.std.proofs.Common.{List, refl, ap, ◌∙◌}
 use Rattle.nf_model.specs.Equilibrium.{points_at, points_of}
-use Rattle.nf_work.specs.Passing.{passes_Q}
-use Rattle.nf_work.specs.declared.Part.TheVariants.{Check}
+use Rattle.nf_frac_def.specs.Passing.{passes_Q}
+use Rattle.nf_frac_def.specs.declared.Part.TheVariants.{Check}
 use Rattle.nf_curve.specs.Flows.{flow_of}
 use Rattle.nf_curve.specs.Points.{Grown}
-use Rattle.nf_check_lists.specs.declared.CheckRule.TheVariants.{C7}
-use Rattle.nf_check_lists.specs.declared.Subject.TheVariants.{Node}
-use Rattle.nf_check_lists.specs.Curves.{total_in, total_out}
-use Rattle.nf_check_lists.specs.CheckList.{sink_rules}
+use Rattle.nf_check_def.specs.declared.CheckRule.TheVariants.{C7}
+use Rattle.nf_check_def.specs.declared.Subject.TheVariants.{Node}
+use Rattle.nf_check_def.specs.Curves.{total_in, total_out}
+use Rattle.nf_check_def.specs.CheckList.{sink_rules}
 use Rattle.nf_check_rules.specs.Kept.{curves_of, labels_in, loaded_in}
 use Rattle.nf_check_rules.specs.Steps.{compared_by, stays_by}
 use Rattle.nf_check_rules.specs.Trials.{of_halt}

@@ -1,11 +1,11 @@
 use Rattle.std.proofs.Common.{◌∙◌}
 use Rattle.std.proofs.lemmas.Result.{err_from_is_err_and}
-use Rattle.nf_work.specs.Passing.{passes_Q}
-use Rattle.nf_work.specs.declared.Part.TheVariants.{Check}
-use Rattle.nf_curve_lists.specs.Sums.{checked_sum}
-use Rattle.nf_curve_lists.specs.Composed.{checked_composed}
-use Rattle.nf_check_lists.specs.declared.CheckRule.TheVariants.{C7}
-use Rattle.nf_check_lists.specs.declared.Subject.TheVariants.{Node}
+use Rattle.nf_frac_def.specs.Passing.{passes_Q}
+use Rattle.nf_frac_def.specs.declared.Part.TheVariants.{Check}
+use Rattle.nf_curve_def.specs.Sums.{checked_sum}
+use Rattle.nf_curve_def.specs.Composed.{checked_composed}
+use Rattle.nf_check_def.specs.declared.CheckRule.TheVariants.{C7}
+use Rattle.nf_check_def.specs.declared.Subject.TheVariants.{Node}
 use Rattle.nf_check_rules.specs.Steps.{compared_by, stays_by}
 use Rattle.nf_check_rules.specs.Trials.{of_halt}
 use Rattle.nf_check_rules.proofs.Trying.{part_goes, part_stops, ends_as, tries_as}

@@ -1,9 +1,9 @@
 use Rattle.nf_curve.specs.Points.{Grown}
-use Rattle.nf_curve_lists.specs.Sums.{checked_sum}
+use Rattle.nf_curve_def.specs.Sums.{checked_sum}
 use Rattle.nf_model.specs.Curve.{Point}
-use Rattle.nf_work.specs.Checked.{Checked, Gives, at_part}
-use Rattle.nf_work.specs.declared.Part.TheVariants.{Check}
-use Rattle.nf_work.specs.Passing.{passes_Q}
+use Rattle.nf_frac_def.specs.Checked.{Checked, Gives, at_part}
+use Rattle.nf_frac_def.specs.declared.Part.TheVariants.{Check}
+use Rattle.nf_frac_def.specs.Passing.{passes_Q}
 use Rattle.nf_rational.specs.Rational.{ℚ}
 use Rattle.std.specs.Prelude.{◌==◌, if◌then◌else◌, Ok}
 use Rattle.std.proofs.Common.{◌≡◌, ℕ, List, Bool, true, sym, ap, subst, ◌∙◌}

@@ -1,11 +1,11 @@
 use Rattle.nf_check_rules.proofs.Trying.{ends, part_passes, part_goes, tries_as}
 use Rattle.nf_check_rules.specs.Steps.{compared_by}
 use Rattle.nf_check_rules.specs.declared.ended.Ended.{Ended}
-use Rattle.nf_check_lists.specs.Trial.{in_part}
+use Rattle.nf_check_def.specs.Trial.{in_part}
 use Rattle.nf_curve.specs.Differences.{difference_of}
-use Rattle.nf_curve_lists.specs.Differences.{checked_difference}
-use Rattle.nf_work.specs.declared.Part.TheVariants.{Check}
-use Rattle.nf_work.specs.Passing.{passes_Q}
+use Rattle.nf_curve_def.specs.Differences.{checked_difference}
+use Rattle.nf_frac_def.specs.declared.Part.TheVariants.{Check}
+use Rattle.nf_frac_def.specs.Passing.{passes_Q}
 use Rattle.std.specs.Prelude.{option_map}
 use Rattle.std.proofs.lemmas.Result.{err_from_is_err_and}
 use Rattle.std.proofs.Common.{sym}

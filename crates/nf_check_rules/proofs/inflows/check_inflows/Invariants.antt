@@ -1,6 +1,6 @@
 use Rattle.std.proofs.Common.{length}
-use Rattle.nf_work.specs.Passing.{passes_Q}
-use Rattle.nf_check_lists.specs.CheckList.{inflow_rule}
+use Rattle.nf_frac_def.specs.Passing.{passes_Q}
+use Rattle.nf_check_def.specs.CheckList.{inflow_rule}
 use Rattle.nf_curve.specs.Flows.{flow_of}
 use Rattle.nf_check_rules.proofs.Looping.{LeftBelow}
 use Rattle.nf_check_rules.proofs.inflows.check_inflows.Given as goal

@@ -2,8 +2,8 @@ use Rattle.nf_load.specs.Loadings.{loaded_of}
 use Rattle.nf_check_rules.proofs.Trying.{part_ends, part_ok}
 use Rattle.nf_check_rules.proofs.Keeping.{same_some}
 use Rattle.nf_check_rules.specs.Kept.{curves_of}
-use Rattle.nf_work.specs.declared.Part.TheVariants.{Load}
-use Rattle.nf_check_lists.specs.Curves.{greatest_value}
+use Rattle.nf_frac_def.specs.declared.Part.TheVariants.{Load}
+use Rattle.nf_check_def.specs.Curves.{greatest_value}
 use Rattle.nf_curve.specs.declared.flow.Trace.{Trace}
 use Rattle.nf_curve.specs.Flows.{flow_of, trace_of}
 use Rattle.nf_model.specs.Equilibrium.{points_at, points_of}

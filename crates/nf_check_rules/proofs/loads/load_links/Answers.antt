@@ -1,8 +1,8 @@
 use Rattle.std.proofs.Common.{◌<◌, ◌≤◌, List, length, ap, ◌∙◌, arith}
 use Rattle.std.proofs.lemmas.List.{map-append}
 use Rattle.std.proofs.lemmas.Result.{err_from_is_err_and}
-use Rattle.nf_work.specs.Passing.{passes_Q}
-use Rattle.nf_check_lists.specs.CheckList.{loading}
+use Rattle.nf_frac_def.specs.Passing.{passes_Q}
+use Rattle.nf_check_def.specs.CheckList.{loading}
 use Rattle.nf_curve.specs.Flows.{flow_of}
 use Rattle.nf_load.specs.Loadings.{loaded_of}
 use Rattle.nf_load.specs.declared.loading.Loaded.{Loaded}

@@ -1,7 +1,7 @@
 use Rattle.std.proofs.Common.{◌<◌, length, get_or, sym, ◌∙◌, arith}
 use Rattle.std.proofs.lemmas.Option.{slice_get_past, slice_get-get_or}
-use Rattle.nf_work.specs.Passing.{passes_Q}
-use Rattle.nf_work.specs.declared.Part.TheVariants.{Check}
+use Rattle.nf_frac_def.specs.Passing.{passes_Q}
+use Rattle.nf_frac_def.specs.declared.Part.TheVariants.{Check}
 use Rattle.nf_curve.proofs.Placing.{place_within, place_some, around-place, curve-rises, value-last, value-same, value-line}
 use Rattle.nf_check_rules.proofs.places.value_at.Goals as goal
 

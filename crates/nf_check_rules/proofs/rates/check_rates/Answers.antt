@@ -1,7 +1,7 @@
 use Rattle.std.proofs.Common.{◌<◌, ◌≤◌, length, arith}
 use Rattle.std.proofs.lemmas.Result.{err_from_is_err_and}
-use Rattle.nf_work.specs.Passing.{passes_Q}
-use Rattle.nf_check_lists.specs.CheckList.{link_rates}
+use Rattle.nf_frac_def.specs.Passing.{passes_Q}
+use Rattle.nf_check_def.specs.CheckList.{link_rates}
 use Rattle.nf_curve.specs.Flows.{flow_of}
 use Rattle.nf_check_rules.proofs.Looping.{below_first, below_ends, below_goes, below_last}
 use Rattle.nf_check_rules.proofs.rates.check_rates.Goals as goal

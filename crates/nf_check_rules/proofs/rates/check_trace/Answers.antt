@@ -2,8 +2,8 @@ use Rattle.std.proofs.Common.{◌≡◌, ◌≤◌, List, length, Some, slice_ge
 use Rattle.std.proofs.lemmas.Option.{slice_get_read}
 use Rattle.std.proofs.lemmas.Result.{err_from_is_err_and}
 use Rattle.nf_rational.specs.Rational.{ℚ}
-use Rattle.nf_work.specs.Passing.{passes_Q}
-use Rattle.nf_check_lists.specs.declared.Subject.TheVariants.{Link as OfLink}
+use Rattle.nf_frac_def.specs.Passing.{passes_Q}
+use Rattle.nf_check_def.specs.declared.Subject.TheVariants.{Link as OfLink}
 use Rattle.nf_check_rules.proofs.PointByPoint.{times_apart, slope_ends, other_ends, rate_fits, rates_end}
 use Rattle.nf_check_rules.proofs.rates.check_trace.Goals as goal
 

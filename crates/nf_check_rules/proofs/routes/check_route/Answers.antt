@@ -1,18 +1,18 @@
 use Rattle.nf_check_rules.proofs.Trying.{tries_as}
-use Rattle.nf_check_lists.specs.CheckList.{route}
+use Rattle.nf_check_def.specs.CheckList.{route}
 use Rattle.nf_curve.specs.Differences.{difference_of}
 use Rattle.std.specs.Prelude.{option_map}
 use Rattle.std.proofs.Common.{◌≡◌, List, map, sym, ap, ◌∙◌}
 use Rattle.std.proofs.lemmas.Result.{err_from_is_err_and}
-use Rattle.nf_work.specs.Passing.{passes_Q}
+use Rattle.nf_frac_def.specs.Passing.{passes_Q}
 use Rattle.nf_model.specs.Network.{Link}
 use Rattle.nf_model.specs.Equilibrium.{points_at, points_of}
 use Rattle.nf_curve.specs.Flows.{flow_of, trace_of}
 use Rattle.nf_curve.specs.declared.flow.Trace.{Trace}
-use Rattle.nf_load_lists.specs.Loading as lists
+use Rattle.nf_load_def.specs.Loading as lists
 use Rattle.nf_load.specs.declared.loading.Loaded.{Loaded}
 use Rattle.nf_curve.specs.Points.{Grown}
-use Rattle.nf_check_lists.specs.Curves.{loaded_at}
+use Rattle.nf_check_def.specs.Curves.{loaded_at}
 use Rattle.nf_check_rules.specs.Kept.{curves_of, labels_in, loaded_in, loadings_of}
 use Rattle.nf_check_rules.proofs.Keeping.{kept_as, same_some, route_ends, route_goes}
 use Rattle.nf_check_rules.proofs.Known.{never_negative, label_known, label_there}

@@ -1,10 +1,10 @@
 use Rattle.std.proofs.lemmas.Result.{err_from_is_err_and}
 use Rattle.std.proofs.Common.{List, sym, ap, subst, ◌∙◌}
 use Rattle.nf_rational.specs.Rational.{ℚ}
-use Rattle.nf_work.specs.Passing.{passes_Q}
-use Rattle.nf_work.specs.declared.Part.TheVariants.{Check}
-use Rattle.nf_work.specs.Checked.{at_part}
-use Rattle.nf_check_lists.specs.Routes.{all_stretches, detour_list}
+use Rattle.nf_frac_def.specs.Passing.{passes_Q}
+use Rattle.nf_frac_def.specs.declared.Part.TheVariants.{Check}
+use Rattle.nf_frac_def.specs.Checked.{at_part}
+use Rattle.nf_check_def.specs.Routes.{all_stretches, detour_list}
 use Rattle.nf_curve.proofs.Exits.{after_ok, after_err, stops_on}
 use Rattle.nf_check_rules.specs.Sent.{points_in, sent_list}
 use Rattle.nf_check_rules.proofs.Merging.{FromZero, three_from}

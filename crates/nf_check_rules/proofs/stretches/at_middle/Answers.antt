@@ -1,10 +1,10 @@
 use Rattle.nf_curve.specs.Differences.{difference_of}
 use Rattle.std.proofs.lemmas.Result.{err_from_is_err_and}
 use Rattle.std.proofs.Common.{sym, ◌∙◌}
-use Rattle.nf_work.specs.Passing.{passes_Q}
-use Rattle.nf_work.specs.declared.Part.TheVariants.{Check}
-use Rattle.nf_curve_lists.specs.Sums.{sides_at}
-use Rattle.nf_check_lists.specs.Routes.{checked_middle}
+use Rattle.nf_frac_def.specs.Passing.{passes_Q}
+use Rattle.nf_frac_def.specs.declared.Part.TheVariants.{Check}
+use Rattle.nf_curve_def.specs.Sums.{sides_at}
+use Rattle.nf_check_def.specs.Routes.{checked_middle}
 use Rattle.nf_curve.proofs.Exits.{after_ok, after_err}
 use Rattle.nf_check_rules.proofs.Stretching.{middle_from}
 use Rattle.nf_check_rules.proofs.stretches.at_middle.Goals as goal

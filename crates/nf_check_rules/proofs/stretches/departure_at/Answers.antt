@@ -1,7 +1,7 @@
 use Rattle.nf_curve.proofs.Exits.{was_ok}
-use Rattle.nf_curve_lists.specs.Values.{checked_value}
-use Rattle.nf_work.specs.declared.Part.TheVariants.{Check}
-use Rattle.nf_work.specs.Passing.{passes_Q}
+use Rattle.nf_curve_def.specs.Values.{checked_value}
+use Rattle.nf_frac_def.specs.declared.Part.TheVariants.{Check}
+use Rattle.nf_frac_def.specs.Passing.{passes_Q}
 use Rattle.std.proofs.Common.{sym}
 use Rattle.nf_check_rules.proofs.Stretching.{no_sides}
 use Rattle.nf_check_rules.proofs.stretches.departure_at.Goals as goal

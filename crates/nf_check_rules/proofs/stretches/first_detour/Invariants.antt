@@ -1,6 +1,6 @@
 use Rattle.std.proofs.Common.{◌≡◌, ◌-◌, drop, slice_get, Some}
-use Rattle.nf_work.specs.Passing.{passes_Q}
-use Rattle.nf_check_lists.specs.Routes.{all_stretches}
+use Rattle.nf_frac_def.specs.Passing.{passes_Q}
+use Rattle.nf_check_def.specs.Routes.{all_stretches}
 use Rattle.nf_check_rules.specs.Departures.{IsDeparture}
 use Rattle.nf_check_rules.proofs.stretches.first_detour.Given as goal
 

@@ -1,7 +1,7 @@
 use Rattle.std.proofs.Common.{◌≡◌, ◌≤◌, ◌<◌, ◌+◌, ◌-◌, ◌++◌, List, Some, length, drop, take, slice_get, ◌⊎◌, refl, inl, inr, ap, ◌∙◌, arith}
 use Rattle.std.proofs.lemmas.Option.{slice_get_read}
 use Rattle.std.proofs.lemmas.List.{take_rest}
-use Rattle.nf_curve_lists.specs.Times.{merged}
+use Rattle.nf_curve_def.specs.Times.{merged}
 use Rattle.nf_rational.specs.Rational.{ℚ}
 use Rattle.nf_check_rules.proofs.Merging.{times_go, times_end, moved_most, one_moves}
 use Rattle.nf_check_rules.proofs.times.merged.Goals.{then-loop-i-test+else-j-right, else-loop-i-test}

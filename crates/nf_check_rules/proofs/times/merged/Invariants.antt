@@ -1,5 +1,5 @@
 use Rattle.std.proofs.Common.{◌≡◌, ◌≤◌, ◌+◌, ◌-◌, ◌++◌, drop, length}
-use Rattle.nf_curve_lists.specs.Times.{merged}
+use Rattle.nf_curve_def.specs.Times.{merged}
 use Rattle.nf_check_rules.proofs.times.merged.Given as goal
 
 -- the times so far, and those of what is left

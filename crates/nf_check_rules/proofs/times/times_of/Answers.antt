@@ -1,7 +1,7 @@
 use Rattle.std.proofs.Common.{◌+◌, ◌≤◌, List, [], ◌∷◌, ◌++◌, length, drop, sym, ap, ◌∙◌, append_assoc, append-nil, arith}
 use Rattle.nf_rational.specs.Rational.{ℚ}
 use Rattle.nf_model.specs.Curve.{Point}
-use Rattle.nf_curve_lists.specs.Times.{times_of}
+use Rattle.nf_curve_def.specs.Times.{times_of}
 use Rattle.nf_check_rules.proofs.PointByPoint.{drop_one, drop_none}
 use Rattle.nf_check_rules.proofs.times.times_of.Goals as goal
 

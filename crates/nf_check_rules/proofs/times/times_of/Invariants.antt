@@ -1,5 +1,5 @@
 use Rattle.std.proofs.Common.{◌≡◌, ◌++◌, drop}
-use Rattle.nf_curve_lists.specs.Times.{times_of}
+use Rattle.nf_curve_def.specs.Times.{times_of}
 use Rattle.nf_check_rules.proofs.times.times_of.Given as goal
 
 abbrev pub invariant-loop-i : goal.invariant-loop-i

@@ -4,10 +4,10 @@ use Rattle.nf_model.specs.Equilibrium.{points_at, points_of}
 use Rattle.nf_curve.specs.Flows.{flow_of, trace_of}
 use Rattle.nf_curve.specs.Points.{Grown}
 use Rattle.nf_curve.specs.declared.flow.Trace.{Trace}
-use Rattle.nf_load_lists.specs.Loading as lists
+use Rattle.nf_load_def.specs.Loading as lists
 use Rattle.nf_load.specs.declared.loading.Loaded.{Loaded}
 use Rattle.nf_load.specs.Loadings.{loaded_of}
-use Rattle.nf_check_lists.specs.Curves.{loaded_at, last_value}
+use Rattle.nf_check_def.specs.Curves.{loaded_at, last_value}
 use Rattle.nf_check_rules.specs.Kept.{curves_of, labels_in, loaded_in, loadings_of}
 use Rattle.nf_check_rules.proofs.Keeping.{same_some}
 use Rattle.nf_check_rules.proofs.Known.{label_known, label_there}

@@ -1,5 +1,5 @@
-use Rattle.nf_work.specs.Passing.{passes_Q}
-use Rattle.nf_check_lists.specs.CheckList.{outflow_rule}
+use Rattle.nf_frac_def.specs.Passing.{passes_Q}
+use Rattle.nf_check_def.specs.CheckList.{outflow_rule}
 use Rattle.nf_curve.specs.Flows.{flow_of}
 use Rattle.nf_check_rules.specs.Kept.{labels_in, loaded_in}
 use Rattle.nf_check_rules.proofs.Looping.{LeftLinks}

@@ -1,7 +1,7 @@
 use Rattle.std.proofs.Common.{◌<◌, ◌≤◌, length, arith}
 use Rattle.std.proofs.lemmas.Result.{err_from_is_err_and}
-use Rattle.nf_work.specs.Passing.{passes_Q}
-use Rattle.nf_check_lists.specs.CheckList.{queue_rule}
+use Rattle.nf_frac_def.specs.Passing.{passes_Q}
+use Rattle.nf_check_def.specs.CheckList.{queue_rule}
 use Rattle.nf_curve.specs.Flows.{flow_of}
 use Rattle.nf_check_rules.specs.Kept.{labels_in, loaded_in}
 use Rattle.nf_check_rules.proofs.Looping.{links_first, links_end, links_go, links_done, link_there}

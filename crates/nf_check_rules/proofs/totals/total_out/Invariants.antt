@@ -1,6 +1,6 @@
-use Rattle.nf_work.specs.Passing.{passes_Q}
+use Rattle.nf_frac_def.specs.Passing.{passes_Q}
 use Rattle.nf_model.specs.Equilibrium.{points_of}
-use Rattle.nf_check_lists.specs.Curves.{no_amount, with_inflow}
+use Rattle.nf_check_def.specs.Curves.{no_amount, with_inflow}
 use Rattle.nf_curve.specs.Flows.{flow_of}
 use Rattle.nf_check_rules.proofs.Folding.{Folds}
 use Rattle.nf_check_rules.proofs.totals.total_out.Given as goal

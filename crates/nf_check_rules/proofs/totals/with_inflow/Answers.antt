@@ -2,12 +2,12 @@ use Rattle.nf_check_rules.proofs.Known.{one_there}
 use Rattle.nf_check_rules.proofs.Attaining.{at_node, at_other}
 use Rattle.nf_check_rules.proofs.Keeping.{same_some}
 use Rattle.nf_curve.specs.Points.{Grown}
-use Rattle.nf_curve_lists.specs.Sums.{checked_sum}
+use Rattle.nf_curve_def.specs.Sums.{checked_sum}
 use Rattle.nf_model.specs.Network.{Link}
 use Rattle.nf_model.specs.Curve.{Point}
-use Rattle.nf_work.specs.Checked.{Checked, Gives, at_part}
-use Rattle.nf_work.specs.declared.Part.TheVariants.{Check}
-use Rattle.nf_work.specs.Passing.{passes_Q}
+use Rattle.nf_frac_def.specs.Checked.{Checked, Gives, at_part}
+use Rattle.nf_frac_def.specs.declared.Part.TheVariants.{Check}
+use Rattle.nf_frac_def.specs.Passing.{passes_Q}
 use Rattle.nf_rational.specs.Rational.{ℚ}
 use Rattle.std.specs.Prelude.{◌==◌, Ok}
 use Rattle.nf_curve.specs.declared.flow.Trace.{Trace}

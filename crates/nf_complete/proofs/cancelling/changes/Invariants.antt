@@ -1,6 +1,6 @@
-use Rattle.nf_work.specs.Passing.{passes_Q}
-use Rattle.nf_complete_lists.specs.Cancelling.{change_at}
-use Rattle.nf_lists_laws.proofs.Numbered.{SoFar}
+use Rattle.nf_frac_def.specs.Passing.{passes_Q}
+use Rattle.nf_complete_def.specs.Cancelling.{change_at}
+use Rattle.nf_thin_laws.proofs.Numbered.{SoFar}
 use Rattle.nf_complete.proofs.cancelling.changes.Given as goal
 
 -- the results so far precede the results of the other links

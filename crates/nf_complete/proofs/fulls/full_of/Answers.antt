@@ -1,9 +1,9 @@
 use Rattle.std.proofs.Common.{Option, sym, ap, ◌∙◌}
 use Rattle.nf_rational.specs.Rational.{ℚ}
-use Rattle.nf_work.specs.Passing.{passes_Q}
-use Rattle.nf_work.specs.declared.Part.TheVariants.{Verdict}
-use Rattle.nf_work.specs.Checked.{at_part}
-use Rattle.nf_complete_lists.specs.Cancelling.{full_on}
+use Rattle.nf_frac_def.specs.Passing.{passes_Q}
+use Rattle.nf_frac_def.specs.declared.Part.TheVariants.{Verdict}
+use Rattle.nf_frac_def.specs.Checked.{at_part}
+use Rattle.nf_complete_def.specs.Cancelling.{full_on}
 use Rattle.nf_complete.proofs.Filling.{full_none}
 use Rattle.nf_complete.proofs.fulls.full_of.Goals as goal
 

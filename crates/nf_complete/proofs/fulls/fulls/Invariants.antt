@@ -1,6 +1,6 @@
-use Rattle.nf_work.specs.Passing.{passes_Q}
-use Rattle.nf_complete_lists.specs.Cancelling.{full_at}
-use Rattle.nf_lists_laws.proofs.Numbered.{SoFar}
+use Rattle.nf_frac_def.specs.Passing.{passes_Q}
+use Rattle.nf_complete_def.specs.Cancelling.{full_at}
+use Rattle.nf_thin_laws.proofs.Numbered.{SoFar}
 use Rattle.nf_complete.proofs.fulls.fulls.Given as goal
 
 -- the flows that fill the links so far precede those of the other links

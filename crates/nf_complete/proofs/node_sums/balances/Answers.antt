@@ -3,9 +3,9 @@ use Rattle.std.specs.List.{range_with_len}
 use Rattle.std.proofs.lemmas.List.FromFn.{length-range_with_len}
 use Rattle.std.proofs.lemmas.Result.{err_from_is_err_and}
 use Rattle.std.specs.Prelude.{Ok}
-use Rattle.nf_work.specs.Passing.{passes_Q}
-use Rattle.nf_work.specs.Checked.{each}
-use Rattle.nf_complete_lists.specs.ThinList.{sums_at}
+use Rattle.nf_frac_def.specs.Passing.{passes_Q}
+use Rattle.nf_frac_def.specs.Checked.{each}
+use Rattle.nf_complete_def.specs.ThinList.{sums_at}
 use Rattle.nf_complete.specs.ThinParts.{IsBalanced}
 use Rattle.nf_complete.proofs.Telling.{node_at, each_node, node_each, tells_like, told_more, told_stops, told_all}
 use Rattle.nf_complete.proofs.node_sums.balances.Goals as goal

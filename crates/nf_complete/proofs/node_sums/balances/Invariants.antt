@@ -1,6 +1,6 @@
 use Rattle.std.specs.List.{range_with_len}
-use Rattle.nf_work.specs.Passing.{passes_Q}
-use Rattle.nf_complete_lists.specs.ThinList.{sums_at}
+use Rattle.nf_frac_def.specs.Passing.{passes_Q}
+use Rattle.nf_complete_def.specs.ThinList.{sums_at}
 use Rattle.nf_complete.specs.ThinParts.{IsBalanced}
 use Rattle.nf_complete.proofs.Telling.{ToldBelow}
 use Rattle.nf_complete.proofs.node_sums.balances.Given as goal

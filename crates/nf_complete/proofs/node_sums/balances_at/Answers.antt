@@ -1,10 +1,10 @@
 use Rattle.std.proofs.Common.{Bool, eqb, if◌then◌else◌, ap, ◌∙◌}
 use Rattle.std.proofs.lemmas.Result.{err_from_is_err_and}
 use Rattle.nf_rational.specs.Rational.{ℚ}
-use Rattle.nf_work.specs.Passing.{passes_Q}
-use Rattle.nf_work.specs.Checked.{at_part}
-use Rattle.nf_work.specs.declared.Part.TheVariants.{Verdict}
-use Rattle.nf_complete_lists.specs.ThinList.{with_rate}
+use Rattle.nf_frac_def.specs.Passing.{passes_Q}
+use Rattle.nf_frac_def.specs.Checked.{at_part}
+use Rattle.nf_frac_def.specs.declared.Part.TheVariants.{Verdict}
+use Rattle.nf_complete_def.specs.ThinList.{with_rate}
 use Rattle.nf_complete.specs.Testing.{same_test}
 use Rattle.nf_complete.proofs.Balancing.{stay_passes, balance_told}
 use Rattle.nf_complete.proofs.node_sums.balances_at.Goals as goal

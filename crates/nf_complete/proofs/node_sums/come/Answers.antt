@@ -1,8 +1,8 @@
 use Rattle.std.proofs.Common.{arith}
 use Rattle.std.proofs.lemmas.Result.{err_from_is_err_and}
 use Rattle.nf_rational.specs.Operations.{0ℚ}
-use Rattle.nf_work.specs.Passing.{passes_Q}
-use Rattle.nf_complete_lists.specs.ThinList.{in_more}
+use Rattle.nf_frac_def.specs.Passing.{passes_Q}
+use Rattle.nf_complete_def.specs.ThinList.{in_more}
 use Rattle.nf_complete.proofs.LinkByLink.{adds_on, adding_stops, adding_ends}
 use Rattle.nf_complete.proofs.node_sums.come.Goals as goal
 

@@ -1,7 +1,7 @@
 use Rattle.nf_rational.specs.Rational.{ℚ}
 use Rattle.nf_rational.specs.Operations.{0ℚ}
-use Rattle.nf_work.specs.Passing.{passes_Q}
-use Rattle.nf_complete_lists.specs.ThinList.{out_more}
+use Rattle.nf_frac_def.specs.Passing.{passes_Q}
+use Rattle.nf_complete_def.specs.ThinList.{out_more}
 use Rattle.nf_complete.proofs.LinkByLink.{SoFar}
 use Rattle.nf_complete.proofs.node_sums.go.Given as goal
 

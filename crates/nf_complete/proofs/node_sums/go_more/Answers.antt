@@ -1,10 +1,10 @@
 use Rattle.std.proofs.Common.{ℕ, Bool, eqb, ◌&&◌, ap, ◌∙◌}
-use Rattle.nf_work.specs.Passing.{passes_Q}
-use Rattle.nf_work.specs.Checked.{at_part}
-use Rattle.nf_work.specs.declared.Part.TheVariants.{Verdict}
+use Rattle.nf_frac_def.specs.Passing.{passes_Q}
+use Rattle.nf_frac_def.specs.Checked.{at_part}
+use Rattle.nf_frac_def.specs.declared.Part.TheVariants.{Verdict}
 use Rattle.nf_model.specs.Network.{Link}
 use Rattle.nf_model_laws.proofs.Networks.{IsLink-unique}
-use Rattle.nf_complete_lists.specs.ThinList.{is_active, sum_more}
+use Rattle.nf_complete_def.specs.ThinList.{is_active, sum_more}
 use Rattle.nf_complete.proofs.node_sums.go_more.Goals as goal
 
 pub returns : goal.returns

@@ -3,9 +3,9 @@ use Rattle.std.specs.Prelude.{Ok}
 use Rattle.std.proofs.Common.{Vec, Global}
 use Rattle.std.proofs.lemmas.Result.{err_from_is_err_and}
 use Rattle.nf_rational.specs.Rational.{ℚ}
-use Rattle.nf_work.specs.Passing.{passes_Q}
-use Rattle.nf_complete_lists.specs.Cancelling.{cancel_list, Cancels}
-use Rattle.nf_complete_lists.specs.Interior.{IsNextCycle}
+use Rattle.nf_frac_def.specs.Passing.{passes_Q}
+use Rattle.nf_complete_def.specs.Cancelling.{cancel_list, Cancels}
+use Rattle.nf_complete_def.specs.Interior.{IsNextCycle}
 use Rattle.nf_complete.specs.NextCycles.{AreForestBelow, ClosesNext}
 use Rattle.nf_complete.proofs.Filling.{fulls_count}
 use Rattle.nf_complete.proofs.Telling.{value_of}

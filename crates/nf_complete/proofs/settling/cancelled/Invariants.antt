@@ -1,5 +1,5 @@
 use Rattle.nf_rational.specs.Rational.{ℚ}
-use Rattle.nf_work.specs.Passing.{passes_Q}
+use Rattle.nf_frac_def.specs.Passing.{passes_Q}
 use Rattle.nf_complete.specs.NextCycles.{AreForestBelow}
 use Rattle.nf_complete.specs.InteriorFlags.{interior_flags}
 use Rattle.nf_complete.proofs.Interiors.{set_count}

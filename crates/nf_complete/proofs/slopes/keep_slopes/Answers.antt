@@ -3,11 +3,11 @@ use Rattle.std.specs.List.{enumerate_from}
 use Rattle.std.proofs.lemmas.List.FromFn.{length-enumerate_from}
 use Rattle.std.proofs.lemmas.Result.{err_from_is_err_and}
 use Rattle.std.specs.Prelude.{Ok}
-use Rattle.nf_work.specs.Passing.{passes_Q}
-use Rattle.nf_work.specs.Checked.{each}
+use Rattle.nf_frac_def.specs.Passing.{passes_Q}
+use Rattle.nf_frac_def.specs.Checked.{each}
 use Rattle.nf_model.specs.Network.{Link}
-use Rattle.nf_plain_laws.proofs.Entries.{entry}
-use Rattle.nf_complete_lists.specs.Cancelling.{full_at, fulls_list}
+use Rattle.nf_rational_laws.proofs.Entries.{entry}
+use Rattle.nf_complete_def.specs.Cancelling.{full_at, fulls_list}
 use Rattle.nf_complete.specs.ThinParts.{KeepsAt}
 use Rattle.nf_complete.proofs.Telling.{link_at, each_link, link_each, tells_like, told_more, told_stops, told_all}
 use Rattle.nf_complete.proofs.slopes.keep_slopes.Goals as goal

@@ -1,6 +1,6 @@
 use Rattle.std.specs.List.{enumerate_from}
-use Rattle.nf_work.specs.Passing.{passes_Q}
-use Rattle.nf_complete_lists.specs.Cancelling.{full_at}
+use Rattle.nf_frac_def.specs.Passing.{passes_Q}
+use Rattle.nf_complete_def.specs.Cancelling.{full_at}
 use Rattle.nf_complete.specs.ThinParts.{KeepsAt}
 use Rattle.nf_complete.proofs.Telling.{ToldBelow}
 use Rattle.nf_complete.proofs.slopes.keep_slopes.Given as goal

@@ -1,6 +1,6 @@
 use Rattle.std.proofs.Common.{◌||◌, ◌<◌, not, ap, ◌∙◌, arith}
 use Rattle.nf_rational.specs.Rational.{ℚ}
-use Rattle.nf_work.specs.Passing.{passes_Q}
+use Rattle.nf_frac_def.specs.Passing.{passes_Q}
 use Rattle.nf_model.specs.Entries.{number_at}
 use Rattle.nf_model.specs.Network.{Link}
 use Rattle.nf_model_laws.proofs.Networks.{IsLink-unique}

@@ -1,7 +1,7 @@
 use Rattle.std.proofs.Common.{Bool, ◌&&◌, sym, ap, subst, ◌∙◌}
 use Rattle.std.specs.Prelude.{MatchBool}
 use Rattle.std.proofs.lemmas.Result.{IfOk-from_err, err_from_is_err_and}
-use Rattle.nf_work.specs.Passing.{passes_Q}
+use Rattle.nf_frac_def.specs.Passing.{passes_Q}
 use Rattle.nf_model.specs.ThinFlow.{IsThinFlow}
 use Rattle.nf_complete.proofs.GoodSets.{good_sets}
 use Rattle.nf_complete.proofs.ThinAnswers.{balances_pass, slopes_pass, none_passes, thin_told}

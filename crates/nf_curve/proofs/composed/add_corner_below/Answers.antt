@@ -3,8 +3,8 @@ use Rattle.std.specs.Prelude.{Ok}
 use Rattle.std.proofs.lemmas.Result.{err_from_is_err_and}
 use Rattle.nf_rational.specs.Rational.{ℚ}
 use Rattle.nf_rational.specs.Order.{lt_ℚ}
-use Rattle.nf_work.specs.Passing.{passes_Q}
-use Rattle.nf_curve_lists.specs.Composed.{corner_at}
+use Rattle.nf_frac_def.specs.Passing.{passes_Q}
+use Rattle.nf_curve_def.specs.Composed.{corner_at}
 use Rattle.nf_curve.proofs.Between.{corner_fails, corner_added, corner_passes}
 use Rattle.nf_curve.proofs.composed.add_corner_below.Goals as goal
 

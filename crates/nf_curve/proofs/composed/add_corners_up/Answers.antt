@@ -7,9 +7,9 @@ use Rattle.std.proofs.lemmas.Result.{err_from_is_err_and}
 use Rattle.nf_rational.specs.Rational.{ℚ}
 use Rattle.nf_rational.specs.Order.{◌<ℚ◌, lt_ℚ}
 use Rattle.nf_rational_laws.proofs.Order.{<ℚ_irrefl}
-use Rattle.nf_work.specs.Passing.{passes_Q}
-use Rattle.nf_work.specs.Checked.{Checked, at_part, each}
-use Rattle.nf_curve_lists.specs.Composed.{corner_at}
+use Rattle.nf_frac_def.specs.Passing.{passes_Q}
+use Rattle.nf_frac_def.specs.Checked.{Checked, at_part, each}
+use Rattle.nf_curve_def.specs.Composed.{corner_at}
 use Rattle.nf_curve.specs.Steps.{behind}
 use Rattle.nf_curve.proofs.Between.{corner_goes, corner_stops}
 use Rattle.nf_curve.proofs.Exits.{stops_on}

@@ -1,9 +1,9 @@
 use Rattle.std.proofs.Common.{◌≡◌, drop}
 use Rattle.std.specs.List.{filter}
 use Rattle.nf_rational.specs.Order.{lt_ℚ}
-use Rattle.nf_work.specs.Passing.{passes_Q}
-use Rattle.nf_work.specs.Checked.{each}
-use Rattle.nf_curve_lists.specs.Composed.{corner_at}
+use Rattle.nf_frac_def.specs.Passing.{passes_Q}
+use Rattle.nf_frac_def.specs.Checked.{each}
+use Rattle.nf_curve_def.specs.Composed.{corner_at}
 use Rattle.nf_curve.specs.Steps.{behind}
 use Rattle.nf_curve.proofs.composed.add_corners_up.Given as goal
 

@@ -2,10 +2,10 @@ use Rattle.std.proofs.Common.{List, sym, ◌∙◌}
 use Rattle.std.proofs.lemmas.Result.{err_from_is_err_and}
 use Rattle.nf_rational.specs.Rational.{ℚ}
 use Rattle.nf_rational.specs.Order.{lt_ℚ}
-use Rattle.nf_work.specs.Passing.{passes_Q}
-use Rattle.nf_work.specs.Checked.{Checked, each}
-use Rattle.nf_curve_lists.specs.Values.{checked_value}
-use Rattle.nf_curve_lists.specs.Composed.{corner_at, points_along, composed_piece}
+use Rattle.nf_frac_def.specs.Passing.{passes_Q}
+use Rattle.nf_frac_def.specs.Checked.{Checked, each}
+use Rattle.nf_curve_def.specs.Values.{checked_value}
+use Rattle.nf_curve_def.specs.Composed.{corner_at, points_along, composed_piece}
 use Rattle.nf_curve.proofs.Composing.{piece_begun}
 use Rattle.nf_curve.proofs.Exits.{after_err}
 use Rattle.nf_curve.proofs.composed.add_piece.Goals as goal

@@ -1,8 +1,8 @@
 use Rattle.std.proofs.Common.{◌≡◌, ◌-◌, Some, drop}
 use Rattle.std.specs.Prelude.{slice_get}
 use Rattle.nf_rational.specs.Rational.{ℚ}
-use Rattle.nf_work.specs.Passing.{passes_Q}
-use Rattle.nf_curve_lists.specs.Composed.{composed_all}
+use Rattle.nf_frac_def.specs.Passing.{passes_Q}
+use Rattle.nf_curve_def.specs.Composed.{composed_all}
 use Rattle.nf_curve.specs.Places.{place_of}
 use Rattle.nf_curve.specs.Steps.{behind}
 use Rattle.nf_curve.proofs.composed.composed_points.Given as goal

@@ -4,11 +4,11 @@ use Rattle.std.proofs.lemmas.Result.{err_from_is_err_and}
 use Rattle.nf_rational.specs.Rational.{ℚ}
 use Rattle.nf_rational.specs.Operations.{0ℚ}
 use Rattle.nf_rational.specs.Order.{◌≤ℚ◌}
-use Rattle.nf_work.specs.Passing.{passes_Q}
-use Rattle.nf_work.specs.Checked.{at_part}
+use Rattle.nf_frac_def.specs.Passing.{passes_Q}
+use Rattle.nf_frac_def.specs.Checked.{at_part}
 use Rattle.nf_model.specs.Curve.{IsCurve}
-use Rattle.nf_curve_lists.specs.Values.{checked_cut}
-use Rattle.nf_curve_lists.specs.Composed.{checked_composed}
+use Rattle.nf_curve_def.specs.Values.{checked_cut}
+use Rattle.nf_curve_def.specs.Composed.{checked_composed}
 use Rattle.nf_curve_laws.proofs.Values.{checked_cut-values, checked_cut-each}
 use Rattle.nf_curve.proofs.Exits.{was_ok, stops_on}
 use Rattle.nf_curve.proofs.Composing.{cut_stops, cut_goes}

@@ -4,7 +4,7 @@ use Rattle.std.proofs.lemmas.Option.{slice_get_read}
 use Rattle.std.proofs.lemmas.List.{at_drop_all}
 use Rattle.std.proofs.lemmas.Result.{err_from_is_err_and}
 use Rattle.nf_rational.specs.Rational.{ℚ}
-use Rattle.nf_curve_lists.specs.Values.{points_before}
+use Rattle.nf_curve_def.specs.Values.{points_before}
 use Rattle.nf_curve.proofs.Shortening.{drop-at}
 use Rattle.nf_curve.proofs.cut.add_before.Goals as goal
 

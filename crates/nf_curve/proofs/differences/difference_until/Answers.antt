@@ -3,8 +3,8 @@ use Rattle.std.specs.Prelude.{Ok, Option, option_map}
 use Rattle.std.proofs.lemmas.Result.{err_from_is_err_and}
 use Rattle.nf_rational.specs.Order.{◌<ℚ◌}
 use Rattle.nf_rational_laws.proofs.Order.{≤ℚ_of_lt}
-use Rattle.nf_work.specs.Passing.{passes_Q}
-use Rattle.nf_curve_lists.specs.Differences.{times_before, difference_from, checked_difference}
+use Rattle.nf_frac_def.specs.Passing.{passes_Q}
+use Rattle.nf_curve_def.specs.Differences.{times_before, difference_from, checked_difference}
 use Rattle.nf_curve.specs.Sides.{sides_of}
 use Rattle.nf_curve.specs.declared.lines.Sides.{Sides}
 use Rattle.nf_curve.specs.Places.{times_after}

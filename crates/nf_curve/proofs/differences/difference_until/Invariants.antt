@@ -1,8 +1,8 @@
 use Rattle.std.proofs.Common.{◌≡◌, ◌≤◌, length}
 use Rattle.std.specs.Prelude.{IfSome}
 use Rattle.nf_rational.specs.Order.{◌<ℚ◌}
-use Rattle.nf_work.specs.Passing.{passes_Q}
-use Rattle.nf_curve_lists.specs.Differences.{times_before, difference_from, checked_difference}
+use Rattle.nf_frac_def.specs.Passing.{passes_Q}
+use Rattle.nf_curve_def.specs.Differences.{times_before, difference_from, checked_difference}
 use Rattle.nf_curve.specs.Places.{place_of}
 use Rattle.nf_curve.specs.Moments.{IsThere, times_left}
 use Rattle.nf_curve.proofs.differences.difference_until.Given as goal

@@ -1,7 +1,7 @@
 use Rattle.std.proofs.Common.{sym}
 use Rattle.std.proofs.lemmas.Result.{err_from_is_err_and}
-use Rattle.nf_work.specs.Passing.{passes_Q}
-use Rattle.nf_curve_lists.specs.Least.{is_crossed, crossing}
+use Rattle.nf_frac_def.specs.Passing.{passes_Q}
+use Rattle.nf_curve_def.specs.Least.{is_crossed, crossing}
 use Rattle.nf_curve.specs.Sides.{sides_of}
 use Rattle.nf_curve.proofs.Exits.{after_err}
 use Rattle.nf_curve.proofs.least.add_points.Goals as goal

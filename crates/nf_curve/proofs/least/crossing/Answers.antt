@@ -1,9 +1,9 @@
 use Rattle.std.proofs.Common.{Bool, sym, ap, ◌∙◌}
 use Rattle.std.proofs.lemmas.Result.{err_from_is_err_and}
-use Rattle.nf_work.specs.Passing.{passes_Q}
-use Rattle.nf_work.specs.Checked.{at_part}
-use Rattle.nf_curve_lists.specs.Lines.{checked_cross, checked_line}
-use Rattle.nf_curve_lists.specs.Least.{crossing}
+use Rattle.nf_frac_def.specs.Passing.{passes_Q}
+use Rattle.nf_frac_def.specs.Checked.{at_part}
+use Rattle.nf_curve_def.specs.Lines.{checked_cross, checked_line}
+use Rattle.nf_curve_def.specs.Least.{crossing}
 use Rattle.nf_curve.specs.Sides.{sides_of}
 use Rattle.nf_curve.proofs.Exits.{after_err, after_ok}
 use Rattle.nf_curve.proofs.least.crossing.Goals as goal

@@ -3,11 +3,11 @@ use Rattle.std.specs.Prelude.{IfSome}
 use Rattle.std.proofs.lemmas.Result.{err_from_is_err_and}
 use Rattle.nf_rational.specs.Rational.{ℚ}
 use Rattle.nf_rational.specs.Order.{◌<ℚ◌}
-use Rattle.nf_work.specs.Passing.{passes_Q}
-use Rattle.nf_work.specs.Checked.{at_part}
-use Rattle.nf_work.proofs.Each.{with_front}
-use Rattle.nf_curve_lists.specs.Times.{both_times}
-use Rattle.nf_curve_lists.specs.Least.{least_point, least_after, least_from, checked_least}
+use Rattle.nf_frac_def.specs.Passing.{passes_Q}
+use Rattle.nf_frac_def.specs.Checked.{at_part}
+use Rattle.nf_frac_def.proofs.Each.{with_front}
+use Rattle.nf_curve_def.specs.Times.{both_times}
+use Rattle.nf_curve_def.specs.Least.{least_point, least_after, least_from, checked_least}
 use Rattle.nf_curve.specs.Sides.{sides_of}
 use Rattle.nf_curve.specs.Places.{times_after}
 use Rattle.nf_curve.specs.Steps.{lesser_step}

@@ -1,7 +1,7 @@
 use Rattle.std.proofs.Common.{◌<◌, ◌-◌, length, get_or, refl, sym, ◌∙◌, rules, arith}
 use Rattle.std.proofs.lemmas.Option.{slice_get_read, slice_get_past, slice_get-get_or}
 use Rattle.nf_frac.proofs.Comparisons.{same_by_order}
-use Rattle.nf_work.specs.Passing.{passes_Q}
+use Rattle.nf_frac_def.specs.Passing.{passes_Q}
 use Rattle.nf_curve.proofs.Placing.{place_within, place_some, around-place, curve-rises, value-last, value-same, value-line}
 use Rattle.nf_curve.proofs.places.value_at.Goals as goal
 use Rattle.nf_curve.proofs.places.value_at.Goals.{then-place-points-via-then-place-points, then-place-points-via-else-place-points+then-eq}

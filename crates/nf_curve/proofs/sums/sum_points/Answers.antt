@@ -1,11 +1,11 @@
 use Rattle.std.proofs.Common.{◌≡◌, List, ◌∷◌, sym, ap, ◌∙◌}
 use Rattle.std.proofs.lemmas.Result.{err_from_is_err_and}
 use Rattle.nf_rational.specs.Rational.{ℚ}
-use Rattle.nf_work.specs.Passing.{passes_Q}
-use Rattle.nf_work.specs.Checked.{Checked, each}
-use Rattle.nf_work.proofs.Each.{with_front}
-use Rattle.nf_curve_lists.specs.Times.{both_times}
-use Rattle.nf_curve_lists.specs.Sums.{sum_at, checked_sum}
+use Rattle.nf_frac_def.specs.Passing.{passes_Q}
+use Rattle.nf_frac_def.specs.Checked.{Checked, each}
+use Rattle.nf_frac_def.proofs.Each.{with_front}
+use Rattle.nf_curve_def.specs.Times.{both_times}
+use Rattle.nf_curve_def.specs.Sums.{sum_at, checked_sum}
 use Rattle.nf_curve.specs.Places.{times_after}
 use Rattle.nf_curve.proofs.Walking.{fewer_left}
 use Rattle.nf_curve.proofs.Exits.{front_none, each_goes, each_stops, each_ends}

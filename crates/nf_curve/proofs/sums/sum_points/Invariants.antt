@@ -1,9 +1,9 @@
 use Rattle.std.proofs.Common.{◌≡◌, length}
-use Rattle.nf_work.specs.Passing.{passes_Q}
-use Rattle.nf_work.specs.Checked.{each}
-use Rattle.nf_work.proofs.Each.{with_front}
-use Rattle.nf_curve_lists.specs.Times.{both_times}
-use Rattle.nf_curve_lists.specs.Sums.{sum_at}
+use Rattle.nf_frac_def.specs.Passing.{passes_Q}
+use Rattle.nf_frac_def.specs.Checked.{each}
+use Rattle.nf_frac_def.proofs.Each.{with_front}
+use Rattle.nf_curve_def.specs.Times.{both_times}
+use Rattle.nf_curve_def.specs.Sums.{sum_at}
 use Rattle.nf_curve.specs.Moments.{IsThere, times_left}
 use Rattle.nf_curve.proofs.sums.sum_points.Given as goal
 

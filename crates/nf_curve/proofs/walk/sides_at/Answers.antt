@@ -1,7 +1,7 @@
 use Rattle.std.proofs.Common.{sym, ◌∙◌}
 use Rattle.std.proofs.lemmas.Result.{err_from_is_err_and}
-use Rattle.nf_work.specs.Passing.{passes_Q}
-use Rattle.nf_curve_lists.specs.Values.{checked_value}
+use Rattle.nf_frac_def.specs.Passing.{passes_Q}
+use Rattle.nf_curve_def.specs.Values.{checked_value}
 use Rattle.nf_curve.proofs.Exits.{after_err, after_ok}
 use Rattle.nf_curve.proofs.walk.sides_at.Goals as goal
 

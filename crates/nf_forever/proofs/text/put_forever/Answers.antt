@@ -1,12 +1,12 @@
 use Rattle.std.proofs.Common.{◌≡◌, List, [], ◌∷◌, ◌++◌, length, refl, ap, ◌∙◌}
 use Rattle.std.specs.Prelude.{codes}
 use Rattle.std.specs.Option.{option_copied}
-use Rattle.nf_formats.specs.Named.{Named}
+use Rattle.nf_net_def.specs.Named.{Named}
 use Rattle.nf_report.specs.Written.{Line, flow_lines}
 use Rattle.nf_report.proofs.Gathering.{gathered_next, gathered_failed, gathered_then_failed, same_gathered, right_first}
-use Rattle.nf_forever_lists.specs.ForeverRun.{Forever}
-use Rattle.nf_forever_lists.specs.ForeverText.{tail_lines, forever_lines}
-use Rattle.nf_formats.specs.Report.{for_each, state_lines}
+use Rattle.nf_forever_def.specs.ForeverRun.{Forever}
+use Rattle.nf_forever_def.specs.ForeverText.{tail_lines, forever_lines}
+use Rattle.nf_net_def.specs.Report.{for_each, state_lines}
 use Rattle.nf_forever.specs.Seen.{forever_in}
 use Rattle.nf_forever.specs.Parts.{head_lines, end_lines}
 use Rattle.nf_forever.proofs.Joined.{one_by_one}

@@ -2,8 +2,8 @@ use Rattle.std.proofs.Common.{◌≡◌, ℕ, ◌<◌, ◌≤◌, List, length, 
 use Rattle.std.specs.List.{AllByRecursion}
 use Rattle.std.proofs.lemmas.Result.{err_from_is_err_and}
 use Rattle.nf_rational.specs.Rational.{ℚ}
-use Rattle.nf_work.specs.declared.Part.TheVariants as Part
-use Rattle.nf_work.specs.Checked.{at_part, seen_passed_at}
+use Rattle.nf_frac_def.specs.declared.Part.TheVariants as Part
+use Rattle.nf_frac_def.specs.Checked.{at_part, seen_passed_at}
 use Rattle.nf_linear.proofs.Clearing.{step, cleared_first, cleared_all, cleared_more, cleared_stops, row_before, row_got}
 use Rattle.nf_linear.proofs.elimination.clear_rows.Goals as goal
 

@@ -1,10 +1,10 @@
 use Rattle.std.proofs.Common.{◌≡◌, ◌+◌, List, drop, get_or, Ok, Err, sym, ap, ◌∙◌, arith}
 use Rattle.std.proofs.lemmas.Result.{err_from_is_err_and}
 use Rattle.nf_rational.specs.Rational.{ℚ}
-use Rattle.nf_work.specs.declared.Part.TheVariants as Part
-use Rattle.nf_work.specs.Checked.{at_part, seen_passed_at}
+use Rattle.nf_frac_def.specs.declared.Part.TheVariants as Part
+use Rattle.nf_frac_def.specs.Checked.{at_part, seen_passed_at}
 use Rattle.nf_model.specs.Entries.{number_at}
-use Rattle.nf_lists.specs.Table.{row_at}
+use Rattle.nf_thin_def.specs.Table.{row_at}
 use Rattle.nf_linear.specs.Rows.{some_from, clear_each}
 use Rattle.nf_linear.proofs.Clearing.{row_got, later_fit, eliminated, within_row}
 use Rattle.nf_linear.proofs.elimination.eliminate.Goals as goal

@@ -1,5 +1,5 @@
 use Rattle.std.proofs.Common.{◌≡◌, ◌<◌, length, refl, sym, subst, ◌∙◌}
-use Rattle.nf_lists.specs.Table.{Row, row_at}
+use Rattle.nf_thin_def.specs.Table.{Row, row_at}
 use Rattle.nf_linear.proofs.Clearing.{row_read}
 use Rattle.nf_linear.proofs.Columns.{candidate_read, pivot_here, pivot_later, pivot_nowhere}
 use Rattle.nf_linear.proofs.elimination.pivot_of.Goals as goal

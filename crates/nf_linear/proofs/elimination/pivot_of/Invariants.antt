@@ -1,5 +1,5 @@
 use Rattle.std.proofs.Common.{◌≡◌, drop}
-use Rattle.nf_lists.specs.Table.{pivot_from}
+use Rattle.nf_thin_def.specs.Table.{pivot_from}
 use Rattle.nf_linear.proofs.elimination.pivot_of.Given as goal
 
 abbrev pub invariant-loop-i : goal.invariant-loop-i

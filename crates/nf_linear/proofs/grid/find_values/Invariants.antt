@@ -1,5 +1,5 @@
 use Rattle.std.proofs.Common.{◌≡◌, length, take}
-use Rattle.nf_work.specs.Passing.{passes_Q}
+use Rattle.nf_frac_def.specs.Passing.{passes_Q}
 use Rattle.nf_linear.proofs.Values.{ValuesSoFar}
 use Rattle.nf_linear.proofs.grid.find_values.Given as goal
 

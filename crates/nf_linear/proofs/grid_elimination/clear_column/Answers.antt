@@ -1,8 +1,8 @@
 use Rattle.std.proofs.Common.{sym, ◌∙◌, rules}
 use Rattle.std.proofs.lemmas.Result.{err_from_is_err_and}
 use Rattle.nf_rational.specs.Rational.{ℚ}
-use Rattle.nf_work.specs.declared.Halt.TheVariants as Halt
-use Rattle.nf_work.specs.Passing.{passes_Q}
+use Rattle.nf_frac_def.specs.declared.Halt.TheVariants as Halt
+use Rattle.nf_frac_def.specs.Passing.{passes_Q}
 use Rattle.nf_linear.proofs.Stages.{pivot_within, pivot_some, column_cleared, column_stops}
 use Rattle.nf_linear.proofs.grid_elimination.clear_column.Goals as goal
 

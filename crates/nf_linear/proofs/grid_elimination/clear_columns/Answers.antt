@@ -4,8 +4,8 @@ use Rattle.std.proofs.lemmas.Bool.{false≢true}
 use Rattle.std.proofs.lemmas.List.{length-replicate}
 use Rattle.std.proofs.lemmas.Result.{err_from_is_err_and, IfOk-from_err}
 use Rattle.nf_rational.specs.Rational.{ℚ}
-use Rattle.nf_work.specs.declared.Halt.TheVariants as Halt
-use Rattle.nf_work.specs.Passing.{passes_Q}
+use Rattle.nf_frac_def.specs.declared.Halt.TheVariants as Halt
+use Rattle.nf_frac_def.specs.Passing.{passes_Q}
 use Rattle.nf_linear.specs.Pivots.{eliminated}
 use Rattle.nf_linear.proofs.Stages.{Stage, first_stage, stage_square, stage_none, stage_stops, stage_more, stage_all, stage_pivots}
 use Rattle.nf_linear.proofs.grid_elimination.clear_columns.Goals as goal

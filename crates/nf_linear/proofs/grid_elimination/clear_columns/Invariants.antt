@@ -1,4 +1,4 @@
-use Rattle.nf_work.specs.Passing.{passes_Q}
+use Rattle.nf_frac_def.specs.Passing.{passes_Q}
 use Rattle.std.proofs.Common.{◌≤◌, length}
 use Rattle.nf_linear.proofs.Stages.{Stage}
 use Rattle.nf_linear.proofs.grid_elimination.clear_columns.Given as goal

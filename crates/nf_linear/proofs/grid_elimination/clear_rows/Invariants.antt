@@ -1,4 +1,4 @@
-use Rattle.nf_work.specs.Passing.{passes_Q}
+use Rattle.nf_frac_def.specs.Passing.{passes_Q}
 use Rattle.nf_linear.proofs.Clearing.{ClearedSoFar}
 use Rattle.nf_linear.proofs.grid_elimination.clear_rows.Given as goal
 

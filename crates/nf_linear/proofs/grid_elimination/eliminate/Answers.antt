@@ -1,11 +1,11 @@
 use Rattle.std.proofs.Common.{◌≡◌, ◌+◌, List, length, take, drop, get_or, sym, ap, ◌∙◌, arith, rules, length-take-le}
 use borrow.Author.Rules.{scaled_Fits}
 use Rattle.nf_rational.specs.Rational.{ℚ}
-use Rattle.nf_work.specs.Passing.{passes_Q}
-use Rattle.nf_work.specs.declared.Part.TheVariants as Part
-use Rattle.nf_work.specs.Checked.{at_part}
+use Rattle.nf_frac_def.specs.Passing.{passes_Q}
+use Rattle.nf_frac_def.specs.declared.Part.TheVariants as Part
+use Rattle.nf_frac_def.specs.Checked.{at_part}
 use Rattle.nf_model.specs.Entries.{number_at}
-use Rattle.nf_lists.specs.Table.{row_at}
+use Rattle.nf_thin_def.specs.Table.{row_at}
 use Rattle.nf_linear.specs.Rows.{some_from}
 use Rattle.nf_linear.proofs.Clearing.{row_got, later_fit, eliminated, within_row}
 use Rattle.nf_linear.proofs.grid_elimination.eliminate.Goals as goal

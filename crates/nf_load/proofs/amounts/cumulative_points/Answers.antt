@@ -5,12 +5,12 @@ use Rattle.std.proofs.lemmas.Result.{err_from_is_err_and}
 use Rattle.std.proofs.lemmas.Option.{slice_get_read}
 use Rattle.nf_rational.specs.Rational.{ℚ}
 use Rattle.nf_rational.specs.Order.{lt_ℚ}
-use Rattle.nf_work.specs.declared.Part.TheVariants.{Load}
-use Rattle.nf_work.specs.Passing.{passes_Q}
-use Rattle.nf_work.specs.Checked.{at_part}
-use Rattle.nf_work.proofs.Each.{with_front}
+use Rattle.nf_frac_def.specs.declared.Part.TheVariants.{Load}
+use Rattle.nf_frac_def.specs.Passing.{passes_Q}
+use Rattle.nf_frac_def.specs.Checked.{at_part}
+use Rattle.nf_frac_def.proofs.Each.{with_front}
 use Rattle.nf_model.specs.Network.{Piece}
-use Rattle.nf_load_lists.specs.Cumulative.{end_of, point_if_after_0, with_piece, cumulative_from, checked_cumulative}
+use Rattle.nf_load_def.specs.Cumulative.{end_of, point_if_after_0, with_piece, cumulative_from, checked_cumulative}
 use Rattle.nf_load.proofs.Supplying.{within_next, begins_with, ends_before_at, ends_there, goes_on_at, stops_at, one_on}
 use Rattle.nf_load.proofs.amounts.cumulative_points.Goals as goal
 

@@ -1,7 +1,7 @@
 use Rattle.std.proofs.Common.{◌≡◌, drop}
-use Rattle.nf_work.specs.Passing.{passes_Q}
-use Rattle.nf_work.proofs.Each.{with_front}
-use Rattle.nf_load_lists.specs.Cumulative.{cumulative_from, checked_cumulative}
+use Rattle.nf_frac_def.specs.Passing.{passes_Q}
+use Rattle.nf_frac_def.proofs.Each.{with_front}
+use Rattle.nf_load_def.specs.Cumulative.{cumulative_from, checked_cumulative}
 use Rattle.nf_load.proofs.amounts.cumulative_points.Given as goal
 
 -- the points so far, and those from a piece on

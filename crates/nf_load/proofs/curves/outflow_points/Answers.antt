@@ -3,8 +3,8 @@ use Rattle.std.proofs.lemmas.List.{at_drop_all}
 use Rattle.std.proofs.lemmas.Result.{IfOk-from_err}
 use Rattle.nf_rational.specs.Rational.{ℚ}
 use Rattle.nf_model.specs.Curve.{Point}
-use Rattle.nf_lists.specs.Signs.{is_same}
-use Rattle.nf_load_lists.specs.Loading.{Exit, outflow_from}
+use Rattle.nf_rational.specs.Signs.{is_same}
+use Rattle.nf_load_def.specs.Loading.{Exit, outflow_from}
 use Rattle.nf_load.specs.declared.waits.Exit.TheInside.{Inside}
 use Rattle.nf_load.proofs.ExitsInTurn.{same_exit, later_exit}
 use Rattle.nf_load.proofs.curves.outflow_points.Goals as goal

@@ -2,11 +2,11 @@ use Rattle.std.proofs.Common.{suc, List, drop, refl, sym, ap, ◌∙◌, add-one
 use Rattle.std.proofs.lemmas.List.{drop_all}
 use Rattle.std.proofs.lemmas.Option.{slice_get_read}
 use Rattle.std.proofs.lemmas.Result.{err_from_is_err_and}
-use Rattle.nf_work.specs.declared.Part.TheVariants.{Load}
-use Rattle.nf_work.specs.Passing.{passes_Q}
-use Rattle.nf_work.specs.Checked.{each}
-use Rattle.nf_work.proofs.Each.{with_front}
-use Rattle.nf_load_lists.specs.Loading.{Waits, exit_of}
+use Rattle.nf_frac_def.specs.declared.Part.TheVariants.{Load}
+use Rattle.nf_frac_def.specs.Passing.{passes_Q}
+use Rattle.nf_frac_def.specs.Checked.{each}
+use Rattle.nf_frac_def.proofs.Each.{with_front}
+use Rattle.nf_load_def.specs.Loading.{Waits, exit_of}
 use Rattle.nf_curve.proofs.Exits.{each_goes, each_stops, each_ends}
 use Rattle.nf_curve.proofs.Shortening.{drop-at}
 use Rattle.nf_load.proofs.exiting.all_exits.Goals as goal

@@ -1,11 +1,11 @@
 use Rattle.std.proofs.Common.{sym}
 use Rattle.std.proofs.lemmas.Result.{err_from_is_err_and}
-use Rattle.nf_work.specs.declared.Part.TheVariants.{Load}
-use Rattle.nf_work.specs.declared.Op.TheVariants.{Sum}
-use Rattle.nf_work.specs.Passing.{passes_Q}
-use Rattle.nf_work.specs.Checked.{checked, at_part}
-use Rattle.nf_curve_lists.specs.Values.{checked_cut}
-use Rattle.nf_load_lists.specs.Loading.{outflow_points}
+use Rattle.nf_frac_def.specs.declared.Part.TheVariants.{Load}
+use Rattle.nf_frac_def.specs.declared.Op.TheVariants.{Sum}
+use Rattle.nf_frac_def.specs.Passing.{passes_Q}
+use Rattle.nf_frac_def.specs.Checked.{checked, at_part}
+use Rattle.nf_curve_def.specs.Values.{checked_cut}
+use Rattle.nf_load_def.specs.Loading.{outflow_points}
 use Rattle.nf_curve.proofs.Exits.{was_ok, stops_on}
 use Rattle.nf_load.specs.InSteps.{until_transit}
 use Rattle.nf_load.proofs.LoadedCurves.{end_after_0}

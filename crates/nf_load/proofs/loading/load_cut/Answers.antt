@@ -1,10 +1,10 @@
 use Rattle.std.proofs.Common.{◌≡◌, List, sym, ap, ◌∙◌}
 use Rattle.std.specs.Prelude.{Ok}
 use Rattle.std.proofs.lemmas.Result.{err_from_is_err_and}
-use Rattle.nf_work.specs.declared.Part.TheVariants.{Load}
-use Rattle.nf_work.specs.Passing.{passes_Q}
-use Rattle.nf_work.specs.Checked.{at_part, each}
-use Rattle.nf_load_lists.specs.Loading.{Waits, exit_of, all_waits}
+use Rattle.nf_frac_def.specs.declared.Part.TheVariants.{Load}
+use Rattle.nf_frac_def.specs.Passing.{passes_Q}
+use Rattle.nf_frac_def.specs.Checked.{at_part, each}
+use Rattle.nf_load_def.specs.Loading.{Waits, exit_of, all_waits}
 use Rattle.nf_curve.proofs.Exits.{stops_on}
 use Rattle.nf_load.specs.InSteps.{behind_cut}
 use Rattle.nf_load.proofs.LoadingSteps.{waits_stop, exits_stop, exits_go, are_curves}

@@ -1,9 +1,9 @@
 use Rattle.std.proofs.lemmas.Result.{err_from_is_err_and}
-use Rattle.nf_work.specs.declared.Part.TheVariants.{Load}
-use Rattle.nf_work.specs.Passing.{passes_Q}
-use Rattle.nf_work.specs.Checked.{at_part}
-use Rattle.nf_curve_lists.specs.Values.{checked_cut}
-use Rattle.nf_load_lists.specs.Loading.{checked_loading}
+use Rattle.nf_frac_def.specs.declared.Part.TheVariants.{Load}
+use Rattle.nf_frac_def.specs.Passing.{passes_Q}
+use Rattle.nf_frac_def.specs.Checked.{at_part}
+use Rattle.nf_curve_def.specs.Values.{checked_cut}
+use Rattle.nf_load_def.specs.Loading.{checked_loading}
 use Rattle.nf_curve.proofs.Exits.{was_ok, stops_on}
 use Rattle.nf_load.proofs.LoadedCurves.{loaded_curves, is_loaded}
 use Rattle.nf_load.proofs.LoadingSteps.{cut_stops, cut_goes}

@@ -1,10 +1,10 @@
 use Rattle.std.specs.Prelude.{map}
 use Rattle.std.proofs.lemmas.Result.{err_from_is_err_and}
-use Rattle.nf_work.specs.declared.Part.TheVariants.{Load}
-use Rattle.nf_work.specs.Passing.{passes_Q}
-use Rattle.nf_work.specs.Checked.{at_part}
-use Rattle.nf_curve_lists.specs.Short.{checked_short}
-use Rattle.nf_load_lists.specs.Loading.{queue_point, exit_point}
+use Rattle.nf_frac_def.specs.declared.Part.TheVariants.{Load}
+use Rattle.nf_frac_def.specs.Passing.{passes_Q}
+use Rattle.nf_frac_def.specs.Checked.{at_part}
+use Rattle.nf_curve_def.specs.Short.{checked_short}
+use Rattle.nf_load_def.specs.Loading.{queue_point, exit_point}
 use Rattle.nf_curve.proofs.Exits.{stops_on}
 use Rattle.nf_load.specs.InSteps.{in_short_form}
 use Rattle.nf_load.proofs.LoadingSteps.{queue_stops, outflow_stops, exit_stops, comes_to}

@@ -2,12 +2,12 @@ use Rattle.std.proofs.Common.{ℕ, ◌+◌, suc, ◌≤◌, length, append-nil, 
 use Rattle.std.specs.Prelude.{Ok}
 use Rattle.std.proofs.lemmas.List.{drop_all}
 use Rattle.std.proofs.lemmas.Result.{err_from_is_err_and}
-use Rattle.nf_work.specs.declared.Part.TheVariants.{Load}
-use Rattle.nf_work.specs.Passing.{passes_Q}
-use Rattle.nf_work.specs.Checked.{at_part}
+use Rattle.nf_frac_def.specs.declared.Part.TheVariants.{Load}
+use Rattle.nf_frac_def.specs.Passing.{passes_Q}
+use Rattle.nf_frac_def.specs.Checked.{at_part}
 use Rattle.nf_model.specs.Curve.{Point}
-use Rattle.nf_work.proofs.Each.{with_front}
-use Rattle.nf_load_lists.specs.Loading.{Waits, waits_after}
+use Rattle.nf_frac_def.proofs.Each.{with_front}
+use Rattle.nf_load_def.specs.Loading.{Waits, waits_after}
 use Rattle.nf_load.proofs.QueueSteps.{begins, goes_on, stops, later_first, later_here, later_next}
 use Rattle.nf_load.proofs.waiting.all_waits.Goals as goal
 

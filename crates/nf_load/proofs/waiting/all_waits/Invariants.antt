@@ -1,7 +1,7 @@
 use Rattle.std.proofs.Common.{◌≡◌, drop}
-use Rattle.nf_work.specs.Passing.{passes_Q}
-use Rattle.nf_work.proofs.Each.{with_front}
-use Rattle.nf_load_lists.specs.Loading.{waits_after, all_waits}
+use Rattle.nf_frac_def.specs.Passing.{passes_Q}
+use Rattle.nf_frac_def.proofs.Each.{with_front}
+use Rattle.nf_load_def.specs.Loading.{waits_after, all_waits}
 use Rattle.nf_load.proofs.QueueSteps.{Later}
 use Rattle.nf_load.proofs.waiting.all_waits.Given as goal
 

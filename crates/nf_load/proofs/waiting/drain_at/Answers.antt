@@ -3,9 +3,9 @@ use Rattle.std.specs.Prelude.{Ok}
 use Rattle.std.proofs.lemmas.Result.{err_from_is_err_and}
 use Rattle.nf_rational.specs.Rational.{ℚ}
 use Rattle.nf_rational.specs.Operations.{0ℚ}
-use Rattle.nf_work.specs.declared.Part.TheVariants.{Load}
-use Rattle.nf_work.specs.Passing.{passes_Q}
-use Rattle.nf_curve_lists.specs.Lines.{checked_line}
+use Rattle.nf_frac_def.specs.declared.Part.TheVariants.{Load}
+use Rattle.nf_frac_def.specs.Passing.{passes_Q}
+use Rattle.nf_curve_def.specs.Lines.{checked_line}
 use Rattle.nf_curve.proofs.Exits.{after_err, after_ok}
 use Rattle.nf_load.proofs.waiting.drain_at.Goals as goal
 

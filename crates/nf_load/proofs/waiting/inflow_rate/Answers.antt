@@ -1,7 +1,7 @@
 use Rattle.std.proofs.Common.{lit<, sym, subst, ◌∙◌}
 use Rattle.nf_rational.specs.Order.{◌<ℚ◌}
-use Rattle.nf_work.specs.Passing.{passes_Q}
-use Rattle.nf_load_lists.specs.Loading as lists
+use Rattle.nf_frac_def.specs.Passing.{passes_Q}
+use Rattle.nf_load_def.specs.Loading as lists
 use Rattle.nf_curve.proofs.Pieces.{run_apart}
 use Rattle.nf_load.proofs.waiting.inflow_rate.Goals as goal
 

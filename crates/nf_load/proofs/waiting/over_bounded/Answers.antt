@@ -2,9 +2,9 @@ use Rattle.std.proofs.Common.{List, ◌&&◌, ap, ◌∙◌}
 use Rattle.std.specs.Prelude.{Ok}
 use Rattle.std.proofs.lemmas.Result.{err_from_is_err_and}
 use Rattle.nf_rational.specs.Order.{lt_ℚ, le_ℚ}
-use Rattle.nf_work.specs.Passing.{passes_Q}
-use Rattle.nf_lists.specs.Signs.{is_zero, is_positive}
-use Rattle.nf_load_lists.specs.Loading as lists
+use Rattle.nf_frac_def.specs.Passing.{passes_Q}
+use Rattle.nf_rational.specs.Signs.{is_zero, is_positive}
+use Rattle.nf_load_def.specs.Loading as lists
 use Rattle.nf_load.proofs.OverPieces.{slope_passes, stays, goes}
 use Rattle.nf_load.proofs.waiting.over_bounded.Goals as goal
 

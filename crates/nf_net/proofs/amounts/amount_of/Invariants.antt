@@ -1,6 +1,6 @@
 use Rattle.std.proofs.Common.{◌≡◌, drop}
 use Rattle.nf_rational.specs.Operations.{0ℚ}
-use Rattle.nf_work.specs.Passing.{passes_Q}
+use Rattle.nf_frac_def.specs.Passing.{passes_Q}
 use Rattle.nf_net.specs.Supply.{supplied_after}
 use Rattle.nf_net.proofs.amounts.amount_of.Given as goal
 

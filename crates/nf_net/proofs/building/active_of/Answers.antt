@@ -1,6 +1,6 @@
 use Rattle.std.proofs.Common.{◌+◌, ◌++◌, List, [], ◌∷◌, drop, refl, sym, ◌∙◌, ap, append-nil}
-use Rattle.nf_formats.specs.Named.{NamedLink}
-use Rattle.nf_formats.specs.NetClosing.{marked}
+use Rattle.nf_net_def.specs.Named.{NamedLink}
+use Rattle.nf_net_def.specs.NetClosing.{marked}
 use Rattle.nf_net_file.specs.Closing.{tail_flags}
 use Rattle.nf_net_file.proofs.Filling.{filled}
 use Rattle.nf_net_file.proofs.Marks.{marked_with, marked_past}

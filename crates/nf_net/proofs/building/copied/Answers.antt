@@ -1,5 +1,5 @@
 use Rattle.std.proofs.Common.{◌++◌, List, ◌∷◌, [], refl, ◌∙◌, ap}
-use Rattle.nf_formats.specs.Names.{Name}
+use Rattle.nf_net_def.specs.Names.{Name}
 use Rattle.nf_net_file.proofs.Filling.{filled}
 use Rattle.nf_net.proofs.Ended.{all_filled}
 use Rattle.nf_net.proofs.building.copied.Goals as goal

@@ -1,5 +1,5 @@
 use Rattle.std.proofs.Common.{◌+◌, ◌++◌, Bool, cond, List, [], ◌∷◌, drop, refl, sym, ◌∙◌, ap, append-nil}
-use Rattle.nf_formats.specs.Names.{Name, without}
+use Rattle.nf_net_def.specs.Names.{Name, without}
 use Rattle.nf_net_file.proofs.Filling.{filled}
 use Rattle.nf_net_file.proofs.Marks.{kept_with}
 use Rattle.nf_net.proofs.Ended.{all_filled}

@@ -1,6 +1,6 @@
 use Rattle.std.proofs.Common.{◌++◌, List, [], ◌∷◌, map, refl, ◌∙◌, ap}
 use Rattle.nf_model.specs.Network.{Link}
-use Rattle.nf_formats.specs.Named.{numbered}
+use Rattle.nf_net_def.specs.Named.{numbered}
 use Rattle.nf_net_file.proofs.Filling.{filled}
 use Rattle.nf_net.proofs.Ended.{all_filled}
 use Rattle.nf_net.proofs.building.numbered_links.Goals as goal

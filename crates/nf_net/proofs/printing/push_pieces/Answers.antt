@@ -1,8 +1,8 @@
 use Rattle.std.proofs.Common.{List, map, refl}
 use Rattle.std.specs.List.{flat_map}
-use Rattle.nf_lines.specs.Words.{line_of_words}
+use Rattle.nf_text_def.specs.Words.{line_of_words}
 use Rattle.nf_model.specs.Network.{Piece}
-use Rattle.nf_formats.specs.NetText.{inflow_words}
+use Rattle.nf_net_def.specs.NetText.{inflow_words}
 use Rattle.nf_net_file.proofs.Filling.{filled}
 use Rattle.nf_net.proofs.Ended.{all_filled}
 use Rattle.nf_net.proofs.printing.push_pieces.Goals as goal

@@ -1,6 +1,6 @@
 use Rattle.std.proofs.Common.{◌≡◌, ℕ, List, [], ◌∷◌, ◌++◌, subst, codes}
 use Rattle.std.specs.Prelude.{OnOk}
-use Rattle.nf_lines.specs.Words.{line_of_words}
+use Rattle.nf_text_def.specs.Words.{line_of_words}
 use Rattle.nf_net.proofs.Versions.{first_version, second_version}
 use Rattle.nf_net.proofs.printing.push_version.Goals as goal
 

@@ -1,6 +1,6 @@
 use Rattle.std.proofs.Common.{ℕ, List, Ok, sym, subst}
-use Rattle.nf_formats.specs.NetFile.{Reads}
-use Rattle.nf_formats_laws.proofs.CanonicalBack.{canonical_back}
+use Rattle.nf_net_def.specs.NetFile.{Reads}
+use Rattle.nf_net_laws.proofs.CanonicalBack.{canonical_back}
 use Rattle.nf_net.proofs.printing.text.Goals as goal
 
 pub returns-clause-reads_back : goal.returns-clause-reads_back

@@ -1,7 +1,7 @@
 use Rattle.std.proofs.Common.{List, sym, ◌∙◌, ap, subst}
 use Rattle.std.proofs.lemmas.Result.{err_from_is_err_and}
 use Rattle.nf_text.specs.declared.Line.{Line}
-use Rattle.nf_formats.specs.NetLines.{draft_from}
+use Rattle.nf_net_def.specs.NetLines.{draft_from}
 use Rattle.nf_net_file.specs.Drafts.{seen_draft}
 use Rattle.nf_net_file.specs.Contents.{contents, AreLinesWithin}
 use Rattle.nf_net_file.proofs.ContentLines.{broken_more}

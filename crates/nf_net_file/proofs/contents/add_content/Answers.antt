@@ -1,6 +1,6 @@
 use Rattle.std.proofs.Common.{◌∙◌, sym, map, ap}
 use Rattle.nf_text.specs.Spans.{text_of}
-use Rattle.nf_formats.specs.NetLines.{add_line}
+use Rattle.nf_net_def.specs.NetLines.{add_line}
 use Rattle.nf_net_file.specs.Drafts.{seen_draft}
 use Rattle.nf_net_file.proofs.ContentLines.{words_added, words_break, some_read}
 use Rattle.nf_net_file.proofs.contents.add_content.Goals as goal

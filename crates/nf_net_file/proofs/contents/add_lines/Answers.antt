@@ -1,7 +1,7 @@
 use Rattle.std.proofs.Common.{◌<◌, length, sym, ◌∙◌, arith}
 use Rattle.std.proofs.lemmas.List.{at_drop_all}
 use Rattle.std.proofs.lemmas.Result.{err_from_is_err_and}
-use Rattle.nf_formats.specs.NetLines.{add_lines}
+use Rattle.nf_net_def.specs.NetLines.{add_lines}
 use Rattle.nf_net_file.specs.Drafts.{seen_draft}
 use Rattle.nf_net_file.specs.Contents.{contents}
 use Rattle.nf_net_file.proofs.ContentLines.{line_added, line_breaks, broken_more, within_at}

@@ -1,5 +1,5 @@
 use Rattle.std.proofs.Common.{◌≡◌, drop}
-use Rattle.nf_formats.specs.NetLines.{add_lines as add_all}
+use Rattle.nf_net_def.specs.NetLines.{add_lines as add_all}
 use Rattle.nf_net_file.specs.Drafts.{seen_draft}
 use Rattle.nf_net_file.specs.Contents.{contents}
 use Rattle.nf_net_file.proofs.contents.add_lines.Given as goal

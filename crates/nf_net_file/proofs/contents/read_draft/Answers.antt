@@ -3,7 +3,7 @@ use Rattle.std.proofs.lemmas.Result.{err_from_is_err_and}
 use Rattle.nf_text.specs.declared.Span.{Span}
 use Rattle.nf_text.specs.Spans.{text_of}
 use Rattle.nf_net_file.specs.Words.{AreWithin}
-use Rattle.nf_formats.specs.NetLines.{version_of, add_lines, draft_from, draft_after}
+use Rattle.nf_net_def.specs.NetLines.{version_of, add_lines, draft_from, draft_after}
 use Rattle.nf_net_file.specs.Drafts.{seen_draft}
 use Rattle.nf_net_file.specs.Contents.{contents}
 use Rattle.nf_net_file.proofs.ContentLines.{first_line, within_rest, after_first, broken_more, within_at, all_wordless}

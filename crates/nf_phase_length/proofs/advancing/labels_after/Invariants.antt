@@ -1,6 +1,6 @@
-use Rattle.nf_work.specs.Passing.{passes_Q}
-use Rattle.nf_lists.specs.Advance.{label_after}
-use Rattle.nf_lists_laws.proofs.Numbered.{SoFar}
+use Rattle.nf_frac_def.specs.Passing.{passes_Q}
+use Rattle.nf_thin_def.specs.Advance.{label_after}
+use Rattle.nf_thin_laws.proofs.Numbered.{SoFar}
 use Rattle.nf_phase_length.proofs.advancing.labels_after.Given as goal
 
 -- The labels so far precede those of the other nodes.

@@ -2,10 +2,10 @@ use Rattle.std.proofs.Common.{sym, ap, ◌∙◌}
 use Rattle.std.specs.Prelude.{Result, Ok, Err}
 use Rattle.nf_rational.specs.Rational.{ℚ}
 use Rattle.nf_rational.specs.Order.{min_ℚ}
-use Rattle.nf_work.specs.declared.Part.TheVariants.{Quick}
-use Rattle.nf_work.specs.declared.Passed.{Passed}
-use Rattle.nf_work.specs.Checked.{at_part, ◌>>=◌}
-use Rattle.nf_quick_lists.specs.Cuts.{at_most}
+use Rattle.nf_frac_def.specs.declared.Part.TheVariants.{Quick}
+use Rattle.nf_frac_def.specs.declared.Passed.{Passed}
+use Rattle.nf_frac_def.specs.Checked.{at_part, ◌>>=◌}
+use Rattle.nf_quick_def.specs.Cuts.{at_most}
 use Rattle.nf_quick.proofs.cut.node_time.Goals as goal
 
 pub returns-in-None : goal.returns-in-None

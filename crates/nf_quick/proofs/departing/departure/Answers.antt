@@ -3,7 +3,7 @@ use Rattle.nf_rational.specs.Rational.{ℚ}
 use Rattle.nf_rational.specs.Operations.{0ℚ}
 use Rattle.nf_rational.specs.Order.{le_ℚ}
 use Rattle.nf_rational_laws.proofs.Tests.{lt_of_test}
-use Rattle.nf_work.specs.Passing.{passes_Q}
+use Rattle.nf_frac_def.specs.Passing.{passes_Q}
 use Rattle.nf_quick.proofs.PieceByPiece.{departure_of_none, departure_found}
 use Rattle.nf_quick.proofs.departing.departure.Goals as goal
 

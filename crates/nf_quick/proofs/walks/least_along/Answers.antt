@@ -1,8 +1,8 @@
 use Rattle.std.proofs.Common.{ℕ, ◌+◌, ◌<◌, List, ◌∷◌, length, drop, Some, sym, ap, ◌∙◌}
 use Rattle.std.proofs.lemmas.List.{drop_more}
 use Rattle.nf_rational.specs.Rational.{ℚ}
-use Rattle.nf_quick_lists.specs.Rounds.{lesser}
-use Rattle.nf_quick_lists.specs.Walks.{least_along}
+use Rattle.nf_quick_def.specs.Rounds.{lesser}
+use Rattle.nf_quick_def.specs.Walks.{least_along}
 use Rattle.nf_residual.proofs.Folding.{all_at}
 use Rattle.nf_quick.proofs.walks.least_along.Goals as goal
 

@@ -1,5 +1,5 @@
 use Rattle.std.proofs.Common.{◌≡◌, None, drop}
-use Rattle.nf_quick_lists.specs.Walks.{least_along}
+use Rattle.nf_quick_def.specs.Walks.{least_along}
 use Rattle.nf_quick.proofs.walks.least_along.Given as goal
 
 abbrev pub invariant-loop-link : goal.invariant-loop-link

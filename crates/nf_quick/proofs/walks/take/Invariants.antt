@@ -1,6 +1,6 @@
 use Rattle.std.proofs.Common.{◌≡◌, length}
-use Rattle.nf_work.specs.Passing.{passes_Q}
-use Rattle.nf_quick_lists.specs.Walks.{take_link}
+use Rattle.nf_frac_def.specs.Passing.{passes_Q}
+use Rattle.nf_quick_def.specs.Walks.{take_link}
 use Rattle.nf_residual.proofs.Folding.{FoldsOn}
 use Rattle.nf_quick.proofs.walks.take.Given as goal
 

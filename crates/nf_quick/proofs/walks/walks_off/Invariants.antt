@@ -1,5 +1,5 @@
 use Rattle.std.proofs.Common.{◌≡◌, length}
-use Rattle.nf_work.specs.Passing.{passes_Q}
+use Rattle.nf_frac_def.specs.Passing.{passes_Q}
 use Rattle.nf_quick.specs.Spent.{AreSpent}
 use Rattle.nf_quick.proofs.WalkByWalk.{TakesOn}
 use Rattle.nf_quick.proofs.walks.walks_off.Given as goal

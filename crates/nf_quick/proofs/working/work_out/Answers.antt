@@ -4,11 +4,11 @@ use Rattle.std.proofs.lemmas.Result.{err_from_is_err_and}
 use Rattle.nf_rational.specs.Rational.{ℚ}
 use Rattle.nf_rational.specs.Operations.{0ℚ}
 use Rattle.nf_rational.specs.Order.{le_ℚ}
-use Rattle.nf_work.specs.Passing.{passes_Q}
+use Rattle.nf_frac_def.specs.Passing.{passes_Q}
 use Rattle.nf_rational_laws.proofs.Tests.{lt_of_test}
-use Rattle.nf_quick_lists.specs.Steps.{IsUnboundedWalk, IsLimited}
-use Rattle.nf_quick_lists.specs.Flows.{IsSound}
-use Rattle.nf_quick_lists.specs.Quick.{QuickStanding}
+use Rattle.nf_quick_def.specs.Steps.{IsUnboundedWalk, IsLimited}
+use Rattle.nf_quick_def.specs.Flows.{IsSound}
+use Rattle.nf_quick_def.specs.Quick.{QuickStanding}
 use Rattle.nf_quick.proofs.Answering.{nothing_answered, pushes_stop, finish_stops, finish_answered}
 use Rattle.nf_quick.proofs.working.work_out.Goals as goal
 

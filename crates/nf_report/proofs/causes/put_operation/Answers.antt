@@ -1,6 +1,6 @@
 use Rattle.std.proofs.Common.{[], ◌∷◌}
 use Rattle.std.specs.Prelude.{codes}
-use Rattle.nf_numerals.specs.Printed.{printed}
+use Rattle.nf_frac_words.specs.Printed.{printed}
 use Rattle.nf_report.proofs.Gathering.{same_gathered}
 use Rattle.nf_report.proofs.causes.put_operation.Goals as goal
 

@@ -1,8 +1,8 @@
 use Rattle.std.proofs.Common.{[], ◌∷◌, ap}
 use Rattle.std.specs.Prelude.{codes}
-use Rattle.nf_numerals.specs.Digits.{digits_of}
-use Rattle.nf_numerals.specs.Printed.{printed}
-use Rattle.nf_formats.specs.Causes.{part_word, op_word, count_word}
+use Rattle.nf_frac_words.specs.Digits.{digits_of}
+use Rattle.nf_frac_words.specs.Printed.{printed}
+use Rattle.nf_net_def.specs.Causes.{part_word, op_word, count_word}
 use Rattle.nf_report.proofs.Gathering.{same_gathered}
 use Rattle.nf_report.proofs.causes.put_passed.Goals as goal
 

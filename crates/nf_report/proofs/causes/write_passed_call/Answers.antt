@@ -1,7 +1,7 @@
 use Rattle.std.proofs.Common.{[], ◌∷◌}
 use Rattle.std.specs.Prelude.{codes, None}
-use Rattle.nf_numerals.specs.Printed.{printed}
-use Rattle.nf_formats.specs.Causes.{passed_words}
+use Rattle.nf_frac_words.specs.Printed.{printed}
+use Rattle.nf_net_def.specs.Causes.{passed_words}
 use Rattle.nf_report.proofs.Gathering.{same_gathered, gathered_written, gathered_refused}
 use Rattle.nf_report.proofs.causes.write_passed_call.Goals as goal
 

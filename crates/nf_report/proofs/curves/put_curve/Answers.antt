@@ -1,6 +1,6 @@
 use Rattle.std.proofs.Common.{◌≤◌, [], ◌∷◌, ◌+◌, length, take, drop, suc, ap, arith}
 use Rattle.std.proofs.lemmas.List.{take_all}
-use Rattle.nf_formats.specs.Report.{point_lines}
+use Rattle.nf_net_def.specs.Report.{point_lines}
 use Rattle.nf_report.specs.Written.{point_line}
 use Rattle.nf_report.proofs.Parts.{point_lines_next, point_lines_left}
 use Rattle.nf_report.proofs.Gathering.{gathered_nil, gathered_next, gathered_then_failed, same_gathered}

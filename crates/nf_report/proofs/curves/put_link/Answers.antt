@@ -1,6 +1,6 @@
 use Rattle.std.proofs.Common.{◌++◌, refl, sym, append_assoc}
 use Rattle.std.specs.Prelude.{codes}
-use Rattle.nf_formats.specs.Report.{point_lines, trace_lines}
+use Rattle.nf_net_def.specs.Report.{point_lines, trace_lines}
 use Rattle.nf_report.proofs.Gathering.{gathered_next, gathered_failed, gathered_then_failed}
 use Rattle.nf_report.proofs.curves.put_link.Goals as goal
 

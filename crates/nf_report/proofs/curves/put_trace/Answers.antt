@@ -2,7 +2,7 @@ use Rattle.std.proofs.Common.{◌≡◌, ◌≤◌, ◌+◌, List, [], ◌∷◌
 use Rattle.std.proofs.lemmas.List.{take_all}
 use Rattle.std.specs.Prelude.{slice_get}
 use Rattle.nf_model.specs.Curve.{Point}
-use Rattle.nf_formats.specs.Report.{trace_lines}
+use Rattle.nf_net_def.specs.Report.{trace_lines}
 use Rattle.nf_report.specs.Written.{trace_line}
 use Rattle.nf_report.proofs.Parts.{trace_lines_next, trace_lines_left}
 use Rattle.nf_report.proofs.Gathering.{gathered_nil, gathered_next, gathered_then_failed, same_gathered}

@@ -1,7 +1,7 @@
 use Rattle.std.proofs.Common.{take}
 use Rattle.std.specs.Prelude.{Ok}
 use Rattle.nf_edge.specs.declared.SinkFault.{SinkFault}
-use Rattle.nf_formats.specs.Report.{trace_lines}
+use Rattle.nf_net_def.specs.Report.{trace_lines}
 use Rattle.nf_report.specs.Pages.{GatheredLines}
 use Rattle.nf_report.proofs.curves.put_trace.Given as goal
 

@@ -1,5 +1,5 @@
 use Rattle.nf_curve.specs.Points.{Grown}
-use Rattle.nf_readings_laws.specs.Readable.{AreFractionPoints}
+use Rattle.nf_report_laws.specs.Readable.{AreFractionPoints}
 use Rattle.nf_report.proofs.Entries.{one_read, up_to_end, all_image}
 use Rattle.nf_report.proofs.known.know_curves.Goals as goal
 

@@ -1,7 +1,7 @@
 use Rattle.std.proofs.Common.{take}
 use Rattle.std.specs.List.{AllByRecursion}
 use Rattle.nf_curve.specs.Points.{Grown}
-use Rattle.nf_readings_laws.specs.Readable.{AreFractionPoints}
+use Rattle.nf_report_laws.specs.Readable.{AreFractionPoints}
 use Rattle.nf_report.proofs.known.know_curves.Given as goal
 
 abbrev pub invariant-loop-curve : goal.invariant-loop-curve

@@ -1,5 +1,5 @@
 use Rattle.std.proofs.Common.{◌≤◌, length, arith}
-use Rattle.nf_readings_laws.specs.Readable.{IsFractionPoint}
+use Rattle.nf_report_laws.specs.Readable.{IsFractionPoint}
 use Rattle.nf_report.proofs.Entries.{one_more, up_to_end}
 use Rattle.nf_report.proofs.known.know_points.Goals as goal
 

@@ -1,4 +1,4 @@
-use Rattle.nf_formats.specs.WellNamed.{IsFraction}
+use Rattle.nf_net_def.specs.WellNamed.{IsFraction}
 use Rattle.nf_report.proofs.Entries.{one_read, up_to_end}
 use Rattle.nf_report.proofs.known.know_rates.Goals as goal
 

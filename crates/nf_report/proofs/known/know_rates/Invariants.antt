@@ -1,6 +1,6 @@
 use Rattle.std.proofs.Common.{take}
 use Rattle.std.specs.List.{AllByRecursion}
-use Rattle.nf_formats.specs.WellNamed.{IsFraction}
+use Rattle.nf_net_def.specs.WellNamed.{IsFraction}
 use Rattle.nf_report.proofs.known.know_rates.Given as goal
 
 abbrev pub invariant-loop-rate : goal.invariant-loop-rate

@@ -1,7 +1,7 @@
 use Rattle.std.proofs.Common.{List, subst}
 use Rattle.std.specs.List.{AllByRecursion}
 use Rattle.nf_rational.specs.Rational.{ℚ}
-use Rattle.nf_formats.specs.WellNamed.{IsFraction}
+use Rattle.nf_net_def.specs.WellNamed.{IsFraction}
 use Rattle.nf_report.proofs.known.know_trace.Goals as goal
 
 pub returns : goal.returns

@@ -1,6 +1,6 @@
 use Rattle.nf_curve.specs.Flows.{trace_of}
 use Rattle.nf_curve.specs.declared.flow.Trace.{Trace}
-use Rattle.nf_readings_laws.specs.Readable.{IsFractionTrace}
+use Rattle.nf_report_laws.specs.Readable.{IsFractionTrace}
 use Rattle.nf_report.proofs.Entries.{one_read, up_to_end, all_image}
 use Rattle.nf_report.proofs.known.know_traces.Goals as goal
 

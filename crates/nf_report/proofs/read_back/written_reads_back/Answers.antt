@@ -1,15 +1,15 @@
 use Rattle.std.proofs.Common.{List, map, subst, sym, ap, ◌∙◌}
 use Rattle.std.specs.List.{AllByRecursion}
 use Rattle.std.specs.Option.{option_copied}
-use Rattle.nf_formats.specs.Report.{Report}
-use Rattle.nf_readings.specs.ReportFile.{report_in}
+use Rattle.nf_net_def.specs.Report.{Report}
+use Rattle.nf_report_def.specs.ReportFile.{report_in}
 use Rattle.nf_curve.specs.Points.{Grown}
 use Rattle.nf_curve.specs.Flows.{flow_of, trace_of}
 use Rattle.nf_curve.specs.declared.flow.Trace.{Trace}
-use Rattle.nf_readings_laws.specs.Readable.{AreFractionPoints, IsFractionTrace}
-use Rattle.nf_readings_laws.proofs.ReportBack.{report_back}
-use Rattle.nf_readings_laws.proofs.ReportFit.{fit}
-use Rattle.nf_plain_laws.proofs.Results.{same_Ok}
+use Rattle.nf_report_laws.specs.Readable.{AreFractionPoints, IsFractionTrace}
+use Rattle.nf_report_laws.proofs.ReportBack.{report_back}
+use Rattle.nf_report_laws.proofs.ReportFit.{fit}
+use Rattle.nf_rational_laws.proofs.Results.{same_Ok}
 use Rattle.nf_report.proofs.read_back.written_reads_back.Goals as goal
 
 abbrev CurvesAre : List Grown → Type 0

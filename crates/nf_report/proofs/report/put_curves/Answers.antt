@@ -3,8 +3,8 @@ use Rattle.std.specs.Prelude.{codes}
 use Rattle.nf_rational.specs.Rational.{ℚ}
 use Rattle.nf_model.specs.Equilibrium as model
 use Rattle.nf_curve.specs.Flows.{flow_of, trace_of}
-use Rattle.nf_formats.specs.Names.{name_at}
-use Rattle.nf_formats.specs.Report.{point_lines, trace_lines, link_lines}
+use Rattle.nf_net_def.specs.Names.{name_at}
+use Rattle.nf_net_def.specs.Report.{point_lines, trace_lines, link_lines}
 use Rattle.nf_report.specs.Written.{Line}
 use Rattle.nf_report.proofs.Parts.{points_there, trace_there, same_link}
 use Rattle.nf_report.proofs.Gathering.{same_gathered}

@@ -1,6 +1,6 @@
 use Rattle.std.proofs.Common.{List, ◌++◌, length, map, refl, sym, ◌∙◌}
 use Rattle.std.proofs.lemmas.List.{length-map}
-use Rattle.nf_formats.specs.Report.{for_each, label_lines, link_lines}
+use Rattle.nf_net_def.specs.Report.{for_each, label_lines, link_lines}
 use Rattle.nf_curve.specs.Flows.{flow_of, trace_of}
 use Rattle.nf_report.specs.Written.{Line, never_lines}
 use Rattle.nf_report.proofs.Gathering.{gathered_next, gathered_failed, gathered_then_failed, right_first}

@@ -1,9 +1,9 @@
 use Rattle.std.proofs.Common.{ℕ, List, [], ◌∷◌, ◌++◌, refl, ap}
 use Rattle.std.specs.Prelude.{codes}
 use Rattle.std.specs.Option.{option_copied}
-use Rattle.nf_numerals.specs.Digits.{digits_of}
-use Rattle.nf_numerals.specs.Printed.{printed}
-use Rattle.nf_formats.specs.Causes.{cause_words}
+use Rattle.nf_frac_words.specs.Digits.{digits_of}
+use Rattle.nf_frac_words.specs.Printed.{printed}
+use Rattle.nf_net_def.specs.Causes.{cause_words}
 use Rattle.nf_report.specs.Written.{Line, head_lines}
 use Rattle.nf_report.proofs.Gathering.{gathered_next, gathered_failed, gathered_then_failed}
 use Rattle.nf_report.proofs.report.put_head.Goals as goal

@@ -1,6 +1,6 @@
 use Rattle.std.proofs.Common.{◌≡◌, ◌+◌, ◌<◌, [], ◌∷◌, take, drop, suc, length, arith}
 use Rattle.std.specs.Prelude.{codes}
-use Rattle.nf_formats.specs.Names.{name_at}
+use Rattle.nf_net_def.specs.Names.{name_at}
 use Rattle.nf_report.specs.Written.{never_lines}
 use Rattle.nf_report.proofs.Parts.{never_next, never_left, never_all}
 use Rattle.nf_report.proofs.Gathering.{gathered_nil, gathered_next, gathered_then_failed, same_gathered}

@@ -3,8 +3,8 @@ use mathlib.Core.Path.{ap₂}
 use Rattle.std.specs.Prelude.{codes}
 use Rattle.nf_rational.specs.Rational.{ℚ}
 use Rattle.nf_curve.specs.Flows.{flow_of}
-use Rattle.nf_formats.specs.Names.{name_at}
-use Rattle.nf_formats.specs.Report.{point_lines, label_lines}
+use Rattle.nf_net_def.specs.Names.{name_at}
+use Rattle.nf_net_def.specs.Report.{point_lines, label_lines}
 use Rattle.nf_report.proofs.Parts.{points_there}
 use Rattle.nf_report.proofs.Gathering.{same_gathered}
 use Rattle.nf_report.proofs.report.put_label.Goals as goal

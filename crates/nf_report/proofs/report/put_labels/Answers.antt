@@ -2,8 +2,8 @@ use Rattle.std.proofs.Common.{◌≡◌, ◌+◌, ◌<◌, take, drop, suc, arit
 use Rattle.std.specs.Prelude.{flat_map}
 use Rattle.std.specs.List.{range_with_len}
 use Rattle.nf_curve.specs.Flows.{flow_of}
-use Rattle.nf_formats.specs.Report.{label_lines}
-use Rattle.nf_formats.specs.Report.{for_each}
+use Rattle.nf_net_def.specs.Report.{label_lines}
+use Rattle.nf_net_def.specs.Report.{for_each}
 use Rattle.nf_report.proofs.Parts.{each_next, each_left, each_all}
 use Rattle.nf_report.proofs.Gathering.{gathered_nil, gathered_next, gathered_then_failed, same_gathered}
 use Rattle.nf_report.proofs.report.put_labels.Goals as goal

@@ -3,7 +3,7 @@ use Rattle.std.specs.Prelude.{Ok, flat_map}
 use Rattle.std.specs.List.{range_with_len}
 use Rattle.nf_edge.specs.declared.SinkFault.{SinkFault}
 use Rattle.nf_curve.specs.Flows.{flow_of}
-use Rattle.nf_formats.specs.Report.{label_lines}
+use Rattle.nf_net_def.specs.Report.{label_lines}
 use Rattle.nf_report.specs.Pages.{GatheredLines}
 use Rattle.nf_report.proofs.report.put_labels.Given as goal
 

@@ -1,8 +1,8 @@
 use Rattle.std.proofs.Common.{◌≡◌, List, [], ◌∷◌, ◌++◌, length, refl, ap, ◌∙◌}
 use Rattle.std.specs.Prelude.{codes}
 use Rattle.std.specs.Option.{option_copied}
-use Rattle.nf_formats.specs.Named.{Named}
-use Rattle.nf_formats.specs.Report.{Report, for_each, label_lines, link_lines, state_lines, report_lines}
+use Rattle.nf_net_def.specs.Named.{Named}
+use Rattle.nf_net_def.specs.Report.{Report, for_each, label_lines, link_lines, state_lines, report_lines}
 use Rattle.nf_curve.specs.Flows.{flow_of}
 use Rattle.nf_report.specs.Written.{Line, head_lines, never_lines, flow_lines}
 use Rattle.nf_report.proofs.Gathering.{gathered_next, gathered_failed, gathered_then_failed, right_first}

@@ -2,7 +2,7 @@ use Rattle.std.proofs.Common.{take, length}
 use Rattle.std.specs.Prelude.{Ok, flat_map}
 use Rattle.std.specs.List.{range_with_len}
 use Rattle.nf_edge.specs.declared.SinkFault.{SinkFault}
-use Rattle.nf_formats.specs.Report.{state_lines}
+use Rattle.nf_net_def.specs.Report.{state_lines}
 use Rattle.nf_report.specs.Pages.{GatheredLines}
 use Rattle.nf_report.proofs.report.put_states.Given as goal
 

@@ -2,10 +2,10 @@ use Rattle.std.proofs.Common.{◌<◌, List, length, refl, ap, sym, subst, ◌�
 use Rattle.std.specs.List.{AllByRecursion}
 use Rattle.std.proofs.lemmas.Result.{err_from_is_err_and}
 use Rattle.nf_rational.specs.Rational.{ℚ}
-use Rattle.nf_work.specs.Passing.{passes_Q}
-use Rattle.nf_work.specs.Checked.{seen_passed_at}
-use Rattle.nf_quick_lists.specs.Steps.{Step}
-use Rattle.nf_quick_lists.specs.Order.{Reach}
+use Rattle.nf_frac_def.specs.Passing.{passes_Q}
+use Rattle.nf_frac_def.specs.Checked.{seen_passed_at}
+use Rattle.nf_quick_def.specs.Steps.{Step}
+use Rattle.nf_quick_def.specs.Order.{Reach}
 use Rattle.nf_residual.proofs.Stopping.{room_stops}
 use Rattle.nf_residual.proofs.residual.with_room.Goals as goal
 

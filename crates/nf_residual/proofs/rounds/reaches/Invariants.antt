@@ -1,4 +1,4 @@
-use Rattle.nf_work.specs.Passing.{passes_Q}
+use Rattle.nf_frac_def.specs.Passing.{passes_Q}
 use Rattle.nf_residual.proofs.Rounding.{SearchOn}
 use Rattle.nf_residual.proofs.rounds.reaches.Given as goal
 

@@ -1,7 +1,7 @@
 use Rattle.std.proofs.Common.{◌<◌, ◌≤◌, ◌+◌, length, sym, arith}
 use Rattle.std.proofs.lemmas.Result.{err_from_is_err_and}
-use Rattle.nf_work.specs.declared.Part.TheVariants.{Curve as OfCurve}
-use Rattle.nf_work.specs.Passing.{passes_Q}
+use Rattle.nf_frac_def.specs.declared.Part.TheVariants.{Curve as OfCurve}
+use Rattle.nf_frac_def.specs.Passing.{passes_Q}
 use Rattle.nf_resume_laws.proofs.CutFlow.{entry_within}
 use Rattle.nf_resume.proofs.Rates.{times_apart, rates_first, rate_stops, rate_goes, rates_end}
 use Rattle.nf_resume.proofs.curves.rates.Goals as goal

@@ -1,5 +1,5 @@
-use Rattle.nf_work.specs.Passing.{passes_Q}
-use Rattle.nf_resume_lists.specs.Resuming.{cut_short}
+use Rattle.nf_frac_def.specs.Passing.{passes_Q}
+use Rattle.nf_resume_def.specs.Resuming.{cut_short}
 use Rattle.nf_resume.specs.Cuts.{curves_of}
 use Rattle.nf_resume.proofs.Looping.{Front}
 use Rattle.nf_resume.proofs.cutting.cut_labels.Given as goal

@@ -1,9 +1,9 @@
 use Rattle.std.proofs.Common.{◌∙◌}
 use Rattle.std.proofs.lemmas.Result.{err_from_is_err_and}
-use Rattle.nf_work.specs.declared.Part.TheVariants.{Curve as OfCurve}
-use Rattle.nf_work.specs.Passing.{passes_Q}
-use Rattle.nf_work.specs.Checked.{at_part}
-use Rattle.nf_resume_lists.specs.Resuming.{cut_short, cut_trace}
+use Rattle.nf_frac_def.specs.declared.Part.TheVariants.{Curve as OfCurve}
+use Rattle.nf_frac_def.specs.Passing.{passes_Q}
+use Rattle.nf_frac_def.specs.Checked.{at_part}
+use Rattle.nf_resume_def.specs.Resuming.{cut_short, cut_trace}
 use Rattle.nf_curve.specs.Flows.{trace_of}
 use Rattle.nf_curve.proofs.Exits.{after_err, after_ok, stops_on}
 use Rattle.nf_resume.specs.Cuts.{cut_ends}

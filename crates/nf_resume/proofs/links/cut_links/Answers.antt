@@ -5,15 +5,15 @@ use Rattle.std.proofs.lemmas.Result.{err_from_is_err_and}
 use Rattle.nf_rational.specs.Rational.{ℚ}
 use Rattle.nf_rational.specs.Operations.{0ℚ}
 use Rattle.nf_rational.specs.Order.{◌≤ℚ◌}
-use Rattle.nf_work.specs.declared.Part.TheVariants.{Curve as OfCurve}
-use Rattle.nf_work.specs.Passing.{passes_Q}
-use Rattle.nf_work.specs.Checked.{Checked, Stops, at_part}
+use Rattle.nf_frac_def.specs.declared.Part.TheVariants.{Curve as OfCurve}
+use Rattle.nf_frac_def.specs.Passing.{passes_Q}
+use Rattle.nf_frac_def.specs.Checked.{Checked, Stops, at_part}
 use Rattle.nf_model.specs.Network.{Link}
 use Rattle.nf_model.specs.Equilibrium.{points_at}
 use Rattle.nf_curve.specs.Flows.{trace_of, flow_of}
-use Rattle.nf_resume_lists.specs.Restoring.{value_at_end}
-use Rattle.nf_resume_lists.specs.Resuming as lists
-use Rattle.nf_resume_lists.specs.Resuming.{links_with, cut_link}
+use Rattle.nf_resume_def.specs.Restoring.{value_at_end}
+use Rattle.nf_resume_def.specs.Resuming as lists
+use Rattle.nf_resume_def.specs.Resuming.{links_with, cut_link}
 use Rattle.nf_resume_laws.proofs.CutFlow.{links_with-length}
 use Rattle.nf_resume.specs.declared.links.CutLink.{CutLink}
 use Rattle.nf_resume.specs.Cuts.{curves_of, cut_in}

@@ -1,7 +1,7 @@
 use Rattle.std.proofs.Common.{map}
-use Rattle.nf_work.specs.Passing.{passes_Q}
+use Rattle.nf_frac_def.specs.Passing.{passes_Q}
 use Rattle.nf_curve.specs.Flows.{flow_of}
-use Rattle.nf_resume_lists.specs.Resuming.{links_with, cut_link}
+use Rattle.nf_resume_def.specs.Resuming.{links_with, cut_link}
 use Rattle.nf_resume.specs.Cuts.{curves_of, cut_in}
 use Rattle.nf_resume.proofs.Looping.{Front}
 use Rattle.nf_resume.proofs.links.cut_links.Given as goal

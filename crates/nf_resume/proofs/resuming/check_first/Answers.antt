@@ -1,8 +1,8 @@
 use Rattle.std.proofs.Common.{map, sym, subst, ◌∙◌}
 use Rattle.std.proofs.lemmas.List.{length-map}
-use Rattle.nf_work.specs.Passing.{passes_Q}
+use Rattle.nf_frac_def.specs.Passing.{passes_Q}
 use Rattle.nf_curve.specs.Flows.{trace_of}
-use Rattle.nf_report_file.specs.Files.{report_of}
+use Rattle.nf_report_read.specs.Files.{report_of}
 use Rattle.nf_resume.specs.Faults.{IsCause}
 use Rattle.nf_resume.proofs.Resumed.{check_stops, said_yes, said_equilibrium, said_no}
 use Rattle.nf_resume.proofs.resuming.check_first.Goals as goal

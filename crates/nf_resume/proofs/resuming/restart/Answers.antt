@@ -2,19 +2,19 @@ use Rattle.std.proofs.Common.{length, sym, ap, subst, ◌∙◌}
 use Rattle.std.specs.Prelude.{Result}
 use Rattle.std.proofs.lemmas.Result.{err_from_is_err_and}
 use Rattle.nf_rational.specs.Rational.{ℚ}
-use Rattle.nf_work.specs.declared.PassedAt.{PassedAt}
-use Rattle.nf_work.specs.declared.Part.TheVariants.{Curve as OfCurve}
-use Rattle.nf_work.specs.Checked.{Stops}
-use Rattle.nf_work.specs.Passing.{passes_Q}
+use Rattle.nf_frac_def.specs.declared.PassedAt.{PassedAt}
+use Rattle.nf_frac_def.specs.declared.Part.TheVariants.{Curve as OfCurve}
+use Rattle.nf_frac_def.specs.Checked.{Stops}
+use Rattle.nf_frac_def.specs.Passing.{passes_Q}
 use Rattle.nf_model.specs.Pattern.{Pattern}
 use Rattle.nf_model.specs.Equilibrium.{Flow}
-use Rattle.nf_lists.specs.PhaseRun.{Standing}
+use Rattle.nf_thin_def.specs.PhaseRun.{Standing}
 use Rattle.nf_curve.specs.Flows.{flow_of}
 use Rattle.nf_curve.proofs.Exits.{was_ok}
-use Rattle.nf_resume_lists.specs.Resuming.{cut_flow}
+use Rattle.nf_resume_def.specs.Resuming.{cut_flow}
 use Rattle.nf_resume_laws.proofs.CutFlow.{cut_flow-is}
 use Rattle.nf_resume_laws.proofs.Restarted.{Equilibrium-cut_flow, IsShortFlow-cut_flow}
-use Rattle.nf_report_file.specs.Files.{report_of}
+use Rattle.nf_report_read.specs.Files.{report_of}
 use Rattle.nf_phase.specs.Restarting.{NoneFull}
 use Rattle.nf_phase.proofs.Restarting.{EndsAtItsLabels-cut}
 use Rattle.nf_resume.proofs.Resumed.{cut_stops, restored}

@@ -2,8 +2,8 @@ use Rattle.std.proofs.Common.{sym, subst}
 use Rattle.nf_rational.specs.Rational.{ℚ}
 use Rattle.nf_rational.specs.Order.{◌≤ℚ◌}
 use Rattle.std.proofs.lemmas.Result.{err_from_is_err_and}
-use Rattle.nf_work.specs.Passing.{passes_Q}
-use Rattle.nf_report_file.specs.Files.{report_of}
+use Rattle.nf_frac_def.specs.Passing.{passes_Q}
+use Rattle.nf_report_read.specs.Files.{report_of}
 use Rattle.nf_phase.specs.Solution.{bounds_of, report_in}
 use Rattle.nf_resume.specs.Faults.{of_halt}
 use Rattle.nf_resume.proofs.Resumed.{in_time, restart_stops, is_resumed, went_on}

@@ -1,9 +1,9 @@
 use Rattle.std.proofs.Common.{◌+◌, ◌-◌, ◌<◌, ◌≤◌, drop, length, refl, sym, ap, ◌∙◌, arith}
 use Rattle.std.proofs.lemmas.Option.{slice_get_read}
 use Rattle.nf_rational.specs.Rational.{ℚ}
-use Rattle.nf_plain_laws.proofs.Entries.{entry}
-use Rattle.nf_routes_lists.specs.Routes.{pairs_of}
-use Rattle.nf_routes_lists.specs.RoutesList.{end_by}
+use Rattle.nf_rational_laws.proofs.Entries.{entry}
+use Rattle.nf_routes_def.specs.Routes.{pairs_of}
+use Rattle.nf_routes_def.specs.RoutesList.{end_by}
 use Rattle.nf_rational.specs.Order.{max_ℚ}
 use Rattle.nf_routes.proofs.Greatest.{along_end, along_here, along_other}
 use Rattle.nf_routes.proofs.ends.end_along.Goals.{then-eq, else-eq}

@@ -1,6 +1,6 @@
 use Rattle.std.proofs.Common.{◌≡◌, ◌-◌, ◌<◌, drop}
-use Rattle.nf_routes_lists.specs.Routes.{pairs_of}
-use Rattle.nf_routes_lists.specs.RoutesList.{end_by}
+use Rattle.nf_routes_def.specs.Routes.{pairs_of}
+use Rattle.nf_routes_def.specs.RoutesList.{end_by}
 use Rattle.nf_routes.proofs.ends.end_along.Given as goal
 
 abbrev pub invariant-loop-i : goal.invariant-loop-i

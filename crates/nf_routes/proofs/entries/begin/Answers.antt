@@ -1,11 +1,11 @@
 use Rattle.std.proofs.Common.{◌≡◌, ℕ, true, List, sym, ap, subst, ◌∙◌}
 use Rattle.nf_model.specs.Network.{ArePieces}
 use Rattle.std.proofs.lemmas.Result.{err_from_is_err_and}
-use Rattle.nf_work.specs.declared.Part.TheVariants.{Load}
-use Rattle.nf_work.specs.Passing.{passes_Q}
-use Rattle.nf_work.specs.Checked.{at_part}
+use Rattle.nf_frac_def.specs.declared.Part.TheVariants.{Load}
+use Rattle.nf_frac_def.specs.Passing.{passes_Q}
+use Rattle.nf_frac_def.specs.Checked.{at_part}
 use Rattle.nf_curve.proofs.Exits.{stops_on}
-use Rattle.nf_routes_lists.specs.RoutesList.{begins_with, begin_if}
+use Rattle.nf_routes_def.specs.RoutesList.{begins_with, begin_if}
 use Rattle.nf_routes.specs.Beginning.{first_entry}
 use Rattle.nf_routes.proofs.Passed.{begin_passes}
 use Rattle.nf_routes.proofs.entries.begin.Goals as goal

@@ -2,13 +2,13 @@ use Rattle.std.proofs.Common.{◌<◌, length, get_or, refl, sym, subst, arith}
 use Rattle.std.proofs.lemmas.Option.{slice_get-get_or, slice_get_read}
 use Rattle.std.proofs.lemmas.Result.{err_from_is_err_and}
 use Rattle.nf_rational.specs.Rational.{ℚ}
-use Rattle.nf_work.specs.declared.Part.TheVariants.{Load}
-use Rattle.nf_work.specs.Passing.{passes_Q}
-use Rattle.nf_work.specs.Checked.{Checked, Stops, at_part}
-use Rattle.nf_plain_laws.proofs.Entries.{slice_get-image}
-use Rattle.nf_routes_lists.specs.Routes.{Route}
-use Rattle.nf_routes_lists.specs.RoutesFile.{NamedRoute, routes_of}
-use Rattle.nf_routes_lists.specs.RoutesList.{begins_with, begin_if}
+use Rattle.nf_frac_def.specs.declared.Part.TheVariants.{Load}
+use Rattle.nf_frac_def.specs.Passing.{passes_Q}
+use Rattle.nf_frac_def.specs.Checked.{Checked, Stops, at_part}
+use Rattle.nf_rational_laws.proofs.Entries.{slice_get-image}
+use Rattle.nf_routes_def.specs.Routes.{Route}
+use Rattle.nf_routes_def.specs.RoutesFile.{NamedRoute, routes_of}
+use Rattle.nf_routes_def.specs.RoutesList.{begins_with, begin_if}
 use Rattle.nf_routes.proofs.Folds.{Sent, begin_all-is, steps_stop, steps_go}
 use Rattle.nf_routes.proofs.entries.begin_all.Goals as goal
 

@@ -1,12 +1,12 @@
 use Rattle.std.proofs.Common.{List}
 use Rattle.std.proofs.lemmas.Result.{err_from_is_err_and}
-use Rattle.nf_work.specs.declared.Part.TheVariants.{Load}
-use Rattle.nf_work.specs.Passing.{passes_Q}
-use Rattle.nf_work.specs.Checked.{at_part}
+use Rattle.nf_frac_def.specs.declared.Part.TheVariants.{Load}
+use Rattle.nf_frac_def.specs.Passing.{passes_Q}
+use Rattle.nf_frac_def.specs.Checked.{at_part}
 use Rattle.nf_model.specs.Curve.{Point}
 use Rattle.nf_curve.proofs.Exits.{after_err, stops_on}
-use Rattle.nf_curve_lists.specs.Short.{checked_short}
-use Rattle.nf_load_lists.specs.Cumulative.{checked_cumulative}
+use Rattle.nf_curve_def.specs.Short.{checked_short}
+use Rattle.nf_load_def.specs.Cumulative.{checked_cumulative}
 use Rattle.nf_routes.specs.Beginning.{first_entry}
 use Rattle.nf_routes.proofs.entries.first_entry.Goals as goal
 

@@ -1,7 +1,7 @@
 use Rattle.std.proofs.Common.{[], ◌∷◌}
 use Rattle.nf_rational.specs.Operations.{0ℚ}
-use Rattle.nf_work.specs.Passing.{passes_Q}
-use Rattle.nf_routes_lists.specs.RoutesFile.{routes_of}
+use Rattle.nf_frac_def.specs.Passing.{passes_Q}
+use Rattle.nf_routes_def.specs.RoutesFile.{routes_of}
 use Rattle.nf_routes.proofs.Folds.{Sums}
 use Rattle.nf_routes.proofs.entries.inflow_of.Given as goal
 

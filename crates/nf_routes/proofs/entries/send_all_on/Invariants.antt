@@ -1,6 +1,6 @@
-use Rattle.nf_work.specs.Passing.{passes_Q}
-use Rattle.nf_routes_lists.specs.RoutesList.{goes_over, next_if}
-use Rattle.nf_routes_lists.specs.RoutesFile.{routes_of}
+use Rattle.nf_frac_def.specs.Passing.{passes_Q}
+use Rattle.nf_routes_def.specs.RoutesList.{goes_over, next_if}
+use Rattle.nf_routes_def.specs.RoutesFile.{routes_of}
 use Rattle.nf_routes.proofs.Folds.{Steps}
 use Rattle.nf_routes.proofs.entries.send_all_on.Given as goal
 

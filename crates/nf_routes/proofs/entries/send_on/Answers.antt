@@ -1,11 +1,11 @@
 use Rattle.std.proofs.Common.{◌≡◌, ℕ, true, List, sym, ap, subst, ◌∙◌}
 use Rattle.std.proofs.lemmas.Result.{err_from_is_err_and}
-use Rattle.nf_work.specs.declared.Part.TheVariants.{Load}
-use Rattle.nf_work.specs.Passing.{passes_Q}
-use Rattle.nf_work.specs.Checked.{at_part}
+use Rattle.nf_frac_def.specs.declared.Part.TheVariants.{Load}
+use Rattle.nf_frac_def.specs.Passing.{passes_Q}
+use Rattle.nf_frac_def.specs.Checked.{at_part}
 use Rattle.nf_curve.proofs.Exits.{stops_on}
 use Rattle.nf_rational.specs.Rational.{ℚ}
-use Rattle.nf_routes_lists.specs.RoutesList.{goes_over, next_if, next_entry}
+use Rattle.nf_routes_def.specs.RoutesList.{goes_over, next_if, next_entry}
 use Rattle.nf_routes.specs.Amounts.{IsAmount}
 use Rattle.nf_routes.proofs.Passed.{next_passes}
 use Rattle.nf_routes.proofs.Sound.{last_amount}

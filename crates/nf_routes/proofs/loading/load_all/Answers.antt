@@ -1,10 +1,10 @@
 use Rattle.std.proofs.Common.{◌≡◌, ◌≤◌, ℕ, length, refl, ap, ◌∙◌, arith}
 use Rattle.std.proofs.lemmas.Option.{slice_get_read}
 use Rattle.std.proofs.lemmas.Result.{err_from_is_err_and}
-use Rattle.nf_work.specs.Passing.{passes_Q}
-use Rattle.nf_plain_laws.proofs.Entries.{entry}
-use Rattle.nf_routes_lists.specs.Routes.{loading_order}
-use Rattle.nf_routes_lists.specs.RoutesFile.{routes_of}
+use Rattle.nf_frac_def.specs.Passing.{passes_Q}
+use Rattle.nf_rational_laws.proofs.Entries.{entry}
+use Rattle.nf_routes_def.specs.Routes.{loading_order}
+use Rattle.nf_routes_def.specs.RoutesFile.{routes_of}
 use Rattle.nf_routes.specs.Standing.{seen_so_far}
 use Rattle.nf_routes.proofs.All.{loads_first, loads_last, loads_complete, placed_at, may_load_at, loads_stop, loads_go}
 use Rattle.nf_routes.proofs.loading.load_all.Goals as goal

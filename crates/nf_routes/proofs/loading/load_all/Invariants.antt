@@ -1,5 +1,5 @@
-use Rattle.nf_work.specs.Passing.{passes_Q}
-use Rattle.nf_routes_lists.specs.RoutesFile.{routes_of}
+use Rattle.nf_frac_def.specs.Passing.{passes_Q}
+use Rattle.nf_routes_def.specs.RoutesFile.{routes_of}
 use Rattle.nf_routes.specs.Standing.{seen_so_far}
 use Rattle.nf_routes.proofs.All.{Loads}
 use Rattle.nf_routes.proofs.loading.load_all.Given as goal

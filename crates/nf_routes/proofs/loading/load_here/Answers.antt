@@ -7,18 +7,18 @@ use Rattle.std.proofs.lemmas.Result.{err_from_is_err_and}
 use Rattle.nf_rational.specs.Rational.{ℚ}
 use Rattle.nf_rational.specs.Operations.{0ℚ}
 use Rattle.nf_rational.specs.Order.{◌≤ℚ◌}
-use Rattle.nf_work.specs.declared.PassedAt.{PassedAt}
-use Rattle.nf_work.specs.declared.Part.TheVariants.{Load}
-use Rattle.nf_work.specs.Passing.{passes_Q}
-use Rattle.nf_work.specs.Checked.{Stops, at_part}
+use Rattle.nf_frac_def.specs.declared.PassedAt.{PassedAt}
+use Rattle.nf_frac_def.specs.declared.Part.TheVariants.{Load}
+use Rattle.nf_frac_def.specs.Passing.{passes_Q}
+use Rattle.nf_frac_def.specs.Checked.{Stops, at_part}
 use Rattle.nf_model.specs.Network.{Link}
 use Rattle.nf_model_laws.proofs.Earliest.{IsPositive-link}
 use Rattle.nf_curve.proofs.Exits.{stops_on}
-use Rattle.nf_load_lists.specs.Loading.{Loaded, checked_loading}
+use Rattle.nf_load_def.specs.Loading.{Loaded, checked_loading}
 use Rattle.nf_load.specs.Loadings.{loaded_of}
-use Rattle.nf_routes_lists.specs.Routes.{all_pairs}
-use Rattle.nf_routes_lists.specs.RoutesFile.{NamedRoute, routes_of}
-use Rattle.nf_routes_lists.specs.RoutesList.{LoadedLink, SoFar, end_by, begin_all, sum_from, next_all, load_here}
+use Rattle.nf_routes_def.specs.Routes.{all_pairs}
+use Rattle.nf_routes_def.specs.RoutesFile.{NamedRoute, routes_of}
+use Rattle.nf_routes_def.specs.RoutesList.{LoadedLink, SoFar, end_by, begin_all, sum_from, next_all, load_here}
 use Rattle.nf_routes.specs.Standing.{seen_so_far, Along, MayBegin, Sends}
 use Rattle.nf_routes.proofs.Folds.{Sent, along-count}
 use Rattle.nf_routes.proofs.Sound.{have_pieces}

@@ -3,17 +3,17 @@ use Rattle.std.specs.Prelude.{Ok}
 use Rattle.std.proofs.lemmas.Result.{err_from_is_err_and}
 use Rattle.nf_rational.specs.Rational.{ℚ}
 use Rattle.nf_rational.specs.Operations.{0ℚ}
-use Rattle.nf_work.specs.declared.Part.TheVariants.{Load}
-use Rattle.nf_work.specs.Passing.{passes_Q}
-use Rattle.nf_work.specs.Checked.{Stops, at_part, each}
+use Rattle.nf_frac_def.specs.declared.Part.TheVariants.{Load}
+use Rattle.nf_frac_def.specs.Passing.{passes_Q}
+use Rattle.nf_frac_def.specs.Checked.{Stops, at_part, each}
 use Rattle.nf_model.specs.Curve.{Point, IsCurve}
-use Rattle.nf_curve_lists.specs.Short.{checked_short}
-use Rattle.nf_curve_lists.specs.Times.{both_times}
-use Rattle.nf_curve_lists.specs.Sums.{sides_at}
+use Rattle.nf_curve_def.specs.Short.{checked_short}
+use Rattle.nf_curve_def.specs.Times.{both_times}
+use Rattle.nf_curve_def.specs.Sums.{sides_at}
 use Rattle.nf_curve.specs.declared.lines.Sides.{Sides}
 use Rattle.nf_curve.specs.Sides.{sides_of}
 use Rattle.nf_curve.proofs.Exits.{was_ok, stops_on}
-use Rattle.nf_routes_lists.specs.RoutesList.{next_from, next_entry}
+use Rattle.nf_routes_def.specs.RoutesList.{next_from, next_entry}
 use Rattle.nf_routes_laws.specs.Laws.{IsNext}
 use Rattle.nf_routes_laws.proofs.Next.{next_entry-is}
 use Rattle.nf_routes.specs.Amounts.{IsAmount}

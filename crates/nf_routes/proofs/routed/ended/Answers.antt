@@ -5,9 +5,9 @@ use Rattle.std.proofs.lemmas.Iterator.Consumers.{YieldsList-turn}
 use Rattle.std.proofs.lemmas.Option.{slice_get_read}
 use Rattle.std.proofs.lemmas.Result.{err_from_is_err_and}
 use Rattle.nf_rational.specs.Rational.{ℚ}
-use Rattle.nf_work.specs.Passing.{passes_Q}
+use Rattle.nf_frac_def.specs.Passing.{passes_Q}
 use Rattle.nf_load.specs.Loadings.{loaded_of}
-use Rattle.nf_routes_lists.specs.RoutesList.{LoadedLink, end_or, loaded_or}
+use Rattle.nf_routes_def.specs.RoutesList.{LoadedLink, end_or, loaded_or}
 use Rattle.nf_routes.proofs.Lists.{same_pushed}
 use Rattle.nf_routes.proofs.routed.ended.Goals as goal
 

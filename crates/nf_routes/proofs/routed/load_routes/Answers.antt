@@ -1,17 +1,17 @@
 use Rattle.std.proofs.Common.{◌≡◌, List, map, sym, ap, subst, ◌∙◌}
 use Rattle.std.specs.Prelude.{Ok}
 use Rattle.std.proofs.lemmas.Result.{err_from_is_err_and}
-use Rattle.nf_work.specs.declared.Part.TheVariants.{Load}
-use Rattle.nf_work.specs.Passing.{passes_Q}
-use Rattle.nf_work.specs.Checked.{at_part, each}
-use Rattle.nf_check_lists.specs.Curves.{departures}
+use Rattle.nf_frac_def.specs.declared.Part.TheVariants.{Load}
+use Rattle.nf_frac_def.specs.Passing.{passes_Q}
+use Rattle.nf_frac_def.specs.Checked.{at_part, each}
+use Rattle.nf_check_def.specs.Curves.{departures}
 use Rattle.nf_curve.proofs.Exits.{stops_on, was_ok}
 use Rattle.nf_curve.specs.Points.{Grown}
 use Rattle.nf_load.specs.Loadings.{loaded_of}
 use Rattle.nf_load.specs.declared.loading.Loaded.{Loaded}
-use Rattle.nf_routes_lists.specs.Routes.{Route, AreRoutes, HoldCircle}
-use Rattle.nf_routes_lists.specs.RoutesFile.{NamedRoute, routes_of}
-use Rattle.nf_routes_lists.specs.RoutesList.{loaded_or, routes_list}
+use Rattle.nf_routes_def.specs.Routes.{Route, AreRoutes, HoldCircle}
+use Rattle.nf_routes_def.specs.RoutesFile.{NamedRoute, routes_of}
+use Rattle.nf_routes_def.specs.RoutesList.{loaded_or, routes_list}
 use Rattle.nf_routes_laws.proofs.Arriving.{arrive}
 use Rattle.nf_routes_laws.proofs.Routed.{routes_list-is}
 use Rattle.nf_routes_laws.proofs.FileKept.{are_routes}

@@ -2,7 +2,7 @@ use Rattle.std.proofs.Common.{List, [], ◌∷◌, ◌++◌, take, ap, ◌∙◌
 use Rattle.std.proofs.lemmas.List.{take_all}
 use Rattle.std.proofs.lemmas.Result.{err_from_is_err_and}
 use Rattle.nf_model.specs.Curve.{Point}
-use Rattle.nf_routes_lists.specs.RoutesFile.{NamedRoute, routes_of}
+use Rattle.nf_routes_def.specs.RoutesFile.{NamedRoute, routes_of}
 use Rattle.nf_routes.specs.Beginning.{nothing_sent}
 use Rattle.nf_routes.proofs.Lists.{same_of-next}
 use Rattle.nf_routes.proofs.so_far.no_entries.Goals as goal

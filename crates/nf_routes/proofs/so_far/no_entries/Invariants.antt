@@ -1,5 +1,5 @@
 use Rattle.std.proofs.Common.{◌≡◌, take}
-use Rattle.nf_routes_lists.specs.RoutesFile.{routes_of}
+use Rattle.nf_routes_def.specs.RoutesFile.{routes_of}
 use Rattle.nf_routes.specs.Beginning.{nothing_sent}
 use Rattle.nf_routes.proofs.so_far.no_entries.Given as goal
 

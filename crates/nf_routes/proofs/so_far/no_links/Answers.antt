@@ -1,6 +1,6 @@
 use Rattle.std.proofs.Common.{ℕ, ◌<◌, ◌≤◌, List, [], ◌∷◌, ◌++◌, length, None, ap, subst, ◌∙◌, arith}
 use Rattle.std.specs.Prelude.{Option}
-use Rattle.nf_routes_lists.specs.RoutesList.{LoadedLink}
+use Rattle.nf_routes_def.specs.RoutesList.{LoadedLink}
 use Rattle.nf_routes.specs.Beginning.{nothing_loaded}
 use Rattle.nf_routes.proofs.Lists.{same_next, take_past}
 use Rattle.nf_routes.proofs.so_far.no_links.Goals as goal

@@ -5,13 +5,13 @@ use Rattle.std.proofs.lemmas.List.{length-map}
 use Rattle.std.proofs.lemmas.Option.{slice_get-get_or, slice_get_read}
 use Rattle.std.proofs.lemmas.Result.{err_from_is_err_and}
 use Rattle.nf_rational.specs.Rational.{ℚ}
-use Rattle.nf_work.specs.declared.Part.TheVariants.{Load}
-use Rattle.nf_work.specs.declared.PassedAt.{PassedAt}
-use Rattle.nf_work.specs.Passing.{passes_Q}
-use Rattle.nf_work.specs.Checked.{at_part, Gives}
+use Rattle.nf_frac_def.specs.declared.Part.TheVariants.{Load}
+use Rattle.nf_frac_def.specs.declared.PassedAt.{PassedAt}
+use Rattle.nf_frac_def.specs.Passing.{passes_Q}
+use Rattle.nf_frac_def.specs.Checked.{at_part, Gives}
 use Rattle.nf_model.specs.Curve.{Point}
 use Rattle.nf_curve.specs.Points.{Grown}
-use Rattle.nf_plain_laws.proofs.Entries.{slice_get-image}
+use Rattle.nf_rational_laws.proofs.Entries.{slice_get-image}
 use Rattle.nf_load.specs.Loadings.{loaded_of}
 use Rattle.nf_routes.proofs.Travelling.{travels_first, travels_last, travels_stop, travels_go}
 use Rattle.nf_routes.proofs.travels.travel.Goals as goal

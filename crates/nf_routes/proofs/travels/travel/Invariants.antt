@@ -1,5 +1,5 @@
 use Rattle.std.proofs.Common.{map}
-use Rattle.nf_work.specs.Passing.{passes_Q}
+use Rattle.nf_frac_def.specs.Passing.{passes_Q}
 use Rattle.nf_load.specs.Loadings.{loaded_of}
 use Rattle.nf_routes.proofs.Travelling.{Travels}
 use Rattle.nf_routes.proofs.travels.travel.Given as goal

@@ -2,18 +2,18 @@ use Rattle.std.proofs.Common.{◌≡◌, ◌+◌, List, [], ◌∷◌, drop, map
 use Rattle.std.proofs.lemmas.List.{drop_all, map-append}
 use Rattle.std.proofs.lemmas.Option.{slice_get_read}
 use Rattle.std.proofs.lemmas.Result.{err_from_is_err_and}
-use Rattle.nf_work.specs.declared.Part.TheVariants.{Load}
-use Rattle.nf_work.specs.Passing.{passes_Q}
-use Rattle.nf_work.specs.Checked.{at_part, each}
-use Rattle.nf_work.proofs.Each.{with_front}
+use Rattle.nf_frac_def.specs.declared.Part.TheVariants.{Load}
+use Rattle.nf_frac_def.specs.Passing.{passes_Q}
+use Rattle.nf_frac_def.specs.Checked.{at_part, each}
+use Rattle.nf_frac_def.proofs.Each.{with_front}
 use Rattle.nf_model.specs.Curve.{Point}
-use Rattle.nf_check_lists.specs.Curves.{departures}
+use Rattle.nf_check_def.specs.Curves.{departures}
 use Rattle.nf_curve.proofs.Exits.{each_goes, each_stops, each_ends, stops_on}
 use Rattle.nf_curve.specs.Points.{Grown}
 use Rattle.nf_load.specs.Loadings.{loaded_of}
-use Rattle.nf_plain_laws.proofs.Entries.{slice_get-image}
-use Rattle.nf_routes_lists.specs.Routes.{Route}
-use Rattle.nf_routes_lists.specs.RoutesFile.{NamedRoute, routes_of}
+use Rattle.nf_rational_laws.proofs.Entries.{slice_get-image}
+use Rattle.nf_routes_def.specs.Routes.{Route}
+use Rattle.nf_routes_def.specs.RoutesFile.{NamedRoute, routes_of}
 use Rattle.nf_routes.specs.Travels.{travel_along}
 use Rattle.nf_routes.proofs.Folds.{drop_at}
 use Rattle.nf_routes.proofs.travels.travels.Goals as goal

@@ -1,10 +1,10 @@
 use Rattle.std.proofs.Common.{◌≡◌, map, drop}
-use Rattle.nf_work.specs.Passing.{passes_Q}
-use Rattle.nf_work.specs.Checked.{each}
-use Rattle.nf_work.proofs.Each.{with_front}
-use Rattle.nf_check_lists.specs.Curves.{departures}
+use Rattle.nf_frac_def.specs.Passing.{passes_Q}
+use Rattle.nf_frac_def.specs.Checked.{each}
+use Rattle.nf_frac_def.proofs.Each.{with_front}
+use Rattle.nf_check_def.specs.Curves.{departures}
 use Rattle.nf_load.specs.Loadings.{loaded_of}
-use Rattle.nf_routes_lists.specs.RoutesFile.{routes_of}
+use Rattle.nf_routes_def.specs.RoutesFile.{routes_of}
 use Rattle.nf_routes.specs.Travels.{travel_along}
 use Rattle.nf_routes.proofs.travels.travels.Given as goal
 

@@ -1,4 +1,4 @@
-use Rattle.nf_lines.specs.Words.{is_blank}
+use Rattle.nf_text_def.specs.Words.{is_blank}
 use Rattle.nf_text.proofs.Positions.{first_there, none_there, is_space, is_tab}
 use Rattle.nf_text.proofs.places.word_len.Goals as goal
 use Rattle.nf_text.proofs.places.word_len.Goals.{then-byte-eq32-via-then-byte-eq32, then-byte-eq32-via-else-byte-eq32+then-byte-eq9}

@@ -1,7 +1,7 @@
 use Rattle.std.proofs.Common.{arith, ◌+◌, ◌-◌, ◌≤◌, ◌∙◌, ℕ, List, sym, ap, subst, length, length-drop, take, drop, map}
 use Rattle.std.specs.Str.{bytes_eq}
-use Rattle.nf_lines.specs.Faults.{fault_of}
-use Rattle.nf_lines.specs.Words.{line_of_words}
+use Rattle.nf_text_def.specs.Faults.{fault_of}
+use Rattle.nf_text_def.specs.Words.{line_of_words}
 use Rattle.std.proofs.lemmas.List.{take_rest}
 use Rattle.std.proofs.lemmas.Result.{err_from_is_err_and}
 use Rattle.nf_text.specs.Spans.{text_of}

@@ -2,7 +2,7 @@ use Rattle.std.proofs.Common.{◌<◌, ◌≤◌, ◌∙◌, sym, arith, length,
 use Rattle.std.specs.Str.{bytes_eq}
 use Rattle.std.proofs.lemmas.List.{length-map}
 use Rattle.std.proofs.Math.ListN.{get_or-map}
-use Rattle.nf_lines.specs.Words.{line_of_words}
+use Rattle.nf_text_def.specs.Words.{line_of_words}
 use Rattle.nf_text.specs.Spans.{text_of}
 use Rattle.nf_text.proofs.Plain.{plain_step, plain_stop, plain_end}
 use Rattle.nf_text.proofs.words.is_plain.Goals as goal

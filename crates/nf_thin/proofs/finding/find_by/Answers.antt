@@ -2,9 +2,9 @@ use Rattle.std.proofs.Common.{List, sym, ap, subst, ◌∙◌}
 use Rattle.std.specs.Prelude.{Ok}
 use Rattle.std.proofs.lemmas.Result.{err_from_is_err_and}
 use Rattle.nf_rational.specs.Rational.{ℚ}
-use Rattle.nf_work.specs.Passing.{passes_Q}
-use Rattle.nf_lists.specs.Search.{IsSearch}
-use Rattle.nf_listing_laws.specs.Forcing.{forced_by}
+use Rattle.nf_frac_def.specs.Passing.{passes_Q}
+use Rattle.nf_thin_def.specs.Search.{IsSearch}
+use Rattle.nf_thin_laws.specs.Forcing.{forced_by}
 use Rattle.nf_thin.specs.Finding.{NarrowFinds, Finds}
 use Rattle.nf_thin.proofs.FoundBy.{forcing_by, allowed_by, by_within, by_fault}
 use Rattle.nf_thin.proofs.finding.find_by.Goals as goal

@@ -1,6 +1,6 @@
 use Rattle.std.proofs.Common.{subst}
 use Rattle.std.specs.Prelude.{Option, IfSome}
-use Rattle.nf_work.specs.Passing.{passes_Q}
+use Rattle.nf_frac_def.specs.Passing.{passes_Q}
 use Rattle.nf_thin.specs.declared.sifting.Guide.{Guide}
 use Rattle.nf_thin.specs.Sifting.{Guides}
 use Rattle.nf_thin.proofs.finding.find_by_slopes.Goals as goal

@@ -2,7 +2,7 @@ use Rattle.std.proofs.Common.{subst}
 use Rattle.std.specs.Prelude.{Option, IfSome}
 use Rattle.std.proofs.lemmas.Result.{IfOk-weaker}
 use Rattle.nf_model.specs.Pattern.{Pattern}
-use Rattle.nf_equation_laws.specs.Equations.{IsPatternIn}
+use Rattle.nf_thin_equation_laws.specs.Equations.{IsPatternIn}
 use Rattle.nf_pattern.specs.Given.{IsQuestion}
 use Rattle.nf_thin.specs.Searching.{question_of}
 use Rattle.nf_thin.proofs.finding.guide_from_first.Goals as goal

@@ -1,7 +1,7 @@
 use Rattle.std.proofs.Common.{List, Bool, length, ◌∙◌, ap, sym, subst}
 use Rattle.nf_model.specs.Walk.{Hop}
 use Rattle.nf_model.specs.Pattern.{IsPattern}
-use Rattle.nf_listing_laws.specs.Forcing.{IsForcing}
+use Rattle.nf_thin_laws.specs.Forcing.{IsForcing}
 use Rattle.nf_thin.proofs.Hops.{hops_length, unbounded_length, below_nodes, few_hops}
 use Rattle.nf_thin.proofs.finding.narrowed.Goals as goal
 

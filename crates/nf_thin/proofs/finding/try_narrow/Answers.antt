@@ -1,12 +1,12 @@
 use Rattle.std.proofs.Common.{List, length, true, false, sym, ap, subst, ◌∙◌, arith}
 use Rattle.std.specs.Prelude.{Option, Some, None, option_copied, Ok, Err}
 use Rattle.std.proofs.lemmas.Result.{err_from_is_err_and}
-use Rattle.nf_work.specs.Passing.{passes_Q}
+use Rattle.nf_frac_def.specs.Passing.{passes_Q}
 use Rattle.nf_model.specs.declared.State.{State}
 use Rattle.nf_model.specs.Pattern.{Pattern, IsListedIn}
 use Rattle.nf_pattern.specs.Given.{Given, Gives}
-use Rattle.nf_narrow.specs.Asking.{StandsWithin}
-use Rattle.nf_equation_laws.specs.Equations.{IsPatternIn}
+use Rattle.nf_thin_narrow.specs.Asking.{StandsWithin}
+use Rattle.nf_thin_equation_laws.specs.Equations.{IsPatternIn}
 use Rattle.nf_thin.specs.declared.standing.Standing.{Standing}
 use Rattle.nf_thin.specs.Searching.{question_of}
 use Rattle.nf_thin.specs.Sifting.{SiftsNext}

@@ -2,7 +2,7 @@ use Rattle.std.proofs.Common.{ℕ, List, length, not, sym, ap, subst, ◌∙◌,
 use Rattle.std.specs.Prelude.{Option, slice_get}
 use Rattle.nf_model.specs.Network.{Link}
 use Rattle.nf_pattern.proofs.Each.{EachEntry, each_pushed, length_pushed}
-use Rattle.nf_narrow.specs.declared.firm.Firm.{Firm}
+use Rattle.nf_thin_narrow.specs.declared.firm.Firm.{Firm}
 use Rattle.nf_thin.specs.Firming.{IsFirmOf}
 use Rattle.nf_thin.proofs.Keepers.{have_firm, firm_of, none_some}
 use Rattle.nf_thin.proofs.firming.firm_states.Goals as goal

@@ -1,7 +1,7 @@
 use Rattle.std.proofs.Common.{ℕ, ◌+◌, List, length, sym, ap, subst, ◌∙◌, arith}
 use Rattle.std.specs.Prelude.{Option}
 use Rattle.nf_model.specs.Network.{Link, hop_of}
-use Rattle.nf_plain_laws.proofs.Entries.{slice_get-image}
+use Rattle.nf_rational_laws.proofs.Entries.{slice_get-image}
 use Rattle.nf_thin.specs.Firming.{AreKeepers}
 use Rattle.nf_thin.proofs.Keepers.{refilled, one_more}
 use Rattle.nf_thin.proofs.firming.keepers.Goals as goal

@@ -1,7 +1,7 @@
 use Rattle.std.proofs.lemmas.Result.{IfOk-weaker}
 use Rattle.std.specs.Prelude.{IfSome}
 use Rattle.nf_model.specs.Pattern.{IsListedIn}
-use Rattle.nf_equation_laws.specs.Equations.{IsPatternIn}
+use Rattle.nf_thin_equation_laws.specs.Equations.{IsPatternIn}
 use Rattle.nf_pattern.specs.Given.{IsQuestion}
 use Rattle.nf_thin.specs.Searching.{question_of}
 use Rattle.nf_thin.proofs.Asking.{first_in, first_asked, question_asked}

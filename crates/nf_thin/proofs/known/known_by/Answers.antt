@@ -1,8 +1,8 @@
 use Rattle.std.proofs.Common.{subst, ◌∙◌}
 use Rattle.std.specs.Prelude.{Ok}
-use Rattle.nf_work.specs.Passing.{passes_Q}
-use Rattle.nf_one_pattern.specs.Trying.{Tries}
-use Rattle.nf_one_pattern.proofs.Outcomes.{values_count, tried_values}
+use Rattle.nf_frac_def.specs.Passing.{passes_Q}
+use Rattle.nf_thin_one.specs.Trying.{Tries}
+use Rattle.nf_thin_one.proofs.Outcomes.{values_count, tried_values}
 use Rattle.nf_thin.proofs.LedSlopes.{led_slopes}
 use Rattle.nf_thin.proofs.known.known_by.Goals as goal
 

@@ -4,7 +4,7 @@ use Rattle.std.proofs.lemmas.Option.{same_Some}
 use Rattle.nf_rational.specs.Operations.{0ℚ}
 use Rattle.nf_model.specs.Walk.{Hop}
 use Rattle.nf_thin.specs.declared.ranges.Range.{Range}
-use Rattle.nf_narrow.proofs.Entries.{length_set}
+use Rattle.nf_thin_narrow.proofs.Entries.{length_set}
 use Rattle.nf_thin.specs.Ranges.{IsWithin}
 use Rattle.nf_thin.specs.Conserving.{AreWithin}
 use Rattle.nf_thin.proofs.Hops.{hops_length}

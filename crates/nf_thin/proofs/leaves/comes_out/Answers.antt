@@ -1,7 +1,7 @@
 use Rattle.std.proofs.Common.{List, length, sym, ap, subst, ◌∙◌}
 use Rattle.std.specs.Prelude.{None}
 use Rattle.std.proofs.lemmas.Bool.{true≢false}
-use Rattle.nf_guess.proofs.Flags.{none_flag}
+use Rattle.nf_thin_guess.proofs.Flags.{none_flag}
 use Rattle.nf_thin.specs.declared.ranges.Range.{Range}
 use Rattle.nf_thin.specs.Conserving.{AreWithin}
 use Rattle.nf_thin.proofs.leaves.comes_out.Goals as goal

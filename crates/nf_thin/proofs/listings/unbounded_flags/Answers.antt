@@ -5,7 +5,7 @@ use Rattle.std.specs.Option.{option_map}
 use Rattle.std.proofs.lemmas.Option.{slice_get-map}
 use Rattle.nf_model.specs.Network.{Link, unbounded}
 use Rattle.nf_pattern.proofs.Each.{take_pushed}
-use Rattle.nf_guess.proofs.Flags.{none_flag}
+use Rattle.nf_thin_guess.proofs.Flags.{none_flag}
 use Rattle.nf_thin.proofs.Hops.{unbounded_length}
 use Rattle.nf_thin.proofs.listings.unbounded_flags.Goals as goal
 

@@ -1,7 +1,7 @@
 use Rattle.std.proofs.Common.{◌≡◌, ◌<◌, ℕ, List, length, ap, sym, subst, ◌∙◌, arith}
 use Rattle.std.specs.Prelude.{slice_get, Some}
 use Rattle.nf_model.specs.Walk.{Hop}
-use Rattle.nf_narrow.proofs.Entries.{length_set}
+use Rattle.nf_thin_narrow.proofs.Entries.{length_set}
 use Rattle.nf_thin.specs.declared.ranges.Range.{Range}
 use Rattle.nf_thin.proofs.Conserving.{link_read}
 use Rattle.nf_thin.proofs.Balances.{test_same, test_other, each_looped, each_idle, each_more}

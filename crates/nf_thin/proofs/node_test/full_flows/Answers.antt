@@ -4,12 +4,12 @@ use Rattle.std.proofs.Math.Seq.{take-length}
 use Rattle.nf_model.specs.Entries.{number_at}
 use Rattle.std.specs.Prelude.{Option}
 use Rattle.nf_rational.specs.Rational.{ℚ}
-use Rattle.nf_work.specs.Passing.{passes_Q}
+use Rattle.nf_frac_def.specs.Passing.{passes_Q}
 use Rattle.nf_model.specs.Network.{Link}
 use Rattle.nf_pattern.proofs.Each.{take_pushed}
 use Rattle.nf_thin.specs.Conserving.{full_by}
-use Rattle.nf_one_pattern.specs.Fulls.{full_of}
-use Rattle.nf_narrow.proofs.Reading.{number_read}
+use Rattle.nf_thin_one.specs.Fulls.{full_of}
+use Rattle.nf_thin_narrow.proofs.Reading.{number_read}
 use Rattle.nf_thin.proofs.Conserving.{full_there}
 use Rattle.nf_thin.proofs.node_test.full_flows.Goals as goal
 

@@ -1,6 +1,6 @@
 use Rattle.std.proofs.Common.{ℕ, List, length, sym, ap, subst, ◌∙◌, arith}
 use Rattle.nf_model.specs.Entries.{number_at}
-use Rattle.nf_plain_laws.proofs.Entries.{entry}
+use Rattle.nf_rational_laws.proofs.Entries.{entry}
 use Rattle.nf_pattern.proofs.Each.{each_none, each_pushed, length_pushed}
 use Rattle.nf_thin.specs.declared.ranges.Range.{Range}
 use Rattle.nf_thin.specs.Ranges.{IsWithin}

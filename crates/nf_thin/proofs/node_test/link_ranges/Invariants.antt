@@ -1,6 +1,6 @@
 use Rattle.std.proofs.Common.{◌≡◌, List, length}
 use Rattle.nf_rational.specs.Rational.{ℚ}
-use Rattle.nf_work.specs.Passing.{passes_Q}
+use Rattle.nf_frac_def.specs.Passing.{passes_Q}
 use Rattle.nf_model.specs.Entries.{number_at}
 use Rattle.nf_thin.specs.Conserving.{CanFlow, AreWithin}
 use Rattle.nf_thin.proofs.node_test.link_ranges.Given as goal

@@ -1,5 +1,5 @@
 use Rattle.std.specs.Prelude.{length}
-use Rattle.nf_work.specs.Passing.{passes_Q}
+use Rattle.nf_frac_def.specs.Passing.{passes_Q}
 use Rattle.nf_model.specs.Entries.{number_at}
 use Rattle.nf_thin.proofs.Conserving.{full_read, meets_state}
 use Rattle.nf_thin.proofs.node_test.range_of.Goals as goal

@@ -1,4 +1,4 @@
-use Rattle.nf_work.specs.Passing.{passes_Q}
+use Rattle.nf_frac_def.specs.Passing.{passes_Q}
 use Rattle.nf_thin.proofs.Within.{difference_with_none, end_difference}
 use Rattle.nf_thin.proofs.ranges.end_of_difference.Goals as goal
 

@@ -1,4 +1,4 @@
-use Rattle.nf_work.specs.Passing.{passes_Q}
+use Rattle.nf_frac_def.specs.Passing.{passes_Q}
 use Rattle.nf_thin.proofs.Within.{sum_with_none, none_with_sum, end_sum}
 use Rattle.nf_thin.proofs.ranges.end_of_sum.Goals as goal
 

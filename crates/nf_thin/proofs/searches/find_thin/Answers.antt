@@ -1,4 +1,4 @@
-use Rattle.nf_work.specs.Passing.{passes_Q}
+use Rattle.nf_frac_def.specs.Passing.{passes_Q}
 use Rattle.nf_thin.proofs.FoundThin.{flow_is_thin, flow_is_only}
 use Rattle.nf_thin.proofs.searches.find_thin.Goals as goal
 

@@ -1,7 +1,7 @@
 use Rattle.std.proofs.Common.{refl, subst}
 use Rattle.std.specs.Prelude.{option_copied, Ok}
 use Rattle.std.proofs.lemmas.Result.{err_from_is_err_and}
-use Rattle.nf_work.specs.Passing.{passes_Q}
+use Rattle.nf_frac_def.specs.Passing.{passes_Q}
 use Rattle.nf_pattern.specs.Given.{Gives}
 use Rattle.nf_thin.specs.Searching.{TriesNext}
 use Rattle.nf_thin.proofs.Looping.{fewer_left, loop_starts, loop_pattern, loop_finds, loop_fails, loop_goes_on, loop_ends}

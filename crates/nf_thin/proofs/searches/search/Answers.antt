@@ -1,7 +1,7 @@
 use Rattle.std.proofs.Common.{subst}
-use Rattle.nf_work.specs.Passing.{passes_Q}
+use Rattle.nf_frac_def.specs.Passing.{passes_Q}
 use Rattle.nf_model.specs.Pattern.{Pattern}
-use Rattle.nf_lists.specs.Search.{IsSearch}
+use Rattle.nf_thin_def.specs.Search.{IsSearch}
 use Rattle.nf_thin.specs.Searching.{Searches}
 use Rattle.nf_thin.proofs.FoundThin.{result_is_thin, result_is_only}
 use Rattle.nf_thin.proofs.searches.search.Goals as goal

@@ -1,9 +1,9 @@
 use Rattle.std.proofs.Common.{List, length, subst, ap, ◌∙◌}
 use Rattle.std.specs.Prelude.{Option, IfSome}
 use Rattle.nf_rational.specs.Rational.{ℚ}
-use Rattle.nf_work.specs.Passing.{passes_Q}
-use Rattle.nf_guess.specs.declared.guessing.SolvedPattern.{SolvedPattern}
-use Rattle.nf_guess.specs.Guessing.{IsSolved}
+use Rattle.nf_frac_def.specs.Passing.{passes_Q}
+use Rattle.nf_thin_guess.specs.declared.guessing.SolvedPattern.{SolvedPattern}
+use Rattle.nf_thin_guess.specs.Guessing.{IsSolved}
 use Rattle.nf_thin.specs.declared.known.Known.{Known}
 use Rattle.nf_thin.specs.Slopes.{AreThinSlopes}
 use Rattle.nf_thin.specs.Knowing.{IsKnown}

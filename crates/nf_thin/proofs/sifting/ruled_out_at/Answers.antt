@@ -1,7 +1,7 @@
 use Rattle.std.proofs.Common.{List, length, sym, subst, ap, ◌∙◌}
 use Rattle.std.proofs.lemmas.Bool.{true≢false}
 use Rattle.std.proofs.lemmas.Option.{none-some}
-use Rattle.nf_work.specs.Passing.{passes_Q}
+use Rattle.nf_frac_def.specs.Passing.{passes_Q}
 use Rattle.nf_model.specs.Entries.{number_at}
 use Rattle.nf_thin.specs.declared.ranges.Range.{Range}
 use Rattle.nf_thin.specs.Conserving.{AreWithin}

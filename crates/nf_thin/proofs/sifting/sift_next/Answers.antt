@@ -2,7 +2,7 @@ use Rattle.std.proofs.Common.{List, length, sym, ap, ◌∙◌, add-one, arith}
 use Rattle.std.specs.Prelude.{Option}
 use Rattle.std.proofs.lemmas.Option.{none-some}
 use Rattle.nf_rational.specs.Rational.{ℚ}
-use Rattle.nf_work.specs.Passing.{passes_Q}
+use Rattle.nf_frac_def.specs.Passing.{passes_Q}
 use Rattle.nf_thin.proofs.Conserving.{full_count}
 use Rattle.nf_thin.proofs.FoundThin.{found_known}
 use Rattle.nf_thin.proofs.Refusing.{can_flow, tried_counts}

@@ -1,7 +1,7 @@
 use Rattle.std.proofs.Common.{ℕ, List, Bool, length, sym, ap, subst, ◌∙◌, arith}
 use Rattle.nf_model.specs.Walk.{Hop}
 use Rattle.nf_model.specs.Network.{hops}
-use Rattle.nf_listing_laws.specs.Ways.{AreSole}
+use Rattle.nf_thin_laws.specs.Ways.{AreSole}
 use Rattle.nf_thin.proofs.Hops.{hops_length, few_hops}
 use Rattle.nf_thin.proofs.Early.{early, from_test}
 use Rattle.nf_thin.proofs.standing.is_early.Goals as goal

@@ -1,7 +1,7 @@
 use Rattle.std.proofs.Common.{◌≡◌, List, subst, sym, ap, leb-true}
 use Rattle.std.specs.Prelude.{Option, IfSome}
 use Rattle.nf_model.specs.Pattern.{Pattern, IsListedIn}
-use Rattle.nf_narrow.specs.declared.firm.Firm.{Firm}
+use Rattle.nf_thin_narrow.specs.declared.firm.Firm.{Firm}
 use Rattle.nf_thin.specs.Firming.{HaveFirm}
 use Rattle.nf_thin.proofs.Late.{late}
 use Rattle.nf_thin.proofs.standing.is_late.Goals as goal

@@ -1,6 +1,6 @@
 use Rattle.std.proofs.Common.{ap, subst, ◌∙◌}
 use Rattle.nf_pattern.specs.Given.{Question}
-use Rattle.nf_narrow.specs.Asking.{StandsWithin}
+use Rattle.nf_thin_narrow.specs.Asking.{StandsWithin}
 use Rattle.nf_thin.specs.Searching.{question_of}
 use Rattle.nf_thin.proofs.standing.is_within.Goals as goal
 

@@ -1,7 +1,7 @@
 use Rattle.std.proofs.Common.{◌≡◌, ℕ, suc, ◌+◌, refl, ◌∙◌, ap, subst, arith, inl, inr}
 use Rattle.std.specs.Prelude.{Ok, Err}
-use Rattle.nf_work.specs.Passing.{passes_Q}
-use Rattle.nf_one_pattern.specs.Trying.{Tries}
+use Rattle.nf_frac_def.specs.Passing.{passes_Q}
+use Rattle.nf_thin_one.specs.Trying.{Tries}
 use Rattle.nf_thin.specs.FirstPassing.{or_first}
 use Rattle.nf_thin.proofs.Searched.{passing_not_accepted}
 use Rattle.nf_thin.proofs.trying_next.try_next.Goals as goal

@@ -1,9 +1,9 @@
 use Rattle.std.proofs.Common.{◌≡◌, Option, subst}
 use Rattle.std.specs.Prelude.{Ok, IfSome}
 use Rattle.nf_rational.specs.Rational.{ℚ}
-use Rattle.nf_work.specs.Passing.{passes_Q}
-use Rattle.nf_work.specs.declared.Part.TheVariants.{Check}
-use Rattle.nf_work.specs.Checked.{Checked, Gives, at_part}
+use Rattle.nf_frac_def.specs.Passing.{passes_Q}
+use Rattle.nf_frac_def.specs.declared.Part.TheVariants.{Check}
+use Rattle.nf_frac_def.specs.Checked.{Checked, Gives, at_part}
 use Rattle.nf_curve.specs.Points.{Grown}
 use Rattle.nf_check_rules.specs.Exits.{short_exits}
 use Rattle.nf_check_rules.specs.Sent.{points_in}

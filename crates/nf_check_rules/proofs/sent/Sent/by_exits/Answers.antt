@@ -1,10 +1,10 @@
 use Rattle.std.proofs.lemmas.Result.{err_from_is_err_and}
 use Rattle.std.proofs.Common.{◌∙◌}
-use Rattle.nf_work.specs.Passing.{passes_Q}
-use Rattle.nf_work.specs.Checked.{at_part}
-use Rattle.nf_work.specs.declared.Part.TheVariants.{Check}
-use Rattle.nf_curve_lists.specs.Composed.{checked_composed}
-use Rattle.nf_curve_lists.specs.Short.{checked_short}
+use Rattle.nf_frac_def.specs.Passing.{passes_Q}
+use Rattle.nf_frac_def.specs.Checked.{at_part}
+use Rattle.nf_frac_def.specs.declared.Part.TheVariants.{Check}
+use Rattle.nf_curve_def.specs.Composed.{checked_composed}
+use Rattle.nf_curve_def.specs.Short.{checked_short}
 use Rattle.nf_curve.proofs.Exits.{after_err, after_ok, stops_on}
 use Rattle.nf_check_rules.specs.Sent.{known_list}
 use Rattle.nf_check_rules.proofs.sent.Sent.by_exits.Goals as goal

@@ -1,4 +1,4 @@
-use Rattle.nf_curve_lists.specs.Times.{merged, times_of}
+use Rattle.nf_curve_def.specs.Times.{merged, times_of}
 use mathlib.Core.Path.{ap₂}
 use Rattle.std.proofs.lemmas.Result.{IfOk-weaker}
 use Rattle.std.proofs.Common.{◌≡◌, ◌∙◌}

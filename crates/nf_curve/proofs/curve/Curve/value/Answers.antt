@@ -1,9 +1,9 @@
 use Rattle.std.proofs.Common.{◌≡◌, List, ap, ◌∙◌}
 use Rattle.nf_rational.specs.Rational.{ℚ}
-use Rattle.nf_work.specs.Passing.{passes_Q}
-use Rattle.nf_work.specs.Checked.{at_part}
+use Rattle.nf_frac_def.specs.Passing.{passes_Q}
+use Rattle.nf_frac_def.specs.Checked.{at_part}
 use Rattle.nf_model.specs.Curve.{value}
-use Rattle.nf_curve_lists.specs.Values.{checked_value}
+use Rattle.nf_curve_def.specs.Values.{checked_value}
 use Rattle.nf_curve_laws.proofs.Values.{checked_value-is}
 use Rattle.nf_curve.proofs.Exits.{if_ok}
 use Rattle.nf_curve.proofs.Points.{points_seen, curve_seen}

@@ -2,7 +2,7 @@ use Rattle.std.proofs.Common.{ap}
 use mir.Syntax.{w128}
 use mir.Val.{of_z}
 use mir.Facts.{to_z-of_z}
-use Rattle.nf_work.specs.Passing.{bound_of}
+use Rattle.nf_frac_def.specs.Passing.{bound_of}
 use Rattle.nf_frac.proofs.Form.{stops}
 use Rattle.nf_frac.proofs.Made.{made, not_made}
 use Rattle.nf_frac.proofs.Passing.{within_along}

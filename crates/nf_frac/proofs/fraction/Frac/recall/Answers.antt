@@ -1,6 +1,6 @@
 use Rattle.std.proofs.Common.{subst}
 use Rattle.nf_rational.specs.Rational.{ℚ}
-use Rattle.nf_work.specs.Passing.{bound_of}
+use Rattle.nf_frac_def.specs.Passing.{bound_of}
 use Rattle.nf_frac.specs.Parts.{IsWithin}
 use Rattle.nf_frac.specs.Narrow.{narrow_in}
 use Rattle.nf_frac.proofs.fraction.Frac.recall.Goals as goal

@@ -1,8 +1,8 @@
 use Rattle.std.proofs.Common.{refl, rules}
 use Rattle.std.proofs.lemmas.Result.{err_from_is_err_and}
 use Rattle.nf_rational.specs.Rational.{ℚ}
-use Rattle.nf_work.specs.Passing.{passes_Q}
-use Rattle.nf_work.specs.Checked.{seen_passed_at}
+use Rattle.nf_frac_def.specs.Passing.{passes_Q}
+use Rattle.nf_frac_def.specs.Checked.{seen_passed_at}
 use Rattle.nf_linear.proofs.Taken.{takes_first, fits_next, takes_stops, takes_more, takes_all}
 use Rattle.nf_linear.proofs.grid_row.GridRow.subtract.Goals as goal
 

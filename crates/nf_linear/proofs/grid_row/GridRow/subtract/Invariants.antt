@@ -1,4 +1,4 @@
-use Rattle.nf_work.specs.Passing.{passes_Q}
+use Rattle.nf_frac_def.specs.Passing.{passes_Q}
 use Rattle.nf_linear.proofs.Taken.{TakesOff}
 use Rattle.nf_linear.proofs.grid_row.GridRow.subtract.Given as goal
 

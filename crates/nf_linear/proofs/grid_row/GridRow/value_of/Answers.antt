@@ -1,9 +1,9 @@
 use Rattle.std.proofs.Common.{◌≡◌, ℕ, ◌+◌, ◌-◌, ◌≤◌, length, sym, ap, subst, ◌∙◌, arith, rules}
 use mathlib.Core.Path.{ap₂}
 use Rattle.nf_rational.specs.Rational.{ℚ}
-use Rattle.nf_work.specs.declared.Op.TheVariants.{Quotient}
-use Rattle.nf_work.specs.Passing.{passes_Q}
-use Rattle.nf_work.specs.Checked.{checked}
+use Rattle.nf_frac_def.specs.declared.Op.TheVariants.{Quotient}
+use Rattle.nf_frac_def.specs.Passing.{passes_Q}
+use Rattle.nf_frac_def.specs.Checked.{checked}
 use Rattle.nf_model.specs.Entries.{number_at}
 use Rattle.nf_linear.proofs.Grids.{row_long, last_place}
 use Rattle.nf_linear.proofs.grid_row.GridRow.value_of.Goals as goal

@@ -3,7 +3,7 @@ use Rattle.std.specs.Prelude.{if◌then◌else◌}
 use Rattle.std.proofs.lemmas.Result.{IfOk-from_err}
 use Rattle.nf_rational.specs.Rational.{ℚ}
 use Rattle.nf_model.specs.Entries.{number_at}
-use Rattle.nf_lists.specs.Signs.{is_zero}
+use Rattle.nf_rational.specs.Signs.{is_zero}
 use Rattle.nf_linear.specs.Rows.{some_from}
 use Rattle.nf_linear.proofs.Taken.{some_more, all_some}
 use Rattle.nf_linear.proofs.row.Row.later.Goals as goal

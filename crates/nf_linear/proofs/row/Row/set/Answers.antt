@@ -1,7 +1,7 @@
 use Rattle.std.proofs.Common.{List, Bool, not, map, set, sym, ap, ◌∙◌}
 use Rattle.std.proofs.lemmas.List.{map-set}
 use Rattle.nf_rational.specs.Rational.{ℚ}
-use Rattle.nf_lists.specs.Signs.{is_zero}
+use Rattle.nf_rational.specs.Signs.{is_zero}
 use Rattle.nf_linear.specs.Rows.{some_flags}
 use Rattle.nf_linear.proofs.row.Row.set.Goals as goal
 

@@ -1,7 +1,7 @@
 use Rattle.std.proofs.Common.{map, false, not, refl, sym, ap, ◌∙◌}
 use Rattle.nf_rational.specs.Rational.{ℚ}
 use Rattle.nf_rational.specs.Operations.{0ℚ}
-use Rattle.nf_lists.specs.Signs.{is_zero}
+use Rattle.nf_rational.specs.Signs.{is_zero}
 use Rattle.nf_linear_laws.proofs.Pivots.{is_zero-at}
 use Rattle.nf_linear.specs.Rows.{some_flags}
 use Rattle.nf_linear.proofs.Filled.{filled_up, copies_mapped}

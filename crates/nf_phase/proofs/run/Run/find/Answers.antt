@@ -1,6 +1,6 @@
 use Rattle.std.proofs.Common.{suc, rules}
 use Rattle.nf_rational.specs.Operations.{0ℚ}
-use Rattle.nf_work.specs.Passing.{passes_Q}
+use Rattle.nf_frac_def.specs.Passing.{passes_Q}
 use Rattle.nf_phase.specs.Faults.{of_search}
 use Rattle.nf_phase.specs.Stepping.{StandsFor}
 use Rattle.nf_phase.specs.Finding.{FindsNone}

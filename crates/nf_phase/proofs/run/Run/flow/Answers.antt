@@ -1,9 +1,9 @@
 use Rattle.std.proofs.Common.{List, map, ap, ◌∙◌}
 use Rattle.nf_curve.specs.Points.{Grown}
 use Rattle.nf_curve.specs.Flows.{trace_of}
-use Rattle.nf_lists.specs.ReportCurves.{GrowingCurve, LinkCurves}
-use Rattle.nf_lists.specs.PhaseRun.{Standing, flow_of}
-use Rattle.nf_growing_curves.specs.Growing.{Roomy, all_grown}
+use Rattle.nf_thin_def.specs.ReportCurves.{GrowingCurve, LinkCurves}
+use Rattle.nf_thin_def.specs.PhaseRun.{Standing, flow_of}
+use Rattle.nf_phase_curves.specs.Growing.{Roomy, all_grown}
 use Rattle.nf_phase.proofs.run.Run.flow.Goals as goal
 
 pub returns : goal.returns

@@ -1,11 +1,11 @@
 use Rattle.std.proofs.Common.{List, length, sym, ap, subst, ◌∙◌}
 use Rattle.std.specs.Prelude.{Bool, MatchBool}
 use Rattle.nf_rational.specs.Rational.{ℚ}
-use Rattle.nf_work.specs.Passing.{passes_Q}
+use Rattle.nf_frac_def.specs.Passing.{passes_Q}
 use Rattle.nf_model.specs.Network.{Piece}
 use Rattle.nf_model.specs.Pattern.{Pattern}
-use Rattle.nf_lists.specs.PhaseRun.{Standing}
-use Rattle.nf_resume_lists.specs.Open.{IsOpen}
+use Rattle.nf_thin_def.specs.PhaseRun.{Standing}
+use Rattle.nf_resume_def.specs.Open.{IsOpen}
 use Rattle.nf_phase.specs.Restarting.{none_starts, AreApart}
 use Rattle.nf_phase.proofs.Reached.{Stands-reached, slacks_count}
 use Rattle.nf_phase.proofs.Opened.{open_if, not_started}

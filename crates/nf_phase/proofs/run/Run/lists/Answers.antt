@@ -1,13 +1,13 @@
 use Rattle.std.proofs.Common.{List, length, Ok, ◌≡◌, refl, sym, ap, subst, ◌∙◌}
 use Rattle.std.proofs.lemmas.Result.{IfOk-from_err}
 use Rattle.nf_rational.specs.Rational.{ℚ}
-use Rattle.nf_work.specs.Passing.{passes_Q}
+use Rattle.nf_frac_def.specs.Passing.{passes_Q}
 use Rattle.nf_model.specs.Network.{hops}
 use Rattle.nf_model.specs.ThinFlow.{Sets, slacks_of}
 use Rattle.nf_model.specs.Phases.{IsPhaseLength}
-use Rattle.nf_lists.specs.Advance.{Advanced}
-use Rattle.nf_lists.specs.PhaseRun.{Standing, phase_lists}
-use Rattle.nf_growing_curves.specs.Growing.{all_grown}
+use Rattle.nf_thin_def.specs.Advance.{Advanced}
+use Rattle.nf_thin_def.specs.PhaseRun.{Standing, phase_lists}
+use Rattle.nf_phase_curves.specs.Growing.{all_grown}
 use Rattle.nf_phase.specs.declared.fault.StepFault.{StepFault}
 use Rattle.nf_phase.proofs.Found.{by_fault}
 use Rattle.nf_phase.proofs.Reached.{active_count, resetting_count}

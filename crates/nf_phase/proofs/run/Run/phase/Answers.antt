@@ -1,6 +1,6 @@
 use Rattle.std.proofs.Common.{suc, ◌∙◌}
-use Rattle.nf_work.specs.Passing.{passes_Q}
-use Rattle.nf_lists.specs.PhaseRun.{Fails}
+use Rattle.nf_frac_def.specs.Passing.{passes_Q}
+use Rattle.nf_thin_def.specs.PhaseRun.{Fails}
 use Rattle.nf_phase.specs.Stepping.{IsCause}
 use Rattle.nf_phase.specs.Finding.{FindsNone, ListsPass}
 use Rattle.nf_phase.proofs.Found.{by_fault, stands_as, none_below, lists_below}

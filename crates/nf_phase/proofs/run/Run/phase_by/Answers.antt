@@ -1,5 +1,5 @@
 use Rattle.std.proofs.Common.{refl}
-use Rattle.nf_work.specs.Passing.{passes_Q}
+use Rattle.nf_frac_def.specs.Passing.{passes_Q}
 use Rattle.nf_phase.proofs.PhaseFound.{leads_on}
 use Rattle.nf_phase.proofs.run.Run.phase_by.Goals as goal
 

@@ -1,18 +1,18 @@
 use Rattle.std.proofs.Common.{List, length, map, refl, sym, ap, subst, ◌∙◌}
 use Rattle.std.specs.Prelude.{Ok}
 use Rattle.std.proofs.lemmas.Result.{err_from_is_err_and, IfOk-from_err}
-use Rattle.nf_work.specs.declared.Part.TheVariants.{Curve}
-use Rattle.nf_work.specs.Passing.{passes_Q}
-use Rattle.nf_work.specs.Checked.{each, at_part}
+use Rattle.nf_frac_def.specs.declared.Part.TheVariants.{Curve}
+use Rattle.nf_frac_def.specs.Passing.{passes_Q}
+use Rattle.nf_frac_def.specs.Checked.{each, at_part}
 use Rattle.nf_model.specs.Equilibrium.{HasSlopes}
-use Rattle.nf_lists.specs.PhaseRun.{Standing}
-use Rattle.nf_resume_lists.specs.Restoring.{value_at_end, growing, restore_list}
+use Rattle.nf_thin_def.specs.PhaseRun.{Standing}
+use Rattle.nf_resume_def.specs.Restoring.{value_at_end, growing, restore_list}
 use Rattle.nf_curve.specs.Points.{Grown}
 use Rattle.nf_curve.specs.Flows.{trace_of, flow_of as flow_in}
 use Rattle.nf_curve.specs.declared.flow.Trace as code
 use Rattle.nf_curve.proofs.Exits.{was_ok, stops_on}
-use Rattle.nf_growing_curves.specs.Growing.{all_grown}
-use Rattle.nf_growing_curves.specs.Restoring.{of_links}
+use Rattle.nf_phase_curves.specs.Growing.{all_grown}
+use Rattle.nf_phase_curves.specs.Restoring.{of_links}
 use Rattle.nf_phase.specs.Stepping.{restored}
 use Rattle.nf_phase.proofs.Restarting.{flow_restored}
 use Rattle.nf_phase.proofs.RestoreList.{labels_pass, links_pass, list_made, ends_same, flow_counts}

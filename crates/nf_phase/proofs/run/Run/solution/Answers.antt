@@ -1,7 +1,7 @@
 use Rattle.std.proofs.Common.{map, ap, ◌∙◌}
 use Rattle.nf_curve.specs.Points.{Grown}
 use Rattle.nf_curve.specs.Flows.{trace_of}
-use Rattle.nf_lists.specs.PhaseRun.{Standing, flow_of}
+use Rattle.nf_thin_def.specs.PhaseRun.{Standing, flow_of}
 use Rattle.nf_phase.proofs.run.Run.solution.Goals as goal
 
 pub returns-clause-flow : goal.returns-clause-flow

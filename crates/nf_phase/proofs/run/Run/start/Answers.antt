@@ -1,8 +1,8 @@
 use Rattle.std.proofs.Common.{ℕ, List, map, refl, ap, ◌∙◌}
 use Rattle.std.specs.Prelude.{None, replicate}
 use Rattle.nf_rational.specs.Rational.{ℚ}
-use Rattle.nf_work.specs.Passing.{passes_Q}
-use Rattle.nf_lists.specs.ReportCurves.{first_label_curve, first_curves}
+use Rattle.nf_frac_def.specs.Passing.{passes_Q}
+use Rattle.nf_thin_def.specs.ReportCurves.{first_label_curve, first_curves}
 use Rattle.nf_phase.specs.Stepping.{starts}
 use Rattle.nf_phase.proofs.Stepped.{equilibrium_reached, ends_reached}
 use Rattle.nf_phase.proofs.ShortReached.{short_reached, keeps_reached}

@@ -1,5 +1,5 @@
 use Rattle.std.proofs.Common.{sym, subst}
-use Rattle.nf_work.specs.Passing.{passes_Q}
+use Rattle.nf_frac_def.specs.Passing.{passes_Q}
 use Rattle.nf_phase.specs.Stepping.{Reaches}
 use Rattle.nf_phase.proofs.Stepped.{equilibrium_reached, ends_reached, reaches_step, only_step, begin_step, steps_made}
 use Rattle.nf_phase.proofs.ShortReached.{short_reached, keeps_reached}

@@ -5,10 +5,10 @@ use Rattle.std.proofs.lemmas.Option.{MatchOption-at_some}
 use Rattle.std.proofs.lemmas.Result.{IfOk-from_err}
 use Rattle.nf_rational.specs.Rational.{ℚ}
 use Rattle.nf_rational.specs.Order.{◌<ℚ◌}
-use Rattle.nf_work.specs.Passing.{passes_Q}
-use Rattle.nf_lists.specs.PhaseRun.{Standing}
-use Rattle.nf_forever_lists.specs.ForeverRun.{GoesToEnd}
-use Rattle.nf_growing_curves.proofs.Places.{holds_anyway}
+use Rattle.nf_frac_def.specs.Passing.{passes_Q}
+use Rattle.nf_thin_def.specs.PhaseRun.{Standing}
+use Rattle.nf_forever_def.specs.ForeverRun.{GoesToEnd}
+use Rattle.nf_phase_curves.proofs.Places.{holds_anyway}
 use Rattle.nf_phase.specs.Stepping.{Reaches, goes_on}
 use Rattle.nf_phase.specs.declared.fault.StepFault.{StepFault}
 use Rattle.nf_phase.proofs.Found.{by_fault}

@@ -1,10 +1,10 @@
 use Rattle.std.proofs.Common.{◌≡◌, List, length, sym, ap, subst, ◌∙◌}
-use Rattle.nf_work.specs.Passing.{passes_Q}
+use Rattle.nf_frac_def.specs.Passing.{passes_Q}
 use Rattle.nf_model.specs.Walk.{Hop}
 use Rattle.nf_model.specs.Network.{hops as hops_of, unbounded}
 use Rattle.nf_model.specs.ThinFlow.{Sets, sets_at}
 use Rattle.nf_model.specs.Pattern.{Pattern, IsPattern, IsBase}
-use Rattle.nf_lists.specs.PhaseRun.{Standing}
+use Rattle.nf_thin_def.specs.PhaseRun.{Standing}
 use Rattle.nf_thin.specs.Searching.{AreSetsOf}
 use Rattle.nf_thin.proofs.Hops.{few_hops, hops_length}
 use Rattle.nf_phase.proofs.Reached.{Stands-reached, active_count, sets_fit, base_fits}

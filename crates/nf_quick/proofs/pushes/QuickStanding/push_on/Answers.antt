@@ -4,12 +4,12 @@ use Rattle.nf_rational.specs.Rational.{ℚ}
 use Rattle.nf_rational.specs.Operations.{0ℚ}
 use Rattle.nf_rational.specs.Order.{◌≤ℚ◌, ◌<ℚ◌}
 use Rattle.nf_rational_laws.proofs.Chains.{≤ℚ_refl}
-use Rattle.nf_work.specs.Passing.{passes_Q}
-use Rattle.nf_quick_lists.specs.Rounds.{Walk}
-use Rattle.nf_quick_lists.specs.Flows.{IsSound}
-use Rattle.nf_quick_lists.specs.Answers.{IsShortestWalk}
-use Rattle.nf_quick_lists.specs.Pushes.{Times}
-use Rattle.nf_quick_lists.specs.Quick.{QuickStanding}
+use Rattle.nf_frac_def.specs.Passing.{passes_Q}
+use Rattle.nf_quick_def.specs.Rounds.{Walk}
+use Rattle.nf_quick_def.specs.Flows.{IsSound}
+use Rattle.nf_quick_def.specs.Answers.{IsShortestWalk}
+use Rattle.nf_quick_def.specs.Pushes.{Times}
+use Rattle.nf_quick_def.specs.Quick.{QuickStanding}
 use Rattle.nf_quick.proofs.OnePush.{move_passes, time_passes, push_made}
 use Rattle.nf_quick.proofs.pushes.QuickStanding.push_on.Goals as goal
 

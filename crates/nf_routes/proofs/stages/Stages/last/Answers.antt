@@ -3,8 +3,8 @@ use Rattle.std.proofs.lemmas.List.{length-map}
 use Rattle.std.proofs.lemmas.Option.{slice_get_read}
 use Rattle.nf_rational.specs.Rational.{ℚ}
 use Rattle.nf_curve.specs.Points.{Grown}
-use Rattle.nf_plain_laws.proofs.Entries.{slice_get-image}
-use Rattle.nf_routes_lists.specs.RoutesList.{last_entry}
+use Rattle.nf_rational_laws.proofs.Entries.{slice_get-image}
+use Rattle.nf_routes_def.specs.RoutesList.{last_entry}
 use Rattle.nf_routes.proofs.Lists.{last_at}
 use Rattle.nf_routes.proofs.stages.Stages.last.Goals as goal
 

@@ -1,7 +1,7 @@
 use Rattle.std.proofs.Common.{length, true, false, subst, sym, ap, ◌∙◌}
 use Rattle.std.proofs.lemmas.Option.{same_Some}
 use Rattle.nf_pattern.specs.Given.{Question, IsQuestion, IsListedBy, Given}
-use Rattle.nf_narrow.specs.Asking.{StandsWithin, IsBehind, StandsAt}
+use Rattle.nf_thin_narrow.specs.Asking.{StandsWithin, IsBehind, StandsAt}
 use Rattle.nf_thin.specs.Searching.{question_of}
 use Rattle.nf_thin.proofs.Hops.{hops_length}
 use Rattle.nf_thin.proofs.pace.Pace.go_on.Goals as goal

@@ -1,4 +1,0 @@
-pub mod Sides
-pub mod Staying
-pub mod Phases
-pub mod Supplies

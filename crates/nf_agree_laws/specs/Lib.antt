@@ -1,2 +1,0 @@
-pub mod PhaseLabels
-pub mod Supplies

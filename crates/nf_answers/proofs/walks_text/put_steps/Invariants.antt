@@ -1,7 +1,0 @@
-use Rattle.std.proofs.Common.{◌≡◌, ◌++◌, drop, map}
-use Rattle.nf_report.specs.Written.{after_words}
-use Rattle.nf_answers.specs.QuickText.{step_word}
-use Rattle.nf_answers.proofs.walks_text.put_steps.Given as goal
-
-abbrev pub invariant-loop-step : goal.invariant-loop-step
-invariant-loop-step l = l.text.items ++ after_words (map (step_word l.net.link_names) (drop l.step-index l.steps)) ≡ l.initial.text.items ++ after_words (map (step_word l.net.link_names) l.steps)

@@ -1,0 +1,24 @@
+-- Lines on standard error, in pieces.
+use Rattle.std.proofs.Common.{◌≡◌, ℕ, List, [], ◌∷◌, ◌++◌, refl, sym, subst, ap, ◌∙◌, append_assoc, append-nil}
+use Rattle.std.specs.Prelude.{flat_map, codes, Option, Result}
+use Rattle.nf_edge.specs.Taken.{Wrote}
+use Rattle.nf_text_def.specs.Words.{line_of_words}
+use Rattle.nf_app_answers.specs.ErrorLines.{said}
+
+pub rule_pieces : (file digits rule : List ℕ) → codes "nfot: " ++ (file ++ (codes " line " ++ (digits ++ (codes ": " ++ (rule ++ (codes "\n" ++ []))))))
+    ≡ said (file ∷ codes "line" ∷ (digits ++ codes ":") ∷ rule ∷ [])
+rule_pieces file digits rule =
+    ap (λ l. codes "nfot: " ++ l)
+    (ap (λ l. file ++ (codes " line " ++ l)) (sym (append_assoc (digits ++ 58 ∷ []) (32 ∷ rule) (10 ∷ []) ∙ append_assoc digits (58 ∷ []) ((32 ∷ rule) ++ 10 ∷ [])))
+    ∙ sym (append_assoc file (codes " line " ++ ((digits ++ 58 ∷ []) ++ 32 ∷ rule)) (10 ∷ [])))
+
+pub stopped_pieces : (words : List (List ℕ)) → codes "nfot: " ++ flat_map line_of_words ((codes "stopped:" ∷ words) ∷ []) ≡ said (codes "stopped:" ∷ words)
+stopped_pieces words = ap (λ l. codes "nfot: " ++ l) (append-nil (line_of_words (codes "stopped:" ∷ words)))
+
+pub augments_pieces : (digits : List ℕ) → codes "nfot: augments " ++ (digits ++ (codes "\n" ++ [])) ≡ said (codes "augments" ∷ digits ∷ [])
+augments_pieces digits = refl
+
+-- the same text, in other words
+pub same_text : {E : Type 0} {old now : Option (List ℕ)} {f g : ℕ} {r : Result (Unit {0}) E} (first text : List ℕ) → first ≡ text → Wrote old now f g first r
+    → Wrote old now f g text r
+same_text {E} {old} {now} {f} {g} {r} first text e w = subst (λ (t : List ℕ). Wrote old now f g t r) e w

@@ -1,0 +1,13 @@
+use Rattle.std.proofs.Common.{[], ◌∷◌, refl}
+use Rattle.std.specs.Prelude.{codes}
+use Rattle.std.specs.Option.{option_copied}
+use Rattle.nf_frac_words.specs.Printed.{printed}
+use Rattle.nf_net_def.specs.Causes.{cause_words}
+use Rattle.nf_report.proofs.Written.{wrote_next}
+use Rattle.nf_app_answers.specs.GenText.{end_lines}
+use Rattle.nf_app_answers.proofs.gen_text.write_end.Goals as goal
+
+pub returns : goal.returns
+returns g c =
+    wrote_next ((codes "cause" ∷ cause_words (option_copied c.args.stop)) ∷ []) ((codes "arrival" ∷ printed c.args.arrival ∷ []) ∷ []) (end_lines (option_copied c.args.stop) c.args.arrival) refl
+    c.in_ok-write_cause.ensures c.write_number.ensures

@@ -1,0 +1,18 @@
+use Rattle.std.proofs.Common.{drop, suc, refl}
+use Rattle.std.specs.Prelude.{flat_map}
+use Rattle.std.proofs.lemmas.Option.{slice_get-get_or}
+use Rattle.nf_report.proofs.Parts.{next_part, parts_left}
+use Rattle.nf_report.proofs.Written.{wrote_both, wrote_front}
+use Rattle.nf_app_answers.proofs.telling.write_texts.Goals as goal
+
+pub loop-text-preserved : goal.loop-text-preserved
+loop-text-preserved g c =
+    wrote_both _ (next_part (λ t. t.now) c.args.texts.now c.loop-text.text-index _ (slice_get-get_or c.args.texts.now c.loop-text.text-index _ c.loop-text-test.true))
+    c.loop-text.invariant c.in_ok-write_text.ensures
+
+pub returns-in_err-write_text : goal.returns-in_err-write_text
+returns-in_err-write_text g c =
+    wrote_front (flat_map (λ t. t.now) (drop (suc c.loop-text.text-index) c.args.texts.now)) _ _
+    (parts_left (λ t. t.now) c.args.texts.now c.loop-text.text-index _ (slice_get-get_or c.args.texts.now c.loop-text.text-index _ c.loop-text-test.true))
+    c.from_residual.ensures.0
+    (wrote_both _ refl c.loop-text.invariant c.in_err-write_text.ensures)

@@ -1,0 +1,56 @@
+-- Refusals of the code, as answers of the definitions.
+use Rattle.nf_edge.specs.declared.FetchFault.{FetchFault}
+use Rattle.nf_edge.specs.declared.FetchFault.TheVariants.{Failed, TooLong, Memory}
+use Rattle.nf_rational.specs.Rational.{ℚ}
+use Rattle.nf_frac_def.specs.declared.Halt.{Halt}
+use Rattle.nf_net_file.specs.declared.fault.NetFault.{NetFault}
+use Rattle.nf_load_read.specs.declared.fault.LoadsFault.{LoadsFault}
+use Rattle.nf_complete_read.specs.declared.fault.FlowsFault.{FlowsFault}
+use Rattle.nf_routes_read.specs.declared.fault.RoutesFault.{RoutesFault}
+use Rattle.nf_report_read.specs.declared.fault.ReportFault.{ReportFault}
+use Rattle.nf_app_answers.specs.declared.refusal.Refusal.{Refusal}
+use Rattle.nf_app_answers.specs.Answers.{ProgramAnswer, NoMemory, NoRequest, ShelfFailed, ShelfTooLong, Malformed, MalformedLoads, MalformedFlows, MalformedRoutes, MalformedReport, Passes, Unbounded, NotThin, Earlier}
+
+abbrev pub answer_of : Refusal → ProgramAnswer
+answer_of Refusal.NoMemory = NoMemory
+answer_of Refusal.NoRequest = NoRequest
+answer_of Refusal.ShelfFailed = ShelfFailed
+answer_of Refusal.ShelfTooLong = ShelfTooLong
+answer_of (Refusal.Malformed rule line) = Malformed (record { rule = rule; line = line })
+answer_of (Refusal.MalformedLoads rule line) = MalformedLoads (record { rule = rule; line = line })
+answer_of (Refusal.MalformedFlows rule line) = MalformedFlows (record { rule = rule; line = line })
+answer_of (Refusal.MalformedRoutes rule line) = MalformedRoutes (record { rule = rule; line = line })
+answer_of (Refusal.MalformedReport rule line) = MalformedReport (record { rule = rule; line = line })
+answer_of (Refusal.Passes at) = Passes at
+answer_of Refusal.Unbounded = Unbounded
+answer_of Refusal.NotThin = NotThin
+answer_of Refusal.Earlier = Earlier
+
+abbrev pub refusal_of_fetch : FetchFault → Refusal
+refusal_of_fetch Failed = Refusal.ShelfFailed
+refusal_of_fetch TooLong = Refusal.ShelfTooLong
+refusal_of_fetch Memory = Refusal.NoMemory
+
+abbrev pub refusal_of_net : NetFault → Refusal
+refusal_of_net (NetFault.Broken rule line) = Refusal.Malformed rule line
+refusal_of_net NetFault.Memory = Refusal.NoMemory
+
+abbrev pub refusal_of_loads : LoadsFault → Refusal
+refusal_of_loads (LoadsFault.Broken rule line) = Refusal.MalformedLoads rule line
+refusal_of_loads LoadsFault.Memory = Refusal.NoMemory
+
+abbrev pub refusal_of_flows : FlowsFault → Refusal
+refusal_of_flows (FlowsFault.Broken rule line) = Refusal.MalformedFlows rule line
+refusal_of_flows FlowsFault.Memory = Refusal.NoMemory
+
+abbrev pub refusal_of_routes : RoutesFault → Refusal
+refusal_of_routes (RoutesFault.Broken rule line) = Refusal.MalformedRoutes rule line
+refusal_of_routes RoutesFault.Memory = Refusal.NoMemory
+
+abbrev pub refusal_of_report : ReportFault → Refusal
+refusal_of_report (ReportFault.Broken rule line) = Refusal.MalformedReport rule line
+refusal_of_report ReportFault.Memory = Refusal.NoMemory
+
+abbrev pub refusal_of_halt : Halt ℚ → Refusal
+refusal_of_halt (Halt.Passed at) = Refusal.Passes at
+refusal_of_halt Halt.Memory = Refusal.NoMemory

@@ -1,0 +1,24 @@
+use Rattle.std.proofs.Common.{refl, sym}
+use Rattle.nf_app_words.specs.Requests.{gen_request}
+use Rattle.nf_app_words.proofs.Asked.{same_5}
+use Rattle.nf_app_words.proofs.request.generate.Goals as goal
+
+pub returns-in_err-number_of : goal.returns-in_err-number_of
+returns-in_err-number_of c = rw (c.from_residual.ensures, sym c.in_err-number_of.ensures) refl
+
+pub returns-in_err-rungs_of : goal.returns-in_err-rungs_of
+returns-in_err-rungs_of c = rw (c.from_residual-in_err-rungs_of.ensures, sym c.in_ok-number_of.ensures, sym c.in_err-rungs_of.ensures) refl
+
+pub returns-in_err-horizon_of : goal.returns-in_err-horizon_of
+returns-in_err-horizon_of c = rw (c.from_residual-in_err-horizon_of.ensures, sym c.in_ok-number_of.ensures, sym c.in_ok-rungs_of.ensures, sym c.in_err-horizon_of.ensures) refl
+
+pub returns-in_err-phases_of : goal.returns-in_err-phases_of
+returns-in_err-phases_of c =
+    rw (c.from_residual-in_err-phases_of.ensures, sym c.in_ok-number_of.ensures, sym c.in_ok-rungs_of.ensures, sym c.in_ok-horizon_of.ensures, sym c.in_err-phases_of.ensures) refl
+
+pub returns-in_err-patterns_of : goal.returns-in_err-patterns_of
+returns-in_err-patterns_of c =
+    rw (c.from_residual-in_err-patterns_of.ensures, sym c.in_ok-number_of.ensures, sym c.in_ok-rungs_of.ensures, sym c.in_ok-horizon_of.ensures, sym c.in_ok-phases_of.ensures, sym c.in_err-patterns_of.ensures) refl
+
+pub returns : goal.returns
+returns c = same_5 gen_request _ _ _ _ _ _ _ _ _ _ (sym c.in_ok-number_of.ensures) (sym c.in_ok-rungs_of.ensures) (sym c.in_ok-horizon_of.ensures) (sym c.in_ok-phases_of.ensures) (sym c.in_ok-patterns_of.ensures)

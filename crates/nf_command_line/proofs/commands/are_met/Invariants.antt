@@ -1,7 +1,0 @@
-use Rattle.std.proofs.Common.{◌≡◌, drop}
-use Rattle.nf_command_line.specs.MatchViews.{rows_in}
-use Rattle.nf_command_line.proofs.Table.{all_met}
-use Rattle.nf_command_line.proofs.commands.are_met.Given as goal
-
-abbrev pub invariant-loop-name : goal.invariant-loop-name
-invariant-loop-name l = all_met (rows_in l.matches) l.wanted (drop l.name-index l.names) ≡ all_met (rows_in l.matches) l.wanted l.names

@@ -1,7 +1,0 @@
-use Rattle.std.proofs.Common.{◌≡◌, drop}
-use Rattle.nf_command_line.specs.MatchViews.{rows_in}
-use Rattle.nf_command_line.proofs.Table.{task_of}
-use Rattle.nf_command_line.proofs.commands.first_task.Given as goal
-
-abbrev pub invariant-loop-line : goal.invariant-loop-line
-invariant-loop-line l = task_of (rows_in l.matches) (drop l.line-index l.table) ≡ task_of (rows_in l.matches) l.table

@@ -1,6 +1,0 @@
-use Rattle.nf_command_line.specs.Requests.{patterns_in}
-use Rattle.nf_command_line.proofs.numbers.patterns_of.Goals as goal
-
-pub returns : goal.returns
-unfolding patterns_in
-returns c = c.usual_or_count_of.ensures

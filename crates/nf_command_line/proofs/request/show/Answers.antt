@@ -1,8 +1,0 @@
-use Rattle.std.proofs.Common.{refl, sym}
-use Rattle.nf_command_line.proofs.request.show.Goals as goal
-
-pub returns-in_err-file_of : goal.returns-in_err-file_of
-returns-in_err-file_of c = rw (c.from_residual.ensures, sym c.in_err-file_of.ensures) refl
-
-pub returns : goal.returns
-returns c = rw (sym c.in_ok-file_of.ensures) refl

@@ -1,0 +1,258 @@
+-- Systems describe oversupplies. So there is an oversupply with the least sum of slopes, and among those, one with the least flow out of
+-- the source.
+use Rattle.std.proofs.Common.{◌≡◌, ◌≢◌, ℕ, zero, suc, ◌<◌, ◌⊎◌, Option, Some, None, sym, ap, subst, refl, ◌∙◌, arith}
+use Rattle.std.proofs.lemmas.Option.{none-some, same_Some}
+use Rattle.nf_rational.specs.Rational.{ℚ}
+use Rattle.nf_rational.specs.Operations.{0ℚ, 1ℚ, ◌+ℚ◌, ◌-ℚ◌, ◌*ℚ◌}
+use Rattle.nf_rational.specs.Order.{◌≤ℚ◌}
+use Rattle.nf_rational_laws.proofs.Order.{nn_plus}
+use Rattle.nf_rational_laws.proofs.Chains.{≤ℚ_refl}
+use Rattle.nf_model.specs.Entries.{Has}
+use Rattle.nf_model.specs.Network.{Link, Network, IsNetwork, sum_in, sum_out}
+use Rattle.nf_model.specs.ThinFlow.{Sets, Enters}
+use Rattle.nf_model.specs.Pattern.{NeedsState, Fills}
+use Rattle.nf_model_laws.proofs.Potential.{sum_to}
+use Rattle.nf_linear_laws.specs.Systems.{form_value}
+use Rattle.nf_linear_laws.proofs.Choices.{MeetsOne, LeastOfTwo, least_of_two}
+use Rattle.nf_complete_laws.specs.Oversupply.{Fits, demand, IsOversupply}
+use Rattle.nf_complete_laws.proofs.Deciding.{both}
+use Rattle.nf_complete_laws.proofs.Bare.{flagged, same_node}
+use Rattle.nf_complete_laws.proofs.ExistsDeciding.{not_so, SomeLink}
+use Rattle.nf_complete_laws.proofs.LinkSums.{sum_out-not_negative}
+use Rattle.nf_complete_laws.proofs.Spare.{not_negative}
+use Rattle.nf_complete_laws.proofs.Affine.{Affine, Affine-value, Affine-form, Affine-floor, Affine-constant, Affine-variable, Affine-plus, Affine-times, Affine-sum_to, Affine-sum_in, Affine-sum_out}
+use Rattle.nf_complete_laws.proofs.Described.{Described, Described-as, Described-always, Described-never, Described-both, Described-either, Described-when, Described-decided, Described-le, Described-same, Described-to, Described-links, Described-some, EachLink}
+
+-- ---- slopes and flows in one assignment: slopes at even numbers, and flows at odd numbers
+abbrev pub even : ℕ → ℕ
+even zero = zero
+even (suc v) = suc (suc (even v))
+
+abbrev pub slopes_of : (ℕ → ℚ) → ℕ → ℚ
+slopes_of x v = x (even v)
+
+abbrev pub flows_of : (ℕ → ℚ) → ℕ → ℚ
+flows_of x e = x (suc (even e))
+
+abbrev pub joined : (ℕ → ℚ) → (ℕ → ℚ) → ℕ → ℚ
+joined flows slopes zero = slopes 0
+joined flows slopes (suc zero) = flows 0
+joined flows slopes (suc (suc i)) = joined (λ e. flows (suc e)) (λ v. slopes (suc v)) i
+
+joined-even : (v : ℕ) (flows slopes : ℕ → ℚ) → joined flows slopes (even v) ≡ slopes v
+joined-even zero flows slopes = refl
+joined-even (suc v) flows slopes = joined-even v (λ e. flows (suc e)) (λ v. slopes (suc v))
+
+joined-odd : (e : ℕ) (flows slopes : ℕ → ℚ) → joined flows slopes (suc (even e)) ≡ flows e
+joined-odd zero flows slopes = refl
+joined-odd (suc e) flows slopes = joined-odd e (λ e. flows (suc e)) (λ v. slopes (suc v))
+
+pub slopes_of-joined : (flows slopes : ℕ → ℚ) → slopes_of (joined flows slopes) ≡ slopes
+slopes_of-joined flows slopes = λ i v. joined-even v flows slopes i
+
+pub flows_of-joined : (flows slopes : ℕ → ℚ) → flows_of (joined flows slopes) ≡ flows
+flows_of-joined flows slopes = λ i e. joined-odd e flows slopes i
+
+-- ---- conditions of an oversupply
+slope : (v : ℕ) → Affine (λ x. slopes_of x v)
+slope v = Affine-variable (even v)
+
+flow : (e : ℕ) → Affine (λ x. flows_of x e)
+flow e = Affine-variable (suc (even e))
+
+abbrev FillsAt : ℕ → Option ℚ → ℕ → (ℕ → ℚ) → Type 0
+FillsAt e capacity head x = Fills capacity (flows_of x e) (slopes_of x head)
+
+abbrev FitsAt : ℕ → Option ℚ → ℕ → ℕ → (ℕ → ℚ) → Type 0
+FitsAt e capacity tail head x = Fits capacity (flows_of x e) (slopes_of x tail) (slopes_of x head)
+
+fills_described : (e : ℕ) (capacity : Option ℚ) (head : ℕ) → Described (FillsAt e capacity head)
+fills_described e None head = Described-never (FillsAt e None head) (λ x f. none-some f.0 f.1)
+fills_described e (Some c) head = Described-as (λ x. flows_of x e ≡ c *ℚ slopes_of x head) (FillsAt e (Some c) head)
+    (λ x h. (c, refl, h)) (λ x f. f.2 ∙ ap (λ (k : ℚ). k *ℚ slopes_of x head) (sym (same_Some c f.0 f.1)))
+    (Described-same (λ x. flows_of x e) (λ x. c *ℚ slopes_of x head) (flow e) (Affine-times c (λ x. slopes_of x head) (slope head)))
+
+abbrev MostAt : ℕ → Option ℚ → ℕ → (ℕ → ℚ) → Type 0
+MostAt e capacity head x = (c : ℚ) → capacity ≡ Some c → flows_of x e ≤ℚ c *ℚ slopes_of x head
+
+abbrev FilledAt : ℕ → Option ℚ → ℕ → (ℕ → ℚ) → Type 0
+FilledAt e capacity head x = (c : ℚ) × (capacity ≡ Some c) × (c *ℚ slopes_of x head ≤ℚ flows_of x e)
+
+most_described : (e : ℕ) (capacity : Option ℚ) (head : ℕ) → Described (MostAt e capacity head)
+most_described e None head = Described-always (MostAt e None head) (λ x c k. absurd (none-some c k))
+most_described e (Some a) head = Described-as (λ x. flows_of x e ≤ℚ a *ℚ slopes_of x head) (MostAt e (Some a) head)
+    (λ x h c k. subst (λ (b : ℚ). flows_of x e ≤ℚ b *ℚ slopes_of x head) (same_Some a c k) h) (λ x h. h a refl)
+    (Described-le (λ x. flows_of x e) (λ x. a *ℚ slopes_of x head) (flow e) (Affine-times a (λ x. slopes_of x head) (slope head)))
+
+filled_described : (e : ℕ) (capacity : Option ℚ) (head : ℕ) → Described (FilledAt e capacity head)
+filled_described e None head = Described-never (FilledAt e None head) (λ x f. none-some f.0 f.1)
+filled_described e (Some a) head = Described-as (λ x. a *ℚ slopes_of x head ≤ℚ flows_of x e) (FilledAt e (Some a) head)
+    (λ x h. (a, refl, h)) (λ x f. subst (λ (b : ℚ). b *ℚ slopes_of x head ≤ℚ flows_of x e) (sym (same_Some a f.0 f.1)) f.2)
+    (Described-le (λ x. a *ℚ slopes_of x head) (λ x. flows_of x e) (Affine-times a (λ x. slopes_of x head) (slope head)) (flow e))
+
+fits_described : (e : ℕ) (capacity : Option ℚ) (tail head : ℕ) → Described (FitsAt e capacity tail head)
+fits_described e capacity tail head = Described-as (λ x. (N x × M x) × (U x × V x)) (FitsAt e capacity tail head)
+    (λ x h. record { no_negative = h.0.0; most = h.0.1; used = h.1.0; upper = h.1.1 })
+    (λ x f. ((f.no_negative, f.most), (f.used, f.upper)))
+    (Described-both (λ x. N x × M x) (λ x. U x × V x)
+    (Described-both N M (Described-le (λ x. 0ℚ) (λ x. flows_of x e) (Affine-constant 0ℚ) (flow e)) (most_described e capacity head))
+    (Described-both U V
+    (Described-either (λ x. flows_of x e ≤ℚ 0ℚ) (λ x. slopes_of x tail ≤ℚ slopes_of x head)
+    (Described-le (λ x. flows_of x e) (λ x. 0ℚ) (flow e) (Affine-constant 0ℚ)) (Described-le (λ x. slopes_of x tail) (λ x. slopes_of x head) (slope tail) (slope head)))
+    (Described-either (λ x. slopes_of x head ≤ℚ slopes_of x tail) (FilledAt e capacity head)
+    (Described-le (λ x. slopes_of x head) (λ x. slopes_of x tail) (slope head) (slope tail)) (filled_described e capacity head))))
+  where
+    N : (ℕ → ℚ) → Type 0
+    N x = 0ℚ ≤ℚ flows_of x e
+
+    M : (ℕ → ℚ) → Type 0
+    M x = MostAt e capacity head x
+
+    U : (ℕ → ℚ) → Type 0
+    U x = (flows_of x e ≤ℚ 0ℚ) ⊎ (slopes_of x tail ≤ℚ slopes_of x head)
+
+    V : (ℕ → ℚ) → Type 0
+    V x = (slopes_of x head ≤ℚ slopes_of x tail) ⊎ FilledAt e capacity head x
+
+-- No oversupply has a smaller sum of slopes, and none with an equally small sum sends less out of the source.
+pub record IsLeast (net : Network) (sets : Sets) (rate : ℚ) (flows slopes : ℕ → ℚ) : Type 0 where
+  pub over : IsOversupply net sets rate flows slopes
+  pub slopes_least : (other_flows other_slopes : ℕ → ℚ) → IsOversupply net sets rate other_flows other_slopes → sum_to net.nodes slopes ≤ℚ sum_to net.nodes other_slopes
+  pub flows_least : (other_flows other_slopes : ℕ → ℚ) → IsOversupply net sets rate other_flows other_slopes → sum_to net.nodes other_slopes ≤ℚ sum_to net.nodes slopes
+      → sum_out net.links flows net.source ≤ℚ sum_out net.links other_flows net.source
+
+sum_to-not_negative : (n : ℕ) (f : ℕ → ℚ) → ((k : ℕ) → k < n → 0ℚ ≤ℚ f k) → 0ℚ ≤ℚ sum_to n f
+sum_to-not_negative zero f h = ≤ℚ_refl 0ℚ
+sum_to-not_negative (suc n) f h = nn_plus _ _ (sum_to-not_negative n f (λ k l. h k (omega arith))) (h n (omega arith))
+
+module _ (net : Network) (sets : Sets) (rate : ℚ) where
+  abbrev IsAssigned : (ℕ → ℚ) → Type 0
+  IsAssigned x = IsOversupply net sets rate (flows_of x) (slopes_of x)
+
+  -- ---- conditions on the source and the nodes
+  abbrev Starts : (ℕ → ℚ) → Type 0
+  Starts x = slopes_of x net.source ≡ 1ℚ
+
+  abbrev NotNegative : (ℕ → ℚ) → Type 0
+  NotNegative x = (v : ℕ) → v < net.nodes → 0ℚ ≤ℚ slopes_of x v
+
+  abbrev LedBy : ℕ → ℕ → Link → (ℕ → ℚ) → Type 0
+  LedBy v e link x = (Has sets.active e × (link.head ≡ v)) × (Has sets.resetting e ⊎ (slopes_of x link.tail ≤ℚ slopes_of x link.head))
+
+  abbrev LedAt : ℕ → (ℕ → ℚ) → Type 0
+  LedAt v x = (e : ℕ) × (link : Link) × Enters net sets v e link × (Has sets.resetting e ⊎ (slopes_of x link.tail ≤ℚ slopes_of x link.head))
+
+  abbrev Led : (ℕ → ℚ) → Type 0
+  Led x = (v : ℕ) → v < net.nodes → v ≢ net.source → LedAt v x
+
+  abbrev EnoughAt : ℕ → (ℕ → ℚ) → Type 0
+  EnoughAt v x = sum_out net.links (flows_of x) v +ℚ demand net rate v ≤ℚ sum_in net.links (flows_of x) v
+
+  abbrev Enough : (ℕ → ℚ) → Type 0
+  Enough x = (v : ℕ) → v < net.nodes → v ≢ net.source → EnoughAt v x
+
+  starts_described : Described Starts
+  starts_described = Described-same (λ x. slopes_of x net.source) (λ x. 1ℚ) (slope net.source) (Affine-constant 1ℚ)
+
+  not_negative_described : Described NotNegative
+  not_negative_described = Described-to net.nodes (λ v x. 0ℚ ≤ℚ slopes_of x v) (λ v _. Described-le (λ x. 0ℚ) (λ x. slopes_of x v) (Affine-constant 0ℚ) (slope v))
+
+  led_by_described : (v e : ℕ) (link : Link) → Described (LedBy v e link)
+  led_by_described v e link = Described-both (λ x. Has sets.active e × (link.head ≡ v)) (λ x. Has sets.resetting e ⊎ (slopes_of x link.tail ≤ℚ slopes_of x link.head))
+      (Described-decided (Has sets.active e × (link.head ≡ v)) (both (flagged sets.active e) (same_node link.head v)))
+      (Described-either (λ x. Has sets.resetting e) (λ x. slopes_of x link.tail ≤ℚ slopes_of x link.head) (Described-decided (Has sets.resetting e) (flagged sets.resetting e))
+      (Described-le (λ x. slopes_of x link.tail) (λ x. slopes_of x link.head) (slope link.tail) (slope link.head)))
+
+  led_at_described : (v : ℕ) → Described (LedAt v)
+  led_at_described v = Described-as (λ x. SomeLink net.links (λ e link. LedBy v e link x)) (LedAt v)
+      (λ x w. (w.0, w.1, record { is_link = w.2; active = w.3.0.0; head = w.3.0.1 }, w.3.1))
+      (λ x w. (w.0, w.1, w.2.is_link, ((w.2.active, w.2.head), w.3)))
+      (Described-some net.links (LedBy v) (led_by_described v))
+
+  led_described : Described Led
+  led_described = Described-to net.nodes (λ v x. v ≢ net.source → LedAt v x) (λ v _. Described-when (v ≢ net.source) (LedAt v) (not_so (same_node v net.source)) (λ _. led_at_described v))
+
+  enough_described : Described Enough
+  enough_described = Described-to net.nodes (λ v x. v ≢ net.source → EnoughAt v x) (λ v _. Described-when (v ≢ net.source) (EnoughAt v) (not_so (same_node v net.source))
+      (λ _. Described-le (λ x. sum_out net.links (flows_of x) v +ℚ demand net rate v) (λ x. sum_in net.links (flows_of x) v)
+      (Affine-plus (λ x. sum_out net.links (flows_of x) v) (λ x. demand net rate v) (Affine-sum_out net.links (λ e x. flows_of x e) v flow) (Affine-constant (demand net rate v)))
+      (Affine-sum_in net.links (λ e x. flows_of x e) v flow)))
+
+  -- ---- conditions on the links
+  abbrev InactiveAt : ℕ → Link → (ℕ → ℚ) → Type 0
+  InactiveAt e link x = (Has sets.active e → ⊥) → flows_of x e ≡ 0ℚ
+
+  abbrev ResettingAt : ℕ → Link → (ℕ → ℚ) → Type 0
+  ResettingAt e link x = Has sets.resetting e → FillsAt e link.capacity link.head x
+
+  abbrev OthersAt : ℕ → Link → (ℕ → ℚ) → Type 0
+  OthersAt e link x = NeedsState sets e → FitsAt e link.capacity link.tail link.head x
+
+  inactive_described : Described (EachLink net.links InactiveAt)
+  inactive_described = Described-links net.links InactiveAt (λ e link. Described-when (Has sets.active e → ⊥) (λ x. flows_of x e ≡ 0ℚ) (not_so (flagged sets.active e))
+      (λ _. Described-same (λ x. flows_of x e) (λ x. 0ℚ) (flow e) (Affine-constant 0ℚ)))
+
+  resetting_described : Described (EachLink net.links ResettingAt)
+  resetting_described = Described-links net.links ResettingAt (λ e link. Described-when (Has sets.resetting e) (FillsAt e link.capacity link.head) (flagged sets.resetting e)
+      (λ _. fills_described e link.capacity link.head))
+
+  others_described : Described (EachLink net.links OthersAt)
+  others_described = Described-links net.links OthersAt (λ e link. Described-when (NeedsState sets e) (FitsAt e link.capacity link.tail link.head)
+      (both (flagged sets.active e) (not_so (flagged sets.resetting e))) (λ _. fits_described e link.capacity link.tail link.head))
+
+  abbrev AtNodes : (ℕ → ℚ) → Type 0
+  AtNodes x = (Starts x × NotNegative x) × (Led x × Enough x)
+
+  abbrev AtLinks : (ℕ → ℚ) → Type 0
+  AtLinks x = EachLink net.links InactiveAt x × (EachLink net.links ResettingAt x × EachLink net.links OthersAt x)
+
+  pub oversupply_described : Described IsAssigned
+  oversupply_described = Described-as (λ x. AtNodes x × AtLinks x) IsAssigned
+      (λ x h. record { starts = h.0.0.0; no_negative_slope = h.0.0.1; inactive = h.1.0; resetting = h.1.1.0; others = h.1.1.1; led = h.0.1.0; enough = h.0.1.1 })
+      (λ x o. (((o.starts, o.no_negative_slope), (o.led, o.enough)), (o.inactive, (o.resetting, o.others))))
+      (Described-both AtNodes AtLinks
+      (Described-both (λ x. Starts x × NotNegative x) (λ x. Led x × Enough x) (Described-both Starts NotNegative starts_described not_negative_described) (Described-both Led Enough led_described enough_described))
+      (Described-both (EachLink net.links InactiveAt) (λ x. EachLink net.links ResettingAt x × EachLink net.links OthersAt x) inactive_described
+      (Described-both (EachLink net.links ResettingAt) (EachLink net.links OthersAt) resetting_described others_described)))
+
+  -- ---- the least one
+  slope_sum : Affine (λ x. sum_to net.nodes (slopes_of x))
+  slope_sum = Affine-sum_to net.nodes (λ v x. slopes_of x v) slope
+
+  sent_out : Affine (λ x. sum_out net.links (flows_of x) net.source)
+  sent_out = Affine-sum_out net.links (λ e x. flows_of x e) net.source flow
+
+  assigned : (flows slopes : ℕ → ℚ) → IsOversupply net sets rate flows slopes → IsAssigned (joined flows slopes)
+  assigned flows slopes o = subst (λ (f : ℕ → ℚ). IsOversupply net sets rate f (slopes_of (joined flows slopes))) (sym (flows_of-joined flows slopes))
+      (subst (λ (s : ℕ → ℚ). IsOversupply net sets rate flows s) (sym (slopes_of-joined flows slopes)) o)
+
+  module _ (good : IsNetwork net) where
+    slope_floor : (x : ℕ → ℚ) → MeetsOne oversupply_described.systems x → 0ℚ -ℚ slope_sum.rest ≤ℚ form_value slope_sum.form x
+    slope_floor x h = Affine-floor (λ x. sum_to net.nodes (slopes_of x)) slope_sum x 0ℚ
+        (sum_to-not_negative net.nodes (slopes_of x) (oversupply_described.out x h).no_negative_slope)
+
+    sent_floor : (x : ℕ → ℚ) → MeetsOne oversupply_described.systems x → 0ℚ -ℚ sent_out.rest ≤ℚ form_value sent_out.form x
+    sent_floor x h = Affine-floor (λ x. sum_out net.links (flows_of x) net.source) sent_out x 0ℚ
+        (sum_out-not_negative net.links (flows_of x) net.source (not_negative net sets rate (flows_of x) (slopes_of x) good (oversupply_described.out x h)))
+
+    least_at : (flows slopes : ℕ → ℚ) → IsOversupply net sets rate flows slopes → LeastOfTwo oversupply_described.systems slope_sum.form sent_out.form
+    least_at flows slopes o = least_of_two oversupply_described.systems slope_sum.form sent_out.form (joined flows slopes) (0ℚ -ℚ slope_sum.rest) (0ℚ -ℚ sent_out.rest)
+        (oversupply_described.into (joined flows slopes) (assigned flows slopes o)) slope_floor sent_floor
+
+    is_least : LeastOfTwo oversupply_described.systems slope_sum.form sent_out.form → (flows : ℕ → ℚ) × (slopes : ℕ → ℚ) × IsLeast net sets rate flows slopes
+    is_least b = (
+      flows_of b.0,
+      slopes_of b.0,
+      record {
+        over = oversupply_described.out b.0 b.1;
+        slopes_least = λ f s o. subst (λ (t : ℕ → ℚ). sum_to net.nodes (slopes_of b.0) ≤ℚ sum_to net.nodes t) (slopes_of-joined f s)
+            (Affine-value (λ x. sum_to net.nodes (slopes_of x)) slope_sum b.0 (joined f s) (b.2 (joined f s) (oversupply_described.into (joined f s) (assigned f s o))));
+        flows_least = λ f s o h. subst (λ (g : ℕ → ℚ). sum_out net.links (flows_of b.0) net.source ≤ℚ sum_out net.links g net.source) (flows_of-joined f s)
+            (Affine-value (λ x. sum_out net.links (flows_of x) net.source) sent_out b.0 (joined f s) (b.3 (joined f s) (oversupply_described.into (joined f s) (assigned f s o))
+            (Affine-form (λ x. sum_to net.nodes (slopes_of x)) slope_sum (joined f s) b.0
+            (subst (λ (t : ℕ → ℚ). sum_to net.nodes t ≤ℚ sum_to net.nodes (slopes_of b.0)) (sym (slopes_of-joined f s)) h))));
+      },
+    )
+
+    pub least_oversupply : (flows slopes : ℕ → ℚ) → IsOversupply net sets rate flows slopes → (flows : ℕ → ℚ) × (slopes : ℕ → ℚ) × IsLeast net sets rate flows slopes
+    least_oversupply flows slopes o = is_least (least_at flows slopes o)

@@ -1,5 +1,0 @@
-use Rattle.nf_formats_laws.proofs.AcceptedNamed.{accepted_named}
-use Rattle.nf_formats_laws.proofs.accepted_is_named.Goals as goal
-
-pub returns : goal.returns
-returns c = accepted_named

@@ -1,5 +1,0 @@
-use Rattle.nf_formats_laws.proofs.CanonicalBack.{canonical_back}
-use Rattle.nf_formats_laws.proofs.canonical_reads_back.Goals as goal
-
-pub returns : goal.returns
-returns c = canonical_back

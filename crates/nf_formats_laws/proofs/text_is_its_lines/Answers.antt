@@ -1,7 +1,0 @@
-use Rattle.std.specs.List.{slice_split}
-use Rattle.std.specs.Prelude.{◌==◌}
-use Rattle.nf_formats_laws.proofs.Wholes.{text_whole, parts_numbered}
-use Rattle.nf_formats_laws.proofs.text_is_its_lines.Goals as goal
-
-pub returns : goal.returns
-returns c = record { whole = text_whole; numbered = λ text. parts_numbered 1 (slice_split (λ b. b == 10) text) }

@@ -1,0 +1,8 @@
+-- One computation and then another.
+use Rattle.std.specs.Prelude.{◌≡◌, Result, Ok, Err, refl}
+use Rattle.nf_frac_def.specs.Checked.{◌>>=◌}
+
+-- both have a value where the whole has one
+pub bind_ok : {A B E : Type 0} (r : Result A E) (f : A → Result B E) (y : B) → (r >>= f) ≡ Ok y → (x : A) × (r ≡ Ok x) × (f x ≡ Ok y)
+bind_ok (Ok x) f y h = (x, refl, h)
+bind_ok (Err e) f y h = absurd (cc)

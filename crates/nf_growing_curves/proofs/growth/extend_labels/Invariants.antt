@@ -1,7 +1,0 @@
-use Rattle.nf_lists.specs.ReportCurves.{label_curves_after}
-use Rattle.nf_growing_curves.specs.Growing.{all_grown}
-use Rattle.nf_growing_curves.proofs.Places.{GrownBelow}
-use Rattle.nf_growing_curves.proofs.growth.extend_labels.Given as goal
-
-abbrev pub invariant-loop-v : goal.invariant-loop-v
-invariant-loop-v l = GrownBelow (label_curves_after l.time l.labels l.slopes (all_grown l.fn.curves)) l.fn.curves l.curves l.v

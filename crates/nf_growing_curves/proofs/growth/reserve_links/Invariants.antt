@@ -1,5 +1,0 @@
-use Rattle.nf_growing_curves.proofs.Places.{RoomBelow}
-use Rattle.nf_growing_curves.proofs.growth.reserve_links.Given as goal
-
-abbrev pub invariant-loop-i : goal.invariant-loop-i
-invariant-loop-i l = RoomBelow l.fn.curves l.curves l.i

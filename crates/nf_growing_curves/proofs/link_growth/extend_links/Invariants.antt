@@ -1,7 +1,0 @@
-use Rattle.nf_lists.specs.ReportCurves.{link_curves_after}
-use Rattle.nf_growing_curves.specs.Growing.{all_grown}
-use Rattle.nf_growing_curves.proofs.Places.{GrownBelow}
-use Rattle.nf_growing_curves.proofs.link_growth.extend_links.Given as goal
-
-abbrev pub invariant-loop-e : goal.invariant-loop-e
-invariant-loop-e l = GrownBelow (link_curves_after l.labels l.net.net.links (all_grown l.fn.curves) l.steps) l.fn.curves l.curves l.e

@@ -1,7 +1,0 @@
-use Rattle.std.proofs.Common.{◌≡◌, map, take}
-use Rattle.nf_lists.specs.ReportCurves.{first_curves}
-use Rattle.nf_growing_curves.specs.Growing.{all_grown}
-use Rattle.nf_growing_curves.proofs.link_growth.first_links.Given as goal
-
-abbrev pub invariant-loop-e : goal.invariant-loop-e
-invariant-loop-e l = all_grown l.curves.items ≡ take l.e (map (first_curves l.labels) l.net.net.links)

@@ -1,6 +1,0 @@
-use Rattle.nf_equation_laws.specs.Equations.{IsPatternIn}
-use Rattle.nf_guess.proofs.guessing.repaired.Given as goal
-
--- The pattern is still a pattern.
-abbrev pub invariant-loop : goal.invariant-loop
-invariant-loop l = IsPatternIn l.net.net l.sets l.pattern

@@ -1,6 +1,0 @@
-use Rattle.std.proofs.Common.{◌≡◌, length}
-use Rattle.nf_guess.proofs.part_slopes.slope_table.Given as goal
-
--- the table keeps its size
-abbrev pub invariant-loop-row : goal.invariant-loop-row
-invariant-loop-row l = length l.table ≡ l.size

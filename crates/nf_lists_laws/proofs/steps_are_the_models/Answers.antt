@@ -1,5 +1,0 @@
-use Rattle.nf_lists_laws.proofs.Exact.{slacks_exact, advanced_exact}
-use Rattle.nf_lists_laws.proofs.steps_are_the_models.Goals as goal
-
-pub returns : goal.returns
-returns c = record { slacks = slacks_exact; advanced = advanced_exact }

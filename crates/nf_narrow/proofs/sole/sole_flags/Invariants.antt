@@ -1,7 +1,0 @@
-use Rattle.std.proofs.Common.{◌≡◌, length}
-use Rattle.nf_listing_laws.specs.Ways.{AreSole}
-use Rattle.nf_narrow.proofs.sole.sole_flags.Given as goal
-
--- the flags so far
-abbrev pub invariant-loop-e : goal.invariant-loop-e
-invariant-loop-e l = record { count : length l.flags.items ≡ l.e; sole : AreSole l.source l.hops l.sets l.flags.items }

@@ -1,5 +1,0 @@
-use Rattle.nf_numerals.proofs.ReadBack.{number_read, number_read_as_decimal}
-use Rattle.nf_numerals.proofs.printed_reads_back.Goals as goal
-
-pub returns : goal.returns
-returns c = record { fraction = number_read; decimal = number_read_as_decimal }

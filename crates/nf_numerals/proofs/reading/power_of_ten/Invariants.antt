@@ -1,5 +1,0 @@
-use Rattle.std.proofs.Common.{◌≡◌, ◌^◌}
-use Rattle.nf_numerals.proofs.reading.power_of_ten.Given as goal
-
-abbrev pub invariant-loop : goal.invariant-loop
-invariant-loop l = l.power ≡ 10 ^ l.counter

@@ -1,6 +1,0 @@
-use Rattle.std.proofs.Common.{rules}
-use Rattle.nf_one_pattern.proofs.Held.{capacity_held}
-use Rattle.nf_one_pattern.proofs.small_numbers.has_small_capacity.Goals as goal
-
-pub returns : goal.returns
-returns c = λ yes. capacity_held c.args.link c.unwrap_or.result (search rules) (c.is_small.ensures yes)

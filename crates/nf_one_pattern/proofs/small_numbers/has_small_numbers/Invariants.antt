@@ -1,6 +1,0 @@
-use Rattle.nf_one_pattern.proofs.Held.{HoldToLink}
-use Rattle.nf_one_pattern.proofs.small_numbers.has_small_numbers.Given as goal
-
--- the capacities of the links so far are held
-abbrev pub invariant-loop-e : goal.invariant-loop-e
-invariant-loop-e l = HoldToLink l.net.net l.e

@@ -1,8 +1,0 @@
-use Rattle.std.proofs.Common.{Some, sym, ap, ◌∙◌, map-id}
-use Rattle.nf_rational.specs.Rational.{ℚ}
-use Rattle.nf_linear.specs.declared.solution.Solved.{Solved}
-use Rattle.nf_linear.specs.Solved.{values_of}
-use Rattle.nf_one_pattern.proofs.trying.only_values.Goals as goal
-
-pub returns-in-One : goal.returns-in-One
-returns-in-One c = sym (ap (λ (s : Solved ℚ). values_of (λ (q : ℚ). q) s) c.in-One.is ∙ ap Some (map-id c.in-One.values.items))

@@ -1,0 +1,9 @@
+use Rattle.std.proofs.Common.{◌∙◌, arith}
+use Rattle.std.proofs.lemmas.List.{take_all}
+use Rattle.std.proofs.lemmas.Result.{IfOk-weaker}
+use Rattle.nf_phase_curves.proofs.copies.copy_of.Goals as goal
+
+pub returns : goal.returns
+returns c =
+    let all = take_all c.len.result c.args.curve.now.points (omega (arith, c.len.ensures.count)) in
+    IfOk-weaker c.first_points.result _ _ (λ copy is. is ∙ all) c.first_points.ensures

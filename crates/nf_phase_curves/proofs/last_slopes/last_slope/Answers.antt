@@ -1,0 +1,28 @@
+use Rattle.std.proofs.Common.{◌-◌, sym, ap, ◌∙◌, arith}
+use Rattle.std.specs.Prelude.{Ok, Some}
+use Rattle.std.proofs.lemmas.Result.{err_from_is_err_and}
+use Rattle.nf_frac_def.specs.declared.Part.TheVariants.{Curve}
+use Rattle.nf_frac_def.specs.Passing.{passes_Q}
+use Rattle.nf_frac_def.specs.Checked.{at_part}
+use Rattle.nf_curve_def.specs.Lines.{checked_slope}
+use Rattle.nf_curve.proofs.Exits.{after_err, after_ok}
+use Rattle.nf_phase_curves.proofs.LastSlopes.{rises_there, few_points, last_slope_there}
+use Rattle.nf_phase_curves.proofs.last_slopes.last_slope.Goals as goal
+
+pub slope-requires : goal.slope-requires
+slope-requires c =
+    rises_there c.args.curve.now.points (c.len-count.result - 2) (c.len-count.result - 1) c.point.result c.point-2.result c.len-count.ensures.curve c.point.ensures c.point-2.ensures (omega arith)
+
+pub returns-then-count-lt2-clause-list : goal.returns-then-count-lt2-clause-list
+returns-then-count-lt2-clause-list c = ap (at_part Curve) (sym (few_points passes_Q c.args.curve.now.points (omega arith)))
+
+pub returns-in_err-slope-clause-list : goal.returns-in_err-slope-clause-list
+returns-in_err-slope-clause-list c =
+    let p = err_from_is_err_and c.from_residual.result c.from_residual.ensures.1 in
+    rw (p.1, p.2) (sym (ap (at_part Curve) (last_slope_there passes_Q c.args.curve.now.points (c.len-count.result - 2) (c.len-count.result - 1) c.point.result c.point-2.result c.point.ensures c.point-2.ensures (omega arith) (omega arith))
+    ∙ after_err Curve (checked_slope passes_Q c.point.result c.point-2.result) (λ k. Ok (Some k)) c.in_err-slope.field-0.0 (sym c.in_err-slope.ensures)))
+
+pub returns-clause-list : goal.returns-clause-list
+returns-clause-list c =
+    sym (ap (at_part Curve) (last_slope_there passes_Q c.args.curve.now.points (c.len-count.result - 2) (c.len-count.result - 1) c.point.result c.point-2.result c.point.ensures c.point-2.ensures (omega arith) (omega arith))
+    ∙ after_ok Curve (checked_slope passes_Q c.point.result c.point-2.result) (λ k. Ok (Some k)) c.in_ok-slope.slope (sym c.in_ok-slope.ensures))

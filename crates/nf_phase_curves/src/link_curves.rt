@@ -1,0 +1,159 @@
+// The three growing curves of a link.
+ghost use Rattle.std.specs.Prelude.{◌≡◌, ◌≤◌, IfOk, OnOk, IsSome};
+ghost use Rattle.nf_rational.specs.Order.{◌<ℚ◌};
+ghost use Rattle.nf_frac_def.specs.declared.Part.TheVariants.{Curve as CurvePart};
+ghost use Rattle.nf_frac_def.specs.Passing.{passes_Q};
+ghost use Rattle.nf_frac_def.specs.Checked.{at_part, Gives};
+ghost use Rattle.nf_model.specs.Curve.{AreSlopes};
+ghost use Rattle.nf_curve.specs.Flows.{trace_of};
+ghost use Rattle.nf_rational.specs.Signs.{is_positive};
+ghost use Rattle.nf_thin_def.specs.Ends.{end_of};
+ghost use Rattle.nf_thin_def.specs.ReportCurves.{trace_after, queue_after, first_trace, first_queue, amount_so_far};
+ghost use Rattle.nf_phase_curves.specs.Growing.{HasRoom, step_of};
+ghost use Rattle.nf_phase_curves.specs.Restoring.{of_link};
+
+use crate::growing::GrowingCurve;
+use crate::traces::GrowingTrace;
+use nf_curve::{Curve, Trace};
+use nf_frac::{Halt, Q};
+use std::alloc::{AllocError, Global};
+use std::marker::Model;
+
+/// The inflow and the queue of a link, by the time at its tail, and its outflow, by the time at its head.
+#[derive(Drop)]
+pub struct LinkCurves {
+    inflow: GrowingTrace,
+    outflow: GrowingTrace,
+    queue: GrowingCurve,
+}
+
+impl Model for LinkCurves {
+    ghost use Rattle.std.specs.Prelude.{min};
+    ghost use Rattle.nf_thin_def.specs.ReportCurves.{LinkCurves as SeenCurves};
+    ghost use Rattle.nf_phase_curves.specs.Growing.{Roomy, coded_roomy, coded_curves};
+
+    ghost Value = { Roomy SeenCurves };
+
+    ghost coded = { coded_roomy coded_curves };
+
+    ghost view = { λ a. record {
+      grown = record { inflow = a.inflow.grown; outflow = a.outflow.grown; queue = a.queue.grown };
+      spare = min a.inflow.spare (min a.outflow.spare a.queue.spare);
+    } };
+}
+
+impl LinkCurves {
+    /// Returns the curves before the first phase, with these labels of departure 0 at the ends of the link. Refuses only if memory can't be
+    /// allocated.
+    pub(crate) fn first(
+        alloc: Global,
+        tail_label: Q,
+        head_label: Q,
+    ) -> Result<LinkCurves, AllocError>
+        ensures { IfOk result (λ c. c.grown ≡ record {
+          inflow = first_trace (is_positive tail_label) tail_label;
+          outflow = first_trace (is_positive head_label) head_label;
+          queue = first_queue (is_positive tail_label) tail_label;
+        }) }
+    {
+        let inflow = GrowingTrace::first(alloc, tail_label)?;
+        let outflow = GrowingTrace::first(alloc, head_label)?;
+        let queue = GrowingCurve::first_queue(alloc, tail_label)?;
+        Ok(LinkCurves {
+            inflow,
+            outflow,
+            queue,
+        })
+    }
+
+    /// Returns the growing curves of a link with the points of these curves. Refuses with Passed, of the part Curve, at the first operation
+    /// of the list of the queue that exceeds its bound. Refuses with Memory only if memory can't be allocated.
+    pub(crate) fn of(
+        alloc: Global,
+        inflow: &Trace,
+        outflow: &Trace,
+        queue: &Curve,
+    ) -> Result<LinkCurves, Halt<Q>>
+        requires inflow { AreSlopes (trace_of inflow.now).points (trace_of inflow.now).rates }
+        requires outflow { AreSlopes (trace_of outflow.now).points (trace_of outflow.now).rates }
+        ensures { Gives (λ c. c.grown) (λ q. q) result
+            (at_part CurvePart (of_link passes_Q (trace_of inflow.now) (trace_of outflow.now) queue.now.points)) }
+    {
+        let inflow = GrowingTrace::of(alloc, inflow)?;
+        let outflow = GrowingTrace::of(alloc, outflow)?;
+        let queue = GrowingCurve::of(alloc, queue)?;
+        Ok(LinkCurves {
+            inflow,
+            outflow,
+            queue,
+        })
+    }
+
+    /// Reserves memory for one more corner of each curve. The curves are unchanged, also if memory can't be allocated.
+    pub(crate) fn reserve(&mut self) -> Result<(), AllocError>
+        ensures same { self.new.grown ≡ self.old.grown }
+        ensures room { OnOk result (HasRoom self.new) }
+        ensures kept { self.old.spare ≤ self.new.spare }
+    {
+        self.inflow.reserve()?;
+        self.outflow.reserve()?;
+        self.queue.reserve()
+    }
+
+    /// Returns the amount that has entered the link so far.
+    pub(crate) fn amount(&self) -> Q
+        ensures { result ≡ amount_so_far self.now.grown }
+    {
+        self.inflow.amount()
+    }
+
+    /// Extends the curves until the labels of the link's ends. No rate and no step mean that the label is constant and the curve unchanged.
+    pub(crate) fn extend(
+        &mut self,
+        tail_label: Q,
+        head_label: Q,
+        amount: Q,
+        inflow_rate: Option<Q>,
+        outflow_rate: Option<Q>,
+        queue: Option<(Q, Q)>,
+    )
+        requires room { HasRoom self.old }
+        requires inflow { IsSome inflow_rate → end_of self.old.grown.inflow.points <ℚ tail_label }
+        requires outflow { IsSome outflow_rate → end_of self.old.grown.outflow.points <ℚ head_label }
+        requires queue { IsSome queue → end_of self.old.grown.queue.points <ℚ tail_label }
+        ensures inflow { self.new.grown.inflow ≡ trace_after self.old.grown.inflow tail_label amount inflow_rate }
+        ensures outflow { self.new.grown.outflow ≡ trace_after self.old.grown.outflow head_label amount outflow_rate }
+        ensures queue { self.new.grown.queue ≡ queue_after self.old.grown.queue tail_label (step_of queue) }
+    {
+        self.inflow.extend_or_hold(tail_label, amount, inflow_rate);
+        self.outflow.extend_or_hold(head_label, amount, outflow_rate);
+        self.queue.extend_or_hold(tail_label, queue);
+    }
+
+    /// Returns the curves so far: inflow, outflow and queue. Refuses only if memory can't be allocated.
+    pub(crate) fn finish(self) -> Result<(Trace, Trace, Curve), AllocError>
+        ensures inflow { IfOk result (λ c. trace_of c.0 ≡ self.grown.inflow) }
+        ensures outflow { IfOk result (λ c. trace_of c.1 ≡ self.grown.outflow) }
+        ensures queue { IfOk result (λ c. c.2.points ≡ self.grown.queue.points) }
+    {
+        let LinkCurves {
+            inflow,
+            outflow,
+            queue,
+        } = self;
+        Ok((inflow.finish()?, outflow.finish()?, queue.finish()?))
+    }
+
+    /// Returns copies of the curves so far: inflow, outflow and queue. Refuses only if memory can't be allocated.
+    pub(crate) fn copy(&self, alloc: Global) -> Result<(Trace, Trace, Curve), AllocError>
+        ensures inflow { IfOk result (λ c. trace_of c.0 ≡ self.now.grown.inflow) }
+        ensures outflow { IfOk result (λ c. trace_of c.1 ≡ self.now.grown.outflow) }
+        ensures queue { IfOk result (λ c. c.2.points ≡ self.now.grown.queue.points) }
+    {
+        Ok((
+            self.inflow.copy(alloc)?,
+            self.outflow.copy(alloc)?,
+            self.queue.copy(alloc)?,
+        ))
+    }
+}

@@ -1,0 +1,55 @@
+-- Facts on labels and curves in every run state.
+use Rattle.std.proofs.Common.{◌≡◌, ℕ, ◌<◌, List, length, sym, ap, subst, ◌∙◌, arith}
+use Rattle.std.specs.Prelude.{Option, None}
+use Rattle.std.specs.Option.{option_map_or}
+use Rattle.std.proofs.lemmas.Option.{slice_get_within}
+use Rattle.nf_rational.specs.Rational.{ℚ}
+use Rattle.nf_rational.specs.Operations.{0ℚ}
+use Rattle.nf_rational.specs.Order.{◌≤ℚ◌}
+use Rattle.nf_model.specs.Entries.{number_at}
+use Rattle.nf_model.specs.Curve.{Point, Within}
+use Rattle.nf_model.specs.Network.{Link, Network, IsNetwork, IsLink, hop_of}
+use Rattle.nf_model.specs.ThinFlow.{slack}
+use Rattle.nf_thin_def.specs.PhaseRun.{Standing, flow_of}
+use Rattle.nf_thin_def.specs.Ends.{end_of, EndsAtLabels}
+use Rattle.nf_phase_laws.specs.CurveSteps.{LastPoint, at}
+use Rattle.nf_phase_laws.specs.CurveRun.{Curves, curves_of}
+use Rattle.nf_phase_laws.proofs.CurveRun.{Grown}
+use Rattle.nf_phase_laws.proofs.Thin.{slack-is}
+use Rattle.nf_phase_laws.proofs.WellRun.{label_points, inflow_points, outflow_points, queue_points, WellRun}
+use Rattle.nf_rational_laws.proofs.Entries.{last-append}
+use Rattle.nf_rational_laws.proofs.Chains.{≤ℚ_refl}
+
+pub end-last : (points : List Point) (last : Point) → LastPoint points last → end_of points ≡ last.0
+end-last points last l = ap end_of l.same ∙ ap (λ (o : Option Point). option_map_or (λ (p : Point). p.0) o 0ℚ) (last-append None l.front last)
+
+module _ (net : Network) (good : IsNetwork net) (s : Standing) (well : WellRun net s) where
+  abbrev curves : Curves
+  curves = curves_of (flow_of s)
+
+  pub grown_at : Grown net s.time s.labels curves
+  grown_at = well.grow
+
+  now : Within 0ℚ s.time s.time
+  now = (grown_at.stands.holds.begun, ≤ℚ_refl s.time)
+
+  pub label_count_at : length s.labels ≡ net.nodes
+  label_count_at = grown_at.stands.count
+
+  -- the label of the source is the departure
+  pub source_label_at : number_at s.labels net.source ≡ s.time
+  source_label_at = sym (grown_at.stands.same net.source good.source) ∙ grown_at.stands.holds.source s.time now
+
+  -- no slack of an unbounded link is above 0
+  pub unbounded_slack_at : (e : ℕ) (link : Link) → IsLink net e link → link.capacity ≡ None → slack s.labels (hop_of link) ≤ℚ 0ℚ
+  unbounded_slack_at e link p none = subst (λ (x : ℚ). x ≤ℚ 0ℚ)
+      (sym (slack-is net (at curves.inflows) (at curves.labels) s.time s.labels good grown_at.stands.holds grown_at.stands.same e link p)) (grown_at.stands.holds.unbounded e link s.time p none now)
+
+  pub ends_at : EndsAtLabels net s
+  ends_at = record {
+    labels = λ v c here. (let inside : v < net.nodes = (let n = well.label_count in let w = slice_get_within s.label_curves v c here in omega arith) in
+        ap end_of (sym (label_points s v c here)) ∙ end-last _ _ (grown_at.curves_stand.labels_end v inside));
+    inflows = λ e link c p here. (ap end_of (sym (inflow_points s e c here)) ∙ end-last _ _ (grown_at.curves_stand.inflows_end e link p) ∙ grown_at.stands.same link.tail (good.tails e link p));
+    outflows = λ e link c p here. (ap end_of (sym (outflow_points s e c here)) ∙ end-last _ _ (grown_at.description_stands.outflows_end e link p) ∙ grown_at.stands.same link.head (good.heads e link p));
+    queues = λ e link c p here. (ap end_of (sym (queue_points s e c here)) ∙ end-last _ _ (grown_at.description_stands.queues_end e link p) ∙ grown_at.stands.same link.tail (good.tails e link p));
+  }

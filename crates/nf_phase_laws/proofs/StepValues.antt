@@ -1,0 +1,151 @@
+-- The values of the curve list for a link, in terms of the model's definitions.
+use Rattle.std.proofs.Common.{◌≡◌, ℕ, zero, suc, ◌+◌, List, [], ◌∷◌, length, Bool, true, false, ⊎_elim, sym, ap, refl, ◌∙◌, arith}
+use Rattle.std.specs.Prelude.{Option, Some, None, Result, Ok, slice_get}
+use Rattle.std.specs.List.{enumerate_from}
+use Rattle.std.proofs.lemmas.Option.{none-some}
+use Rattle.nf_rational.specs.Rational.{ℚ}
+use Rattle.nf_rational.specs.Operations.{0ℚ, ◌+ℚ◌, ◌-ℚ◌, ◌*ℚ◌, ◌/ℚ◌}
+use Rattle.nf_rational.specs.Order.{◌≤ℚ◌, ◌<ℚ◌, lt_ℚ}
+use Rattle.nf_rational_laws.proofs.Order.{≤ℚ_of_lt}
+use Rattle.nf_rational_laws.proofs.Tests.{lt_ℚ_cases, max0_of}
+use Rattle.nf_frac_def.specs.Passing.{Passing}
+use Rattle.nf_frac_def.specs.Checked.{Checked, checked, each, ◌>>=◌}
+use Rattle.nf_model.specs.Entries.{number_at}
+use Rattle.nf_model.specs.Network.{Link, Network, IsLink}
+use Rattle.nf_model.specs.ThinFlow.{Sets}
+use Rattle.nf_model.specs.Pattern.{Pattern}
+use Rattle.nf_rational.specs.Signs.{is_positive}
+use Rattle.nf_thin_def.specs.CurveList.{QueueStep, LinkStep, LinkPhase, rate_over, size_at, slope_at, queue_step, link_step, link_phase, curve_list}
+use Rattle.nf_thin_laws.specs.ListLaws.{never}
+use Rattle.nf_thin_laws.proofs.Exact.{curve_list_as}
+use Rattle.nf_thin_laws.proofs.Ending.{each_cons, enumerated}
+use Rattle.nf_phase_laws.specs.Invariant.{queue_by_slack}
+use Rattle.nf_phase_laws.proofs.Idle.{queue_by_slack-low}
+use Rattle.std.proofs.lemmas.Bool.{false≢true}
+
+-- ---- the values
+abbrev pub filled_slope : Bool → Option ℚ → ℚ → ℚ
+filled_slope true (Some capacity) rate = rate -ℚ capacity
+filled_slope filled capacity rate = 0ℚ
+
+abbrev pub rate_value : Bool → ℚ → ℚ → Option ℚ
+rate_value false flow slope = None
+rate_value true flow slope = Some (flow /ℚ slope)
+
+abbrev pub queue_value : LinkPhase → Option ℚ → Option QueueStep
+queue_value link None = None
+queue_value link (Some rate) = Some (record { size = queue_by_slack link.capacity (link.head_label -ℚ (link.tail_label +ℚ link.transit)); slope = filled_slope link.filled link.capacity rate })
+
+abbrev pub step_value : ℚ → ℚ → LinkPhase → LinkStep
+step_value length so_far link = record {
+  amount = so_far +ℚ length *ℚ link.flow;
+  inflow_rate = rate_value (is_positive link.tail_slope) link.flow link.tail_slope;
+  outflow_rate = rate_value (is_positive link.head_slope) link.flow link.head_slope;
+  queue = queue_value link (rate_value (is_positive link.tail_slope) link.flow link.tail_slope);
+}
+
+-- ---- tests of signs
+
+pub positive_of : (x : ℚ) → is_positive x ≡ true → 0ℚ <ℚ x
+positive_of x e = ⊎_elim (λ (w : (lt_ℚ 0ℚ x ≡ true) × (0ℚ <ℚ x)). w.1) (λ (w : (lt_ℚ 0ℚ x ≡ false) × (x ≤ℚ 0ℚ)). absurd (false≢true (sym w.0 ∙ e))) (lt_ℚ_cases 0ℚ x)
+
+pub none_of : (x : ℚ) → is_positive x ≡ false → x ≤ℚ 0ℚ
+none_of x e = ⊎_elim (λ (w : (lt_ℚ 0ℚ x ≡ true) × (0ℚ <ℚ x)). absurd (false≢true (sym e ∙ w.0))) (λ (w : (lt_ℚ 0ℚ x ≡ false) × (x ≤ℚ 0ℚ)). w.1) (lt_ℚ_cases 0ℚ x)
+
+-- ---- no operation exceeds its bound
+bind_at : {A B E : Type 0} (r : Result A E) (x : A) (f : A → Result B E) → r ≡ Ok x → (r >>= f) ≡ f x
+bind_at {A = A} {E = E} r x f h = ap (λ (w : Result A E). w >>= f) h
+
+rate_exact : (b : Bool) (flow slope : ℚ) → rate_over never b flow slope ≡ Ok (rate_value b flow slope)
+unfolding checked
+rate_exact true flow slope = refl
+rate_exact false flow slope = refl
+
+size_exact : (b : Bool) (capacity : Option ℚ) (slack : ℚ) → is_positive slack ≡ b → size_at never b capacity slack ≡ Ok (queue_by_slack capacity slack)
+unfolding checked
+size_exact true (Some c) slack e = ap (λ (y : ℚ). Ok (c *ℚ y)) (sym (max0_of slack (≤ℚ_of_lt _ _ (positive_of slack e))))
+size_exact true None slack e = refl
+size_exact false (Some c) slack e = ap (λ (y : ℚ). Ok y) (sym (queue_by_slack-low (Some c) slack (none_of slack e)))
+size_exact false None slack e = refl
+
+slope_exact : (b : Bool) (capacity : Option ℚ) (rate : ℚ) → slope_at never b capacity rate ≡ Ok (filled_slope b capacity rate)
+unfolding checked
+slope_exact true (Some c) rate = refl
+slope_exact true None rate = refl
+slope_exact false capacity rate = refl
+
+queue_exact : (link : LinkPhase) (rate : Option ℚ) → queue_step never link rate ≡ Ok (queue_value link rate)
+unfolding checked
+queue_exact link None = refl
+queue_exact link (Some rate) =
+    bind_at (size_at never (is_positive (link.head_label -ℚ (link.tail_label +ℚ link.transit))) link.capacity (link.head_label -ℚ (link.tail_label +ℚ link.transit)))
+    (queue_by_slack link.capacity (link.head_label -ℚ (link.tail_label +ℚ link.transit)))
+    (λ size. slope_at never link.filled link.capacity rate >>= λ slope. Ok (Some (record { size = size; slope = slope })))
+    (size_exact (is_positive (link.head_label -ℚ (link.tail_label +ℚ link.transit))) link.capacity (link.head_label -ℚ (link.tail_label +ℚ link.transit)) refl)
+    ∙ bind_at (slope_at never link.filled link.capacity rate) (filled_slope link.filled link.capacity rate)
+    (λ slope. Ok (Some (record { size = queue_by_slack link.capacity (link.head_label -ℚ (link.tail_label +ℚ link.transit)); slope = slope })))
+    (slope_exact link.filled link.capacity rate)
+
+step_exact : (length so_far : ℚ) (link : LinkPhase) → link_step never length so_far link ≡ Ok (step_value length so_far link)
+unfolding checked
+step_exact length so_far link =
+    let amount : ℚ = so_far +ℚ length *ℚ link.flow in
+    let into : Option ℚ = rate_value (is_positive link.tail_slope) link.flow link.tail_slope in
+    let out : Option ℚ = rate_value (is_positive link.head_slope) link.flow link.head_slope in
+    bind_at (rate_over never (is_positive link.tail_slope) link.flow link.tail_slope) into
+    (λ inflow_rate. rate_over never (is_positive link.head_slope) link.flow link.head_slope >>= λ outflow_rate. queue_step never link inflow_rate
+    >>= λ queue. Ok (record { amount = amount; inflow_rate = inflow_rate; outflow_rate = outflow_rate; queue = queue }))
+    (rate_exact (is_positive link.tail_slope) link.flow link.tail_slope)
+    ∙ bind_at (rate_over never (is_positive link.head_slope) link.flow link.head_slope) out
+    (λ outflow_rate. queue_step never link into >>= λ queue. Ok (record { amount = amount; inflow_rate = into; outflow_rate = outflow_rate; queue = queue }))
+    (rate_exact (is_positive link.head_slope) link.flow link.head_slope)
+    ∙ bind_at (queue_step never link into) (queue_value link into) (λ queue. Ok (record { amount = amount; inflow_rate = into; outflow_rate = out; queue = queue })) (queue_exact link into)
+
+-- ---- each entry has its value
+module _ {A B E : Type 0} (f : A → Result B E) where
+  each_found : (xs : List A) (ys : List B) → each f xs ≡ Ok ys → (e : ℕ) (x : A) → slice_get xs e ≡ Some x → (y : B) × (slice_get ys e ≡ Some y) × (f x ≡ Ok y)
+  each_found [] ys h e x at = absurd (none-some x at)
+  each_found (w ∷ xs) ys h zero x at =
+      let c = each_cons f w xs ys h in
+      (c.0, ap (λ (l : List B). slice_get l 0) (sym c.4), ap (λ (o : A). f o) (first w x at) ∙ c.2)
+    where
+      first : (w x : A) → Some w ≡ Some x → x ≡ w
+      first w x e = cc
+  each_found (w ∷ xs) ys h (suc e) x at =
+      let c = each_cons f w xs ys h in
+      let rest = each_found xs c.1 c.3 e x at in
+      (rest.0, ap (λ (l : List B). slice_get l (suc e)) (sym c.4) ∙ rest.1, rest.2)
+
+  each-length : (xs : List A) (ys : List B) → each f xs ≡ Ok ys → length ys ≡ length xs
+  each-length [] ys h = ap length (none ys h)
+    where
+      none : (ys : List B) → ◌≡◌ {A = Result (List B) E} (Ok []) (Ok ys) → ys ≡ []
+      none ys e = cc
+  each-length (w ∷ xs) ys h =
+      let c = each_cons f w xs ys h in
+      ap length (sym c.4) ∙ ap suc (each-length xs c.1 c.3)
+
+enumerated-length : {A : Type 0} (k : ℕ) (xs : List A) → length (enumerate_from k xs) ≡ length xs
+enumerated-length k [] = refl
+enumerated-length k (x ∷ xs) = ap suc (enumerated-length (k + 1) xs)
+
+pub steps-length : (passes : Passing) (net : Network) (sets : Sets) (pattern : Pattern) (while : ℚ) (flows slopes labels amounts : List ℚ) (steps : List LinkStep)
+    → curve_list passes net sets pattern while flows slopes labels amounts ≡ Ok steps → length steps ≡ length net.links
+unfolding curve_list
+steps-length passes net sets pattern while flows slopes labels amounts steps h =
+    each-length (λ (numbered : ℕ × Link). link_step passes while (number_at amounts numbered.0) (link_phase sets pattern flows slopes labels numbered)) (enumerate_from 0 net.links) steps h
+    ∙ enumerated-length 0 net.links
+
+pub step_value_at : (passes : Passing) (net : Network) (sets : Sets) (pattern : Pattern) (length : ℚ) (flows slopes labels amounts : List ℚ) (steps : List LinkStep)
+    → curve_list passes net sets pattern length flows slopes labels amounts ≡ Ok steps → (e : ℕ) (link : Link) → IsLink net e link
+    → slice_get steps e ≡ Some (step_value length (number_at amounts e) (link_phase sets pattern flows slopes labels (e, link)))
+unfolding curve_list
+step_value_at passes net sets pattern length flows slopes labels amounts steps h e link p =
+    let found = each_found (λ (numbered : ℕ × Link). link_step never length (number_at amounts numbered.0) (link_phase sets pattern flows slopes labels numbered)) (enumerate_from 0 net.links) steps
+    (curve_list_as passes net sets pattern length flows slopes labels amounts steps h) e (0 + e, link) (enumerated 0 net.links e link p) in
+    found.1 ∙ ap (λ (s : LinkStep). Some s) (same found.0 (step_value length (number_at amounts (0 + e)) (link_phase sets pattern flows slopes labels (0 + e, link)))
+    (sym found.2 ∙ step_exact length (number_at amounts (0 + e)) (link_phase sets pattern flows slopes labels (0 + e, link))))
+    ∙ ap (λ (i : ℕ). Some (step_value length (number_at amounts i) (link_phase sets pattern flows slopes labels (i, link)))) (let z : 0 + e ≡ e = omega arith in z)
+  where
+    same : (s t : LinkStep) → ◌≡◌ {A = Checked LinkStep} (Ok s) (Ok t) → s ≡ t
+    same s t e = cc

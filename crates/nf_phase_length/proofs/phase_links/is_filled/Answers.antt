@@ -1,5 +1,0 @@
-use Rattle.std.proofs.Common.{rules}
-use Rattle.nf_phase_length.proofs.phase_links.is_filled.Goals as goal
-
-pub returns-in-Some-Full : goal.returns-in-Some-Full
-returns-in-Some-Full c = search rules

@@ -1,7 +1,0 @@
-use Rattle.std.proofs.Common.{◌≡◌, length}
-use Rattle.nf_report_file.specs.Drafts.{seen_done}
-use Rattle.nf_report_file.specs.Sorted.{AreSorted}
-use Rattle.nf_report_file.proofs.report.by_kind.Given as goal
-
-abbrev pub invariant-loop-curve : goal.invariant-loop-curve
-invariant-loop-curve l = (l.index ≡ length l.yielded) × AreSorted (seen_done l.net 0 l.yielded) l.sorted

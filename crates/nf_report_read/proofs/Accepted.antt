@@ -1,0 +1,36 @@
+-- The answer for a text, by its reading.
+use Rattle.std.proofs.Common.{◌≡◌, ℕ, List, Result, Ok, Err, MatchResult, IfOk, sym, ap, ◌∙◌}
+use Rattle.nf_rational_laws.proofs.Results.{same_Ok}
+use Rattle.nf_net_def.specs.Named.{Named}
+use Rattle.nf_net_def.specs.WellNamed.{IsNamed}
+use Rattle.nf_net_def.specs.Report as formats
+use Rattle.nf_net_def.specs.Report.{IsWellFormed, report_text}
+use Rattle.nf_report_def.specs.ReportFile.{report_in}
+use Rattle.nf_report_laws.specs.Readable.{IsReadable}
+use Rattle.nf_report_laws.proofs.ReportBack.{report_back}
+use Rattle.nf_report_laws.proofs.ReportFit.{fit}
+use Rattle.nf_report_laws.proofs.ReportKept.{report_kept}
+use Rattle.nf_report_read.specs.declared.fault.ReportFault.{ReportFault}
+use Rattle.nf_report_read.specs.declared.report.Report.{Report}
+use Rattle.nf_report_read.specs.Files.{IfBroken, report_of, Shows}
+
+abbrev pub Answers : Named → List ℕ → Result Report ReportFault → Type 0
+Answers n text result = MatchResult result (λ report. report_in n text ≡ Ok (report_of report)) (λ fault. IfBroken fault (λ broken. report_in n text ≡ Err broken))
+
+module _ (n : Named) (text : List ℕ) (named : IsNamed n) where
+  pub formed : (result : Result Report ReportFault) → Answers n text result → IfOk result (λ report. IsWellFormed n.net (report_of report))
+  formed (Ok report) e = (report_kept n text (report_of report) named e).0
+  formed (Err fault) e = tt
+
+  pub its_text : (result : Result Report ReportFault) → Answers n text result → IfOk result (λ report. text ≡ report_text n (report_of report))
+  its_text (Ok report) e = (report_kept n text (report_of report) named e).2
+  its_text (Err fault) e = tt
+
+  pub all_read : (result : Result Report ReportFault) → Answers n text result → (report : formats.Report) → IsWellFormed n.net report → IsReadable report → text ≡ report_text n report → Shows report result
+  all_read (Ok read) e report well readable is =
+      let same : report_in n text ≡ Ok report = ap (report_in n) is ∙ report_back n report named (fit n report named well readable) in
+      same_Ok (report_of read) report (sym e ∙ same)
+  all_read (Err (ReportFault.Broken rule line)) e report well readable is =
+      let same : report_in n text ≡ Ok report = ap (report_in n) is ∙ report_back n report named (fit n report named well readable) in
+      absurd (cc)
+  all_read (Err ReportFault.Memory) e report well readable is = tt

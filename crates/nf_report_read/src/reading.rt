@@ -1,0 +1,153 @@
+// Parsing a report.
+ghost use Rattle.std.specs.Prelude.{◌≡◌, ◌≤◌, [], ◌∷◌, map, length, option_map, IfOk, IfErr, OnOk, MatchOption, MatchResult, Result};
+ghost use Rattle.nf_text_def.specs.Words.{read_line};
+ghost use Rattle.nf_text_def.specs.Faults.{first_fault_of, longest_text};
+ghost use Rattle.nf_net_def.specs.Report.{Report as SeenReport, IsWellFormed, report_text};
+ghost use Rattle.nf_report_def.specs.ReportFile.{ReportBroken, as_report_rule, report_by_bytes, report_lines_from, if_at_end, report_in};
+ghost use Rattle.nf_report_laws.specs.Readable.{IsReadable};
+ghost use Rattle.nf_report_read.specs.Drafts.{seen_draft, seen_stage, IsWithin};
+ghost use Rattle.nf_report_read.specs.Files.{IfBroken, report_of, closed_by, Shows};
+
+use crate::draft::Draft;
+use crate::fault::ReportFault;
+use crate::report::Report;
+use nf_net::Network;
+use nf_report_def::ReportRule;
+use nf_text::{Cursor, ReadLine, TextFault};
+use std::alloc::Global;
+
+// Reads the next line of a text. Fails with P1 or P2 if the line breaks one of them.
+fn next_line<'a>(
+    alloc: Global,
+    cursor: &mut Cursor<'a>,
+) -> Result<Option<ReadLine<'a>>, ReportFault>
+    ensures line { IfOk result
+        (λ next. MatchOption next (cursor.old ≡ []) (λ line. map read_line cursor.old ≡ line ∷ map read_line cursor.new)) }
+    ensures fine { IfOk result
+        (λ next. MatchOption next (cursor.new ≡ cursor.old) (λ line. first_fault_of cursor.old ≡ first_fault_of cursor.new)) }
+    ensures fault { IfErr result (λ fault. IfBroken fault (λ broken. option_map as_report_rule (first_fault_of cursor.old) ≡ Some broken)) }
+{
+    match cursor.next_line(alloc) {
+        Ok(line) => Ok(line),
+        Err(TextFault::NotAscii { line }) => Err(ReportFault::Broken {
+            rule: ReportRule::P1,
+            line,
+        }),
+        Err(TextFault::LongLine { line }) => Err(ReportFault::Broken {
+            rule: ReportRule::P2,
+            line,
+        }),
+        Err(TextFault::Memory) => Err(ReportFault::Memory),
+    }
+}
+
+// Tests P1 and P2 for all further lines.
+fn check_rest(alloc: Global, cursor: &mut Cursor) -> Result<(), ReportFault>
+    ensures none { OnOk result (first_fault_of cursor.old ≡ None) }
+    ensures fault { IfErr result (λ fault. IfBroken fault (λ broken. option_map as_report_rule (first_fault_of cursor.old) ≡ Some broken)) }
+{
+    loop {
+        match next_line(alloc, cursor) {
+            Ok(Some(_)) => {}
+            Ok(None) => return Ok(()),
+            Err(fault) => return Err(fault),
+        }
+    }
+}
+
+// Returns the fault of a further line that breaks P1 or P2, if there is one, and otherwise `fault`.
+fn first_broken(alloc: Global, cursor: &mut Cursor, fault: ReportFault) -> ReportFault
+    ensures { (read : Result SeenReport ReportBroken) → IfBroken fault (λ broken. read ≡ Err broken)
+        → IfBroken result (λ broken. report_by_bytes (first_fault_of cursor.old) read ≡ Err broken) }
+{
+    match check_rest(alloc, cursor) {
+        Ok(()) => fault,
+        Err(earlier) => earlier,
+    }
+}
+
+// Applies this line and all further lines to the state. Each line is read together with the line after it.
+fn add_lines(
+    alloc: Global,
+    net: &Network,
+    cursor: &mut Cursor,
+    first: ReadLine,
+    draft: &mut Draft,
+) -> Result<(), ReportFault>
+    requires { IsWithin net.now draft.old }
+    ensures draft { OnOk result (report_lines_from net.now (seen_draft net.now draft.old) (first.entry ∷ map read_line cursor.old)
+        ≡ Ok (seen_draft net.now draft.new)) }
+    ensures within { OnOk result (IsWithin net.now draft.new) }
+    ensures fine { OnOk result (first_fault_of cursor.old ≡ None) }
+    ensures fault { IfErr result (λ fault. IfBroken fault (λ broken.
+        report_by_bytes (first_fault_of cursor.old)
+        (closed_by (report_lines_from net.now (seen_draft net.now draft.old) (first.entry ∷ map read_line cursor.old))) ≡ Err broken)) }
+{
+    let mut line = Some(first);
+    while let Some(current) = line {
+        let next = match next_line(alloc, cursor) {
+            Ok(next) => next,
+            Err(fault) => return Err(fault),
+        };
+        match draft.add_line(alloc, net, &current, next.as_ref()) {
+            Ok(()) => {}
+            Err(fault) => return Err(first_broken(alloc, cursor, fault)),
+        }
+        line = next;
+    }
+    Ok(())
+}
+
+// Reads the lines of a text in order, and returns the parser state.
+fn read_draft(alloc: Global, net: &Network, text: &[u8]) -> Result<Draft, ReportFault>
+    requires { length text.now ≤ longest_text }
+    ensures draft { IfOk result (λ draft. report_in net.now text.now ≡ if_at_end (seen_stage draft.stage) (seen_draft net.now draft)) }
+    ensures within { IfOk result (λ draft. IsWithin net.now draft) }
+    ensures fault { IfErr result (λ fault. IfBroken fault (λ broken. report_in net.now text.now ≡ Err broken)) }
+{
+    let mut cursor = Cursor::new(text);
+    let line = match next_line(alloc, &mut cursor) {
+        Ok(line) => line,
+        Err(fault) => return Err(fault),
+    };
+    let Some(first) = line else {
+        return Err(ReportFault::Broken {
+            rule: ReportRule::P4,
+            line: 1,
+        });
+    };
+    let mut draft = Draft::new(alloc, net)?;
+    match add_lines(alloc, net, &mut cursor, first, &mut draft) {
+        Ok(()) => Ok(draft),
+        Err(fault) => Err(fault),
+    }
+}
+
+// Returns the report that a text is.
+fn read_report(alloc: Global, net: &Network, text: &[u8]) -> Result<Report, ReportFault>
+    requires { length text.now ≤ longest_text }
+    ensures { MatchResult result (λ report. report_in net.now text.now ≡ Ok (report_of report))
+        (λ fault. IfBroken fault (λ broken. report_in net.now text.now ≡ Err broken)) }
+{
+    match read_draft(alloc, net, text) {
+        Ok(draft) => draft.report(alloc, net),
+        Err(fault) => Err(fault),
+    }
+}
+
+/// Parses a report of the network, from a text of at most 67,108,864 bytes. Returns the report, or the first rule that the text breaks,
+/// with the line. The rules of all bytes and lines are tested first, then those of each line, then that of the whole file, with line 0.
+/// Reads the text once, line by line. Also fails if an allocation fails.
+pub fn parse_report(alloc: Global, net: &Network, text: &[u8]) -> Result<Report, ReportFault>
+    requires { length text.now ≤ longest_text }
+    ensures reads { MatchResult result (λ report. report_in net.now text.now ≡ Ok (report_of report))
+        (λ fault. IfBroken fault (λ broken. report_in net.now text.now ≡ Err broken)) }
+    ensures formed { IfOk result (λ report. IsWellFormed net.now.net (report_of report)) }
+    ensures text { IfOk result (λ report. text.now ≡ report_text net.now (report_of report)) }
+    ensures all { (report : SeenReport) → IsWellFormed net.now.net report → IsReadable report → text.now ≡ report_text net.now report
+        → Shows report result }
+{
+    // Proof: the network is that of an accepted file.
+    net.recall();
+    read_report(alloc, net, text)
+}

@@ -1,0 +1,123 @@
+// The report that was read.
+ghost use Rattle.std.specs.Prelude.{◌≡◌, ◌≤◌, List, [], ◌∷◌, ◌++◌, length, None, IfOk, OnOk, MatchResult};
+ghost use Rattle.nf_report_def.specs.ReportLines.{CurveKey, ReadCurve, OfNever, curve_keys};
+ghost use Rattle.nf_report_def.specs.ReportFile.{if_at_end};
+ghost use Rattle.nf_report_read.specs.Keys.{seen_kind};
+ghost use Rattle.nf_report_read.specs.Drafts.{seen_draft, seen_curve, seen_done, LacksIdleOnly, IsWithin};
+ghost use Rattle.nf_report_read.specs.Files.{IfBroken, report_of};
+ghost use Rattle.nf_report_read.specs.Sorted.{AreSorted};
+
+use crate::draft::{Draft, Stage};
+use crate::fault::ReportFault;
+use crate::keys::{Kind, key_at};
+use nf_curve::{Curve, Flow, Stop, Trace};
+use nf_frac::Q;
+use nf_net::Network;
+use nf_pattern::Pattern;
+use nf_report_def::ReportRule;
+use std::alloc::{AllocError, Global};
+
+/// A report of a run. `stopped` is the cause of a stop before the horizon, and `last` holds the states of the links in the last phase.
+#[derive(Drop)]
+pub struct Report {
+    pub horizon: Q,
+    pub flow: Flow,
+    pub stopped: Option<Stop>,
+    pub last: Pattern,
+}
+
+// The curves of a report, by kind.
+#[derive(Drop)]
+struct Sorted {
+    labels: Vec<Curve>,
+    inflows: Vec<Trace>,
+    outflows: Vec<Trace>,
+    queues: Vec<Curve>,
+}
+
+impl Sorted {
+    fn new(alloc: Global) -> Sorted
+        ensures { AreSorted [] result }
+    {
+        Sorted {
+            labels: Vec::new(alloc),
+            inflows: Vec::new(alloc),
+            outflows: Vec::new(alloc),
+            queues: Vec::new(alloc),
+        }
+    }
+
+    // Appends a curve to those of its kind. Every kind except `Never` must have a curve.
+    fn put(&mut self, kind: Kind, curve: Option<Trace>) -> Result<(), AllocError>
+        requires { curve ≡ None → seen_kind kind ≡ OfNever }
+        ensures { OnOk result ((curves : List ReadCurve) → (key : CurveKey) → key.kind ≡ seen_kind kind → AreSorted curves self.old
+            → AreSorted (curves ++ seen_curve key curve ∷ []) self.new) }
+    {
+        match (kind, curve) {
+            (Kind::Never, _) => {}
+            (Kind::Label, Some(trace)) => {
+                let Trace { curve, rates: _ } = trace;
+                self.labels.push(curve)?;
+            }
+            (Kind::Inflow, Some(trace)) => self.inflows.push(trace)?,
+            (Kind::Outflow, Some(trace)) => self.outflows.push(trace)?,
+            (Kind::Queue, Some(trace)) => {
+                let Trace { curve, rates: _ } = trace;
+                self.queues.push(curve)?;
+            }
+            (_, None) => unreachable!(),
+        }
+        Ok(())
+    }
+}
+
+// Divides the curves of a report by kind.
+fn by_kind(alloc: Global, net: &Network, curves: Vec<Option<Trace>>) -> Result<Sorted, AllocError>
+    requires count { length curves.items ≤ length (curve_keys net.now) }
+    requires idle { LacksIdleOnly net.now curves.items }
+    ensures { IfOk result (λ sorted. AreSorted (seen_done net.now 0 curves.items) sorted) }
+{
+    // Proof: a network has few nodes and links.
+    net.recall();
+    let mut sorted = Sorted::new(alloc);
+    let mut index = 0;
+    for curve in curves {
+        let kind = match key_at(net, index) {
+            Some(key) => key.kind,
+            None => unreachable!(),
+        };
+        sorted.put(kind, curve)?;
+        index += 1;
+    }
+    Ok(sorted)
+}
+
+impl Draft {
+    /// Returns the report. Fails with P14 if no `end` line was read, or if an allocation fails.
+    pub fn report(self, alloc: Global, net: &Network) -> Result<Report, ReportFault>
+        requires { IsWithin net.now self }
+        ensures { let draft = seen_draft net.now self in
+            MatchResult result (λ report. if_at_end draft.stage draft ≡ Ok (report_of report))
+            (λ fault. IfBroken fault (λ broken. if_at_end draft.stage draft ≡ Err broken)) }
+    {
+        if !matches!(self.stage, Stage::End) {
+            return Err(ReportFault::Broken {
+                rule: ReportRule::P14,
+                line: 0,
+            });
+        }
+        let sorted = by_kind(alloc, net, self.done)?;
+        Ok(Report {
+            horizon: self.horizon,
+            flow: Flow {
+                reached: self.reached,
+                labels: sorted.labels,
+                inflows: sorted.inflows,
+                outflows: sorted.outflows,
+                queues: sorted.queues,
+            },
+            stopped: self.stop,
+            last: self.states,
+        })
+    }
+}

@@ -1,0 +1,90 @@
+-- A resumed run has a unique end: each phase, and each cause for which there is none, follows from the run state.
+use Rattle.std.proofs.Common.{◌≡◌, ℕ, length, refl, sym, ap, ◌∙◌, subst, arith}
+use Rattle.std.specs.Prelude.{Option, Some, Ok}
+use Rattle.nf_rational.specs.Rational.{ℚ}
+use Rattle.nf_rational.specs.Order.{◌<ℚ◌}
+use Rattle.nf_rational_laws.proofs.Order.{<ℚ_irrefl}
+use Rattle.nf_frac_def.specs.Passing.{Passing}
+use Rattle.nf_frac_def.specs.Checked.{each}
+use Rattle.nf_model.specs.Network.{Network}
+use Rattle.nf_net_def.specs.declared.Cause.{Cause}
+use Rattle.nf_net_def.specs.Report.{Report}
+use Rattle.nf_thin_def.specs.PhaseRun.{Standing, Bounds, Fails, report_of}
+use Rattle.nf_thin_laws.proofs.OneRun.{one_phase, one_cause, goes_or_fails, fails_below, goes_knows}
+use Rattle.nf_rational_laws.proofs.Results.{same_Ok}
+use Rattle.nf_curve_laws.proofs.Operations.{then_ok}
+use Rattle.nf_resume_def.specs.Restoring.{growing, restore_list}
+use Rattle.nf_resume_def.specs.Resuming.{Stands, cut_flow, restart_list}
+use Rattle.nf_resume_def.specs.Open.{with_last, Steps, continues, begins, RunsOn, at_horizon, at_phases, fails, steps}
+use Rattle.nf_resume_def.specs.Meanings.{IsResumedReport}
+use Rattle.nf_resume_laws.proofs.Stepping.{list-stands}
+
+-- ---- one more phase
+module _ (passes : Passing) (net : Network) (horizon : ℚ) (patterns : ℕ) (s : Standing) where
+  module _ (knows : length s.last ≡ length net.links) where
+    one_step : (t u : Standing) → Steps passes net horizon patterns s t → Steps passes net horizon patterns s u → t ≡ u
+    one_step _ _ (continues {t = t} c g) (continues {t = u} d h) = ap (with_last s.last) (one_phase passes net horizon patterns s knows t u g h)
+    one_step _ _ (continues c g) (begins d h) = absurd (d c)
+    one_step _ _ (begins c g) (continues d h) = absurd (c d)
+    one_step t u (begins c g) (begins d h) = one_phase passes net horizon patterns s knows t u g h
+
+    steps_or_fails : (t : Standing) (c : Cause ℚ) → Steps passes net horizon patterns s t → Fails passes net horizon patterns s c → ⊥
+    steps_or_fails _ c (continues {t = t} d g) f = goes_or_fails passes net horizon patterns s knows t c g f
+    steps_or_fails t c (begins d g) f = goes_or_fails passes net horizon patterns s knows t c g f
+
+    -- The last pattern still has an entry for each link.
+    step_knows : (t : Standing) → Steps passes net horizon patterns s t → length t.last ≡ length net.links
+    step_knows _ (continues c g) = knows
+    step_knows t (begins c g) = goes_knows passes net horizon patterns s t g
+
+  step_below : (t : Standing) → Steps passes net horizon patterns s t → s.time <ℚ horizon
+  step_below _ (continues c g) = g.finds.below
+  step_below t (begins c g) = g.finds.below
+
+-- ---- the unique end
+module _ (passes : Passing) (net : Network) (bounds : Bounds) where
+  not_both : (s : Standing) → s.time ≡ bounds.horizon → s.time <ℚ bounds.horizon → ⊥
+  not_both s e below = <ℚ_irrefl bounds.horizon (subst (λ (t : ℚ). t <ℚ bounds.horizon) e below)
+
+  one_end : (s l m : Standing) (o r : Option (Cause ℚ)) → length s.last ≡ length net.links → RunsOn passes net bounds s l o → RunsOn passes net bounds s m r → (l ≡ m) × (o ≡ r)
+  one_end s l m o r knows (at_horizon e) (at_horizon f) = (refl, refl)
+  one_end s l m o r knows (at_horizon e) (at_phases below f) = absurd (not_both s e below)
+  one_end s l m o r knows (at_horizon e) (fails may f) = absurd (not_both s e (fails_below passes net bounds.horizon bounds.patterns s _ f))
+  one_end s l m o r knows (at_horizon e) (steps may g rest) = absurd (not_both s e (step_below passes net bounds.horizon bounds.patterns s _ g))
+  one_end s l m o r knows (at_phases below e) (at_horizon f) = absurd (not_both s f below)
+  one_end s l m o r knows (at_phases below e) (at_phases below' f) = (refl, refl)
+  one_end s l m o r knows (at_phases below e) (fails may f) = absurd (omega arith)
+  one_end s l m o r knows (at_phases below e) (steps may g rest) = absurd (omega arith)
+  one_end s l m o r knows (fails may f) (at_horizon e) = absurd (not_both s e (fails_below passes net bounds.horizon bounds.patterns s _ f))
+  one_end s l m o r knows (fails may f) (at_phases below e) = absurd (omega arith)
+  one_end s l m o r knows (fails may f) (fails may' g) = (refl, ap Some (one_cause passes net bounds.horizon bounds.patterns s knows _ _ f g))
+  one_end s l m o r knows (fails may f) (steps may' g rest) = absurd (steps_or_fails passes net bounds.horizon bounds.patterns s knows _ _ g f)
+  one_end s l m o r knows (steps may g rest) (at_horizon e) = absurd (not_both s e (step_below passes net bounds.horizon bounds.patterns s _ g))
+  one_end s l m o r knows (steps may g rest) (at_phases below e) = absurd (omega arith)
+  one_end s l m o r knows (steps may g rest) (fails may' f) = absurd (steps_or_fails passes net bounds.horizon bounds.patterns s knows _ _ g f)
+  one_end s l m o r knows (steps {new = t} may g rest) (steps {new = u} may' h other) =
+      let same : t ≡ u = one_step passes net bounds.horizon bounds.patterns s knows t u g h in
+      one_end t l m o r (step_knows passes net bounds.horizon bounds.patterns s knows t g) rest (subst (λ (w : Standing). RunsOn passes net bounds w m r) (sym same) other)
+
+-- ---- the unique report
+restored_last : (passes : Passing) (net : Network) (report : Report) (s : Standing) → restart_list passes net report ≡ Ok s → s.last ≡ report.last
+unfolding restart_list restore_list
+restored_last passes net report s e =
+    let a = then_ok (cut_flow passes net report.flow) _ s e in
+    let b = then_ok (each (growing passes) a.between.labels) _ s a.next in
+    let c = then_ok (each (growing passes) a.between.queues) _ s b.next in
+    sym (ap (λ (x : Standing). x.last) (same_Ok _ _ c.next))
+
+same_stands : (s t : Standing) → Stands s ≡ Stands t → s ≡ t
+same_stands s t e = cc
+
+pub one_resumed : (passes : Passing) (net : Network) (bounds : Bounds) (old : Report) (phases others : ℕ) (report other : Report) → length old.last ≡ length net.links
+    → IsResumedReport passes net bounds old phases report → IsResumedReport passes net bounds old others other → (phases ≡ others) × (report ≡ other)
+one_resumed passes net bounds old phases others report other knows h k =
+    let first : h.run.first ≡ k.run.first = same_stands h.run.first k.run.first (same_Ok _ _ (sym h.run.stands ∙ k.run.stands)) in
+    let states : length k.run.first.last ≡ length net.links =
+    ap length (restored_last passes net old k.run.first (list-stands passes net old k.run.first k.run.stands)) ∙ knows in
+    let end = one_end passes net bounds k.run.first h.last k.last h.stop k.stop states (subst (λ (s : Standing). RunsOn passes net bounds s h.last h.stop) first h.run.runs) k.run.runs in (
+      sym h.made ∙ ap (λ (s : Standing). s.made) end.0 ∙ k.made,
+      h.report_is ∙ ap (λ (s : Standing). report_of bounds.horizon s h.stop) end.0 ∙ ap (report_of bounds.horizon k.last) end.1 ∙ sym k.report_is,
+    )

@@ -1,0 +1,50 @@
+-- The state of a run resumed from a report that the check accepts.
+use Rattle.std.proofs.Common.{◌≡◌, ℕ, refl, subst}
+use Rattle.std.specs.Prelude.{Ok}
+use Rattle.nf_rational.specs.Rational.{ℚ}
+use Rattle.nf_frac_def.specs.Passing.{Passing}
+use Rattle.nf_frac_def.specs.Checked.{each}
+use Rattle.nf_model.specs.Network.{Network, IsNetwork}
+use Rattle.nf_model.specs.Equilibrium.{Equilibrium}
+use Rattle.nf_net_def.specs.Report.{Report, IsWellFormed}
+use Rattle.nf_thin_def.specs.PhaseRun.{Standing}
+use Rattle.nf_rational_laws.proofs.Results.{same_Ok}
+use Rattle.nf_curve_laws.proofs.Operations.{then_ok}
+use Rattle.nf_phase_laws.proofs.WellRun.{WellRun}
+use Rattle.nf_check_def.specs.declared.Answer.{Answer}
+use Rattle.nf_check_def.specs.declared.Answer.TheVariants.{Yes, No}
+use Rattle.nf_check_def.specs.CheckList.{check_list}
+use Rattle.nf_check_laws.specs.Laws.{CanBeChecked}
+use Rattle.nf_check_laws.proofs.Checking.{check_list-checks}
+use Rattle.nf_check_laws.proofs.Holding.{Equilibrium-holding}
+use Rattle.nf_resume_def.specs.Restoring.{growing, restore_list}
+use Rattle.nf_resume_def.specs.Resuming.{Stands, cut_flow, restart_list, after_check, resume_list}
+use Rattle.nf_resume_laws.proofs.CutFlow.{cut_flow-is}
+use Rattle.nf_resume_laws.proofs.Restored.{WellRun-restored}
+use Rattle.nf_resume_laws.proofs.Stepping.{list-stands}
+
+-- The answer of the check for such a run state.
+answer_was : (passes : Passing) (net : Network) (report : Report) (answer : Answer ℕ ℕ ℚ) (s : Standing) → after_check passes net report answer ≡ Ok (Stands s) → answer ≡ Yes
+answer_was passes net report Yes s e = refl
+answer_was passes net report (No rule subject time left right) s e = absurd (cc)
+
+module _ (passes : Passing) (net : Network) (good : IsNetwork net) (old : Report) (formed : IsWellFormed net old) (s : Standing) (stands : resume_list passes net old ≡ Ok (Stands s)) where
+  equilibrium : Equilibrium net old.flow
+  unfolding resume_list
+  equilibrium =
+      let a = then_ok (check_list passes net old.flow) _ (Stands s) stands in
+      let given : CanBeChecked net old.flow = record { network = good; shape = formed.shape; inflow_rates = formed.inflow_rates; outflow_rates = formed.outflow_rates; reached = formed.reached } in
+      Equilibrium-holding net old.flow given
+      (check_list-checks passes net old.flow given Yes (subst (λ (answer : Answer ℕ ℕ ℚ). check_list passes net old.flow ≡ Ok answer) (answer_was passes net old a.between s a.next) a.first))
+
+  pub restarts : restart_list passes net old ≡ Ok s
+  restarts = list-stands passes net old s stands
+
+  pub well_restarted : WellRun net s
+  unfolding restart_list restore_list
+  well_restarted =
+      let a = then_ok (cut_flow passes net old.flow) _ s restarts in
+      let b = then_ok (each (growing passes) a.between.labels) _ s a.next in
+      let c = then_ok (each (growing passes) a.between.queues) _ s b.next in
+      subst (WellRun net) (same_Ok _ _ c.next)
+      (WellRun-restored passes net old.flow a.between old.last good equilibrium (cut_flow-is passes net old.flow a.between good equilibrium a.first) b.between c.between b.first c.first)

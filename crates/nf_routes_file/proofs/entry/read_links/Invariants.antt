@@ -1,5 +1,0 @@
-use Rattle.nf_routes_file.proofs.RouteLinks.{AreRead}
-use Rattle.nf_routes_file.proofs.entry.read_links.Given as goal
-
-abbrev pub invariant-loop-place : goal.invariant-loop-place
-invariant-loop-place l = AreRead l.net.link_names l.line.words l.place l.links.items

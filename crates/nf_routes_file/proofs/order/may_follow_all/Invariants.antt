@@ -1,8 +1,0 @@
-use Rattle.std.proofs.Common.{◌≡◌, ℕ, drop, not, ◌||◌, eqb}
-use Rattle.std.specs.List.{list_all}
-use Rattle.nf_routes_lists.specs.Routes.{all_pairs, is_taken}
-use Rattle.nf_routes_lists.specs.RoutesFile.{routes_of}
-use Rattle.nf_routes_file.proofs.order.may_follow_all.Given as goal
-
-abbrev pub invariant-loop-route : goal.invariant-loop-route
-invariant-loop-route l = list_all (λ (p : ℕ × ℕ). not (eqb p.1 l.link) || is_taken l.taken p.0) (all_pairs (routes_of (drop l.route-index l.routes))) ≡ list_all (λ (p : ℕ × ℕ). not (eqb p.1 l.link) || is_taken l.taken p.0) (all_pairs (routes_of l.routes))

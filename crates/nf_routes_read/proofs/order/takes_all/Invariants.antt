@@ -1,0 +1,7 @@
+use Rattle.std.proofs.Common.{◌≡◌, ℕ, ◌-◌}
+use Rattle.std.specs.List.{list_all, range_with_len}
+use Rattle.nf_routes_def.specs.Routes.{is_taken}
+use Rattle.nf_routes_read.proofs.order.takes_all.Given as goal
+
+abbrev pub invariant-loop-number : goal.invariant-loop-number
+invariant-loop-number l = list_all (λ (e : ℕ). is_taken l.order.items e) (range_with_len l.number (l.link_count - l.number)) ≡ list_all (λ (e : ℕ). is_taken l.order.items e) (range_with_len 0 l.link_count)

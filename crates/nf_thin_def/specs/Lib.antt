@@ -1,0 +1,13 @@
+pub mod Slack
+pub mod Table
+pub mod Equations
+pub mod Verdict
+pub mod Extend
+pub mod Advance
+pub mod CurveList
+pub mod Accepted
+pub mod Listing
+pub mod Search
+pub mod ReportCurves
+pub mod PhaseRun
+pub mod Ends

@@ -1,0 +1,210 @@
+// Repairs of a pattern: links that violate their inequalities change their states. No contract depends on repairs, since a guess is judged
+// like any other pattern.
+ghost use Rattle.std.specs.Prelude.{◌≡◌, ◌<◌, length, IsTrue, IsSome};
+ghost use Rattle.nf_model.specs.declared.State.TheVariants.{Full};
+ghost use Rattle.nf_thin_equation_laws.specs.Equations.{IsPatternIn};
+
+use crate::forest::Forest;
+use crate::node_parts::tight_forest;
+use crate::numbers::number_or_zero;
+use nf_frac::Q;
+use nf_graph::{LinkId, LinkSets};
+use nf_model::State;
+use nf_net::Network;
+use nf_pattern::Pattern;
+use nf_thin_one::{full_flow, may_carry};
+use std::alloc::{AllocError, Global};
+
+// Returns whether a flow exceeds the flow that fills a link of this capacity at this slope of its head.
+fn overfills(capacity: Option<Q>, flow: Q, head_slope: Q) -> bool {
+    match full_flow(capacity, head_slope) {
+        Some(most) => flow > most,
+        None => false,
+    }
+}
+
+// Returns whether a link of this capacity may have this state. An unbounded link may not be Full.
+fn fits(capacity: Option<Q>, state: State) -> bool
+    ensures { IsTrue result → state ≡ Full → IsSome capacity }
+{
+    match state {
+        State::Full => capacity.is_some(),
+        State::Tight => true,
+        State::Zero => true,
+    }
+}
+
+/// Sets the state of a link that has a state, if the link may have the new one. Returns whether it sets the state.
+pub(crate) fn change(
+    net: &Network,
+    sets: &LinkSets,
+    pattern: &mut Pattern,
+    link: LinkId,
+    state: State,
+) -> bool
+    requires pattern { IsPatternIn net.now.net sets.now pattern.old }
+    requires link { link < length net.now.net.links }
+    ensures { IsPatternIn net.now.net sets.now pattern.new }
+{
+    if pattern.state(link).is_none() {
+        return false;
+    }
+    let capacity = net.link(link).capacity;
+    if !fits(capacity, state) {
+        return false;
+    }
+    pattern.set(link, Some(state));
+    true
+}
+
+// Returns whether another Tight, Full or resetting link leads to the head of this link.
+fn is_spare(net: &Network, sets: &LinkSets, pattern: &Pattern, link: LinkId) -> bool
+    requires pattern { IsPatternIn net.now.net sets.now pattern.now }
+    requires link { link < length net.now.net.links }
+{
+    let node = net.link(link).head;
+    for e in 0..net.link_count() {
+        if e != link.0 && net.link(LinkId(e)).head == node {
+            if may_carry(sets, pattern, LinkId(e)) {
+                return true;
+            }
+        }
+    }
+    false
+}
+
+// Makes a Tight link with a negative flow Zero, if another link that may carry flow leads to its head. Makes a Tight link with too much
+// flow Full. Returns whether the state changes.
+fn loosen_link(
+    net: &Network,
+    sets: &LinkSets,
+    values: &[Q],
+    flow: Q,
+    link: LinkId,
+    pattern: &mut Pattern,
+) -> bool
+    requires pattern { IsPatternIn net.now.net sets.now pattern.old }
+    requires link { link < length net.now.net.links }
+    ensures { IsPatternIn net.now.net sets.now pattern.new }
+{
+    match pattern.state(link) {
+        Some(State::Tight) => {}
+        _ => return false,
+    }
+    if flow < Q::zero() {
+        if !is_spare(net, sets, pattern, link) {
+            return false;
+        }
+        return change(net, sets, pattern, link, State::Zero);
+    }
+    let here = net.link(link);
+    if !overfills(
+        here.capacity,
+        flow,
+        number_or_zero(values, here.head.index()),
+    ) {
+        return false;
+    }
+    change(net, sets, pattern, link, State::Full)
+}
+
+// Repairs each Tight link that violates its inequalities. Returns whether a state changes.
+fn loosen(net: &Network, sets: &LinkSets, values: &[Q], pattern: &mut Pattern) -> bool
+    requires { IsPatternIn net.now.net sets.now pattern.old }
+    ensures { IsPatternIn net.now.net sets.now pattern.new }
+{
+    let mut changes = false;
+    let mut column = net.node_count() as usize;
+    for e in 0..net.link_count() {
+        let link = LinkId(e);
+        if sets.active(link) {
+            if loosen_link(
+                net,
+                sets,
+                values,
+                number_or_zero(values, column),
+                link,
+                pattern,
+            ) {
+                changes = true;
+            }
+            column += 1;
+        }
+    }
+    changes
+}
+
+// Returns whether the link is Full with a smaller slope at its head, or Zero with a greater one.
+fn breaks(state: Option<State>, tail_slope: Q, head_slope: Q) -> bool {
+    match state {
+        Some(State::Full) => head_slope < tail_slope,
+        Some(State::Zero) => tail_slope < head_slope,
+        _ => false,
+    }
+}
+
+// Makes a Full link with a smaller slope at its head, or a Zero link with a greater one, Tight. Changes nothing if the link would close a
+// cycle with other Tight links. Returns whether the state changes.
+fn tighten_link(
+    net: &Network,
+    sets: &LinkSets,
+    values: &[Q],
+    link: LinkId,
+    forest: &mut Forest,
+    pattern: &mut Pattern,
+) -> Result<bool, AllocError>
+    requires pattern { IsPatternIn net.now.net sets.now pattern.old }
+    requires link { link < length net.now.net.links }
+    ensures { IsPatternIn net.now.net sets.now pattern.new }
+{
+    let here = net.link(link);
+    let tail_slope = number_or_zero(values, here.tail.index());
+    let head_slope = number_or_zero(values, here.head.index());
+    if !breaks(pattern.state(link), tail_slope, head_slope) {
+        return Ok(false);
+    }
+    if !forest.grow(here.tail, here.head)? {
+        return Ok(false);
+    }
+    let changes = change(net, sets, pattern, link, State::Tight);
+    Ok(changes)
+}
+
+// Repairs all Full and Zero links that violate their inequalities, in link order. Returns whether a state changes.
+fn tighten(
+    alloc: Global,
+    net: &Network,
+    sets: &LinkSets,
+    values: &[Q],
+    pattern: &mut Pattern,
+) -> Result<bool, AllocError>
+    requires { IsPatternIn net.now.net sets.now pattern.old }
+    ensures { IsPatternIn net.now.net sets.now pattern.new }
+{
+    let Some(mut forest) = tight_forest(alloc, net, sets, pattern)? else {
+        return Ok(false);
+    };
+    let mut changes = false;
+    for e in 0..net.link_count() {
+        if tighten_link(net, sets, values, LinkId(e), &mut forest, pattern)? {
+            changes = true;
+        }
+    }
+    Ok(changes)
+}
+
+/// Repairs once each link that violates its inequality. Returns whether a state changes. Fails if an allocation fails.
+pub(crate) fn repair(
+    alloc: Global,
+    net: &Network,
+    sets: &LinkSets,
+    values: &[Q],
+    pattern: &mut Pattern,
+) -> Result<bool, AllocError>
+    requires { IsPatternIn net.now.net sets.now pattern.old }
+    ensures { IsPatternIn net.now.net sets.now pattern.new }
+{
+    let loosened = loosen(net, sets, values, pattern);
+    let tightened = tighten(alloc, net, sets, values, pattern)?;
+    Ok(loosened || tightened)
+}

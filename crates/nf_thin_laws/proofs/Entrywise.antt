@@ -1,0 +1,29 @@
+-- Two lists entry by entry.
+use Rattle.std.proofs.Common.{◌≡◌, ℕ, zero, suc, List, [], ◌∷◌, length, refl, sym, ap, arith}
+use Rattle.std.specs.Prelude.{Some, slice_get}
+use Rattle.std.proofs.lemmas.Option.{none-some, same_Some}
+use Rattle.nf_thin_laws.specs.Forcing.{entrywise}
+
+pub entrywise-length : {A B C : Type 0} (f : A → B → C) (xs : List A) (ys : List B) → length xs ≡ length ys → length (entrywise f xs ys) ≡ length ys
+entrywise-length f [] [] h = refl
+entrywise-length f [] (y ∷ ys) h = absurd (omega arith)
+entrywise-length f (x ∷ xs) [] h = absurd (omega arith)
+entrywise-length f (x ∷ xs) (y ∷ ys) h = ap suc (entrywise-length f xs ys (omega arith))
+
+pub entrywise-at : {A B C : Type 0} (f : A → B → C) (xs : List A) (ys : List B) (e : ℕ) (x : A) (y : B) → slice_get xs e ≡ Some x → slice_get ys e ≡ Some y
+    → slice_get (entrywise f xs ys) e ≡ Some (f x y)
+entrywise-at f [] ys e x y h k = absurd (none-some x h)
+entrywise-at f (a ∷ xs) [] e x y h k = absurd (none-some y k)
+entrywise-at f (a ∷ xs) (b ∷ ys) zero x y h k = λ i. Some (f (same_Some a x h i) (same_Some b y k i))
+entrywise-at f (a ∷ xs) (b ∷ ys) (suc e) x y h k = entrywise-at f xs ys e x y h k
+
+-- An entry of the result comes from the entries of both lists.
+abbrev pub Pairs : {A B C : Type 0} → (A → B → C) → List A → List B → ℕ → C → Type 0
+Pairs {A = A} {B = B} f xs ys e z = (x : A) × (y : B) × (slice_get xs e ≡ Some x) × (slice_get ys e ≡ Some y) × (z ≡ f x y)
+
+pub entrywise-parts : {A B C : Type 0} (f : A → B → C) (xs : List A) (ys : List B) (e : ℕ) (z : C) → slice_get (entrywise f xs ys) e ≡ Some z → Pairs f xs ys e z
+entrywise-parts f [] [] e z h = absurd (none-some z h)
+entrywise-parts f [] (b ∷ ys) e z h = absurd (none-some z h)
+entrywise-parts f (a ∷ xs) [] e z h = absurd (none-some z h)
+entrywise-parts f (a ∷ xs) (b ∷ ys) zero z h = (a, b, refl, refl, sym (same_Some (f a b) z h))
+entrywise-parts f (a ∷ xs) (b ∷ ys) (suc e) z h = entrywise-parts f xs ys e z h

@@ -1,0 +1,81 @@
+-- Patterns with forced states have the order of the patterns left.
+use Rattle.std.proofs.Common.{◌≡◌, inl, inr, suc, ◌+◌, Bool, true, false, [], ◌∷◌, length, refl, sym, ap, ◌∙◌, arith}
+use Rattle.std.specs.Prelude.{Option, Some, None, ◌==◌, if◌then◌else◌}
+use Rattle.std.proofs.lemmas.Option.{same_Some}
+use Rattle.nf_model.specs.declared.State.{State}
+use Rattle.nf_model.specs.Pattern.{Pattern, rank, changes, IsEarlier, IsBefore}
+use Rattle.nf_thin_laws.specs.Forcing.{left_of, HasForced, change, forced_changes}
+
+pub changes_first : (b s : Option State) (base p : Pattern) → changes (b ∷ base) (s ∷ p) ≡ change b s + changes base p
+changes_first b s base p = go (rank b == rank s)
+  where
+    go : (t : Bool) → (if t then changes base p else suc (changes base p)) ≡ (if t then 0 else 1) + changes base p
+    go true = omega arith
+    go false = omega arith
+
+pub changes_split : (forced base p : Pattern) → length forced ≡ length p → length base ≡ length p → HasForced forced p
+    → changes base p ≡ forced_changes forced base + changes (left_of forced base) (left_of forced p)
+changes_split [] [] [] n m h = refl
+changes_split [] [] (s ∷ p) n m h = absurd (omega arith)
+changes_split [] (b ∷ base) [] n m h = absurd (omega arith)
+changes_split [] (b ∷ base) (s ∷ p) n m h = absurd (omega arith)
+changes_split (f ∷ forced) [] [] n m h = absurd (omega arith)
+changes_split (f ∷ forced) [] (s ∷ p) n m h = absurd (omega arith)
+changes_split (f ∷ forced) (b ∷ base) [] n m h = absurd (omega arith)
+changes_split (None ∷ forced) (b ∷ base) (s ∷ p) n m h =
+    let one = changes_first b s base p in
+    let other = changes_first b s (left_of forced base) (left_of forced p) in
+    let rest = changes_split forced base p (omega arith) (omega arith) (λ e g k. h (suc e) g k) in
+    omega arith
+changes_split (Some f ∷ forced) (b ∷ base) (s ∷ p) n m h =
+    let one = changes_first b s base p in
+    let other = changes_first None None (left_of forced base) (left_of forced p) in
+    let here : change b s ≡ change b (Some f) = ap (change b) (same_Some s (Some f) (h 0 f refl)) in
+    let rest = changes_split forced base p (omega arith) (omega arith) (λ e g k. h (suc e) g k) in
+    omega arith
+
+pub earlier_left : (forced p q : Pattern) → length forced ≡ length p → length q ≡ length p → HasForced forced p → HasForced forced q
+    → IsEarlier p q → IsEarlier (left_of forced p) (left_of forced q)
+earlier_left [] [] q n m h k less = absurd less
+earlier_left [] (s ∷ p) q n m h k less = absurd (omega arith)
+earlier_left (f ∷ forced) [] q n m h k less = absurd (omega arith)
+earlier_left (f ∷ forced) (s ∷ p) [] n m h k less = absurd (omega arith)
+earlier_left (None ∷ forced) (s ∷ p) (t ∷ q) n m h k (inl less) = inl less
+earlier_left (None ∷ forced) (s ∷ p) (t ∷ q) n m h k (inr less) =
+    inr (less.0, earlier_left forced p q (omega arith) (omega arith) (λ e g z. h (suc e) g z) (λ e g z. k (suc e) g z) less.1)
+earlier_left (Some f ∷ forced) (s ∷ p) (t ∷ q) n m h k (inl less) =
+    let same : rank s ≡ rank t = ap rank (same_Some s (Some f) (h 0 f refl) ∙ sym (same_Some t (Some f) (k 0 f refl))) in absurd (omega arith)
+earlier_left (Some f ∷ forced) (s ∷ p) (t ∷ q) n m h k (inr less) =
+    inr (refl, earlier_left forced p q (omega arith) (omega arith) (λ e g z. h (suc e) g z) (λ e g z. k (suc e) g z) less.1)
+
+pub earlier_put : (forced p q : Pattern) → length forced ≡ length p → length q ≡ length p → HasForced forced p → HasForced forced q
+    → IsEarlier (left_of forced p) (left_of forced q) → IsEarlier p q
+earlier_put [] [] q n m h k less = absurd (none q less)
+  where
+    none : (q : Pattern) → IsEarlier (left_of [] []) (left_of [] q) → ⊥
+    none [] l = l
+    none (t ∷ q) l = l
+earlier_put [] (s ∷ p) q n m h k less = absurd (omega arith)
+earlier_put (f ∷ forced) [] q n m h k less = absurd (omega arith)
+earlier_put (f ∷ forced) (s ∷ p) [] n m h k less = absurd (omega arith)
+earlier_put (None ∷ forced) (s ∷ p) (t ∷ q) n m h k (inl less) = inl less
+earlier_put (None ∷ forced) (s ∷ p) (t ∷ q) n m h k (inr less) =
+    inr (less.0, earlier_put forced p q (omega arith) (omega arith) (λ e g z. h (suc e) g z) (λ e g z. k (suc e) g z) less.1)
+earlier_put (Some f ∷ forced) (s ∷ p) (t ∷ q) n m h k (inl less) = absurd (omega arith)
+earlier_put (Some f ∷ forced) (s ∷ p) (t ∷ q) n m h k (inr less) =
+    inr (same_Some s (Some f) (h 0 f refl) ∙ sym (same_Some t (Some f) (k 0 f refl)), earlier_put forced p q (omega arith) (omega arith) (λ e g z. h (suc e) g z) (λ e g z. k (suc e) g z) less.1)
+
+module _ (forced base p q : Pattern) (n : length forced ≡ length p) (b : length base ≡ length p) (m : length q ≡ length p) (h : HasForced forced p) (k : HasForced forced q) where
+  first : changes base p ≡ forced_changes forced base + changes (left_of forced base) (left_of forced p)
+  first = changes_split forced base p n b h
+
+  second : changes base q ≡ forced_changes forced base + changes (left_of forced base) (left_of forced q)
+  second = changes_split forced base q (n ∙ sym m) (b ∙ sym m) k
+
+  pub before_left : IsBefore base p q → IsBefore (left_of forced base) (left_of forced p) (left_of forced q)
+  before_left (inl less) = let c = first in let d = second in inl (omega arith)
+  before_left (inr less) = let c = first in let d = second in let e = less.0 in inr (omega arith, earlier_left forced p q n m h k less.1)
+
+  pub before_put : IsBefore (left_of forced base) (left_of forced p) (left_of forced q) → IsBefore base p q
+  before_put (inl less) = let c = first in let d = second in inl (omega arith)
+  before_put (inr less) = let c = first in let d = second in let e = less.0 in inr (omega arith, earlier_put forced p q n m h k less.1)

@@ -1,0 +1,169 @@
+-- A phase run has one end: the run state determines each phase, and each cause for which none is made.
+use Rattle.std.proofs.Common.{◌≡◌, ℕ, suc, ◌<◌, List, length, refl, sym, ap, ◌∙◌, subst, arith}
+use Rattle.std.specs.Prelude.{Option, Some, None, Result, Ok, Err, map}
+use Rattle.std.proofs.lemmas.Option.{none-some, same_Some}
+use Rattle.std.proofs.lemmas.List.{length-map, length-replicate}
+use Rattle.nf_rational.specs.Rational.{ℚ}
+use Rattle.nf_rational.specs.Order.{◌≤ℚ◌, ◌<ℚ◌, le_ℚ}
+use Rattle.nf_rational.specs.Operations.{0ℚ}
+use Rattle.nf_rational_laws.proofs.Order.{<ℚ_irrefl, ≤ℚ_antisymm}
+use Rattle.nf_frac_def.specs.Passing.{Passing}
+use Rattle.nf_frac_def.specs.Checked.{placed}
+use Rattle.nf_frac_def.specs.declared.Part.TheVariants.{Slack}
+use Rattle.nf_frac_def.specs.declared.Passed.{Passed}
+use Rattle.nf_frac_def.specs.declared.PassedAt.{PassedAt}
+use Rattle.nf_model.specs.Walk.{IsLeastTransit}
+use Rattle.nf_model.specs.Network.{Network, hop_of, hops, rate_at}
+use Rattle.nf_model.specs.ThinFlow.{slack, slacks_of, sets_at}
+use Rattle.nf_model.specs.Pattern.{Pattern, IsListedIn}
+use Rattle.nf_model.specs.Phases.{AreStartLabels}
+use Rattle.nf_net_def.specs.declared.Cause.{Cause}
+use Rattle.nf_net_def.specs.Report.{Report}
+use Rattle.nf_thin_def.specs.Search.{SearchAnswer, Found, IsSearch}
+use Rattle.nf_thin_def.specs.ReportCurves.{first_label_curve, first_curves}
+use Rattle.nf_thin_def.specs.PhaseRun.{Standing, Bounds, PhaseStep, IsStart, standing_after, cause_of_search, Seeks, phase_lists, Goes, Fails, at_slack, at_search, at_lists, Runs, at_horizon, at_phases, fails, goes, IsPhaseRun, report_of, IsRunReport}
+use Rattle.nf_thin_laws.proofs.Bases.{one_base}
+use Rattle.nf_thin_laws.proofs.Searches.{one_answer}
+use Rattle.nf_rational_laws.proofs.Entries.{same_entries}
+
+-- ---- the start
+module _ (net : Network) where
+  same_least : (v w : ℕ) (a b : ℚ) → IsLeastTransit (hops net) v w a → IsLeastTransit (hops net) v w b → a ≡ b
+  same_least v w a b h k = ≤ℚ_antisymm a b
+      (subst (λ (t : ℚ). a ≤ℚ t) k.taken.2 (h.bound k.taken.0 k.taken.1))
+      (subst (λ (t : ℚ). b ≤ℚ t) h.taken.2 (k.bound h.taken.0 h.taken.1))
+
+  one_start_label : (labels others : List ℚ) → AreStartLabels net labels → AreStartLabels net others → labels ≡ others
+  one_start_label labels others h k = same_entries 0ℚ labels others (h.count ∙ sym k.count)
+      (λ v i. let below : v < net.nodes = subst (λ (n : ℕ). v < n) h.count i in same_least net.source v _ _ (h.each v below) (k.each v below))
+
+  same_standing : (s t : Standing) → s.time ≡ t.time → s.labels ≡ t.labels → s.label_curves ≡ t.label_curves → s.link_curves ≡ t.link_curves → s.made ≡ t.made → s.last ≡ t.last → s ≡ t
+  same_standing s t a b c d e f = λ i. record { time = a i; labels = b i; label_curves = c i; link_curves = d i; made = e i; last = f i }
+
+  pub one_start : (s t : Standing) → IsStart net s → IsStart net t → s ≡ t
+  one_start s t h k =
+      let labels : s.labels ≡ t.labels = one_start_label s.labels t.labels h.labels k.labels in
+      same_standing s t (h.time ∙ sym k.time) labels
+      (h.label_curves ∙ (ap (λ (l : List ℚ). map first_label_curve l) labels ∙ sym k.label_curves))
+      (h.link_curves ∙ (ap (λ (l : List ℚ). map (first_curves l) net.links) labels ∙ sym k.link_curves))
+      (h.made ∙ sym k.made) (h.last ∙ sym k.last)
+
+  -- ---- patterns have an entry for each link
+  pub length-sets : (labels : List ℚ) → length (sets_at net labels).active ≡ length net.links
+  length-sets labels = length-map (slacks_of (hops net) labels) (le_ℚ 0ℚ) ∙ (length-map (hops net) (slack labels) ∙ length-map net.links hop_of)
+
+  pub start_knows : (s : Standing) → IsStart net s → length s.last ≡ length net.links
+  start_knows s h = ap length h.last ∙ length-replicate (length net.links) None
+
+-- ---- one phase
+ok_is_not_err : {A E : Type 0} (r : Result A E) (x : A) (e : E) → r ≡ Ok x → r ≡ Err e → ⊥
+ok_is_not_err r x e h k = cc
+
+same_error : {A E : Type 0} (r : Result A E) (d e : E) → r ≡ Err d → r ≡ Err e → d ≡ e
+same_error r d e h k = cc
+
+module _ (passes : Passing) (net : Network) (horizon : ℚ) (patterns : ℕ) where
+  module _ (s : Standing) (knows : length s.last ≡ length net.links) where
+    one_search : (a b : SearchAnswer) → Seeks passes net horizon patterns s a → Seeks passes net horizon patterns s b → a ≡ b
+    one_search a b h k =
+        let bases : h.search.base ≡ k.search.base = one_base (hops net) (sets_at net s.labels) s.last (knows ∙ sym (length-sets net s.labels)) _ _ h.search.is_base k.search.is_base in
+        one_answer passes net (sets_at net s.labels) (rate_at net s.time) k.search.base patterns a b
+        (subst (λ (base : Pattern). IsSearch passes net (sets_at net s.labels) (rate_at net s.time) base patterns a) bases h.search.is_search)
+        k.search.is_search
+
+    same_lists : (a b : Pattern) (f g k l : List ℚ) → a ≡ b → f ≡ g → k ≡ l → phase_lists passes net horizon s a f k ≡ phase_lists passes net horizon s b g l
+    same_lists a b f g k l p q r = cc
+
+    same_after : (a b : Pattern) (k l : List ℚ) (x y : PhaseStep) → a ≡ b → k ≡ l → x ≡ y → standing_after net s a k x ≡ standing_after net s b l y
+    same_after a b k l x y p q r =
+        ap (λ (w : Pattern). standing_after net s w k x) p ∙ (ap (λ (w : List ℚ). standing_after net s b w x) q ∙ ap (standing_after net s b l) r)
+
+    pub one_phase : (t u : Standing) → Goes passes net horizon patterns s t → Goes passes net horizon patterns s u → t ≡ u
+    one_phase t u h k =
+        let e = one_search (Found h.place h.pattern h.flows h.slopes) (Found k.place k.pattern k.flows k.slopes) h.finds k.finds in
+        let pattern : h.pattern ≡ k.pattern = cc in
+        let flows : h.flows ≡ k.flows = cc in
+        let slopes : h.slopes ≡ k.slopes = cc in
+        let lists = same_lists h.pattern k.pattern h.flows k.flows h.slopes k.slopes pattern flows slopes in
+        let found : ◌≡◌ {A = Result PhaseStep (PassedAt ℚ)} (Ok h.step) (Ok k.step) = sym h.lists ∙ (lists ∙ k.lists) in
+        let step : h.step ≡ k.step = cc in
+        h.new_is ∙ (same_after h.pattern k.pattern h.slopes k.slopes h.step k.step pattern slopes step ∙ sym k.new_is)
+
+    -- ---- one cause
+    search_finds : (a : SearchAnswer) (c : Cause ℚ) (p : ℕ) (b : Pattern) (f k : List ℚ) → Seeks passes net horizon patterns s a → cause_of_search (suc s.made) patterns a ≡ Some c
+        → Seeks passes net horizon patterns s (Found p b f k) → ⊥
+    search_finds a c p b f k h e i = none-some c (ap (cause_of_search (suc s.made) patterns) (sym (one_search a (Found p b f k) h i)) ∙ e)
+
+    pub one_cause : (c d : Cause ℚ) → Fails passes net horizon patterns s c → Fails passes net horizon patterns s d → c ≡ d
+    one_cause c d (at_slack p below e) (at_slack q below' f) =
+        ap (λ (w : Passed ℚ). Cause.Passed (suc s.made) None (placed Slack w)) (same_error _ p q e f)
+    one_cause c d (at_slack p below e) (at_search b d' k f) = absurd (ok_is_not_err _ _ p k.slacks e)
+    one_cause c d (at_slack p below e) (at_lists q b g l r k f) = absurd (ok_is_not_err _ _ p k.slacks e)
+    one_cause c d (at_search a c' h e) (at_slack q below f) = absurd (ok_is_not_err _ _ q h.slacks f)
+    one_cause c d (at_search a c' h e) (at_search b d' k f) =
+        same_Some c d (sym e ∙ (ap (cause_of_search (suc s.made) patterns) (one_search a b h k) ∙ f))
+    one_cause c d (at_search a c' h e) (at_lists q b g l r k f) = absurd (search_finds a c q b g l h e k)
+    one_cause c d (at_lists p a f k r h e) (at_slack q below g) = absurd (ok_is_not_err _ _ q h.slacks g)
+    one_cause c d (at_lists p a f k r h e) (at_search b d' i g) = absurd (search_finds b d p a f k i g h)
+    one_cause c d (at_lists p a f k r h e) (at_lists q b g l t i j) =
+        let found = one_search (Found p a f k) (Found q b g l) h i in
+        let pattern : a ≡ b = cc in
+        let flows : f ≡ g = cc in
+        let slopes : k ≡ l = cc in
+        ap (λ (w : PassedAt ℚ). Cause.Passed (suc s.made) None w) (same_error (phase_lists passes net horizon s b g l) r t (sym (same_lists a b f g k l pattern flows slopes) ∙ e) j)
+
+    pub goes_or_fails : (t : Standing) (c : Cause ℚ) → Goes passes net horizon patterns s t → Fails passes net horizon patterns s c → ⊥
+    goes_or_fails t c h (at_slack q below f) = ok_is_not_err _ _ q h.finds.slacks f
+    goes_or_fails t c h (at_search b c' k f) = search_finds b c h.place h.pattern h.flows h.slopes k f h.finds
+    goes_or_fails t c h (at_lists q b g l r k f) =
+        let found = one_search (Found h.place h.pattern h.flows h.slopes) (Found q b g l) h.finds k in
+        let pattern : h.pattern ≡ b = cc in
+        let flows : h.flows ≡ g = cc in
+        let slopes : h.slopes ≡ l = cc in
+        ok_is_not_err (phase_lists passes net horizon s b g l) h.step r (sym (same_lists h.pattern b h.flows g h.slopes l pattern flows slopes) ∙ h.lists) f
+
+  pub fails_below : (s : Standing) (c : Cause ℚ) → Fails passes net horizon patterns s c → s.time <ℚ horizon
+  fails_below s c (at_slack q below f) = below
+  fails_below s c (at_search b d k f) = k.below
+  fails_below s c (at_lists q b g l r k f) = k.below
+
+  pub goes_knows : (s t : Standing) → Goes passes net horizon patterns s t → length t.last ≡ length net.links
+  goes_knows s t h =
+      let search = h.finds.search.is_search in
+      let listed : IsListedIn net (sets_at net s.labels) h.pattern = search.is_listing.listed h.place h.pattern search.answers.has_place in
+      ap (λ (w : Standing). length w.last) h.new_is ∙ (listed.states.count ∙ length-sets net s.labels)
+
+-- ---- one end
+module _ (passes : Passing) (net : Network) (bounds : Bounds) where
+  not_both : (s : Standing) → s.time ≡ bounds.horizon → s.time <ℚ bounds.horizon → ⊥
+  not_both s e below = <ℚ_irrefl bounds.horizon (subst (λ (t : ℚ). t <ℚ bounds.horizon) e below)
+
+  one_end : (s l m : Standing) (o r : Option (Cause ℚ)) → length s.last ≡ length net.links → Runs passes net bounds s l o → Runs passes net bounds s m r → (l ≡ m) × (o ≡ r)
+  one_end s l m o r knows (at_horizon e) (at_horizon f) = (refl, refl)
+  one_end s l m o r knows (at_horizon e) (at_phases below f) = absurd (not_both s e below)
+  one_end s l m o r knows (at_horizon e) (fails may f) = absurd (not_both s e (fails_below passes net bounds.horizon bounds.patterns s _ f))
+  one_end s l m o r knows (at_horizon e) (goes may g rest) = absurd (not_both s e g.finds.below)
+  one_end s l m o r knows (at_phases below e) (at_horizon f) = absurd (not_both s f below)
+  one_end s l m o r knows (at_phases below e) (at_phases below' f) = (refl, refl)
+  one_end s l m o r knows (at_phases below e) (fails may f) = absurd (omega arith)
+  one_end s l m o r knows (at_phases below e) (goes may g rest) = absurd (omega arith)
+  one_end s l m o r knows (fails may f) (at_horizon e) = absurd (not_both s e (fails_below passes net bounds.horizon bounds.patterns s _ f))
+  one_end s l m o r knows (fails may f) (at_phases below e) = absurd (omega arith)
+  one_end s l m o r knows (fails may f) (fails may' g) = (refl, ap Some (one_cause passes net bounds.horizon bounds.patterns s knows _ _ f g))
+  one_end s l m o r knows (fails may f) (goes may' g rest) = absurd (goes_or_fails passes net bounds.horizon bounds.patterns s knows _ _ g f)
+  one_end s l m o r knows (goes may g rest) (at_horizon e) = absurd (not_both s e g.finds.below)
+  one_end s l m o r knows (goes may g rest) (at_phases below e) = absurd (omega arith)
+  one_end s l m o r knows (goes may g rest) (fails may' f) = absurd (goes_or_fails passes net bounds.horizon bounds.patterns s knows _ _ g f)
+  one_end s l m o r knows (goes {new = t} may g rest) (goes {new = u} may' h other) =
+      let same : t ≡ u = one_phase passes net bounds.horizon bounds.patterns s knows t u g h in
+      one_end t l m o r (goes_knows passes net bounds.horizon bounds.patterns s t g) rest (subst (λ (w : Standing). Runs passes net bounds w m r) (sym same) other)
+
+  pub one_run : (l m : Standing) (o r : Option (Cause ℚ)) → IsPhaseRun passes net bounds l o → IsPhaseRun passes net bounds m r → (l ≡ m) × (o ≡ r)
+  one_run l m o r h k =
+      let first : h.first ≡ k.first = one_start net h.first k.first h.start k.start in
+      one_end k.first l m o r (start_knows net k.first k.start) (subst (λ (w : Standing). Runs passes net bounds w l o) first h.runs) k.runs
+
+pub one_report : (passes : Passing) (net : Network) (bounds : Bounds) (a b : Report) → IsRunReport passes net bounds a → IsRunReport passes net bounds b → a ≡ b
+one_report passes net bounds a b h k =
+    let end = one_run passes net bounds h.last k.last h.stop k.stop h.run k.run in
+    h.report_is ∙ (ap (λ (s : Standing). report_of bounds.horizon s h.stop) end.0 ∙ (ap (report_of bounds.horizon k.last) end.1 ∙ sym k.report_is))

@@ -1,0 +1,18 @@
+use Rattle.std.proofs.Common.{◌≡◌, ◌<◌, ◌≤◌, ℕ, min, length}
+use Rattle.nf_thin_laws.specs.Ways.{ways_by}
+use Rattle.nf_thin_narrow.specs.Rows.{most, number_in}
+use Rattle.nf_thin_narrow.specs.Firming.{states_of_firm}
+use Rattle.nf_thin_narrow.proofs.firm.add_firm.Given as goal
+
+-- entries from this one on are those with the link, and the others are as before
+abbrev pub invariant-loop-k : goal.invariant-loop-k
+invariant-loop-k l = record {
+  count : length l.row ≡ length l.fn.row;
+  within : l.k ≤ length l.fn.row;
+  done : (j : ℕ) → l.k ≤ j → j < length l.fn.row → number_in l.row j ≡ min (ways_by (states_of_firm l.base l.firm) l.base (number_in l.fn.row) j) most;
+  rest : (j : ℕ) → j < l.k → number_in l.row j ≡ number_in l.fn.row j;
+}
+
+-- proposed from the loop's first test
+abbrev pub decreases-loop-k : goal.decreases-loop-k
+decreases-loop-k l = l.k

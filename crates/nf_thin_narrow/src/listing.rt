@@ -1,0 +1,46 @@
+// The listing of the patterns left without the forced links.
+ghost use Rattle.std.specs.Prelude.{◌≡◌, ◌^◌, ◌<◌, length, IfOk};
+ghost use Rattle.nf_model.specs.Pattern.{IsPattern};
+ghost use Rattle.nf_graph.specs.Graph.{AreBelow};
+ghost use Rattle.nf_graph.specs.Sets.{AreSets};
+ghost use Rattle.nf_pattern.specs.Given.{AtStart};
+ghost use Rattle.nf_thin_laws.specs.Forcing.{IsForcing};
+ghost use Rattle.nf_thin_narrow.specs.Asking.{question_left};
+
+use crate::filling::{left_pattern, left_sets};
+use nf_graph::{Hop, LinkSets, NodeId};
+use nf_pattern::{Pattern, Patterns};
+use std::alloc::{AllocError, Global};
+
+/// Returns the listing of the patterns left without the forced links. Fails if an allocation fails. With the forced states put in, these
+/// are the listed patterns that have the forced states, in the same order.
+pub fn narrow_listing(
+    alloc: Global,
+    nodes: u32,
+    source: NodeId,
+    hops: &[Hop],
+    sets: &LinkSets,
+    base: &Pattern,
+    unbounded: &[bool],
+    forced: &Pattern,
+) -> Result<Patterns, AllocError>
+    requires ends { AreBelow nodes hops.now }
+    requires active { length sets.now.active ≡ length hops.now }
+    requires resetting { length sets.now.resetting ≡ length hops.now }
+    requires unbounded { length unbounded.now ≡ length hops.now }
+    requires fewer { length hops.now < 2 ^ 32 }
+    requires base { IsPattern sets.now unbounded.now base.now }
+    requires sets { AreSets sets.now }
+    requires forcing { IsForcing sets.now unbounded.now forced.now }
+    ensures { IfOk result (λ patterns. patterns ≡ record {
+      question = question_left forced.now
+          (record { nodes = nodes; source = source; hops = hops.now; sets = sets.now; unbounded = unbounded.now; base = base.now });
+      last = AtStart;
+      place = 0;
+    }) }
+{
+    let links = hops.len() as u32;
+    let left = left_sets(alloc, forced, sets, links)?;
+    let part = left_pattern(alloc, forced, base, links)?;
+    Patterns::new(alloc, nodes, source, hops, &left, &part, unbounded)
+}

@@ -1,0 +1,63 @@
+-- The numbers of the equations of a pattern, which a table has to hold.
+use Rattle.std.proofs.Common.{◌≡◌, ℕ, ◌+◌, ◌<◌, ◌≤◌, length, Bool, true, false, IsTrue, if◌then◌else◌, slice_get, ⊎_elim, refl, sym, ap, subst, ◌∙◌, arith}
+use Rattle.std.specs.Prelude.{unwrap_or}
+use Rattle.std.proofs.lemmas.Option.{same_Some, slice_get_within}
+use Rattle.nf_rational.specs.Rational.{ℚ}
+use Rattle.nf_rational.specs.Operations.{0ℚ, neg_ℚ, ◌-ℚ◌}
+use Rattle.nf_model.specs.Network.{Link, Network, IsLink}
+use Rattle.nf_thin_def.specs.Equations.{one_if}
+use Rattle.nf_frac.specs.Parts.{IsWithin}
+use Rattle.nf_frac.specs.Short.{short}
+use Rattle.nf_frac.proofs.Turned.{neg_within}
+use Rattle.nf_rational_laws.proofs.Naturals.{before_or_at}
+use Rattle.nf_linear.specs.Holding.{HoldsUnits, takes_small, small_held}
+use Rattle.nf_thin_one.specs.Filling.{HoldsCapacity, HoldsNumbers}
+use Rattle.nf_thin_one.proofs.LinkEntries.{unit_same, unit_leaves, unit_enters}
+
+-- what is a number that is held is one
+pub held_as : (takes : ℚ → Bool) (p q : ℚ) → q ≡ p → IsTrue (takes p) → IsTrue (takes q)
+held_as takes p q e h = subst (λ (r : ℚ). IsTrue (takes r)) (sym e) h
+
+unit_held : (takes : ℚ → Bool) → HoldsUnits takes → (leaves enters : Bool) → IsTrue (takes (one_if leaves -ℚ one_if enters))
+unit_held takes u true true = held_as takes _ _ (sym (unit_same true true refl)) u.zero
+unit_held takes u false false = held_as takes _ _ (sym (unit_same false false refl)) u.zero
+unit_held takes u true false = held_as takes _ _ (sym (unit_leaves true false refl refl)) u.one
+unit_held takes u false true = held_as takes _ _ (sym (unit_enters false true refl refl)) u.minus_one
+
+-- at a node, of a link
+pub factor_held : (takes : ℚ → Bool) → HoldsUnits takes → (leaves enters : Bool) (q : ℚ) → q ≡ one_if leaves -ℚ one_if enters → IsTrue (takes q)
+factor_held takes u leaves enters q e = held_as takes _ q e (unit_held takes u leaves enters)
+
+-- on the right side of a node's row
+pub surplus_held : (takes : ℚ → Bool) → HoldsUnits takes → (here : Bool) (rate q : ℚ) → q ≡ (if here then rate else 0ℚ) → IsTrue (takes rate) → IsTrue (takes q)
+surplus_held takes u true rate q e h = held_as takes rate q e h
+surplus_held takes u false rate q e h = held_as takes 0ℚ q e u.zero
+
+-- where all numbers are held
+pub all_held : (net : Network) (rate : ℚ) → HoldsNumbers (λ (q : ℚ). true) net rate
+all_held net rate = record { supply = refl; capacities = λ e link at. refl }
+
+-- ---- small numbers
+
+-- the capacity of a link, with the other sign
+pub capacity_held : (link : Link) (capacity : ℚ) → capacity ≡ unwrap_or link.capacity 0ℚ → IsWithin short capacity → HoldsCapacity takes_small link
+capacity_held link capacity e w = subst (λ (q : ℚ). IsTrue (takes_small (neg_ℚ q))) e (small_held (neg_ℚ capacity) (neg_within short capacity w))
+
+-- the capacities of the links before number e
+abbrev pub HoldToLink : Network → ℕ → Type 0
+HoldToLink net e = (k : ℕ) (link : Link) → k < e → IsLink net k link → HoldsCapacity takes_small link
+
+pub none_held : (net : Network) → HoldToLink net 0
+none_held net k link before at = absurd (omega arith)
+
+pub one_more_held : (net : Network) (e : ℕ) (here : Link) → HoldToLink net e → IsLink net e here → HoldsCapacity takes_small here → HoldToLink net (e + 1)
+one_more_held net e here so at held k link before there = ⊎_elim
+    (λ (less : k < e). so k link less there)
+    (λ (same : k ≡ e). subst (λ (l : Link). HoldsCapacity takes_small l) (same_Some here link (sym at ∙ (ap (slice_get net.links) (sym same) ∙ there))) held)
+    (before_or_at k e before)
+
+pub all_numbers_held : (net : Network) (rate : ℚ) (e : ℕ) → length net.links ≤ e → HoldToLink net e → IsWithin short rate → HoldsNumbers takes_small net rate
+all_numbers_held net rate e all so w = record {
+  supply = small_held rate w;
+  capacities = λ k link at. let inside : k < length net.links = slice_get_within net.links k link at in so k link (omega arith) at;
+}

@@ -1,0 +1,15 @@
+-- What is found of a table over small numbers alone.
+use Rattle.std.proofs.Common.{◌≡◌, List, Option, Result, Ok, IfOk, IfSome, subst}
+use Rattle.nf_rational.specs.Rational.{ℚ}
+use Rattle.nf_frac_def.specs.Passing.{passes_Q}
+use Rattle.nf_thin_def.specs.Table.{Row, table_list}
+use Rattle.nf_linear.specs.declared.solution.Solved.{Solved}
+use Rattle.nf_linear.specs.Solved.{values_of}
+
+-- it is what is found of the table
+abbrev pub AreFoundOf : List Row → Solved ℚ → Type 0
+AreFoundOf rows solved = table_list passes_Q rows ≡ Ok (values_of (λ (q : ℚ). q) solved)
+
+pub small_found : {E : Type 0} (table rows : List Row) → table ≡ rows → (result : Result (Option (Solved ℚ)) E)
+    → IfOk result (λ found. IfSome found (AreFoundOf table)) → IfOk result (λ found. IfSome found (AreFoundOf rows))
+small_found table rows e result h = subst (λ (t : List Row). IfOk result (λ found. IfSome found (AreFoundOf t))) e h

@@ -1,0 +1,10 @@
+use Rattle.std.proofs.Common.{sym, ◌∙◌, arith}
+use Rattle.std.proofs.lemmas.List.{length-take-le}
+use Rattle.nf_thin_one.proofs.trying.judge_into.Goals as goal
+
+pub returns-clause-flows : goal.returns-clause-flows
+returns-clause-flows c = assumption
+
+pub copy_from_slice-requires : goal.copy_from_slice-requires
+copy_from_slice-requires c =
+    c.requires.slopes ∙ (sym c.node_count.ensures ∙ sym (length-take-le c.node_count.result c.args.values.now (omega (arith, c.node_count.ensures, c.requires.values))))

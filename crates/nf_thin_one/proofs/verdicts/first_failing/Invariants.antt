@@ -1,0 +1,12 @@
+use Rattle.std.proofs.Common.{◌≡◌, drop}
+use Rattle.std.specs.Prelude.{None}
+use Rattle.std.specs.List.{enumerate_from}
+use Rattle.nf_frac_def.specs.Passing.{passes_Q}
+use Rattle.nf_frac_def.specs.Checked.{fold_checked}
+use Rattle.nf_thin_one.specs.Judging.{broken_after}
+use Rattle.nf_thin_one.proofs.verdicts.first_failing.Given as goal
+
+-- what is found so far goes on over the links that are left
+abbrev pub invariant-loop-e : goal.invariant-loop-e
+invariant-loop-e l = fold_checked (broken_after passes_Q l.pattern l.flows l.slopes) None (enumerate_from 0 l.net.net.links)
+    ≡ fold_checked (broken_after passes_Q l.pattern l.flows l.slopes) l.found (drop l.e (enumerate_from 0 l.net.net.links))

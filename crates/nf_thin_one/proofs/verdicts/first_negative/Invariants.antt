@@ -1,0 +1,5 @@
+use Rattle.nf_thin_one.specs.Judging.{NoneNegativeBefore}
+use Rattle.nf_thin_one.proofs.verdicts.first_negative.Given as goal
+
+abbrev pub invariant-loop-v : goal.invariant-loop-v
+invariant-loop-v l = NoneNegativeBefore l.slopes l.v
