@@ -23,5 +23,6 @@ pub mod Resuming
 pub mod Output
 pub mod Alike
 pub mod Unstopped
+pub mod Finished
 pub mod Chained
 pub mod Derived

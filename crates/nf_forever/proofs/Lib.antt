@@ -1,4 +1,3 @@
 pub mod Joined
 pub mod Going
 pub mod Told
-pub mod Unstopped

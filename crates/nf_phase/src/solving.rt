@@ -6,7 +6,6 @@ ghost use Rattle.nf_frac_def.specs.Passing.{passes_Q};
 ghost use Rattle.nf_net_def.specs.WellNamed.{IsNamed};
 ghost use Rattle.nf_thin_def.specs.PhaseRun.{flow_of};
 ghost use Rattle.nf_resume_def.specs.Open.{RunsOn};
-ghost use Rattle.nf_unstopped_laws.specs.Stops.{NeverNoPattern};
 ghost use Rattle.nf_curve.specs.Flows.{flow_of as flow_in};
 ghost use Rattle.nf_phase.specs.Stepping.{Reaches};
 ghost use Rattle.nf_phase.specs.Solution.{IsSolution, IsFinished, bounds_of, report_in, stop_after};
@@ -91,8 +90,9 @@ impl Run {
 
     /// Extends a run phase by phase, each phase by its first accepted pattern. The run ends at the horizon, after as many phases as
     /// allowed, or if no phase can be computed. No phase may have been added since departure 0 or since the run was restored. The horizon
-    /// is a time, not before the departure reached. The resulting flow is an equilibrium. Each phase has a thin flow, so it can't be
-    /// computed only if an operation exceeds its bound or more patterns than allowed are needed. Refuses only if memory can't be allocated.
+    /// is a time, not before the departure reached. The resulting flow is an equilibrium. A phase fails only if an operation exceeds its
+    /// bound or more patterns than allowed are needed: each phase has a thin flow (`nf_unstopped_laws`). Refuses only if memory can't be
+    /// allocated.
     pub fn finish(
         self,
         alloc: Global,
@@ -104,7 +104,6 @@ impl Run {
         requires fresh { self.made ≡ 0 }
         requires horizon { self.time ≤ℚ horizon }
         ensures finished { IfOk result (λ s. IsFinished net.now.net (bounds_of horizon budgets) self s.phases (report_in horizon s)) }
-        ensures never_no_pattern { IfOk result (λ s. NeverNoPattern s.stopped) }
     {
         // Proof: the network is that of an accepted file.
         net.recall();
@@ -116,8 +115,9 @@ impl Run {
 
 /// Solves a network phase by phase from departure 0, each phase by its first accepted pattern. The run ends at the horizon, after as many
 /// phases as allowed, or if no phase can be computed. The resulting flow is an equilibrium (a Nash flow over time: Koch and Skutella 2011).
-/// Each phase has a thin flow, so it can't be computed only if an operation exceeds its bound or more patterns than allowed are needed. The
-/// horizon is a time of at least 0. Refuses only if memory can't be allocated.
+/// A phase fails only if an operation exceeds its bound or more patterns than allowed are needed: each phase has a thin flow, by the
+/// theorem `no_run_stops_for_no_pattern` of `nf_unstopped_laws`. The horizon is a time of at least 0. Refuses only if memory can't be
+/// allocated.
 pub fn solve(
     alloc: Global,
     net: &Network,
@@ -126,7 +126,6 @@ pub fn solve(
 ) -> Result<Solution, AllocError>
     requires { 0ℚ ≤ℚ horizon }
     ensures solution { IfOk result (λ s. IsSolution net.now.net (bounds_of horizon budgets) s.phases (report_in horizon s)) }
-    ensures never_no_pattern { IfOk result (λ s. NeverNoPattern s.stopped) }
 {
     // Proof: the network is that of an accepted file.
     net.recall();

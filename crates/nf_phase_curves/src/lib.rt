@@ -1,5 +1,5 @@
-//! Growing curves of nodes and links in short form, from the start or from the end of other curves, and the steps of the links in a
-//! phase. `reserve_labels` and `reserve_links` allocate first, so `extend_labels` and `extend_links` cannot fail.
+//! Growing curves of nodes and links in short form, from the start or from the end of other curves, and the data and steps of the links
+//! in a phase. `reserve_labels` and `reserve_links` allocate first, so `extend_labels` and `extend_links` cannot fail.
 #![tactic(auto)]
 
 mod copies;

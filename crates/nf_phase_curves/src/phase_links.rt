@@ -13,7 +13,7 @@ use std::marker::Model;
 /// A link in a phase: its capacity and transit time, its flow, whether the flow fills it, the slopes of its end labels, and these labels at
 /// the end of the phase.
 #[derive(Clone, Copy)]
-pub struct LinkPhase {
+pub(crate) struct LinkPhase {
     pub capacity: Option<Q>,
     pub transit: Q,
     pub flow: Q,
@@ -66,7 +66,7 @@ fn is_filled(state: Option<State>, resetting: bool) -> bool
 }
 
 /// Returns the data of a link in a phase, given the labels at the end of the phase.
-pub fn link_phase(
+pub(crate) fn link_phase(
     net: &Network,
     sets: &LinkSets,
     pattern: &Pattern,

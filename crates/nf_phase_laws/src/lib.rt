@@ -1,8 +1,7 @@
-//! Laws of phases: that one phase after the other, by thin flows, leads to a Nash flow over time. Each is the contract of a public
-//! function with an empty body.
+//! Theorems of phases and phase runs. Phases by thin flows, one after the other, make a Nash flow over time (`proofs/Holds`,
+//! `proofs/Lasting`). So the report of a phase run is an equilibrium (`specs/RunLaws`).
 //!
-//! Laws of phase runs: that the report of a run, phase by phase with the first accepted pattern of each, is an equilibrium. Each is the
-//! contract of a public function with an empty body.
+//! Each theorem is the contract of a public function with an empty body.
 #![tactic(auto)]
 
 ghost use Rattle.nf_phase_laws.specs.PhaseLaws.{NashFromInvariant, StartHasInvariant, PhaseKeepsInvariant, PhasesKeepInvariant, PhasesMakeNashFlow};

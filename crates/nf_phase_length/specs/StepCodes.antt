@@ -1,4 +1,4 @@
--- Injective codes of an advance result and of a link's data in a phase, on which the models of the code types depend.
+-- The injective code of an advance result, on which the model of the code type depends.
 use Rattle.std.specs.Prelude.{List, refl}
 use Rattle.std.specs.Coded.{Coded, code_by, coded×, coded_list}
 use Rattle.nf_rational.specs.Rational.{ℚ, coded_ℚ}

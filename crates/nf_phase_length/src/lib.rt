@@ -1,5 +1,4 @@
-//! The data of a phase before a run is extended by it: its greatest length, its length up to a horizon with the labels at its end, and
-//! the data of each link.
+//! The length of a phase, before a run is extended by it: its greatest length, and its length up to a horizon with the labels at its end.
 #![tactic(auto)]
 
 mod advancing;

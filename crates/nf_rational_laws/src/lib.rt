@@ -1,9 +1,7 @@
-//! The laws of the rational numbers, and the solver that proves linear facts about them.
+//! Theorems of the rational numbers, and the solver for linear facts about them (`proofs/Linear`).
 //!
-//! The laws themselves are contracts of the functions below, which do nothing; the lemmas and the solver are in `proofs/`.
-//!
-//! Plain lemmas that several crates use and std doesn't state: on results, on natural numbers and on the entries of lists. See
-//! `proofs/`.
+//! Each theorem is the contract of a public function with an empty body. `proofs/` also has lemmas that several crates use and std
+//! lacks: on results (`Results`), natural numbers (`Naturals`), list entries (`Entries`) and tests of signs (`SignTests`).
 #![tactic(auto)]
 
 ghost use Rattle.nf_rational_laws.specs.Laws.{IsRing, HasQuotients, IsOrdered, IsDecided, RatiosAreReduced};

@@ -11,7 +11,6 @@ ghost use Rattle.nf_check_def.specs.CheckList.{check_list};
 ghost use Rattle.nf_thin_def.specs.PhaseRun.{IsShortFlow};
 ghost use Rattle.nf_resume_def.specs.Resuming.{restart_list};
 ghost use Rattle.nf_resume_def.specs.Meanings.{GoesOnFrom, IsResumedReport};
-ghost use Rattle.nf_unstopped_laws.specs.Stops.{NeverNoPattern};
 ghost use Rattle.nf_curve.specs.Flows.{flow_of};
 ghost use Rattle.nf_report_read.specs.Files.{report_of};
 ghost use Rattle.nf_phase.specs.Restarting.{EndsAtItsLabels};
@@ -78,9 +77,10 @@ fn restart(alloc: Global, net: &Network, report: &Report) -> Result<Run, Halt<Q>
 
 /// Resumes a report to a horizon, phase by phase from the departure that its flow has reached. The run ends at the horizon, after as many
 /// phases as allowed, or if no phase can be computed. The resulting flow is an equilibrium (a Nash flow over time: Koch and Skutella 2011),
-/// and has the report's values up to where the report's flow ends. Each phase has a thin flow, so it can't be computed only if an operation
-/// exceeds its bound or more patterns than allowed are needed. If the run that wrote the report stopped within a phase, the first phase is
-/// the remainder of that phase. The report must be a well-formed one of the network.
+/// and has the report's values up to where the report's flow ends. A phase fails only if an operation exceeds its bound or more patterns
+/// than allowed are needed: each phase has a thin flow, by the theorem `no_run_stops_for_no_pattern` of `nf_unstopped_laws`. If the run
+/// that wrote the report stopped within a phase, the first phase is the remainder of that phase. The report must be a well-formed one of
+/// the network.
 ///
 /// - `Earlier`: exactly if the horizon is before the departure reached. This refusal comes first.
 /// - `No`: if the flow is no equilibrium; has the answer of the check.
@@ -102,7 +102,6 @@ pub fn resume(
     ensures short { IfOk result (λ s. IsShortFlow net.now.net (flow_of s.flow)) }
     ensures ends { IfOk result (λ s. EndsAtItsLabels net.now.net (flow_of s.flow)) }
     ensures formed { IfOk result (λ s. IsWellFormed net.now.net (report_in horizon s)) }
-    ensures never_no_pattern { IfOk result (λ s. NeverNoPattern s.stopped) }
     ensures not_earlier { OnOk result ((report_of report.now).flow.reached ≤ℚ horizon) }
     ensures fault { IfErr result (IsResumeFault passes_Q net.now.net (report_of report.now) horizon) }
 {

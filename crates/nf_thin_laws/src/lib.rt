@@ -1,12 +1,8 @@
-//! Laws of thin flows with resetting: theorems between the definitions of the model, each the contract of a public function with
-//! an empty body. The proofs are in `proofs/`.
+//! Theorems of thin flows, listings and searches. Accepted patterns are thin flows, and all thin flows have the same slopes. A network has
+//! one listing and a search one answer. If no operation passes, lists have their exact values (`specs/ListLaws`).
 //!
-//! Laws of searches and runs: there is at most one listing, one answer and one report, and where no operation passes the lists
-//! have their exact values. Each is the contract of a function that does nothing; the proofs are in `proofs/`.
-//!
-//! Laws of listings of which part is gone through: where slopes of a thin flow are known, the first accepted pattern is found among
-//! those that have the states which the slopes force; and at which place of the whole listing a pattern stands at most. Each is the
-//! contract of a public function with an empty body; the proofs are in `proofs/`.
+//! `specs/NarrowLaws` has the theorems of the narrowed listing: which states slopes force, and how counts of assignments bound a pattern's
+//! rank. Each theorem is the contract of a public function with an empty body.
 #![tactic(auto)]
 
 ghost use Rattle.nf_thin_laws.specs.ActiveLinks.{ActiveLinksHoldNoCycle};

@@ -1,7 +1,6 @@
 use Rattle.nf_frac_def.specs.Passing.{passes_Q}
 use Rattle.nf_forever.specs.Ends.{end_in}
 use Rattle.nf_forever.proofs.Told.{run_answered, form_answered, equilibrium_answered, tail_answered, grows_answered, stop_answered}
-use Rattle.nf_forever.proofs.Unstopped.{never_answered}
 use Rattle.nf_forever.proofs.solving.solve_forever.Goals as goal
 
 pub returns-clause-run : goal.returns-clause-run
@@ -33,9 +32,3 @@ pub returns-clause-stop : goal.returns-clause-stop
 returns-clause-stop c =
     stop_answered passes_Q c.args.net.now.net c.recall.ensures.network c.args.budgets.phases c.args.budgets.patterns c.go.new.run (end_in c.in_ok-end.end) c.in_ok-end.ensures
     c.outcome.result c.outcome.ensures
-
-pub returns-clause-never_no_pattern : goal.returns-clause-never_no_pattern
-returns-clause-never_no_pattern c =
-    never_answered c.args.net.now.net c.args.budgets.phases c.args.budgets.patterns c.recall.ensures.network c.outcome.result
-    (run_answered passes_Q c.args.net.now.net c.recall.ensures.network c.args.budgets.phases c.args.budgets.patterns c.go.new.run (end_in c.in_ok-end.end) c.in_ok-end.ensures
-    c.outcome.result c.outcome.ensures)

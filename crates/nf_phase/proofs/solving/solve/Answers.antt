@@ -5,6 +5,3 @@ use Rattle.nf_phase.proofs.solving.solve.Goals as goal
 pub returns-clause-solution : goal.returns-clause-solution
 returns-clause-solution c =
     solved c.args.net.now.net c.recall.ensures.network (bounds_of c.args.horizon c.args.budgets) c.in_ok-run.run' c.in_ok-run.ensures.starts c.finish.result c.finish.ensures.finished
-
-pub returns-clause-never_no_pattern : goal.returns-clause-never_no_pattern
-returns-clause-never_no_pattern c = c.finish.ensures.never_no_pattern

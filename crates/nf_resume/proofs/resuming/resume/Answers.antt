@@ -40,6 +40,3 @@ returns-clause-equilibrium c = let done = c.in_ok-solution.ensures {u = tt} in d
 
 pub returns-clause-ends : goal.returns-clause-ends
 returns-clause-ends c = let done = c.in_ok-solution.ensures {u = tt} in done.finished.curves_end
-
-pub returns-clause-never_no_pattern : goal.returns-clause-never_no_pattern
-returns-clause-never_no_pattern c = let done = c.in_ok-solution.ensures {u = tt} in done.never_no_pattern

@@ -2,14 +2,9 @@ use Rattle.std.proofs.Common.{refl}
 use Rattle.nf_frac_def.specs.Passing.{passes_Q}
 use Rattle.nf_phase.specs.Solution.{bounds_of}
 use Rattle.nf_phase.proofs.Ended.{finished}
-use Rattle.nf_phase.proofs.Unstopped.{never_finished}
 use Rattle.nf_phase.proofs.run.Run.finish.Goals as goal
 
 pub returns-clause-finished : goal.returns-clause-finished
 returns-clause-finished c =
     finished passes_Q c.args.net.now.net c.recall.ensures.network (bounds_of c.args.horizon c.args.budgets) c.args.self c.requires.reaches c.requires.horizon c.go.new.self c.in_ok-stopped.stopped c.in_ok-stopped.ensures
     refl c.solution.result c.solution.ensures.flow c.solution.ensures.phases c.solution.ensures.last c.solution.ensures.stopped
-
-pub returns-clause-never_no_pattern : goal.returns-clause-never_no_pattern
-returns-clause-never_no_pattern c =
-    never_finished c.args.net.now.net (bounds_of c.args.horizon c.args.budgets) c.recall.ensures.network c.args.self c.requires.reaches c.solution.result (returns-clause-finished c)

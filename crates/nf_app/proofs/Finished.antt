@@ -1,4 +1,4 @@
--- A run never stops because no pattern is left, from any state.
+-- What `Run::finish` returns never stops because no pattern is left, whatever state the run had reached.
 use Rattle.std.proofs.Common.{sym, ap, subst}
 use Rattle.std.specs.Prelude.{Result, Ok, Err, IfOk}
 use Rattle.nf_frac_def.specs.Passing.{passes_Q}
