@@ -1,5 +1,5 @@
 // Curves: points whose times increase strictly from 0.
-ghost use Rattle.std.specs.Prelude.{◌≡◌, ℕ, ◌+◌, ◌<◌, ◌≤◌, [], ◌∷◌, ◌++◌, length, IfOk, OnOk, OnErr, IsOk, slice_get, Some, option_map};
+ghost use Rattle.std.specs.Prelude.{◌≡◌, ℕ, ◌+◌, ◌-◌, ◌<◌, ◌≤◌, [], ◌∷◌, ◌++◌, length, IfOk, OnOk, OnErr, IsOk, slice_get, Some, option_map};
 ghost use Rattle.nf_rational.specs.Rational.{ℚ};
 ghost use Rattle.nf_rational.specs.Operations.{0ℚ};
 ghost use Rattle.nf_rational.specs.Order.{◌≤ℚ◌, ◌<ℚ◌};
@@ -129,6 +129,13 @@ impl Curve {
         ensures { slice_get self.now.points index ≡ Some result }
     {
         self.points[index]
+    }
+
+    /// Returns the time and the value of the last point.
+    pub fn last(&self) -> (Q, Q)
+        ensures { slice_get self.now.points (length self.now.points - 1) ≡ Some result }
+    {
+        self.point(self.len() - 1)
     }
 
     /// Returns the value at `time`, which must be at least 0. The operation sequence is `checked_value` in

@@ -18,7 +18,9 @@ use nf_curve::Flow;
 use nf_frac::Q;
 use nf_net::{Network, start_labels};
 use nf_pattern::Pattern;
-use nf_phase_curves::{GrowingCurve, LinkCurves, copy_labels, copy_links, first_labels, first_links};
+use nf_phase_curves::{
+    GrowingCurve, LinkCurves, copy_labels, copy_links, first_labels, first_links,
+};
 use nf_phase_length::end_of;
 use nf_thin::ThinFlow;
 use std::alloc::{AllocError, Global};

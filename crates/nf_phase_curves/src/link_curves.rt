@@ -126,7 +126,8 @@ impl LinkCurves {
         ensures queue { self.new.grown.queue ≡ queue_after self.old.grown.queue tail_label (step_of queue) }
     {
         self.inflow.extend_or_hold(tail_label, amount, inflow_rate);
-        self.outflow.extend_or_hold(head_label, amount, outflow_rate);
+        self.outflow
+            .extend_or_hold(head_label, amount, outflow_rate);
         self.queue.extend_or_hold(tail_label, queue);
     }
 

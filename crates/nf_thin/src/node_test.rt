@@ -18,7 +18,11 @@ use std::alloc::{AllocError, Global};
 
 /// Returns the flow that fills each link at these slopes of the nodes, an amount per unit of time, in link order. An entry is `None` if the
 /// link is unbounded or the product passes. Fails if an allocation fails.
-pub(crate) fn full_flows(alloc: Global, net: &Network, slopes: &[Q]) -> Result<Vec<Option<Q>>, AllocError>
+pub(crate) fn full_flows(
+    alloc: Global,
+    net: &Network,
+    slopes: &[Q],
+) -> Result<Vec<Option<Q>>, AllocError>
     requires { length slopes.now ≡ net.now.net.nodes }
     ensures { IfOk result (λ full. full.items ≡ full_by passes_Q net.now.net slopes.now) }
 {
