@@ -47,7 +47,7 @@ fn to_zero(goes: bool, least: Option<Q>, slack: Q, change: Q) -> Result<Option<Q
 }
 
 // Returns the least length, including the time in which the slack of a link reaches 0 with these slopes of its ends.
-#[tactic(auto, using(crate::proofs::Signs::opposite_apart))]
+#[tactic(auto, using(nf_rational_laws::proofs::SignTests::opposite_apart))]
 fn after_link(
     least: Option<Q>,
     slack: Q,
