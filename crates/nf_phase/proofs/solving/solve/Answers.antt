@@ -2,6 +2,6 @@ use Rattle.nf_phase.specs.Solution.{bounds_of}
 use Rattle.nf_phase.proofs.Ended.{solved}
 use Rattle.nf_phase.proofs.solving.solve.Goals as goal
 
-pub returns-clause-solution : goal.returns-clause-solution
-returns-clause-solution c =
+pub returns : goal.returns
+returns c =
     solved c.args.net.now.net c.recall.ensures.network (bounds_of c.args.horizon c.args.budgets) c.in_ok-run.run' c.in_ok-run.ensures.starts c.finish.result c.finish.ensures.finished
