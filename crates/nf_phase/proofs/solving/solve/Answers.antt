@@ -4,5 +4,7 @@ use Rattle.nf_phase.proofs.solving.solve.Goals as goal
 
 pub returns : goal.returns
 returns c =
-    record { solution =
-        solved c.args.net.now.net c.recall.ensures.network (bounds_of c.args.horizon c.args.budgets) c.in_ok-run.run' c.in_ok-run.ensures.starts c.finish.result c.finish.ensures.finished }
+    record {
+      solution =
+          solved c.args.net.now.net c.recall.ensures.network (bounds_of c.args.horizon c.args.budgets) c.in_ok-run.run' c.in_ok-run.ensures.starts c.finish.result c.finish.ensures.finished;
+    }
