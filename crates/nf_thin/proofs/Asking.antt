@@ -1,8 +1,8 @@
 -- The listing of a network's patterns, for a search.
 use Rattle.std.proofs.Common.{◌≡◌, subst, ap, ◌∙◌}
-use Rattle.nf_model.specs.Network.{Network, IsNetwork}
+use Rattle.nf_model.specs.Network.{Network, IsNetwork, unbounded}
 use Rattle.nf_model.specs.ThinFlow.{Sets}
-use Rattle.nf_model.specs.Pattern.{Pattern, IsListedIn}
+use Rattle.nf_model.specs.Pattern.{Pattern, IsPattern, IsListedIn}
 use Rattle.std.specs.Prelude.{Option, Some, None, IfSome}
 use Rattle.nf_pattern.specs.Given.{Question, Given, IsQuestion, IsListedBy, Gives}
 use Rattle.nf_thin_equation_laws.specs.Equations.{IsPatternIn}
@@ -34,3 +34,16 @@ first_asked net sets given after asks None gives = tt
 -- The listing's question is a question, for each base.
 pub question_asked : (net : Network) (sets : Sets) (base : Pattern) (given : Given) → AsksOf net sets given → given.question.base ≡ base → IsQuestion (question_of net sets base)
 question_asked net sets base given asks is_base = subst IsQuestion (asks.asked ∙ ap (question_of net sets) is_base) asks.is_question
+
+-- Another base of the same sets makes a question too.
+pub other_base : (net : Network) (sets : Sets) (base other : Pattern) → IsQuestion (question_of net sets other) → IsPattern sets (unbounded net) base
+    → IsQuestion (question_of net sets base)
+other_base net sets base other asked is_base = record {
+  ends = asked.ends;
+  active = asked.active;
+  resetting = asked.resetting;
+  unbounded = asked.unbounded;
+  base = is_base;
+  fewer = asked.fewer;
+  nodes = asked.nodes;
+}

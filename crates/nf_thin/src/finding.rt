@@ -12,8 +12,8 @@ ghost use Rattle.nf_thin.specs.Sifting.{Guides};
 ghost use Rattle.nf_thin.specs.Finding.{NarrowFinds, FindsBy};
 
 use crate::fault::SearchFault;
-use crate::first::first_listed;
 use crate::listings::unbounded_flags;
+use crate::near::near_listed;
 use crate::pace::Pace;
 use crate::sifting::{Guide, guide_of, sift_next};
 use crate::thin::{Thin, ThinFlow};
@@ -175,8 +175,8 @@ fn find_by(
     Ok(Some(thin.flow()))
 }
 
-// Returns a guide guessed from the first listed pattern, or `None`. Fails if an allocation fails.
-fn guide_from_first(
+// Returns a guide guessed from a listed pattern near the base, or `None`. Fails if an allocation fails.
+fn guide_from_base(
     alloc: Global,
     net: &Network,
     sets: &LinkSets,
@@ -189,13 +189,13 @@ fn guide_from_first(
     ensures question { IfOk result (λ found. IsQuestion (question_of net.now.net sets.now base.now)) }
     ensures network { IsNetwork net.now.net }
 {
-    let Some(first) = first_listed(alloc, net, sets, base)? else {
+    let Some(near) = near_listed(alloc, net, sets, base)? else {
         return Ok(None);
     };
-    guide_of(alloc, net, sets, rate, &first)
+    guide_of(alloc, net, sets, rate, &near)
 }
 
-/// Searches by the slopes of a thin flow, guessed from the first listed pattern. `rate` is the supply, an amount per unit of time. Every
+/// Searches by the slopes of a thin flow, guessed from a listed pattern near the base. `rate` is the supply, an amount per unit of time. Every
 /// returned thin flow and refusal is the answer of `search`, except `Memory`, an allocation failure. Returns `None` if the slopes give no
 /// answer; the contract does not say when.
 pub(crate) fn find_by_slopes(
@@ -210,7 +210,7 @@ pub(crate) fn find_by_slopes(
     requires base { IsPattern sets.now (unbounded_of net.now.net) base.now }
     ensures { FindsBy (IsSearch passes_Q net.now.net sets.now rate base.now budget) budget result }
 {
-    match guide_from_first(alloc, net, sets, rate, base)? {
+    match guide_from_base(alloc, net, sets, rate, base)? {
         Some(guide) => find_by(alloc, net, sets, rate, &guide, base, budget),
         None => Ok(None),
     }

@@ -14,7 +14,7 @@ use nf_thin_narrow::goes_on_to;
 use std::alloc::{AllocError, Global};
 
 // The full listing is advanced only after this many rejected patterns. Before that, the next bounds often decide.
-const WALK_AFTER: u64 = 255;
+const WALK_AFTER: u64 = 4095;
 
 /// What a narrow search keeps for the budget status of its patterns. `asked` is the number of rejected patterns at which the bounds on a
 /// pattern's rank are computed next. `walk` is the full listing, advanced to the last pattern. It is `None` until many patterns are

@@ -7,8 +7,8 @@ ghost use Rattle.nf_thin.specs.Keeping.{Tells};
 ghost use Rattle.nf_thin.specs.Searching.{AreSetsOf, question_of};
 
 use crate::firming::firm_states;
-use crate::first::first_listed;
 use crate::listings::{listing, unbounded_flags};
+use crate::near::near_listed;
 use nf_graph::LinkSets;
 use nf_net::Network;
 use nf_pattern::Pattern;
@@ -59,10 +59,10 @@ pub(crate) fn is_late(
     requires pattern { length pattern.now ≡ length net.now.net.links }
     ensures { IfOk result (λ late. late ≡ true → StandsWithin (question_of net.now.net sets.now base.now) pattern.now budget false) }
 {
-    let Some(first) = first_listed(alloc, net, sets, base)? else {
+    let Some(near) = near_listed(alloc, net, sets, base)? else {
         return Ok(false);
     };
-    let firm = firm_states(alloc, net, sets, &first)?;
+    let firm = firm_states(alloc, net, sets, &near)?;
     let ways = firm_ways_before(alloc, base, pattern, &firm)?;
     Ok(ways >= budget)
 }

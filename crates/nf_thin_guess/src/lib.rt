@@ -6,6 +6,7 @@
 mod by_parts;
 mod forest;
 mod guessing;
+mod mending;
 mod node_parts;
 mod numbers;
 mod part_slopes;
@@ -14,3 +15,4 @@ mod reverting;
 mod tight_flows;
 
 pub use guessing::{SolvedPattern, guess};
+pub use mending::mended;

@@ -54,50 +54,63 @@ fn full_links(
     Ok(links)
 }
 
-// Adds a link's term to the coefficients of a component's outflow less its inflow.
-fn add_link(link: FullLink, part: u32, factors: &mut [Q]) -> Result<(), Halt<Q>> {
-    if link.tail == part {
-        return add_at(factors, link.head as usize, link.capacity);
-    }
-    if link.head == part {
-        return take_off_at(factors, link.head as usize, link.capacity);
-    }
-    Ok(())
+// The coefficients of the equations of all components: of each component what leaves it less what enters it, by the slopes of the
+// components. A component's coefficients stand together.
+#[derive(Drop)]
+struct Coefficients {
+    count: u32,
+    sums: Vec<Q>,
 }
 
-// Adds the terms of all links to the coefficients of a component's outflow less its inflow, one coefficient for each component's slope.
-fn leaving_less_entering(links: &[FullLink], part: u32, factors: &mut [Q]) -> Result<(), Halt<Q>> {
+impl Coefficients {
+    // Returns coefficients of 0.
+    fn new(alloc: Global, count: u32) -> Result<Coefficients, AllocError> {
+        let places = (count as usize).saturating_mul(count as usize);
+        let sums = vec![in alloc; Q::zero(); places]?;
+        Ok(Coefficients { count, sums })
+    }
+
+    // Returns the place of the coefficient of a component's slope in the equation of a component.
+    fn place(&self, part: u32, slope: u32) -> usize {
+        let start = (part as usize).saturating_mul(self.count as usize);
+        start.saturating_add(slope as usize)
+    }
+
+    // Returns a coefficient.
+    fn at(&self, part: u32, slope: u32) -> Q {
+        number_or_zero(&self.sums, self.place(part, slope))
+    }
+
+    // Adds the flow of a link, which leaves its tail and enters its head.
+    fn add(&mut self, link: FullLink) -> Result<(), Halt<Q>> {
+        let leaving = self.place(link.tail, link.head);
+        let entering = self.place(link.head, link.head);
+        add_at(&mut self.sums, leaving, link.capacity)?;
+        take_off_at(&mut self.sums, entering, link.capacity)
+    }
+}
+
+// Returns the coefficients with the flows of all links.
+fn summed(alloc: Global, count: u32, links: &[FullLink]) -> Result<Coefficients, Halt<Q>> {
+    let mut sums = Coefficients::new(alloc, count)?;
     for i in 0..links.len() {
-        add_link(links[i], part, factors)?;
+        sums.add(links[i])?;
     }
-    Ok(())
+    Ok(sums)
 }
 
-// Sets an entry of a row that is 0 so far.
+// Sets an entry of the table, if it has such a place.
 fn set_number(table: &mut Table<Q>, size: u32, row: u32, column: u32, number: Q)
-    requires size { length table.old ≡ size }
-    requires row { row < size }
-    requires column { column < size }
+    requires { length table.old ≡ size }
     ensures { length table.new ≡ size }
 {
-    if number.is_zero() {
+    if row >= size {
+        return;
+    }
+    if column >= size {
         return;
     }
     table.set(row, column, number);
-}
-
-// Sets a row of zeros to these coefficients of the slopes, with this right side. The slope of the source's component is 1, and has no
-// column.
-fn set_row(table: &mut Table<Q>, size: u32, row: u32, factors: &[Q], right: Q)
-    requires size { length table.old ≡ size }
-    requires row { row < size }
-    ensures { length table.new ≡ size }
-{
-    for column in 0..size {
-        let factor = number_or_zero(factors, column as usize + 1);
-        set_number(table, size, row, column, factor);
-    }
-    table.set_right(row, right);
 }
 
 // Returns the component whose equation is in a row: that of the row's slope, or the source's component instead of the sink's.
@@ -106,25 +119,78 @@ fn part_of_row(row: u32, sink_part: u32) -> u32 {
     if part == sink_part { 0 } else { part }
 }
 
-// Sets a row to the equation of a component.
-fn fill_row(
-    alloc: Global,
+// Returns the row of a component's equation. Returns `None` for the sink's component, which has none.
+fn row_of_part(part: u32, sink_part: u32) -> Option<u32> {
+    if part == sink_part {
+        return None;
+    }
+    let number = if part == 0 { sink_part } else { part };
+    Some(number.saturating_sub(1))
+}
+
+// Sets the coefficient of a slope in the equation of a component. The slope of the source's component is 1, and has no column.
+fn set_coefficient(
     table: &mut Table<Q>,
     size: u32,
-    row: u32,
-    links: &[FullLink],
+    sums: &Coefficients,
     part: u32,
+    slope: u32,
+    sink_part: u32,
+)
+    requires { length table.old ≡ size }
+    ensures { length table.new ≡ size }
+{
+    if slope == 0 {
+        return;
+    }
+    if let Some(row) = row_of_part(part, sink_part) {
+        set_number(table, size, row, slope - 1, sums.at(part, slope));
+    }
+}
+
+// Sets the coefficients in which the flow of a link is.
+fn set_link(table: &mut Table<Q>, size: u32, sums: &Coefficients, link: FullLink, sink_part: u32)
+    requires { length table.old ≡ size }
+    ensures { length table.new ≡ size }
+{
+    set_coefficient(table, size, sums, link.tail, link.head, sink_part);
+    set_coefficient(table, size, sums, link.head, link.head, sink_part);
+}
+
+// Sets the right side of a row: what leaves the component and is not known by a slope.
+fn set_right(
+    table: &mut Table<Q>,
+    size: u32,
+    sums: &Coefficients,
+    row: u32,
+    sink_part: u32,
     rate: Q,
 ) -> Result<(), Halt<Q>>
     requires size { length table.old ≡ size }
     requires row { row < size }
     ensures { length table.new ≡ size }
 {
-    let mut factors = vec![in alloc; Q::zero(); size as usize + 1]?;
-    leaving_less_entering(links, part, &mut factors)?;
+    let part = part_of_row(row, sink_part);
     let surplus = if part == 0 { rate } else { Q::zero() };
-    let right = at!(Part::Table, surplus.difference(number_or_zero(&factors, 0)));
-    set_row(table, size, row, &factors, right);
+    let right = at!(Part::Table, surplus.difference(sums.at(part, 0)));
+    table.set_right(row, right);
+    Ok(())
+}
+
+// Sets the right sides of all rows.
+fn set_rights(
+    table: &mut Table<Q>,
+    size: u32,
+    sums: &Coefficients,
+    sink_part: u32,
+    rate: Q,
+) -> Result<(), Halt<Q>>
+    requires { length table.old ≡ size }
+    ensures { length table.new ≡ size }
+{
+    for row in 0..size {
+        set_right(table, size, sums, row, sink_part, rate)?;
+    }
     Ok(())
 }
 
@@ -139,11 +205,12 @@ fn slope_table(
     requires some { 0 < size }
     requires few { size ≤ 264 }
 {
+    let sums = summed(alloc, size + 1, links)?;
     let mut table = Table::new(alloc, size)?;
-    for row in 0..size {
-        let part = part_of_row(row, sink_part);
-        fill_row(alloc, &mut table, size, row, links, part, rate)?;
+    for i in 0..links.len() {
+        set_link(&mut table, size, &sums, links[i], sink_part);
     }
+    set_rights(&mut table, size, &sums, sink_part, rate)?;
     Ok(table)
 }
 

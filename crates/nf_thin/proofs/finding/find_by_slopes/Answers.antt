@@ -6,7 +6,7 @@ use Rattle.nf_thin.specs.Sifting.{Guides}
 use Rattle.nf_thin.proofs.finding.find_by_slopes.Goals as goal
 
 pub find_by-requires-clause-network : goal.find_by-requires-clause-network
-find_by-requires-clause-network c = c.guide_from_first.ensures.network
+find_by-requires-clause-network c = c.guide_from_base.ensures.network
 
 pub find_by-requires-clause-guide : goal.find_by-requires-clause-guide
 find_by-requires-clause-guide c =

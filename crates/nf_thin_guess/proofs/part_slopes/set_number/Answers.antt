@@ -3,4 +3,4 @@ use Rattle.std.proofs.lemmas.List.{length-set}
 use Rattle.nf_thin_guess.proofs.part_slopes.set_number.Goals as goal
 
 pub returns : goal.returns
-returns c = ap (λ rows. length rows) c.set.ensures ∙ (length-set c.args.table.now c.args.row _ ∙ c.requires.size)
+returns c = ap (λ rows. length rows) c.set.ensures ∙ (length-set c.args.table.now c.args.row _ ∙ c.requires)

@@ -1,4 +1,4 @@
-// The first listed pattern, with which a guess of slopes begins.
+// A listed pattern near the base: a guess of slopes begins with it, and bounds of ranks go by it. Nothing depends on how near it is.
 ghost use Rattle.std.specs.Prelude.{IfOk, IfSome};
 ghost use Rattle.nf_model.specs.Network.{IsNetwork, unbounded as unbounded_of};
 ghost use Rattle.nf_model.specs.Pattern.{IsPattern, IsListedIn};
@@ -10,6 +10,7 @@ use crate::listings::listing;
 use nf_graph::LinkSets;
 use nf_net::Network;
 use nf_pattern::{Pattern, Patterns};
+use nf_thin_guess::mended;
 use std::alloc::{AllocError, Global};
 
 // Returns a copy of the next listed pattern, or `None` if there is none. Fails if an allocation fails.
@@ -25,8 +26,9 @@ fn copy_next(alloc: Global, patterns: &mut Patterns) -> Result<Option<Pattern>, 
     }
 }
 
-/// Returns a copy of the first listed pattern, or `None` if there is none. Fails if an allocation fails.
-pub(crate) fn first_listed(
+/// Returns a listed pattern near the base, or `None` if there is no listed pattern. It mostly takes no enumeration, even if the first
+/// listed pattern is far from the base. Fails if an allocation fails.
+pub(crate) fn near_listed(
     alloc: Global,
     net: &Network,
     sets: &LinkSets,
@@ -34,11 +36,14 @@ pub(crate) fn first_listed(
 ) -> Result<Option<Pattern>, AllocError>
     requires sets { AreSetsOf net.now.net sets.now }
     requires base { IsPattern sets.now (unbounded_of net.now.net) base.now }
-    ensures pattern { IfOk result (λ found. IfSome found (λ first. IsPatternIn net.now.net sets.now first)) }
-    ensures listed { IfOk result (λ found. IfSome found (λ first. IsListedIn net.now.net sets.now first)) }
+    ensures pattern { IfOk result (λ found. IfSome found (λ near. IsPatternIn net.now.net sets.now near)) }
+    ensures listed { IfOk result (λ found. IfSome found (λ near. IsListedIn net.now.net sets.now near)) }
     ensures question { IfOk result (λ found. IsQuestion (question_of net.now.net sets.now base.now)) }
     ensures network { IsNetwork net.now.net }
 {
-    let mut patterns = listing(alloc, net, sets, base)?;
+    // Proof: the network is well formed.
+    let _ = net.hops();
+    let near = mended(alloc, net, sets, base)?;
+    let mut patterns = listing(alloc, net, sets, &near)?;
     copy_next(alloc, &mut patterns)
 }

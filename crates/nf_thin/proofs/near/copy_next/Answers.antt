@@ -2,7 +2,7 @@ use Rattle.std.proofs.Common.{sym, subst}
 use Rattle.std.specs.Prelude.{option_copied, Some}
 use Rattle.nf_model.specs.Pattern.{Pattern}
 use Rattle.nf_pattern.specs.Given.{Gives}
-use Rattle.nf_thin.proofs.first.copy_next.Goals as goal
+use Rattle.nf_thin.proofs.near.copy_next.Goals as goal
 
 pub returns-in_ok-pattern-in-Some : goal.returns-in_ok-pattern-in-Some
 returns-in_ok-pattern-in-Some c =

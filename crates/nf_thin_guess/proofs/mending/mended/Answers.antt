@@ -1,0 +1,7 @@
+use Rattle.std.proofs.Common.{sym, subst}
+use Rattle.nf_model.specs.Pattern.{Pattern}
+use Rattle.nf_thin_equation_laws.specs.Equations.{IsPatternIn}
+use Rattle.nf_thin_guess.proofs.mending.mended.Goals as goal
+
+pub cut_cycles-requires : goal.cut_cycles-requires
+cut_cycles-requires c = subst (λ (p : Pattern). IsPatternIn c.args.net.now.net c.args.sets.now p) (sym c.in_ok-near.ensures) c.requires

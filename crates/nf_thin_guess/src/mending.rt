@@ -1,0 +1,149 @@
+// A pattern near a base whose Tight links close no cycle, and which enters each node, if changes of single links can bring that about.
+// Nothing depends on how near it is, and whether it is listed is tested by the caller.
+ghost use Rattle.std.specs.Prelude.{◌≡◌, ◌<◌, length, IfOk};
+ghost use Rattle.nf_thin_equation_laws.specs.Equations.{IsPatternIn};
+
+use crate::forest::Forest;
+use crate::repairs::change;
+use nf_graph::{LinkId, LinkSets, NodeId};
+use nf_model::State;
+use nf_net::Network;
+use nf_pattern::Pattern;
+use nf_thin_one::may_carry;
+use std::alloc::{AllocError, Global};
+
+// Adds a Tight link to the forest. If it closes a cycle there, changes it to Full, or to Zero if it is unbounded.
+fn keep_or_loosen(
+    net: &Network,
+    sets: &LinkSets,
+    link: LinkId,
+    forest: &mut Forest,
+    pattern: &mut Pattern,
+) -> Result<(), AllocError>
+    requires pattern { IsPatternIn net.now.net sets.now pattern.old }
+    requires link { link < length net.now.net.links }
+    ensures { IsPatternIn net.now.net sets.now pattern.new }
+{
+    match pattern.state(link) {
+        Some(State::Tight) => {}
+        _ => return Ok(()),
+    }
+    let here = net.link(link);
+    if forest.grow(here.tail, here.head)? {
+        return Ok(());
+    }
+    if !change(net, sets, pattern, link, State::Full) {
+        let _ = change(net, sets, pattern, link, State::Zero);
+    }
+    Ok(())
+}
+
+// Changes each Tight link that closes a cycle with earlier ones. Returns the forest of those that stay.
+fn cut_cycles(
+    alloc: Global,
+    net: &Network,
+    sets: &LinkSets,
+    pattern: &mut Pattern,
+) -> Result<Forest, AllocError>
+    requires { IsPatternIn net.now.net sets.now pattern.old }
+    ensures { IsPatternIn net.now.net sets.now pattern.new }
+{
+    let mut forest = Forest::new(alloc, net.node_count())?;
+    for e in 0..net.link_count() {
+        keep_or_loosen(net, sets, LinkId(e), &mut forest, pattern)?;
+    }
+    Ok(forest)
+}
+
+// Sets the flag of a node, if it has one.
+fn note(flags: &mut [bool], node: NodeId) {
+    if node.index() < flags.len() {
+        flags[node.index()] = true;
+    }
+}
+
+// Returns whether the flag of a node is set.
+fn is_noted(flags: &[bool], node: NodeId) -> bool {
+    node.index() < flags.len() && flags[node.index()]
+}
+
+// Returns a flag for each node: whether it is the source, or a link that may carry flow enters it. Fails if an allocation fails.
+fn entered_nodes(
+    alloc: Global,
+    net: &Network,
+    sets: &LinkSets,
+    pattern: &Pattern,
+) -> Result<Vec<bool>, AllocError>
+    requires { IsPatternIn net.now.net sets.now pattern.now }
+{
+    let mut entered = vec![in alloc; false; net.node_count() as usize]?;
+    note(&mut entered, net.source());
+    for e in 0..net.link_count() {
+        if may_carry(sets, pattern, LinkId(e)) {
+            note(&mut entered, net.link(LinkId(e)).head);
+        }
+    }
+    Ok(entered)
+}
+
+// Changes a link with a state so that it enters its head: to Tight, or to Full if it would close a cycle. Returns whether it did.
+fn enter_by(
+    net: &Network,
+    sets: &LinkSets,
+    link: LinkId,
+    forest: &mut Forest,
+    pattern: &mut Pattern,
+) -> Result<bool, AllocError>
+    requires pattern { IsPatternIn net.now.net sets.now pattern.old }
+    requires link { link < length net.now.net.links }
+    ensures { IsPatternIn net.now.net sets.now pattern.new }
+{
+    if pattern.state(link).is_none() {
+        return Ok(false);
+    }
+    let here = net.link(link);
+    if forest.grow(here.tail, here.head)? {
+        return Ok(change(net, sets, pattern, link, State::Tight));
+    }
+    Ok(change(net, sets, pattern, link, State::Full))
+}
+
+// Changes a link into each node that is not entered, if it has one with a state.
+fn enter_nodes(
+    net: &Network,
+    sets: &LinkSets,
+    entered: &mut [bool],
+    forest: &mut Forest,
+    pattern: &mut Pattern,
+) -> Result<(), AllocError>
+    requires { IsPatternIn net.now.net sets.now pattern.old }
+    ensures { IsPatternIn net.now.net sets.now pattern.new }
+{
+    for e in 0..net.link_count() {
+        let head = net.link(LinkId(e)).head;
+        if !is_noted(entered, head) {
+            if enter_by(net, sets, LinkId(e), forest, pattern)? {
+                note(entered, head);
+            }
+        }
+    }
+    Ok(())
+}
+
+/// Returns a pattern near a base that is mostly listed: links whose change ends a cycle of Tight links, or enters a node, are changed.
+/// Fails if an allocation fails.
+pub fn mended(
+    alloc: Global,
+    net: &Network,
+    sets: &LinkSets,
+    base: &Pattern,
+) -> Result<Pattern, AllocError>
+    requires { IsPatternIn net.now.net sets.now base.now }
+    ensures { IfOk result (λ near. IsPatternIn net.now.net sets.now near) }
+{
+    let mut near = base.copy(alloc)?;
+    let mut forest = cut_cycles(alloc, net, sets, &mut near)?;
+    let mut entered = entered_nodes(alloc, net, sets, &near)?;
+    enter_nodes(net, sets, &mut entered, &mut forest, &mut near)?;
+    Ok(near)
+}
