@@ -9,3 +9,4 @@ pub mod Differing
 pub mod Shortening
 pub mod Between
 pub mod Composing
+pub mod Whole

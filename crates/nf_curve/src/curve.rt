@@ -83,6 +83,13 @@ impl Curve {
         self.points.reserve(more)
     }
 
+    /// Gives back the room beyond the points, as far as the allocator takes it. The points stay the same.
+    pub fn shrink_to_fit(&mut self)
+        ensures { self.new.points ≡ self.old.points }
+    {
+        self.points.shrink_to_fit();
+    }
+
     /// Appends a point, whose time must be after the last one. If the allocation fails, the points stay the same. The allocation cannot
     /// fail if room was reserved.
     pub fn push(&mut self, time: Q, value: Q) -> Result<(), AllocError>

@@ -76,7 +76,7 @@ pub(crate) fn least_points(
 {
     let first = first_moment(left, right);
     let mut before = sides_at(left, right, &first, part)?;
-    let mut points = Vec::new(alloc);
+    let mut points = Vec::with_capacity(alloc, left.len() + right.len())?;
     points.push(least_point(&before))?;
     let mut now = next_moment(left, right, &first);
     while let Some(moment) = now {

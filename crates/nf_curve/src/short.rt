@@ -25,7 +25,7 @@ fn keep_if_turning(
     Ok(())
 }
 
-/// Returns the points of a curve without the inner ones that have equal slopes on both sides.
+/// Returns the points of a curve without the inner ones that have equal slopes on both sides. Gives back the room that is left.
 pub(crate) fn short_points(
     alloc: Global,
     points: &[Point],
@@ -34,7 +34,7 @@ pub(crate) fn short_points(
     requires { IsCurve points.now }
     ensures { Gives (λ points. points.items) (λ q. q) result (at_part part (checked_short passes_Q points.now)) }
 {
-    let mut short = Vec::new(alloc);
+    let mut short = Vec::with_capacity(alloc, points.len())?;
     short.push(points[0])?;
     if points.len() == 1 {
         return Ok(short);
@@ -46,5 +46,6 @@ pub(crate) fn short_points(
         before = after;
     }
     short.push(points[points.len() - 1])?;
+    short.shrink_to_fit();
     Ok(short)
 }

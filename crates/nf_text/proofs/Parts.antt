@@ -11,7 +11,7 @@ use Rattle.std.proofs.lemmas.List.Sums.{fails_before_first}
 use native.Mathlib.Decide.{dec_lt, dec_le}
 use Rattle.nf_text_def.specs.Words.{is_blank, parts_with_bytes}
 use Rattle.nf_text.specs.declared.Span.{Span}
-use Rattle.nf_text.specs.Spans.{text_of, Rise}
+use Rattle.nf_text.specs.Spans.{text_of, between, Rise}
 use Rattle.nf_text.proofs.Positions.{position_or_len_within}
 
 -- the words of bytes with no comment
@@ -47,13 +47,10 @@ words_of-first bytes len e = at (dec_lt (position_or_len is_blank bytes) (length
         ∙ ap (λ t. parts_with_bytes (t ∷ []) ++ []) (sym all) ∙ ap (λ t. parts_with_bytes (take len bytes ∷ []) ++ words_of t) (sym rest)
 
 -- ---- at places of a text
-abbrev pub between : List ℕ → ℕ → ℕ → List ℕ
-between text at end = take (end - at) (drop at text)
-
 abbrev pub words_between : List ℕ → ℕ → ℕ → List (List ℕ)
 words_between text at end = words_of (between text at end)
 
-drop-between : (text : List ℕ) (at end n : ℕ) → drop n (between text at end) ≡ between text (at + n) end
+pub drop-between : (text : List ℕ) (at end n : ℕ) → drop n (between text at end) ≡ between text (at + n) end
 drop-between text at end n = by (dec_le (at + n) end)
   where
     by : Dec (at + n ≤ end) → drop n (between text at end) ≡ between text (at + n) end

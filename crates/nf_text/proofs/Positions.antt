@@ -7,7 +7,6 @@ use Rattle.std.proofs.lemmas.Bool.{cond_below, cond_above}
 use Rattle.std.proofs.lemmas.List.Sums.{prefix_len-le-length, position_or_len_is}
 use Rattle.std.specs.Prelude.{not}
 use native.Mathlib.Decide.{dec_lt}
-use Rattle.nf_text_def.specs.Words.{is_blank}
 
 pub position_or_len_within : {X : Type 0} (p : X → Bool) (xs : List X) → position_or_len p xs ≤ length xs
 position_or_len_within p xs = prefix_len-le-length (λ x. not (p x)) xs
@@ -33,12 +32,6 @@ first_there p xs i d h before e = sym (position_or_len_is p xs i d (omega (arith
 pub none_there : {X : Type 0} (p : X → Bool) (xs : List X) (i n : ℕ) (d : X) → length xs ≤ i → n ≡ length xs → ((k : ℕ) → k < i → p (get_or xs k d) ≡ false)
     → n ≡ position_or_len p xs
 none_there p xs i n d h e before = sym (position_or_len_is p xs n d (omega (arith, e)) (λ k l. before k (omega (arith, l, h, e))) (λ l. absurd (omega (arith, l, e))))
-
-pub is_space : (b : ℕ) → b ≡ 32 → is_blank b ≡ true
-is_space b e = ap is_blank e
-
-pub is_tab : (b : ℕ) → b ≡ 9 → is_blank b ≡ true
-is_tab b e = ap is_blank e
 
 -- ---- a row of elements that all fail the test is passed over
 prefix_over : {X : Type 0} (q : X → Bool) (n : ℕ) (xs : List X) → n ≤ length xs → list_all q (take n xs) ≡ true → prefix_len q xs ≡ n + prefix_len q (drop n xs)

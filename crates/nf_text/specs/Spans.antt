@@ -1,6 +1,5 @@
 -- Words by their places in a text.
-use Rattle.std.specs.Prelude.{◌≡◌, ◌++◌, false, Option, MatchOption, ℕ, ◌+◌, ◌<◌, ◌≤◌, List, [], ◌∷◌, take, drop, Bool, if◌then◌else◌}
-use Rattle.std.specs.Borrow.{Bor}
+use Rattle.std.specs.Prelude.{◌≡◌, ◌++◌, false, Option, MatchOption, ℕ, ◌+◌, ◌-◌, ◌<◌, ◌≤◌, List, [], ◌∷◌, take, drop, Bool, if◌then◌else◌}
 use Rattle.std.specs.Str.{bytes_eq}
 use Rattle.nf_text.specs.declared.Span.{Span}
 
@@ -18,7 +17,12 @@ Rise first last (span ∷ spans) = (first ≤ span.start) × (0 < span.len) × (
 abbrev pub space_before : Bool → List ℕ → List ℕ
 space_before spaced word = if spaced then 32 ∷ word else word
 
--- the line begins with these bytes and goes on as the rest, or it doesn't begin with them: told by what comparisons answer
-abbrev pub GoesOn : List ℕ → List ℕ → Option (Bor (List ℕ)) → Type 0
-GoesOn line front rest = (tail : List ℕ)
-    → MatchOption rest (bytes_eq line (front ++ tail) ≡ false) (λ r. bytes_eq line (front ++ tail) ≡ bytes_eq r.now tail)
+-- the bytes between two places of a text
+abbrev pub between : List ℕ → ℕ → ℕ → List ℕ
+between text start end = take (end - start) (drop start text)
+
+-- the line, a part of a text, begins with these bytes and goes on at a place of the text, or it doesn't begin with them: told by what
+-- comparisons answer
+abbrev pub GoesOn : List ℕ → ℕ → List ℕ → List ℕ → Option ℕ → Type 0
+GoesOn text end line front next = (tail : List ℕ)
+    → MatchOption next (bytes_eq line (front ++ tail) ≡ false) (λ n. bytes_eq line (front ++ tail) ≡ bytes_eq (between text n end) tail)

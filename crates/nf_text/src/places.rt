@@ -60,13 +60,23 @@ fn place_of(bytes: &[u8], wanted: u8) -> usize
     bytes.len()
 }
 
+// Returns whether a byte is a space or a tab. Most bytes are above both, so one comparison tells.
+fn is_gap(byte: u8) -> bool
+    ensures { result ≡ is_blank byte }
+{
+    if byte > b' ' {
+        return false;
+    }
+    byte == b' ' || byte == b'\t'
+}
+
 /// Returns how many bytes stand before the first blank.
 pub fn word_len(line: &[u8]) -> usize
     ensures place { result ≡ position_or_len is_blank line.now }
     ensures within { result ≤ length line.now }
 {
     for (place, byte) in line.iter().enumerate() {
-        if *byte == b' ' || *byte == b'\t' {
+        if is_gap(*byte) {
             return place;
         }
     }

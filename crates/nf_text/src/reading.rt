@@ -99,7 +99,7 @@ pub fn read_line(
     check_line(bytes, number)?;
     let words = spans(alloc, text, start, start + comment_start(bytes))?;
     let next = start + extent.whole;
-    let plain = is_plain(text, &text[start..next], &words);
+    let plain = is_plain(text, start, next, &words);
     Ok((
         Line {
             number,

@@ -25,7 +25,7 @@ returns-in_err-before c =
 pub loop-now-init : goal.loop-now-init
 loop-now-init c =
     let one : c.push.new.self.items ≡ least_point (sides_of c.in_ok-before.before) ∷ [] =
-    c.in_ok-push.ensures.items ∙ ap (λ (l : List (ℚ × ℚ)). l ++ c.least_point.result ∷ []) c.new-points.ensures.items ∙ ap (λ (p : ℚ × ℚ). p ∷ []) c.least_point.ensures in
+    c.in_ok-push.ensures.items ∙ ap (λ (l : List (ℚ × ℚ)). l ++ c.least_point.result ∷ []) c.in_ok-points.ensures.items ∙ ap (λ (p : ℚ × ℚ). p ∷ []) c.least_point.ensures in
     let w : with_front c.push.new.self.items (least_after passes_Q c.args.left.now c.args.right.now (sides_of c.in_ok-before.before) (times_after c.first_moment-first.result.time c.args.left.now c.args.right.now))
     ≡ least_from passes_Q c.args.left.now c.args.right.now (both_times c.args.left.now c.args.right.now) =
     ap (λ (l : List (ℚ × ℚ)). with_front l (least_after passes_Q c.args.left.now c.args.right.now (sides_of c.in_ok-before.before) (times_after c.first_moment-first.result.time c.args.left.now c.args.right.now)))
@@ -68,6 +68,10 @@ loop-now-preserved c =
 pub returns : goal.returns
 unfolding checked_least
 returns c = front_ends c.args.part c.loop-now.points.items _ (rw c.in_default.is at c.loop-now.invariant.so_far)
+
+pub returns-in_err-points : goal.returns-in_err-points
+returns-in_err-points c =
+    let p = err_from_is_err_and c.from_residual-in_err-points.result c.from_residual-in_err-points.ensures.1 in rw (p.1, p.2) tt
 
 pub returns-in_err-push : goal.returns-in_err-push
 returns-in_err-push c =

@@ -17,7 +17,7 @@ pub returns-then-points-eq1 : goal.returns-then-points-eq1
 returns-then-points-eq1 c =
     let b : 0 < length c.args.points.now = omega arith in
     let g = slice_get_read c.args.points.now _ 0 c.index-points-0.result refl b c.index-points-0.is in
-    let one : c.push.new.self.items ≡ c.index-points-0.result ∷ [] = c.in_ok-push.ensures.items ∙ ap (λ (l : List (ℚ × ℚ)). l ++ c.index-points-0.result ∷ []) c.new-short.ensures.items in
+    let one : c.push.new.self.items ≡ c.index-points-0.result ∷ [] = c.in_ok-push.ensures.items ∙ ap (λ (l : List (ℚ × ℚ)). l ++ c.index-points-0.result ∷ []) c.in_ok-short.ensures.items in
     rw one (short_alone passes_Q c.args.part c.args.points.now c.index-points-0.result g c.if-points-eq1.true)
 
 pub bounds-points-0-2 : goal.bounds-points-0-2
@@ -52,7 +52,7 @@ loop-i-init c =
     let g = slice_get_read c.args.points.now _ 0 c.index-points-0-2.result refl a c.index-points-0-2.is in
     let k = slice_get_read c.args.points.now _ 0 c.index-points-0.result refl a c.index-points-0.is in
     let same : c.index-points-0.result ≡ c.index-points-0-2.result = same_Some _ _ (sym k ∙ g) in
-    let one : c.push.new.self.items ≡ c.index-points-0-2.result ∷ [] = c.in_ok-push.ensures.items ∙ ap (λ (l : List (ℚ × ℚ)). l ++ c.index-points-0.result ∷ []) c.new-short.ensures.items
+    let one : c.push.new.self.items ≡ c.index-points-0-2.result ∷ [] = c.in_ok-push.ensures.items ∙ ap (λ (l : List (ℚ × ℚ)). l ++ c.index-points-0.result ∷ []) c.in_ok-short.ensures.items
     ∙ ap (λ (x : ℚ × ℚ). x ∷ []) same in
     rw one (begin_goes passes_Q c.args.part c.args.points.now c.index-points-0-2.result c.index-points-1.result
     g (slice_get_read c.args.points.now _ 1 c.index-points-1.result refl b c.index-points-1.is)
@@ -100,12 +100,15 @@ returns c =
     let b : length c.args.points.now - 1 < length c.args.points.now = last_there _ a in
     let i : c.loop-i.i ≡ length c.args.points.now - 1 = omega arith in
     let g = slice_get_read c.args.points.now _ (length c.args.points.now - 1) c.index-points-points.result refl b c.index-points-points.is in
-    rw c.in_ok-push-2.ensures.items (short_ends passes_Q c.args.part c.args.points.now c.loop-i.short.items c.loop-i.before c.loop-i.i c.index-points-points.result
+    rw (c.shrink_to_fit.ensures.items ∙ c.in_ok-push-2.ensures.items) (short_ends passes_Q c.args.part c.args.points.now c.loop-i.short.items c.loop-i.before c.loop-i.i c.index-points-points.result
     (ap (slice_get c.args.points.now) i ∙ g) (omega arith) c.loop-i.invariant)
+
+pub returns-in_err-short : goal.returns-in_err-short
+returns-in_err-short c = let p = err_from_is_err_and c.from_residual.result c.from_residual.ensures.1 in rw (p.1, p.2) tt
 
 pub returns-in_err-push : goal.returns-in_err-push
 returns-in_err-push c =
-    let p = err_from_is_err_and c.from_residual.result c.from_residual.ensures.1 in rw (p.1, p.2) tt
+    let p = err_from_is_err_and c.from_residual-in_err-push.result c.from_residual-in_err-push.ensures.1 in rw (p.1, p.2) tt
 
 pub returns-in_err-keep_if_turning : goal.returns-in_err-keep_if_turning
 returns-in_err-keep_if_turning c =

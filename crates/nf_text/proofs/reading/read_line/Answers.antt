@@ -11,8 +11,8 @@ use Rattle.nf_text.proofs.Extents.{line_bytes, next_after, next_within}
 use Rattle.nf_text.proofs.LineWords.{words_of_line, line_is_read, comment_within}
 use Rattle.nf_text.proofs.reading.read_line.Goals as goal
 
-pub is_plain-plain-requires : goal.is_plain-plain-requires
-is_plain-plain-requires c =
+pub is_plain-plain-requires-clause-words : goal.is_plain-plain-requires-clause-words
+is_plain-plain-requires-clause-words c =
     let rest = drop c.args.start c.args.text.now in
     let extent = c.first_extent-extent.result in
     let within : c.comment_start.result ≤ extent.whole = comment_within rest c.args.start extent.bytes c.comment_start.result extent.whole c.comment_start.ensures.within c.first_extent-extent.ensures.ordered in

@@ -1,15 +1,13 @@
-use Rattle.std.proofs.Common.{sym, ◌∙◌}
-use Rattle.nf_text.proofs.Plain.{begins, begins_not, front_fits}
+use Rattle.std.proofs.Common.{sym, ◌∙◌, ap, ◌+◌}
+use Rattle.nf_text.specs.Spans.{text_of, between}
+use Rattle.nf_text.proofs.Plain.{begins, begins_not, text_of-length}
 use Rattle.nf_text.proofs.words.after.Goals as goal
 
-pub returns-then-begins_with : goal.returns-then-begins_with
-returns-then-begins_with c = begins c.args.line.now c.args.front.now (sym c.begins_with.ensures ∙ c.if-begins_with.true)
+pub returns-then-has_word-clause-goes_on : goal.returns-then-has_word-clause-goes_on
+returns-then-has_word-clause-goes_on c =
+    begins c.args.text.now c.args.at c.args.end (c.args.at + c.args.word.len) (text_of c.args.text.now c.args.word)
+    (ap (λ n. c.args.at + n) (sym (text_of-length c.args.text.now c.args.word c.requires.word))) (sym c.has_word.ensures.same ∙ c.if-has_word.true)
 
-pub returns-else-begins_with : goal.returns-else-begins_with
-returns-else-begins_with c = begins_not c.args.line.now c.args.front.now (sym c.begins_with.ensures ∙ c.if-begins_with.false)
-
-pub slice_bounds-result-count : goal.slice_bounds-result-count
-slice_bounds-result-count c = front_fits c.args.line.now c.args.front.now (sym c.begins_with.ensures ∙ c.if-begins_with.true)
-
-pub slice_bounds-result-start : goal.slice_bounds-result-start
-slice_bounds-result-start c = front_fits c.args.line.now c.args.front.now (sym c.begins_with.ensures ∙ c.if-begins_with.true)
+pub returns-else-has_word-clause-goes_on : goal.returns-else-has_word-clause-goes_on
+returns-else-has_word-clause-goes_on c =
+    begins_not (between c.args.text.now c.args.at c.args.end) (text_of c.args.text.now c.args.word) (sym c.has_word.ensures.same ∙ c.if-has_word.false)

@@ -1,0 +1,32 @@
+use Rattle.std.proofs.Common.{◌≡◌, ◌-◌, ◌<◌, length, suc, get_or, refl, sym, ap, subst, ◌∙◌, arith}
+use Rattle.std.specs.Prelude.{Ok}
+use Rattle.std.proofs.lemmas.Option.{slice_get_read}
+use Rattle.nf_rational.specs.Rational.{ℚ}
+use Rattle.nf_rational.specs.Operations.{0ℚ}
+use Rattle.nf_rational.specs.Order.{◌≤ℚ◌}
+use Rattle.nf_frac_def.specs.Passing.{passes_Q}
+use Rattle.nf_curve_def.specs.Values.{checked_cut}
+use Rattle.nf_curve_laws.proofs.Operations.{same_of}
+use Rattle.nf_curve.proofs.Points.{points_there}
+use Rattle.nf_curve.proofs.Placing.{last_there}
+use Rattle.nf_curve.proofs.Whole.{whole_cut}
+use Rattle.nf_curve.proofs.composed.ends_at.Goals as goal
+
+pub overflow_sub-points : goal.overflow_sub-points
+overflow_sub-points c = let some = points_there c.args.points.now c.requires.curve in omega arith
+
+pub bounds-points-points : goal.bounds-points-points
+bounds-points-points c = let some = points_there c.args.points.now c.requires.curve in omega arith
+
+pub returns : goal.returns
+returns c = λ yes.
+    let points = c.args.points.now in
+    let p = c.index-points-points.result in
+    let a : 0 < length points = points_there points c.requires.curve in
+    let b : length points - 1 < length points = last_there _ a in
+    let g = slice_get_read points _ (length points - 1) p refl b c.index-points-points.is in
+    let all : length points ≡ suc (length points - 1) = omega (arith, a) in
+    let read : ℚ × ℚ = get_or points (length points - 1) p in
+    let same : p.0 ≡ c.args.last = ap (λ (x : ℚ × ℚ). x.0) c.index-points-points.is ∙ same_of read.0 c.args.last (sym c.is_same.ensures ∙ yes) in
+    let last : 0ℚ ≤ℚ p.0 = subst (λ (t : ℚ). 0ℚ ≤ℚ t) (sym same) c.requires.last in
+    subst (λ (t : ℚ). checked_cut passes_Q points t ≡ Ok points) same (whole_cut passes_Q points (length points - 1) p c.requires.curve all g last)
