@@ -1,6 +1,6 @@
 -- Rows in place: a number that is read or set in one, and fronts of lists.
 use Rattle.std.proofs.Common.{◌≡◌, ℕ, zero, suc, ◌+◌, ◌<◌, ◌≤◌, List, [], ◌∷◌, ◌++◌, length, set, take, get_or, replicate, refl, sym, ap, subst, ◌∙◌, arith, length-take-le, length-append}
-use Rattle.std.proofs.lemmas.List.{append-nil, length-replicate}
+use Rattle.std.proofs.lemmas.List.{append-nil}
 use Rattle.nf_rational.specs.Rational.{ℚ}
 use Rattle.nf_model.specs.Entries.{number_at}
 use Rattle.nf_linear.proofs.Fronts.{take_whole}
@@ -36,9 +36,6 @@ cell_at cells now right d n column e b k = go cells n column b k ∙ ap (λ (l :
 -- a front that is the whole list
 pub whole_front : {A : Type 0} (xs : List A) (k : ℕ) → length xs ≤ k → take k xs ≡ xs
 whole_front xs k end = sym (append-nil (take k xs)) ∙ take_whole xs k end
-
-pub front_count : {A : Type 0} (k n : ℕ) (x : A) → k ≤ n → length (take k (replicate n x)) ≡ k
-front_count k n x h = length-take-le k (replicate n x) (subst (λ (m : ℕ). k ≤ m) (sym (length-replicate n x)) h)
 
 pub all_copies : {A : Type 0} (rows : List A) (i n : ℕ) (x : A) → take i rows ≡ replicate i x → length rows ≡ n → n ≤ i → i ≤ n → rows ≡ replicate n x
 all_copies rows i n x same long end within =

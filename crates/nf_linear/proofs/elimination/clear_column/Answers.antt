@@ -1,4 +1,4 @@
-use Rattle.std.proofs.Common.{◌≡◌, ℕ, ◌+◌, ◌<◌, ◌≤◌, Some, length, take, sym, subst, ◌∙◌}
+use Rattle.std.proofs.Common.{◌<◌, length, take, sym, ◌∙◌}
 use Rattle.std.proofs.Math.Nat.{lt_of_lt_of_le}
 use Rattle.std.proofs.lemmas.List.{take_more_set}
 use Rattle.std.proofs.lemmas.Result.{err_from_is_err_and}

@@ -1,4 +1,4 @@
-use Rattle.std.proofs.Common.{◌≡◌, length, map, Bool, true, false, ap, sym, ◌∙◌}
+use Rattle.std.proofs.Common.{◌≡◌, map, Bool, true, false, ap, sym, ◌∙◌}
 use Rattle.std.specs.Prelude.{if◌then◌else◌, Some, None, Ok}
 use Rattle.std.proofs.lemmas.Result.{err_from_is_err_and}
 use Rattle.nf_frac_def.specs.declared.Halt.TheVariants as Halt
