@@ -46,12 +46,11 @@ at-own-requires g c = within_row c.args.rows.now c.args.pivot c.args.column c.in
 
 pub later-count-requires : goal.later-count-requires
 later-count-requires g c =
-    let right = c.len-right.ensures in
     let row = ap length (row_got c.args.rows.now c.args.pivot c.index-rows-pivot-2.result c.requires.pivot) in
     let wide = c.requires.square c.args.pivot c.requires.pivot in
     let column = c.requires.column in
     let room = c.requires.entries in
-    record { column = omega arith; right = omega arith; room = omega arith }
+    record { column = column; right = omega arith; room = room }
 
 pub slice_bounds-clear_rows-end : goal.slice_bounds-clear_rows-end
 slice_bounds-clear_rows-end g c = c.later-count.ensures.within
