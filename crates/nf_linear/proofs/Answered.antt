@@ -1,11 +1,10 @@
 -- The table list: its columns, and then its values.
 use Rattle.std.proofs.Common.{◌≡◌, ℕ, List, [], length, refl, sym, ap, subst, ◌∙◌}
-use Rattle.std.specs.Prelude.{Option, Some, None, option_map, Result, Ok}
+use Rattle.std.specs.Prelude.{Option, Some, None, Ok}
 use Rattle.nf_rational.specs.Rational.{ℚ}
 use Rattle.nf_frac_def.specs.Passing.{Passing}
 use Rattle.nf_frac_def.specs.declared.Halt.{Halt}
 use Rattle.nf_frac_def.specs.declared.Part.TheVariants as Part
-use Rattle.nf_frac_def.specs.declared.PassedAt.{PassedAt}
 use Rattle.nf_frac_def.specs.Checked.{Checked, Stops, at_part, ◌>>=◌}
 use Rattle.nf_thin_def.specs.Table.{Row, Eliminated, eliminate_from, if_some, solution_from, solution_of, table_list}
 use Rattle.nf_linear_laws.specs.Solution.{IsSquare, IsOnlySolution}
@@ -13,14 +12,6 @@ use Rattle.nf_linear_laws.proofs.Solutions.{one_solution, not_one_solution}
 use Rattle.nf_linear.specs.Pivots.{eliminated}
 use Rattle.nf_linear.proofs.Fronts.{stops}
 use Rattle.nf_linear.proofs.Taken.{ok_of_part}
-
--- what is found, where the pivots are known, or that there are none
-module _ {P : Type 0} (items : P → List ℕ) (rows : List Row) (r : Result (Option Eliminated) (PassedAt ℚ)) (found : Option P) (e : r ≡ Ok (option_map (λ pivots. eliminated rows (items pivots)) found)) where
-  pub found_none : found ≡ None → r ≡ Ok None
-  found_none h = e ∙ ap (λ (o : Option P). Ok (option_map (λ pivots. eliminated rows (items pivots)) o)) h
-
-  pub found_some : (pivots : P) (now : List ℕ) → found ≡ Some pivots → now ≡ items pivots → r ≡ Ok (Some (eliminated rows now))
-  found_some pivots now h d = e ∙ ap (λ (o : Option P). Ok (option_map (λ pivots. eliminated rows (items pivots)) o)) h ∙ ap (λ (l : List ℕ). Ok (Some (eliminated rows l))) (sym d)
 
 module _ (passes : Passing) (table : List Row) where
   abbrev columns : Checked (Option Eliminated)

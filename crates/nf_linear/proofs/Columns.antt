@@ -1,10 +1,11 @@
 -- The pivot of a column, found row by row; rows cleared one by one.
-use Rattle.std.proofs.Common.{◌≡◌, ℕ, zero, suc, ◌+◌, ◌<◌, ◌≤◌, List, [], ◌∷◌, length, drop, Bool, true, false, not, ◌&&◌, refl, sym, ap, ◌∙◌, add-one, arith}
+use Rattle.std.proofs.Common.{◌≡◌, ℕ, zero, suc, ◌+◌, ◌<◌, ◌≤◌, List, [], ◌∷◌, length, drop, get_or, Bool, true, false, not, ◌&&◌, refl, sym, ap, ◌∙◌, add-one, arith}
 use Rattle.std.specs.Prelude.{◌==◌, if◌then◌else◌, Some, None}
 use Rattle.std.specs.List.{list_any}
 use Rattle.nf_model.specs.Entries.{number_at}
 use Rattle.nf_rational.specs.Signs.{is_zero}
 use Rattle.nf_thin_def.specs.Table.{Row, row_at, pivot_from}
+use Rattle.nf_linear.specs.Pivots.{AreTaken}
 
 pub drop_row : (rows : List Row) (i : ℕ) → i < length rows → drop i rows ≡ row_at rows i ∷ drop (suc i) rows
 drop_row [] i b = absurd (omega arith)
@@ -18,9 +19,11 @@ at_row : (rows : List Row) (pivots : List ℕ) (c i : ℕ) → i < length rows
     → pivot_from i (drop i rows) pivots c ≡ (if candidate rows pivots c i then Some i else pivot_from (suc i) (drop (suc i) rows) pivots c)
 at_row rows pivots c i b = ap (λ (l : List Row). pivot_from i l pivots c) (drop_row rows i b)
 
-pub candidate_read : (rows : List Row) (pivots : List ℕ) (c i : ℕ) (row : Row) (t : Bool) → row ≡ row_at rows i
-    → t ≡ (not (list_any (λ pivot. pivot == i) pivots) && not (is_zero (number_at row c))) → t ≡ candidate rows pivots c i
-candidate_read rows pivots c i row t e h = h ∙ ap (λ (r : Row). not (list_any (λ pivot. pivot == i) pivots) && not (is_zero (number_at r c))) e
+pub candidate_read : (rows : List Row) (pivots : List ℕ) (taken : List Bool) (c i : ℕ) (row : Row) (d t : Bool) → AreTaken taken pivots → i < length taken → row ≡ row_at rows i
+    → t ≡ (not (get_or taken i d) && not (is_zero (number_at row c))) → t ≡ candidate rows pivots c i
+candidate_read rows pivots taken c i row d t noted b e h =
+    h ∙ ap (λ (x : Bool). not x && not (is_zero (number_at row c))) (noted i b d)
+    ∙ ap (λ (r : Row). not (list_any (λ pivot. pivot == i) pivots) && not (is_zero (number_at r c))) e
 
 pub pivot_here : (rows : List Row) (pivots : List ℕ) (c i : ℕ) (t : Bool) → i < length rows → t ≡ candidate rows pivots c i → t ≡ true → Some i ≡ pivot_from i (drop i rows) pivots c
 pivot_here rows pivots c i t b e f = sym (at_row rows pivots c i b ∙ rw (sym e ∙ f) refl)

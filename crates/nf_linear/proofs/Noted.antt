@@ -1,8 +1,8 @@
 -- The pivot rows noted so far, and of each row whether it is one of them.
-use Rattle.std.proofs.Common.{◌≡◌, ℕ, zero, suc, ◌<◌, ◌≤◌, List, [], ◌∷◌, ◌++◌, length, set, get_or, replicate, Bool, true, false, ◌||◌, eqb, refl, sym, ap, subst, ◌∙◌, arith, length-set}
+use Rattle.std.proofs.Common.{◌≡◌, ℕ, ◌<◌, List, [], ◌∷◌, ◌++◌, length, set, get_or, Bool, true, false, ◌||◌, eqb, refl, sym, ap, subst, ◌∙◌, length-set}
 use Rattle.std.specs.Prelude.{◌==◌}
 use Rattle.std.specs.List.{list_any}
-use Rattle.std.proofs.lemmas.List.{get_or-set_same, get_or-set_other, length-replicate}
+use Rattle.std.proofs.lemmas.List.{get_or-set_same, get_or-set_other}
 use Rattle.std.proofs.lemmas.List.Folds.{list_any-append}
 use borrow.Author.Tests.{eqb-true, eq-eqb}
 use Rattle.nf_linear.specs.Pivots.{AreTaken}
@@ -41,18 +41,3 @@ taken_more taken rows row after some e h i b d = go (eqb row i) refl ∙ ap (lis
         get_or-set_other taken row i true d (λ same. apart (sym same))
         ∙ h i (subst (λ (n : ℕ). i < n) (length-set taken row true) b) d
         ∙ sym (other_more rows row i apart)
-
-pub taken_beyond : (taken : List Bool) (rows : List ℕ) (row : ℕ) (after : List ℕ) → length taken ≤ row → after ≡ rows ++ row ∷ [] → AreTaken taken rows → AreTaken taken after
-taken_beyond taken rows row after past e h i b d = h i b d ∙ sym (other_more rows row i (apart i row (length taken) b past)) ∙ ap (list_any (λ pivot. pivot == i)) (sym e)
-  where
-    apart : (i row n : ℕ) → i < n → n ≤ row → row ≡ i → ⊥
-    apart i row n b past same = omega arith
-
-pub none_taken : (taken : List Bool) (rows : List ℕ) (n : ℕ) → taken ≡ replicate n false → rows ≡ [] → AreTaken taken rows
-none_taken taken rows n e f i b d =
-    ap (λ (l : List Bool). get_or l i d) e ∙ unset n i (subst (λ (k : ℕ). i < k) (ap length e ∙ length-replicate n false) b) d ∙ ap (list_any (λ pivot. pivot == i)) (sym f)
-  where
-    unset : (n i : ℕ) → i < n → (d : Bool) → get_or (replicate n false) i d ≡ false
-    unset zero i b d = absurd (omega arith)
-    unset (suc n) zero b d = refl
-    unset (suc n) (suc i) b d = unset n i (omega arith) d

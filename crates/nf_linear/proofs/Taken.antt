@@ -1,9 +1,9 @@
 -- Lemmas of rows: the test for 0, entries other than 0, and what the entries of a pivot row take off.
-use Rattle.std.proofs.Common.{◌≡◌, ℕ, zero, suc, ◌+◌, ◌<◌, ◌≤◌, List, [], ◌∷◌, ◌++◌, length, set, drop, get_or, replicate, Bool, true, false, refl, sym, ap, subst, ◌∙◌, add-one, append_assoc, length-set}
+use Rattle.std.proofs.Common.{◌≡◌, ℕ, zero, suc, ◌+◌, ◌<◌, ◌≤◌, List, [], ◌∷◌, ◌++◌, length, set, take, drop, get_or, replicate, Bool, true, false, refl, sym, ap, subst, ◌∙◌, add-one, append_assoc, length-set}
 use Rattle.std.specs.Prelude.{IsTrue, if◌then◌else◌, Ok, Err}
 use Rattle.std.specs.List.{AllByRecursion}
-use Rattle.std.proofs.Math.ListN.{drop_of_length-le}
-use Rattle.std.proofs.lemmas.List.{drop_more, append-nil}
+use Rattle.std.proofs.Math.ListN.{drop_of_length-le, length-map}
+use Rattle.std.proofs.lemmas.List.{drop_more, append-nil, map-append, take_more_set}
 use Rattle.nf_rational.specs.Rational.{ℚ}
 use Rattle.nf_rational.specs.Operations.{0ℚ}
 use Rattle.nf_frac_def.specs.Passing.{Passing}
@@ -15,7 +15,7 @@ use Rattle.nf_thin_def.specs.Table.{less_unless}
 use Rattle.nf_model.specs.Entries.{number_at}
 use Rattle.nf_rational.specs.Signs.{is_zero}
 use Rattle.nf_linear_laws.proofs.Pivots.{zero_tested, is_zero-at}
-use Rattle.nf_linear.specs.Rows.{some_from, entry_less}
+use Rattle.nf_linear.specs.Rows.{meant, some_from, entry_less}
 use Rattle.nf_linear.proofs.Fronts.{stopped}
 
 by_cases : (b t : Bool) (x : ℚ) → is_zero x ≡ t → (IsTrue b → x ≡ 0ℚ) → (x ≡ 0ℚ → IsTrue b) → b ≡ t
@@ -56,6 +56,28 @@ some_more items xs i x b e =
 
 pub all_some : (items : List (ℕ × ℚ)) (xs : List ℚ) (i : ℕ) (all : List (ℕ × ℚ)) → length xs ≤ i → items ++ some_from i (drop i xs) ≡ all → items ≡ all
 all_some items xs i all end e = sym (append-nil items) ∙ ap (λ (l : List ℚ). items ++ some_from i l) (sym (drop_of_length-le xs end)) ∙ e
+
+-- ---- entries by what their numbers mean
+module _ {S : Type 0} (means : S → ℚ) where
+  pub meant_below : (entries : List (ℕ × S)) (k : ℕ) → k < length entries → k < length (meant means entries)
+  meant_below entries k b = subst (λ (n : ℕ). k < n) (sym (length-map entries (λ (e : ℕ × S). (e.0, means e.1)))) b
+
+  pub meant_past : (entries : List (ℕ × S)) (k : ℕ) → length entries ≤ k → length (meant means entries) ≤ k
+  meant_past entries k b = subst (λ (n : ℕ). n ≤ k) (sym (length-map entries (λ (e : ℕ × S). (e.0, means e.1)))) b
+
+  pub meant_read : (entries : List (ℕ × S)) (k : ℕ) (entry : ℕ × S) → entry ≡ get_or entries k entry → (entry.0, means entry.1) ≡ get_or (meant means entries) k (entry.0, means entry.1)
+  meant_read [] k entry e = refl
+  meant_read (other ∷ entries) zero entry e = ap (λ (w : ℕ × S). (w.0, means w.1)) e
+  meant_read (other ∷ entries) (suc k) entry e = meant_read entries k entry e
+
+  -- one more entry, unless it is 0
+  pub entry_pushed : (entries : List (ℕ × S)) (count column : ℕ) (x : S) (y : ℚ) (zero_so : Bool) → count < length entries → means x ≡ y → zero_so ≡ is_zero y → zero_so ≡ false
+      → meant means (take (count + 1) (set entries count (column, x))) ≡ meant means (take count entries) ++ (if is_zero y then [] else (column, y) ∷ [])
+  entry_pushed entries count column x y zero_so room same tested other =
+      ap (meant means) (take_more_set entries count (column, x) room)
+      ∙ map-append (λ (e : ℕ × S). (e.0, means e.1)) (take count entries) ((column, x) ∷ [])
+      ∙ ap (λ (z : ℚ). meant means (take count entries) ++ (column, z) ∷ []) same
+      ∙ ap (λ (b : Bool). meant means (take count entries) ++ (if b then [] else (column, y) ∷ [])) (sym other ∙ tested)
 
 -- ---- what the entries of a pivot row take off, so far
 pub record TakesOff (passes : Passing) (factor : ℚ) (others : List (ℕ × ℚ)) (before row : List ℚ) (k : ℕ) : Type 0 where

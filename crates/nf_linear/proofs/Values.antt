@@ -1,5 +1,5 @@
 -- The values of the unknowns one by one: those so far stand before what comes of the rest.
-use Rattle.std.proofs.Common.{◌≡◌, ℕ, suc, ◌+◌, ◌-◌, ◌<◌, ◌≤◌, List, [], ◌∷◌, ◌++◌, length, drop, get_or, sym, ap, subst, ◌∙◌, add-one, arith}
+use Rattle.std.proofs.Common.{◌≡◌, ℕ, suc, ◌+◌, ◌<◌, ◌≤◌, List, [], ◌∷◌, ◌++◌, length, drop, get_or, sym, ap, subst, ◌∙◌, add-one}
 use Rattle.std.specs.Prelude.{Result, Ok, Err}
 use Rattle.std.proofs.Math.ListN.{drop_of_length-le}
 use Rattle.std.proofs.Math.Seq.{drop-cons}
@@ -13,7 +13,6 @@ use Rattle.nf_frac_def.specs.Checked.{Checked, checked, checked_at, at_part, ◌
 use Rattle.nf_frac_def.proofs.Each.{with_front}
 use Rattle.nf_model.specs.Entries.{number_at}
 use Rattle.nf_thin_def.specs.Table.{Row, row_at, solution_from}
-use Rattle.nf_linear.specs.Pivots.{HasPivots}
 use Rattle.nf_linear.proofs.Fronts.{first_before, one_before, stopped, stopped_before}
 use Rattle.nf_linear.proofs.Taken.{ok_of_part}
 
@@ -24,30 +23,18 @@ module _ (passes : Passing) (rows : List Row) (pivots : List ℕ) where
   pub values_first : ValuesSoFar [] 0
   values_first = first_before (solution_from passes rows 0 pivots)
 
-  abbrev last_over : Row → ℕ → Result ℚ (PassedAt ℚ)
-  last_over row column = checked_at passes Part.Table Quotient (number_at row (length row - 1)) (number_at row column)
+  abbrev last_over : Row → ℕ → ℕ → Result ℚ (PassedAt ℚ)
+  last_over row right column = checked_at passes Part.Table Quotient (number_at row right) (number_at row column)
 
-  module _ (has : HasPivots rows pivots) (front : List ℚ) (column : ℕ) (b : column < length pivots) (h : ValuesSoFar front column) where
-    abbrev pivot : ℕ
-    pivot = get_or pivots column 0
-
+  module _ (front : List ℚ) (column : ℕ) (b : column < length pivots) (h : ValuesSoFar front column) where
     abbrev pub own : Row
-    own = row_at rows pivot
+    own = row_at rows (get_or pivots column 0)
 
     abbrev value : Checked ℚ
     value = checked passes Quotient (number_at own (length rows)) (number_at own column)
 
-    inside : column < length rows
-    inside = let e = has.count in omega arith
-
-    pivot_inside : pivot < length rows
-    pivot_inside = has.within column inside
-
-    own_length : length own ≡ suc (length rows)
-    own_length = has.square pivot pivot_inside
-
-    last_is : last_over own column ≡ at_part Part.Table value
-    last_is = ap (λ (k : ℕ). checked_at passes Part.Table Quotient (number_at own k) (number_at own column)) (let e = own_length in let f : length own - 1 ≡ length rows = omega arith in f)
+    seen : (row : Row) (right : ℕ) → row ≡ own → right ≡ length rows → last_over row right column ≡ at_part Part.Table value
+    seen row right r l = ap (λ (row : Row). last_over row right column) r ∙ ap (λ (k : ℕ). last_over own k column) l
 
     abbrev rest : ℚ → Checked (List ℚ)
     rest x = solution_from passes rows (suc column) (drop (suc column) pivots) >>= λ xs. Ok (x ∷ xs)
@@ -55,15 +42,15 @@ module _ (passes : Passing) (rows : List Row) (pivots : List ℕ) where
     opened : with_front front (value >>= rest) ≡ solution_from passes rows 0 pivots
     opened = ap (λ (l : List ℕ). with_front front (solution_from passes rows column l)) (sym (drop-cons pivots column 0 b)) ∙ h
 
-    pub values_stop : (row : Row) → row ≡ own → (q : PassedAt ℚ) → Err q ≡ last_over row column → at_part Part.Table (solution_from passes rows 0 pivots) ≡ Err q
-    values_stop row r q e = ap (at_part Part.Table) (sym opened) ∙ stopped_before Part.Table (value >>= rest) front q (stopped Part.Table value rest q (sym (e ∙ ap (λ (row : Row). last_over row column) r ∙ last_is)))
+    pub values_stop : (row : Row) (right : ℕ) → row ≡ own → right ≡ length rows → (q : PassedAt ℚ) → Err q ≡ last_over row right column → at_part Part.Table (solution_from passes rows 0 pivots) ≡ Err q
+    values_stop row right r l q e = ap (at_part Part.Table) (sym opened) ∙ stopped_before Part.Table (value >>= rest) front q (stopped Part.Table value rest q (sym (e ∙ seen row right r l)))
 
-    pub values_more : (row : Row) → row ≡ own → (x : ℚ) → Ok x ≡ last_over row column → ValuesSoFar (front ++ x ∷ []) (column + 1)
-    values_more row r x e =
+    pub values_more : (row : Row) (right : ℕ) → row ≡ own → right ≡ length rows → (x : ℚ) → Ok x ≡ last_over row right column → ValuesSoFar (front ++ x ∷ []) (column + 1)
+    values_more row right r l x e =
         let n : column + 1 ≡ suc column = add-one column in
         subst (ValuesSoFar (front ++ x ∷ [])) (sym n)
         (sym (one_before (solution_from passes rows (suc column) (drop (suc column) pivots)) front x)
-        ∙ ap (λ (r : Checked ℚ). with_front front (r >>= rest)) (sym (ok_of_part Part.Table value x (e ∙ ap (λ (row : Row). last_over row column) r ∙ last_is)))
+        ∙ ap (λ (r : Checked ℚ). with_front front (r >>= rest)) (sym (ok_of_part Part.Table value x (e ∙ seen row right r l)))
         ∙ opened)
 
   pub values_all : (front : List ℚ) (column : ℕ) → length pivots ≤ column → ValuesSoFar front column → at_part Part.Table (solution_from passes rows 0 pivots) ≡ Ok front

@@ -3,8 +3,8 @@ use Rattle.std.specs.Prelude.{List, Option, Some, None}
 use Rattle.nf_rational.specs.Rational.{ℚ}
 use Rattle.nf_thin_def.specs.Table.{Row}
 use Rattle.nf_linear_laws.specs.Solution.{IsOnlySolution}
-use Rattle.nf_linear.specs.declared.grid.Eliminated.{Eliminated}
-use Rattle.nf_linear.specs.declared.grid.Eliminated.TheVariants.{One, NotOne}
+use Rattle.nf_linear.specs.declared.solution.Eliminated.{Eliminated}
+use Rattle.nf_linear.specs.declared.solution.Eliminated.TheVariants.{One, NotOne}
 
 -- the value of each unknown, and none where the system has not exactly one solution
 abbrev pub values_if : Eliminated → List ℚ → Option (List ℚ)

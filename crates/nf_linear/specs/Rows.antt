@@ -13,6 +13,10 @@ use Rattle.nf_thin_def.specs.Table.{Row, less_unless}
 abbrev pub some_flags : Row → List Bool
 some_flags row = map (λ x. not (is_zero x)) row
 
+-- entries by what their numbers mean
+abbrev pub meant : {S : Type 0} → (S → ℚ) → List (ℕ × S) → List (ℕ × ℚ)
+meant means entries = map (λ e. (e.0, means e.1)) entries
+
 -- the entries other than 0 of some columns, from column k on
 abbrev pub some_from : ℕ → Row → List (ℕ × ℚ)
 some_from k [] = []

@@ -4,21 +4,20 @@ ghost use Rattle.nf_rational.specs.Operations.{0ℚ};
 ghost use Rattle.nf_frac_def.specs.declared.Part.TheVariants as Part;
 ghost use Rattle.nf_frac_def.specs.Passing.{passes_Q};
 ghost use Rattle.nf_frac_def.specs.Checked.{at_part, seen_at};
-ghost use Rattle.nf_thin_def.specs.Table.{row_at, solution_from, table_list};
+ghost use Rattle.nf_thin_def.specs.Table.{row_at, table_list};
 ghost use Rattle.nf_linear_laws.specs.Solution.{IsSquare};
-ghost use Rattle.nf_linear.specs.Pivots.{HasPivots};
 ghost use Rattle.nf_linear.specs.Grids.{values_if, IsTrueWith};
 
-use crate::grid_elimination::clear_columns;
-use crate::grid_pivots::GridPivots;
-use crate::grid_row::GridRow;
+use crate::grid_cells::{GridCells, wipe_row};
+use crate::row::Row;
+use crate::solution::{Eliminated, solve_rows};
 use nf_frac::{PassedAt, Q};
 use std::marker::Model;
 
 /// A linear system of at most `N` unknowns: as many rows as unknowns, each with a number for each unknown and its right side.
 #[derive(Drop)]
 pub struct Grid<const N: usize> {
-    rows: [GridRow<N>; N],
+    rows: [Row<GridCells<N>>; N],
     size: u32,
 }
 
@@ -34,27 +33,18 @@ impl<const N: usize> Model for Grid<N> {
     ghost invariant = { λ t. (N ≤ 32) × (t.size ≤ N) × IsSquare (take t.size t.rows) };
 }
 
-/// The number of solutions of a system.
-#[derive(Clone, Copy)]
-pub enum Eliminated {
-    /// There is one solution.
-    One,
-    /// There is no solution, or more than one.
-    NotOne,
-}
-
 // The rows become all zero, of this many unknowns.
-fn wipe<const N: usize>(rows: &mut [GridRow<N>], size: u32)
+fn wipe<const N: usize>(rows: &mut [Row<GridCells<N>>], size: u32)
     requires { size ≤ N }
     ensures { rows.new ≡ replicate (length rows.old) (replicate (size + 1) 0ℚ) }
 {
     for i in 0..rows.len() {
-        rows[i].wipe(size);
+        wipe_row(&mut rows[i], size);
     }
 }
 
 // A number of a row becomes this one.
-fn set_at<const N: usize>(rows: &mut [GridRow<N>], row: usize, column: usize, value: Q)
+fn set_at<const N: usize>(rows: &mut [Row<GridCells<N>>], row: usize, column: usize, value: Q)
     requires row { row < length rows.old }
     requires column { column < length (row_at rows.old row) }
     ensures { rows.new ≡ set rows.old row (set (row_at rows.old row) column value) }
@@ -70,7 +60,7 @@ impl<const N: usize> Grid<N> {
         requires few { N ≤ 32 }
         ensures { result ≡ replicate size (replicate (size + 1) 0ℚ) }
     {
-        let mut rows: [GridRow<N>; N] = Default::default();
+        let mut rows: [Row<GridCells<N>>; N] = Default::default();
         wipe(&mut rows[..size as usize], size);
         Grid { rows, size }
     }
@@ -95,27 +85,9 @@ impl<const N: usize> Grid<N> {
     }
 }
 
-// The value of each unknown, once the columns are cleared.
-fn find_values<const N: usize>(
-    rows: &[GridRow<N>],
-    pivots: &[usize],
-    found: &mut [Q],
-) -> Result<(), PassedAt<Q>>
-    requires pivots { HasPivots rows.now pivots.now }
-    requires room { length found.old ≡ length pivots.now }
-    ensures { seen_at (λ _. found.new) (λ q. q) result ≡ at_part Part.Table (solution_from passes_Q rows.now 0 pivots.now) }
-{
-    for column in 0..pivots.len() {
-        let pivot = pivots[column];
-        let value = rows[pivot].value_of(column)?;
-        found[column] = value;
-    }
-    Ok(())
-}
-
-// The solution of the rows, each with its right side last; what is left in them is spent.
-fn solve_rows<const N: usize>(
-    rows: &mut [GridRow<N>],
+// The solution of the rows of a grid, each with its right side last; what is left in them is spent.
+fn solve_in_place<const N: usize>(
+    rows: &mut [Row<GridCells<N>>],
     values: &mut [Q],
 ) -> Result<Eliminated, PassedAt<Q>>
     requires square { IsSquare rows.old }
@@ -127,15 +99,20 @@ fn solve_rows<const N: usize>(
     ensures not_one { IfOk result (λ found. found ≡ Eliminated.NotOne → values.new ≡ values.old) }
     ensures passed { IfErr result (λ _. values.new ≡ values.old) }
 {
-    let mut pivots: GridPivots<N> = GridPivots::new();
-    if !clear_columns(rows, &mut pivots)? {
-        return Ok(Eliminated::NotOne);
-    }
+    let mut entries = [(0, Q::zero()); N];
+    let mut taken = [false; N];
+    let mut pivots = [0; N];
     let mut found = [Q::zero(); N];
-    let front = &mut found[..rows.len()];
-    find_values(rows, pivots.rows(), front)?;
-    values.copy_from_slice(front);
-    Ok(Eliminated::One)
+    let size = rows.len();
+    let noted = &mut pivots[..size];
+    let front = &mut found[..size];
+    match solve_rows(rows, &mut entries, &mut taken, noted, front)? {
+        Eliminated::One => {
+            values.copy_from_slice(front);
+            Ok(Eliminated::One)
+        }
+        Eliminated::NotOne => Ok(Eliminated::NotOne),
+    }
 }
 
 /// Solves a system by elimination (after Gauss and Jordan), without memory. Where no operation passes, it gives One exactly where
@@ -154,7 +131,7 @@ pub fn solve_grid<const N: usize>(
     ensures zero { grid.new ≡ replicate (length grid.old) (replicate (length grid.old + 1) 0ℚ) }
 {
     let size = grid.size;
-    let solved = solve_rows(&mut grid.rows[..size as usize], values);
+    let solved = solve_in_place(&mut grid.rows[..size as usize], values);
     wipe(&mut grid.rows[..size as usize], size);
     solved
 }

@@ -1,17 +1,29 @@
-// The solution of a table.
-ghost use Rattle.std.specs.Prelude.{◌≡◌, map, IfOk};
+// The solution of rows, and of a table.
+ghost use Rattle.std.specs.Prelude.{◌≡◌, ◌≤◌, [], length, map, IfOk};
 ghost use Rattle.nf_frac_def.specs.declared.Part.TheVariants as Part;
-ghost use Rattle.nf_frac_def.specs.Checked.{at_part, Gives};
+ghost use Rattle.nf_frac_def.specs.Checked.{at_part, seen_at, Gives};
 ghost use Rattle.nf_thin_def.specs.Table.{solution_from, table_list};
 ghost use Rattle.nf_linear_laws.specs.Solution.{IsSquare};
-ghost use Rattle.nf_linear.specs.Pivots.{HasPivots};
+ghost use Rattle.nf_linear.specs.Pivots.{AreTaken, HasPivots};
+ghost use Rattle.nf_linear.specs.Grids.{values_if, IsTrueWith};
 ghost use Rattle.nf_linear.specs.Solved.{values_of, IsTrueOf};
 
+use crate::copies::copies;
 use crate::elimination::clear_columns;
-use crate::row::Row;
+use crate::row::{Cells, Row};
 use crate::table::Table;
-use nf_frac::{Halt, Scalar};
+use crate::table_cells::TableCells;
+use nf_frac::{Halt, PassedAt, Scalar};
 use std::alloc::Global;
+
+/// The number of solutions of a system.
+#[derive(Clone, Copy)]
+pub enum Eliminated {
+    /// There is one solution.
+    One,
+    /// There is no solution, or more than one.
+    NotOne,
+}
 
 /// What is found of a system: its only solution, or that there is none or more than one.
 #[derive(Drop)]
@@ -23,31 +35,69 @@ pub enum Solved<S> {
 }
 
 // The value of each unknown, once the columns are cleared.
-fn values<S: Scalar>(alloc: Global, rows: &[Row<S>], pivots: &[usize]) -> Result<Vec<S>, Halt<S>>
-    requires { HasPivots rows.now pivots.now }
-    ensures { Gives (λ values. map S.means values.items) S.means result
-        (at_part Part.Table (solution_from S.passes rows.now 0 pivots.now)) }
+fn find_values<C: Cells>(
+    rows: &[Row<C>],
+    pivots: &[usize],
+    found: &mut [C::Number],
+) -> Result<(), PassedAt<C::Number>>
+    requires pivots { HasPivots rows.now pivots.now }
+    requires room { length found.old ≡ length pivots.now }
+    ensures { seen_at (λ _. map C.Number.means found.new) C.Number.means result
+        ≡ at_part Part.Table (solution_from C.Number.passes rows.now 0 pivots.now) }
 {
-    let mut values = Vec::with_capacity(alloc, pivots.len())?;
+    let right = rows.len();
     for column in 0..pivots.len() {
         let pivot = pivots[column];
-        let value = rows[pivot].value_of(column)?;
-        values.push(value)?;
+        let value = rows[pivot].value_of(column, right)?;
+        found[column] = value;
     }
-    Ok(values)
+    Ok(())
 }
 
-// The solution of the rows, each with its right side last; what is left in them is spent.
-fn solve_rows<S: Scalar>(alloc: Global, rows: &mut [Row<S>]) -> Result<Solved<S>, Halt<S>>
+// The solution of the rows, each with its right side last; what is left in them is spent. The entries of a pivot row have a place each,
+// and no row is taken at first.
+pub fn solve_rows<C: Cells>(
+    rows: &mut [Row<C>],
+    entries: &mut [(usize, C::Number)],
+    taken: &mut [bool],
+    pivots: &mut [usize],
+    found: &mut [C::Number],
+) -> Result<Eliminated, PassedAt<C::Number>>
+    requires square { IsSquare rows.old }
+    requires entries { length rows.old ≤ length entries.old }
+    requires flags { length rows.old ≤ length taken.old }
+    requires count { length pivots.old ≡ length rows.old }
+    requires room { length found.old ≡ length rows.old }
+    requires taken { AreTaken taken.old [] }
+    ensures list { seen_at (λ one. values_if one (map C.Number.means found.new)) C.Number.means result
+        ≡ at_part Part.Table (table_list C.Number.passes rows.old) }
+    ensures solution { IfOk result (λ one. IsTrueWith rows.old one (map C.Number.means found.new)) }
+{
+    if !clear_columns(rows, entries, taken, pivots)? {
+        return Ok(Eliminated::NotOne);
+    }
+    find_values(rows, pivots, found)?;
+    Ok(Eliminated::One)
+}
+
+// The solution of the rows of a table; what is left in them is spent.
+fn solve_table<S: Scalar>(
+    alloc: Global,
+    rows: &mut [Row<TableCells<S>>],
+) -> Result<Solved<S>, Halt<S>>
     requires { IsSquare rows.old }
     ensures list { Gives (values_of S.means) S.means result (at_part Part.Table (table_list S.passes rows.old)) }
     ensures solution { IfOk result (IsTrueOf S.means rows.old) }
 {
-    let Some(pivots) = clear_columns(alloc, rows)? else {
-        return Ok(Solved::NotOne);
-    };
-    let values = values(alloc, rows, &pivots)?;
-    Ok(Solved::One(values))
+    let size = rows.len();
+    let mut entries = copies(alloc, (0, S::zero()), size)?;
+    let mut taken = copies(alloc, false, size)?;
+    let mut pivots = copies(alloc, 0, size)?;
+    let mut values = copies(alloc, S::zero(), size)?;
+    match solve_rows(rows, &mut entries, &mut taken, &mut pivots, &mut values)? {
+        Eliminated::One => Ok(Solved::One(values)),
+        Eliminated::NotOne => Ok(Solved::NotOne),
+    }
 }
 
 /// Solves a system by elimination (after Gauss and Jordan). Where no operation passes, it gives One with the only solution, and
@@ -58,5 +108,5 @@ pub fn solve<S: Scalar>(alloc: Global, table: Table<S>) -> Result<Solved<S>, Hal
     ensures solution { IfOk result (IsTrueOf S.means table) }
 {
     let mut rows = table.into_rows();
-    solve_rows(alloc, &mut rows)
+    solve_table(alloc, &mut rows)
 }

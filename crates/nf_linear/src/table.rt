@@ -5,6 +5,7 @@ ghost use Rattle.nf_thin_def.specs.Table.{row_at};
 ghost use Rattle.nf_linear_laws.specs.Solution.{IsSquare};
 
 use crate::row::Row;
+use crate::table_cells::TableCells;
 use nf_frac::Scalar;
 use std::alloc::{AllocError, Global};
 use std::marker::Model;
@@ -12,7 +13,7 @@ use std::marker::Model;
 /// A linear system: as many rows as unknowns, each with a number for each unknown and its right side.
 #[derive(Drop)]
 pub struct Table<S: Scalar> {
-    rows: Vec<Row<S>>,
+    rows: Vec<Row<TableCells<S>>>,
 }
 
 impl<S: Scalar> Model for Table<S> {
@@ -37,7 +38,8 @@ impl<S: Scalar> Table<S> {
         let count = size as usize;
         let mut rows = Vec::with_capacity(alloc, count)?;
         for _ in 0..count {
-            rows.push(Row::zero(alloc, count + 1)?)?;
+            let cells = TableCells::zero(alloc, count + 1)?;
+            rows.push(Row::of(cells))?;
         }
         Ok(Table { rows })
     }
@@ -63,7 +65,7 @@ impl<S: Scalar> Table<S> {
     }
 
     // The rows, each with its right side last.
-    pub(crate) fn into_rows(self) -> Vec<Row<S>>
+    pub(crate) fn into_rows(self) -> Vec<Row<TableCells<S>>>
         ensures rows { result.items ≡ self }
         ensures square { IsSquare result.items }
     {

@@ -1,22 +1,47 @@
-use Rattle.std.proofs.Common.{sym, ◌∙◌}
+use Rattle.std.proofs.Common.{◌<◌, length, take, sym, ◌∙◌}
+use Rattle.std.proofs.Math.Nat.{lt_of_lt_of_le}
+use Rattle.std.proofs.lemmas.List.{take_more_set}
 use Rattle.std.proofs.lemmas.Result.{err_from_is_err_and}
+use Rattle.nf_frac_def.specs.declared.Halt.TheVariants as Halt
+use Rattle.nf_linear.proofs.Noted.{taken_more}
 use Rattle.nf_linear.proofs.Stages.{pivot_within, pivot_some, column_cleared, column_stops}
 use Rattle.nf_linear.proofs.elimination.clear_column.Goals as goal
 
-pub returns : goal.returns
-returns g c =
-    column_cleared c.args.rows.now c.args.pivots.now c.args.column c.in-Some.pivot (sym c.pivot_of.ensures ∙ c.in-Some.is) g.S.Scalar.passes c.eliminate.new.rows c.push.new.self c.in_ok-eliminate.ensures c.in_ok-push.ensures
-
-pub returns-in_err-eliminate : goal.returns-in_err-eliminate
-returns-in_err-eliminate g c =
-    let p = err_from_is_err_and c.from_residual.result c.from_residual.ensures.1 in
-    rw (p.1, p.2) (column_stops c.args.rows.now c.args.pivots.now c.args.column c.in-Some.pivot (sym c.pivot_of.ensures ∙ c.in-Some.is) g.S.Scalar.passes g.S.Scalar.means c.in_err-eliminate.field-0.0 c.in_err-eliminate.ensures)
-
 pub eliminate-requires : goal.eliminate-requires
 eliminate-requires g c =
+    let found = sym (c.pivot_of.ensures (take c.args.column c.args.pivots.now) c.requires.taken) ∙ c.in-Some.is in
     record {
       square = c.requires.square;
-      pivot = pivot_within c.args.rows.now c.args.pivots.now c.args.column c.in-Some.pivot (sym c.pivot_of.ensures ∙ c.in-Some.is);
-      some = pivot_some c.args.rows.now c.args.pivots.now c.args.column c.in-Some.pivot (sym c.pivot_of.ensures ∙ c.in-Some.is);
+      pivot = pivot_within c.args.rows.now (take c.args.column c.args.pivots.now) c.args.column c.in-Some.pivot found;
       column = c.requires.column;
+      some = pivot_some c.args.rows.now (take c.args.column c.args.pivots.now) c.args.column c.in-Some.pivot found;
+      entries = c.requires.entries;
     }
+
+pub bounds-pivots-column : goal.bounds-pivots-column
+bounds-pivots-column g c = lt_of_lt_of_le c.requires.column c.requires.count
+
+pub bounds-taken-pivot : goal.bounds-taken-pivot
+bounds-taken-pivot g c =
+    let found = sym (c.pivot_of.ensures (take c.args.column c.args.pivots.now) c.requires.taken) ∙ c.in-Some.is in
+    lt_of_lt_of_le (pivot_within c.args.rows.now (take c.args.column c.args.pivots.now) c.args.column c.in-Some.pivot found) c.requires.flags
+
+pub returns-clause-list : goal.returns-clause-list
+returns-clause-list g c =
+    let found = sym (c.pivot_of.ensures (take c.args.column c.args.pivots.now) c.requires.taken) ∙ c.in-Some.is in
+    let here : c.args.column < length c.args.pivots.now = lt_of_lt_of_le c.requires.column c.requires.count in
+    sym (column_cleared c.args.rows.now (take c.args.column c.args.pivots.now) c.args.column c.in-Some.pivot found g.C.Number.Scalar.passes c.eliminate.new.rows _ (sym c.in_ok-eliminate.ensures)
+    (take_more_set c.args.pivots.now c.args.column c.in-Some.pivot here))
+
+pub returns-clause-taken : goal.returns-clause-taken
+returns-clause-taken g c =
+    let found = sym (c.pivot_of.ensures (take c.args.column c.args.pivots.now) c.requires.taken) ∙ c.in-Some.is in
+    let here : c.args.column < length c.args.pivots.now = lt_of_lt_of_le c.requires.column c.requires.count in
+    let flag : c.in-Some.pivot < length c.args.taken.now = lt_of_lt_of_le (pivot_within c.args.rows.now (take c.args.column c.args.pivots.now) c.args.column c.in-Some.pivot found) c.requires.flags in
+    λ _. taken_more c.args.taken.now (take c.args.column c.args.pivots.now) c.in-Some.pivot _ flag (take_more_set c.args.pivots.now c.args.column c.in-Some.pivot here) c.requires.taken
+
+pub returns-in_err-eliminate-clause-list : goal.returns-in_err-eliminate-clause-list
+returns-in_err-eliminate-clause-list g c =
+    let found = sym (c.pivot_of.ensures (take c.args.column c.args.pivots.now) c.requires.taken) ∙ c.in-Some.is in
+    let p = err_from_is_err_and c.from_residual.result c.from_residual.ensures.1 in
+    rw (p.1, p.2) (sym (column_stops c.args.rows.now (take c.args.column c.args.pivots.now) c.args.column c.in-Some.pivot found g.C.Number.Scalar.passes g.C.Number.Scalar.means (Halt.Passed c.in_err-eliminate.field-0.0) (sym c.in_err-eliminate.ensures)))

@@ -1,73 +1,85 @@
-use Rattle.std.proofs.Common.{◌≡◌, ◌<◌, ◌≤◌, length, refl, Bool, true, false, ℕ, List, sym, subst, ap, ◌∙◌}
+use Rattle.std.proofs.Common.{◌≡◌, ℕ, ◌+◌, ◌<◌, ◌≤◌, List, length, take, Bool, true, false, refl, ap, sym, subst, ◌∙◌, arith}
 use Rattle.std.specs.Prelude.{if◌then◌else◌, Some, None, Ok}
+use Rattle.std.proofs.lemmas.Bool.{false≢true}
 use Rattle.std.proofs.lemmas.Result.{err_from_is_err_and, IfOk-from_err}
+use Rattle.nf_frac_def.specs.declared.Halt.TheVariants as Halt
 use Rattle.nf_linear.specs.Pivots.{eliminated, HasPivots}
-use Rattle.nf_linear.proofs.Stages.{Stage, first_stage, stage_square, stage_none, stage_stops, stage_more, stage_all, stage_pivots}
+use Rattle.nf_linear.proofs.Grids.{whole_front}
+use Rattle.nf_linear.proofs.Stages.{first_stage, stage_square, stage_none, stage_stops, stage_more, stage_all, stage_pivots}
 use Rattle.nf_linear.proofs.elimination.clear_columns.Goals as goal
+
+pub loop-column-init : goal.loop-column-init
+loop-column-init g c = (first_stage g.C.Number.Scalar.passes c.args.rows.now c.requires.square, c.requires.taken, refl, refl, refl)
+
+pub clear_column-requires : goal.clear_column-requires
+clear_column-requires g c =
+    let here : c.loop-column.column < length c.args.rows.now = c.loop-column-test.true in
+    let rows = c.loop-column.invariant.0.cleared.count in
+    let entries = c.loop-column.invariant.2 in
+    let taken = c.loop-column.invariant.3 in
+    let pivots = c.loop-column.invariant.4 in
+    let room = c.requires.entries in
+    let flags = c.requires.flags in
+    let count = c.requires.count in
+    record {
+      square = stage_square g.C.Number.Scalar.passes c.args.rows.now c.loop-column.rows (take c.loop-column.column c.loop-column.pivots) c.loop-column.column c.loop-column.invariant.0;
+      column = omega arith;
+      entries = omega arith;
+      flags = omega arith;
+      count = omega arith;
+      taken = c.loop-column.invariant.1;
+    }
 
 pub loop-column-preserved : goal.loop-column-preserved
 loop-column-preserved g c =
     let here : c.loop-column.column < length c.args.rows.now = c.loop-column-test.true in
     let found : c.in_ok-clear_column.field-0 ≡ true = c.if-not-branch.false in
-    stage_more g.S.Scalar.passes c.args.rows.now c.loop-column.rows c.loop-column.pivots c.loop-column.column c.loop-column.invariant here c.clear_column.new.rows c.clear_column.new.pivots
-    (c.in_ok-clear_column.ensures ∙ ap (λ (b : Bool). Ok (if b then Some (eliminated c.clear_column.new.rows c.clear_column.new.pivots) else None)) found)
+    let cleared = c.in_ok-clear_column.ensures {u = tt} in (
+      stage_more g.C.Number.Scalar.passes c.args.rows.now c.loop-column.rows (take c.loop-column.column c.loop-column.pivots) c.loop-column.column c.loop-column.invariant.0 here
+          c.clear_column.new.rows (take (c.loop-column.column + 1) c.clear_column.new.pivots)
+          (sym c.in_ok-clear_column.ensures.list ∙ ap (λ (b : Bool). Ok (if b then Some (eliminated c.clear_column.new.rows (take (c.loop-column.column + 1) c.clear_column.new.pivots)) else None)) found),
+      cleared.taken found,
+      c.clear_column.auto.entries ∙ c.loop-column.invariant.2,
+      c.clear_column.auto.taken ∙ c.loop-column.invariant.3,
+      c.clear_column.auto.pivots ∙ c.loop-column.invariant.4,
+    )
 
-pub loop-column-init : goal.loop-column-init
-loop-column-init g c =
-    subst (λ (pivots : List ℕ). Stage g.S.Scalar.passes c.args.rows.now c.args.rows.now pivots 0) (sym c.in_ok-pivots.ensures) (first_stage g.S.Scalar.passes c.args.rows.now c.requires)
-
-pub same-pivots-in-loop-column : goal.same-pivots-in-loop-column
-same-pivots-in-loop-column g c = refl
-
-pub returns-in_err-clear_column : goal.returns-in_err-clear_column
-returns-in_err-clear_column g c =
-    let p = err_from_is_err_and c.from_residual-in_err-clear_column.result c.from_residual-in_err-clear_column.ensures.1 in
-    let here : c.loop-column.column < length c.args.rows.now = c.loop-column-test.true in
-    record {
-      list = rw (p.1, p.2) (stage_stops g.S.Scalar.passes c.args.rows.now c.loop-column.rows c.loop-column.pivots c.loop-column.column c.loop-column.invariant here
-          g.S.Scalar.means c.in_err-clear_column.field-0.0 c.in_err-clear_column.ensures);
-      pivots = IfOk-from_err c.from_residual-in_err-clear_column.result _ c.from_residual-in_err-clear_column.ensures.0;
-    }
-
-pub returns-in_err-pivots : goal.returns-in_err-pivots
-returns-in_err-pivots g c =
+pub returns-in_err-clear_column-clause-list : goal.returns-in_err-clear_column-clause-list
+returns-in_err-clear_column-clause-list g c =
     let p = err_from_is_err_and c.from_residual.result c.from_residual.ensures.1 in
-    record {
-      list = rw (p.1, p.2) tt;
-      pivots = IfOk-from_err c.from_residual.result _ c.from_residual.ensures.0;
-    }
+    let here : c.loop-column.column < length c.args.rows.now = c.loop-column-test.true in
+    rw (p.1, p.2) (sym (stage_stops g.C.Number.Scalar.passes c.args.rows.now c.loop-column.rows (take c.loop-column.column c.loop-column.pivots) c.loop-column.column c.loop-column.invariant.0 here
+    g.C.Number.Scalar.means (Halt.Passed c.in_err-clear_column.field-0.0) (sym c.in_err-clear_column.ensures.list)))
 
-pub returns-in_err-later : goal.returns-in_err-later
-returns-in_err-later g c =
-    let p = err_from_is_err_and c.from_residual-in_err-later.result c.from_residual-in_err-later.ensures.1 in
-    record {
-      list = rw (p.1, p.2) tt;
-      pivots = IfOk-from_err c.from_residual-in_err-later.result _ c.from_residual-in_err-later.ensures.0;
-    }
+pub returns-in_err-clear_column-clause-pivots : goal.returns-in_err-clear_column-clause-pivots
+returns-in_err-clear_column-clause-pivots g c = IfOk-from_err c.from_residual.result _ c.from_residual.ensures.0
 
-pub returns : goal.returns
-returns g c =
-    let end = subst (λ (n : ℕ). n ≤ c.loop-column.column) (sym c.loop-column.auto.rows) c.loop-column-test.false in
-    record {
-      list = stage_all g.S.Scalar.passes c.args.rows.now c.loop-column.rows c.loop-column.pivots c.loop-column.column c.loop-column.invariant end
-          ∙ ap (λ (pivots : List ℕ). Ok (Some (eliminated c.loop-column.rows pivots))) (sym c.into_rows.ensures);
-      pivots = subst (HasPivots c.loop-column.rows) (sym c.into_rows.ensures)
-          (stage_pivots g.S.Scalar.passes c.args.rows.now c.loop-column.rows c.loop-column.pivots c.loop-column.column c.loop-column.invariant end c.loop-column.auto.column-end);
-    }
-
-pub returns-then-not-branch : goal.returns-then-not-branch
-returns-then-not-branch g c =
+pub returns-then-not-branch-clause-list : goal.returns-then-not-branch-clause-list
+returns-then-not-branch-clause-list g c =
     let here : c.loop-column.column < length c.args.rows.now = c.loop-column-test.true in
     let not_found : c.in_ok-clear_column.field-0 ≡ false = c.if-not-branch.true in
-    record {
-      list = stage_none g.S.Scalar.passes c.args.rows.now c.loop-column.rows c.loop-column.pivots c.loop-column.column c.loop-column.invariant here
-          (c.in_ok-clear_column.ensures ∙ ap (λ (b : Bool). Ok (if b then Some (eliminated c.clear_column.new.rows c.clear_column.new.pivots) else None)) not_found);
-      pivots = tt;
-    }
+    sym (stage_none g.C.Number.Scalar.passes c.args.rows.now c.loop-column.rows (take c.loop-column.column c.loop-column.pivots) c.loop-column.column c.loop-column.invariant.0 here
+    (sym c.in_ok-clear_column.ensures.list ∙ ap (λ (b : Bool). Ok (if b then Some (eliminated c.clear_column.new.rows (take (c.loop-column.column + 1) c.clear_column.new.pivots)) else None)) not_found))
 
-pub clear_column-requires : goal.clear_column-requires
-clear_column-requires g c =
-    record {
-      square = stage_square g.S.Scalar.passes c.args.rows.now c.loop-column.rows c.loop-column.pivots c.loop-column.column c.loop-column.invariant;
-      column = subst (λ (n : ℕ). c.loop-column.column < n) (sym c.loop-column.auto.rows) c.loop-column-test.true;
-    }
+pub returns-then-not-branch-clause-pivots : goal.returns-then-not-branch-clause-pivots
+returns-then-not-branch-clause-pivots g c = λ e. absurd (false≢true e)
+
+pub returns-clause-list : goal.returns-clause-list
+returns-clause-list g c =
+    let test = c.loop-column-test.false in
+    let rows = c.loop-column.invariant.0.cleared.count in
+    let end : length c.loop-column.rows ≤ c.loop-column.column = omega arith in
+    let pivots = c.loop-column.invariant.4 in
+    let count = c.requires.count in
+    let whole = whole_front c.loop-column.pivots c.loop-column.column (omega arith) in
+    ap (λ (all : List ℕ). Ok (Some (eliminated c.loop-column.rows all))) (sym whole) ∙ sym (stage_all g.C.Number.Scalar.passes c.args.rows.now c.loop-column.rows (take c.loop-column.column c.loop-column.pivots) c.loop-column.column c.loop-column.invariant.0 end)
+
+pub returns-clause-pivots : goal.returns-clause-pivots
+returns-clause-pivots g c =
+    let test = c.loop-column-test.false in
+    let rows = c.loop-column.invariant.0.cleared.count in
+    let end : length c.loop-column.rows ≤ c.loop-column.column = omega arith in
+    let pivots = c.loop-column.invariant.4 in
+    let count = c.requires.count in
+    let whole = whole_front c.loop-column.pivots c.loop-column.column (omega arith) in
+    λ _. subst (HasPivots c.loop-column.rows) whole (stage_pivots g.C.Number.Scalar.passes c.args.rows.now c.loop-column.rows (take c.loop-column.column c.loop-column.pivots) c.loop-column.column c.loop-column.invariant.0 end c.loop-column.auto.column-end)

@@ -1,4 +1,4 @@
-use Rattle.std.proofs.Common.{◌<◌, length, set, sym, subst, ap, ◌∙◌, rules}
+use Rattle.std.proofs.Common.{◌<◌, length, set, sym, subst, ap, ◌∙◌}
 use borrow.Author.Rules.{scaled_Fits}
 use Rattle.nf_thin_def.specs.Table.{Row}
 use Rattle.nf_linear.proofs.Clearing.{row_got}
@@ -13,7 +13,7 @@ bounds-rows-row g c = c.requires.row
 
 pub set-requires : goal.set-requires
 set-requires g c =
-    (search rules, subst (λ (r : Row). c.args.column < length r) (sym (row_got c.args.rows.now c.args.row c.index-rows-row.result c.requires.row)) c.requires.column)
+    subst (λ (r : Row). c.args.column < length r) (sym (row_got c.args.rows.now c.args.row c.index-rows-row.result c.requires.row)) c.requires.column
 
 pub offset_bounds-rows-row : goal.offset_bounds-rows-row
 offset_bounds-rows-row g c = let b = c.requires.row in search scaled_Fits

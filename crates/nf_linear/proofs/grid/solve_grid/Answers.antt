@@ -9,11 +9,11 @@ use Rattle.nf_linear.specs.Grids.{IsTrueWith}
 use Rattle.nf_linear.proofs.Written.{seen_long, zero_seen, zeros_square, still_long}
 use Rattle.nf_linear.proofs.grid.solve_grid.Goals as goal
 
-pub whole_as_front-solve_rows : goal.whole_as_front-solve_rows
-whole_as_front-solve_rows g c = let few = c.grid.invariant.0 in (c.grid.invariant.1, omega arith)
+pub whole_as_front-solve_in_place : goal.whole_as_front-solve_in_place
+whole_as_front-solve_in_place g c = let few = c.grid.invariant.0 in (c.grid.invariant.1, omega arith)
 
-pub solve_rows-solved-requires : goal.solve_rows-solved-requires
-solve_rows-solved-requires g c =
+pub solve_in_place-solved-requires : goal.solve_in_place-solved-requires
+solve_in_place-solved-requires g c =
     let few = c.grid.invariant.0 in
     let within = c.grid.invariant.1 in
     let told = c.grid.told in
@@ -32,25 +32,25 @@ invariant_of-grid g c =
     let within = c.grid.invariant.1 in
     let told = c.grid.told in
     let long : c.grid.inside.size ≤ length c.grid.inside.rows = omega arith in
-    (c.grid.invariant.0, within, zeros_square c.grid.inside.size _ c.wipe.new.rows _ (still_long c.grid.inside.rows c.grid.inside.size c.solve_rows-solved.new.rows long c.solve_rows-solved.auto.rows) c.wipe.ensures)
+    (c.grid.invariant.0, within, zeros_square c.grid.inside.size _ c.wipe.new.rows _ (still_long c.grid.inside.rows c.grid.inside.size c.solve_in_place-solved.new.rows long c.solve_in_place-solved.auto.rows) c.wipe.ensures)
 
 pub returns-clause-list : goal.returns-clause-list
-returns-clause-list g c = c.solve_rows-solved.ensures.list ∙ ap (λ (l : List Row). at_part Part.Table (table_list passes_Q l)) c.grid.view_is
+returns-clause-list g c = c.solve_in_place-solved.ensures.list ∙ ap (λ (l : List Row). at_part Part.Table (table_list passes_Q l)) c.grid.view_is
 
 pub returns-clause-solution : goal.returns-clause-solution
 returns-clause-solution g c =
-    subst (λ (l : List Row). IfOk c.solve_rows-solved.result (λ found. IsTrueWith l found c.solve_rows-solved.new.values)) c.grid.view_is c.solve_rows-solved.ensures.solution
+    subst (λ (l : List Row). IfOk c.solve_in_place-solved.result (λ found. IsTrueWith l found c.solve_in_place-solved.new.values)) c.grid.view_is c.solve_in_place-solved.ensures.solution
 
 pub returns-clause-not_one : goal.returns-clause-not_one
-returns-clause-not_one g c = c.solve_rows-solved.ensures.not_one
+returns-clause-not_one g c = c.solve_in_place-solved.ensures.not_one
 
 pub returns-clause-passed : goal.returns-clause-passed
-returns-clause-passed g c = c.solve_rows-solved.ensures.passed
+returns-clause-passed g c = c.solve_in_place-solved.ensures.passed
 
 pub returns-clause-zero : goal.returns-clause-zero
 returns-clause-zero g c =
     let within = c.grid.invariant.1 in
     let told = c.grid.told in
     let long : c.grid.inside.size ≤ length c.grid.inside.rows = omega arith in
-    zero_seen c.grid.inside.size _ c.wipe.new.rows _ (still_long c.grid.inside.rows c.grid.inside.size c.solve_rows-solved.new.rows long c.solve_rows-solved.auto.rows) c.wipe.ensures
+    zero_seen c.grid.inside.size _ c.wipe.new.rows _ (still_long c.grid.inside.rows c.grid.inside.size c.solve_in_place-solved.new.rows long c.solve_in_place-solved.auto.rows) c.wipe.ensures
     ∙ ap (λ (k : ℕ). replicate k (replicate (k + 1) 0ℚ)) (sym (seen_long c.grid.inside.rows c.args.grid.now c.grid.inside.size long c.grid.view_is))

@@ -13,20 +13,20 @@ loop-i-init g c = (refl, refl)
 pub bounds-rows-i : goal.bounds-rows-i
 bounds-rows-i g c = let same = c.loop-i.invariant.1 in let here = c.loop-i-test.true in omega arith
 
-pub wipe-requires : goal.wipe-requires
-wipe-requires g c = (search rules, c.requires)
+pub wipe_row-requires : goal.wipe_row-requires
+wipe_row-requires g c = (search rules, c.requires)
 
 pub loop-i-preserved : goal.loop-i-preserved
 loop-i-preserved g c =
     let same = c.loop-i.invariant.1 in
     let test = c.loop-i-test.true in
     let here : c.loop-i.i < length c.loop-i.rows = omega arith in (
-      take_more_set c.loop-i.rows c.loop-i.i c.wipe.new.self here
-          ∙ ap (λ (row : Row). take c.loop-i.i c.loop-i.rows ++ row ∷ []) c.wipe.ensures
+      take_more_set c.loop-i.rows c.loop-i.i c.wipe_row.new.row here
+          ∙ ap (λ (row : Row). take c.loop-i.i c.loop-i.rows ++ row ∷ []) c.wipe_row.ensures
           ∙ ap (λ (rows : List Row). rows ++ replicate (c.args.size + 1) 0ℚ ∷ []) c.loop-i.invariant.0
           ∙ replicate_more c.loop-i.i (replicate (c.args.size + 1) 0ℚ)
           ∙ ap (λ (k : ℕ). replicate k (replicate (c.args.size + 1) 0ℚ)) (sym (add-one c.loop-i.i)),
-      length-set c.loop-i.rows c.loop-i.i c.wipe.new.self ∙ same,
+      length-set c.loop-i.rows c.loop-i.i c.wipe_row.new.row ∙ same,
     )
 
 pub returns : goal.returns

@@ -9,7 +9,7 @@ use Rattle.nf_linear.proofs.solution.solve.Goals as goal
 pub returns : goal.returns
 returns g c =
     record {
-      list = subst (λ (rows : List Row). Gives (values_of g.S.Scalar.means) g.S.Scalar.means c.solve_rows.result (at_part Part.Table (table_list g.S.Scalar.passes rows)))
-          (c.deref_mut.ensures.value ∙ c.into_rows-rows.ensures.rows) c.solve_rows.ensures.list;
-      solution = subst (λ (rows : List Row). IfOk c.solve_rows.result (IsTrueOf g.S.Scalar.means rows)) (c.deref_mut.ensures.value ∙ c.into_rows-rows.ensures.rows) c.solve_rows.ensures.solution;
+      list = subst (λ (rows : List Row). Gives (values_of g.S.Scalar.means) g.S.Scalar.means c.solve_table.result (at_part Part.Table (table_list g.S.Scalar.passes rows)))
+          (c.deref_mut.ensures.value ∙ c.into_rows-rows.ensures.rows) c.solve_table.ensures.list;
+      solution = subst (λ (rows : List Row). IfOk c.solve_table.result (IsTrueOf g.S.Scalar.means rows)) (c.deref_mut.ensures.value ∙ c.into_rows-rows.ensures.rows) c.solve_table.ensures.solution;
     }

@@ -4,21 +4,22 @@ use Rattle.nf_rational.specs.Rational.{ℚ}
 use Rattle.nf_frac_def.specs.declared.Op.TheVariants.{Quotient}
 use Rattle.nf_frac_def.specs.Checked.{checked, seen}
 use Rattle.nf_model.specs.Entries.{number_at}
+use Rattle.nf_linear.specs.Rows.{meant}
 use Rattle.nf_linear.proofs.row.Row.clear.Goals as goal
 
 pub subtract-requires : goal.subtract-requires
 subtract-requires g c =
-    let same : length c.set.new.self ≡ length c.args.self.now = ap length c.set.ensures ∙ length-set c.args.self.now c.args.column (g.S.Scalar.means c.zero.result) in
-    subst (λ (n : ℕ). AllByRecursion (λ (other : ℕ × _). other.0 < n) c.args.later.now) (sym same) c.requires.later
+    let same : length c.set.new.self ≡ length c.args.self.now = ap length c.set.ensures ∙ length-set c.args.self.now c.args.column (g.C.Number.Scalar.means c.zero.result) in
+    subst (λ (n : ℕ). AllByRecursion (λ (other : ℕ × ℚ). other.0 < n) (meant g.C.Number.Scalar.means c.args.later.now)) (sym same) c.requires.later
 
 pub returns : goal.returns
 returns g c =
-    let quotient : seen g.S.Scalar.means g.S.Scalar.means c.quotient.result ≡ checked g.S.Scalar.passes Quotient (number_at c.args.self.now c.args.column) (g.S.Scalar.means c.args.own) =
-    c.quotient.ensures ∙ ap (λ (x : ℚ). checked g.S.Scalar.passes Quotient x (g.S.Scalar.means c.args.own)) c.at.ensures in
+    let quotient : seen g.C.Number.Scalar.means g.C.Number.Scalar.means c.quotient.result ≡ checked g.C.Number.Scalar.passes Quotient (number_at c.args.self.now c.args.column) (g.C.Number.Scalar.means c.args.own) =
+    c.quotient.ensures ∙ ap (λ (x : ℚ). checked g.C.Number.Scalar.passes Quotient x (g.C.Number.Scalar.means c.args.own)) c.at.ensures in
     search rules
 
 pub returns-2 : goal.returns-2
 returns-2 g c =
-    let quotient : seen g.S.Scalar.means g.S.Scalar.means c.quotient.result ≡ checked g.S.Scalar.passes Quotient (number_at c.args.self.now c.args.column) (g.S.Scalar.means c.args.own) =
-    c.quotient.ensures ∙ ap (λ (x : ℚ). checked g.S.Scalar.passes Quotient x (g.S.Scalar.means c.args.own)) c.at.ensures in
+    let quotient : seen g.C.Number.Scalar.means g.C.Number.Scalar.means c.quotient.result ≡ checked g.C.Number.Scalar.passes Quotient (number_at c.args.self.now c.args.column) (g.C.Number.Scalar.means c.args.own) =
+    c.quotient.ensures ∙ ap (λ (x : ℚ). checked g.C.Number.Scalar.passes Quotient x (g.C.Number.Scalar.means c.args.own)) c.at.ensures in
     search rules

@@ -13,7 +13,7 @@ loop-init g c = c.in_ok-rows.ensures.items
 pub loop-preserved : goal.loop-preserved
 loop-preserved g c =
     c.in_ok-push.ensures.items
-    ∙ ap (λ (row : List ℚ). c.loop.rows.items ++ row ∷ []) c.in_ok-zero.ensures
+    ∙ ap (λ (row : List ℚ). c.loop.rows.items ++ row ∷ []) (c.of.ensures ∙ c.in_ok-cells.ensures)
     ∙ ap (λ (rows : List (List ℚ)). rows ++ replicate (c.args.size + 1) 0ℚ ∷ []) c.loop.invariant
     ∙ replicate_more c.loop.counter (replicate (c.args.size + 1) 0ℚ)
     ∙ ap (λ (k : ℕ). replicate k (replicate (c.args.size + 1) 0ℚ)) (sym (add-one c.loop.counter))
@@ -21,8 +21,8 @@ loop-preserved g c =
 pub returns-in_err-rows : goal.returns-in_err-rows
 returns-in_err-rows g c = IfOk-from_err c.from_residual.result _ c.from_residual.ensures.0
 
-pub returns-in_err-zero : goal.returns-in_err-zero
-returns-in_err-zero g c = IfOk-from_err c.from_residual-in_err-zero.result _ c.from_residual-in_err-zero.ensures.0
+pub returns-in_err-cells : goal.returns-in_err-cells
+returns-in_err-cells g c = IfOk-from_err c.from_residual-in_err-cells.result _ c.from_residual-in_err-cells.ensures.0
 
 pub returns-in_err-push : goal.returns-in_err-push
 returns-in_err-push g c = IfOk-from_err c.from_residual-in_err-push.result _ c.from_residual-in_err-push.ensures.0

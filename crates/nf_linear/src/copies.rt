@@ -1,0 +1,13 @@
+// Vectors of one value, many times.
+ghost use Rattle.std.specs.Prelude.{◌≡◌, replicate, IfOk};
+
+use std::alloc::{AllocError, Global};
+
+// This many copies of the value.
+pub fn copies<T: Copy>(alloc: Global, value: T, count: usize) -> Result<Vec<T>, AllocError>
+    ensures { IfOk result (λ copies. copies.items ≡ replicate count value) }
+{
+    let mut all = Vec::with_capacity(alloc, count)?;
+    all.resize(count, value)?;
+    Ok(all)
+}
