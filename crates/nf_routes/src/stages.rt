@@ -68,8 +68,7 @@ impl Stages {
         ensures { OnOk result (self.new ≡ last_alone self.old) }
     {
         if let Some(last) = self.curves.pop() {
-            self.curves.clear();
-            self.curves.push(last)?;
+            self.begin(last)?;
         }
         Ok(())
     }
