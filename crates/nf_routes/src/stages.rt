@@ -67,10 +67,10 @@ impl Stages {
     pub fn keep_last(&mut self) -> Result<(), AllocError>
         ensures { OnOk result (self.new ≡ last_alone self.old) }
     {
-        if let Some(last) = self.curves.pop() {
-            self.begin(last)?;
-        }
-        Ok(())
+        let Some(last) = self.curves.pop() else {
+            return Ok(());
+        };
+        self.begin(last)
     }
 
     /// Returns all amounts but the last, and the last. Never returns `None`: at least one amount is a precondition.

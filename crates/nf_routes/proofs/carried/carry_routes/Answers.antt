@@ -66,7 +66,7 @@ returns-clause-list c =
     let whole = whole_of passes_Q c.args.net.now.net (routes_of c.as_slice-list.result.now) c.args.horizon (seen_so_far c.in_ok-so_far.so_far) c.in_ok-so_far.ensures.list in
     let links : map loaded_of c.deref.result.now ≡ map (loaded_or passes_Q) whole.so_far.links = ap (λ (l : List Loaded). map loaded_of l) c.deref.ensures.value ∙ c.in_ok-ends.ensures.loaded ∙ ap (λ (s : SoFar). map (loaded_or passes_Q) s.links) (sym whole.same) in
     let comes = ap (λ (l : List NamedRoute). at_part Load (routes_list passes_Q c.args.net.now.net (routes_of l) c.args.horizon)) (sym same)
-        ∙ list_comes passes_Q c.args.net.now.net (routes_of c.as_slice-list.result.now) c.args.horizon whole.so_far whole.loaded (map loaded_of c.deref.result.now) links (map (λ (g : Grown). g.points) c.in_ok-travels.travels.items) c.in_ok-travels.ensures in
+    ∙ list_comes passes_Q c.args.net.now.net (routes_of c.as_slice-list.result.now) c.args.horizon whole.so_far whole.loaded (map loaded_of c.deref.result.now) links (map (λ (g : Grown). g.points) c.in_ok-travels.travels.items) c.in_ok-travels.ensures in
     let ends = sym (c.in_ok-ends.ensures.ends ∙ ap (λ (s : SoFar). map (end_or passes_Q) s.links) (sym whole.same)) in
     let loaded = sym (c.in_ok-ends.ensures.loaded ∙ ap (λ (s : SoFar). map (loaded_or passes_Q) s.links) (sym whole.same)) in
     let entries = sym (ap entries_or (was_ok Load (routes_list passes_Q c.args.net.now.net (routes_of c.args.routes.now) c.args.horizon) _ comes)) in
