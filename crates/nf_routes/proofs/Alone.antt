@@ -16,6 +16,8 @@ use Rattle.nf_routes.specs.Amounts.{IsAmount}
 use Rattle.nf_routes.specs.Beginning.{nothing_loaded, nothing_sent, all_loaded}
 use Rattle.nf_routes.specs.Standing.{Along}
 use Rattle.nf_routes.specs.Carrying.{last_alone, with_last, carry_here, carry_all, all_carried}
+use Rattle.nf_routes.proofs.Lists.{last_push}
+use Rattle.nf_routes.proofs.Passed.{chain}
 use Rattle.nf_routes.proofs.Folds.{Sent, step_all, begin_all-is, next_all-is}
 use Rattle.nf_routes.proofs.Sound.{IsSound, last_amount}
 use Rattle.nf_routes.proofs.Stands.{Stands}
@@ -31,12 +33,7 @@ alone_twice (x ∷ rest) = refl
 
 pub alone_push : (sent : Sent) (x : List Point) → last_alone (sent ++ x ∷ []) ≡ x ∷ []
 alone_push [] x = refl
-alone_push (y ∷ rest) x = ap (λ (l : List Point). l ∷ []) (last_more (y ∷ rest) x)
-  where
-    last_more : (sent : Sent) (x : List Point) → last_entry (sent ++ x ∷ []) ≡ x
-    last_more [] x = refl
-    last_more (y ∷ []) x = refl
-    last_more (y ∷ z ∷ rest) x = last_more (z ∷ rest) x
+alone_push (y ∷ rest) x = ap (λ (l : List Point). l ∷ []) (last_push (y ∷ rest) x)
 
 -- ---- the entries of all routes
 all_twice : (entries : List Sent) → map last_alone (map last_alone entries) ≡ map last_alone entries
@@ -54,11 +51,18 @@ none_alone [] = refl
 none_alone (route ∷ routes) = ap (λ (l : List Sent). [] ∷ l) (none_alone routes)
 
 -- ---- the entries of the first routes alone
+none_there : (l : List Sent) (i : ℕ) (x : Sent) → length l ≡ 0 → slice_get l i ≡ Some x → ⊥
+none_there [] i x e h = absurd (cc)
+none_there (y ∷ l) i x e h = absurd (omega arith)
+
+first_is : (y : Sent) (rest : List Sent) (x : Sent) → slice_get (y ∷ rest) zero ≡ Some x → y ≡ x
+first_is y rest x h = cc
+
 turned_more : (entries : List Sent) (i : ℕ) (x : Sent) → slice_get (map last_alone (take i entries) ++ drop i entries) i ≡ Some x
     → set (map last_alone (take i entries) ++ drop i entries) i (last_alone x) ≡ map last_alone (take (suc i) entries) ++ drop (suc i) entries
-turned_more [] zero x h = absurd (cc)
-turned_more [] (suc i) x h = absurd (cc)
-turned_more (y ∷ rest) zero x h = let same : y ≡ x = cc in ap (λ (z : Sent). last_alone z ∷ rest) (sym same)
+turned_more [] zero x h = absurd (none_there [] zero x refl h)
+turned_more [] (suc i) x h = absurd (none_there [] (suc i) x refl h)
+turned_more (y ∷ rest) zero x h = ap (λ (z : Sent). last_alone z ∷ rest) (sym (first_is y rest x h))
 turned_more (y ∷ rest) (suc i) x h = ap (λ (l : List Sent). last_alone y ∷ l) (turned_more rest i x h)
 
 pub turned_next : (entries now : List Sent) (i : ℕ) (x : Sent) → now ≡ map last_alone (take i entries) ++ drop i entries → slice_get now i ≡ Some x
@@ -96,10 +100,6 @@ pub stands_alone : (net : Network) (routes : List Route) (taken : List ℕ) (so_
 stands_alone net routes taken so_far s = record { count = s.count; loaded = s.loaded; exits = s.exits; entries = along_alone taken routes so_far.entries s.entries }
 
 -- ---- computations, one after the other
-chain : {A B C : Type 0} (r : Checked A) (g : A → Checked B) (f : B → Checked C) → ((r >>= g) >>= f) ≡ (r >>= λ a. g a >>= f)
-chain (Ok x) g f = refl
-chain (Err p) g f = refl
-
 after_same : {A B : Type 0} (r : Checked A) (f g : A → Checked B) → ((x : A) → f x ≡ g x) → (r >>= f) ≡ (r >>= g)
 after_same (Ok x) f g same = same x
 after_same (Err p) f g same = refl
@@ -144,7 +144,7 @@ module _ (passes : Passing) where
   sum_alone e total (route ∷ routes) [] = refl
   sum_alone e total (route ∷ routes) (sent ∷ rest) =
       ap (λ (entry : List Point). add_if passes (goes_over route.links e) total entry >>= λ next. sum_from passes e next routes (map last_alone rest)) (last_of_alone sent)
-      ∙ after_same (add_if passes (goes_over route.links e) total (last_entry sent)) (λ next. sum_from passes e next routes (map last_alone rest)) (λ next. sum_from passes e next routes rest)
+      ∙ after_same (add_if passes (goes_over route.links e) total (last_entry sent)) (λ (next : List Point). sum_from passes e next routes (map last_alone rest)) (λ (next : List Point). sum_from passes e next routes rest)
       (λ next. sum_alone e next routes rest)
 
   pushed_alone : (front : Sent) (r : Checked (List Point)) → alone (r >>= λ next. Ok (front ++ next ∷ [])) ≡ (r >>= λ next. Ok (next ∷ []))
@@ -229,12 +229,13 @@ module _ (passes : Passing) where
   carried_is net routes horizon [] s = refl
   carried_is net routes horizon (e ∷ order) s =
       ap (λ (r : Checked SoFar). r >>= λ next. carry_all passes net routes horizon order next) (here_alone horizon routes s e (slice_get net.links e))
-      ∙ later (load_here passes horizon routes s e (slice_get net.links e))
+      ∙ later (load_here passes horizon routes s e (slice_get net.links e)) (λ next. carried_is net routes horizon order next)
     where
-      later : (r : Checked SoFar) → ((r >>= λ next. Ok (with_last next)) >>= λ next. carry_all passes net routes horizon order next)
+      later : (r : Checked SoFar) → ((next : SoFar) → carry_all passes net routes horizon order (with_last next) ≡ (load_all passes net routes horizon order next >>= λ all. Ok (with_last all)))
+          → ((r >>= λ next. Ok (with_last next)) >>= λ next. carry_all passes net routes horizon order next)
           ≡ ((r >>= λ next. load_all passes net routes horizon order next) >>= λ all. Ok (with_last all))
-      later (Ok next) = carried_is net routes horizon order next
-      later (Err p) = refl
+      later (Ok next) same = same next
+      later (Err p) same = refl
 
   pub all_carried-is : (net : Network) (routes : List Route) (horizon : ℚ) → all_carried passes net routes horizon ≡ (all_loaded passes net routes horizon >>= λ all. Ok (with_last all))
   all_carried-is net routes horizon =

@@ -59,17 +59,16 @@ module _ (passes : Passing) (net : Network) (routes : List Route) (horizon : ℚ
           }
 
 -- ---- the same as with all entries
+pub record Whole (passes : Passing) (net : Network) (routes : List Route) (horizon : ℚ) (carried : SoFar) : Type 0 where
+  pub so_far : SoFar
+  pub loaded : at_part Load (all_loaded passes net routes horizon) ≡ Ok so_far
+  pub same : with_last so_far ≡ carried
+
 module _ (passes : Passing) (net : Network) (routes : List Route) (horizon : ℚ) where
   pub carried_stops : (p : PassedAt ℚ) → at_part Load (all_carried passes net routes horizon) ≡ Err p → at_part Load (all_loaded passes net routes horizon) ≡ Err p
   carried_stops p h = err_before Load (all_loaded passes net routes horizon) with_last p (ap (at_part Load) (sym (all_carried-is passes net routes horizon)) ∙ h)
 
-  -- the loading with all entries
-  pub record Whole (carried : SoFar) : Type 0 where
-    pub so_far : SoFar
-    pub loaded : at_part Load (all_loaded passes net routes horizon) ≡ Ok so_far
-    pub same : with_last so_far ≡ carried
-
-  pub whole_of : (carried : SoFar) → at_part Load (all_carried passes net routes horizon) ≡ Ok carried → Whole carried
+  pub whole_of : (carried : SoFar) → at_part Load (all_carried passes net routes horizon) ≡ Ok carried → Whole passes net routes horizon carried
   whole_of carried h =
       let w = ok_before Load (all_loaded passes net routes horizon) with_last carried (ap (at_part Load) (sym (all_carried-is passes net routes horizon)) ∙ h) in
       record { so_far = w.0; loaded = ap (at_part Load) w.1; same = w.2 }
