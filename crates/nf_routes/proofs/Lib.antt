@@ -8,7 +8,7 @@ pub mod Stands
 pub mod Here
 pub mod All
 pub mod Alone
-pub mod Carrying
+pub mod Carries
 pub mod Travelling
 pub mod Whole
 mod Passed

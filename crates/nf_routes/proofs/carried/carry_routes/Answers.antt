@@ -21,7 +21,7 @@ use Rattle.nf_routes.specs.Standing.{seen_so_far}
 use Rattle.nf_routes.specs.Travels.{HaveExits, GoOverAll, travel_along}
 use Rattle.nf_routes.proofs.Travelling.{complete_exits, complete_over}
 use Rattle.nf_routes.proofs.Alone.{last_of_all}
-use Rattle.nf_routes.proofs.Carrying.{carried_stops, whole_of}
+use Rattle.nf_routes.proofs.Carries.{carried_stops, whole_of}
 use Rattle.nf_routes.proofs.Whole.{load_stops, travel_stops, list_comes, same_parts}
 use Rattle.nf_routes.proofs.carried.carry_routes.Goals as goal
 

@@ -7,7 +7,7 @@ use Rattle.nf_routes_def.specs.Routes.{loading_order}
 use Rattle.nf_routes_def.specs.RoutesFile.{routes_of}
 use Rattle.nf_routes.specs.Standing.{seen_so_far}
 use Rattle.nf_routes.proofs.All.{placed_at, may_load_at, stands_complete}
-use Rattle.nf_routes.proofs.Carrying.{carries_first, carries_last, carries_stop, carries_go}
+use Rattle.nf_routes.proofs.Carries.{carries_first, carries_last, carries_stop, carries_go}
 use Rattle.nf_routes.proofs.carrying.carry_all.Goals as goal
 
 pub loop-link-init : goal.loop-link-init
