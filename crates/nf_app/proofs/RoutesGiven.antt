@@ -11,8 +11,8 @@ use Rattle.nf_load.specs.Loadings.{loaded_of}
 use Rattle.nf_routes_def.specs.RoutesFile.{NamedRoute, routes_of, ReadsRoutes}
 use Rattle.nf_routes_def.specs.RoutesList.{Routed}
 use Rattle.nf_routes_def.specs.Meanings.{IsRouted, RoutesArrive}
-use Rattle.nf_routes.specs.declared.routed.Routed.{Routed as CodeRouted}
-use Rattle.nf_routes.specs.Routed.{routed_of}
+use Rattle.nf_routes.specs.declared.carried.Carried.{Carried}
+use Rattle.nf_routes.specs.Carried.{carried_of}
 use Rattle.nf_routes_read.specs.declared.fault.RoutesFault.{RoutesFault}
 use Rattle.nf_routes_read.specs.Files.{IfBroken}
 use Rattle.nf_app_answers.specs.declared.refusal.Refusal.{Refusal}
@@ -41,7 +41,7 @@ module _ (n : Named) (file name : List ℕ) (horizon : ℚ) (text : List ℕ) wh
         inl (record { routes = routes; read = read; routed = routed; is = refl; loadings = is; arrives = arrives; computed = e })
 
 -- there are curves for each link and each route
-pub routed_counts : (net : Network) (routes : List NamedRoute) (horizon : ℚ) (r : CodeRouted) → IsRouted net (routes_of routes) horizon (routed_of r)
+pub routed_counts : (net : Network) (routes : List NamedRoute) (horizon : ℚ) (r : Carried) → IsRouted net (routes_of routes) horizon (carried_of net (routes_of routes) horizon r)
     → (length r.links.items ≡ length net.links) × (length r.arrivals.items ≡ length routes) × (length r.travels.items ≡ length routes)
 routed_counts net routes horizon r h = (
   sym (length-map r.links.items loaded_of) ∙ h.link_count,

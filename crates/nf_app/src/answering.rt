@@ -37,7 +37,7 @@ use nf_phase::{Budgets, solve};
 use nf_quick::{Augment, Quick, QuickFault, departure, quickest};
 use nf_report::parse_report;
 use nf_resume::{ResumeFault, resume};
-use nf_routes::load_routes;
+use nf_routes::carry_routes;
 use nf_routes_read::parse_routes;
 use std::alloc::{AllocError, Global};
 
@@ -172,7 +172,7 @@ fn distribute(alloc: Global, net: &Network, text: &[u8], horizon: Q) -> Result<C
     ensures { (file name : List ℕ) → IsGiving net.now text.now (Routes file name horizon) result }
 {
     let routes = parse_routes(alloc, net, text)?;
-    let routed = load_routes(alloc, net, &routes, horizon)?;
+    let routed = carry_routes(alloc, net, &routes, horizon)?;
     Ok(Computed::Distributed {
         routes,
         horizon,

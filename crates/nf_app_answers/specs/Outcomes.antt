@@ -1,5 +1,5 @@
 -- Outcomes of the code, as answers of the definitions.
-use Rattle.std.specs.Prelude.{◌≡◌, ℕ, List, length, map, Option, None}
+use Rattle.std.specs.Prelude.{◌≡◌, ℕ, List, [], length, map, Option, None}
 use Rattle.nf_rational.specs.Rational.{ℚ}
 use Rattle.nf_net_def.specs.declared.Cause.{Cause}
 use Rattle.nf_net_def.specs.Named.{Named}
@@ -10,8 +10,9 @@ use Rattle.nf_load.specs.Loadings.{loaded_of}
 use Rattle.nf_phase.specs.Solution.{report_in}
 use Rattle.nf_complete_def.specs.SettleText.{settled_text}
 use Rattle.nf_forever_def.specs.ForeverText.{HasForm, forever_text}
+use Rattle.nf_routes_def.specs.RoutesFile.{routes_of}
 use Rattle.nf_routes_def.specs.RoutesText.{routed_text}
-use Rattle.nf_routes.specs.Routed.{routed_of}
+use Rattle.nf_routes.specs.Carried.{with_entries, carried_of}
 use Rattle.nf_forever.specs.Seen.{forever_in}
 use Rattle.nf_app_answers.specs.declared.outcome.Computed.{Computed}
 use Rattle.nf_app_answers.specs.declared.outcome.Outcome.{Outcome}
@@ -29,7 +30,7 @@ answer_with net (Computed.Quickest quick arrival text) = Quickest net quick arri
 answer_with net (Computed.TooManyWalks augments walks text) = TooManyWalks net augments walks.items
 answer_with net (Computed.Generated ladder horizon s arrival) = Generated ladder.number ladder.rungs net s.phases (report_in horizon s)
 answer_with net (Computed.Settled settled) = Settled net settled.pattern settled.flows.items
-answer_with net (Computed.Distributed routes horizon routed) = Distributed net routes horizon (routed_of routed)
+answer_with net (Computed.Distributed routes horizon routed) = Distributed net routes horizon (carried_of net.net (routes_of routes) horizon routed)
 
 -- The result satisfies the conditions of its text. A report, and a run without a horizon, are well formed. The canonical text is that of
 -- the network. Each link has a loading. The text of a quickest flow holds all but the arrival. The arrival of a generated run is that of
@@ -60,7 +61,7 @@ text_with net (Computed.Quickest quick arrival text) = quick_text net quick arri
 text_with net (Computed.TooManyWalks augments walks text) = text.items
 text_with net (Computed.Generated ladder horizon s arrival) = gen_text ladder.number ladder.rungs net s.phases (report_in horizon s)
 text_with net (Computed.Settled settled) = settled_text net settled.pattern settled.flows.items
-text_with net (Computed.Distributed routes horizon routed) = routed_text net routes horizon (routed_of routed)
+text_with net (Computed.Distributed routes horizon routed) = routed_text net routes horizon (with_entries [] routed)
 
 -- why the run of the result stopped, if it did
 abbrev pub stop_of : Computed → Option (Cause ℚ)

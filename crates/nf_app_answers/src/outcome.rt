@@ -14,7 +14,7 @@ use nf_load::Loaded;
 use nf_net::Network;
 use nf_phase::Solution;
 use nf_quick::{Augment, Quick};
-use nf_routes::{Routed, Routes};
+use nf_routes::{Carried, Routes};
 
 /// The result of a request in its network.
 #[derive(Drop)]
@@ -68,7 +68,7 @@ pub enum Computed {
     Distributed {
         routes: Routes,
         horizon: Q,
-        routed: Routed,
+        routed: Carried,
     },
 }
 

@@ -4,7 +4,7 @@ ghost use Rattle.nf_net_def.specs.Report.{for_each, point_lines};
 ghost use Rattle.nf_edge.specs.Taken.{Wrote};
 ghost use Rattle.nf_report.specs.Written.{WroteLines};
 ghost use Rattle.nf_routes_def.specs.RoutesText.{route_lines, routed_text};
-ghost use Rattle.nf_routes.specs.Routed.{routed_of};
+ghost use Rattle.nf_routes.specs.Carried.{with_entries};
 
 use crate::load_text::{write_head, write_links};
 use nf_curve::Curve;
@@ -12,7 +12,7 @@ use nf_edge::{Sink, SinkFault};
 use nf_frac::Q;
 use nf_net::Network;
 use nf_report::{write_curve, write_line};
-use nf_routes::{Routed, Routes};
+use nf_routes::{Carried, Routes};
 
 // Writes the arrival and travel curves of a route.
 fn write_route<O: Sink>(
@@ -29,11 +29,11 @@ fn write_route<O: Sink>(
 }
 
 // Writes the curves of the routes.
-fn write_routes<O: Sink>(out: &mut O, routes: &Routes, routed: &Routed) -> Result<(), SinkFault>
+fn write_routes<O: Sink>(out: &mut O, routes: &Routes, routed: &Carried) -> Result<(), SinkFault>
     requires arrivals { length routed.now.arrivals.items ≡ length routes.now }
     requires travels { length routed.now.travels.items ≡ length routes.now }
     ensures { WroteLines (O.took out.old) (O.took out.new) (O.faults out.old) (O.faults out.new)
-        (for_each (length routes.now) (route_lines routes.now (routed_of routed.now))) result }
+        (for_each (length routes.now) (route_lines routes.now (with_entries [] routed.now))) result }
 {
     for route in 0..routes.count() {
         let name = routes.name(route).as_bytes();
@@ -53,13 +53,13 @@ pub fn write_routed<O: Sink>(
     net: &Network,
     routes: &Routes,
     horizon: Q,
-    routed: &Routed,
+    routed: &Carried,
 ) -> Result<(), SinkFault>
     requires links { length routed.now.links.items ≡ length net.now.net.links }
     requires arrivals { length routed.now.arrivals.items ≡ length routes.now }
     requires travels { length routed.now.travels.items ≡ length routes.now }
     ensures { Wrote (O.took out.old) (O.took out.new) (O.faults out.old) (O.faults out.new)
-        (routed_text net.now routes.now horizon (routed_of routed.now)) result }
+        (routed_text net.now routes.now horizon (with_entries [] routed.now)) result }
 {
     write_head(out, b"routed", horizon)?;
     write_links(out, net, &routed.links)?;

@@ -20,13 +20,43 @@ use Rattle.nf_routes.specs.Standing.{MayLoad, IsComplete}
 use Rattle.nf_routes.proofs.Folds.{drop_at}
 use Rattle.nf_routes.proofs.Stands.{Stands, stands_first, may_load, steps_of, stands_next, stands_last, all_taken}
 
+-- ---- a link of the order, when those before it are taken
+take_on : (xs : List ℕ) (i e : ℕ) → slice_get xs i ≡ Some e → take i xs ++ e ∷ [] ≡ take (suc i) xs
+take_on [] i e h = absurd (cc)
+take_on (y ∷ xs) zero e h = let same : y ≡ e = cc in ap (λ (z : ℕ). z ∷ []) (sym same)
+take_on (y ∷ xs) (suc i) e h = ap (λ (l : List ℕ). y ∷ l) (take_on xs i e h)
+
+module _ (net : Network) (routes : List Route) (order : List ℕ) (is_order : order ≡ loading_order (length net.links) routes) where
+  module _ (i e : ℕ) (at : slice_get order i ≡ Some e) where
+    take_at : take i order ++ e ∷ [] ≡ take (i + 1) order
+    take_at = take_on order i e at ∙ ap (λ (k : ℕ). take k order) (let same : suc i ≡ i + 1 = omega arith in same)
+
+    pub placed_at : IsPlaced (all_pairs routes) (length net.links) (take i order) e
+    unfolding loading_order
+    placed_at = order_placed (all_pairs routes) (length net.links) (length net.links) (take i order) e (drop (i + 1) order)
+        (sym is_order ∙ sym (take-append-drop i order) ∙ ap (λ (l : List ℕ). take i order ++ l) (drop_at order i e at))
+
+    pub may_load_at : (so_far : SoFar) → Stands net routes (take i order) so_far → MayLoad net routes e so_far
+    may_load_at so_far stands = may_load net routes (take i order) e so_far stands placed_at
+
+    pub stands_go : (passes : Passing) (horizon : ℚ) (link : Link) (so_far next : SoFar) → IsLink net e link → 0ℚ ≤ℚ horizon → IsNetwork net → Stands net routes (take i order) so_far
+        → load_here passes horizon routes so_far e (slice_get net.links e) ≡ Ok next → Stands net routes (take (i + 1) order) next
+    stands_go passes horizon link so_far next is from_0 good stands was = subst (λ (l : List ℕ). Stands net routes l next) take_at
+        (stands_next passes net routes horizon (take i order) e link so_far next from_0 good is stands placed_at
+        (steps_of passes horizon routes so_far e link next (ap (λ (o : Option Link). load_here passes horizon routes so_far e o) (sym is) ∙ was)))
+
+  pub stands_complete : (are : AreRoutes net routes) (so_far : SoFar) (i : ℕ) → Stands net routes (take i order) so_far → length order ≤ i → IsNetwork net → (HoldCircle routes → ⊥) → IsComplete net routes so_far
+  stands_complete are so_far i stands h good straight = stands_last net routes order so_far good are (all_taken (length net.links) routes order is_order (takes_all-straight net routes are straight))
+      (subst (λ (l : List ℕ). Stands net routes l so_far) (take_all i order h) stands)
+
+-- ---- the loading of the links
 pub record Loads (passes : Passing) (net : Network) (routes : List Route) (horizon : ℚ) (order : List ℕ) (so_far : SoFar) (i : ℕ) : Type 0 where
   pub same : load_all passes net routes horizon (drop i order) so_far ≡ all_loaded passes net routes horizon
   pub stands : Stands net routes (take i order) so_far
 
-module _ (passes : Passing) (net : Network) (routes : List Route) (horizon : ℚ) (order : List ℕ) (is_order : order ≡ loading_order (length net.links) routes) (are : AreRoutes net routes) where
-  pub loads_first : (so_far : SoFar) → so_far.links ≡ nothing_loaded net.links → so_far.entries ≡ nothing_sent routes → Loads passes net routes horizon order so_far 0
-  loads_first so_far h k = record {
+module _ (passes : Passing) (net : Network) (routes : List Route) (horizon : ℚ) (order : List ℕ) (is_order : order ≡ loading_order (length net.links) routes) where
+  pub loads_first : (are : AreRoutes net routes) (so_far : SoFar) → so_far.links ≡ nothing_loaded net.links → so_far.entries ≡ nothing_sent routes → Loads passes net routes horizon order so_far 0
+  loads_first are so_far h k = record {
     same = ap (λ (l : List ℕ). load_all passes net routes horizon l so_far) is_order
         ∙ ap (λ (l : List _). load_all passes net routes horizon (loading_order (length net.links) routes) (record { links = l; entries = so_far.entries })) h
         ∙ ap (λ (l : List _). load_all passes net routes horizon (loading_order (length net.links) routes) (record { links = nothing_loaded net.links; entries = l })) k;
@@ -37,27 +67,7 @@ module _ (passes : Passing) (net : Network) (routes : List Route) (horizon : ℚ
     pub loads_last : length order ≤ i → at_part Load (all_loaded passes net routes horizon) ≡ Ok so_far
     loads_last h = ap (at_part Load) (sym loads.same ∙ ap (λ (l : List ℕ). load_all passes net routes horizon l so_far) (drop_all i order h))
 
-    pub loads_complete : length order ≤ i → IsNetwork net → (HoldCircle routes → ⊥) → IsComplete net routes so_far
-    loads_complete h good straight = stands_last net routes order so_far good are (all_taken (length net.links) routes order is_order (takes_all-straight net routes are straight))
-        (subst (λ (l : List ℕ). Stands net routes l so_far) (take_all i order h) loads.stands)
-
     module _ (e : ℕ) (at : slice_get order i ≡ Some e) where
-      take_on : (xs : List ℕ) (i : ℕ) → slice_get xs i ≡ Some e → take i xs ++ e ∷ [] ≡ take (suc i) xs
-      take_on [] i h = absurd (cc)
-      take_on (y ∷ xs) zero h = let same : y ≡ e = cc in ap (λ (z : ℕ). z ∷ []) (sym same)
-      take_on (y ∷ xs) (suc i) h = ap (λ (l : List ℕ). y ∷ l) (take_on xs i h)
-
-      take_at : take i order ++ e ∷ [] ≡ take (i + 1) order
-      take_at = take_on order i at ∙ ap (λ (k : ℕ). take k order) (let same : suc i ≡ i + 1 = omega arith in same)
-
-      pub placed_at : IsPlaced (all_pairs routes) (length net.links) (take i order) e
-      unfolding loading_order
-      placed_at = order_placed (all_pairs routes) (length net.links) (length net.links) (take i order) e (drop (i + 1) order)
-          (sym is_order ∙ sym (take-append-drop i order) ∙ ap (λ (l : List ℕ). take i order ++ l) (drop_at order i e at))
-
-      pub may_load_at : MayLoad net routes e so_far
-      may_load_at = may_load net routes (take i order) e so_far loads.stands placed_at
-
       here : (load_here passes horizon routes so_far e (slice_get net.links e) >>= λ next. load_all passes net routes horizon (drop (i + 1) order) next) ≡ all_loaded passes net routes horizon
       here = sym (ap (λ (l : List ℕ). load_all passes net routes horizon l so_far) (drop_at order i e at)) ∙ loads.same
 
@@ -70,7 +80,5 @@ module _ (passes : Passing) (net : Network) (routes : List Route) (horizon : ℚ
           let was = was_ok Load (load_here passes horizon routes so_far e (slice_get net.links e)) next k in
           record {
             same = ap (λ (r : Checked SoFar). r >>= λ n. load_all passes net routes horizon (drop (i + 1) order) n) (sym was) ∙ here;
-            stands = subst (λ (l : List ℕ). Stands net routes l next) take_at
-                (stands_next passes net routes horizon (take i order) e link so_far next from_0 good is loads.stands placed_at
-                (steps_of passes horizon routes so_far e link next (ap (λ (o : Option Link). load_here passes horizon routes so_far e o) (sym is) ∙ was)));
+            stands = stands_go net routes order is_order i e at passes horizon link so_far next is from_0 good loads.stands was;
           }

@@ -7,6 +7,8 @@ pub mod Sound
 pub mod Stands
 pub mod Here
 pub mod All
+pub mod Alone
+pub mod Carries
 pub mod Travelling
 pub mod Whole
 mod Passed

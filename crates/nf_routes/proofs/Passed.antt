@@ -16,7 +16,7 @@ use Rattle.nf_routes_def.specs.RoutesList.{begin_if, next_if, last_entry}
 use Rattle.nf_routes_def.specs.RoutesList.{next_entry}
 use Rattle.nf_routes.specs.Beginning.{first_entry}
 
-chain : {A B C : Type 0} (r : Checked A) (g : A → Checked B) (f : B → Checked C) → ((r >>= g) >>= f) ≡ (r >>= λ a. g a >>= f)
+pub chain : {A B C : Type 0} (r : Checked A) (g : A → Checked B) (f : B → Checked C) → ((r >>= g) >>= f) ≡ (r >>= λ a. g a >>= f)
 chain (Ok x) g f = refl
 chain (Err p) g f = refl
 

@@ -4,3 +4,5 @@ pub mod Beginning
 pub mod Standing
 pub mod Travels
 pub mod Routed
+pub mod Carrying
+pub mod Carried

@@ -2,6 +2,8 @@
 //! in, first out. Times, amounts and rates are exact fractions.
 #![tactic(auto)]
 
+mod carried;
+mod carrying;
 mod ends;
 mod entries;
 mod loading;
@@ -11,5 +13,6 @@ mod so_far;
 mod stages;
 mod travels;
 
+pub use carried::{Carried, carry_routes};
 pub use nf_routes_read::{Routes, RoutesFault, RoutesRule, parse_routes};
 pub use routed::{Routed, load_routes};

@@ -20,8 +20,8 @@ use nf_net::{LinkId, Network};
 use nf_routes_read::{Route, loading_order};
 use std::alloc::Global;
 
-// Loads a link up to its end with the entries of the routes over it. Records the loading, and sends the routes' amounts on.
-fn load_here(
+/// Loads a link up to its end with the entries of the routes over it. Records the loading, and sends the routes' amounts on.
+pub(crate) fn load_here(
     alloc: Global,
     net: &Network,
     routes: &[Route],

@@ -37,8 +37,11 @@ pub struct Routed {
     pub travels: Vec<Curve>,
 }
 
-// Returns the ends and the loadings of the links.
-fn ended(alloc: Global, links: Vec<Option<LoadedLink>>) -> Result<(Vec<Q>, Vec<Loaded>), AllocError>
+/// Returns the ends and the loadings of the links.
+pub(crate) fn ended(
+    alloc: Global,
+    links: Vec<Option<LoadedLink>>,
+) -> Result<(Vec<Q>, Vec<Loaded>), AllocError>
     requires { AreLoaded links.items }
     ensures ends { IfOk result (λ parts. parts.0.items ≡ map (end_or passes_Q) links.items) }
     ensures loaded { IfOk result (λ parts. map loaded_of parts.1.items ≡ map (loaded_or passes_Q) links.items) }
@@ -54,8 +57,11 @@ fn ended(alloc: Global, links: Vec<Option<LoadedLink>>) -> Result<(Vec<Q>, Vec<L
     Ok((ends, all))
 }
 
-// Splits the routes' stages: returns the entries into the links of each route, and the amount that has arrived.
-fn parted(alloc: Global, entries: Vec<Stages>) -> Result<(Vec<Vec<Curve>>, Vec<Curve>), AllocError>
+/// Splits the routes' stages: returns the entries into the links of each route, and the amount that has arrived.
+pub(crate) fn parted(
+    alloc: Global,
+    entries: Vec<Stages>,
+) -> Result<(Vec<Vec<Curve>>, Vec<Curve>), AllocError>
     requires { HaveSent entries.items }
     ensures entries { IfOk result
         (λ parts. map (λ sent. map (λ c. c.points) sent.items) parts.0.items ≡ map (but_last passes_Q) entries.items) }

@@ -2,6 +2,7 @@
 ghost use Rattle.std.specs.Prelude.{◌≡◌, ◌<◌, [], ◌∷◌, ◌++◌, length, map, OnOk, IsSome, IfSome};
 ghost use Rattle.nf_frac_def.specs.Passing.{passes_Q};
 ghost use Rattle.nf_routes_def.specs.RoutesList.{last_entry, but_last};
+ghost use Rattle.nf_routes.specs.Carrying.{last_alone};
 
 use nf_curve::Curve;
 use std::alloc::{AllocError, Global};
@@ -60,6 +61,16 @@ impl Stages {
         ensures { result.now.points ≡ last_entry self.now }
     {
         &self.curves[self.curves.len() - 1]
+    }
+
+    /// Drops all amounts but the last.
+    pub fn keep_last(&mut self) -> Result<(), AllocError>
+        ensures { OnOk result (self.new ≡ last_alone self.old) }
+    {
+        let Some(last) = self.curves.pop() else {
+            return Ok(());
+        };
+        self.begin(last)
     }
 
     /// Returns all amounts but the last, and the last. Never returns `None`: at least one amount is a precondition.

@@ -1,5 +1,6 @@
 use Rattle.std.proofs.lemmas.Result.{err_from_is_err_and}
-use Rattle.nf_routes.specs.Routed.{routed_of}
+use Rattle.nf_routes_def.specs.RoutesFile.{routes_of}
+use Rattle.nf_routes.specs.Carried.{carried_of}
 use Rattle.nf_app.proofs.RoutesGiven.{routes_refused, distributing_stopped, distributed_given, routed_counts}
 use Rattle.nf_app.proofs.answering.distribute.Goals as goal
 
@@ -17,6 +18,6 @@ returns-in_err-routed c file name =
 pub returns : goal.returns
 returns c file name =
     let e = c.in_ok-routed.ensures in (
-      distributed_given c.args.net.now file name c.args.horizon c.args.text.now c.in_ok-routes.routes c.in_ok-routes.ensures.reads (routed_of c.in_ok-routed.routed) e.list e.routed e.arrives,
+      distributed_given c.args.net.now file name c.args.horizon c.args.text.now c.in_ok-routes.routes c.in_ok-routes.ensures.reads (carried_of c.args.net.now.net (routes_of c.in_ok-routes.routes) c.args.horizon c.in_ok-routed.routed) e.list e.routed e.arrives,
       routed_counts c.args.net.now.net c.in_ok-routes.routes c.args.horizon c.in_ok-routed.routed e.routed,
     )

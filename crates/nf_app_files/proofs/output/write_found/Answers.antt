@@ -1,4 +1,4 @@
-use Rattle.std.proofs.Common.{◌≡◌, ℕ, List, ◌++◌, sym, ap, subst, ◌∙◌}
+use Rattle.std.proofs.Common.{◌≡◌, ℕ, List, [], ◌++◌, sym, ap, subst, ◌∙◌}
 use Rattle.std.specs.Prelude.{map}
 use Rattle.std.specs.Option.{option_copied}
 use Rattle.nf_net_def.specs.Report.{Report, report_text}
@@ -11,7 +11,7 @@ use Rattle.nf_complete_def.specs.SettleText.{settled_text}
 use Rattle.nf_forever_def.specs.ForeverText.{forever_text}
 use Rattle.nf_forever.specs.Seen.{forever_in}
 use Rattle.nf_routes_def.specs.RoutesText.{routed_text}
-use Rattle.nf_routes.specs.Routed.{routed_of}
+use Rattle.nf_routes.specs.Carried.{with_entries}
 use Rattle.nf_app_answers.specs.declared.outcome.Computed.{Computed}
 use Rattle.nf_app_answers.specs.QuickText.{arrival_text}
 use Rattle.nf_app_answers.specs.GenText.{gen_text}
@@ -60,5 +60,5 @@ returns-in-SolvedForever g c =
 
 pub returns-in-Distributed : goal.returns-in-Distributed
 returns-in-Distributed g c =
-    same_text (routed_text c.args.net.now c.in-Distributed.routes c.in-Distributed.horizon (routed_of c.in-Distributed.routed)) (text_with c.args.net.now c.args.found.now)
+    same_text (routed_text c.args.net.now c.in-Distributed.routes c.in-Distributed.horizon (with_entries [] c.in-Distributed.routed)) (text_with c.args.net.now c.args.found.now)
     (sym (ap (text_with c.args.net.now) c.in-Distributed.is)) c.write_routed.ensures
