@@ -1,1 +1,2 @@
 pub mod TollLines
+pub mod Given

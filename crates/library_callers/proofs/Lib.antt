@@ -7,3 +7,4 @@ pub mod Slacks
 pub mod Queues
 pub mod Patterns
 pub mod Shares
+pub mod Labels

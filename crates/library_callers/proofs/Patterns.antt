@@ -1,6 +1,5 @@
 -- The first listed pattern of a phase that no phase precedes.
 use Rattle.std.proofs.Common.{◌≡◌, ℕ, ◌<◌, Bool, List, length, replicate, Option, Some, None, slice_get, unwrap_or, sym, ap, subst, ◌∙◌, arith}
-use Rattle.std.specs.Prelude.{MatchOption}
 use Rattle.std.proofs.lemmas.List.{get_or-replicate}
 use Rattle.std.proofs.lemmas.Option.{slice_get_within, unwrap_or-slice_get}
 use Rattle.nf_rational_laws.proofs.Entries.{entry}
@@ -9,15 +8,16 @@ use Rattle.nf_model.specs.declared.State.{State}
 use Rattle.nf_model.specs.declared.State.TheVariants.{Tight, Full, Zero}
 use Rattle.nf_model.specs.Walk.{Hop}
 use Rattle.nf_model.specs.ThinFlow.{Sets}
-use Rattle.nf_model.specs.Pattern.{Pattern, HasState, NeedsState, IsPattern, IsListed, IsFirstInto, IsBase}
-use Rattle.nf_pattern.specs.Given.{Given, Question, AtStart, Gives}
+use Rattle.nf_model.specs.Pattern.{Pattern, HasState, NeedsState, IsPattern, IsBase}
 
-no_state : (n e : ℕ) → e < n → slice_get (replicate n (None {A = State})) e ≡ Some None
-no_state n e lt =
-    let none : List (Option State) = replicate n None in
-    let here = entry none e (omega (arith, length-replicate n (None {A = State}))) in
+no_state : (n e : ℕ) → e < n → ◌≡◌ {A = Option (Option State)} (slice_get (replicate n None) e) (Some None)
+no_state n e less =
+    let blank : Option State = None in
+    let none : List (Option State) = replicate n blank in
+    let within : e < length none = omega (arith, length-replicate n blank) in
+    let here = entry none e within in
     here.1 ∙ ap (λ (o : Option State). Some o)
-    (ap (λ (o : Option (Option State)). unwrap_or o None) (sym here.1) ∙ (unwrap_or-slice_get none e None ∙ get_or-replicate n e None None lt))
+    (ap (λ (o : Option (Option State)). unwrap_or o blank) (sym here.1) ∙ (unwrap_or-slice_get none e blank ∙ get_or-replicate n e blank blank less))
 
 -- the base pattern is a pattern: no link is Full
 pub first_base : (hops : List Hop) (sets : Sets) (unbounded : List Bool) (before base : Pattern) → before ≡ replicate (length hops) None
@@ -36,18 +36,3 @@ first_base hops sets unbounded before base none count b = record { count = b.cou
         let within : e < length sets.active = slice_get_within sets.active e _ need.0 in
         let empty : slice_get before e ≡ Some None = ap (λ (p : Pattern). slice_get p e) none ∙ no_state (length hops) e (omega arith) in
         zero_differs e full (b.later e need empty (λ hop first. differ e full (b.first e hop need empty first)))
-
--- what a listing gives first is listed, and nothing is given only if nothing is listed
-pub first_given : (nodes source : ℕ) (hops : List Hop) (sets : Sets) (unbounded : List Bool) (base : Pattern) (given after : Given) (found : Option Pattern)
-    → given ≡ record { question = record { nodes = nodes; source = source; hops = hops; sets = sets; unbounded = unbounded; base = base }; last = AtStart; place = 0 }
-    → Gives given found after
-    → MatchOption found ((p : Pattern) → IsListed nodes source hops sets unbounded p → ⊥) (λ p. IsListed nodes source hops sets unbounded p)
-first_given nodes source hops sets unbounded base given after found e g = from found (subst (λ (x : Given). Gives x found after) e g)
-  where
-    start : Given
-    start = record { question = record { nodes = nodes; source = source; hops = hops; sets = sets; unbounded = unbounded; base = base }; last = AtStart; place = 0 }
-
-    from : (found : Option Pattern) → Gives start found after
-        → MatchOption found ((p : Pattern) → IsListed nodes source hops sets unbounded p → ⊥) (λ p. IsListed nodes source hops sets unbounded p)
-    from None g = λ p l. g.0 p l tt
-    from (Some p) g = g.0.listed

@@ -58,12 +58,13 @@ module _ (capacity rate last : ℚ) (positive : 0ℚ ≤ℚ last) (above : capac
   pub queue_is : (queue : ℚ) → IsQueue (Some capacity) (value inflow) last queue → queue ≡ (rate -ℚ capacity) *ℚ last
   queue_is queue q =
       let g = q.bounded capacity refl in
+      let all : (rate -ℚ capacity) *ℚ (last -ℚ 0ℚ) ≡ (rate -ℚ capacity) *ℚ last = linear_eq (rate ∷ capacity ∷ last ∷ []) [] (search reading_of depth 12) tt tt in
       ≤ℚ_antisymm queue ((rate -ℚ capacity) *ℚ last)
       (subst (λ (y : ℚ). y ≤ℚ (rate -ℚ capacity) *ℚ last) (sym (surplus g.taken.0 g.taken.1) ∙ g.taken.2) (at_most g.taken.0 g.taken.1.0))
-      (subst (λ (y : ℚ). y ≤ℚ queue) (surplus 0ℚ (≤ℚ_refl 0ℚ, positive) ∙ linear_eq (rate ∷ capacity ∷ last ∷ []) [] (search reading_of depth 12) tt tt) (g.bound 0ℚ (≤ℚ_refl 0ℚ, positive)))
+      (subst (λ (y : ℚ). y ≤ℚ queue) (surplus 0ℚ (≤ℚ_refl 0ℚ, positive) ∙ all) (g.bound 0ℚ (≤ℚ_refl 0ℚ, positive)))
     where
-      at_most : (since : ℚ) → 0ℚ ≤ℚ since → ((rate -ℚ capacity) *ℚ (last -ℚ since)) ≤ℚ ((rate -ℚ capacity) *ℚ last)
-      at_most since h = linear_le (rate ∷ capacity ∷ last ∷ since ∷ []) (le_times grows h ∷ []) (search reading_of depth 20) tt
-
       grows : 0ℚ ≤ℚ rate -ℚ capacity
       grows = linear_le (rate ∷ capacity ∷ []) (le above ∷ []) (search reading_of depth 12) tt
+
+      at_most : (since : ℚ) → 0ℚ ≤ℚ since → ((rate -ℚ capacity) *ℚ (last -ℚ since)) ≤ℚ ((rate -ℚ capacity) *ℚ last)
+      at_most since h = linear_le (rate ∷ capacity ∷ last ∷ since ∷ []) (le_times grows h ∷ []) (search reading_of depth 20) tt

@@ -1,5 +1,5 @@
 -- Two links, one behind the other: one walk leads over them.
-use Rattle.std.proofs.Common.{◌≡◌, ℕ, zero, suc, List, [], ◌∷◌, Option, Some, None, slice_get, refl, sym, ap, subst, ◌∙◌, arith}
+use Rattle.std.proofs.Common.{◌≡◌, ℕ, zero, suc, ◌<◌, List, [], ◌∷◌, Option, Some, None, slice_get, refl, sym, ap, subst, ◌∙◌, arith}
 use Rattle.nf_rational.specs.Rational.{ℚ}
 use Rattle.nf_rational.specs.Operations.{0ℚ, ◌+ℚ◌}
 use Rattle.nf_rational.specs.Order.{◌≤ℚ◌}
@@ -25,24 +25,30 @@ leaves hops e walk v w h = ap tail_of h.1 ∙ h.2
 goes_on : (hops : List Hop) (e : ℕ) (walk : List ℕ) (v w : ℕ) → IsWalk hops (e ∷ walk) v w → IsWalk hops walk (head_of (slice_get hops e)) w
 goes_on hops e walk v w h = subst (λ (u : ℕ). IsWalk hops walk u w) (sym (ap head_of h.1)) h.3
 
+below : {X : Type 0} (v w : ℕ) → v < w → v ≡ w → X
+below v w less e = absurd (omega arith)
+
+above : {X : Type 0} (v w : ℕ) → w < v → v ≡ w → X
+above v w less e = absurd (omega arith)
+
 module _ (first second : ℚ) where
   at_end : (walk : List ℕ) → IsWalk (links first second) walk 2 2 → transit_sum (links first second) walk ≡ 0ℚ
   at_end [] h = refl
-  at_end (zero ∷ walk) h = let t : 0 ≡ 2 = leaves (links first second) 0 walk 2 2 h in absurd (omega arith)
-  at_end (suc zero ∷ walk) h = let t : 1 ≡ 2 = leaves (links first second) 1 walk 2 2 h in absurd (omega arith)
-  at_end (suc (suc e) ∷ walk) h = let t : 3 ≡ 2 = leaves (links first second) (suc (suc e)) walk 2 2 h in absurd (omega arith)
+  at_end (zero ∷ walk) h = below 0 2 (omega arith) (leaves (links first second) 0 walk 2 2 h)
+  at_end (suc zero ∷ walk) h = below 1 2 (omega arith) (leaves (links first second) 1 walk 2 2 h)
+  at_end (suc (suc e) ∷ walk) h = above 3 2 (omega arith) (leaves (links first second) (suc (suc e)) walk 2 2 h)
 
   at_middle : (walk : List ℕ) → IsWalk (links first second) walk 1 2 → transit_sum (links first second) walk ≡ second
-  at_middle [] h = let t : 1 ≡ 2 = h in absurd (omega arith)
-  at_middle (zero ∷ walk) h = let t : 0 ≡ 1 = leaves (links first second) 0 walk 1 2 h in absurd (omega arith)
+  at_middle [] h = below 1 2 (omega arith) h
+  at_middle (zero ∷ walk) h = below 0 1 (omega arith) (leaves (links first second) 0 walk 1 2 h)
   at_middle (suc zero ∷ walk) h = ap (λ (z : ℚ). second +ℚ z) (at_end walk (goes_on (links first second) 1 walk 1 2 h)) ∙ (+ℚ_comm second 0ℚ ∙ +ℚ_idl second)
-  at_middle (suc (suc e) ∷ walk) h = let t : 3 ≡ 1 = leaves (links first second) (suc (suc e)) walk 1 2 h in absurd (omega arith)
+  at_middle (suc (suc e) ∷ walk) h = above 3 1 (omega arith) (leaves (links first second) (suc (suc e)) walk 1 2 h)
 
   at_start : (walk : List ℕ) → IsWalk (links first second) walk 0 2 → transit_sum (links first second) walk ≡ first +ℚ second
-  at_start [] h = let t : 0 ≡ 2 = h in absurd (omega arith)
+  at_start [] h = below 0 2 (omega arith) h
   at_start (zero ∷ walk) h = ap (λ (z : ℚ). first +ℚ z) (at_middle walk (goes_on (links first second) 0 walk 0 2 h))
-  at_start (suc zero ∷ walk) h = let t : 1 ≡ 0 = leaves (links first second) 1 walk 0 2 h in absurd (omega arith)
-  at_start (suc (suc e) ∷ walk) h = let t : 3 ≡ 0 = leaves (links first second) (suc (suc e)) walk 0 2 h in absurd (omega arith)
+  at_start (suc zero ∷ walk) h = above 1 0 (omega arith) (leaves (links first second) 1 walk 0 2 h)
+  at_start (suc (suc e) ∷ walk) h = above 3 0 (omega arith) (leaves (links first second) (suc (suc e)) walk 0 2 h)
 
   whole_way : IsWalk (links first second) (0 ∷ 1 ∷ []) 0 2
   whole_way = (record { tail = 0; head = 1; transit = first }, refl, refl, (record { tail = 1; head = 2; transit = second }, refl, refl, refl))
