@@ -1,13 +1,13 @@
 -- The line of a toll, pushed piece by piece; the toll itself.
-use Rattle.std.proofs.Common.{◌≡◌, ◌≢◌, ℕ, List, [], ◌∷◌, ◌++◌, Bool, true, false, refl, sym, ◌∙◌, ap, subst, append_assoc}
-use Rattle.std.specs.Prelude.{codes, Option, Some, Result, Ok, Err, IfOk, if◌then◌else◌}
+use Rattle.std.proofs.Common.{◌≡◌, ◌≢◌, ℕ, List, [], ◌∷◌, ◌++◌, Bool, true, false, refl, sym, ◌∙◌, ap, append_assoc}
+use Rattle.std.specs.Prelude.{codes, Some, Ok, Err, if◌then◌else◌}
 use Rattle.nf_rational.specs.Rational.{ℚ}
 use Rattle.nf_rational.specs.Operations.{0ℚ, ◌/ℚ◌}
 use Rattle.nf_rational_laws.proofs.Quotient.{ps_apart}
 use Rattle.nf_frac_def.specs.declared.Op.TheVariants.{Quotient}
 use Rattle.nf_frac_def.specs.declared.Passed.{Passed}
 use Rattle.nf_frac_def.specs.Passing.{Passing}
-use Rattle.nf_frac_def.specs.Checked.{Checked, checked}
+use Rattle.nf_frac_def.specs.Checked.{checked}
 use Rattle.nf_frac_words.specs.Printed.{printed}
 use Rattle.nf_model_laws.specs.Capacity.{IsPositive}
 use Rattle.corridor_tolls.specs.Tolls.{toll_line}

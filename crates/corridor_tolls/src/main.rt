@@ -29,10 +29,16 @@ fn run(alloc: Global, words: &[String], shelf: &mut impl Shelf, out: &mut impl S
     if horizon.is_below(Q::zero()) {
         return None;
     }
-    let net = shelf.fetch(alloc, net.as_str(), LONGEST_FILE).ok()?;
-    let net = parse(alloc, &net).ok()?;
-    let loads = shelf.fetch(alloc, loads.as_str(), LONGEST_FILE).ok()?;
-    let loads = parse_loads(alloc, &net, &loads).ok()?;
+    let Ok(text) = shelf.fetch(alloc, net.as_str(), LONGEST_FILE) else {
+        return None;
+    };
+    let net = parse(alloc, &text).ok()?;
+    let Ok(text) = shelf.fetch(alloc, loads.as_str(), LONGEST_FILE) else {
+        return None;
+    };
+    let Ok(loads) = parse_loads(alloc, &net, &text) else {
+        return None;
+    };
     for link in 0..net.link_count() {
         let text = link_tolls(alloc, &net, &loads, LinkId(link), horizon).ok()?;
         write_text(out, &text).ok()?;

@@ -49,19 +49,18 @@ fn toll_of(queue: Q, capacity: Option<Q>) -> Result<Q, PassedAt<Q>>
 
 type Pushed = Result<(), Halt<Q>>;
 
-fn push_point(out: &mut Vec<u8>, name: &str, capacity: Option<Q>, point: &Point) -> Pushed
-    requires { IsPositive capacity }
-    ensures { OnOk result (out.new.items ≡ out.old.items ++ toll_at capacity name.now point.now) }
+fn push_point(out: &mut Vec<u8>, name: &str, capacity: &Option<Q>, point: &Point) -> Pushed
+    requires { IsPositive capacity.now }
+    ensures { OnOk result (out.new.items ≡ out.old.items ++ toll_at capacity.now name.now point.now) }
 {
-    let (time, queue) = *point;
-    let toll = toll_of(queue, capacity)?;
-    push_line(out, name, time, toll)?;
+    let toll = toll_of(point.1, *capacity)?;
+    push_line(out, name, point.0, toll)?;
     Ok(())
 }
 
-fn push_points(out: &mut Vec<u8>, name: &str, capacity: Option<Q>, points: &[Point]) -> Pushed
-    requires { IsPositive capacity }
-    ensures { OnOk result (out.new.items ≡ out.old.items ++ flat_map (toll_at capacity name.now) points.now) }
+fn push_points(out: &mut Vec<u8>, name: &str, capacity: &Option<Q>, points: &[Point]) -> Pushed
+    requires { IsPositive capacity.now }
+    ensures { OnOk result (out.new.items ≡ out.old.items ++ flat_map (toll_at capacity.now name.now) points.now) }
 {
     for point in points {
         push_point(out, name, capacity, point)?;
@@ -87,11 +86,8 @@ pub fn link_tolls(
     let inflow = cumulative(alloc, loads.pieces(link), horizon)?;
     let loaded = load_link(alloc, here.transit, here.capacity, &inflow, horizon)?;
     let mut out = Vec::new(alloc);
-    push_points(
-        &mut out,
-        net.link_name(link),
-        here.capacity,
-        loaded.queue.as_points(),
-    )?;
+    let name = net.link_name(link);
+    let queue = loaded.queue.as_points();
+    push_points(&mut out, name, &here.capacity, queue)?;
     Ok(out)
 }

@@ -7,13 +7,12 @@ use Rattle.nf_rational.specs.Order.{◌≤ℚ◌, ◌<ℚ◌, max_ℚ}
 use Rattle.nf_rational_laws.proofs.Polynomial.{reading_of}
 use Rattle.nf_rational_laws.proofs.Linear.{le, lt, eq, le_times, linear_le, linear_eq}
 use Rattle.nf_rational_laws.proofs.Order.{≤ℚ_antisymm}
-use Rattle.nf_rational_laws.proofs.Chains.{≤ℚ_refl, ≤ℚ_trans}
+use Rattle.nf_rational_laws.proofs.Chains.{≤ℚ_refl}
 use Rattle.nf_rational_laws.proofs.Tests.{max0_of}
-use Rattle.nf_model.specs.Curve.{Within, IsGreatest, value}
+use Rattle.nf_model.specs.Curve.{Within, value}
 use Rattle.nf_model.specs.Network.{Piece, ArePieces, IsPiece, supplied}
 use Rattle.nf_model.specs.Queue.{IsQueue}
-use Rattle.nf_load_def.specs.Loading.{Loaded}
-use Rattle.nf_load_def.specs.Meanings.{IsCumulative, IsLoaded}
+use Rattle.nf_load_def.specs.Meanings.{IsCumulative}
 
 -- ---- one piece, from time 0 on
 abbrev pub constant : ℚ → List Piece

@@ -1,17 +1,17 @@
 -- A link is resetting exactly if the label of its head is later than that of its tail plus the transit time.
-use Rattle.std.proofs.Common.{◌≡◌, ℕ, Bool, true, List, [], ◌∷◌, Option, Some, slice_get, map, IsTrue, sym, ap, subst, ◌∙◌}
+use Rattle.std.proofs.Common.{◌≡◌, ℕ, Bool, List, [], ◌∷◌, Some, slice_get, map, IsTrue, sym, ap, ◌∙◌}
 use Rattle.std.specs.Prelude.{◌↔◌}
 use Rattle.std.proofs.lemmas.Option.{same_Some}
 use Rattle.nf_rational.specs.Rational.{ℚ}
 use Rattle.nf_rational.specs.Operations.{0ℚ, ◌+ℚ◌, ◌-ℚ◌}
-use Rattle.nf_rational.specs.Order.{◌≤ℚ◌, ◌<ℚ◌, lt_ℚ}
+use Rattle.nf_rational.specs.Order.{◌<ℚ◌, lt_ℚ}
 use Rattle.nf_rational_laws.proofs.Polynomial.{reading_of}
 use Rattle.nf_rational_laws.proofs.Linear.{lt, linear_lt}
 use Rattle.nf_rational_laws.proofs.Tests.{less_of_test, test_of_less}
 use Rattle.nf_rational_laws.proofs.Entries.{slice_get-image}
 use Rattle.nf_model.specs.Entries.{number_at}
 use Rattle.nf_model.specs.Walk.{Hop, IsHop}
-use Rattle.nf_model.specs.ThinFlow.{Sets, slack, slacks_of, sets_of}
+use Rattle.nf_model.specs.ThinFlow.{slack, slacks_of, sets_of}
 
 above : (a b : ℚ) → 0ℚ <ℚ b -ℚ a → a <ℚ b
 above a b h = linear_lt (a ∷ b ∷ []) (lt h ∷ []) (search reading_of depth 12) tt

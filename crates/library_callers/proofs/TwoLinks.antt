@@ -2,9 +2,8 @@
 use Rattle.std.proofs.Common.{◌≡◌, ℕ, zero, suc, ◌<◌, List, [], ◌∷◌, Option, Some, None, slice_get, refl, sym, ap, subst, ◌∙◌, arith}
 use Rattle.nf_rational.specs.Rational.{ℚ}
 use Rattle.nf_rational.specs.Operations.{0ℚ, ◌+ℚ◌}
-use Rattle.nf_rational.specs.Order.{◌≤ℚ◌}
 use Rattle.nf_rational_laws.proofs.Field.{+ℚ_comm, +ℚ_idl}
-use Rattle.nf_model.specs.Walk.{Hop, IsHop, IsWalk, transit_sum, IsLeastTransit}
+use Rattle.nf_model.specs.Walk.{Hop, IsWalk, transit_sum, IsLeastTransit}
 use Rattle.nf_graph.specs.Distances.{AreDistances}
 
 abbrev pub links : ℚ → ℚ → List Hop

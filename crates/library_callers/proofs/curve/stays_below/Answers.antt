@@ -1,6 +1,5 @@
-use Rattle.std.proofs.Common.{List, sym, ap, subst, ◌∙◌}
-use Rattle.std.specs.Prelude.{option_map, Option, Some, None}
-use Rattle.nf_model.specs.Curve.{Point}
+use Rattle.std.proofs.Common.{subst}
+use Rattle.std.specs.Prelude.{option_map, Option}
 use Rattle.nf_curve_def.specs.Meanings.{IsDifference}
 use Rattle.nf_curve.specs.declared.curve.Difference.{Difference}
 use Rattle.nf_curve.specs.Differences.{difference_of}

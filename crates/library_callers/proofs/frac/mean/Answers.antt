@@ -2,7 +2,7 @@ use Rattle.std.proofs.Common.{◌≡◌, refl, ap, ◌∙◌, arith}
 use Rattle.std.specs.Prelude.{Ok, Err}
 use Rattle.std.proofs.lemmas.Result.{err_from_is_err_and}
 use Rattle.nf_rational.specs.Rational.{ℚ}
-use Rattle.nf_rational.specs.Operations.{1ℚ, ◌+ℚ◌, ◌/ℚ◌}
+use Rattle.nf_rational.specs.Operations.{1ℚ, ◌+ℚ◌}
 use Rattle.nf_frac_def.specs.declared.Op.TheVariants.{Sum, Quotient}
 use Rattle.nf_frac_def.specs.Passing.{passes_Q}
 use Rattle.library_callers.proofs.OneOperation.{value_of, passing_of}

@@ -1,4 +1,4 @@
-use Rattle.std.proofs.Common.{◌<◌, length, List, refl, subst, ap, ◌∙◌, arith}
+use Rattle.std.proofs.Common.{◌<◌, length, List, refl, subst, arith}
 use Rattle.std.proofs.lemmas.Option.{slice_get_read}
 use Rattle.nf_rational.specs.Rational.{ℚ}
 use Rattle.nf_linear_laws.specs.Solution.{IsOnlySolution}
