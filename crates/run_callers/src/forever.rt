@@ -1,9 +1,9 @@
 // Whether a network can carry its last supply rate for ever.
-ghost use Rattle.std.specs.Prelude.{◌≡◌, length, IfOk, IfSome, MatchBool};
+ghost use Rattle.std.specs.Prelude.{◌≡◌, None, length, IfOk, IfSome, MatchBool};
 ghost use Rattle.nf_rational.specs.Operations.{1ℚ};
 ghost use Rattle.nf_rational.specs.Order.{le_ℚ};
 ghost use Rattle.nf_model.specs.Entries.{number_at};
-ghost use Rattle.run_callers.specs.Supplies.{CutsCarry};
+ghost use Rattle.run_callers.specs.Supplies.{CutsCarry, HasNoTail};
 
 use nf_forever::{Tail, solve_forever};
 use nf_frac::Q;
@@ -28,7 +28,8 @@ pub fn carries_supply(
     net: &Network,
     budgets: Budgets,
 ) -> Result<Option<bool>, AllocError>
-    ensures { IfOk result (λ found. IfSome found (λ yes. MatchBool yes (CutsCarry net.now.net) (CutsCarry net.now.net → ⊥))) }
+    ensures carries { IfOk result (λ found. IfSome found (λ yes. MatchBool yes (CutsCarry net.now.net) (CutsCarry net.now.net → ⊥))) }
+    ensures none { IfOk result (λ found. found ≡ None → HasNoTail net.now.net budgets.phases budgets.patterns) }
 {
     // Proof: the sink is a node.
     net.recall();

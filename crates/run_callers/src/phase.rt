@@ -1,10 +1,11 @@
 // The arrival of a departure in an equilibrium.
-ghost use Rattle.std.specs.Prelude.{◌≡◌, length, IfOk, IfSome};
+ghost use Rattle.std.specs.Prelude.{◌≡◌, None, length, IfOk, IfSome};
 ghost use Rattle.nf_rational.specs.Operations.{0ℚ};
 ghost use Rattle.nf_rational.specs.Order.{◌≤ℚ◌};
 ghost use Rattle.nf_model.specs.Equilibrium.{label};
 ghost use Rattle.nf_curve.specs.Flows.{flow_of};
-ghost use Rattle.run_callers.specs.Arrivals.{ArrivesAt};
+ghost use Rattle.nf_phase.specs.Solution.{bounds_of};
+ghost use Rattle.run_callers.specs.Arrivals.{ArrivesAt, StopsBefore};
 
 use nf_curve::Flow;
 use nf_frac::{Halt, Part, PassedAt, Q};
@@ -24,7 +25,7 @@ fn sink_label(net: &Network, flow: &Flow, departure: Q) -> Result<Q, PassedAt<Q>
 }
 
 /// Returns when a driver who leaves the source at `departure`, a time of at least 0, arrives at the sink in an equilibrium. Returns None
-/// if the run stops before this departure. Refuses if an operation exceeds its bound, or if memory can't be allocated.
+/// exactly if the run stops before this departure. Refuses if an operation exceeds its bound, or if memory can't be allocated.
 pub fn arrival_after(
     alloc: Global,
     net: &Network,
@@ -32,7 +33,8 @@ pub fn arrival_after(
     budgets: Budgets,
 ) -> Result<Option<Q>, Halt<Q>>
     requires { 0ℚ ≤ℚ departure }
-    ensures { IfOk result (λ found. IfSome found (ArrivesAt net.now.net departure)) }
+    ensures arrives { IfOk result (λ found. IfSome found (ArrivesAt net.now.net departure)) }
+    ensures stops { IfOk result (λ found. found ≡ None → StopsBefore net.now.net (bounds_of departure budgets)) }
 {
     let solution = solve(alloc, net, departure, budgets)?;
     if solution.stopped.is_some() {
