@@ -1,0 +1,2 @@
+pub mod TollLines
+pub mod Given

@@ -1,0 +1,10 @@
+pub mod OneOperation
+pub mod Halves
+pub mod TwoLinks
+pub mod Contents
+pub mod Curves
+pub mod Slacks
+pub mod Queues
+pub mod Patterns
+pub mod Shares
+pub mod Labels

@@ -1,0 +1,3 @@
+pub mod Arriving
+pub mod Deciding
+pub mod Writing

@@ -1,0 +1,4 @@
+pub mod Arrivals
+pub mod Deadlines
+pub mod RouteArrivals
+pub mod Supplies
