@@ -58,7 +58,7 @@ fn ended(mut points: Vec<Point>, last: Q, so_far: Q) -> Result<Vec<Point>, Alloc
 fn cumulative_points(alloc: Global, pieces: &[Piece], last: Q) -> Result<Vec<Point>, Halt<Q>>
     ensures { Gives (λ points. points.items) (λ q. q) result (at_part Load (checked_cumulative passes_Q pieces.now last)) }
 {
-    let mut points = Vec::new(alloc);
+    let mut points = Vec::with_capacity(alloc, pieces.len() + 2)?;
     points.push((Q::zero(), Q::zero()))?;
     let mut so_far = Q::zero();
     for (index, piece) in pieces.iter().enumerate() {

@@ -39,7 +39,7 @@ fn exit_points(alloc: Global, all: &[Exit]) -> Result<Vec<Point>, AllocError>
 fn outflow_points(alloc: Global, all: &[Exit]) -> Result<Vec<Point>, AllocError>
     ensures { IfOk result (λ points. points.items ≡ lists.outflow_points all.now) }
 {
-    let mut points = Vec::new(alloc);
+    let mut points = Vec::with_capacity(alloc, all.len() + 1)?;
     let mut last = Q::zero();
     points.push((last, Q::zero()))?;
     for one in all {

@@ -52,7 +52,7 @@ pub(crate) fn all_exits(
     requires { IsPositive capacity.now }
     ensures { Gives (λ all. all.items) (λ q. q) result (at_part Load (each (lists.exit_of passes_Q capacity.now transit) waits.now)) }
 {
-    let mut all = Vec::new(alloc);
+    let mut all = Vec::with_capacity(alloc, waits.len())?;
     for moment in waits {
         let one = exit_of(capacity, transit, moment)?;
         all.push(one)?;

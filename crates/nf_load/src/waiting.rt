@@ -210,7 +210,7 @@ pub(crate) fn all_waits(
         amount,
         queue: Q::zero(),
     };
-    let mut all = Vec::new(alloc);
+    let mut all = Vec::with_capacity(alloc, count)?;
     all.push(last)?;
     for i in 1..count {
         let end = inflow.point(i);

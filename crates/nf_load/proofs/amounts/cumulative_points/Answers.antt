@@ -17,7 +17,7 @@ use Rattle.nf_load.proofs.amounts.cumulative_points.Goals as goal
 pub loop-index-init : goal.loop-index-init
 loop-index-init c =
     begins_with passes_Q c.args.pieces.now c.args.last c.zero-so_far.result c.zero.result c.zero-2.result c.push.new.self.items c.zero-so_far.ensures c.zero.ensures c.zero-2.ensures
-    (c.in_ok-push.ensures.items ∙ ap (λ (l : List (ℚ × ℚ)). l ++ (c.zero.result, c.zero-2.result) ∷ []) c.new-points.ensures.items)
+    (c.in_ok-push.ensures.items ∙ ap (λ (l : List (ℚ × ℚ)). l ++ (c.zero.result, c.zero-2.result) ∷ []) c.in_ok-points.ensures.items)
 
 pub returns-then-not-is_below : goal.returns-then-not-is_below
 returns-then-not-is_below c =

@@ -25,8 +25,11 @@ loop-one-preserved c =
           (sym (ap (λ (i : Inside). is_same last i.exit) c.one-inside.view_is ∙ ap (λ (l : Exit). is_same last l.exit) c.one.view_is) ∙ sym c.is_same.ensures ∙ w.if-not-is_same.false)
     ]
 
+pub returns-in_err-points : goal.returns-in_err-points
+returns-in_err-points c = IfOk-from_err c.from_residual.result _ c.from_residual.ensures.0
+
 pub returns-in_err-push : goal.returns-in_err-push
-returns-in_err-push c = IfOk-from_err c.from_residual.result _ c.from_residual.ensures.0
+returns-in_err-push c = IfOk-from_err c.from_residual-in_err-push.result _ c.from_residual-in_err-push.ensures.0
 
 pub returns-in_err-push-2 : goal.returns-in_err-push-2
 returns-in_err-push-2 c = IfOk-from_err c.from_residual-in_err-push-2.result _ c.from_residual-in_err-push-2.ensures.0

@@ -13,7 +13,7 @@ use Rattle.nf_load.proofs.exiting.all_exits.Goals as goal
 
 pub returns-in_err-one : goal.returns-in_err-one
 returns-in_err-one c =
-    let p = err_from_is_err_and c.from_residual.result c.from_residual.ensures.1 in
+    let p = err_from_is_err_and c.from_residual-in_err-one.result c.from_residual-in_err-one.ensures.1 in
     let g = slice_get_read c.args.waits.now _ c.loop-moment.moment-index c.moment-item.result refl c.loop-moment-test.true c.moment-item.is in
     let d = drop-at c.args.waits.now c.loop-moment.moment-index c.moment-item.result g in
     rw (p.1, p.2) (each_stops Load (exit_of passes_Q c.args.capacity.now c.args.transit) c.loop-moment.all.items _ c.moment-item.result (drop (suc c.loop-moment.moment-index) c.args.waits.now)

@@ -15,7 +15,7 @@ pub loop-i-init : goal.loop-i-init
 loop-i-init c =
     let first : Waits = record { time = c.point-time.result.0; amount = c.point-time.result.1; queue = c.zero.result } in (
       begins passes_Q c.args.capacity.now c.args.inflow.now.points c.point-time.result c.zero.result c.push.new.self.items c.point-time.ensures c.zero.ensures
-          (c.in_ok-push.ensures.items ∙ ap (λ (l : List Waits). l ++ first ∷ []) c.new-all.ensures.items),
+          (c.in_ok-push.ensures.items ∙ ap (λ (l : List Waits). l ++ first ∷ []) c.in_ok-all.ensures.items),
       later_first c.args.inflow.now.points c.point-time.result c.zero.result c.len-count.ensures.curve c.point-time.ensures,
     )
 
