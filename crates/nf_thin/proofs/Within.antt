@@ -1,6 +1,6 @@
 -- Numbers in ranges: sums, differences, and the scaled flow of a link in its state.
-use Rattle.std.proofs.Common.{◌≡◌, ℕ, Bool, true, false, [], ◌∷◌, refl, sym, ap, subst, ◌∙◌, arith}
-use Rattle.std.specs.Prelude.{if◌then◌else◌, Option, Some, None, Result, Ok, Err, IfSome}
+use Rattle.std.proofs.Common.{◌≡◌, ℕ, Bool, true, false, [], ◌∷◌, sym, ap, subst, ◌∙◌, arith}
+use Rattle.std.specs.Prelude.{if◌then◌else◌, Option, Some, None, Ok, Err, IfSome}
 use Rattle.std.specs.Result.{result_ok}
 use Rattle.std.proofs.lemmas.Option.{none-some, same_Some}
 use lib.IntN.{ℤ, pos, ◌+ℤ◌, ◌-ℤ◌, ◌*ℤ◌, neg_ℤ}
@@ -24,7 +24,7 @@ use Rattle.nf_model.specs.declared.State.{State}
 use Rattle.nf_model.specs.declared.State.TheVariants.{Tight, Full, Zero}
 use Rattle.nf_model.specs.Pattern.{Fills, Equation, Inequality}
 use Rattle.nf_thin.specs.declared.ranges.Range.{Range}
-use Rattle.nf_thin.specs.Ranges.{IsFrom, IsUpTo, IsWithin, IsEndOfSum, IsEndOfDifference, IsFull, MeetsState, scaled}
+use Rattle.nf_thin.specs.Ranges.{IsFrom, IsUpTo, IsWithin, IsEndOfSum, IsEndOfDifference, MeetsState, scaled}
 
 -- ---- whole numbers
 whole-less : (a b : ℤ) → whole (a -ℤ b) ≡ whole a -ℚ whole b

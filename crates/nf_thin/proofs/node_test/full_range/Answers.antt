@@ -1,4 +1,4 @@
-use Rattle.std.proofs.Common.{refl, sym, ◌∙◌}
+use Rattle.std.proofs.Common.{sym, ◌∙◌}
 use Rattle.nf_frac_def.specs.Passing.{passes_Q}
 use Rattle.nf_thin.proofs.Conserving.{full_known, full_unknown}
 use Rattle.nf_thin.proofs.node_test.full_range.Goals as goal

@@ -1,6 +1,5 @@
 use Rattle.std.proofs.Common.{ap, subst, sym}
 use Rattle.std.specs.Prelude.{Some}
-use Rattle.nf_rational.specs.Operations.{0ℚ}
 use Rattle.nf_model.specs.declared.State.{State}
 use Rattle.nf_thin.specs.Ranges.{IsWithin}
 use Rattle.nf_thin.proofs.Within.{tight_up_to, from_none, full_within, zero_flow}
