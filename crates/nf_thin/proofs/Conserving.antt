@@ -1,13 +1,13 @@
 -- The surplus of a node on the first links, link by link; and the ranges of the links' flows.
-use Rattle.std.proofs.Common.{◌≡◌, ◌≢◌, ℕ, zero, suc, ◌<◌, ◌≤◌, List, [], ◌∷◌, length, take, get_or, ⊎_elim, Bool, true, false, eqb, refl, sym, ap, subst, ◌∙◌}
+use Rattle.std.proofs.Common.{◌≡◌, ◌≢◌, ℕ, zero, suc, ◌<◌, ◌≤◌, List, [], ◌∷◌, length, take, get_or, ⊎_elim, Bool, true, false, eqb, not, refl, sym, ap, subst, ◌∙◌}
 use mathlib.Core.Bool.{beq}
-use Rattle.std.specs.Prelude.{if◌then◌else◌, Option, Some, None, slice_get, unwrap_or, MatchBool}
+use Rattle.std.specs.Prelude.{if◌then◌else◌, Option, Some, None, pos, slice_get, unwrap_or}
 use Rattle.std.proofs.lemmas.List.{length-map, take_all}
 use Rattle.std.specs.Option.{option_map}
 use Rattle.std.proofs.lemmas.Bool.Decides.{eqb_tells}
 use Rattle.std.proofs.lemmas.Option.{slice_get-map, slice_get_read, none-some, same_Some}
 use Rattle.nf_rational.specs.Rational.{ℚ}
-use Rattle.nf_rational.specs.Operations.{0ℚ, ◌+ℚ◌, ◌-ℚ◌, neg_ℚ}
+use Rattle.nf_rational.specs.Operations.{0ℚ, whole, ◌+ℚ◌, ◌-ℚ◌, ◌*ℚ◌, neg_ℚ}
 use Rattle.nf_rational_laws.proofs.Polynomial.{reading_of}
 use Rattle.nf_rational_laws.proofs.Linear.{eq, linear_eq}
 use Rattle.nf_frac_def.specs.declared.Op.TheVariants.{Product}
@@ -19,11 +19,11 @@ use Rattle.nf_model.specs.Walk.{Hop}
 use Rattle.nf_model.specs.ThinFlow.{Sets, surplus}
 use Rattle.nf_model.specs.Pattern.{Pattern, Fills, Equation}
 use Rattle.nf_thin.specs.declared.ranges.Range.{Range}
-use Rattle.nf_thin.specs.Ranges.{IsWithin, MeetsState}
+use Rattle.nf_thin.specs.Ranges.{IsWithin, IsFull, MeetsState, scaled}
 use Rattle.nf_model_laws.proofs.Totals.{sink_takes}
 use Rattle.nf_thin.proofs.Within.{checked_is}
 use Rattle.nf_thin_one.specs.Fulls.{full_of}
-use Rattle.nf_thin.specs.Conserving.{full_by, CanFlow, surplus_by, surplus_of_first, BoundsFirst, Conserves}
+use Rattle.nf_thin.specs.Conserving.{CanFlow, surplus_by, surplus_of_first, BoundsFirst, Conserves, needed_at}
 
 -- ---- one link more
 first_term : (b : Bool) (a : ℚ) → (if b then a +ℚ 0ℚ else 0ℚ) ≡ 0ℚ +ℚ (if b then a else 0ℚ)
@@ -88,8 +88,8 @@ module _ (net : Network) (flow : ℕ → ℚ) (v e : ℕ) (link : Link) (is_link
   lesser_surplus leaves enters = just_enters _ _ _ _ x (out_more false leaves) (in_more true enters)
 
 -- No link.
-pub none_sent : (net : Network) (flow : ℕ → ℚ) (v : ℕ) (nothing : ℚ) → nothing ≡ 0ℚ → (known : ℚ) → Some nothing ≡ Some known → surplus_of_first net flow v 0 ≡ known
-none_sent net flow v nothing none known at = less_itself 0ℚ ∙ (sym none ∙ same_Some nothing known at)
+pub none_sent : (net : Network) (flow : ℕ → ℚ) (v : ℕ) → 0ℚ ≡ surplus_of_first net flow v 0
+none_sent net flow v = sym (less_itself 0ℚ)
   where
     less_itself : (a : ℚ) → a -ℚ a ≡ 0ℚ
     less_itself a = linear_eq (a ∷ []) [] (search reading_of depth 12) tt tt
@@ -103,30 +103,36 @@ full_fills : (passes : Passing) (capacity : Option ℚ) (head_slope most : ℚ) 
 full_fills passes (Some capacity) head_slope most e = (capacity, refl, checked_is passes Product capacity head_slope most e)
 full_fills passes None head_slope most e = absurd (none-some most e)
 
-pub full_by-at : (passes : Passing) (net : Network) (slopes : List ℚ) (e : ℕ) (link : Link) → IsLink net e link
-    → slice_get (full_by passes net slopes) e ≡ Some (full_of passes link.capacity (number_at slopes link.head))
-full_by-at passes net slopes e link h =
-    slice_get-map (λ (l : Link). full_of passes l.capacity (number_at slopes l.head)) net.links e ∙ ap (option_map (λ (l : Link). full_of passes l.capacity (number_at slopes l.head))) h
+-- A range of the scaled flow.
+pub full_known : (passes : Passing) (scale : ℕ) (capacity : Option ℚ) (head_slope most : ℚ) (range : Range) → full_of passes capacity head_slope ≡ Some most
+    → IsWithin range (scaled scale most) → IsFull scale capacity head_slope range
+full_known passes scale capacity head_slope most range e within = record {
+  from = λ end at. (most, full_fills passes capacity head_slope most e, within.from end at);
+  up_to = λ end at. (most, full_fills passes capacity head_slope most e, within.up_to end at);
+}
 
-pub full_there : (passes : Passing) (net : Network) (slopes : List ℚ) (e : ℕ) (link : Link) (head_slope : ℚ) (full : Option ℚ) → IsLink net e link
-    → full ≡ full_of passes link.capacity head_slope → head_slope ≡ number_at slopes link.head → slice_get (full_by passes net slopes) e ≡ Some full
-full_there passes net slopes e link head_slope full h is head_is =
-    full_by-at passes net slopes e link h ∙ ap (λ (o : Option ℚ). Some o) (sym (is ∙ ap (λ (z : ℚ). full_of passes link.capacity z) head_is))
+-- No range.
+pub full_unknown : (scale : ℕ) (capacity : Option ℚ) (head_slope : ℚ) (range : Range) → range.least ≡ None → range.greatest ≡ None → IsFull scale capacity head_slope range
+full_unknown scale capacity head_slope range least greatest = record {
+  from = λ end at. absurd (none-some end (sym least ∙ at));
+  up_to = λ end at. absurd (none-some end (sym greatest ∙ at));
+}
 
-pub full_count : (passes : Passing) (net : Network) (slopes : List ℚ) → length (full_by passes net slopes) ≡ length net.links
-full_count passes net slopes = length-map net.links (λ (l : Link). full_of passes l.capacity (number_at slopes l.head))
-
-pub full_read : (full : List (Option ℚ)) (count e i : ℕ) (most : Option ℚ) → length full ≡ count → e < count → i ≡ e → most ≡ get_or full i most → slice_get full e ≡ Some most
-full_read full count e i most same within index is = slice_get_read full count e most (sym same) within (is ∙ ap (λ (k : ℕ). get_or full k most) index)
+-- The range that is found for a link is the range of every link of this number.
+pub full_at : (scale : ℕ) (net : Network) (slopes : List ℚ) (e : ℕ) (here : Link) (capacity : Option ℚ) (head_slope : ℚ) (range : Range) → IsLink net e here
+    → capacity ≡ here.capacity → head_slope ≡ number_at slopes here.head → IsFull scale capacity head_slope range
+    → (link : Link) → IsLink net e link → IsFull scale link.capacity (number_at slopes link.head) range
+full_at scale net slopes e here capacity head_slope range is capacity_is head_is full link at =
+    subst (λ (l : Link). IsFull scale l.capacity (number_at slopes l.head) range) (same_Some here link (sym is ∙ at))
+    (subst (λ (c : Option ℚ). IsFull scale c (number_at slopes here.head) range) capacity_is (subst (λ (z : ℚ). IsFull scale capacity z range) head_is full))
 
 -- ---- possible flows
-module _ (passes : Passing) (net : Network) (sets : Sets) (rate : ℚ) (pattern : Pattern) (full : List (Option ℚ)) (flows : List ℚ) (can : CanFlow passes net sets rate pattern full flows) where
-  pub meets_state : (e : ℕ) (link : Link) (state : Option State) (resetting : Bool) (most : Option ℚ) → IsLink net e link → slice_get pattern e ≡ Some state
+module _ (scale : ℕ) (net : Network) (sets : Sets) (rate : ℚ) (pattern : Pattern) (full : List Range) (flows : List ℚ) (can : CanFlow scale net sets rate pattern full flows) where
+  pub meets_state : (e : ℕ) (link : Link) (state : Option State) (resetting : Bool) (most : Range) → IsLink net e link → slice_get pattern e ≡ Some state
       → slice_get sets.resetting e ≡ Some resetting → slice_get full e ≡ Some most
-      → MeetsState state resetting most link.capacity (number_at flows e) (number_at can.slopes link.tail) (number_at can.slopes link.head)
+      → MeetsState scale state resetting most link.capacity (number_at flows e) (number_at can.slopes link.tail) (number_at can.slopes link.head)
   meets_state e link state resetting most h at_state at_flag at_full = record {
-    fills = λ m is. full_fills passes link.capacity (number_at can.slopes link.head) m
-        (same_Some _ most (sym (full_by-at passes net can.slopes e link h) ∙ (ap (λ (l : List (Option ℚ)). slice_get l e) (sym can.full_are) ∙ at_full)) ∙ is);
+    fills = can.full_are e most at_full link h;
     no_negative = can.meets.no_negative_flow e;
     equation = subst (λ (b : Bool). Equation state b link.capacity (number_at flows e) (number_at can.slopes link.tail) (number_at can.slopes link.head))
         (ap (λ (o : Option Bool). unwrap_or o false) at_flag) (can.solves.links e link state h at_state);
@@ -149,10 +155,63 @@ module _ (passes : Passing) (net : Network) (sets : Sets) (rate : ℚ) (pattern 
       other_sign : (r : ℚ) → 0ℚ -ℚ r ≡ neg_ℚ r
       other_sign r = linear_eq (r ∷ []) [] (search reading_of depth 12) tt tt
 
--- A number in a range satisfies the range's test.
-pub holds_true : {P : Type 0} (b : Bool) → MatchBool b P (P → ⊥) → P → b ≡ true
-holds_true true is p = refl
-holds_true false is p = absurd (is p)
+-- A test that holds is not refused.
+pub failing : (b : Bool) → not b ≡ true → b ≡ true → ⊥
+failing true fails holds = cc
+failing false fails holds = cc
+
+-- ---- scaled flows
+module _ (s : ℚ) where
+  term : (b : Bool) (a t u : ℚ) → t ≡ s *ℚ u → (if b then s *ℚ a +ℚ t else t) ≡ s *ℚ (if b then a +ℚ u else u)
+  term true a t u e = linear_eq (s ∷ a ∷ t ∷ u ∷ []) (eq e ∷ []) (search reading_of depth 12) tt tt
+  term false a t u e = e
+
+  nil : 0ℚ ≡ s *ℚ 0ℚ
+  nil = linear_eq (s ∷ []) [] (search reading_of depth 12) tt tt
+
+  out_times : (links : List Link) (f : ℕ → ℚ) (v : ℕ) → sum_out links (λ e. s *ℚ f e) v ≡ s *ℚ sum_out links f v
+  out_times [] f v = nil
+  out_times (l ∷ links) f v = term (eqb l.tail v) (f 0) _ _ (out_times links (λ e. f (suc e)) v)
+
+  in_times : (links : List Link) (f : ℕ → ℚ) (v : ℕ) → sum_in links (λ e. s *ℚ f e) v ≡ s *ℚ sum_in links f v
+  in_times [] f v = nil
+  in_times (l ∷ links) f v = term (eqb l.head v) (f 0) _ _ (in_times links (λ e. f (suc e)) v)
+
+  surplus_times : (o p i j n : ℚ) → o ≡ s *ℚ p → i ≡ s *ℚ j → p -ℚ j ≡ n → o -ℚ i ≡ s *ℚ n
+  surplus_times o p i j n e f h = linear_eq (s ∷ o ∷ p ∷ i ∷ j ∷ []) (eq e ∷ eq f ∷ []) {x = o -ℚ i} {y = s *ℚ (p -ℚ j)} (search reading_of depth 12) tt tt
+      ∙ ap (λ (z : ℚ). s *ℚ z) h
+
+  needed_times : (b c : Bool) (r : ℚ) → s *ℚ (if b then neg_ℚ r else (if c then r else 0ℚ)) ≡ (if b then neg_ℚ (s *ℚ r) else (if c then s *ℚ r else 0ℚ))
+  needed_times true c r = linear_eq (s ∷ r ∷ []) [] (search reading_of depth 12) tt tt
+  needed_times false true r = refl
+  needed_times false false r = sym nil
+
+pub scaled_conserves : (net : Network) (scale : ℕ) (rate : ℚ) (flow : ℕ → ℚ) → Conserves net rate flow → Conserves net (scaled scale rate) (λ e. scaled scale (flow e))
+scaled_conserves net scale rate flow conserves v within =
+    surplus_times (whole (pos scale)) _ _ _ _ _ (out_times (whole (pos scale)) net.links flow v) (in_times (whole (pos scale)) net.links flow v) (conserves v within)
+    ∙ needed_times (whole (pos scale)) (eqb v net.sink) (eqb v net.source) rate
+
+-- ---- the surplus that a node needs
+eqb_at : (b t : Bool) (v w k : ℕ) → b ≡ eqb v w → w ≡ k → b ≡ t → eqb v k ≡ t
+eqb_at b t v w k is same told = ap (eqb v) (sym same) ∙ (sym is ∙ told)
+
+module _ (net : Network) (rate : ℚ) (v w : ℕ) (takes : Bool) (takes_is : takes ≡ eqb v w) (sink_is : w ≡ net.sink) where
+  pub needed_sink : takes ≡ true → 0ℚ -ℚ rate ≡ needed_at net rate v
+  needed_sink told = other_sign rate ∙ sym (ap (λ (b : Bool). if b then neg_ℚ rate else (if eqb v net.source then rate else 0ℚ)) (eqb_at takes true v w net.sink takes_is sink_is told))
+    where
+      other_sign : (r : ℚ) → 0ℚ -ℚ r ≡ neg_ℚ r
+      other_sign r = linear_eq (r ∷ []) [] (search reading_of depth 12) tt tt
+
+  module _ (k : ℕ) (sends : Bool) (sends_is : sends ≡ eqb v k) (source_is : k ≡ net.source) (not_sink : takes ≡ false) where
+    at_other : (b : Bool) → sends ≡ b → needed_at net rate v ≡ (if b then rate else 0ℚ)
+    at_other b told = ap (λ (t : Bool). if t then neg_ℚ rate else (if eqb v net.source then rate else 0ℚ)) (eqb_at takes false v w net.sink takes_is sink_is not_sink)
+        ∙ ap (λ (t : Bool). if t then rate else 0ℚ) (eqb_at sends b v k net.source sends_is source_is told)
+
+    pub needed_source : sends ≡ true → rate ≡ needed_at net rate v
+    needed_source told = sym (at_other true told)
+
+    pub needed_none : sends ≡ false → 0ℚ ≡ needed_at net rate v
+    needed_none told = sym (at_other false told)
 
 -- ---- one more link, with bounded surplus on the links before it
 -- the link of a hop that is read
@@ -192,6 +251,20 @@ pub other_true : (a b : Bool) → beq a b ≡ false → a ≡ false → b ≡ tr
 other_true false true e t = refl
 other_true false false e t = sym e
 other_true true b e t = absurd (cc)
+
+-- The surplus for one flow.
+module _ (net : Network) (flow : ℕ → ℚ) (v e : ℕ) (range : Range) (link : Link) (is_link : IsLink net e link)
+    (so_far : IsWithin range (surplus_of_first net flow v e)) (leaves enters : Bool) (tail_is : eqb link.tail v ≡ leaves) (head_is : eqb link.head v ≡ enters) where
+  pub one_still : beq leaves enters ≡ true → IsWithin range (surplus_of_first net flow v (suc e))
+  one_still same = subst (IsWithin range) (same_surplus net flow v e link is_link (tail_is ∙ (same_bits leaves enters same ∙ sym head_is))) so_far
+
+  module _ (apart : beq leaves enters ≡ false) (here more : Range) (is : IsWithin here (flow e)) where
+    pub one_sum : leaves ≡ true → ((x y : ℚ) → IsWithin range x → IsWithin here y → IsWithin more (x +ℚ y)) → IsWithin more (surplus_of_first net flow v (suc e))
+    one_sum out sums = subst (IsWithin more) (greater_surplus net flow v e link is_link (tail_is ∙ out) (head_is ∙ other_false leaves enters apart out)) (sums _ _ so_far is)
+
+    pub one_difference : leaves ≡ false → ((x y : ℚ) → IsWithin range x → IsWithin here y → IsWithin more (x -ℚ y)) → IsWithin more (surplus_of_first net flow v (suc e))
+    one_difference not_out differences =
+        subst (IsWithin more) (lesser_surplus net flow v e link is_link (tail_is ∙ not_out) (head_is ∙ other_true leaves enters apart not_out)) (differences _ _ so_far is)
 
 -- A link without flow changes nothing.
 pub bounds_idle : (net : Network) (ranges : List Range) (v e : ℕ) (range : Range) (link : Link) → IsLink net e link → BoundsFirst net ranges v e range

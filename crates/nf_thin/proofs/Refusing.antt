@@ -1,5 +1,5 @@
 -- Listed patterns that are tried, or rejected without a table, for known slopes of a thin flow.
-use Rattle.std.proofs.Common.{◌≡◌, ℕ, List, sym, ap, ◌∙◌}
+use Rattle.std.proofs.Common.{ℕ, List, sym, subst}
 use Rattle.std.specs.Prelude.{Option, Some, None, Result, Ok, Err}
 use Rattle.nf_rational.specs.Rational.{ℚ}
 use Rattle.nf_frac_def.specs.Passing.{Passing}
@@ -9,7 +9,8 @@ use Rattle.nf_model.specs.Pattern.{Pattern, IsListedIn, IsSolvable}
 use Rattle.nf_thin_laws.specs.ActiveLinks.{AreSets, HoldNoCycle}
 use Rattle.nf_thin_laws.proofs.States.{slopes-same}
 use Rattle.nf_thin.specs.Slopes.{AreThinSlopes, AreSlopesOfListed}
-use Rattle.nf_thin.specs.Conserving.{full_by, CanFlow}
+use Rattle.nf_thin.specs.Conserving.{AreFull, CanFlow}
+use Rattle.nf_thin.specs.declared.ranges.Range.{Range}
 use Rattle.nf_thin.specs.declared.thin.Thin.{Thin}
 use Rattle.nf_thin.specs.declared.vain.Vain.{Vain}
 use Rattle.nf_thin.specs.declared.fault.SearchFault.{SearchFault}
@@ -24,11 +25,11 @@ slopes_of_listed net sets rate slopes good are acyclic thin pattern flows other 
 
 module _ (net : Network) (sets : Sets) (rate : ℚ) (pattern : Pattern) (listed : IsListedIn net sets pattern) (solvable : IsSolvable net sets rate pattern) where
   -- The flows of its solution are possible ones.
-  pub can_flow : (passes : Passing) (slopes : List ℚ) (full : List (Option ℚ)) → AreSlopesOfListed net sets rate slopes → full ≡ full_by passes net slopes
-      → CanFlow passes net sets rate pattern full solvable.flows
-  can_flow passes slopes full only is = record {
+  pub can_flow : (scale : ℕ) (slopes : List ℚ) (full : List Range) → AreSlopesOfListed net sets rate slopes → AreFull scale net slopes full
+      → CanFlow scale net sets rate pattern full solvable.flows
+  can_flow scale slopes full only are = record {
     slopes = solvable.slopes;
-    full_are = is ∙ ap (full_by passes net) (sym (only pattern solvable.flows solvable.slopes listed solvable.solution.solves solvable.solution.meets));
+    full_are = subst (λ (s : List ℚ). AreFull scale net s full) (sym (only pattern solvable.flows solvable.slopes listed solvable.solution.solves solvable.solution.meets)) are;
     solves = solvable.solution.solves;
     meets = solvable.solution.meets;
   }

@@ -1,25 +1,28 @@
 -- Conservation of flow at a node, by the ranges of its links' flows, for known slopes.
-use Rattle.std.specs.Prelude.{◌≡◌, ◌<◌, ℕ, Bool, true, List, map, take, Option, Some, slice_get, eqb, if◌then◌else◌}
+use Rattle.std.specs.Prelude.{◌≡◌, ◌<◌, ℕ, Bool, true, List, take, Some, slice_get, eqb, if◌then◌else◌}
 use Rattle.nf_rational.specs.Rational.{ℚ}
 use Rattle.nf_rational.specs.Operations.{0ℚ, ◌-ℚ◌, neg_ℚ}
-use Rattle.nf_frac_def.specs.Passing.{Passing}
 use Rattle.nf_model.specs.Entries.{number_at}
-use Rattle.nf_model.specs.Network.{Link, Network, sum_in, sum_out}
+use Rattle.nf_model.specs.Network.{Link, Network, IsLink, sum_in, sum_out}
 use Rattle.nf_model.specs.ThinFlow.{Sets}
 use Rattle.nf_model.specs.Pattern.{Pattern, Solves, Meets}
-use Rattle.nf_thin_one.specs.Fulls.{full_of}
 use Rattle.nf_thin.specs.declared.ranges.Range.{Range}
-use Rattle.nf_thin.specs.Ranges.{IsWithin}
+use Rattle.nf_thin.specs.Ranges.{IsWithin, IsFull, scaled}
 
--- The flow that fills each link of a network at these slopes of the nodes.
-abbrev pub full_by : Passing → Network → List ℚ → List (Option ℚ)
-full_by passes net slopes = map (λ (link : Link). full_of passes link.capacity (number_at slopes link.head)) net.links
+-- The ranges have the scaled flows that fill the links of a network at these slopes of the nodes.
+abbrev pub AreFull : ℕ → Network → List ℚ → List Range → Type 0
+AreFull scale net slopes full = (e : ℕ) (range : Range) → slice_get full e ≡ Some range
+    → (link : Link) → IsLink net e link → IsFull scale link.capacity (number_at slopes link.head) range
+
+-- The scaled flow of each link.
+abbrev pub scaled_flow : ℕ → List ℚ → ℕ → ℚ
+scaled_flow scale flows e = scaled scale (number_at flows e)
 
 -- These flows solve the pattern and meet its inequalities, with the slopes by which `full` was found.
-pub record CanFlow (passes : Passing) (net : Network) (sets : Sets) (rate : ℚ) (pattern : Pattern) (full : List (Option ℚ))
+pub record CanFlow (scale : ℕ) (net : Network) (sets : Sets) (rate : ℚ) (pattern : Pattern) (full : List Range)
     (flows : List ℚ) : Type 0 where
   pub slopes : List ℚ
-  pub full_are : full ≡ full_by passes net slopes
+  pub full_are : AreFull scale net slopes full
   pub solves : Solves net sets rate pattern flows slopes
   pub meets : Meets net pattern flows slopes
 
@@ -55,6 +58,11 @@ needed_at net rate v = if eqb v net.sink then neg_ℚ rate else (if eqb v net.so
 abbrev pub Conserves : Network → ℚ → (ℕ → ℚ) → Type 0
 Conserves net rate flow = (v : ℕ) → v < net.nodes → surplus_by net flow v ≡ needed_at net rate v
 
+-- Each node has the surplus that it needs for a supply within the range.
+abbrev pub IsConserved : Network → Range → (ℕ → ℚ) → Type 0
+IsConserved net supply flow = (rate : ℚ) × IsWithin supply rate × Conserves net rate flow
+
 -- If a flow within the old ranges is conserved at every node, `fits` is true and the flow is within the new ranges.
-abbrev pub Keeps : Network → ℚ → List Range → List Range → Bool → Type 0
-Keeps net rate before after fits = (flow : ℕ → ℚ) → AreWithin before flow → Conserves net rate flow → (fits ≡ true) × AreWithin after flow
+abbrev pub Keeps : Network → Range → List Range → List Range → Bool → Type 0
+Keeps net supply before after fits = (flow : ℕ → ℚ) → AreWithin before flow → IsConserved net supply flow
+    → (fits ≡ true) × AreWithin after flow

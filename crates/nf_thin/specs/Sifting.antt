@@ -1,5 +1,5 @@
 -- One step of the search by slopes of a thin flow.
-use Rattle.std.specs.Prelude.{◌≡◌, ℕ, suc, ◌<◌, Option, Some, None, Result, Ok, Err}
+use Rattle.std.specs.Prelude.{◌≡◌, ℕ, suc, ◌<◌, length, Option, Some, None, Result, Ok, Err}
 use Rattle.nf_rational.specs.Rational.{ℚ}
 use Rattle.nf_frac_def.specs.Passing.{Passing}
 use Rattle.nf_model.specs.Network.{Network}
@@ -12,17 +12,21 @@ use Rattle.nf_thin.specs.declared.vain.Vain.{Vain}
 use Rattle.nf_thin.specs.declared.fault.SearchFault.{SearchFault}
 use Rattle.nf_thin.specs.declared.sifting.Guide.{Guide}
 use Rattle.nf_thin.specs.Slopes.{AreThinSlopes, AreSlopesOfListed}
-use Rattle.nf_thin.specs.Conserving.{full_by}
+use Rattle.nf_thin.specs.Ranges.{IsWithin, scaled}
+use Rattle.nf_thin.specs.Conserving.{AreFull}
 use Rattle.nf_thin.specs.Knowing.{IsKnown}
 use Rattle.nf_thin.specs.Searching.{IsFound}
 
--- A guide is right: its pattern is accepted, the active links hold no cycle, and every solution of a listed pattern has its slopes.
+-- A guide is right: its pattern is accepted, the active links hold no cycle, and every solution of a listed pattern has its slopes. Its
+-- ranges hold the scaled supply and the scaled flows that fill the links.
 pub record Guides (passes : Passing) (net : Network) (sets : Sets) (rate : ℚ) (guide : Guide) : Type 0 where
   pub known : IsKnown passes net sets rate guide.known
   pub acyclic : HoldNoCycle net sets
   pub thin : AreThinSlopes net sets rate guide.known.slopes.items
   pub slopes : AreSlopesOfListed net sets rate guide.known.slopes.items
-  pub full : guide.full.items ≡ full_by passes net guide.known.slopes.items
+  pub supply : IsWithin guide.supply (scaled guide.scale rate)
+  pub count : length guide.full.items ≡ length net.links
+  pub full : AreFull guide.scale net guide.known.slopes.items guide.full.items
 
 -- The pattern is counted, and it is not accepted.
 pub record IsCounted (passes : Passing) (net : Network) (sets : Sets) (rate : ℚ) (pattern : Pattern) (before after : Vain) : Type 0 where

@@ -5,11 +5,10 @@ ghost use Rattle.nf_rational.specs.Rational.{ℚ};
 ghost use Rattle.nf_rational.specs.Operations.{◌+ℚ◌, ◌-ℚ◌};
 ghost use Rattle.nf_model.specs.Network.{IsNetwork};
 ghost use Rattle.nf_thin.specs.Ranges.{IsWithin};
-ghost use Rattle.nf_thin.specs.Conserving.{AreWithin, Conserves, Keeps};
+ghost use Rattle.nf_thin.specs.Conserving.{AreWithin, IsConserved, Keeps};
 
 use crate::node_test::{first_unbalanced, needed, range_at, surplus_range};
 use crate::ranges::Range;
-use nf_frac::Q;
 use nf_graph::{LinkId, NodeId};
 use nf_net::Network;
 use std::alloc::{AllocError, Global};
@@ -76,10 +75,9 @@ fn only_open(net: &Network, open: &[OpenAt], node: NodeId) -> Option<LinkId>
 
 // Returns the flow left for a link that leaves or enters a node. `needed` is the node's surplus, and `others` the surplus of its other
 // links.
-fn left_for(leaves: bool, needed: Q, others: Range) -> Range
-    ensures { (x s : ℚ) → IsWithin others s → MatchBool leaves (s +ℚ x ≡ needed) (s -ℚ x ≡ needed) → IsWithin result x }
+fn left_for(leaves: bool, needed: Range, others: Range) -> Range
+    ensures { (x s n : ℚ) → IsWithin others s → IsWithin needed n → MatchBool leaves (s +ℚ x ≡ n) (s -ℚ x ≡ n) → IsWithin result x }
 {
-    let needed = Range::just(Some(needed));
     if leaves {
         needed.difference(others)
     } else {
@@ -96,12 +94,12 @@ fn put_range(ranges: &mut Vec<Range>, link: LinkId, range: Range)
 }
 
 // Sets a link's flow to what conservation at a node leaves for it. Returns false if the link cannot carry that flow.
-fn close(net: &Network, rate: Q, ranges: &mut Vec<Range>, node: NodeId, link: LinkId) -> bool
+fn close(net: &Network, supply: Range, ranges: &mut Vec<Range>, node: NodeId, link: LinkId) -> bool
     requires node { node < net.now.net.nodes }
     requires link { link < length net.now.net.links }
     requires ranges { length ranges.old.items ≡ length net.now.net.links }
     ensures count { length ranges.new.items ≡ length net.now.net.links }
-    ensures keeps { Keeps net.now.net rate ranges.old.items ranges.new.items result }
+    ensures keeps { Keeps net.now.net supply ranges.old.items ranges.new.items result }
 {
     let hop = &net.hops()[link.index()];
     let leaves = hop.tail == node;
@@ -110,9 +108,9 @@ fn close(net: &Network, rate: Q, ranges: &mut Vec<Range>, node: NodeId, link: Li
         return true;
     }
     let own = range_at(ranges, link);
-    put_range(ranges, link, Range::just(Some(Q::zero())));
+    put_range(ranges, link, Range::zero());
     let others = surplus_range(net, ranges, node);
-    let flow = left_for(leaves, needed(net, rate, node), others);
+    let flow = left_for(leaves, needed(net, supply, node), others);
     let fits = own.meets(&flow);
     put_range(ranges, link, flow);
     fits
@@ -130,7 +128,7 @@ fn other_end(net: &Network, link: LinkId, node: NodeId) -> NodeId
 // Determines links from a node on, while the current node has only one undetermined link. Returns false if a link cannot carry its flow.
 fn close_from(
     net: &Network,
-    rate: Q,
+    supply: Range,
     ranges: &mut Vec<Range>,
     open: &mut Vec<OpenAt>,
     start: NodeId,
@@ -138,14 +136,14 @@ fn close_from(
     requires start { start < net.now.net.nodes }
     requires ranges { length ranges.old.items ≡ length net.now.net.links }
     ensures count { length ranges.new.items ≡ length net.now.net.links }
-    ensures keeps { Keeps net.now.net rate ranges.old.items ranges.new.items result }
+    ensures keeps { Keeps net.now.net supply ranges.old.items ranges.new.items result }
 {
     let mut node = start;
     for _ in 0..net.node_count() {
         let Some(link) = only_open(net, open, node) else {
             return true;
         };
-        if !close(net, rate, ranges, node, link) {
+        if !close(net, supply, ranges, node, link) {
             return false;
         }
         let other = other_end(net, link, node);
@@ -161,18 +159,18 @@ fn close_from(
 pub(crate) fn comes_out(
     alloc: Global,
     net: &Network,
-    rate: Q,
+    supply: Range,
     ranges: &mut Vec<Range>,
 ) -> Result<bool, AllocError>
     requires { length ranges.old.items ≡ length net.now.net.links }
-    ensures { IfOk result (λ fits. (flow : ℕ → ℚ) → AreWithin ranges.old.items flow → Conserves net.now.net rate flow → fits ≡ true) }
+    ensures { IfOk result (λ fits. (flow : ℕ → ℚ) → AreWithin ranges.old.items flow → IsConserved net.now.net supply flow → fits ≡ true) }
 {
     let mut open = open_links(alloc, net, ranges)?;
     for v in 0..net.node_count() {
-        if !close_from(net, rate, ranges, &mut open, NodeId(v)) {
+        if !close_from(net, supply, ranges, &mut open, NodeId(v)) {
             return Ok(false);
         }
     }
-    let found = first_unbalanced(alloc, net, rate, ranges)?;
+    let found = first_unbalanced(alloc, net, supply, ranges)?;
     Ok(found.is_none())
 }

@@ -12,6 +12,7 @@ mod near;
 mod node_test;
 mod pace;
 mod ranges;
+mod scaling;
 mod searches;
 mod sifting;
 mod standing;

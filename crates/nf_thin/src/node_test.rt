@@ -2,69 +2,85 @@
 // fails the test is not accepted, and needs no table.
 ghost use Rattle.std.specs.Prelude.{◌≡◌, ◌<◌, ℕ, suc, true, List, length, slice_get, slice_set, Some, None, IfOk};
 ghost use Rattle.nf_rational.specs.Rational.{ℚ};
-ghost use Rattle.nf_frac_def.specs.Passing.{beyond, passes_Q};
 ghost use Rattle.nf_model.specs.Entries.{number_at};
 ghost use Rattle.nf_model.specs.Network.{Network as SeenNetwork, Link as SeenLink, IsLink, IsNetwork};
-ghost use Rattle.nf_thin.specs.Ranges.{IsWithin};
-ghost use Rattle.nf_thin.specs.Conserving.{full_by, CanFlow, AreWithin, Conserves, BoundsFirst, BoundEach, AreSurpluses, surplus_by, needed_at};
+ghost use Rattle.nf_thin.specs.Ranges.{IsWithin, IsFull, scaled};
+ghost use Rattle.nf_thin.specs.Conserving.{AreFull, CanFlow, AreWithin, IsConserved, BoundsFirst, BoundEach, AreSurpluses, surplus_by, surplus_of_first, needed_at, scaled_flow};
 
 use crate::ranges::{Range, flow_range};
+use crate::scaling::scaled_range;
 use nf_frac::Q;
 use nf_graph::{LinkId, LinkSets, NodeId};
 use nf_net::Network;
 use nf_pattern::Pattern;
-use nf_thin_one::{full_flow, surplus};
+use nf_thin_one::full_flow;
 use std::alloc::{AllocError, Global};
 
-/// Returns the flow that fills each link at these slopes of the nodes, an amount per unit of time, in link order. An entry is `None` if the
-/// link is unbounded or the product passes. Fails if an allocation fails.
+// Returns the range of the scaled flow that fills a link, at this slope of its head. The range is unknown if the link is inactive or
+// unbounded, or the flow passes.
+fn full_range(scale: u64, active: bool, capacity: Option<Q>, head_slope: Q) -> Range
+    ensures { IsFull scale capacity head_slope result }
+{
+    if !active {
+        return Range::any();
+    }
+    match full_flow(capacity, head_slope) {
+        Some(flow) => scaled_range(scale, flow),
+        None => Range::any(),
+    }
+}
+
+/// Returns the range of the scaled flow that fills each link at these slopes of the nodes, in link order. The ranges of inactive links are
+/// unknown. Fails if an allocation fails.
 pub(crate) fn full_flows(
     alloc: Global,
     net: &Network,
+    sets: &LinkSets,
     slopes: &[Q],
-) -> Result<Vec<Option<Q>>, AllocError>
-    requires { length slopes.now ≡ net.now.net.nodes }
-    ensures { IfOk result (λ full. full.items ≡ full_by passes_Q net.now.net slopes.now) }
+    scale: u64,
+) -> Result<Vec<Range>, AllocError>
+    requires slopes { length slopes.now ≡ net.now.net.nodes }
+    requires sets { length sets.now.active ≡ length net.now.net.links }
+    ensures count { IfOk result (λ full. length full.items ≡ length net.now.net.links) }
+    ensures full { IfOk result (λ full. AreFull scale net.now.net slopes.now full.items) }
 {
     let mut full = Vec::with_capacity(alloc, net.link_count() as usize)?;
     for e in 0..net.link_count() {
         let link = net.link(LinkId(e));
         let head_slope = slopes[link.head.index()];
-        full.push(full_flow(link.capacity, head_slope))?;
+        let active = sets.active(LinkId(e));
+        full.push(full_range(scale, active, link.capacity, head_slope))?;
     }
     Ok(full)
 }
 
-// Returns the range of a link's flow in its state.
-fn range_of(sets: &LinkSets, full: &[Option<Q>], pattern: &Pattern, link: LinkId) -> Range
+// Returns the range of a link's scaled flow in its state.
+fn range_of(sets: &LinkSets, full: &[Range], pattern: &Pattern, link: LinkId) -> Range
     requires link { link < length pattern.now }
     requires sets { length sets.now.active ≡ length pattern.now }
     requires full { length full.now ≡ length pattern.now }
-    ensures { (net : SeenNetwork) (rate : ℚ) (flows : List ℚ) (here : SeenLink)
-        → CanFlow passes_Q net sets.now rate pattern.now full.now flows → IsLink net link here → IsWithin result (number_at flows link) }
+    ensures { (net : SeenNetwork) (scale : ℕ) (rate : ℚ) (flows : List ℚ) (here : SeenLink)
+        → CanFlow scale net sets.now rate pattern.now full.now flows → IsLink net link here → IsWithin result (scaled scale (number_at flows link)) }
 {
-    flow_range(
-        pattern.state(link),
-        sets.resetting(link),
-        full[link.index()],
-    )
+    let most = range_at(full, link);
+    flow_range(pattern.state(link), sets.resetting(link), most)
 }
 
-/// Returns the range of each link's flow in its state, in link order. `full` has the flows that fill the links. Fails if an allocation
-/// fails.
+/// Returns the range of each link's scaled flow in its state, in link order. `full` has the scaled flows that fill the links. Fails if an
+/// allocation fails.
 pub(crate) fn link_ranges(
     alloc: Global,
     net: &Network,
     sets: &LinkSets,
-    full: &[Option<Q>],
+    full: &[Range],
     pattern: &Pattern,
 ) -> Result<Vec<Range>, AllocError>
     requires sets { length sets.now.active ≡ length net.now.net.links }
     requires full { length full.now ≡ length net.now.net.links }
     requires states { length pattern.now ≡ length net.now.net.links }
     ensures count { IfOk result (λ ranges. length ranges.items ≡ length net.now.net.links) }
-    ensures carry { IfOk result (λ ranges. (rate : ℚ) (flows : List ℚ)
-        → CanFlow passes_Q net.now.net sets.now rate pattern.now full.now flows → AreWithin ranges.items (number_at flows)) }
+    ensures carry { IfOk result (λ ranges. (scale : ℕ) (rate : ℚ) (flows : List ℚ)
+        → CanFlow scale net.now.net sets.now rate pattern.now full.now flows → AreWithin ranges.items (scaled_flow scale flows)) }
 {
     let mut ranges = Vec::with_capacity(alloc, net.link_count() as usize)?;
     for e in 0..net.link_count() {
@@ -110,31 +126,120 @@ pub(crate) fn surplus_range(net: &Network, ranges: &[Range], node: NodeId) -> Ra
     requires ranges { length ranges.now ≡ length net.now.net.links }
     ensures { (flow : ℕ → ℚ) → AreWithin ranges.now flow → IsWithin result (surplus_by net.now.net flow node) }
 {
-    let mut range = Range::just(Some(Q::zero()));
+    let mut range = Range::zero();
     for e in 0..net.link_count() {
         add_link(&mut range, net, ranges, node, LinkId(e));
     }
     range
 }
 
-/// Returns the surplus that a node needs: `rate` at the source, minus `rate` at the sink, and 0 elsewhere.
-pub(crate) fn needed(net: &Network, rate: Q, node: NodeId) -> Q
-    ensures { result ≡ needed_at net.now.net rate node }
+/// Returns a range of the surplus that a node needs: `supply` at the source, minus `supply` at the sink, and 0 elsewhere.
+pub(crate) fn needed(net: &Network, supply: Range, node: NodeId) -> Range
+    ensures { (rate : ℚ) → IsWithin supply rate → IsWithin result (needed_at net.now.net rate node) }
 {
-    if node == net.sink() {
-        rate.negated()
+    let takes = node == net.sink();
+    if takes {
+        return Range::zero().difference(supply);
+    }
+    let sends = node == net.source();
+    if sends { supply } else { Range::zero() }
+}
+
+// Returns the range of a node's surplus with a link in its state. `range` bounds the outflow less the inflow on the links before this one.
+fn with_link(
+    range: Range,
+    net: &Network,
+    sets: &LinkSets,
+    full: &[Range],
+    pattern: &Pattern,
+    node: NodeId,
+    link: LinkId,
+) -> Range
+    requires link { link < length net.now.net.links }
+    requires sets { length sets.now.active ≡ length net.now.net.links }
+    requires full { length full.now ≡ length net.now.net.links }
+    requires states { length pattern.now ≡ length net.now.net.links }
+    ensures { (scale : ℕ) (rate : ℚ) (flows : List ℚ) → CanFlow scale net.now.net sets.now rate pattern.now full.now flows
+        → IsWithin range (surplus_of_first net.now.net (scaled_flow scale flows) node link)
+        → IsWithin result (surplus_of_first net.now.net (scaled_flow scale flows) node (suc link)) }
+{
+    let hop = &net.hops()[link.index()];
+    let leaves = hop.tail == node;
+    let enters = hop.head == node;
+    if leaves == enters {
+        return range;
+    }
+    let flow = range_of(sets, full, pattern, link);
+    if leaves {
+        range.sum(flow)
     } else {
-        surplus(net.source(), rate, node)
+        range.difference(flow)
     }
 }
 
-// Returns whether the needed surplus of a node is within the range by its links. The answer false rules out a conserved flow.
-fn can_conserve_at(net: &Network, rate: Q, ranges: &[Range], node: NodeId) -> bool
-    requires node { node < net.now.net.nodes }
-    requires ranges { length ranges.now ≡ length net.now.net.links }
-    ensures { (flow : ℕ → ℚ) → AreWithin ranges.now flow → Conserves net.now.net rate flow → result ≡ true }
+// Returns a range of the node's surplus, if every link's flow is possible in its state.
+fn stated_surplus(
+    net: &Network,
+    sets: &LinkSets,
+    full: &[Range],
+    pattern: &Pattern,
+    node: NodeId,
+) -> Range
+    requires sets { length sets.now.active ≡ length net.now.net.links }
+    requires full { length full.now ≡ length net.now.net.links }
+    requires states { length pattern.now ≡ length net.now.net.links }
+    ensures { (scale : ℕ) (rate : ℚ) (flows : List ℚ) → CanFlow scale net.now.net sets.now rate pattern.now full.now flows
+        → IsWithin result (surplus_by net.now.net (scaled_flow scale flows) node) }
 {
-    surplus_range(net, ranges, node).holds(needed(net, rate, node))
+    let mut range = Range::zero();
+    for e in 0..net.link_count() {
+        range = with_link(range, net, sets, full, pattern, node, LinkId(e));
+    }
+    range
+}
+
+// Returns whether the states at this node rule out a conserved flow. The answer false decides nothing.
+fn states_fail_at(
+    net: &Network,
+    sets: &LinkSets,
+    supply: Range,
+    full: &[Range],
+    pattern: &Pattern,
+    node: NodeId,
+) -> bool
+    requires network { IsNetwork net.now.net }
+    requires sets { length sets.now.active ≡ length net.now.net.links }
+    requires full { length full.now ≡ length net.now.net.links }
+    requires states { length pattern.now ≡ length net.now.net.links }
+    requires node { node < net.now.net.nodes }
+    ensures { result ≡ true → (scale : ℕ) (rate : ℚ) (flows : List ℚ) → IsWithin supply (scaled scale rate)
+        → CanFlow scale net.now.net sets.now rate pattern.now full.now flows → ⊥ }
+{
+    let range = stated_surplus(net, sets, full, pattern, node);
+    !range.meets(&needed(net, supply, node))
+}
+
+/// Returns whether the states at a node rule out a conserved flow. The answer false decides nothing, and is given for a node that the
+/// network lacks.
+pub(crate) fn fails_at(
+    net: &Network,
+    sets: &LinkSets,
+    supply: Range,
+    full: &[Range],
+    pattern: &Pattern,
+    node: NodeId,
+) -> bool
+    requires network { IsNetwork net.now.net }
+    requires sets { length sets.now.active ≡ length net.now.net.links }
+    requires full { length full.now ≡ length net.now.net.links }
+    requires states { length pattern.now ≡ length net.now.net.links }
+    ensures { result ≡ true → (scale : ℕ) (rate : ℚ) (flows : List ℚ) → IsWithin supply (scaled scale rate)
+        → CanFlow scale net.now.net sets.now rate pattern.now full.now flows → ⊥ }
+{
+    if node.0 < net.node_count() {
+        return states_fail_at(net, sets, supply, full, pattern, node);
+    }
+    false
 }
 
 // Returns the range of a node's surplus.
@@ -184,7 +289,7 @@ fn surplus_ranges(alloc: Global, net: &Network, ranges: &[Range]) -> Result<Vec<
     ensures count { IfOk result (λ nodes. length nodes.items ≡ net.now.net.nodes) }
     ensures each { IfOk result (λ nodes. (flow : ℕ → ℚ) → AreWithin ranges.now flow → AreSurpluses net.now.net nodes.items flow) }
 {
-    let nothing = Range::just(Some(Q::zero()));
+    let nothing = Range::zero();
     let mut nodes = vec![in alloc; nothing; net.node_count() as usize]?;
     for e in 0..net.link_count() {
         add_to_ends(&mut nodes, net, ranges, LinkId(e));
@@ -192,22 +297,22 @@ fn surplus_ranges(alloc: Global, net: &Network, ranges: &[Range]) -> Result<Vec<
     Ok(nodes)
 }
 
-// Returns whether the needed surplus of a node is within the range of its surplus.
-fn is_balanced(net: &Network, rate: Q, nodes: &[Range], node: NodeId) -> bool
+// Returns whether the needed surplus of a node can be within the range of its surplus.
+fn is_balanced(net: &Network, supply: Range, nodes: &[Range], node: NodeId) -> bool
     requires node { node < net.now.net.nodes }
     requires nodes { length nodes.now ≡ net.now.net.nodes }
-    ensures { (flow : ℕ → ℚ) → AreSurpluses net.now.net nodes.now flow → Conserves net.now.net rate flow → result ≡ true }
+    ensures { (flow : ℕ → ℚ) → AreSurpluses net.now.net nodes.now flow → IsConserved net.now.net supply flow → result ≡ true }
 {
-    surplus_at(nodes, node).holds(needed(net, rate, node))
+    surplus_at(nodes, node).meets(&needed(net, supply, node))
 }
 
-// Returns the first node whose needed surplus is not within its range, or `None`.
-fn first_failing(net: &Network, rate: Q, nodes: &[Range]) -> Option<NodeId>
+// Returns the first node whose needed surplus cannot be within its range, or `None`.
+fn first_failing(net: &Network, supply: Range, nodes: &[Range]) -> Option<NodeId>
     requires { length nodes.now ≡ net.now.net.nodes }
-    ensures { (flow : ℕ → ℚ) → AreSurpluses net.now.net nodes.now flow → Conserves net.now.net rate flow → result ≡ None }
+    ensures { (flow : ℕ → ℚ) → AreSurpluses net.now.net nodes.now flow → IsConserved net.now.net supply flow → result ≡ None }
 {
     for v in 0..net.node_count() {
-        if !is_balanced(net, rate, nodes, NodeId(v)) {
+        if !is_balanced(net, supply, nodes, NodeId(v)) {
             return Some(NodeId(v));
         }
     }
@@ -218,30 +323,12 @@ fn first_failing(net: &Network, rate: Q, nodes: &[Range]) -> Option<NodeId>
 pub(crate) fn first_unbalanced(
     alloc: Global,
     net: &Network,
-    rate: Q,
+    supply: Range,
     ranges: &[Range],
 ) -> Result<Option<NodeId>, AllocError>
     requires { length ranges.now ≡ length net.now.net.links }
-    ensures { IfOk result (λ found. (flow : ℕ → ℚ) → AreWithin ranges.now flow → Conserves net.now.net rate flow → found ≡ None) }
+    ensures { IfOk result (λ found. (flow : ℕ → ℚ) → AreWithin ranges.now flow → IsConserved net.now.net supply flow → found ≡ None) }
 {
     let nodes = surplus_ranges(alloc, net, ranges)?;
-    Ok(first_failing(net, rate, &nodes))
-}
-
-/// Returns a node that rules out a conserved flow, or `None`. Tests the node `first` before the others. Successive patterns mostly fail at
-/// the same node. Fails if an allocation fails.
-pub(crate) fn unbalanced_node(
-    alloc: Global,
-    net: &Network,
-    rate: Q,
-    ranges: &[Range],
-    first: NodeId,
-) -> Result<Option<NodeId>, AllocError>
-    requires { length ranges.now ≡ length net.now.net.links }
-    ensures { IfOk result (λ found. (flow : ℕ → ℚ) → AreWithin ranges.now flow → Conserves net.now.net rate flow → found ≡ None) }
-{
-    if first.0 < net.node_count() && !can_conserve_at(net, rate, ranges, first) {
-        return Ok(Some(first));
-    }
-    first_unbalanced(alloc, net, rate, ranges)
+    Ok(first_failing(net, supply, &nodes))
 }

@@ -1,19 +1,21 @@
-// Ranges of numbers, and the range of a link's flow by its state.
-ghost use Rattle.std.specs.Prelude.{◌≡◌, MatchBool, Bool, true, Option, Some};
+// Ranges of numbers, and the range of a link's flow by its state. Flows are scaled: multiplied by a whole number, the scale of the search.
+ghost use Rattle.std.specs.Prelude.{◌≡◌, Bool, true, ℕ, pos, Option, Some, None};
 ghost use Rattle.nf_rational.specs.Rational.{ℚ};
 ghost use Rattle.nf_rational.specs.Operations.{0ℚ, ◌+ℚ◌, ◌-ℚ◌};
 ghost use Rattle.nf_rational.specs.Order.{◌≤ℚ◌};
-ghost use Rattle.nf_thin.specs.Ranges.{IsFrom, IsUpTo, IsWithin, IsEndOfSum, IsEndOfDifference, MeetsState};
+ghost use Rattle.nf_thin.specs.Ranges.{IsFrom, IsUpTo, IsWithin, IsEndOfSum, IsEndOfDifference, MeetsState, scaled};
 
-use nf_frac::Q;
 use nf_model::State;
 use std::alloc::AllocError;
+
+// A range of one number, rounded a few times, is less wide than this.
+const FEW: i64 = 1024;
 
 /// The numbers from `least` to `greatest`. `None` means no bound on that side.
 #[derive(Copy)]
 pub(crate) struct Range {
-    pub(crate) least: Option<Q>,
-    pub(crate) greatest: Option<Q>,
+    pub(crate) least: Option<i64>,
+    pub(crate) greatest: Option<i64>,
 }
 
 impl Clone for Range {
@@ -24,92 +26,76 @@ impl Clone for Range {
     }
 }
 
-// Returns the sum of two ends, or `None` if one is unknown or the sum passes.
-fn end_of_sum(one: Option<Q>, other: Option<Q>) -> Option<Q>
+// Returns the sum of two ends, or `None` if one is unknown or the sum has more than 64 bits.
+fn end_of_sum(one: Option<i64>, other: Option<i64>) -> Option<i64>
     ensures { IsEndOfSum one other result }
 {
     let end = one?;
     let more = other?;
-    if more.is_zero() {
-        return Some(end);
-    }
-    if end.is_zero() {
-        return Some(more);
-    }
-    end.sum(more).ok()
+    end.checked_add(more)
 }
 
-// Returns the difference of two ends, or `None` if one is unknown or the difference passes.
-fn end_of_difference(one: Option<Q>, other: Option<Q>) -> Option<Q>
+// Returns the difference of two ends, or `None` if one is unknown or the difference has more than 64 bits.
+fn end_of_difference(one: Option<i64>, other: Option<i64>) -> Option<i64>
     ensures { IsEndOfDifference one other result }
 {
     let end = one?;
     let less = other?;
-    if less.is_zero() {
-        return Some(end);
-    }
-    end.difference(less).ok()
-}
-
-// Returns whether a number is at least this end, or there is no end.
-fn is_from(least: Option<Q>, number: Q) -> bool
-    ensures { MatchBool result (IsFrom least number) (IsFrom least number → ⊥) }
-{
-    match least {
-        Some(least) => least.is_at_most(number),
-        None => true,
-    }
-}
-
-// Returns whether a number is at most this end, or there is no end.
-fn is_up_to(greatest: Option<Q>, number: Q) -> bool
-    ensures { MatchBool result (IsUpTo greatest number) (IsUpTo greatest number → ⊥) }
-{
-    match greatest {
-        Some(greatest) => number.is_at_most(greatest),
-        None => true,
-    }
+    end.checked_sub(less)
 }
 
 // Returns whether the lower end is at most the upper end, or one of them is unknown.
-fn ends_meet(least: Option<Q>, greatest: Option<Q>) -> bool
+fn ends_meet(least: Option<i64>, greatest: Option<i64>) -> bool
     ensures { (x : ℚ) → IsFrom least x → IsUpTo greatest x → result ≡ true }
 {
-    match greatest {
-        Some(greatest) => is_from(least, greatest),
-        None => true,
-    }
+    let Some(least) = least else {
+        return true;
+    };
+    let Some(greatest) = greatest else {
+        return true;
+    };
+    least <= greatest
 }
 
 // Returns whether the end is known to be 0.
-fn is_zero_end(end: Option<Q>) -> bool
-    ensures { result ≡ true → end ≡ Some 0ℚ }
+fn is_zero_end(end: Option<i64>) -> bool
+    ensures { result ≡ true → end ≡ Some (pos 0) }
 {
     match end {
-        Some(number) => number.is_zero(),
+        Some(number) => number == 0,
         None => false,
     }
 }
 
 impl Range {
-    /// Returns the range of one number if it is known, and of all numbers otherwise.
-    pub(crate) fn just(number: Option<Q>) -> Range
-        ensures { (x : ℚ) → ((known : ℚ) → number ≡ Some known → x ≡ known) → IsWithin result x }
+    /// Returns the range of all numbers.
+    pub(crate) fn any() -> Range
+        ensures least { result.least ≡ None }
+        ensures greatest { result.greatest ≡ None }
     {
-        let greatest = number;
         Range {
-            least: number,
-            greatest,
+            least: None,
+            greatest: None,
         }
     }
 
-    // Returns the range from 0 to this number if it is known, and from 0 on otherwise.
-    fn up_to(number: Option<Q>) -> Range
-        ensures { (x : ℚ) → 0ℚ ≤ℚ x → IsUpTo number x → IsWithin result x }
+    /// Returns the range that holds 0 alone.
+    pub(crate) fn zero() -> Range
+        ensures { IsWithin result 0ℚ }
     {
         Range {
-            least: Some(Q::zero()),
-            greatest: number,
+            least: Some(0),
+            greatest: Some(0),
+        }
+    }
+
+    // Returns the range from 0 to the upper end of this one.
+    fn from_zero(self) -> Range
+        ensures { (x : ℚ) → 0ℚ ≤ℚ x → IsUpTo self.greatest x → IsWithin result x }
+    {
+        Range {
+            least: Some(0),
+            greatest: self.greatest,
         }
     }
 
@@ -153,47 +139,36 @@ impl Range {
         is_zero_end(self.least)
     }
 
-    /// Returns whether the range holds one number alone. No contract depends on it.
+    /// Returns whether the range holds few numbers: one number that is rounded, not all that a link may carry. No contract depends on it.
     pub(crate) fn is_one(self) -> bool {
         match (self.least, self.greatest) {
-            (Some(least), Some(greatest)) => least == greatest,
+            (Some(least), Some(greatest)) => greatest.saturating_sub(least) < FEW,
             _ => false,
         }
     }
-
-    /// Returns whether a number is in the range.
-    pub(crate) fn holds(self, number: Q) -> bool
-        ensures { MatchBool result (IsWithin self number) (IsWithin self number → ⊥) }
-    {
-        is_from(self.least, number) && is_up_to(self.greatest, number)
-    }
 }
 
-// Returns the range of a link's flow in a state. `full` is the flow that fills the link, if it is known. A Tight link carries 0 to `full`,
-// a Full link `full`, and a Zero link 0.
-fn range_in(state: State, full: Option<Q>) -> Range
-    ensures { (resetting : Bool) (capacity : Option ℚ) (flow tail_slope head_slope : ℚ)
-        → MeetsState (Some state) resetting full capacity flow tail_slope head_slope → IsWithin result flow }
+// Returns the range of a link's scaled flow in a state. `full` has the scaled flow that fills the link. A Tight link carries 0 to `full`, a
+// Full link `full`, and a Zero link 0.
+fn range_in(state: State, full: Range) -> Range
+    ensures { (scale : ℕ) (resetting : Bool) (capacity : Option ℚ) (flow tail_slope head_slope : ℚ)
+        → MeetsState scale (Some state) resetting full capacity flow tail_slope head_slope → IsWithin result (scaled scale flow) }
 {
     match state {
-        State::Tight => Range::up_to(full),
-        State::Full => Range::just(full),
-        State::Zero => Range::just(Some(Q::zero())),
+        State::Tight => full.from_zero(),
+        State::Full => full,
+        State::Zero => Range::zero(),
     }
 }
 
-/// Returns the range of a link's flow, an amount per unit of time. `full` is the flow that fills the link, if it is known. A Tight link
-/// carries 0 to `full`, a Full or resetting link `full`, and any other link 0.
-pub(crate) fn flow_range(state: Option<State>, resetting: bool, full: Option<Q>) -> Range
-    ensures { (capacity : Option ℚ) (flow tail_slope head_slope : ℚ) → MeetsState state resetting full capacity flow tail_slope head_slope
-        → IsWithin result flow }
+/// Returns the range of a link's scaled flow, by its state. `full` has the scaled flow that fills the link. A Tight link carries 0 to
+/// `full`, a Full or resetting link `full`, and any other link 0.
+pub(crate) fn flow_range(state: Option<State>, resetting: bool, full: Range) -> Range
+    ensures { (scale : ℕ) (capacity : Option ℚ) (flow tail_slope head_slope : ℚ)
+        → MeetsState scale state resetting full capacity flow tail_slope head_slope → IsWithin result (scaled scale flow) }
 {
     if let Some(state) = state {
         return range_in(state, full);
     }
-    if resetting {
-        Range::just(full)
-    } else {
-        Range::just(Some(Q::zero()))
-    }
+    if resetting { full } else { Range::zero() }
 }

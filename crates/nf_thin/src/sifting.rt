@@ -1,11 +1,12 @@
 // Sifting of listed patterns by slopes of a thin flow: some are rejected without a table.
-ghost use Rattle.std.specs.Prelude.{◌≡◌, ◌≤◌, List, length, None, IfOk, IfSome};
+ghost use Rattle.std.specs.Prelude.{◌≡◌, ◌≤◌, ℕ, List, length, None, IfOk, IfSome};
 ghost use Rattle.nf_rational.specs.Rational.{ℚ};
 ghost use Rattle.nf_frac_def.specs.Passing.{passes_Q};
 ghost use Rattle.nf_model.specs.Network.{IsNetwork};
 ghost use Rattle.nf_model.specs.Pattern.{IsListedIn};
 ghost use Rattle.nf_thin_equation_laws.specs.Equations.{IsPatternIn};
 ghost use Rattle.nf_thin.specs.Searching.{AreSetsOf};
+ghost use Rattle.nf_thin.specs.Ranges.{IsWithin, scaled};
 ghost use Rattle.nf_thin.specs.Conserving.{CanFlow};
 ghost use Rattle.nf_thin.specs.Sifting.{Guides, SiftsNext};
 
@@ -13,7 +14,9 @@ use crate::cycles::hold_no_cycle;
 use crate::fault::SearchFault;
 use crate::known::{Known, known_by, thin_at};
 use crate::leaves::comes_out;
-use crate::node_test::{full_flows, link_ranges, unbalanced_node};
+use crate::node_test::{fails_at, first_unbalanced, full_flows, link_ranges};
+use crate::ranges::Range;
+use crate::scaling::{scale_for, scaled_range};
 use crate::thin::Thin;
 use crate::trying_next::try_next;
 use crate::vain::Vain;
@@ -25,21 +28,25 @@ use nf_thin_guess::guess;
 use nf_thin_one::is_one_pattern;
 use std::alloc::{AllocError, Global};
 
-/// A pattern known to be accepted, with its flows and slopes, and the flows that fill the links at these slopes.
+/// A pattern known to be accepted, with its flows and slopes. Beside it, ranges of the supply and of the flows that fill the links at these
+/// slopes, all `scale` times as great.
 #[derive(Drop)]
 pub(crate) struct Guide {
     pub(crate) known: Known,
-    pub(crate) full: Vec<Option<Q>>,
+    pub(crate) scale: u64,
+    pub(crate) supply: Range,
+    pub(crate) full: Vec<Range>,
 }
 
 // Returns a node to test first for the next pattern if this one is rejected, and `None` otherwise. A pattern is rejected if no flow within
-// the ranges of its states is conserved at every node. Fails if an allocation fails.
+// the ranges of its states is conserved at every node. Tests the node `first` before the others, because successive patterns mostly fail at
+// the same node. Fails if an allocation fails.
 fn ruled_out_at(
     alloc: Global,
     net: &Network,
     sets: &LinkSets,
-    rate: Q,
-    full: &[Option<Q>],
+    supply: Range,
+    full: &[Range],
     pattern: &Pattern,
     first: NodeId,
 ) -> Result<Option<NodeId>, AllocError>
@@ -47,13 +54,17 @@ fn ruled_out_at(
     requires sets { length sets.now.active ≡ length net.now.net.links }
     requires full { length full.now ≡ length net.now.net.links }
     requires states { length pattern.now ≡ length net.now.net.links }
-    ensures { IfOk result (λ node. (flows : List ℚ) → CanFlow passes_Q net.now.net sets.now rate pattern.now full.now flows → node ≡ None) }
+    ensures { IfOk result (λ node. (scale : ℕ) (rate : ℚ) (flows : List ℚ) → IsWithin supply (scaled scale rate)
+        → CanFlow scale net.now.net sets.now rate pattern.now full.now flows → node ≡ None) }
 {
+    if fails_at(net, sets, supply, full, pattern, first) {
+        return Ok(Some(first));
+    }
     let mut ranges = link_ranges(alloc, net, sets, full, pattern)?;
-    if let Some(node) = unbalanced_node(alloc, net, rate, &ranges, first)? {
+    if let Some(node) = first_unbalanced(alloc, net, supply, &ranges)? {
         return Ok(Some(node));
     }
-    if comes_out(alloc, net, rate, &mut ranges)? {
+    if comes_out(alloc, net, supply, &mut ranges)? {
         Ok(None)
     } else {
         Ok(Some(first))
@@ -86,7 +97,16 @@ pub(crate) fn sift_next(
         let thin = thin_at(alloc, &guide.known, vain.tried + 1)?;
         return Ok(Some(thin));
     }
-    let Some(node) = ruled_out_at(alloc, net, sets, rate, &guide.full, pattern, vain.node)? else {
+    let Some(node) = ruled_out_at(
+        alloc,
+        net,
+        sets,
+        guide.supply,
+        &guide.full,
+        pattern,
+        vain.node,
+    )?
+    else {
         return try_next(alloc, net, sets, rate, pattern, budget, vain);
     };
     vain.tried += 1;
@@ -116,6 +136,13 @@ pub(crate) fn guide_of(
     let Some(known) = known_by(alloc, net, sets, rate, last)? else {
         return Ok(None);
     };
-    let full = full_flows(alloc, net, &known.slopes)?;
-    Ok(Some(Guide { known, full }))
+    let scale = scale_for(rate);
+    let supply = scaled_range(scale, rate);
+    let full = full_flows(alloc, net, sets, &known.slopes, scale)?;
+    Ok(Some(Guide {
+        known,
+        scale,
+        supply,
+        full,
+    }))
 }

@@ -4,7 +4,7 @@ use Rattle.nf_thin.proofs.Conserving.{none_sent, surplus_of_all}
 use Rattle.nf_thin.proofs.node_test.surplus_range.Goals as goal
 
 pub loop-e-init : goal.loop-e-init
-loop-e-init c flow within = c.just-range.ensures _ (none_sent c.args.net.now.net flow c.args.node c.zero.result c.zero.ensures)
+loop-e-init c flow within = subst (IsWithin c.zero-range.result) (none_sent c.args.net.now.net flow c.args.node) c.zero-range.ensures
 
 pub loop-e-preserved : goal.loop-e-preserved
 loop-e-preserved c = rw (add-one c.loop-e.e) c.add_link.ensures

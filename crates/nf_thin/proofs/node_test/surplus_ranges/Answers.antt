@@ -1,15 +1,16 @@
-use Rattle.std.proofs.Common.{List, length, ap, ◌∙◌, add-one, arith}
+use Rattle.std.proofs.Common.{List, length, ap, subst, ◌∙◌, add-one, arith}
 use Rattle.std.proofs.lemmas.List.{length-replicate}
 use Rattle.nf_thin.specs.declared.ranges.Range.{Range}
+use Rattle.nf_thin.specs.Ranges.{IsWithin}
 use Rattle.nf_thin.proofs.Conserving.{none_sent}
 use Rattle.nf_thin.proofs.Balances.{each_first, each_last}
 use Rattle.nf_thin.proofs.node_test.surplus_ranges.Goals as goal
 
 pub loop-e-init : goal.loop-e-init
 loop-e-init c = record {
-  count = ap (λ (l : List Range). length l) (c.in_ok-nodes.ensures.items_if_clones_equal (λ y e. e)) ∙ (length-replicate c.node_count.result c.just-nothing.result ∙ c.node_count.ensures);
-  each = each_first c.args.net.now.net c.args.ranges.now c.in_ok-nodes.nodes.items c.node_count.result c.just-nothing.result (c.in_ok-nodes.ensures.items_if_clones_equal (λ y e. e))
-      (λ flow v. c.just-nothing.ensures _ (none_sent c.args.net.now.net flow v c.zero.result c.zero.ensures));
+  count = ap (λ (l : List Range). length l) (c.in_ok-nodes.ensures.items_if_clones_equal (λ y e. e)) ∙ (length-replicate c.node_count.result c.zero-nothing.result ∙ c.node_count.ensures);
+  each = each_first c.args.net.now.net c.args.ranges.now c.in_ok-nodes.nodes.items c.node_count.result c.zero-nothing.result (c.in_ok-nodes.ensures.items_if_clones_equal (λ y e. e))
+      (λ flow v. subst (IsWithin c.zero-nothing.result) (none_sent c.args.net.now.net flow v) c.zero-nothing.ensures);
 }
 
 pub loop-e-preserved : goal.loop-e-preserved

@@ -7,7 +7,7 @@ use Rattle.nf_thin_guess.specs.Guessing.{IsSolved}
 use Rattle.nf_thin.specs.declared.known.Known.{Known}
 use Rattle.nf_thin.specs.Slopes.{AreThinSlopes}
 use Rattle.nf_thin.specs.Knowing.{IsKnown}
-use Rattle.nf_thin.specs.Conserving.{full_by}
+use Rattle.nf_thin.specs.Conserving.{AreFull}
 use Rattle.nf_thin.proofs.Refusing.{slopes_of_listed}
 use Rattle.nf_thin.proofs.sifting.guide_of.Goals as goal
 
@@ -15,8 +15,11 @@ pub known_by-requires : goal.known_by-requires
 known_by-requires c =
     subst (λ (found : Option SolvedPattern). IfSome found (λ last. IsSolved passes_Q c.args.net.now.net c.args.sets.now c.args.rate last)) c.in-Some.is c.in_ok-last.ensures
 
-pub full_flows-requires : goal.full_flows-requires
-full_flows-requires c =
+pub full_flows-requires-clause-sets : goal.full_flows-requires-clause-sets
+full_flows-requires-clause-sets c = c.requires.sets.sets_are.count
+
+pub full_flows-requires-clause-slopes : goal.full_flows-requires-clause-slopes
+full_flows-requires-clause-slopes c =
     let known = subst (λ (found : Option Known). IfSome found (λ known. IsKnown passes_Q c.args.net.now.net c.args.sets.now c.args.rate known)) c.in-Some-2.is c.in_ok-known.ensures.known in
     ap (λ (l : List ℚ). length l) c.deref.ensures.value ∙ known.solution.solves.slope_count
 
@@ -30,5 +33,7 @@ returns c =
           (c.in_ok-hold_no_cycle.ensures c.if-not-branch.false) thin;
       acyclic = c.in_ok-hold_no_cycle.ensures c.if-not-branch.false;
       thin = thin;
-      full = c.in_ok-full.ensures ∙ ap (λ (slopes : List ℚ). full_by passes_Q c.args.net.now.net slopes) c.deref.ensures.value;
+      supply = c.scaled_range-supply.ensures;
+      count = c.in_ok-full.ensures.count;
+      full = subst (λ (slopes : List ℚ). AreFull c.scale_for-scale.result c.args.net.now.net slopes c.in_ok-full.full.items) c.deref.ensures.value c.in_ok-full.ensures.full;
     }

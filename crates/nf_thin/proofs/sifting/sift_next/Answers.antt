@@ -1,16 +1,15 @@
-use Rattle.std.proofs.Common.{List, length, sym, ap, ◌∙◌, add-one, arith}
-use Rattle.std.specs.Prelude.{Option}
+use Rattle.std.proofs.Common.{List, length, sym, ap, subst, ◌∙◌, add-one, arith}
 use Rattle.std.proofs.lemmas.Option.{none-some}
-use Rattle.nf_rational.specs.Rational.{ℚ}
 use Rattle.nf_frac_def.specs.Passing.{passes_Q}
-use Rattle.nf_thin.proofs.Conserving.{full_count}
+use Rattle.nf_thin.specs.declared.ranges.Range.{Range}
+use Rattle.nf_thin.specs.Conserving.{AreFull}
 use Rattle.nf_thin.proofs.FoundThin.{found_known}
 use Rattle.nf_thin.proofs.Refusing.{can_flow, tried_counts}
 use Rattle.nf_thin.proofs.sifting.sift_next.Goals as goal
 
 pub ruled_out_at-requires-clause-full : goal.ruled_out_at-requires-clause-full
 ruled_out_at-requires-clause-full c =
-    ap (λ (l : List (Option ℚ)). length l) (c.deref.ensures.value ∙ c.requires.guide.full) ∙ full_count passes_Q c.args.net.now.net c.args.guide.now.known.slopes.items
+    ap (λ (l : List Range). length l) c.deref.ensures.value ∙ c.requires.guide.count
 
 pub ruled_out_at-requires-clause-network : goal.ruled_out_at-requires-clause-network
 ruled_out_at-requires-clause-network c = c.requires.pattern.network
@@ -43,9 +42,9 @@ returns c = (
   let n = c.if-vain-budget.false in let w = c.requires.within in omega arith,
   record {
     one_more = add-one c.args.vain.now.tried;
-    not_accepted = λ accepted. none-some c.in-Some.node (sym (c.in_ok-node.ensures accepted.solvable.flows
-        (can_flow c.args.net.now.net c.args.sets.now c.args.rate c.args.pattern.now c.requires.listed accepted.solvable passes_Q c.args.guide.now.known.slopes.items c.deref.result.now
-        c.requires.guide.slopes (c.deref.ensures.value ∙ c.requires.guide.full)))
+    not_accepted = λ accepted. none-some c.in-Some.node (sym (c.in_ok-node.ensures c.args.guide.now.scale c.args.rate accepted.solvable.flows c.requires.guide.supply
+        (can_flow c.args.net.now.net c.args.sets.now c.args.rate c.args.pattern.now c.requires.listed accepted.solvable c.args.guide.now.scale c.args.guide.now.known.slopes.items c.deref.result.now
+        c.requires.guide.slopes (subst (λ (l : List Range). AreFull c.args.guide.now.scale c.args.net.now.net c.args.guide.now.known.slopes.items l) (sym c.deref.ensures.value) c.requires.guide.full)))
         ∙ c.in-Some.is);
   },
 )
