@@ -68,11 +68,11 @@ zero_by (Some b) f s is h = may_be_zero b f s is h
 
 -- A link that may not be Zero is not Zero in an assignment of the family.
 shun : (base : Pattern) (firm : List Firm) (r : Pattern) (e : ℕ) → AreIn (firm_choices base firm) r → ((f : Firm) → slice_get firm e ≡ Some f → f.zero ≡ true → ⊥) → HasState r e Zero → ⊥
-shun base firm [] e h no at = none-some (Some Zero) at
-shun [] firm (s ∷ r) e h no at = absurd h
-shun (b ∷ base) [] (s ∷ r) e h no at = absurd h
-shun (b ∷ base) (f ∷ firm) (s ∷ r) zero h no at = no f refl (zero_by b f s (same_Some s (Some Zero) at) h.0)
-shun (b ∷ base) (f ∷ firm) (s ∷ r) (suc e) h no at = shun base firm r e h.1 no at
+shun base firm [] e h never at = none-some (Some Zero) at
+shun [] firm (s ∷ r) e h never at = absurd h
+shun (b ∷ base) [] (s ∷ r) e h never at = absurd h
+shun (b ∷ base) (f ∷ firm) (s ∷ r) zero h never at = never f refl (zero_by b f s (same_Some s (Some Zero) at) h.0)
+shun (b ∷ base) (f ∷ firm) (s ∷ r) (suc e) h never at = shun base firm r e h.1 never at
 
 -- A link that may only be Zero is Zero in each assignment of the family.
 only_so : (base : Pattern) (firm : List Firm) (r : Pattern) (e : ℕ) (b : State) (f : Firm) → AreIn (firm_choices base firm) r → HasState base e b → slice_get firm e ≡ Some f
@@ -132,7 +132,7 @@ none_or_some n = grind arith
 
 module _ (net : Network) (sets : Sets) (base pattern listed : Pattern) (is_base : IsPattern sets (unbounded net) base) (is_listed : IsListedIn net sets listed) where
   -- one family
-  module _ (keepers : List (Option ℕ)) (out : Option ℕ) (firm : List Firm) (are : AreFirmBy net sets listed keepers out firm) where
+  module _ (keepers : List (Option ℕ)) (out : ℕ) (firm : List Firm) (are : AreFirmBy net sets listed keepers out firm) where
     all : (q : Pattern) → AreIn (firm_choices base firm) q → IsListedIn net sets q
     all q in_q = firm_listed net.nodes net.source (hops net) sets (unbounded net) base listed (map (λ f. f.tight) firm) (map (λ f. f.full) firm) (map (λ f. f.zero) firm) is_base is_listed are.have q
         (subst (λ (c : Choices). AreIn c q) (choices_are base firm) in_q)
@@ -179,12 +179,12 @@ module _ (net : Network) (sets : Sets) (base pattern listed : Pattern) (is_base 
       shuns = λ r v e some from at zeroed. shuns_all r v e some from at zeroed (none_or_some (old.has r));
       counted = λ listing j listing_is at.
           let a = old.counted listing j listing_is at in
-          let b = counted_by (slice_set keepers n (Some w.spare.other)) (Some w.spare.keeper) w.firm w.are more w.ways_is listing j listing_is at in
+          let b = counted_by (slice_set keepers n (Some w.spare.other)) w.spare.keeper w.firm w.are more w.ways_is listing j listing_is at in
           let s = members_sum old.has (in_family (firm_choices base w.firm)) listing j in omega arith;
     }
       where
         zeroed_in : (r : Pattern) → AreIn (firm_choices base w.firm) r → HasState r w.spare.keeper Zero
-        zeroed_in r in_r = let o = w.are.only w.spare.keeper refl in only_so base w.firm r w.spare.keeper w.is_spare.state o.0 in_r w.is_spare.stated o.1 o.2 o.3
+        zeroed_in r in_r = let o = w.are.only w.is_spare.within in only_so base w.firm r w.spare.keeper w.is_spare.state o.0 in_r w.is_spare.stated o.1 o.2 o.3
 
         one_at_most : (r : Pattern) → (AreIn (firm_choices base w.firm) r × (in_family (firm_choices base w.firm) r ≡ 1)) ⊎ (in_family (firm_choices base w.firm) r ≡ 0) → (old.has r ≡ 0) ⊎ (0 < old.has r)
             → old.has r + in_family (firm_choices base w.firm) r ≤ 1
@@ -195,7 +195,7 @@ module _ (net : Network) (sets : Sets) (base pattern listed : Pattern) (is_base 
         shuns_all : (r : Pattern) (v e : ℕ) → 0 < old.has r + in_family (firm_choices base w.firm) r → n + 1 ≤ v → slice_get keepers v ≡ Some (Some e) → HasState r e Zero → (old.has r ≡ 0) ⊎ (0 < old.has r) → ⊥
         shuns_all r v e some from at zeroed (inr before) = old.shuns r v e before (omega arith) at zeroed
         shuns_all r v e some from at zeroed (inl none) =
-            shuns_by (slice_set keepers n (Some w.spare.other)) (Some w.spare.keeper) w.firm w.are r v e (omega arith) (set_other keepers n v (Some w.spare.other) (λ same. omega arith) ∙ at) zeroed
+            shuns_by (slice_set keepers n (Some w.spare.other)) w.spare.keeper w.firm w.are r v e (omega arith) (set_other keepers n v (Some w.spare.other) (λ same. omega arith) ∙ at) zeroed
 
     pub covers_more : (more after : ℕ) → IsByOther net sets base pattern listed keepers n more → after ≡ min (ways + more) most → Covers net sets base pattern keepers (n + 1) after
     covers_more more after (inl none) is = record {

@@ -1,6 +1,6 @@
 -- Keepers of nodes, and the combinable states of links by them.
 use Rattle.std.proofs.Common.{◌≡◌, ◌≢◌, ◌⊎◌, inl, inr, ℕ, ◌+◌, ◌<◌, Bool, true, false, not, List, ◌++◌, length, take, drop, refl, sym, ap, subst, ◌∙◌, arith}
-use Rattle.std.specs.Prelude.{Option, Some, None, slice_get, slice_set, map, is_some, is_none, IfSome}
+use Rattle.std.specs.Prelude.{Option, Some, None, slice_get, slice_set, map, is_some, is_none}
 use Rattle.std.proofs.Math.ListN.{drop_of_length-le}
 use Rattle.std.proofs.Math.Seq.{take-length}
 use Rattle.std.proofs.lemmas.Bool.{true≢false}
@@ -118,20 +118,19 @@ module _ (net : Network) (sets : Sets) (listed : Pattern) (sets_are : AreSetsOf 
   }
 
 -- The combinable states of one link, which may only be Zero if it is `out`.
-abbrev pub IsFirmBy : Network → Pattern → List (Option ℕ) → Option ℕ → ℕ → Firm → Type 0
-IsFirmBy net listed keepers out e f = IsFirmOf net listed keepers e f × (out ≡ Some e → (f.tight ≡ true → ⊥) × (f.full ≡ true → ⊥))
+abbrev pub IsFirmBy : Network → Pattern → List (Option ℕ) → ℕ → ℕ → Firm → Type 0
+IsFirmBy net listed keepers out e f = IsFirmOf net listed keepers e f × (e ≡ out → (f.tight ≡ true → ⊥) × (f.full ≡ true → ⊥))
 
-pub firm_by : (net : Network) (sets : Sets) (listed : Pattern) (keepers : List (Option ℕ)) (out : Option ℕ) (firm : List Firm) → AreSetsOf net sets → IsListedIn net sets listed
-    → AreKeepers net sets listed (length net.links) keepers → IfSome out (λ (e : ℕ). e < length net.links) → length firm ≡ length net.links → EachEntry (IsFirmBy net listed keepers out) firm
+pub firm_by : (net : Network) (sets : Sets) (listed : Pattern) (keepers : List (Option ℕ)) (out : ℕ) (firm : List Firm) → AreSetsOf net sets → IsListedIn net sets listed
+    → AreKeepers net sets listed (length net.links) keepers → length firm ≡ length net.links → EachEntry (IsFirmBy net listed keepers out) firm
     → AreFirmBy net sets listed keepers out firm
-firm_by net sets listed keepers out firm sets_are is_listed are within count each = record {
+firm_by net sets listed keepers out firm sets_are is_listed are count each = record {
   have = have_firm net sets listed sets_are is_listed keepers firm are count (λ k f at. (each k f at).0);
   count = count;
   kept = λ v e f at at_f set. let w = are.keeps v e at in (each e f at_f).0.zero w.0 w.1 (ap (slice_get keepers) w.2 ∙ at) set;
-  only = λ e is.
-      let less : e < length net.links = subst (λ (o : Option ℕ). IfSome o (λ (e : ℕ). e < length net.links)) is within in
-      let f = entry firm e (omega arith) in
-      let w = (each e f.0 f.1).1 is in (f.0, f.1, w.0, w.1);
+  only = λ less.
+      let f = entry firm out (omega arith) in
+      let w = (each out f.0 f.1).1 refl in (f.0, f.1, w.0, w.1);
 }
 
 -- The combinable states of one link.

@@ -1,5 +1,5 @@
 -- Families of freely combinable states, which bound a pattern's rank from below.
-use Rattle.std.specs.Prelude.{◌≡◌, ◌≢◌, ◌⊎◌, ℕ, ◌<◌, min, List, Option, Some, slice_get, slice_set}
+use Rattle.std.specs.Prelude.{◌≡◌, ◌≢◌, ◌⊎◌, ℕ, ◌<◌, min, List, length, Option, Some, slice_get, slice_set}
 use Rattle.nf_model.specs.declared.State.{State}
 use Rattle.nf_model.specs.Network.{Network}
 use Rattle.nf_model.specs.ThinFlow.{Sets}
@@ -19,6 +19,7 @@ pub record IsSpare (net : Network) (sets : Sets) (base listed : Pattern) (keeper
   pub state : State
   pub stated : HasState base spare.keeper state
   pub keeps : slice_get keepers node ≡ Some (Some spare.keeper)
+  pub within : spare.keeper < length net.links
   pub differs : spare.other ≢ spare.keeper
   pub may_keep : MayKeep net sets listed spare.other node
 
@@ -27,7 +28,7 @@ pub record CountsOther (net : Network) (sets : Sets) (base pattern listed : Patt
   pub spare : Spare
   pub is_spare : IsSpare net sets base listed keepers node spare
   pub firm : List Firm
-  pub are : AreFirmBy net sets listed (slice_set keepers node (Some spare.other)) (Some spare.keeper) firm
+  pub are : AreFirmBy net sets listed (slice_set keepers node (Some spare.other)) spare.keeper firm
   pub ways_is : ways ≡ min (firm_before (firm_choices base firm) base pattern) most
 
 -- The number is 0, or that of such a family.

@@ -161,7 +161,7 @@ fn ways_by_other(
         return Ok(0);
     };
     let changed = with_other(alloc, keepers, node, spare.other)?;
-    let firm = firm_states(alloc, net, sets, listed, &changed, Some(spare.keeper))?;
+    let firm = firm_states(alloc, net, sets, listed, &changed, spare.keeper)?;
     firm_ways_before(alloc, base, pattern, &firm)
 }
 
@@ -196,7 +196,8 @@ fn all_ways(
 {
     // Proof: the network is well formed.
     let _ = net.hops();
-    let firm = firm_states(alloc, net, sets, listed, keepers, None)?;
+    let no_link = LinkId(net.link_count());
+    let firm = firm_states(alloc, net, sets, listed, keepers, no_link)?;
     let mut ways = firm_ways_before(alloc, base, pattern, &firm)?;
     for v in 0..nodes_to_count(net.node_count(), ways, budget) {
         let node = NodeId(v);

@@ -1,5 +1,5 @@
 // Freely combinable states of links, from a listed pattern. Every choice of such states, one for each link, is a listed pattern.
-ghost use Rattle.std.specs.Prelude.{◌≡◌, ◌⊎◌, ◌<◌, ℕ, true, length, IfOk, IfSome, Option, Some, None, slice_get};
+ghost use Rattle.std.specs.Prelude.{◌≡◌, ◌⊎◌, ◌<◌, ℕ, true, length, IfOk, Option, Some, None, slice_get};
 ghost use Rattle.nf_model.specs.declared.State.TheVariants.{Tight, Full};
 ghost use Rattle.nf_model.specs.Pattern.{IsListedIn};
 ghost use Rattle.nf_thin.specs.Firming.{AreKeepers, AreFirmBy};
@@ -74,13 +74,10 @@ fn is_keeper(keepers: &[Option<LinkId>], node: NodeId, link: LinkId) -> bool
 }
 
 // Returns whether the link is the one that must be Zero.
-fn is_out(out: Option<LinkId>, link: LinkId) -> bool
-    ensures { out ≡ Some link → result ≡ true }
+fn is_out(out: LinkId, link: LinkId) -> bool
+    ensures { link ≡ out → result ≡ true }
 {
-    match out {
-        Some(zero) => zero == link,
-        None => false,
-    }
+    link == out
 }
 
 // Returns whether a link may have a state: if `may` is true, and the link need not be Zero.
@@ -92,20 +89,19 @@ fn may_have(may: bool, is_out: bool) -> bool
 }
 
 /// Returns for each link the states that it may have, such that all choices can be combined. A link may be Tight if it is Tight in the
-/// listed pattern, Full if it is bounded, and Zero if it is no node's keeper. The link `out` may only be Zero. Fails if an allocation
-/// fails.
+/// listed pattern, Full if it is bounded, and Zero if it is no node's keeper. If `out` is a link, it may only be Zero. Fails if an
+/// allocation fails.
 pub(crate) fn firm_states(
     alloc: Global,
     net: &Network,
     sets: &LinkSets,
     listed: &Pattern,
     keepers: &[Option<LinkId>],
-    out: Option<LinkId>,
+    out: LinkId,
 ) -> Result<Vec<Firm>, AllocError>
     requires sets { AreSetsOf net.now.net sets.now }
     requires listed { IsListedIn net.now.net sets.now listed.now }
     requires keepers { AreKeepers net.now.net sets.now listed.now (length net.now.net.links) keepers.now }
-    requires out { IfSome out (λ e. e < length net.now.net.links) }
     ensures { IfOk result (λ firm. AreFirmBy net.now.net sets.now listed.now keepers.now out firm.items) }
 {
     let mut firm = Vec::new(alloc);

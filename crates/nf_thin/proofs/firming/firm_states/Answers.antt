@@ -24,5 +24,5 @@ loop-e-preserved c =
 
 pub returns : goal.returns
 returns c =
-    firm_by c.args.net.now.net c.args.sets.now c.args.listed.now c.args.keepers.now c.args.out c.loop-e.firm.items c.requires.sets c.requires.listed c.requires.keepers c.requires.out
+    firm_by c.args.net.now.net c.args.sets.now c.args.listed.now c.args.keepers.now c.args.out c.loop-e.firm.items c.requires.sets c.requires.listed c.requires.keepers
     (let n = c.loop-e.invariant.count in let e = c.loop-e.auto.e-end in let t = c.loop-e-test.false in let k = c.link_count-e-end.ensures in omega arith) c.loop-e.invariant.each
