@@ -1,6 +1,6 @@
 -- Keepers of nodes, and the combinable states of links by them.
-use Rattle.std.proofs.Common.{◌≡◌, ◌≢◌, ◌⊎◌, inl, inr, ℕ, ◌+◌, ◌<◌, Bool, true, not, List, ◌++◌, length, take, drop, sym, ap, subst, ◌∙◌, arith}
-use Rattle.std.specs.Prelude.{Option, Some, None, slice_get, map, is_some, is_none}
+use Rattle.std.proofs.Common.{◌≡◌, ◌≢◌, ◌⊎◌, inl, inr, ℕ, ◌+◌, ◌<◌, Bool, true, false, not, List, ◌++◌, length, take, drop, refl, sym, ap, subst, ◌∙◌, arith}
+use Rattle.std.specs.Prelude.{Option, Some, None, slice_get, slice_set, map, is_some, is_none}
 use Rattle.std.proofs.Math.ListN.{drop_of_length-le}
 use Rattle.std.proofs.Math.Seq.{take-length}
 use Rattle.std.proofs.lemmas.Bool.{true≢false}
@@ -12,14 +12,15 @@ use Rattle.nf_model.specs.Entries.{Has}
 use Rattle.nf_model.specs.Walk.{Hop, IsHop}
 use Rattle.nf_model.specs.Network.{Link, Network, hop_of, hops}
 use Rattle.nf_model.specs.ThinFlow.{Sets}
-use Rattle.nf_model.specs.Pattern.{Pattern, HasState, IsListedIn}
+use Rattle.nf_model.specs.Pattern.{Pattern, HasState, IsPattern, IsListedIn, rank}
 use Rattle.nf_thin_laws.proofs.Ending.{from_map}
 use Rattle.nf_rational_laws.proofs.Entries.{entry, slice_get-image}
 use Rattle.nf_rational_laws.proofs.Naturals.{before_or_at}
 use Rattle.nf_thin_laws.specs.Firm.{IsKeeper}
 use Rattle.nf_pattern.proofs.Each.{EachEntry}
+use Rattle.nf_thin_guess.proofs.Changing.{still_pattern}
 use Rattle.nf_thin_narrow.specs.declared.firm.Firm.{Firm}
-use Rattle.nf_thin.specs.Firming.{HaveFirm, MayKeep, AreKeepers, IsFirmOf}
+use Rattle.nf_thin.specs.Firming.{HaveFirm, MayKeep, AreKeepers, IsFirmOf, AreFirmBy}
 use Rattle.nf_thin.specs.Searching.{AreSetsOf}
 use Rattle.nf_thin.proofs.Hops.{hops_length}
 
@@ -116,6 +117,22 @@ module _ (net : Network) (sets : Sets) (listed : Pattern) (sets_are : AreSetsOf 
     kept = kept;
   }
 
+-- The combinable states of one link, which may only be Zero if it is `out`.
+abbrev pub IsFirmBy : Network → Pattern → List (Option ℕ) → ℕ → ℕ → Firm → Type 0
+IsFirmBy net listed keepers out e f = IsFirmOf net listed keepers e f × (e ≡ out → (f.tight ≡ true → ⊥) × (f.full ≡ true → ⊥))
+
+pub firm_by : (net : Network) (sets : Sets) (listed : Pattern) (keepers : List (Option ℕ)) (out : ℕ) (firm : List Firm) → AreSetsOf net sets → IsListedIn net sets listed
+    → AreKeepers net sets listed (length net.links) keepers → length firm ≡ length net.links → EachEntry (IsFirmBy net listed keepers out) firm
+    → AreFirmBy net sets listed keepers out firm
+firm_by net sets listed keepers out firm sets_are is_listed are count each = record {
+  have = have_firm net sets listed sets_are is_listed keepers firm are count (λ k f at. (each k f at).0);
+  count = count;
+  kept = λ v e f at at_f set. let w = are.keeps v e at in (each e f at_f).0.zero w.0 w.1 (ap (slice_get keepers) w.2 ∙ at) set;
+  only = λ less.
+      let f = entry firm out (omega arith) in
+      let w = (each out f.0 f.1).1 refl in (f.0, f.1, w.0, w.1);
+}
+
 -- The combinable states of one link.
 module _ (net : Network) (listed : Pattern) (keepers : List (Option ℕ)) (e : ℕ) (link : Link) (at_link : slice_get net.links e ≡ Some link) (head : ℕ) (head_is : link.head ≡ head)
     (state : Option State) (at : slice_get listed e ≡ Some state) (tight full keeper : Bool) (is_tight : tight ≡ true → state ≡ Some Tight)
@@ -130,3 +147,22 @@ module _ (net : Network) (listed : Pattern) (keepers : List (Option ℕ)) (e : �
     zero = λ hop is_hop at_keeper off. no_keeper keeper
         (is_keeper (ap (slice_get keepers) (sym head_is ∙ ap (λ (h : Hop). h.head) (same_Some (hop_of link) hop (sym (slice_get-image hop_of net.links e link at_link) ∙ is_hop))) ∙ at_keeper)) off;
   }
+
+-- A link with a state may become Tight.
+pub still_so : (sets : Sets) (flags : List Bool) (pattern : Pattern) (e : ℕ) (old : Option State) → IsPattern sets flags pattern → slice_get pattern e ≡ Some old → is_none old ≡ false
+    → IsPattern sets flags (slice_set pattern e (Some Tight))
+still_so sets flags pattern e None is at some = absurd (true≢false some)
+still_so sets flags pattern e (Some old) is at some = still_pattern sets flags pattern is e old Tight at (λ full. absurd (let h = ap rank (ap (λ (s : State). Some s) full) in omega arith))
+
+-- A Tight or Full link into a node may keep it.
+pub may_keep_by : (net : Network) (sets : Sets) (listed : Pattern) (e node : ℕ) (link : Link) (state : Option State) → slice_get net.links e ≡ Some link → link.head ≡ node → slice_get listed e ≡ Some state
+    → (state ≡ Some Tight) ⊎ (state ≡ Some Full) → MayKeep net sets listed e node
+may_keep_by net sets listed e node link state at head at_state so = (hop_of link, slice_get-image hop_of net.links e link at, head, inr (by so))
+  where
+    by : (state ≡ Some Tight) ⊎ (state ≡ Some Full) → HasState listed e Tight ⊎ HasState listed e Full
+    by (inl t) = inl (at_state ∙ ap (λ (x : Option State). Some x) t)
+    by (inr f) = inr (at_state ∙ ap (λ (x : Option State). Some x) f)
+
+pub some_state : (o : Option State) → is_some o ≡ true → (s : State) × (o ≡ Some s)
+some_state None h = absurd (true≢false (sym h))
+some_state (Some s) h = (s, refl)

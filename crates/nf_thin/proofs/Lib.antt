@@ -12,6 +12,7 @@ pub mod Closing
 pub mod Refusing
 pub mod Narrowing
 pub mod Early
-pub mod Late
 pub mod Keepers
+pub mod Members
+pub mod Covers
 pub mod FoundBy

@@ -29,3 +29,10 @@ pub record IsFirmOf (net : Network) (listed : Pattern) (keepers : List (Option �
   pub tight : firm.tight ≡ true → HasState listed e Tight
   pub full : firm.full ≡ true → Has (unbounded net) e → ⊥
   pub zero : (hop : Hop) → IsHop (hops net) e hop → slice_get keepers hop.head ≡ Some (Some e) → firm.zero ≡ true → ⊥
+
+-- The states of all links by these keepers, freely combinable. No keeper may be Zero, and `out`, if it is a link, may only be Zero.
+pub record AreFirmBy (net : Network) (sets : Sets) (listed : Pattern) (keepers : List (Option ℕ)) (out : ℕ) (firm : List Firm) : Type 0 where
+  pub have : HaveFirm net sets listed firm
+  pub count : length firm ≡ length net.links
+  pub kept : (v e : ℕ) (f : Firm) → slice_get keepers v ≡ Some (Some e) → slice_get firm e ≡ Some f → f.zero ≡ true → ⊥
+  pub only : out < length net.links → (f : Firm) × (slice_get firm out ≡ Some f) × (f.tight ≡ true → ⊥) × (f.full ≡ true → ⊥)

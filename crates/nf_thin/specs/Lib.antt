@@ -8,3 +8,4 @@ pub mod Sifting
 pub mod Keeping
 pub mod Finding
 pub mod Firming
+pub mod Families

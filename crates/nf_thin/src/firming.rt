@@ -2,7 +2,7 @@
 ghost use Rattle.std.specs.Prelude.{◌≡◌, ◌⊎◌, ◌<◌, ℕ, true, length, IfOk, Option, Some, None, slice_get};
 ghost use Rattle.nf_model.specs.declared.State.TheVariants.{Tight, Full};
 ghost use Rattle.nf_model.specs.Pattern.{IsListedIn};
-ghost use Rattle.nf_thin.specs.Firming.{AreKeepers, HaveFirm};
+ghost use Rattle.nf_thin.specs.Firming.{AreKeepers, AreFirmBy};
 ghost use Rattle.nf_thin.specs.Searching.{AreSetsOf};
 
 use nf_graph::{LinkId, LinkSets, NodeId};
@@ -12,8 +12,8 @@ use nf_pattern::Pattern;
 use nf_thin_narrow::Firm;
 use std::alloc::{AllocError, Global};
 
-// Returns whether the state is Tight or Full, so that the link enters its head.
-fn leads(state: Option<State>) -> bool
+/// Returns whether the state is Tight or Full, so that the link enters its head.
+pub(crate) fn leads(state: Option<State>) -> bool
     ensures leads { result ≡ true → (state ≡ Some Tight) ⊎ (state ≡ Some Full) }
     ensures all { (state ≡ Some Tight) ⊎ (state ≡ Some Full) → result ≡ true }
 {
@@ -41,8 +41,8 @@ fn keep(keepers: &mut [Option<LinkId>], node: NodeId, link: LinkId, resets: bool
     }
 }
 
-// Returns for each node its keeper, a resetting, Tight or Full link into it, or `None` if there is none. Fails if an allocation fails.
-fn keepers(
+/// Returns for each node its keeper, a resetting, Tight or Full link into it, or `None` if there is none. Fails if an allocation fails.
+pub(crate) fn keepers(
     alloc: Global,
     net: &Network,
     sets: &LinkSets,
@@ -73,28 +73,46 @@ fn is_keeper(keepers: &[Option<LinkId>], node: NodeId, link: LinkId) -> bool
     }
 }
 
+// Returns whether the link is the one that must be Zero.
+fn is_out(out: LinkId, link: LinkId) -> bool
+    ensures { link ≡ out → result ≡ true }
+{
+    link == out
+}
+
+// Returns whether a link may have a state: if `may` is true, and the link need not be Zero.
+fn may_have(may: bool, is_out: bool) -> bool
+    ensures may { result ≡ true → may ≡ true }
+    ensures out { result ≡ true → is_out ≡ true → ⊥ }
+{
+    may && !is_out
+}
+
 /// Returns for each link the states that it may have, such that all choices can be combined. A link may be Tight if it is Tight in the
-/// listed pattern, Full if it is bounded, and Zero if it is no node's keeper. Fails if an allocation fails.
+/// listed pattern, Full if it is bounded, and Zero if it is no node's keeper. If `out` is a link, it may only be Zero. Fails if an
+/// allocation fails.
 pub(crate) fn firm_states(
     alloc: Global,
     net: &Network,
     sets: &LinkSets,
     listed: &Pattern,
+    keepers: &[Option<LinkId>],
+    out: LinkId,
 ) -> Result<Vec<Firm>, AllocError>
     requires sets { AreSetsOf net.now.net sets.now }
     requires listed { IsListedIn net.now.net sets.now listed.now }
-    ensures { IfOk result (λ firm. HaveFirm net.now.net sets.now listed.now firm.items) }
+    requires keepers { AreKeepers net.now.net sets.now listed.now (length net.now.net.links) keepers.now }
+    ensures { IfOk result (λ firm. AreFirmBy net.now.net sets.now listed.now keepers.now out firm.items) }
 {
-    let keepers = keepers(alloc, net, sets, listed)?;
     let mut firm = Vec::new(alloc);
     for e in 0..net.link_count() {
         let link = LinkId(e);
         let here = net.link(link);
-        firm.push(Firm {
-            tight: is_tight(listed.state(link)),
-            full: here.capacity.is_some(),
-            zero: !is_keeper(&keepers, here.head, link),
-        })?;
+        let zeroed = is_out(out, link);
+        let tight = may_have(is_tight(listed.state(link)), zeroed);
+        let full = may_have(here.capacity.is_some(), zeroed);
+        let zero = !is_keeper(keepers, here.head, link);
+        firm.push(Firm { tight, full, zero })?;
     }
     Ok(firm)
 }

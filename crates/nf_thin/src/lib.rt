@@ -2,6 +2,7 @@
 #![tactic(auto)]
 
 mod cycles;
+mod families;
 mod fault;
 mod finding;
 mod firming;

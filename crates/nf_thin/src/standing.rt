@@ -6,13 +6,13 @@ ghost use Rattle.nf_thin_narrow.specs.Asking.{StandsWithin};
 ghost use Rattle.nf_thin.specs.Keeping.{Tells};
 ghost use Rattle.nf_thin.specs.Searching.{AreSetsOf, question_of};
 
-use crate::firming::firm_states;
+use crate::families::listed_before;
 use crate::listings::{listing, unbounded_flags};
-use crate::near::near_listed;
+use crate::near::{near_listed, tight_listed};
 use nf_graph::LinkSets;
 use nf_net::Network;
 use nf_pattern::Pattern;
-use nf_thin_narrow::{firm_ways_before, goes_on_to, sole_flags, ways_before};
+use nf_thin_narrow::{goes_on_to, sole_flags, ways_before};
 use std::alloc::{AllocError, Global};
 
 /// The budget status of a listed pattern, as far as it is known: its rank is within the budget, or beyond it.
@@ -44,9 +44,9 @@ pub(crate) fn is_early(
     Ok(ways < budget)
 }
 
-/// Returns whether `firm_ways_before`, a bound from below, shows that the rank is beyond the budget. The answer false decides nothing.
-/// Fails if an allocation fails.
-pub(crate) fn is_late(
+// Returns whether `listed_before`, a bound from below, shows that the rank is beyond the budget, by a listed pattern near the base. The
+// answer false decides nothing. Fails if an allocation fails.
+fn is_late_near(
     alloc: Global,
     net: &Network,
     sets: &LinkSets,
@@ -62,9 +62,50 @@ pub(crate) fn is_late(
     let Some(near) = near_listed(alloc, net, sets, base)? else {
         return Ok(false);
     };
-    let firm = firm_states(alloc, net, sets, &near)?;
-    let ways = firm_ways_before(alloc, base, pattern, &firm)?;
+    let ways = listed_before(alloc, net, sets, base, pattern, &near, budget)?;
     Ok(ways >= budget)
+}
+
+// Returns whether the same bound shows it by a listed pattern with many Tight links.
+fn is_late_tight(
+    alloc: Global,
+    net: &Network,
+    sets: &LinkSets,
+    base: &Pattern,
+    pattern: &Pattern,
+    budget: u64,
+) -> Result<bool, AllocError>
+    requires sets { AreSetsOf net.now.net sets.now }
+    requires base { IsPattern sets.now (unbounded_of net.now.net) base.now }
+    requires pattern { length pattern.now ≡ length net.now.net.links }
+    ensures { IfOk result (λ late. late ≡ true → StandsWithin (question_of net.now.net sets.now base.now) pattern.now budget false) }
+{
+    let Some(tight) = tight_listed(alloc, net, sets, base)? else {
+        return Ok(false);
+    };
+    let ways = listed_before(alloc, net, sets, base, pattern, &tight, budget)?;
+    Ok(ways >= budget)
+}
+
+/// Returns whether a bound from below shows that the rank is beyond the budget. The answer false decides nothing. Fails if an allocation
+/// fails.
+pub(crate) fn is_late(
+    alloc: Global,
+    net: &Network,
+    sets: &LinkSets,
+    base: &Pattern,
+    pattern: &Pattern,
+    budget: u64,
+) -> Result<bool, AllocError>
+    requires sets { AreSetsOf net.now.net sets.now }
+    requires base { IsPattern sets.now (unbounded_of net.now.net) base.now }
+    requires pattern { length pattern.now ≡ length net.now.net.links }
+    ensures { IfOk result (λ late. late ≡ true → StandsWithin (question_of net.now.net sets.now base.now) pattern.now budget false) }
+{
+    if is_late_near(alloc, net, sets, base, pattern, budget)? {
+        return Ok(true);
+    }
+    is_late_tight(alloc, net, sets, base, pattern, budget)
 }
 
 /// Returns whether a listed pattern is one of the first `budget` patterns. Bounds on its rank decide. If they do not, the listing is

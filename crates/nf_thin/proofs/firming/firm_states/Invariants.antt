@@ -1,7 +1,7 @@
 use Rattle.std.proofs.Common.{◌≡◌, length}
 use Rattle.nf_pattern.proofs.Each.{EachEntry}
-use Rattle.nf_thin.specs.Firming.{IsFirmOf}
+use Rattle.nf_thin.proofs.Keepers.{IsFirmBy}
 use Rattle.nf_thin.proofs.firming.firm_states.Given as goal
 
 abbrev pub invariant-loop-e : goal.invariant-loop-e
-invariant-loop-e l = record { count : length l.firm.items ≡ l.e; each : EachEntry (IsFirmOf l.net.net l.listed l.keepers.items) l.firm.items }
+invariant-loop-e l = record { count : length l.firm.items ≡ l.e; each : EachEntry (IsFirmBy l.net.net l.listed l.keepers l.out) l.firm.items }

@@ -1,0 +1,230 @@
+// A bound from below on the rank of a listed pattern, by families of freely combinable states. No pattern is in two families.
+ghost use Rattle.std.specs.Prelude.{◌≡◌, ◌≢◌, ◌<◌, ◌≤◌, true, length, IfOk, IfSome, Some, slice_get, slice_set};
+ghost use Rattle.nf_model.specs.declared.State.{State};
+ghost use Rattle.nf_model.specs.Network.{unbounded as unbounded_of};
+ghost use Rattle.nf_model.specs.Pattern.{IsPattern, IsListedIn, HasState};
+ghost use Rattle.nf_thin.specs.Firming.{AreKeepers, MayKeep};
+ghost use Rattle.nf_thin.specs.Families.{IsSpare, IsByOther, CountsBefore};
+ghost use Rattle.nf_thin.specs.Searching.{AreSetsOf, question_of};
+
+use crate::firming::{firm_states, keepers, leads};
+use nf_graph::{LinkId, LinkSets, NodeId};
+use nf_net::Network;
+use nf_pattern::Pattern;
+use nf_thin_narrow::firm_ways_before;
+use std::alloc::{AllocError, Global};
+
+// A keeper that may be Zero if another link keeps its head.
+#[derive(Clone, Copy)]
+struct Spare {
+    keeper: LinkId,
+    other: LinkId,
+}
+
+// Returns whether two nodes are the same.
+fn is_one_node(one: NodeId, other: NodeId) -> bool
+    ensures { result ≡ true → one ≡ other }
+{
+    one == other
+}
+
+// Returns whether two links differ.
+fn is_other(one: LinkId, other: LinkId) -> bool
+    ensures { result ≡ true → one ≢ other }
+{
+    one != other
+}
+
+// Returns whether the link is Tight or Full, enters the node, and is not its keeper.
+fn may_replace(
+    net: &Network,
+    sets: &LinkSets,
+    listed: &Pattern,
+    node: NodeId,
+    keeper: LinkId,
+    link: LinkId,
+) -> bool
+    requires link { link < length net.now.net.links }
+    requires listed { length listed.now ≡ length net.now.net.links }
+    ensures differs { result ≡ true → link ≢ keeper }
+    ensures keeps { result ≡ true → MayKeep net.now.net sets.now listed.now link node }
+{
+    // Proof: the contract reads `sets`.
+    let _ = sets;
+    if !is_other(link, keeper) {
+        return false;
+    }
+    let here = net.link(link);
+    if !is_one_node(here.head, node) {
+        return false;
+    }
+    leads(listed.state(link))
+}
+
+// Returns a Tight or Full link into the node other than its keeper, or `None` if there is none.
+fn other_keeper(
+    net: &Network,
+    sets: &LinkSets,
+    listed: &Pattern,
+    node: NodeId,
+    keeper: LinkId,
+) -> Option<LinkId>
+    requires listed { length listed.now ≡ length net.now.net.links }
+    ensures { IfSome result (λ other. (other ≢ keeper) × MayKeep net.now.net sets.now listed.now other node) }
+{
+    for e in 0..net.link_count() {
+        if may_replace(net, sets, listed, node, keeper, LinkId(e)) {
+            return Some(LinkId(e));
+        }
+    }
+    None
+}
+
+// Returns the node's keeper, or `None` if it has none.
+fn keeper_of(keepers: &[Option<LinkId>], node: NodeId) -> Option<LinkId>
+    requires { node < length keepers.now }
+    ensures { slice_get keepers.now node ≡ Some result }
+{
+    keepers[node.index()]
+}
+
+// Returns whether the link has a state.
+fn has_state(base: &Pattern, link: LinkId) -> bool
+    requires { link < length base.now }
+    ensures { result ≡ true → (state : State) × HasState base.now link state }
+{
+    base.state(link).is_some()
+}
+
+// Returns the node's keeper with another link that may keep the node, if the keeper has a state.
+fn spare_keeper(
+    net: &Network,
+    sets: &LinkSets,
+    base: &Pattern,
+    listed: &Pattern,
+    keepers: &[Option<LinkId>],
+    node: NodeId,
+) -> Option<Spare>
+    requires sets { AreSetsOf net.now.net sets.now }
+    requires base { IsPattern sets.now (unbounded_of net.now.net) base.now }
+    requires listed { IsListedIn net.now.net sets.now listed.now }
+    requires keepers { AreKeepers net.now.net sets.now listed.now (length net.now.net.links) keepers.now }
+    requires node { node < net.now.net.nodes }
+    ensures { IfSome result (IsSpare net.now.net sets.now base.now listed.now keepers.now node) }
+{
+    let keeper = keeper_of(keepers, node)?;
+    if !has_state(base, keeper) {
+        return None;
+    }
+    let other = other_keeper(net, sets, listed, node, keeper)?;
+    Some(Spare { keeper, other })
+}
+
+// Returns the keepers with another one for a node. Fails if an allocation fails.
+fn with_other(
+    alloc: Global,
+    keepers: &[Option<LinkId>],
+    node: NodeId,
+    other: LinkId,
+) -> Result<Vec<Option<LinkId>>, AllocError>
+    requires { node < length keepers.now }
+    ensures { IfOk result (λ changed. changed.items ≡ slice_set keepers.now node (Some other)) }
+{
+    let mut changed = keepers.to_vec(alloc)?;
+    changed[node.index()] = Some(other);
+    Ok(changed)
+}
+
+// Returns how many assignments come before the pattern in the family in which the node's keeper is Zero, and another link keeps the node.
+// Returns 0 if there is no such family. Fails if an allocation fails.
+fn ways_by_other(
+    alloc: Global,
+    net: &Network,
+    sets: &LinkSets,
+    base: &Pattern,
+    pattern: &Pattern,
+    listed: &Pattern,
+    keepers: &[Option<LinkId>],
+    node: NodeId,
+) -> Result<u64, AllocError>
+    requires sets { AreSetsOf net.now.net sets.now }
+    requires base { IsPattern sets.now (unbounded_of net.now.net) base.now }
+    requires pattern { length pattern.now ≡ length net.now.net.links }
+    requires listed { IsListedIn net.now.net sets.now listed.now }
+    requires keepers { AreKeepers net.now.net sets.now listed.now (length net.now.net.links) keepers.now }
+    requires node { node < net.now.net.nodes }
+    ensures { IfOk result (λ ways. IsByOther net.now.net sets.now base.now pattern.now listed.now keepers.now node ways) }
+{
+    // Proof: the network is well formed.
+    let _ = net.hops();
+    let Some(spare) = spare_keeper(net, sets, base, listed, keepers, node) else {
+        return Ok(0);
+    };
+    let changed = with_other(alloc, keepers, node, spare.other)?;
+    let firm = firm_states(alloc, net, sets, listed, &changed, spare.keeper)?;
+    firm_ways_before(alloc, base, pattern, &firm)
+}
+
+// Returns how many nodes may have a further family: none if the number of the first family decides, or is less than half the budget.
+fn nodes_to_count(nodes: u32, ways: u64, budget: u64) -> u32
+    ensures { result ≤ nodes }
+{
+    if ways >= budget || ways.saturating_mul(2) < budget {
+        0
+    } else {
+        nodes
+    }
+}
+
+// Returns the number of assignments before the pattern in all families with these keepers. Fails if an allocation fails.
+fn all_ways(
+    alloc: Global,
+    net: &Network,
+    sets: &LinkSets,
+    base: &Pattern,
+    pattern: &Pattern,
+    listed: &Pattern,
+    keepers: &[Option<LinkId>],
+    budget: u64,
+) -> Result<u64, AllocError>
+    requires sets { AreSetsOf net.now.net sets.now }
+    requires base { IsPattern sets.now (unbounded_of net.now.net) base.now }
+    requires pattern { length pattern.now ≡ length net.now.net.links }
+    requires listed { IsListedIn net.now.net sets.now listed.now }
+    requires keepers { AreKeepers net.now.net sets.now listed.now (length net.now.net.links) keepers.now }
+    ensures { IfOk result (λ ways. CountsBefore (question_of net.now.net sets.now base.now) pattern.now ways) }
+{
+    // Proof: the network is well formed.
+    let _ = net.hops();
+    let no_link = LinkId(net.link_count());
+    let firm = firm_states(alloc, net, sets, listed, keepers, no_link)?;
+    let mut ways = firm_ways_before(alloc, base, pattern, &firm)?;
+    for v in 0..nodes_to_count(net.node_count(), ways, budget) {
+        let node = NodeId(v);
+        let more = ways_by_other(alloc, net, sets, base, pattern, listed, keepers, node)?;
+        ways = ways.saturating_add(more);
+    }
+    Ok(ways)
+}
+
+/// Returns a number of listed patterns that come before a listed pattern. The first family has a keeper for each node, which is not Zero.
+/// For each node with a further link that may keep it, another family has the keeper Zero. These are counted only if the first family has
+/// at least half as many as the budget. Fails if an allocation fails.
+pub(crate) fn listed_before(
+    alloc: Global,
+    net: &Network,
+    sets: &LinkSets,
+    base: &Pattern,
+    pattern: &Pattern,
+    listed: &Pattern,
+    budget: u64,
+) -> Result<u64, AllocError>
+    requires sets { AreSetsOf net.now.net sets.now }
+    requires base { IsPattern sets.now (unbounded_of net.now.net) base.now }
+    requires pattern { length pattern.now ≡ length net.now.net.links }
+    requires listed { IsListedIn net.now.net sets.now listed.now }
+    ensures { IfOk result (λ ways. CountsBefore (question_of net.now.net sets.now base.now) pattern.now ways) }
+{
+    let keepers = keepers(alloc, net, sets, listed)?;
+    all_ways(alloc, net, sets, base, pattern, listed, &keepers, budget)
+}
