@@ -196,7 +196,8 @@ fn all_ways(
 {
     // Proof: the network is well formed.
     let _ = net.hops();
-    let no_link = LinkId(net.link_count());
+    let count = net.link_count();
+    let no_link = LinkId(count);
     let firm = firm_states(alloc, net, sets, listed, keepers, no_link)?;
     let mut ways = firm_ways_before(alloc, base, pattern, &firm)?;
     for v in 0..nodes_to_count(net.node_count(), ways, budget) {

@@ -17,8 +17,8 @@ firm_ways_before-requires-clause-fewer c =
 
 pub loop-v-init : goal.loop-v-init
 loop-v-init c =
-    first_covers c.args.net.now.net c.args.sets.now c.args.base.now c.args.pattern.now c.args.listed.now c.requires.base c.requires.listed c.args.keepers.now _ c.deref.result.now
-    (subst (λ (f : List Firm). AreFirmBy c.args.net.now.net c.args.sets.now c.args.listed.now c.args.keepers.now _ f) (sym c.deref.ensures.value) c.in_ok-firm.ensures)
+    first_covers c.args.net.now.net c.args.sets.now c.args.base.now c.args.pattern.now c.args.listed.now c.requires.base c.requires.listed c.args.keepers.now c.link_count-count.result c.deref.result.now
+    (subst (λ (f : List Firm). AreFirmBy c.args.net.now.net c.args.sets.now c.args.listed.now c.args.keepers.now c.link_count-count.result f) (sym c.deref.ensures.value) c.in_ok-firm.ensures)
     c.in_ok-ways.ways c.in_ok-ways.ensures
 
 pub loop-v-preserved : goal.loop-v-preserved

@@ -1,5 +1,5 @@
 use Rattle.std.proofs.Common.{inr, ℕ, List, length, sym, ap, subst, ◌∙◌, arith}
-use Rattle.std.specs.Prelude.{Option, IfSome}
+use Rattle.std.specs.Prelude.{Option, Some, IfSome, slice_set}
 use Rattle.std.proofs.lemmas.Result.{IfOk-weaker}
 use Rattle.nf_thin_narrow.specs.declared.firm.Firm.{Firm}
 use Rattle.nf_thin.specs.declared.families.Spare.{Spare}
@@ -33,7 +33,7 @@ returns c =
       spare = c.in-Some.spare;
       is_spare = is_spare;
       firm = c.deref-2.result.now;
-      are = subst (λ (f : List Firm). AreFirmBy c.args.net.now.net c.args.sets.now c.args.listed.now _ c.in-Some.spare.keeper f) (sym c.deref-2.ensures.value)
+      are = subst (λ (f : List Firm). AreFirmBy c.args.net.now.net c.args.sets.now c.args.listed.now (slice_set c.args.keepers.now c.args.node (Some c.in-Some.spare.other)) c.in-Some.spare.keeper f) (sym c.deref-2.ensures.value)
           (subst (λ (l : List (Option ℕ)). AreFirmBy c.args.net.now.net c.args.sets.now c.args.listed.now l c.in-Some.spare.keeper c.in_ok-firm.firm.items)
           (c.deref.ensures.value ∙ c.in_ok-changed.ensures) c.in_ok-firm.ensures);
       ways_is = is;
