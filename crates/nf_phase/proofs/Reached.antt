@@ -58,7 +58,7 @@ Stands-restored passes net good s r = record {
 pub active_count : (net : Network) (labels : List ℚ) → length (sets_at net labels).active ≡ length net.links
 active_count net labels = (AreSets-sets_at net labels).count
 
-slacks_count : (net : Network) (labels : List ℚ) → length (slacks_of (hops net) labels) ≡ length net.links
+pub slacks_count : (net : Network) (labels : List ℚ) → length (slacks_of (hops net) labels) ≡ length net.links
 slacks_count net labels = length-map (hops net) (slack labels) ∙ length-map net.links hop_of
 
 module _ (passes : Passing) (net : Network) (good : IsNetwork net) where
