@@ -61,9 +61,6 @@ active_count net labels = (AreSets-sets_at net labels).count
 pub slacks_count : (net : Network) (labels : List ℚ) → length (slacks_of (hops net) labels) ≡ length net.links
 slacks_count net labels = length-map (hops net) (slack labels) ∙ length-map net.links hop_of
 
-pub resetting_count : (net : Network) (labels : List ℚ) → length (sets_at net labels).resetting ≡ length net.links
-resetting_count net labels = length-map (slacks_of (hops net) labels) (lt_ℚ 0ℚ) ∙ slacks_count net labels
-
 module _ (passes : Passing) (net : Network) (good : IsNetwork net) where
   Stands-goes : (horizon : ℚ) (patterns : ℕ) (s t : Standing) → Goes passes net horizon patterns s t → Stands net s → Stands net t
   Stands-goes horizon patterns s t g stands =
@@ -101,7 +98,7 @@ module _ (net : Network) (good : IsNetwork net) (s : Standing) (stands : Stands 
   pub sets_fit : AreSetsOf net (sets_at net s.labels)
   sets_fit = record {
     sets_are = AreSets-sets_at net s.labels;
-    count = length-map (slacks_of (hops net) s.labels) (lt_ℚ 0ℚ) ∙ length-map (hops net) (slack s.labels) ∙ length-map net.links hop_of;
+    count = length-map (slacks_of (hops net) s.labels) (lt_ℚ 0ℚ) ∙ slacks_count net s.labels;
     bounded = none_resets;
   }
 

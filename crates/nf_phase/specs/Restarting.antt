@@ -32,7 +32,8 @@ pub record EndsAtItsLabels (net : Network) (flow : Flow) : Type 0 where
 abbrev pub NoneFull : Network → Pattern → Type 0
 NoneFull net last = (e : ℕ) (link : Link) → IsLink net e link → link.capacity ≡ None → HasState last e Full → ⊥
 
--- The run state is restored from an equilibrium that is in short form and ends at its labels, and from a pattern of the network's links.
+-- The run state is restored from an equilibrium and a pattern of the network's links. The equilibrium is in short form and ends at its
+-- labels.
 pub record IsRestored (passes : Passing) (net : Network) (s : Standing) : Type 0 where
   pub flow : Flow
   pub last : Pattern

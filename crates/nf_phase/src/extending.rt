@@ -1,5 +1,6 @@
 // The extension of a run by a phase.
-ghost use Rattle.std.specs.Prelude.{◌≡◌, ◌<◌, ◌^◌, ◌-◌, length, OnOk, OnErr};
+ghost use Rattle.std.specs.Prelude.{◌≡◌, ℕ, ◌<◌, ◌^◌, ◌-◌, length, OnOk, OnErr};
+ghost use Rattle.nf_rational.specs.Rational.{ℚ};
 ghost use Rattle.nf_frac_def.specs.Passing.{passes_Q};
 ghost use Rattle.nf_model.specs.Entries.{number_at};
 ghost use Rattle.nf_net_def.specs.WellNamed.{IsNamed};
@@ -7,7 +8,7 @@ ghost use Rattle.nf_phase.specs.Stepping.{Reaches};
 ghost use Rattle.nf_phase.specs.Finding.{LeadsOn, after_phase};
 ghost use Rattle.nf_phase.specs.Restarting.{after_rest};
 
-use crate::phase::Phase;
+use crate::phase::{NextPhase, Phase};
 use crate::run::Run;
 use nf_frac::Q;
 use nf_net::Network;
@@ -24,17 +25,11 @@ fn departure_in(net: &Network, labels: &[Q]) -> Q
 
 impl Run {
     // Extends the run by a phase. Refuses only if memory can't be allocated; the run is then unchanged.
-    pub(crate) fn extend_by(
-        &mut self,
-        net: &Network,
-        horizon: Q,
-        patterns: u64,
-        phase: Phase,
-    ) -> Result<(), AllocError>
+    pub(crate) fn extend_by(&mut self, net: &Network, phase: Phase) -> Result<(), AllocError>
         requires reaches { Reaches passes_Q net.now.net self.old }
         requires named { IsNamed net.now }
         requires more { self.old.made < 2 ^ 64 - 1 }
-        requires leads { LeadsOn passes_Q net.now.net horizon patterns self.old phase }
+        requires leads { (horizon : ℚ) × (patterns : ℕ) × LeadsOn passes_Q net.now.net horizon patterns self.old phase }
         ensures made { OnOk result (self.new ≡ after_phase net.now.net self.old phase) }
         ensures kept { OnErr result (self.new ≡ self.old) }
     {
@@ -55,29 +50,27 @@ impl Run {
         Ok(())
     }
 
-    // Extends the run by a phase. If the phase is the remainder of an interrupted one, the last pattern stays. Refuses only if memory can't
-    // be allocated; the run is then unchanged.
+    // Extends the run by the next phase. The last pattern stays if the phase is the remainder of an interrupted one. Refuses only if
+    // memory can't be allocated; the run is then unchanged.
     pub(crate) fn extend_by_next(
         &mut self,
         alloc: Global,
         net: &Network,
-        horizon: Q,
-        patterns: u64,
-        rests: bool,
-        phase: Phase,
+        next: NextPhase,
     ) -> Result<(), AllocError>
         requires reaches { Reaches passes_Q net.now.net self.old }
         requires named { IsNamed net.now }
         requires more { self.old.made < 2 ^ 64 - 1 }
-        requires leads { LeadsOn passes_Q net.now.net horizon patterns self.old phase }
-        ensures made { OnOk result (self.new ≡ after_rest rests net.now.net self.old phase) }
+        requires leads { (horizon : ℚ) × (patterns : ℕ) × LeadsOn passes_Q net.now.net horizon patterns self.old next.phase }
+        ensures made { OnOk result (self.new ≡ after_rest next.rests net.now.net self.old next.phase) }
         ensures kept { OnErr result (self.new ≡ self.old) }
     {
+        let NextPhase { rests, phase } = next;
         if !rests {
-            return self.extend_by(net, horizon, patterns, phase);
+            return self.extend_by(net, phase);
         }
         let last = self.last.copy(alloc)?;
-        self.extend_by(net, horizon, patterns, phase)?;
+        self.extend_by(net, phase)?;
         self.last = last;
         Ok(())
     }

@@ -1,5 +1,5 @@
 // A phase before the run is extended by it: its length, and the changes of labels and links.
-ghost use Rattle.std.specs.Prelude.{◌≡◌, suc, Ok, IfOk, IfErr, MatchBool};
+ghost use Rattle.std.specs.Prelude.{◌≡◌, ℕ, suc, Ok, IfOk, IfErr, MatchBool};
 ghost use Rattle.nf_rational.specs.Order.{◌<ℚ◌};
 ghost use Rattle.nf_frac_def.specs.Passing.{passes_Q};
 ghost use Rattle.nf_model.specs.Network.{hops as hops_of};
@@ -17,13 +17,12 @@ use crate::run::Run;
 use nf_frac::Q;
 use nf_net::Network;
 use nf_pattern::Pattern;
-use nf_phase_curves::{LinkStep, amounts, link_steps};
+use nf_phase_curves::{LinkStep, PhaseView, amounts};
 use nf_phase_length::{Advanced, advance, extension};
 use nf_thin::ThinFlow;
 use std::alloc::Global;
 
-// A phase: its length, the labels at its end, the slopes of the labels, the step of each link, and the pattern by which the thin flow was
-// found.
+// A phase: its length, the labels at its end, and the step of each link. `slopes` and `pattern` are those of its thin flow.
 #[derive(Drop)]
 pub(crate) struct Phase {
     pub(crate) length: Q,
@@ -48,12 +47,11 @@ impl Run {
         alloc: Global,
         net: &Network,
         horizon: Q,
-        patterns: u64,
         found: &PhaseStart,
     ) -> Result<(Advanced, Vec<LinkStep>), StepFault>
         requires reaches { Reaches passes_Q net.now.net self.now }
         requires named { IsNamed net.now }
-        requires found { IsFound passes_Q net.now.net patterns self.now found.now }
+        requires found { (patterns : ℕ) × IsFound passes_Q net.now.net patterns self.now found.now }
         ensures lists { IfOk result (λ parts. phase_lists passes_Q net.now.net horizon self.now found.now.thin.pattern
             found.now.thin.flows.items found.now.thin.slopes.items
             ≡ Ok (record { length = parts.0.length; labels = parts.0.labels; links = parts.1.items })) }
@@ -74,17 +72,16 @@ impl Run {
             slopes,
         )?;
         let amounts = amounts(alloc, &self.link_curves)?;
-        let steps = link_steps(
-            alloc,
+        let phase = PhaseView {
             net,
-            &found.sets,
-            &found.thin.pattern,
-            end.length,
-            &found.thin.flows,
+            sets: &found.sets,
+            pattern: &found.thin.pattern,
+            flows: &found.thin.flows,
             slopes,
-            &end.labels,
-            &amounts,
-        )?;
+            length: end.length,
+            labels: &end.labels,
+        };
+        let steps = phase.link_steps(alloc, &amounts)?;
         Ok((end, steps))
     }
 
@@ -94,20 +91,20 @@ impl Run {
         alloc: Global,
         net: &Network,
         horizon: Q,
-        patterns: u64,
         found: PhaseStart,
     ) -> Result<Phase, StepFault>
         requires reaches { Reaches passes_Q net.now.net self.now }
         requires named { IsNamed net.now }
         requires below { self.now.time <ℚ horizon }
-        requires found { IsFound passes_Q net.now.net patterns self.now found }
-        ensures leads { IfOk result (LeadsOn passes_Q net.now.net horizon patterns self.now) }
+        requires found { (patterns : ℕ) × IsFound passes_Q net.now.net patterns self.now found }
+        ensures leads { (patterns : ℕ) → IsFound passes_Q net.now.net patterns self.now found
+            → IfOk result (LeadsOn passes_Q net.now.net horizon patterns self.now) }
         ensures slopes { IfOk result (λ phase. phase.slopes.items ≡ found.thin.slopes.items) }
         ensures cause { IfErr result
             (StandsFor (ListsPass passes_Q net.now.net horizon self.now found.thin.pattern found.thin.flows.items found.thin.slopes.items)
             (suc self.now.made)) }
     {
-        let (end, steps) = self.lists(alloc, net, horizon, patterns, &found)?;
+        let (end, steps) = self.lists(alloc, net, horizon, &found)?;
         let PhaseStart {
             slacks: _,
             sets: _,
@@ -145,7 +142,7 @@ impl Run {
     {
         let found = self.find(alloc, net, patterns)?;
         let rests = self.continues(net, &found.slacks);
-        let phase = self.phase_by(alloc, net, horizon, patterns, found)?;
+        let phase = self.phase_by(alloc, net, horizon, found)?;
         Ok(NextPhase { rests, phase })
     }
 }

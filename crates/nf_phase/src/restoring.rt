@@ -26,7 +26,7 @@ fn end_values(alloc: Global, curves: &[Curve]) -> Result<Vec<Q>, AllocError>
 {
     let mut values = Vec::new(alloc);
     for curve in curves {
-        let (_, value) = curve.point(curve.len() - 1);
+        let (_, value) = curve.last();
         values.push(value)?;
     }
     Ok(values)

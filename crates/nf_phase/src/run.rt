@@ -13,14 +13,11 @@ ghost use Rattle.nf_phase.specs.Stepping.{Reaches, IsCause, IsCauseOn, LeadsOnly
 
 use crate::fault::StepFault;
 use crate::finding::PhaseStart;
-use crate::phase::NextPhase;
 use nf_curve::Flow;
 use nf_frac::Q;
 use nf_net::{Network, start_labels};
 use nf_pattern::Pattern;
-use nf_phase_curves::{
-    GrowingCurve, LinkCurves, copy_labels, copy_links, first_labels, first_links,
-};
+use nf_phase_curves::{GrowingCurve, LinkCurves, copy_flow, first_labels, first_links};
 use nf_phase_length::end_of;
 use nf_thin::ThinFlow;
 use std::alloc::{AllocError, Global};
@@ -110,8 +107,7 @@ impl Run {
         ensures cause { IfErr result (IsCause passes_Q net.now.net horizon patterns self.old) }
     {
         let next = self.phase(alloc, net, horizon, patterns)?;
-        let NextPhase { rests, phase } = next;
-        self.extend_by_next(alloc, net, horizon, patterns, rests, phase)?;
+        self.extend_by_next(alloc, net, next)?;
         Ok(())
     }
 
@@ -148,8 +144,8 @@ impl Run {
             } = found;
             return Ok(Some(thin));
         };
-        let phase = self.phase_by(alloc, net, end, patterns, found)?;
-        self.extend_by(net, end, patterns, phase)?;
+        let phase = self.phase_by(alloc, net, end, found)?;
+        self.extend_by(net, phase)?;
         Ok(None)
     }
 
@@ -187,8 +183,6 @@ impl Run {
     pub fn flow(&self, alloc: Global) -> Result<Flow, AllocError>
         ensures { IfOk result (λ flow. flow_in flow ≡ flow_of self.now) }
     {
-        let labels = copy_labels(alloc, &self.label_curves)?;
-        let links = copy_links(alloc, &self.link_curves)?;
-        Ok(links.flow(self.reached, labels))
+        copy_flow(alloc, self.reached, &self.label_curves, &self.link_curves)
     }
 }

@@ -16,7 +16,7 @@ use crate::stops::ended_by;
 use nf_curve::Stop;
 use nf_frac::Q;
 use nf_net::Network;
-use nf_phase_curves::{finish_labels, finish_links};
+use nf_phase_curves::finish_flow;
 use std::alloc::{AllocError, Global};
 
 impl Run {
@@ -78,10 +78,9 @@ impl Run {
             made,
             last,
         } = self;
-        let labels = finish_labels(alloc, label_curves)?;
-        let links = finish_links(alloc, link_curves)?;
+        let flow = finish_flow(alloc, reached, label_curves, link_curves)?;
         Ok(Solution {
-            flow: links.flow(reached, labels),
+            flow,
             phases: made,
             last,
             stopped,

@@ -1,7 +1,8 @@
 -- An extension of a growing curve by a point.
-use Rattle.std.proofs.Common.{◌≡◌, ℕ, zero, suc, ◌+◌, List, [], ◌∷◌, ◌++◌, length, Bool, true, false, refl, sym, ap, subst, ◌∙◌, inl, inr, arith}
+use Rattle.std.proofs.Common.{◌≡◌, ℕ, zero, suc, ◌+◌, ◌-◌, List, [], ◌∷◌, ◌++◌, length, Bool, true, false, refl, sym, ap, subst, ◌∙◌, inl, inr, arith}
 use Rattle.std.specs.Prelude.{◌⊎◌, Option, Some, None, slice_get}
 use Rattle.std.specs.List.{last_or}
+use Rattle.std.proofs.lemmas.Option.{slice_get_within}
 use Rattle.std.specs.Option.{option_map_or, option_to_list}
 use Rattle.nf_rational.specs.Rational.{ℚ}
 use Rattle.nf_rational.specs.Operations.{0ℚ}
@@ -30,8 +31,10 @@ end-append points p = ap (λ (o : Option Point). option_map_or (λ q. q.0) o 0�
 pub value-append : (points : List Point) (p : Point) → p.1 ≡ end_value (points ++ p ∷ [])
 value-append points p = sym (ap (λ (o : Option Point). option_map_or (λ q. q.1) o 0ℚ) (last-append None points p))
 
-pub value_at_last : (points : List Point) (k : ℕ) (p : Point) → slice_get points k ≡ Some p → length points ≡ k + 1 → p.1 ≡ end_value points
-value_at_last points k p h e = sym (ap (λ (o : Option Point). option_map_or (λ q. q.1) o 0ℚ) (last_at None points k p h e))
+pub value_at_last : (points : List Point) (p : Point) → slice_get points (length points - 1) ≡ Some p → p.1 ≡ end_value points
+value_at_last points p h =
+    let some = slice_get_within points (length points - 1) p h in
+    sym (ap (λ (o : Option Point). option_map_or (λ q. q.1) o 0ℚ) (last_at None points (length points - 1) p h (omega arith)))
   where
     last_at : (o : Option Point) (points : List Point) (k : ℕ) (p : Point) → slice_get points k ≡ Some p → length points ≡ k + 1 → last_or o points ≡ Some p
     last_at o [] k p h e = absurd (omega arith)

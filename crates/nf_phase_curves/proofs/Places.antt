@@ -1,14 +1,11 @@
 -- Curves that are changed index by index.
 use Rattle.std.proofs.Common.{◌≡◌, ◌≢◌, ℕ, zero, suc, ◌+◌, ◌<◌, ◌≤◌, List, [], ◌∷◌, ◌++◌, length, set, refl, sym, ap, subst, ◌∙◌, inl, inr, arith}
-use Rattle.std.specs.Prelude.{◌⊎◌, Some, map, slice_get, Result, Ok, Err}
+use Rattle.std.specs.Prelude.{◌⊎◌, Some, slice_get, Result, Ok, Err}
 use Rattle.std.specs.Result.{IsErr, OnOk, OnErr}
 use Rattle.std.specs.Option.{option_map}
 use Rattle.std.proofs.lemmas.Option.{same_Some, slice_get-map, slice_get_within}
 use Rattle.std.proofs.lemmas.List.{length-map}
 use Rattle.std.proofs.lemmas.Result.{IfOk-from_err}
-use Rattle.nf_model.specs.Curve.{Point}
-use Rattle.nf_model.specs.Equilibrium.{Trace}
-use Rattle.nf_thin_def.specs.ReportCurves.{LinkCurves}
 use Rattle.nf_phase_curves.specs.Growing.{Roomy, HasRoom, AllHaveRoom, all_grown}
 use Rattle.nf_rational_laws.proofs.Naturals.{before_or_at}
 
@@ -108,12 +105,6 @@ module _ {A : Type 0} where
     where
       inside : (k : ℕ) (r : Roomy A) → slice_get now k ≡ Some r → k < i
       inside k r at = let b = slice_get_within now k r at in omega arith
-
--- ---- the curves of links, list by list
-pub record AreLists (entering leaving : List Trace) (waiting : List (List Point)) (links : List LinkCurves) : Type 0 where
-  pub inflows : entering ≡ map (λ c. c.inflow) links
-  pub outflows : leaving ≡ map (λ c. c.outflow) links
-  pub queues : waiting ≡ map (λ c. c.queue.points) links
 
 -- A failed call returns nothing, and facts that always hold also hold then.
 pub nothing_given : {T E : Type 0} (r : Result T E) (P : Type 0) → IsErr r → OnOk r P

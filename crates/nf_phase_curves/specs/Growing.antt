@@ -9,7 +9,6 @@ use Rattle.nf_rational.specs.Order.{◌<ℚ◌}
 use Rattle.nf_model.specs.Curve.{Point}
 use Rattle.nf_model.specs.Equilibrium.{Trace}
 use Rattle.nf_model.specs.Codes.{coded_points}
-use Rattle.nf_thin_def.specs.CurveList.{QueueStep}
 use Rattle.nf_thin_def.specs.ReportCurves.{GrowingCurve, LinkCurves}
 use Rattle.nf_thin_def.specs.Ends.{end_of}
 use Rattle.nf_curve.specs.Points.{last_time}
@@ -62,10 +61,6 @@ AreBefore rates (Some rate) = Unit {0}
 abbrev pub rates_by : Bool → List ℚ → Option ℚ → List ℚ
 rates_by true rates last = rates
 rates_by false rates last = rates ++ option_to_list last
-
--- The queue step with this size and slope.
-abbrev pub step_of : Option (ℚ × ℚ) → Option QueueStep
-step_of step = option_map (λ s. record { size = s.0; slope = s.1 }) step
 
 -- The curves end before `time`.
 abbrev pub AllEndBefore : ℚ → List GrowingCurve → Type 0

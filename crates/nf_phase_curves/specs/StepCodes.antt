@@ -1,4 +1,4 @@
--- Injective codes of a link's data in a phase and of the results of the curve list, on which the models of the code types depend.
+-- Injective codes of a link's data in a phase and of the results of the curve list. The models of the code types depend on them.
 use Rattle.std.specs.Prelude.{Bool, Option, refl}
 use Rattle.std.specs.Coded.{Coded, code_by, coded×, coded_bool, coded_option}
 use Rattle.nf_rational.specs.Rational.{ℚ, coded_ℚ}

@@ -6,12 +6,14 @@ ghost use Rattle.nf_frac_def.specs.Passing.{passes_Q};
 ghost use Rattle.nf_frac_def.specs.Checked.{at_part, Gives};
 ghost use Rattle.nf_rational.specs.Signs.{is_positive};
 ghost use Rattle.nf_thin_def.specs.Ends.{end_of};
-ghost use Rattle.nf_thin_def.specs.ReportCurves.{keeps_slope as keeps_slope_by, curve_with, queue_after, first_label_curve, first_queue as queue_at_start};
+ghost use Rattle.nf_thin_def.specs.ReportCurves.{keeps_slope as keeps_slope_by, curve_with, queue_after};
+ghost use Rattle.nf_thin_def.specs.ReportCurves.{first_label_curve, first_queue as queue_at_start};
 ghost use Rattle.nf_resume_def.specs.Restoring.{growing as growing_by};
-ghost use Rattle.nf_phase_curves.specs.Growing.{HasRoom, IsAfter, corners_by, points_to, end_value, step_of};
+ghost use Rattle.nf_phase_curves.specs.Growing.{HasRoom, IsAfter, corners_by, points_to, end_value};
 
 use crate::copies::{copy_of, first_points};
 use crate::last_slopes::last_slope;
+use crate::stepping::QueueStep;
 use nf_curve::Curve;
 use nf_frac::{Halt, Q};
 use std::alloc::{AllocError, Global};
@@ -118,7 +120,8 @@ impl GrowingCurve {
         })
     }
 
-    // Returns the curve with this slope of its last piece. None means that the slope is unknown or there is one point only.
+    /// Returns the growing curve with the points of `curve` and this slope of its last piece. None means that the slope is unknown or there
+    /// is one point only. Refuses only if memory can't be allocated.
     pub(crate) fn ended(
         alloc: Global,
         curve: &Curve,
@@ -135,9 +138,8 @@ impl GrowingCurve {
                 end: None,
             });
         };
-        let count = curve.len();
-        let (time, value) = curve.point(count - 1);
-        let corners = first_points(alloc, curve, count - 1)?;
+        let (time, value) = curve.last();
+        let corners = first_points(alloc, curve, curve.len() - 1)?;
         let end = Some(End { time, value, slope });
         Ok(GrowingCurve { corners, end })
     }
@@ -178,7 +180,7 @@ impl GrowingCurve {
         match self.end {
             Some(end) => end.value,
             None => {
-                let (_, value) = self.corners.point(self.corners.len() - 1);
+                let (_, value) = self.corners.last();
                 value
             }
         }
@@ -202,15 +204,15 @@ impl GrowingCurve {
         self.end = Some(End { time, value, slope });
     }
 
-    /// Extends the queue of a link until the label of its tail, to a size and with a slope. None means that the label is constant and the
-    /// queue unchanged.
-    pub(crate) fn extend_or_hold(&mut self, label: Q, step: Option<(Q, Q)>)
+    /// Extends the queue of a link until the label of its tail, by a queue step. None means that the label is constant and the queue
+    /// unchanged.
+    pub(crate) fn extend_or_hold(&mut self, label: Q, step: Option<QueueStep>)
         requires room { HasRoom self.old }
         requires later { IsSome step → end_of self.old.grown.points <ℚ label }
-        ensures { self.new.grown ≡ queue_after self.old.grown label (step_of step) }
+        ensures { self.new.grown ≡ queue_after self.old.grown label step }
     {
-        if let Some((size, slope)) = step {
-            self.extend(label, size, slope);
+        if let Some(queue) = step {
+            self.extend(label, queue.size, queue.slope);
         }
     }
 

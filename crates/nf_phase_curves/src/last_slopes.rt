@@ -18,10 +18,6 @@ pub(crate) fn last_slope(curve: &Curve) -> Result<Option<Q>, PassedAt<Q>>
     if count < 2 {
         return Ok(None);
     }
-    let slope = slope(
-        &curve.point(count - 2),
-        &curve.point(count - 1),
-        Part::Curve,
-    )?;
+    let slope = slope(&curve.point(count - 2), &curve.last(), Part::Curve)?;
     Ok(Some(slope))
 }

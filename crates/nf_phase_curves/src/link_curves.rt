@@ -9,17 +9,27 @@ ghost use Rattle.nf_curve.specs.Flows.{trace_of};
 ghost use Rattle.nf_rational.specs.Signs.{is_positive};
 ghost use Rattle.nf_thin_def.specs.Ends.{end_of};
 ghost use Rattle.nf_thin_def.specs.ReportCurves.{trace_after, queue_after, first_trace, first_queue, amount_so_far};
-ghost use Rattle.nf_phase_curves.specs.Growing.{HasRoom, step_of};
+ghost use Rattle.nf_phase_curves.specs.Growing.{HasRoom};
 ghost use Rattle.nf_phase_curves.specs.Restoring.{of_link};
 
 use crate::growing::GrowingCurve;
+use crate::stepping::LinkStep;
 use crate::traces::GrowingTrace;
 use nf_curve::{Curve, Trace};
 use nf_frac::{Halt, Q};
 use std::alloc::{AllocError, Global};
 use std::marker::Model;
 
-/// The inflow and the queue of a link, by the time at its tail, and its outflow, by the time at its head.
+/// The flow over time of a link: the amounts that have entered and left it, and its queue. The inflow and the queue are by the time at its
+/// tail, the outflow by the time at its head.
+#[derive(Drop)]
+pub(crate) struct LinkFlow {
+    pub(crate) inflow: Trace,
+    pub(crate) outflow: Trace,
+    pub(crate) queue: Curve,
+}
+
+/// The growing flow over time of a link. The inflow and the queue are by the time at its tail, the outflow by the time at its head.
 #[derive(Drop)]
 pub struct LinkCurves {
     inflow: GrowingTrace,
@@ -107,54 +117,52 @@ impl LinkCurves {
         self.inflow.amount()
     }
 
-    /// Extends the curves until the labels of the link's ends. No rate and no step mean that the label is constant and the curve unchanged.
-    pub(crate) fn extend(
-        &mut self,
-        tail_label: Q,
-        head_label: Q,
-        amount: Q,
-        inflow_rate: Option<Q>,
-        outflow_rate: Option<Q>,
-        queue: Option<(Q, Q)>,
-    )
+    /// Extends the curves until the labels of the link's ends, by the step of the link. No rate and no queue step mean that the label is
+    /// constant and the curve unchanged.
+    pub(crate) fn extend(&mut self, tail_label: Q, head_label: Q, step: &LinkStep)
         requires room { HasRoom self.old }
-        requires inflow { IsSome inflow_rate → end_of self.old.grown.inflow.points <ℚ tail_label }
-        requires outflow { IsSome outflow_rate → end_of self.old.grown.outflow.points <ℚ head_label }
-        requires queue { IsSome queue → end_of self.old.grown.queue.points <ℚ tail_label }
-        ensures inflow { self.new.grown.inflow ≡ trace_after self.old.grown.inflow tail_label amount inflow_rate }
-        ensures outflow { self.new.grown.outflow ≡ trace_after self.old.grown.outflow head_label amount outflow_rate }
-        ensures queue { self.new.grown.queue ≡ queue_after self.old.grown.queue tail_label (step_of queue) }
+        requires inflow { IsSome step.now.inflow_rate → end_of self.old.grown.inflow.points <ℚ tail_label }
+        requires outflow { IsSome step.now.outflow_rate → end_of self.old.grown.outflow.points <ℚ head_label }
+        requires queue { IsSome step.now.queue → end_of self.old.grown.queue.points <ℚ tail_label }
+        ensures inflow { self.new.grown.inflow ≡ trace_after self.old.grown.inflow tail_label step.now.amount step.now.inflow_rate }
+        ensures outflow { self.new.grown.outflow ≡ trace_after self.old.grown.outflow head_label step.now.amount step.now.outflow_rate }
+        ensures queue { self.new.grown.queue ≡ queue_after self.old.grown.queue tail_label step.now.queue }
     {
-        self.inflow.extend_or_hold(tail_label, amount, inflow_rate);
+        self.inflow
+            .extend_or_hold(tail_label, step.amount, step.inflow_rate);
         self.outflow
-            .extend_or_hold(head_label, amount, outflow_rate);
-        self.queue.extend_or_hold(tail_label, queue);
+            .extend_or_hold(head_label, step.amount, step.outflow_rate);
+        self.queue.extend_or_hold(tail_label, step.queue);
     }
 
-    /// Returns the curves so far: inflow, outflow and queue. Refuses only if memory can't be allocated.
-    pub(crate) fn finish(self) -> Result<(Trace, Trace, Curve), AllocError>
-        ensures inflow { IfOk result (λ c. trace_of c.0 ≡ self.grown.inflow) }
-        ensures outflow { IfOk result (λ c. trace_of c.1 ≡ self.grown.outflow) }
-        ensures queue { IfOk result (λ c. c.2.points ≡ self.grown.queue.points) }
+    /// Returns the curves so far, and ends their growth. Refuses only if memory can't be allocated.
+    pub(crate) fn finish(self) -> Result<LinkFlow, AllocError>
+        ensures inflow { IfOk result (λ link. trace_of link.inflow ≡ self.grown.inflow) }
+        ensures outflow { IfOk result (λ link. trace_of link.outflow ≡ self.grown.outflow) }
+        ensures queue { IfOk result (λ link. link.queue.points ≡ self.grown.queue.points) }
     {
         let LinkCurves {
             inflow,
             outflow,
             queue,
         } = self;
-        Ok((inflow.finish()?, outflow.finish()?, queue.finish()?))
+        Ok(LinkFlow {
+            inflow: inflow.finish()?,
+            outflow: outflow.finish()?,
+            queue: queue.finish()?,
+        })
     }
 
-    /// Returns copies of the curves so far: inflow, outflow and queue. Refuses only if memory can't be allocated.
-    pub(crate) fn copy(&self, alloc: Global) -> Result<(Trace, Trace, Curve), AllocError>
-        ensures inflow { IfOk result (λ c. trace_of c.0 ≡ self.now.grown.inflow) }
-        ensures outflow { IfOk result (λ c. trace_of c.1 ≡ self.now.grown.outflow) }
-        ensures queue { IfOk result (λ c. c.2.points ≡ self.now.grown.queue.points) }
+    /// Returns copies of the curves so far. Refuses only if memory can't be allocated.
+    pub(crate) fn copy(&self, alloc: Global) -> Result<LinkFlow, AllocError>
+        ensures inflow { IfOk result (λ link. trace_of link.inflow ≡ self.now.grown.inflow) }
+        ensures outflow { IfOk result (λ link. trace_of link.outflow ≡ self.now.grown.outflow) }
+        ensures queue { IfOk result (λ link. link.queue.points ≡ self.now.grown.queue.points) }
     {
-        Ok((
-            self.inflow.copy(alloc)?,
-            self.outflow.copy(alloc)?,
-            self.queue.copy(alloc)?,
-        ))
+        Ok(LinkFlow {
+            inflow: self.inflow.copy(alloc)?,
+            outflow: self.outflow.copy(alloc)?,
+            queue: self.queue.copy(alloc)?,
+        })
     }
 }

@@ -89,18 +89,7 @@ fn extend_link(curves: &mut LinkCurves, link: &Link, labels: &[Q], step: &LinkSt
     ensures { curves.new.grown ≡ curves_after labels.now link.now curves.old.grown step.now }
 {
     let (tail, head) = (labels[link.tail.index()], labels[link.head.index()]);
-    let queue = match step.queue {
-        Some(queue) => Some((queue.size, queue.slope)),
-        None => None,
-    };
-    curves.extend(
-        tail,
-        head,
-        step.amount,
-        step.inflow_rate,
-        step.outflow_rate,
-        queue,
-    );
+    curves.extend(tail, head, step);
 }
 
 /// Extends the curves of all links to these labels, by the steps of the links. Memory for a corner of each curve must be reserved, and the

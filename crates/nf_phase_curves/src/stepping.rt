@@ -1,20 +1,15 @@
-// The steps by which a phase extends the curves of the links.
-ghost use Rattle.std.specs.Prelude.{◌≡◌, ◌≢◌, ◌<◌, length as count_of, true};
+// The step by which a phase extends the curves of a link.
+ghost use Rattle.std.specs.Prelude.{◌≡◌, ◌≢◌, true};
 ghost use Rattle.nf_rational.specs.Operations.{0ℚ};
 ghost use Rattle.nf_frac_def.specs.declared.Part.TheVariants.{Curve};
 ghost use Rattle.nf_frac_def.specs.Passing.{passes_Q};
-ghost use Rattle.nf_frac_def.specs.Checked.{at_part, Gives};
-ghost use Rattle.nf_model.specs.Entries.{number_at};
-ghost use Rattle.nf_model.specs.Network.{Link as SeenLink, IsLink};
+ghost use Rattle.nf_frac_def.specs.Checked.{at_part};
 ghost use Rattle.nf_rational.specs.Signs.{is_positive as is_positive_by};
-ghost use Rattle.nf_thin_def.specs.CurveList.{rate_over as rate_over_by, size_at as size_at_by, slope_at as slope_at_by, queue_step as queue_step_by, link_step as link_step_by, link_phase as link_phase_of, curve_list};
+ghost use Rattle.nf_thin_def.specs.CurveList.{rate_over as rate_over_by, size_at as size_at_by, slope_at as slope_at_by};
+ghost use Rattle.nf_thin_def.specs.CurveList.{queue_step as queue_step_by, link_step as link_step_by};
 
-use crate::phase_links::{LinkPhase, link_phase};
-use nf_frac::{Halt, Part, PassedAt, Q, at};
-use nf_graph::{LinkId, LinkSets};
-use nf_net::Network;
-use nf_pattern::Pattern;
-use std::alloc::Global;
+use crate::phase_links::LinkPhase;
+use nf_frac::{Part, PassedAt, Q, at};
 use std::marker::Model;
 
 /// The step of a queue: its size at the end of the phase, an amount, and its slope until then, by the time at the tail.
@@ -127,8 +122,9 @@ fn queue_step(link: &LinkPhase, rate: Option<Q>) -> Result<Option<QueueStep>, Pa
     }
 }
 
-// Returns the step of a link in a phase of this length, where `so_far` had entered the link by its beginning.
-fn link_step(length: Q, so_far: Q, link: &LinkPhase) -> Result<LinkStep, PassedAt<Q>>
+/// Returns the step of a link in a phase of this length, where `so_far` had entered the link by its beginning. Refuses with Passed, of the
+/// part Curve, at the first operation of the link's list that exceeds its bound. Allocates nothing.
+pub(crate) fn link_step(length: Q, so_far: Q, link: &LinkPhase) -> Result<LinkStep, PassedAt<Q>>
     ensures { result ≡ at_part Curve (link_step_by passes_Q length so_far link.now) }
 {
     let flowed = at!(Part::Curve, length.product(link.flow));
@@ -141,67 +137,4 @@ fn link_step(length: Q, so_far: Q, link: &LinkPhase) -> Result<LinkStep, PassedA
         outflow_rate,
         queue: queue_step(link, inflow_rate)?,
     })
-}
-
-// Returns the step of link number `link` in a phase.
-fn step_of(
-    net: &Network,
-    sets: &LinkSets,
-    pattern: &Pattern,
-    length: Q,
-    flows: &[Q],
-    slopes: &[Q],
-    labels: &[Q],
-    amounts: &[Q],
-    link: LinkId,
-) -> Result<LinkStep, PassedAt<Q>>
-    requires link { link < count_of net.now.net.links }
-    requires active { count_of sets.now.active ≡ count_of net.now.net.links }
-    requires resetting { count_of sets.now.resetting ≡ count_of net.now.net.links }
-    requires states { count_of pattern.now ≡ count_of net.now.net.links }
-    requires flows { count_of flows.now ≡ count_of net.now.net.links }
-    requires slopes { count_of slopes.now ≡ net.now.net.nodes }
-    requires labels { count_of labels.now ≡ net.now.net.nodes }
-    requires amounts { count_of amounts.now ≡ count_of net.now.net.links }
-    ensures { (here : SeenLink) → IsLink net.now.net link here
-        → result ≡ at_part Curve (link_step_by passes_Q length (number_at amounts.now link)
-        (link_phase_of sets.now pattern.now flows.now slopes.now labels.now (link, here))) }
-{
-    let here = link_phase(net, sets, pattern, flows, slopes, labels, link);
-    link_step(length, amounts[link.index()], &here)
-}
-
-/// Returns the steps of all links in a phase of this length. Given are the flows of the links, the slopes of the nodes, the labels at the
-/// end of the phase, and the amount that had entered each link by its beginning. Refuses with Passed, of the part Curve, at the first
-/// operation of the curve list that exceeds its bound. Refuses with Memory only if memory can't be allocated.
-pub fn link_steps(
-    alloc: Global,
-    net: &Network,
-    sets: &LinkSets,
-    pattern: &Pattern,
-    length: Q,
-    flows: &[Q],
-    slopes: &[Q],
-    labels: &[Q],
-    amounts: &[Q],
-) -> Result<Vec<LinkStep>, Halt<Q>>
-    requires active { count_of sets.now.active ≡ count_of net.now.net.links }
-    requires resetting { count_of sets.now.resetting ≡ count_of net.now.net.links }
-    requires states { count_of pattern.now ≡ count_of net.now.net.links }
-    requires flows { count_of flows.now ≡ count_of net.now.net.links }
-    requires slopes { count_of slopes.now ≡ net.now.net.nodes }
-    requires labels { count_of labels.now ≡ net.now.net.nodes }
-    requires amounts { count_of amounts.now ≡ count_of net.now.net.links }
-    ensures { Gives (λ steps. steps.items) (λ q. q) result
-        (at_part Curve (curve_list passes_Q net.now.net sets.now pattern.now length flows.now slopes.now labels.now amounts.now)) }
-{
-    let mut steps = Vec::new(alloc);
-    for e in 0..net.link_count() {
-        let link = LinkId(e);
-        let next = step_of(
-            net, sets, pattern, length, flows, slopes, labels, amounts, link,
-        )?;
-        steps.push(next)?;
-    }
-    Ok(steps)
 }

@@ -8,7 +8,8 @@ ghost use Rattle.nf_frac_def.specs.Checked.{at_part};
 ghost use Rattle.nf_model.specs.Network.{Link as SeenLink, IsLink, ArePieces, next_change as change_of};
 ghost use Rattle.nf_model.specs.Phases.{IsExtension, IsUnending};
 ghost use Rattle.nf_rational.specs.Signs.{is_zero as is_zero_by, are_opposite as are_opposite_by};
-ghost use Rattle.nf_thin_def.specs.Extend.{lesser as lesser_of, to_zero as to_zero_by, after_link as after_link_by, least_after, until_change as until_change_by, extend_list};
+ghost use Rattle.nf_thin_def.specs.Extend.{lesser as lesser_of, to_zero as to_zero_by, after_link as after_link_by};
+ghost use Rattle.nf_thin_def.specs.Extend.{least_after, until_change as until_change_by, extend_list};
 ghost use Rattle.nf_forever_def.specs.ForeverRun.{end_after as end_after_by, end_list};
 ghost use Rattle.nf_phase_length.specs.Lengths.{after_all};
 
@@ -122,10 +123,10 @@ fn next_change(net: &Network, time: Q) -> Option<Q>
     net.next_change(time)
 }
 
-/// Returns the extension length of a phase that begins at `time`, for these slacks of the links and slopes of the nodes (Koch and Skutella
-/// 2011). It is the greatest length for which each inactive link has slack at most 0, each resetting link has slack at least 0, and no
-/// change of the inflow rate comes before the end. Returns None exactly if every length is possible. Refuses with Passed, of the part
-/// Extend, exactly at the first operation of the extend list that exceeds its bound. Allocates nothing.
+/// Returns the extension length of a phase (Koch and Skutella 2011) that begins at `time`, with these slacks of the links and slopes of the
+/// nodes. It is the greatest length with slack at most 0 on each inactive link and at least 0 on each resetting link. No change of the
+/// inflow rate comes before its end. Returns None exactly if every length is possible. Refuses with Passed, of the part Extend, exactly at
+/// the first operation of the extend list that exceeds its bound. Allocates nothing.
 #[tactic(auto, unfolding(nf_thin_def::specs::Extend::extend_list))]
 pub fn extension(
     net: &Network,

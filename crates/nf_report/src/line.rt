@@ -3,7 +3,7 @@ ghost use Rattle.std.specs.Prelude.{[], ◌∷◌, map};
 ghost use Rattle.nf_report.specs.Written.{after_words, WroteLines};
 ghost use Rattle.nf_report.specs.Pages.{Gathered, GatheredLines};
 
-use crate::pages::{Page, put};
+use crate::pages::{Page, put, put_byte};
 use nf_edge::{Sink, SinkFault, write_text};
 
 // Puts a word that isn't the first of its line.
@@ -11,7 +11,7 @@ fn put_word<O: Sink>(out: &mut O, page: &mut Page, word: &[u8]) -> Result<(), Si
     ensures { Gathered (O.took out.old) (O.took out.new) (O.faults out.old) (O.faults out.new) page.old page.new
         (32 ∷ word.now) result }
 {
-    put(out, page, b" ")?;
+    put_byte(out, page, b' ')?;
     put(out, page, word)
 }
 
@@ -41,7 +41,7 @@ pub fn put_line<O: Sink>(
 {
     put(out, page, first)?;
     put_words(out, page, words)?;
-    put(out, page, b"\n")
+    put_byte(out, page, b'\n')
 }
 
 /// Writes the line of these words, in one write if it has at most 4096 bytes. Allocates nothing.

@@ -88,12 +88,16 @@ seen_with n d curves current = record {
 
 module _ (n : Named) (d : Draft) where
   -- the current curve becomes a complete one
-  pub closed_is : (curves : List (Option Trace)) (current : Option Trace) (trace : Trace) → d.current ≡ Some trace → current ≡ None → curves ≡ d.done.items ++ Some trace ∷ []
+  pub closed_is : (curves : List (Option Trace)) (current : Option Trace) (trace whole : Trace) → d.current ≡ Some trace → current ≡ None
+      → whole.curve.points ≡ trace.curve.points → whole.rates.items ≡ trace.rates.items → curves ≡ d.done.items ++ Some whole ∷ []
       → seen_with n d curves current ≡ closed (seen_draft n d)
-  closed_is curves current trace some none e =
-      let len : length curves ≡ length d.done.items + 1 = ap (λ (l : List (Option Trace)). length l) e ∙ length-append d.done.items (Some trace ∷ []) in
+  closed_is curves current trace whole some none points rates e =
+      let len : length curves ≡ length d.done.items + 1 = ap (λ (l : List (Option Trace)). length l) e ∙ length-append d.done.items (Some whole ∷ []) in
       (λ i. seen_with n d (e i) (none i))
-      ∙ (λ i. record (seen_with n d (d.done.items ++ Some trace ∷ []) None) { done = pushed n d.done.items (Some trace) i; keys = drop ((sym (ap (λ (l : List (Option Trace)). length l) e) ∙ len) i) (curve_keys n) })
+      ∙ (λ i. record (seen_with n d (d.done.items ++ Some whole ∷ []) None) { done = pushed n d.done.items (Some whole) i; keys = drop ((sym (ap (λ (l : List (Option Trace)). length l) e) ∙ len) i) (curve_keys n) })
+      ∙ (λ i. record (closed (seen_with n d d.done.items (Some trace))) {
+        done = seen_done n 0 d.done.items ++ record { key = key_at n (length d.done.items); points = points i; rates = rates i } ∷ [];
+      })
       ∙ ap (λ (o : Option Trace). closed (seen_with n d d.done.items o)) (sym some)
 
   module _ (next : Draft) (seen : seen_draft n next ≡ closed (seen_draft n d)) (none : next.current ≡ None) (many : length next.done.items ≡ begun_count d) (more : begun_count d < length (curve_keys n)) where

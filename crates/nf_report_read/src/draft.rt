@@ -76,6 +76,16 @@ fn put_behind(trace: &mut Trace, point: &RatedPoint) -> Result<(), AllocError>
     trace.curve.push(point.time, point.value)
 }
 
+// Gives back the room that a complete curve doesn't need.
+fn fitted(mut trace: Trace) -> Trace
+    ensures points { result.curve.points ≡ trace.curve.points }
+    ensures rates { result.rates.items ≡ trace.rates.items }
+{
+    trace.curve.shrink_to_fit();
+    trace.rates.shrink_to_fit();
+    trace
+}
+
 impl Draft {
     /// Returns the state before the first line.
     pub fn new(alloc: Global, net: &Network) -> Result<Draft, AllocError>
@@ -131,7 +141,7 @@ impl Draft {
         ensures states { self.new.states ≡ self.old.states }
     {
         if let Some(trace) = self.current.take() {
-            self.done.push(Some(trace))?;
+            self.done.push(Some(fitted(trace)))?;
         }
         Ok(())
     }

@@ -16,4 +16,4 @@ returns-in_err-put_words g c =
     (gathered_both _ refl c.in_ok-put.ensures c.in_err-put_words.ensures)
 
 pub returns : goal.returns
-returns g c = gathered_both _ (line_joined c.args.first.now (map (λ w. w.now) c.args.words.now)) (gathered_both _ refl c.in_ok-put.ensures c.in_ok-put_words.ensures) c.put-2.ensures
+returns g c = gathered_both _ (line_joined c.args.first.now (map (λ w. w.now) c.args.words.now)) (gathered_both _ refl c.in_ok-put.ensures c.in_ok-put_words.ensures) c.put_byte.ensures

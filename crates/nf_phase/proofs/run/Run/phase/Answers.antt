@@ -22,3 +22,9 @@ returns-in_err-phase-clause-cause c =
     (Fails passes_Q c.args.net.now.net c.args.horizon c.args.patterns c.args.self.now) (suc c.args.self.now.made) c.in_err-phase.field-0.0
     (lists_below passes_Q c.args.net.now.net c.args.patterns c.args.self.now c.in_ok-found.ensures.found.seeks.0 c.in_ok-found.found.thin.pattern c.in_ok-found.found.thin.flows.items c.in_ok-found.found.thin.slopes.items
     c.in_ok-found.ensures.found.seeks.1 c.args.horizon c.requires.below) c.in_err-phase.ensures.cause)
+
+pub phase_by-requires-clause-found : goal.phase_by-requires-clause-found
+phase_by-requires-clause-found c = (c.args.patterns, c.in_ok-found.ensures.found)
+
+pub returns-clause-leads : goal.returns-clause-leads
+returns-clause-leads c = c.in_ok-phase.ensures.leads c.args.patterns c.in_ok-found.ensures.found

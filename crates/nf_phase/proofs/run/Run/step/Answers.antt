@@ -31,6 +31,9 @@ returns-clause-labels c = keeps_reached passes_Q c.args.net.now.net c.phase.ensu
 pub returns-clause-short : goal.returns-clause-short
 returns-clause-short c = short_reached passes_Q c.args.net.now.net c.phase.ensures.named.network _ (returns-clause-reaches c)
 
+pub extend_by_next-requires-clause-leads : goal.extend_by_next-requires-clause-leads
+extend_by_next-requires-clause-leads c = (c.args.horizon, c.args.patterns, c.in_ok-next.ensures.leads)
+
 -- ---- if the step refuses, the run state is unchanged
 pub returns-in_err-next-clause-equilibrium : goal.returns-in_err-next-clause-equilibrium
 returns-in_err-next-clause-equilibrium c = equilibrium_reached passes_Q c.args.net.now.net c.phase.ensures.named.network _ c.requires.reaches

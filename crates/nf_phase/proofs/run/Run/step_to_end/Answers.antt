@@ -55,7 +55,7 @@ returns-clause-phase c =
     goes_to_end passes_Q c.args.net.now.net c.args.patterns c.args.self.now c.in_ok-found.found c.in_ok-found.ensures.found c.deref.result.now c.deref-2.result.now c.self.inside.reached
     c.deref.ensures.value c.deref-2.ensures.value (ap (λ (s : Standing). s.time) c.self.view_is)
     c.in-Some.end (ap (λ (o : Option ℚ). Ok o) (sym c.in-Some.is) ∙ c.in_ok-end.ensures.list)
-    c.in_ok-phase.phase c.in_ok-phase.ensures.leads c.in_ok-phase.ensures.slopes c.extend_by.new.self c.in_ok-extend_by.ensures.made
+    c.in_ok-phase.phase (c.in_ok-phase.ensures.leads c.args.patterns c.in_ok-found.ensures.found) c.in_ok-phase.ensures.slopes c.extend_by.new.self c.in_ok-extend_by.ensures.made
 
 pub returns-clause-reaches : goal.returns-clause-reaches
 returns-clause-reaches c =
@@ -69,7 +69,7 @@ pub phase_by-requires-clause-named : goal.phase_by-requires-clause-named
 phase_by-requires-clause-named c = c.in_ok-found.ensures.named
 
 pub phase_by-requires-clause-found : goal.phase_by-requires-clause-found
-phase_by-requires-clause-found c = c.in_ok-found.ensures.found
+phase_by-requires-clause-found c = (c.args.patterns, c.in_ok-found.ensures.found)
 
 pub phase_by-requires-clause-below : goal.phase_by-requires-clause-below
 phase_by-requires-clause-below c =
@@ -85,7 +85,7 @@ pub extend_by-requires-clause-more : goal.extend_by-requires-clause-more
 extend_by-requires-clause-more c = c.requires.more
 
 pub extend_by-requires-clause-leads : goal.extend_by-requires-clause-leads
-extend_by-requires-clause-leads c = c.in_ok-phase.ensures.leads
+extend_by-requires-clause-leads c = (c.in-Some.end, c.args.patterns, c.in_ok-phase.ensures.leads c.args.patterns c.in_ok-found.ensures.found)
 
 pub returns-in_err-end-clause-reaches : goal.returns-in_err-end-clause-reaches
 returns-in_err-end-clause-reaches c = c.requires.reaches

@@ -1,4 +1,4 @@
-use Rattle.std.proofs.Common.{◌∙◌, ap, sym, arith}
+use Rattle.std.proofs.Common.{◌∙◌, ap, sym}
 use Rattle.std.specs.Prelude.{Option}
 use Rattle.nf_phase_curves.specs.declared.growing.End.{End}
 use Rattle.nf_phase_curves.specs.Growing.{Roomy, end_value, points_to}
@@ -14,6 +14,6 @@ returns-in-Some c =
 
 pub returns-in-None : goal.returns-in-None
 returns-in-None c =
-    value_at_last c.self.inside.corners.points _ c.point-value.result c.point-value.ensures (omega (arith, c.len.ensures.count, c.len.ensures.some))
+    value_at_last c.self.inside.corners.points c.last-value.result c.last-value.ensures
     ∙ ap (λ (o : Option End). end_value (points_to c.self.inside.corners.points o)) (sym c.in-None.is)
     ∙ ap (λ (g : Roomy GrowingCurve). end_value g.grown.points) c.self.view_is

@@ -4,7 +4,8 @@ use Rattle.nf_report_read.proofs.draft.Draft.close.Goals as goal
 
 pub returns-in_ok-push-clause-draft : goal.returns-in_ok-push-clause-draft
 returns-in_ok-push-clause-draft c =
-    λ n. closed_is n c.args.self.now c.push.new.self.items c.take.new.self c.in-Some.trace (sym c.take.ensures.value ∙ c.in-Some.is) c.take.ensures.after c.in_ok-push.ensures.items
+    λ n. closed_is n c.args.self.now c.push.new.self.items c.take.new.self c.in-Some.trace c.fitted.result (sym c.take.ensures.value ∙ c.in-Some.is) c.take.ensures.after
+    c.fitted.ensures.points c.fitted.ensures.rates c.in_ok-push.ensures.items
 
 pub returns-in_ok-push-clause-idle : goal.returns-in_ok-push-clause-idle
-returns-in_ok-push-clause-idle c = λ n. idle_kept n c.args.self.now.done.items c.push.new.self.items c.in-Some.trace c.in_ok-push.ensures.items
+returns-in_ok-push-clause-idle c = λ n. idle_kept n c.args.self.now.done.items c.push.new.self.items c.fitted.result c.in_ok-push.ensures.items

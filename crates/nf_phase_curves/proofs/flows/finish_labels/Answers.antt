@@ -3,7 +3,7 @@ use Rattle.std.proofs.lemmas.List.{map-append}
 use Rattle.nf_curve.specs.Points.{Grown}
 use Rattle.nf_thin_def.specs.ReportCurves.{GrowingCurve}
 use Rattle.nf_phase_curves.proofs.OneByOne.{yielded_pushed}
-use Rattle.nf_phase_curves.proofs.growth.finish_labels.Goals as goal
+use Rattle.nf_phase_curves.proofs.flows.finish_labels.Goals as goal
 
 pub loop-curve-preserved : goal.loop-curve-preserved
 loop-curve-preserved c =

@@ -5,7 +5,7 @@ use Rattle.nf_curve.specs.Points.{Grown}
 use Rattle.nf_thin_def.specs.ReportCurves.{GrowingCurve}
 use Rattle.nf_phase_curves.specs.Growing.{Roomy, all_grown}
 use Rattle.nf_phase_curves.proofs.OneByOne.{grown_pushed}
-use Rattle.nf_phase_curves.proofs.growth.copy_labels.Goals as goal
+use Rattle.nf_phase_curves.proofs.flows.copy_labels.Goals as goal
 
 pub loop-curve-init : goal.loop-curve-init
 loop-curve-init c = ap (map (λ (g : Grown). g.points)) c.new-curves.ensures.items

@@ -1,0 +1,14 @@
+use Rattle.std.proofs.Common.{[], ◌∙◌}
+use Rattle.nf_curve.specs.Flows.{trace_of, flow_of}
+use Rattle.nf_phase_curves.specs.Growing.{all_grown}
+use Rattle.nf_phase_curves.proofs.LinkFlows.{one_more_link}
+use Rattle.nf_phase_curves.proofs.flows.finish_flow.Goals as goal
+
+pub loop-curves-init : goal.loop-curves-init
+loop-curves-init c = c.without_links-flow.ensures ∙ (λ i. record { reached = c.args.reached; labels = c.in_ok-labels.ensures i; inflows = []; outflows = []; queues = [] })
+
+pub loop-curves-preserved : goal.loop-curves-preserved
+loop-curves-preserved c =
+    one_more_link c.args.reached (all_grown c.args.labels.items) c.loop-curves.yielded c.in-Some.curves (flow_of c.loop-curves.flow) (flow_of c.add_link.new.flow)
+    (trace_of c.in_ok-link.link.inflow) (trace_of c.in_ok-link.link.outflow) c.in_ok-link.link.queue.points c.loop-curves.invariant
+    c.in_ok-link.ensures.inflow c.in_ok-link.ensures.outflow c.in_ok-link.ensures.queue c.in_ok-add_link.ensures

@@ -1,8 +1,0 @@
-use Rattle.nf_frac_def.specs.Passing.{passes_Q}
-use Rattle.nf_thin_laws.proofs.Numbered.{SoFar}
-use Rattle.nf_phase_curves.proofs.LinkLoop.{numbered_step}
-use Rattle.nf_phase_curves.proofs.stepping.link_steps.Given as goal
-
--- The steps so far precede those of the other links.
-abbrev pub invariant-loop-e : goal.invariant-loop-e
-invariant-loop-e l = SoFar (numbered_step passes_Q l.sets l.pattern l.length l.flows l.slopes l.labels l.amounts) l.net.net.links l.steps.items l.e

@@ -1,0 +1,105 @@
+// The flow over time by growing curves.
+ghost use Rattle.std.specs.Prelude.{◌≡◌, [], map, IfOk, OnOk};
+ghost use Rattle.nf_curve.specs.Flows.{trace_of, flow_of};
+ghost use Rattle.nf_phase_curves.specs.Growing.{all_grown};
+ghost use Rattle.nf_phase_curves.specs.Flows.{with_link, flow_so_far};
+
+use crate::growing::GrowingCurve;
+use crate::link_curves::{LinkCurves, LinkFlow};
+use nf_curve::{Curve, Flow};
+use nf_frac::Q;
+use std::alloc::{AllocError, Global};
+
+// Returns the label curves so far, and ends their growth. Refuses only if memory can't be allocated.
+fn finish_labels(alloc: Global, growing: Vec<GrowingCurve>) -> Result<Vec<Curve>, AllocError>
+    ensures { IfOk result (λ curves. map (λ c. c.points) curves.items ≡ map (λ c. c.points) (all_grown growing.items)) }
+{
+    let mut curves = Vec::new(alloc);
+    for curve in growing {
+        curves.push(curve.finish()?)?;
+    }
+    Ok(curves)
+}
+
+// Returns copies of the label curves so far. Refuses only if memory can't be allocated.
+fn copy_labels(alloc: Global, growing: &[GrowingCurve]) -> Result<Vec<Curve>, AllocError>
+    ensures { IfOk result (λ curves. map (λ c. c.points) curves.items ≡ map (λ c. c.points) (all_grown growing.now)) }
+{
+    let mut curves = Vec::new(alloc);
+    for curve in growing {
+        curves.push(curve.copy(alloc)?)?;
+    }
+    Ok(curves)
+}
+
+// Returns the flow up to the departure `reached` with these label curves, before the first link.
+fn without_links(alloc: Global, reached: Q, labels: Vec<Curve>) -> Flow
+    ensures { flow_of result ≡ record {
+      reached = reached;
+      labels = map (λ c. c.points) labels.items;
+      inflows = [];
+      outflows = [];
+      queues = [];
+    } }
+{
+    Flow {
+        reached,
+        labels,
+        inflows: Vec::new(alloc),
+        outflows: Vec::new(alloc),
+        queues: Vec::new(alloc),
+    }
+}
+
+// Appends the flow of the next link. Refuses only if memory can't be allocated.
+fn add_link(flow: &mut Flow, link: LinkFlow) -> Result<(), AllocError>
+    ensures { OnOk result
+        (flow_of flow.new ≡ with_link (flow_of flow.old) (trace_of link.inflow) (trace_of link.outflow) link.queue.points) }
+{
+    let LinkFlow {
+        inflow,
+        outflow,
+        queue,
+    } = link;
+    flow.inflows.push(inflow)?;
+    flow.outflows.push(outflow)?;
+    flow.queues.push(queue)?;
+    Ok(())
+}
+
+/// Returns the flow over time up to the departure `reached`, and ends the growth of its curves. Refuses only if memory can't be allocated.
+pub fn finish_flow(
+    alloc: Global,
+    reached: Q,
+    labels: Vec<GrowingCurve>,
+    links: Vec<LinkCurves>,
+) -> Result<Flow, AllocError>
+    ensures { IfOk result (λ flow. flow_of flow ≡ flow_so_far reached (all_grown labels.items) (all_grown links.items)) }
+{
+    let labels = finish_labels(alloc, labels)?;
+    let mut flow = without_links(alloc, reached, labels);
+    for curves in links {
+        let link = curves.finish()?;
+        add_link(&mut flow, link)?;
+    }
+    Ok(flow)
+}
+
+/// Returns a copy of the flow over time up to the departure `reached`; its curves can grow further. Refuses only if memory can't be
+/// allocated.
+pub fn copy_flow(
+    alloc: Global,
+    reached: Q,
+    labels: &[GrowingCurve],
+    links: &[LinkCurves],
+) -> Result<Flow, AllocError>
+    ensures { IfOk result (λ flow. flow_of flow ≡ flow_so_far reached (all_grown labels.now) (all_grown links.now)) }
+{
+    let labels = copy_labels(alloc, labels)?;
+    let mut flow = without_links(alloc, reached, labels);
+    for curves in links {
+        let link = curves.copy(alloc)?;
+        add_link(&mut flow, link)?;
+    }
+    Ok(flow)
+}
