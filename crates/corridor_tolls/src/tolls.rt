@@ -69,7 +69,7 @@ fn push_points(out: &mut Vec<u8>, name: &str, capacity: &Option<Q>, points: &[Po
 }
 
 /// Returns the lines of a link's tolls up to a horizon of at least 0: for each point of its queue's curve, the time, and the queue over the
-/// capacity. The queue is that of the point queue for the link's pieces of inflow.
+/// capacity. The queue is that of the point queue for the link's pieces of inflow. Fails if an operation passes, or an allocation fails.
 pub fn link_tolls(
     alloc: Global,
     net: &Network,

@@ -7,7 +7,8 @@ use nf_frac::Q;
 use nf_graph::{DistanceFault, Hop, NodeId, distances};
 use std::alloc::Global;
 
-/// Returns the travel time over two links, one behind the other: the sum of their transit times, which must be at least 0.
+/// Returns the travel time over two links, one behind the other: the sum of their transit times, which must be at least 0. Never returns
+/// None. Fails if a sum passes the bound, or if an allocation fails.
 pub fn path_time(alloc: Global, first: Q, second: Q) -> Result<Option<Q>, DistanceFault>
     requires first { 0ℚ ≤ℚ first }
     requires second { 0ℚ ≤ℚ second }

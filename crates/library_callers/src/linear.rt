@@ -20,7 +20,8 @@ fn equations(alloc: Global, rate: Q, first: Q, second: Q) -> Result<Table<Q>, Al
     Ok(table)
 }
 
-/// Splits a rate over two parallel links so that both take the same share of their capacities, which must be above 0.
+/// Splits a rate over two parallel links so that both take the same share of their capacities, which must be above 0. Fails if an
+/// operation passes the bound, or if an allocation fails.
 pub fn split_rate(alloc: Global, rate: Q, first: Q, second: Q) -> Result<(Q, Q), Halt<Q>>
     requires first { 0ℚ <ℚ first }
     requires second { 0ℚ <ℚ second }

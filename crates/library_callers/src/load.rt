@@ -8,8 +8,8 @@ use nf_load::{cumulative, load_link};
 use nf_net::Piece;
 use std::alloc::Global;
 
-/// Returns the queue on a link at a time of at least 0, if a constant inflow has entered it since time 0. Its rate is at least the capacity,
-/// which must be above 0.
+/// Returns the queue on a link, an amount, at a time of at least 0, if a constant inflow has entered it since time 0. Its rate must be at
+/// least the capacity, which must be above 0. Fails if an operation passes the bound, or if an allocation fails.
 pub fn queue_after(alloc: Global, capacity: Q, rate: Q, time: Q) -> Result<Q, Halt<Q>>
     requires capacity { 0ℚ <ℚ capacity }
     requires rate { capacity ≤ℚ rate }

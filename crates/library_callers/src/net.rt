@@ -11,7 +11,7 @@ use nf_net::{NetFault, parse, start_labels};
 use std::alloc::Global;
 
 /// Returns the travel time from source to sink over empty links, of the network that a text of at most 67,108,864 bytes stands for. This
-/// is the least transit sum of the walks from source to sink.
+/// is the least transit sum of the walks from source to sink. Fails with the first rule that the text breaks, or if an allocation fails.
 pub fn free_flow_time(alloc: Global, text: &[u8]) -> Result<Q, NetFault>
     requires { length text.now ≤ longest_text }
     ensures { IfOk result (λ time. (n : Named) × Reads text.now (Ok n)

@@ -10,6 +10,7 @@ use std::alloc::Global;
 
 /// Returns the static flow after one push along a shortest walk from source to sink, with all that the walk can carry. Each walk from
 /// source to sink must have a link with a capacity. The flow respects the capacities, and no closed residual walk has negative length.
+/// Fails if an operation passes the bound, or if an allocation fails.
 pub fn first_push(alloc: Global, net: &Network) -> Result<Residual, Halt<Q>>
     requires { IsLimited net.now.net }
     ensures { IfOk result (λ flow. IsSound net.now.net flow) }

@@ -12,7 +12,7 @@ use nf_sets::{sets, slacks};
 use std::alloc::Global;
 
 /// Returns whether a queue stands on a link, at labels of the nodes: whether the label of its head is later than that of its tail plus the
-/// transit time.
+/// transit time. Both ends of each link must have a label, a time. Fails if an operation passes the bound, or if an allocation fails.
 pub fn has_queue(alloc: Global, links: &[Hop], labels: &[Q], link: LinkId) -> Result<bool, Halt<Q>>
     requires ends { AreBelow (length labels.now) links.now }
     requires link { link < length links.now }

@@ -14,7 +14,7 @@ fn with_words(read: &[Line]) -> usize
 }
 
 /// Returns the number of lines that have at least one word: blank lines and lines with a comment alone don't count. The text must have at
-/// most 67,108,864 bytes.
+/// most 67,108,864 bytes. Fails with the first line that isn't ASCII or is too long, or if an allocation fails.
 pub fn content_count(alloc: Global, text: &[u8]) -> Result<usize, TextFault>
     requires { length text.now ≤ longest_text }
     ensures count { IfOk result (λ count. count ≡ length (content_lines (read_lines text.now))) }
