@@ -1,9 +1,14 @@
--- What is known of a value that `ok` gives.
-use Rattle.std.proofs.Common.{◌≡◌, ◌∙◌, sym, subst}
-use Rattle.std.specs.Prelude.{Option, Some, Result, Ok, Err, IfOk}
-use Rattle.std.specs.Result.{result_ok}
-use Rattle.std.proofs.lemmas.Option.{same_Some}
+-- What tests say of a horizon.
+use Rattle.std.proofs.Common.{◌≡◌, ⊎_elim, true, false, subst}
+use Rattle.nf_rational.specs.Rational.{ℚ}
+use Rattle.nf_rational.specs.Operations.{0ℚ}
+use Rattle.nf_rational.specs.Order.{◌≤ℚ◌, ◌<ℚ◌, lt_ℚ}
+use Rattle.nf_rational_laws.proofs.Results.{not_both}
+use Rattle.nf_rational_laws.proofs.Tests.{lt_ℚ_cases}
 
-pub given_by_ok : {T E : Type 0} (P : T → Type 0) (r : Result T E) (o : Option T) (x : T) → IfOk r P → o ≡ result_ok r → o ≡ Some x → P x
-given_by_ok P (Ok y) o x h e f = subst P (same_Some y x (sym e ∙ f)) h
-given_by_ok P (Err y) o x h e f = absurd (cc)
+-- what isn't below 0 is at least 0
+pub not_below : (x zero : ℚ) → zero ≡ 0ℚ → lt_ℚ x zero ≡ false → 0ℚ ≤ℚ x
+not_below x zero e t = subst (λ (z : ℚ). z ≤ℚ x) e (⊎_elim
+    (λ (a : (lt_ℚ x zero ≡ true) × (x <ℚ zero)). absurd (not_both (lt_ℚ x zero) a.0 t))
+    (λ (a : (lt_ℚ x zero ≡ false) × (zero ≤ℚ x)). a.1)
+    (lt_ℚ_cases x zero))
