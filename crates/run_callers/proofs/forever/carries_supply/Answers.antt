@@ -20,8 +20,8 @@ returns-in-Some-clause-carries c =
     let grows = subst (λ (t : Option Tail). IfSome t (λ tail. TailGrows net flow (tail_in tail))) c.in-Some.is c.in_ok-forever.ensures.grows in
     by_slope net flow (tail_in c.in-Some.tail) c.is_level.result c.recall.ensures.network.sink grows c.is_level.ensures
 
-pub returns-in-None-clause-none : goal.returns-in-None-clause-none
-returns-in-None-clause-none c = λ _. record {
+pub returns-clause-none : goal.returns-clause-none
+returns-clause-none c = λ _. record {
   result = forever_in c.in_ok-forever.forever;
   run = c.in_ok-forever.ensures.run;
   none = ap (λ (t : Option Tail). option_map tail_in t) c.in-None.is;
