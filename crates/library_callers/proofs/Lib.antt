@@ -8,3 +8,5 @@ pub mod Queues
 pub mod Patterns
 pub mod Shares
 pub mod Labels
+pub mod Tallest
+pub mod BothQueues
