@@ -9,7 +9,7 @@ A case is run by both programs, in a temporary folder; status, standard output a
 twenty is a relation of the program with itself; with --metamorphic all are. A case that differs is kept, as files with the command line and
 both answers, in a folder that is named; the first ten are made smaller before. Progress goes to standard error; at last comes a tally of answers.
 
-Statuses: 0 none differs; 1 some differ; 2 the words are wrong, or Python is older than 3.10.
+Statuses: 0 none differs; 1 some differ; 2 the words are wrong, or Python is older than 3.9.
 """
 import argparse
 import pathlib
@@ -19,8 +19,8 @@ import sys
 import tempfile
 import time
 
-if sys.version_info < (3, 10):
-    print("differ: Python 3.10 or later is needed", file=sys.stderr)
+if sys.version_info < (3, 9):
+    print("differ: Python 3.9 or later is needed", file=sys.stderr)
     sys.exit(2)
 sys.path.insert(0, str(pathlib.Path(__file__).resolve().parent))
 sys.dont_write_bytecode = True

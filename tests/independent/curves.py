@@ -3,7 +3,6 @@
 MODEL.md, "Functions of time and curves"; LISTS.md, "Lists of curves". A function of time is given by its curve
 (`HasCurve`). Each call takes the part of the work to which its operations belong.
 """
-from bisect import bisect_right
 
 from .exact import ZERO
 
@@ -44,9 +43,21 @@ def crossing(before, after, part):
     return part.sum(start, part.product(share, length))
 
 
+def count_until(points, time):
+    """How many points have at most this time."""
+    low, high = 0, len(points)
+    while low < high:
+        middle = (low + high) // 2
+        if time < points[middle][0]:
+            high = middle
+        else:
+            low = middle + 1
+    return low
+
+
 def value(points, time, part):
     """The curve's value at a time: linear between points, constant after the last (`value`; the list Value)."""
-    after = bisect_right(points, time, key=lambda point: point[0])
+    after = count_until(points, time)
     here = points[after - 1]
     if here[0] == time or after == len(points):
         return here[1]
