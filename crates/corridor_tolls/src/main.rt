@@ -20,7 +20,7 @@ fn words<R: Env + AllocGlobal>(rt: &R) -> io::Result<Vec<String>> {
     Ok(words)
 }
 
-// Writes the tolls of all links in order, or returns None at the first failure.
+// Writes the tolls of all links in order, or nothing and returns None if something fails.
 fn run(alloc: Global, words: &[String], shelf: &mut impl Shelf, out: &mut impl Sink) -> Option<()> {
     let [_, net, loads, horizon] = words else {
         return None;
@@ -39,11 +39,12 @@ fn run(alloc: Global, words: &[String], shelf: &mut impl Shelf, out: &mut impl S
     let Ok(loads) = parse_loads(alloc, &net, &text) else {
         return None;
     };
+    let mut tolls = Vec::new(alloc);
     for link in 0..net.link_count() {
         let text = link_tolls(alloc, &net, &loads, LinkId(link), horizon).ok()?;
-        write_text(out, &text).ok()?;
+        tolls.extend_from_slice(&text).ok()?;
     }
-    Some(())
+    write_text(out, &tolls).ok()
 }
 
 fn main(rt: HostRuntime) -> ExitCode {
