@@ -1,9 +1,10 @@
 // A report is passed on, if its text is one.
-ghost use Rattle.std.specs.Prelude.{◌≡◌, ◌≤◌, length, IfOk, OnErr, MatchBool};
+ghost use Rattle.std.specs.Prelude.{◌≡◌, ◌≤◌, length, IfOk, IfErr, OnErr, MatchBool, Result};
 ghost use Rattle.nf_edge.specs.Taken.{with_more, TookFront};
 ghost use Rattle.nf_text_def.specs.Faults.{longest_text};
 ghost use Rattle.nf_net_def.specs.Report.{IsWellFormed, report_text};
-ghost use Rattle.nf_report_read.specs.Files.{report_of};
+ghost use Rattle.nf_report_def.specs.ReportFile.{report_in};
+ghost use Rattle.nf_report_read.specs.Files.{report_of, IfBroken};
 
 use nf_edge::Sink;
 use nf_net::Network;
@@ -39,7 +40,8 @@ pub fn pass_on<O: Sink>(
     requires { length text.now ≤ longest_text }
     ensures taken { IfOk result (λ whole. MatchBool whole (O.took out.new ≡ with_more (O.took out.old) text.now)
         (TookFront (O.took out.old) (O.took out.new) text.now)) }
-    ensures refused { OnErr result (O.took out.new ≡ O.took out.old) }
+    ensures refused { IfErr result (λ fault. IfBroken fault (λ broken. report_in net.now text.now ≡ Err broken)) }
+    ensures untouched { OnErr result (O.took out.new ≡ O.took out.old) }
 {
     match parse_report(alloc, net, text) {
         Ok(report) => Ok(write_whole(net, &report, out)),
