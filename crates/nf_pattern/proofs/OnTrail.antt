@@ -1,5 +1,5 @@
 -- What a trail decides: its pattern is listed, or no pattern with the same first links is.
-use Rattle.std.proofs.Common.{◌≡◌, ◌≢◌, ℕ, zero, suc, ◌+◌, ◌<◌, ◌≤◌, ◌⊎◌, ⊎_elim, Bool, true, false, List, length, take, Some, sym, ap, subst, ◌∙◌, arith}
+use Rattle.std.proofs.Common.{◌≡◌, ◌≢◌, ℕ, zero, suc, ◌+◌, ◌^◌, ◌<◌, ◌≤◌, ◌⊎◌, ⊎_elim, Bool, true, false, List, length, take, Some, sym, ap, subst, ◌∙◌, arith}
 use Rattle.std.specs.Prelude.{slice_get, get_or, Result, Ok, Err, IfOk}
 use Rattle.std.proofs.lemmas.Option.{slice_get-get_or, slice_get_within}
 use Rattle.std.proofs.lemmas.List.{take-take}
@@ -157,6 +157,12 @@ count_links question is p assigned = assigned_length question.base question.unbo
 module _ (q seen : Question) (same : q ≡ seen) (is : IsQuestion q) where
   pub valid_base : (base : Pattern) (us : List Bool) → base ≡ q.base → us ≡ q.unbounded → IsAssignment base us base
   valid_base base us e f = subst (λ (x : Pattern). IsAssignment x us x) (sym e) (subst (λ (x : List Bool). IsAssignment q.base x q.base) (sym f) (valid q is))
+
+  pub unbounded_base : (base : Pattern) (us : List Bool) → base ≡ q.base → us ≡ q.unbounded → length us ≡ length base
+  unbounded_base base us e f = ap length f ∙ (is.unbounded ∙ sym (ap length e ∙ (is.base.count ∙ is.active)))
+
+  pub few_base : (base : Pattern) → base ≡ q.base → length base < 2 ^ 32
+  few_base base e = subst (λ (n : ℕ). n < 2 ^ 32) (sym (ap length e ∙ (is.base.count ∙ is.active))) is.fewer
 
   pub count_base : (p : Pattern) → IsAssignment seen.base seen.unbounded p → (base : Pattern) → base ≡ q.base → length p ≡ length base
   count_base p assigned base e = assigned_length seen.base seen.unbounded p assigned ∙ ap length (sym (e ∙ ap (λ (x : Question). x.base) same))

@@ -159,12 +159,14 @@ standing_start question seen current trail quiet same is at on_trail all none =
     let q : IsQuestion question = subst IsQuestion (sym same) is in
     let at_base : current ≡ question.base = at ∙ ap (λ (x : Question). x.base) (sym same) in
     record {
-      is_question = q;
-      assigned = subst (λ (x : Pattern). IsAssignment question.base question.unbounded x) (sym at_base) (valid question q);
+      placed = record {
+        is_question = q;
+        assigned = subst (λ (x : Pattern). IsAssignment question.base question.unbounded x) (sym at_base) (valid question q);
+        on_trail = subst (λ (x : Pattern). IsTrailOf question x trail) (sym at_base) on_trail;
+        is_quiet = quiet_end question.base current quiet
+            (all ∙ (ap (λ (x : Question). length x.hops) (sym same) ∙ sym (q.base.count ∙ q.active))) none;
+      };
       start = λ _. at_base;
-      on_trail = subst (λ (x : Pattern). IsTrailOf question x trail) (sym at_base) on_trail;
-      is_quiet = quiet_end question.base current quiet
-          (all ∙ (ap (λ (x : Question). length x.hops) (sym same) ∙ sym (q.base.count ∙ q.active))) none;
     }
 
 -- ---- one more pattern is enumerated

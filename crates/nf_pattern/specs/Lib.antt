@@ -10,3 +10,4 @@ pub mod Front
 pub mod Giving
 pub mod Firm
 pub mod Stated
+pub mod Ordered

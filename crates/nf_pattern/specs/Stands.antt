@@ -15,11 +15,14 @@ last_of Start current = AtStart
 last_of Listed current = UpTo current
 last_of End current = AtEnd
 
--- The current assignment is the base at the start, and later the last enumerated pattern. The trail is one along this assignment, and
--- `quiet` is its unchanged suffix.
-pub record IsStanding (question : Question) (stand : Stand) (current : Pattern) (trail : Trail) (quiet : Quiet) : Type 0 where
+-- The states are an assignment, the trail is one along it, and `quiet` is its unchanged suffix.
+pub record IsPlaced (question : Question) (states : Pattern) (trail : Trail) (quiet : Quiet) : Type 0 where
   pub is_question : IsQuestion question
-  pub assigned : IsAssignment question.base question.unbounded current
+  pub assigned : IsAssignment question.base question.unbounded states
+  pub on_trail : IsTrailOf question states trail
+  pub is_quiet : IsQuiet question.base quiet states
+
+-- The current assignment is the base at the start, and later the last enumerated pattern.
+pub record IsStanding (question : Question) (stand : Stand) (current : Pattern) (trail : Trail) (quiet : Quiet) : Type 0 where
+  pub placed : IsPlaced question current trail quiet
   pub start : stand ≡ Start → current ≡ question.base
-  pub on_trail : IsTrailOf question current trail
-  pub is_quiet : IsQuiet question.base quiet current

@@ -1,8 +1,7 @@
 // Assignments of states to links, ordered by the number of links that differ from a base, and then link by link.
 ghost use Rattle.std.specs.Prelude.{◌≡◌, ◌^◌, ◌<◌, ◌≤◌, ◌++◌, suc, length, take, drop, Some, None, MatchOption};
 ghost use Rattle.nf_model.specs.Pattern.{changes as changes_of};
-ghost use Rattle.nf_pattern.specs.Stated.{AreStated};
-ghost use Rattle.nf_pattern.specs.Successor.{IsAssignment, free, earliest, later, next_assignment, raised_at, RaisesAt, IsSameBefore, IsQuiet};
+ghost use Rattle.nf_pattern.specs.Successor.{IsAssignment, free, earliest, raised_at, RaisesAt, IsQuiet};
 
 use crate::choice::{change, first_choice, next_choice};
 use crate::stated::StatedLinks;
@@ -115,75 +114,6 @@ fn raise_at(
     }
 }
 
-// Sets `states` to the next assignment with equally many changes that differs at one of the first `same` links. Returns `None`, and changes
-// nothing, if there is none. From `same` on, `changes` links differ from the base and `more` may differ.
-fn raise_from(
-    states: &mut [Option<State>],
-    base: &[Option<State>],
-    unbounded: &[bool],
-    same: usize,
-    changes: u32,
-    more: u32,
-    stated: &StatedLinks,
-) -> Option<Raised>
-    requires same { same ≤ length base.now }
-    requires states { length states.old ≡ length base.now }
-    requires assigned { IsAssignment base.now unbounded.now states.old }
-    requires unbounded { length unbounded.now ≡ length base.now }
-    requires fewer { length base.now < 2 ^ 32 }
-    requires valid { IsAssignment base.now unbounded.now base.now }
-    requires stated { AreStated base.now stated.now }
-    requires counted { changes ≡ changes_of (drop same base.now) (drop same states.old) }
-    requires free { more ≡ free (drop same base.now) }
-    ensures { MatchOption result ((later same base.now unbounded.now states.old ≡ None) × (states.new ≡ states.old))
-        (λ raised. (later same base.now unbounded.now states.old ≡ Some states.new) × IsSameBefore same raised.link states.old states.new
-        × IsQuiet base.now raised.quiet states.new) }
-{
-    let mut changes = changes;
-    let mut more = more;
-    let mut i = same;
-    while i > 0 {
-        i = stated.up_to(i - 1);
-        changes += change(base[i], states[i]);
-        if let Some(quiet) = raise_at(states, base, unbounded, i, changes, more) {
-            return Some(Raised { link: i, quiet });
-        }
-        more += change(None, base[i]);
-    }
-    None
-}
-
-// Sets `states` to the next assignment with equally many changes that differs at one of the first `same` links. Returns `None`, and changes
-// nothing, if there is none. Skips the unchanged suffix, since no link in it can be raised.
-fn raise(
-    states: &mut [Option<State>],
-    base: &[Option<State>],
-    unbounded: &[bool],
-    same: usize,
-    quiet: Quiet,
-    stated: &StatedLinks,
-) -> Option<Raised>
-    requires same { same ≤ length base.now }
-    requires states { length states.old ≡ length base.now }
-    requires assigned { IsAssignment base.now unbounded.now states.old }
-    requires unbounded { length unbounded.now ≡ length base.now }
-    requires fewer { length base.now < 2 ^ 32 }
-    requires valid { IsAssignment base.now unbounded.now base.now }
-    requires stated { AreStated base.now stated.now }
-    requires quiet { IsQuiet base.now quiet states.old }
-    ensures { MatchOption result ((later same base.now unbounded.now states.old ≡ None) × (states.new ≡ states.old))
-        (λ raised. (later same base.now unbounded.now states.old ≡ Some states.new) × IsSameBefore same raised.link states.old states.new
-        × IsQuiet base.now raised.quiet states.new) }
-{
-    if quiet.link <= same {
-        raise_from(states, base, unbounded, quiet.link, 0, quiet.free, stated)
-    } else {
-        let changes = count_changes(&base[same..quiet.link], &states[same..quiet.link]);
-        let more = count_free(&base[same..quiet.link]) + quiet.free;
-        raise_from(states, base, unbounded, same, changes, more, stated)
-    }
-}
-
 // Returns how many links differ from the base.
 fn count_changes(base: &[Option<State>], states: &[Option<State>]) -> u32
     requires states { length states.now ≡ length base.now }
@@ -211,37 +141,93 @@ fn count_free(base: &[Option<State>]) -> u32
     count
 }
 
-// Sets `states` to the next assignment with equally many changes that differs at one of the first `same` links. If there is none, sets them
-// to the earliest assignment with one change more. Returns `None`, and changes nothing, if there is neither.
-pub(crate) fn advance(
-    states: &mut [Option<State>],
-    base: &[Option<State>],
-    unbounded: &[bool],
-    same: usize,
-    quiet: Quiet,
-    stated: &StatedLinks,
-) -> Option<Raised>
-    requires same { same ≤ length base.now }
-    requires states { length states.old ≡ length base.now }
-    requires assigned { IsAssignment base.now unbounded.now states.old }
-    requires unbounded { length unbounded.now ≡ length base.now }
-    requires fewer { length base.now < 2 ^ 32 }
-    requires valid { IsAssignment base.now unbounded.now base.now }
-    requires stated { AreStated base.now stated.now }
-    requires quiet { IsQuiet base.now quiet states.old }
-    ensures { MatchOption result ((next_assignment same base.now unbounded.now states.old ≡ None) × (states.new ≡ states.old))
-        (λ raised. (next_assignment same base.now unbounded.now states.old ≡ Some states.new)
-        × IsSameBefore same raised.link states.old states.new
-        × IsQuiet base.now raised.quiet states.new) }
-{
-    if let Some(raised) = raise(states, base, unbounded, same, quiet, stated) {
-        return Some(raised);
+// A borrowed view of what the order of assignments depends on: the base, with a flag for each link that is unbounded, and the index of the
+// links that have a state in the base.
+#[derive(Clone, Copy)]
+pub(crate) struct Order<'a> {
+    pub(crate) base: &'a [Option<State>],
+    pub(crate) unbounded: &'a [bool],
+    pub(crate) stated: &'a StatedLinks,
+}
+
+impl<'a> Order<'a> {
+    ghost use Rattle.std.specs.Prelude.{◌≡◌, drop, Some, None, MatchOption};
+    ghost use Rattle.nf_model.specs.Pattern.{changes as changes_of};
+    ghost use Rattle.nf_pattern.specs.Successor.{free, later, next_assignment, IsSameBefore, IsQuiet};
+    ghost use Rattle.nf_pattern.specs.Ordered.{MayRaise};
+
+    // Sets `states` to the next assignment with equally many changes that differs at one of the first `same` links. Returns `None`, and
+    // changes nothing, if there is none. From `same` on, `changes` links differ from the base and `more` may differ.
+    fn raise_from(
+        &self,
+        states: &mut [Option<State>],
+        same: usize,
+        changes: u32,
+        more: u32,
+    ) -> Option<Raised>
+        requires may { MayRaise self.now same states.old }
+        requires counted { changes ≡ changes_of (drop same self.now.base.now) (drop same states.old) }
+        requires free { more ≡ free (drop same self.now.base.now) }
+        ensures { MatchOption result ((later same self.now.base.now self.now.unbounded.now states.old ≡ None) × (states.new ≡ states.old))
+            (λ raised. (later same self.now.base.now self.now.unbounded.now states.old ≡ Some states.new)
+            × IsSameBefore same raised.link states.old states.new × IsQuiet self.now.base.now raised.quiet states.new) }
+    {
+        let mut changes = changes;
+        let mut more = more;
+        let mut i = same;
+        while i > 0 {
+            i = self.stated.up_to(i - 1);
+            changes += change(self.base[i], states[i]);
+            if let Some(quiet) = raise_at(states, self.base, self.unbounded, i, changes, more) {
+                return Some(Raised { link: i, quiet });
+            }
+            more += change(None, self.base[i]);
+        }
+        None
     }
-    let changes = count_changes(base, states);
-    let more = count_free(base);
-    if changes >= more {
-        return None;
+
+    // Sets `states` to the next assignment with equally many changes that differs at one of the first `same` links. Returns `None`, and
+    // changes nothing, if there is none. Skips the unchanged suffix, since no link in it can be raised.
+    fn raise(&self, states: &mut [Option<State>], same: usize, quiet: Quiet) -> Option<Raised>
+        requires may { MayRaise self.now same states.old }
+        requires quiet { IsQuiet self.now.base.now quiet states.old }
+        ensures { MatchOption result ((later same self.now.base.now self.now.unbounded.now states.old ≡ None) × (states.new ≡ states.old))
+            (λ raised. (later same self.now.base.now self.now.unbounded.now states.old ≡ Some states.new)
+            × IsSameBefore same raised.link states.old states.new × IsQuiet self.now.base.now raised.quiet states.new) }
+    {
+        if quiet.link <= same {
+            self.raise_from(states, quiet.link, 0, quiet.free)
+        } else {
+            let changes = count_changes(&self.base[same..quiet.link], &states[same..quiet.link]);
+            let more = count_free(&self.base[same..quiet.link]) + quiet.free;
+            self.raise_from(states, same, changes, more)
+        }
     }
-    let quiet = fill(states, base, unbounded, changes + 1, more);
-    Some(Raised { link: 0, quiet })
+
+    // Sets `states` to the next assignment with equally many changes that differs at one of the first `same` links. If there is none, sets
+    // them to the earliest assignment with one change more. Returns `None`, and changes nothing, if there is neither.
+    pub(crate) fn advance(
+        &self,
+        states: &mut [Option<State>],
+        same: usize,
+        quiet: Quiet,
+    ) -> Option<Raised>
+        requires may { MayRaise self.now same states.old }
+        requires quiet { IsQuiet self.now.base.now quiet states.old }
+        ensures { MatchOption result ((next_assignment same self.now.base.now self.now.unbounded.now states.old ≡ None)
+            × (states.new ≡ states.old))
+            (λ raised. (next_assignment same self.now.base.now self.now.unbounded.now states.old ≡ Some states.new)
+            × IsSameBefore same raised.link states.old states.new × IsQuiet self.now.base.now raised.quiet states.new) }
+    {
+        if let Some(raised) = self.raise(states, same, quiet) {
+            return Some(raised);
+        }
+        let changes = count_changes(self.base, states);
+        let more = count_free(self.base);
+        if changes >= more {
+            return None;
+        }
+        let quiet = fill(states, self.base, self.unbounded, changes + 1, more);
+        Some(Raised { link: 0, quiet })
+    }
 }

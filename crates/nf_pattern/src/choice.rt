@@ -5,8 +5,8 @@ ghost use Rattle.nf_pattern.specs.Successor.{change as change_of, fits as is_fit
 
 use nf_model::State;
 
-// Returns the rank of a state: no state, Tight, Full, Zero in this order.
-fn rank(state: Option<State>) -> u32
+/// Returns the rank of a state: 0 for no state, 1 for Tight, 2 for Full, 3 for Zero.
+pub fn rank(state: Option<State>) -> u32
     ensures { result ≡ rank_of state }
 {
     match state {

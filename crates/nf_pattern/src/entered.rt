@@ -2,7 +2,7 @@
 ghost use Rattle.std.specs.Prelude.{◌≡◌, ◌≢◌, ◌^◌, ◌<◌, suc, length, List, Bool, Some, None, slice_get, MatchBool, IfOk};
 ghost use Rattle.nf_model.specs.Walk.{Hop as SeenHop, IsHop};
 ghost use Rattle.nf_graph.specs.Graph.{AreBelow};
-ghost use Rattle.nf_pattern.specs.Entered.{MayCarry, CanCarry, LeadsTo, EnteredBefore, IsLastInto, AreLastInto, AreChained, AreEndsBefore, AreEnds, IsLost, Strands, Keeps};
+ghost use Rattle.nf_pattern.specs.Entered.{MayCarry, CanCarry, LeadsTo, EnteredBefore, IsLastInto, AreLastInto, AreChained, AreEndsBefore, AreEnds, IsLost};
 
 use nf_graph::{Hop, LinkId, NodeId};
 use nf_model::State;
@@ -26,7 +26,7 @@ pub(crate) fn may_carry(states: &[Option<State>], resetting: &[bool], link: Link
 }
 
 // Returns whether `link` is the last link that can enter the node.
-fn is_end(ends: &[usize], node: NodeId, link: LinkId) -> bool
+pub(crate) fn is_end(ends: &[usize], node: NodeId, link: LinkId) -> bool
     requires { node < length ends.now }
     ensures { MatchBool result (slice_get ends.now node ≡ Some (suc link)) (slice_get ends.now node ≡ Some (suc link) → ⊥) }
 {
@@ -35,7 +35,7 @@ fn is_end(ends: &[usize], node: NodeId, link: LinkId) -> bool
 
 // Returns whether a resetting, Tight or Full link before `link` enters `node`, the head of `link`. Follows the chain of links into `node`
 // backward from `link`.
-fn is_entered_before(
+pub(crate) fn is_entered_before(
     hops: &[Hop],
     states: &[Option<State>],
     resetting: &[bool],
@@ -60,39 +60,6 @@ fn is_entered_before(
         at = chain[before.index()];
     }
     false
-}
-
-// Returns whether the head of `link` is not the source, no link up to `link` enters it, and no later link can.
-pub(crate) fn strands(
-    hops: &[Hop],
-    states: &[Option<State>],
-    resetting: &[bool],
-    source: NodeId,
-    link: LinkId,
-    chain: &[Option<LinkId>],
-    ends: &[usize],
-) -> bool
-    requires link { link < length hops.now }
-    requires states { length states.now ≡ length hops.now }
-    requires resetting { length resetting.now ≡ length hops.now }
-    requires below { AreBelow (length ends.now) hops.now }
-    requires chain { AreChained hops.now chain.now }
-    requires count { length chain.now ≡ length hops.now }
-    ensures { MatchBool result (Strands source hops.now resetting.now states.now ends.now link)
-        (Keeps source hops.now resetting.now states.now ends.now link) }
-{
-    if may_carry(states, resetting, link) {
-        return false;
-    }
-    let hop = &hops[link.index()];
-    let head = hop.head;
-    if head == source {
-        return false;
-    }
-    if !is_end(ends, head, link) {
-        return false;
-    }
-    !is_entered_before(hops, states, resetting, link, head, chain)
 }
 
 // Returns the last link before `link` with the same head, or `None`. Sets `last` at that head to `link`.

@@ -17,6 +17,7 @@ mod trail;
 mod walking;
 
 pub use bases::base;
+pub use choice::rank;
 pub use laws::{given_are_fronts, questions_have_listings};
 pub use nf_model::State;
 pub use pattern::Pattern;

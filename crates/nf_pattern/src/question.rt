@@ -1,7 +1,7 @@
 // The question of a listing, and the step from one listed pattern to the next.
 ghost use Rattle.std.specs.Prelude.{◌≡◌, ◌^◌, ◌<◌, length, IfOk};
 
-use crate::assignments::{Quiet, advance};
+use crate::assignments::{Order, Quiet};
 use crate::pattern::Pattern;
 use crate::stated::StatedLinks;
 use crate::trail::Trail;
@@ -59,33 +59,28 @@ impl Model for Question {
         × AreStated q.base q.stated };
 }
 
-// Returns for each link whether it is active. Fails if an allocation fails.
-fn active_flags(alloc: Global, sets: &LinkSets, links: usize) -> Result<Vec<bool>, AllocError>
-    requires links { length sets.now.active ≡ links }
-    requires fewer { links < 2 ^ 32 }
-    ensures { IfOk result (λ flags. flags.items ≡ sets.now.active) }
-{
-    let mut flags = Vec::new(alloc);
-    for e in 0..links {
-        let flag = sets.active(LinkId(e as u32));
-        flags.push(flag)?;
-    }
-    Ok(flags)
-}
-
-// Returns for each link whether it is resetting. Fails if an allocation fails.
-fn resetting_flags(alloc: Global, sets: &LinkSets, links: usize) -> Result<Vec<bool>, AllocError>
+// Returns the flags of the active links and those of the resetting links. Fails if an allocation fails.
+fn copied_flags(
+    alloc: Global,
+    sets: &LinkSets,
+    links: usize,
+) -> Result<(Vec<bool>, Vec<bool>), AllocError>
     requires active { length sets.now.active ≡ links }
     requires resetting { length sets.now.resetting ≡ links }
     requires fewer { links < 2 ^ 32 }
-    ensures { IfOk result (λ flags. flags.items ≡ sets.now.resetting) }
+    ensures active { IfOk result (λ flags. flags.0.items ≡ sets.now.active) }
+    ensures resetting { IfOk result (λ flags. flags.1.items ≡ sets.now.resetting) }
 {
-    let mut flags = Vec::new(alloc);
+    let mut active = Vec::new(alloc);
+    let mut resetting = Vec::new(alloc);
     for e in 0..links {
-        let flag = sets.resetting(LinkId(e as u32));
-        flags.push(flag)?;
+        let link = LinkId(e as u32);
+        let is_active = sets.active(link);
+        active.push(is_active)?;
+        let is_resetting = sets.resetting(link);
+        resetting.push(is_resetting)?;
     }
-    Ok(flags)
+    Ok((active, resetting))
 }
 
 impl Question {
@@ -95,7 +90,7 @@ impl Question {
     ghost use Rattle.nf_pattern.specs.Successor.{IsAssignment, IsSameBefore, IsQuiet, next_assignment};
     ghost use Rattle.nf_pattern.specs.Given.{IsQuestion, IsListedBy, IsBarren, IsFirstFrom, NoneFrom, IsNext, NoneLeft, AtStart, UpTo};
     ghost use Rattle.nf_pattern.specs.declared.question.Stand.TheVariants.{Start};
-    ghost use Rattle.nf_pattern.specs.Stands.{last_of};
+    ghost use Rattle.nf_pattern.specs.Stands.{last_of, IsPlaced};
 
     // Returns the question of these values, copied. Fails if an allocation fails.
     pub(crate) fn new(
@@ -112,8 +107,7 @@ impl Question {
         ensures { IfOk result (λ question. question
             ≡ record { nodes = nodes; source = source; hops = hops.now; sets = sets.now; unbounded = unbounded.now; base = base.now }) }
     {
-        let active = active_flags(alloc, sets, hops.len())?;
-        let resetting = resetting_flags(alloc, sets, hops.len())?;
+        let flags = copied_flags(alloc, sets, hops.len())?;
         let hops = hops.to_vec(alloc)?;
         let unbounded = unbounded.to_vec(alloc)?;
         let base = base.copy(alloc)?;
@@ -122,8 +116,8 @@ impl Question {
             nodes,
             source,
             hops,
-            active,
-            resetting,
+            active: flags.0,
+            resetting: flags.1,
             unbounded,
             base,
             stated,
@@ -183,14 +177,12 @@ impl Question {
             (λ link. (next_assignment same self.now.base self.now.unbounded states.old ≡ Some states.new)
             × IsSameBefore same link states.old states.new) }
     {
-        let raised = advance(
-            states,
-            self.base.states(),
-            &self.unbounded,
-            same,
-            *quiet,
-            &self.stated,
-        )?;
+        let order = Order {
+            base: self.base.states(),
+            unbounded: &self.unbounded,
+            stated: &self.stated,
+        };
+        let raised = order.advance(states, same, *quiet)?;
         *quiet = raised.quiet;
         Some(raised.link)
     }
@@ -207,13 +199,8 @@ impl Question {
 
     // Advances `states` to the first listed pattern from this assignment on. Returns whether there is one.
     fn seek(&self, states: &mut [Option<State>], trail: &mut Trail, quiet: &mut Quiet) -> bool
-        requires question { IsQuestion self.now }
-        requires assigned { IsAssignment self.now.base self.now.unbounded states.old }
-        requires trail { IsTrailOf self.now states.old trail.old }
-        requires quiet { IsQuiet self.now.base quiet.old states.old }
-        ensures assigned { IsAssignment self.now.base self.now.unbounded states.new }
-        ensures trail { IsTrailOf self.now states.new trail.new }
-        ensures quiet { IsQuiet self.now.base quiet.new states.new }
+        requires placed { IsPlaced self.now states.old trail.old quiet.old }
+        ensures placed { IsPlaced self.now states.new trail.new quiet.new }
         ensures found { MatchBool result (IsFirstFrom self.now states.old states.new) (NoneFrom self.now states.old) }
     {
         while let Some(same) = self.failing(states, trail) {
@@ -227,13 +214,9 @@ impl Question {
 
     // Advances `states` from the base to the first listed pattern. Returns whether there is one.
     fn first(&self, states: &mut [Option<State>], trail: &mut Trail, quiet: &mut Quiet) -> bool
-        requires question { IsQuestion self.now }
         requires base { states.old ≡ self.now.base }
-        requires trail { IsTrailOf self.now states.old trail.old }
-        requires quiet { IsQuiet self.now.base quiet.old states.old }
-        ensures assigned { IsAssignment self.now.base self.now.unbounded states.new }
-        ensures trail { IsTrailOf self.now states.new trail.new }
-        ensures quiet { IsQuiet self.now.base quiet.new states.new }
+        requires placed { IsPlaced self.now states.old trail.old quiet.old }
+        ensures placed { IsPlaced self.now states.new trail.new quiet.new }
         ensures found { MatchBool result (IsNext self.now AtStart states.new) (NoneLeft self.now AtStart) }
     {
         self.seek(states, trail, quiet)
@@ -241,13 +224,8 @@ impl Question {
 
     // Advances `states` from a listed pattern to the next one. Returns whether there is one.
     fn after(&self, states: &mut [Option<State>], trail: &mut Trail, quiet: &mut Quiet) -> bool
-        requires question { IsQuestion self.now }
-        requires assigned { IsAssignment self.now.base self.now.unbounded states.old }
-        requires trail { IsTrailOf self.now states.old trail.old }
-        requires quiet { IsQuiet self.now.base quiet.old states.old }
-        ensures assigned { IsAssignment self.now.base self.now.unbounded states.new }
-        ensures trail { IsTrailOf self.now states.new trail.new }
-        ensures quiet { IsQuiet self.now.base quiet.new states.new }
+        requires placed { IsPlaced self.now states.old trail.old quiet.old }
+        ensures placed { IsPlaced self.now states.new trail.new quiet.new }
         ensures found { MatchBool result (IsNext self.now (UpTo states.old) states.new) (NoneLeft self.now (UpTo states.old)) }
     {
         let links = states.len();
@@ -268,14 +246,9 @@ impl Question {
         trail: &mut Trail,
         quiet: &mut Quiet,
     ) -> bool
-        requires question { IsQuestion self.now }
-        requires assigned { IsAssignment self.now.base self.now.unbounded states.old }
         requires start { stand ≡ Start → states.old ≡ self.now.base }
-        requires trail { IsTrailOf self.now states.old trail.old }
-        requires quiet { IsQuiet self.now.base quiet.old states.old }
-        ensures assigned { IsAssignment self.now.base self.now.unbounded states.new }
-        ensures trail { IsTrailOf self.now states.new trail.new }
-        ensures quiet { IsQuiet self.now.base quiet.new states.new }
+        requires placed { IsPlaced self.now states.old trail.old quiet.old }
+        ensures placed { IsPlaced self.now states.new trail.new quiet.new }
         ensures found { MatchBool result (IsNext self.now (last_of stand states.old) states.new)
             (NoneLeft self.now (last_of stand states.old)) }
     {

@@ -1,5 +1,5 @@
 // The examined prefix of a pattern. It is shortened to what two patterns have in common, and extended from there.
-use crate::entered::{chain, ends, is_lost, strands};
+use crate::entered::{chain, ends, is_end, is_entered_before, is_lost, may_carry};
 use crate::firm::FirmLinks;
 use crate::firming::firm_links;
 use crate::stated::StatedLinks;
@@ -27,7 +27,7 @@ impl Trail {
     ghost use Rattle.nf_model.specs.Pattern.{Pattern as SeenPattern};
     ghost use Rattle.nf_graph.specs.Graph.{AreBelow};
     ghost use Rattle.nf_pattern.specs.Forest.{Closes};
-    ghost use Rattle.nf_pattern.specs.Entered.{Strands, AreEnds, DoEndsCarry, IsLost};
+    ghost use Rattle.nf_pattern.specs.Entered.{AreChained, Strands, Keeps, AreEnds, DoEndsCarry, IsLost};
     ghost use Rattle.nf_pattern.specs.Stated.{AreStated};
     ghost use Rattle.nf_pattern.specs.Trail.{Follows, IsLeft, IsLeftBy, IsOnWay};
 
@@ -78,6 +78,38 @@ impl Trail {
         self.lost
     }
 
+    // Returns whether the head of `link` is not the source, no link up to `link` enters it, and no later link can.
+    fn strands(
+        &self,
+        hops: &[Hop],
+        states: &[Option<State>],
+        resetting: &[bool],
+        source: NodeId,
+        link: LinkId,
+    ) -> bool
+        requires link { link < length hops.now }
+        requires states { length states.now ≡ length hops.now }
+        requires resetting { length resetting.now ≡ length hops.now }
+        requires below { AreBelow (length self.now.ends.items) hops.now }
+        requires chain { AreChained hops.now self.now.chain.items }
+        requires count { length self.now.chain.items ≡ length hops.now }
+        ensures { MatchBool result (Strands source hops.now resetting.now states.now self.now.ends.items link)
+            (Keeps source hops.now resetting.now states.now self.now.ends.items link) }
+    {
+        if may_carry(states, resetting, link) {
+            return false;
+        }
+        let hop = &hops[link.index()];
+        let head = hop.head;
+        if head == source {
+            return false;
+        }
+        if !is_end(&self.ends, head, link) {
+            return false;
+        }
+        !is_entered_before(hops, states, resetting, link, head, &self.chain)
+    }
+
     // Examines the next link. Returns false, and keeps the depth, if the link closes a cycle or strands a node.
     fn enter(
         &mut self,
@@ -105,15 +137,7 @@ impl Trail {
             self.depth += 1;
             return true;
         }
-        if strands(
-            hops,
-            states,
-            resetting,
-            source,
-            link,
-            &self.chain,
-            &self.ends,
-        ) {
+        if self.strands(hops, states, resetting, source, link) {
             return false;
         }
         self.depth += 1;

@@ -1,16 +1,10 @@
-use Rattle.std.proofs.Common.{Bool, List, sym, ap, subst, ◌∙◌}
+use Rattle.std.proofs.Common.{Bool, List, ◌≤◌, length, sym, ap, subst, ◌∙◌}
 use Rattle.nf_model.specs.Pattern.{Pattern}
 use Rattle.nf_pattern.specs.Given.{Question}
 use Rattle.nf_pattern.specs.Successor.{IsAssignment, IsQuiet, next_assignment}
 use Rattle.nf_pattern.specs.Stated.{AreStated}
-use Rattle.nf_pattern.proofs.OnTrail.{valid_base, count_base}
+use Rattle.nf_pattern.proofs.OnTrail.{valid_base, unbounded_base, few_base, count_base}
 use Rattle.nf_pattern.proofs.question.Question.advance.Goals as goal
-
-pub advance-requires-clause-states : goal.advance-requires-clause-states
-advance-requires-clause-states c = count_base _ c.args.self.now c.self.view_is c.self.invariant.0 c.args.states.now c.requires.assigned c.states.result.now c.states.ensures
-
-pub advance-requires-clause-valid : goal.advance-requires-clause-valid
-advance-requires-clause-valid c = valid_base _ c.args.self.now c.self.view_is c.self.invariant.0 c.states.result.now c.deref.result.now c.states.ensures c.deref.ensures.value
 
 pub returns-clause-quiet : goal.returns-clause-quiet
 returns-clause-quiet c =
@@ -26,11 +20,19 @@ returns-in_err-raised-clause-found c =
     let unbounded = ap (λ (q : Question). q.unbounded) (sym c.self.view_is) ∙ sym c.deref.ensures.value in
     rw c.from_residual.ensures ((λ i. next_assignment c.args.same (base i) (unbounded i) c.args.states.now) ∙ c.in_err-raised.ensures.0, c.in_err-raised.ensures.1)
 
-pub advance-requires-clause-assigned : goal.advance-requires-clause-assigned
-advance-requires-clause-assigned c =
+pub advance-requires-clause-may : goal.advance-requires-clause-may
+advance-requires-clause-may c =
     let base = ap (λ (q : Question). q.base) (sym c.self.view_is) ∙ sym c.states.ensures in
     let unbounded = ap (λ (q : Question). q.unbounded) (sym c.self.view_is) ∙ sym c.deref.ensures.value in
-    subst (λ (b : Pattern). IsAssignment b c.deref.result.now c.args.states.now) base (subst (λ (us : List Bool). IsAssignment c.args.self.now.base us c.args.states.now) unbounded c.requires.assigned)
-
-pub advance-requires-clause-stated : goal.advance-requires-clause-stated
-advance-requires-clause-stated c = subst (λ (b : Pattern). AreStated b c.self.inside.stated) (sym c.states.ensures) c.self.invariant.1
+    record {
+      is_order = record {
+        unbounded = unbounded_base _ c.args.self.now c.self.view_is c.self.invariant.0 c.states.result.now c.deref.result.now c.states.ensures c.deref.ensures.value;
+        fewer = few_base _ c.args.self.now c.self.view_is c.self.invariant.0 c.states.result.now c.states.ensures;
+        valid = valid_base _ c.args.self.now c.self.view_is c.self.invariant.0 c.states.result.now c.deref.result.now c.states.ensures c.deref.ensures.value;
+        stated = subst (λ (b : Pattern). AreStated b c.self.inside.stated) (sym c.states.ensures) c.self.invariant.1;
+      };
+      within = subst (λ (b : Pattern). c.args.same ≤ length b) base c.requires.same;
+      count = count_base _ c.args.self.now c.self.view_is c.self.invariant.0 c.args.states.now c.requires.assigned c.states.result.now c.states.ensures;
+      assigned = subst (λ (b : Pattern). IsAssignment b c.deref.result.now c.args.states.now) base
+          (subst (λ (us : List Bool). IsAssignment c.args.self.now.base us c.args.states.now) unbounded c.requires.assigned);
+    }

@@ -1,8 +1,7 @@
-use Rattle.std.proofs.Common.{ℕ, List, Option, length, refl, inl, inr, ap, sym, subst, ◌∙◌, add-one, arith}
+use Rattle.std.proofs.Common.{ℕ, refl, inl, inr, sym, subst, add-one, arith}
 use Rattle.nf_graph.specs.Graph.{AreBelow}
 use Rattle.nf_pattern.specs.declared.firm.FirmLinks.{FirmLinks}
 use Rattle.nf_pattern.specs.declared.walking.TightLinks.{TightLinks}
-use Rattle.nf_pattern.specs.Entered.{AreChained, Keeps, Strands}
 use Rattle.nf_pattern.specs.Trail.{Follows}
 use Rattle.nf_pattern.proofs.Entries.{carries_keeps}
 use Rattle.nf_pattern.proofs.Holding.{holds_loose, clear_more}
@@ -32,20 +31,20 @@ returns-clause-follows c =
     (holds_loose c.args.hops.now c.args.states.now c.args.self.now.depth c.args.self.now.tight.last.items c.args.self.now.tight.tails.items c.args.self.now.tight.heads.items
     c.requires.follows.tight c.if-is_tight.ensures)
     (clear_more c.args.hops.now c.args.states.now c.args.self.now.depth c.requires.follows.clear (λ closes. c.if-is_tight.ensures closes.0)) refl refl refl
-    (subst (λ (es : List ℕ). Keeps c.args.source c.args.hops.now c.args.resetting.now c.args.states.now es c.args.self.now.depth) c.deref-2.ensures.value c.if-strands.ensures)
+    c.if-strands.ensures
     (calm_loose c.args.hops.now c.args.states.now c.args.self.now.depth c.args.self.now.firm c.requires.follows.calm c.if-is_tight.ensures)
 
 pub strands-requires-clause-link : goal.strands-requires-clause-link
 strands-requires-clause-link c = c.requires.more
 
 pub strands-requires-clause-below : goal.strands-requires-clause-below
-strands-requires-clause-below c = subst (λ (n : ℕ). AreBelow n c.args.hops.now) (sym (ap (λ (es : List ℕ). length es) c.deref-2.ensures.value ∙ c.requires.follows.count_ends)) c.requires.follows.tight.below
+strands-requires-clause-below c = subst (λ (n : ℕ). AreBelow n c.args.hops.now) (sym c.requires.follows.count_ends) c.requires.follows.tight.below
 
 pub strands-requires-clause-chain : goal.strands-requires-clause-chain
-strands-requires-clause-chain c = subst (AreChained c.args.hops.now) (sym c.deref.ensures.value) c.requires.follows.chain
+strands-requires-clause-chain c = c.requires.follows.chain
 
 pub strands-requires-clause-count : goal.strands-requires-clause-count
-strands-requires-clause-count c = ap (λ (os : List (Option ℕ)). length os) c.deref.ensures.value ∙ c.requires.follows.count_chain
+strands-requires-clause-count c = c.requires.follows.count_chain
 
 pub returns-then-strands-clause-follows : goal.returns-then-strands-clause-follows
 returns-then-strands-clause-follows c = c.requires.follows
@@ -54,10 +53,7 @@ pub returns-then-strands-clause-way : goal.returns-then-strands-clause-way
 returns-then-strands-clause-way c = record { nodes = refl; ends = refl; lost = refl }
 
 pub returns-then-strands-clause-entered : goal.returns-then-strands-clause-entered
-returns-then-strands-clause-entered c = (
-  refl,
-  inl (subst (λ (es : List ℕ). Strands c.args.source c.args.hops.now c.args.resetting.now c.args.states.now es c.args.self.now.depth) c.deref-2.ensures.value c.if-strands.ensures),
-)
+returns-then-strands-clause-entered c = (refl, inl c.if-strands.ensures)
 
 pub enter-requires-clause-link : goal.enter-requires-clause-link
 enter-requires-clause-link c = c.requires.more
