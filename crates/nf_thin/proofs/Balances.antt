@@ -1,5 +1,5 @@
 -- The surplus of each node on the first links, link by link.
-use Rattle.std.proofs.Common.{◌≡◌, ◌≢◌, ℕ, zero, suc, ◌<◌, ◌≤◌, List, [], ◌∷◌, length, replicate, ⊎_elim, Bool, true, false, eqb, refl, sym, ap, subst, ◌∙◌, arith}
+use Rattle.std.proofs.Common.{◌≡◌, ◌≢◌, ℕ, zero, suc, ◌<◌, ◌≤◌, List, length, replicate, ⊎_elim, Bool, true, false, eqb, refl, sym, ap, subst, ◌∙◌, arith}
 use Rattle.std.specs.Prelude.{Some, slice_get, slice_set}
 use Rattle.std.proofs.lemmas.Bool.{true≢false}
 use Rattle.std.proofs.lemmas.Bool.Decides.{eqb_tells}
@@ -37,7 +37,7 @@ pub test_other : (b : Bool) (v w : ℕ) → b ≡ eqb v w → b ≡ false → v 
 test_other b v w is told same = true≢false (sym (eqb_same v w same) ∙ (sym is ∙ told))
 
 -- ---- no link
-replicated : {A : Type 0} (n k : ℕ) (x y : A) → slice_get (replicate n x) k ≡ Some y → x ≡ y
+pub replicated : {A : Type 0} (n k : ℕ) (x y : A) → slice_get (replicate n x) k ≡ Some y → x ≡ y
 replicated zero k x y h = absurd (none-some y h)
 replicated (suc n) zero x y h = same_Some x y h
 replicated (suc n) (suc k) x y h = replicated n k x y h

@@ -1,11 +1,11 @@
 -- Keepers of nodes, and the combinable states of links by them.
-use Rattle.std.proofs.Common.{◌≡◌, ◌≢◌, ◌⊎◌, inl, inr, ℕ, ◌+◌, ◌<◌, Bool, true, false, not, List, ◌++◌, length, take, drop, refl, sym, ap, subst, ◌∙◌, arith}
+use Rattle.std.proofs.Common.{◌≡◌, ◌≢◌, ◌⊎◌, inl, inr, ℕ, ◌+◌, ◌<◌, Bool, true, false, not, List, ◌++◌, length, replicate, take, drop, refl, sym, ap, subst, ◌∙◌, arith}
 use Rattle.std.specs.Prelude.{Option, Some, None, slice_get, slice_set, map, is_some, is_none}
 use Rattle.std.proofs.Math.ListN.{drop_of_length-le}
 use Rattle.std.proofs.Math.Seq.{take-length}
 use Rattle.std.proofs.lemmas.Bool.{true≢false}
-use Rattle.std.proofs.lemmas.List.{append-nil, length-map}
-use Rattle.std.proofs.lemmas.Option.{same_Some, slice_get_within}
+use Rattle.std.proofs.lemmas.List.{append-nil, length-map, length-replicate}
+use Rattle.std.proofs.lemmas.Option.{none-some, same_Some, slice_get_within}
 use Rattle.nf_model.specs.declared.State.{State}
 use Rattle.nf_model.specs.declared.State.TheVariants.{Tight, Full}
 use Rattle.nf_model.specs.Entries.{Has}
@@ -23,12 +23,25 @@ use Rattle.nf_thin_narrow.specs.declared.firm.Firm.{Firm}
 use Rattle.nf_thin.specs.Firming.{HaveFirm, MayKeep, AreKeepers, IsFirmOf, AreFirmBy}
 use Rattle.nf_thin.specs.Searching.{AreSetsOf}
 use Rattle.nf_thin.proofs.Hops.{hops_length}
+use Rattle.nf_thin.proofs.Balances.{replicated}
 
 -- a vector that was written to as a whole
 pub refilled : {A : Type 0} (n : ℕ) (xs ws : List A) → n ≡ length xs → length ws ≡ length xs → take n (ws ++ drop (length ws) xs) ≡ ws
 refilled {A = A} n xs ws count same =
     ap (λ (zs : List A). take n (ws ++ zs)) (drop_of_length-le xs (omega arith))
     ∙ (ap (take n) (append-nil ws) ∙ (ap (λ (k : ℕ). take k ws) (let e : n ≡ length ws = omega arith in e) ∙ take-length ws))
+
+-- no link
+pub none_kept : (net : Network) (sets : Sets) (listed : Pattern) (count : ℕ) (keepers : List (Option ℕ)) → keepers ≡ replicate {A = Option ℕ} count None → count ≡ net.nodes
+    → AreKeepers net sets listed 0 keepers
+none_kept net sets listed count keepers is same = record {
+  count = ap (λ (l : List (Option ℕ)). length l) is ∙ (counted ∙ same);
+  keeps = λ v e at. absurd (none-some e (replicated count v None (Some e) (sym (ap (λ (l : List (Option ℕ)). slice_get l v) is) ∙ at)));
+  there = λ v e less may none. omega arith;
+}
+  where
+    counted : length (replicate {A = Option ℕ} count None) ≡ count
+    counted = length-replicate count None
 
 -- one link more
 module _ (net : Network) (sets : Sets) (listed : Pattern) (n node : ℕ) (old new : List (Option ℕ)) (resets leads : Bool) (state : Option State) (hop : Hop) (is_hop : IsHop (hops net) n hop) (head : hop.head ≡ node)

@@ -1,4 +1,5 @@
 pub mod Hops
+pub mod Posed
 pub mod Searched
 pub mod Asking
 pub mod FoundThin

@@ -4,7 +4,7 @@ use Rattle.std.specs.Prelude.{Some, None, slice_get, Ok, Err}
 use Rattle.std.proofs.lemmas.Option.{same_Some}
 use Rattle.nf_rational.specs.Rational.{ℚ}
 use Rattle.nf_frac_def.specs.Passing.{Passing}
-use Rattle.nf_model.specs.Network.{Network, IsNetwork, hops, unbounded}
+use Rattle.nf_model.specs.Network.{Network, hops, unbounded}
 use Rattle.nf_model.specs.ThinFlow.{Sets}
 use Rattle.nf_model.specs.Pattern.{Pattern, IsPattern, IsListedIn, IsBefore}
 use Rattle.nf_thin_def.specs.Accepted.{IsAccepted}
@@ -16,7 +16,6 @@ use Rattle.nf_thin_laws.proofs.Narrowed.{order_put, no_earlier_place}
 use Rattle.nf_pattern.specs.Given.{Question, IsListedBy, Given, Last, AtStart, UpTo, IsLater, IsNext, Gives}
 use Rattle.nf_thin_narrow.specs.Asking.{question_left, StandsWithin, GivenUpTo, StandsAt}
 use Rattle.nf_thin_narrow.proofs.Places.{given_next}
-use Rattle.nf_thin_equation_laws.specs.Equations.{IsPatternIn}
 use Rattle.nf_thin.specs.declared.thin.Thin.{Thin}
 use Rattle.nf_thin.specs.declared.fault.SearchFault.{SearchFault}
 use Rattle.nf_thin.specs.declared.vain.Vain.{Vain}
@@ -44,16 +43,13 @@ pub record IsWhole (net : Network) (sets : Sets) (base forced : Pattern) (last :
 abbrev pub KeepsUp : Network → Sets → Pattern → Pattern → Last → Pace → Type 0
 KeepsUp net sets base forced last pace = (all : Given) → pace.walk ≡ Some all → IsWhole net sets base forced last all
 
-module _ (passes : Passing) (net : Network) (sets : Sets) (rate : ℚ) (base forced : Pattern) (good : IsNetwork net) (sets_are : AreSetsOf net sets) (forcing : IsForcing sets (unbounded net) forced)
+module _ (passes : Passing) (net : Network) (sets : Sets) (rate : ℚ) (base forced : Pattern) (sets_are : AreSetsOf net sets) (forcing : IsForcing sets (unbounded net) forced)
     (given : Given) (same : given.question ≡ question_left forced (question_of net sets base)) (p : Pattern) (after : Given) (gives : Gives given (Some p) after) where
   next : IsNext (question_left forced (question_of net sets base)) given.last p
   next = subst (λ (q : Question). IsNext q given.last p) same gives.0
 
   pub whole_listed : IsListedIn net sets (filled forced p)
   whole_listed = filled_listed sets (unbounded net) forced forcing net.nodes net.source (hops net) p next.listed
-
-  pub whole_pattern : IsPatternIn net sets (filled forced p)
-  whole_pattern = record { network = good; sets_are = sets_are.sets_are; bounded = sets_are.bounded; pattern_is = whole_listed.states }
 
   -- The next pattern is later, so the full listing is still before it.
   pub next_later : IsPattern sets (unbounded net) base → (pace : Pace) → KeepsUp net sets base forced given.last pace → StaysBehind (question_of net sets base) pace (filled forced p)

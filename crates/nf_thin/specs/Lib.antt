@@ -1,5 +1,6 @@
 pub mod FirstPassing
 pub mod Searching
+pub mod Posing
 pub mod Slopes
 pub mod Ranges
 pub mod Conserving

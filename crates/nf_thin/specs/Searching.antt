@@ -50,15 +50,18 @@ module _ (passes : Passing) (net : Network) (sets : Sets) (rate : ℚ) (pattern 
     pub accepted : IsAccepted passes net sets rate pattern
     pub solution : IsSolution net sets rate pattern thin.flows.items thin.labels.items
 
+-- The result of one step: `Rejects` holds without a thin flow, and `Finds` of a thin flow. The step is refused if the budget is spent.
+abbrev pub Steps : Type 0 → (Thin → Type 0) → ℕ → Vain → Result (Option Thin) SearchFault → Type 0
+Steps Rejects Finds budget before (Ok None) = (before.tried < budget) × Rejects
+Steps Rejects Finds budget before (Ok (Some thin)) = (before.tried < budget) × Finds thin
+Steps Rejects Finds budget before (Err (SearchFault.Budget tried)) = (before.tried ≡ budget) × (tried ≡ budget)
+Steps Rejects Finds budget before (Err (SearchFault.Passed place at)) = ⊥
+Steps Rejects Finds budget before (Err SearchFault.NoPattern) = ⊥
+Steps Rejects Finds budget before (Err SearchFault.Memory) = Unit {0}
+
 abbrev pub TriesNext : Passing → Network → Sets → ℚ → ℕ → Pattern → Vain → Vain → Result (Option Thin) SearchFault → Type 0
-TriesNext passes net sets rate budget pattern before after (Ok None) = (before.tried < budget)
-    × InVain passes net sets rate pattern before after
-TriesNext passes net sets rate budget pattern before after (Ok (Some thin)) = (before.tried < budget)
-    × IsFound passes net sets rate pattern before thin
-TriesNext passes net sets rate budget pattern before after (Err (SearchFault.Budget tried)) = (before.tried ≡ budget) × (tried ≡ budget)
-TriesNext passes net sets rate budget pattern before after (Err (SearchFault.Passed place at)) = ⊥
-TriesNext passes net sets rate budget pattern before after (Err SearchFault.NoPattern) = ⊥
-TriesNext passes net sets rate budget pattern before after (Err SearchFault.Memory) = Unit {0}
+TriesNext passes net sets rate budget pattern before after =
+    Steps (InVain passes net sets rate pattern before after) (IsFound passes net sets rate pattern before) budget before
 
 -- ---- the whole listing
 

@@ -1,5 +1,5 @@
 -- One step of the search by slopes of a thin flow.
-use Rattle.std.specs.Prelude.{◌≡◌, ℕ, suc, ◌<◌, length, Option, Some, None, Result, Ok, Err}
+use Rattle.std.specs.Prelude.{◌≡◌, ℕ, suc, length, Option, Result}
 use Rattle.nf_rational.specs.Rational.{ℚ}
 use Rattle.nf_frac_def.specs.Passing.{Passing}
 use Rattle.nf_model.specs.Network.{Network}
@@ -15,7 +15,7 @@ use Rattle.nf_thin.specs.Slopes.{AreThinSlopes, AreSlopesOfListed}
 use Rattle.nf_thin.specs.Ranges.{IsWithin, scaled}
 use Rattle.nf_thin.specs.Conserving.{AreFull}
 use Rattle.nf_thin.specs.Knowing.{IsKnown}
-use Rattle.nf_thin.specs.Searching.{IsFound}
+use Rattle.nf_thin.specs.Searching.{IsFound, Steps}
 
 -- A guide is right: its pattern is accepted, the active links hold no cycle, and every solution of a listed pattern has its slopes. Its
 -- ranges hold the scaled supply and the scaled flows that fill the links.
@@ -34,11 +34,5 @@ pub record IsCounted (passes : Passing) (net : Network) (sets : Sets) (rate : �
   pub not_accepted : IsAccepted passes net sets rate pattern → ⊥
 
 abbrev pub SiftsNext : Passing → Network → Sets → ℚ → ℕ → Pattern → Vain → Vain → Result (Option Thin) SearchFault → Type 0
-SiftsNext passes net sets rate budget pattern before after (Ok None) = (before.tried < budget)
-    × IsCounted passes net sets rate pattern before after
-SiftsNext passes net sets rate budget pattern before after (Ok (Some thin)) = (before.tried < budget)
-    × IsFound passes net sets rate pattern before thin
-SiftsNext passes net sets rate budget pattern before after (Err (SearchFault.Budget tried)) = (before.tried ≡ budget) × (tried ≡ budget)
-SiftsNext passes net sets rate budget pattern before after (Err (SearchFault.Passed place at)) = ⊥
-SiftsNext passes net sets rate budget pattern before after (Err SearchFault.NoPattern) = ⊥
-SiftsNext passes net sets rate budget pattern before after (Err SearchFault.Memory) = Unit {0}
+SiftsNext passes net sets rate budget pattern before after =
+    Steps (IsCounted passes net sets rate pattern before after) (IsFound passes net sets rate pattern before) budget before

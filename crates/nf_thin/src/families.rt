@@ -1,14 +1,15 @@
 // A bound from below on the rank of a listed pattern, by families of freely combinable states. No pattern is in two families.
 ghost use Rattle.std.specs.Prelude.{◌≡◌, ◌≢◌, ◌<◌, ◌≤◌, true, length, IfOk, IfSome, Some, slice_get, slice_set};
 ghost use Rattle.nf_model.specs.declared.State.{State};
-ghost use Rattle.nf_model.specs.Network.{unbounded as unbounded_of};
-ghost use Rattle.nf_model.specs.Pattern.{IsPattern, IsListedIn, HasState};
-ghost use Rattle.nf_thin.specs.Firming.{AreKeepers, MayKeep};
+ghost use Rattle.nf_model.specs.ThinFlow.{Sets};
+ghost use Rattle.nf_model.specs.Pattern.{HasState};
+ghost use Rattle.nf_thin.specs.Firming.{MayKeep};
 ghost use Rattle.nf_thin.specs.Families.{IsSpare, IsByOther, CountsBefore};
-ghost use Rattle.nf_thin.specs.Searching.{AreSetsOf, question_of};
+ghost use Rattle.nf_thin.specs.Posing.{IsPosed, question_in, IsListedFor, AreKeepersFor};
 
 use crate::firming::{firm_states, keepers, leads};
-use nf_graph::{LinkId, LinkSets, NodeId};
+use crate::problem::Problem;
+use nf_graph::{LinkId, NodeId};
 use nf_net::Network;
 use nf_pattern::Pattern;
 use nf_thin_narrow::firm_ways_before;
@@ -36,21 +37,12 @@ fn is_other(one: LinkId, other: LinkId) -> bool
 }
 
 // Returns whether the link is Tight or Full, enters the node, and is not its keeper.
-fn may_replace(
-    net: &Network,
-    sets: &LinkSets,
-    listed: &Pattern,
-    node: NodeId,
-    keeper: LinkId,
-    link: LinkId,
-) -> bool
+fn may_replace(net: &Network, listed: &Pattern, node: NodeId, keeper: LinkId, link: LinkId) -> bool
     requires link { link < length net.now.net.links }
     requires listed { length listed.now ≡ length net.now.net.links }
     ensures differs { result ≡ true → link ≢ keeper }
-    ensures keeps { result ≡ true → MayKeep net.now.net sets.now listed.now link node }
+    ensures keeps { result ≡ true → (sets : Sets) → MayKeep net.now.net sets listed.now link node }
 {
-    // Proof: the contract reads `sets`.
-    let _ = sets;
     if !is_other(link, keeper) {
         return false;
     }
@@ -62,18 +54,12 @@ fn may_replace(
 }
 
 // Returns a Tight or Full link into the node other than its keeper, or `None` if there is none.
-fn other_keeper(
-    net: &Network,
-    sets: &LinkSets,
-    listed: &Pattern,
-    node: NodeId,
-    keeper: LinkId,
-) -> Option<LinkId>
+fn other_keeper(net: &Network, listed: &Pattern, node: NodeId, keeper: LinkId) -> Option<LinkId>
     requires listed { length listed.now ≡ length net.now.net.links }
-    ensures { IfSome result (λ other. (other ≢ keeper) × MayKeep net.now.net sets.now listed.now other node) }
+    ensures { IfSome result (λ other. (other ≢ keeper) × ((sets : Sets) → MayKeep net.now.net sets listed.now other node)) }
 {
     for e in 0..net.link_count() {
-        if may_replace(net, sets, listed, node, keeper, LinkId(e)) {
+        if may_replace(net, listed, node, keeper, LinkId(e)) {
             return Some(LinkId(e));
         }
     }
@@ -98,25 +84,22 @@ fn has_state(base: &Pattern, link: LinkId) -> bool
 
 // Returns the node's keeper with another link that may keep the node, if the keeper has a state.
 fn spare_keeper(
-    net: &Network,
-    sets: &LinkSets,
-    base: &Pattern,
+    problem: &Problem,
     listed: &Pattern,
     keepers: &[Option<LinkId>],
     node: NodeId,
 ) -> Option<Spare>
-    requires sets { AreSetsOf net.now.net sets.now }
-    requires base { IsPattern sets.now (unbounded_of net.now.net) base.now }
-    requires listed { IsListedIn net.now.net sets.now listed.now }
-    requires keepers { AreKeepers net.now.net sets.now listed.now (length net.now.net.links) keepers.now }
-    requires node { node < net.now.net.nodes }
-    ensures { IfSome result (IsSpare net.now.net sets.now base.now listed.now keepers.now node) }
+    requires problem { IsPosed problem.now }
+    requires listed { IsListedFor problem.now listed.now }
+    requires keepers { AreKeepersFor problem.now listed.now keepers.now }
+    requires node { node < problem.now.net.now.net.nodes }
+    ensures { IfSome result (IsSpare problem.now.net.now.net problem.now.sets.now problem.now.base.now listed.now keepers.now node) }
 {
     let keeper = keeper_of(keepers, node)?;
-    if !has_state(base, keeper) {
+    if !has_state(problem.base, keeper) {
         return None;
     }
-    let other = other_keeper(net, sets, listed, node, keeper)?;
+    let other = other_keeper(problem.net, listed, node, keeper)?;
     Some(Spare { keeper, other })
 }
 
@@ -139,30 +122,26 @@ fn with_other(
 // Returns 0 if there is no such family. Fails if an allocation fails.
 fn ways_by_other(
     alloc: Global,
-    net: &Network,
-    sets: &LinkSets,
-    base: &Pattern,
+    problem: &Problem,
     pattern: &Pattern,
     listed: &Pattern,
     keepers: &[Option<LinkId>],
     node: NodeId,
 ) -> Result<u64, AllocError>
-    requires sets { AreSetsOf net.now.net sets.now }
-    requires base { IsPattern sets.now (unbounded_of net.now.net) base.now }
-    requires pattern { length pattern.now ≡ length net.now.net.links }
-    requires listed { IsListedIn net.now.net sets.now listed.now }
-    requires keepers { AreKeepers net.now.net sets.now listed.now (length net.now.net.links) keepers.now }
-    requires node { node < net.now.net.nodes }
-    ensures { IfOk result (λ ways. IsByOther net.now.net sets.now base.now pattern.now listed.now keepers.now node ways) }
+    requires problem { IsPosed problem.now }
+    requires pattern { length pattern.now ≡ length problem.now.net.now.net.links }
+    requires listed { IsListedFor problem.now listed.now }
+    requires keepers { AreKeepersFor problem.now listed.now keepers.now }
+    requires node { node < problem.now.net.now.net.nodes }
+    ensures { IfOk result
+        (λ ways. IsByOther problem.now.net.now.net problem.now.sets.now problem.now.base.now pattern.now listed.now keepers.now node ways) }
 {
-    // Proof: the network is well formed.
-    let _ = net.hops();
-    let Some(spare) = spare_keeper(net, sets, base, listed, keepers, node) else {
+    let Some(spare) = spare_keeper(problem, listed, keepers, node) else {
         return Ok(0);
     };
     let changed = with_other(alloc, keepers, node, spare.other)?;
-    let firm = firm_states(alloc, net, sets, listed, &changed, spare.keeper)?;
-    firm_ways_before(alloc, base, pattern, &firm)
+    let firm = firm_states(alloc, problem, listed, &changed, spare.keeper)?;
+    firm_ways_before(alloc, problem.base, pattern, &firm)
 }
 
 // Returns how many nodes may have a further family: none if the number of the first family decides, or is less than half the budget.
@@ -179,30 +158,25 @@ fn nodes_to_count(nodes: u32, ways: u64, budget: u64) -> u32
 // Returns the number of assignments before the pattern in all families with these keepers. Fails if an allocation fails.
 fn all_ways(
     alloc: Global,
-    net: &Network,
-    sets: &LinkSets,
-    base: &Pattern,
+    problem: &Problem,
     pattern: &Pattern,
     listed: &Pattern,
     keepers: &[Option<LinkId>],
-    budget: u64,
 ) -> Result<u64, AllocError>
-    requires sets { AreSetsOf net.now.net sets.now }
-    requires base { IsPattern sets.now (unbounded_of net.now.net) base.now }
-    requires pattern { length pattern.now ≡ length net.now.net.links }
-    requires listed { IsListedIn net.now.net sets.now listed.now }
-    requires keepers { AreKeepers net.now.net sets.now listed.now (length net.now.net.links) keepers.now }
-    ensures { IfOk result (λ ways. CountsBefore (question_of net.now.net sets.now base.now) pattern.now ways) }
+    requires problem { IsPosed problem.now }
+    requires pattern { length pattern.now ≡ length problem.now.net.now.net.links }
+    requires listed { IsListedFor problem.now listed.now }
+    requires keepers { AreKeepersFor problem.now listed.now keepers.now }
+    ensures { IfOk result (λ ways. CountsBefore (question_in problem.now) pattern.now ways) }
 {
-    // Proof: the network is well formed.
-    let _ = net.hops();
-    let count = net.link_count();
+    let count = problem.net.link_count();
     let no_link = LinkId(count);
-    let firm = firm_states(alloc, net, sets, listed, keepers, no_link)?;
-    let mut ways = firm_ways_before(alloc, base, pattern, &firm)?;
-    for v in 0..nodes_to_count(net.node_count(), ways, budget) {
+    let firm = firm_states(alloc, problem, listed, keepers, no_link)?;
+    let mut ways = firm_ways_before(alloc, problem.base, pattern, &firm)?;
+    let nodes = problem.net.node_count();
+    for v in 0..nodes_to_count(nodes, ways, problem.budget) {
         let node = NodeId(v);
-        let more = ways_by_other(alloc, net, sets, base, pattern, listed, keepers, node)?;
+        let more = ways_by_other(alloc, problem, pattern, listed, keepers, node)?;
         ways = ways.saturating_add(more);
     }
     Ok(ways)
@@ -213,19 +187,15 @@ fn all_ways(
 /// at least half as many as the budget. Fails if an allocation fails.
 pub(crate) fn listed_before(
     alloc: Global,
-    net: &Network,
-    sets: &LinkSets,
-    base: &Pattern,
+    problem: &Problem,
     pattern: &Pattern,
     listed: &Pattern,
-    budget: u64,
 ) -> Result<u64, AllocError>
-    requires sets { AreSetsOf net.now.net sets.now }
-    requires base { IsPattern sets.now (unbounded_of net.now.net) base.now }
-    requires pattern { length pattern.now ≡ length net.now.net.links }
-    requires listed { IsListedIn net.now.net sets.now listed.now }
-    ensures { IfOk result (λ ways. CountsBefore (question_of net.now.net sets.now base.now) pattern.now ways) }
+    requires problem { IsPosed problem.now }
+    requires pattern { length pattern.now ≡ length problem.now.net.now.net.links }
+    requires listed { IsListedFor problem.now listed.now }
+    ensures { IfOk result (λ ways. CountsBefore (question_in problem.now) pattern.now ways) }
 {
-    let keepers = keepers(alloc, net, sets, listed)?;
-    all_ways(alloc, net, sets, base, pattern, listed, &keepers, budget)
+    let keepers = keepers(alloc, problem, listed)?;
+    all_ways(alloc, problem, pattern, listed, &keepers)
 }

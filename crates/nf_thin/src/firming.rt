@@ -1,13 +1,12 @@
 // Freely combinable states of links, from a listed pattern. Every choice of such states, one for each link, is a listed pattern.
 ghost use Rattle.std.specs.Prelude.{◌≡◌, ◌⊎◌, ◌<◌, ℕ, true, length, IfOk, Option, Some, None, slice_get};
 ghost use Rattle.nf_model.specs.declared.State.TheVariants.{Tight, Full};
-ghost use Rattle.nf_model.specs.Pattern.{IsListedIn};
-ghost use Rattle.nf_thin.specs.Firming.{AreKeepers, AreFirmBy};
-ghost use Rattle.nf_thin.specs.Searching.{AreSetsOf};
+ghost use Rattle.nf_thin.specs.Firming.{AreFirmBy};
+ghost use Rattle.nf_thin.specs.Posing.{IsPosed, IsListedFor, AreKeepersFor};
 
-use nf_graph::{LinkId, LinkSets, NodeId};
+use crate::problem::Problem;
+use nf_graph::{LinkId, NodeId};
 use nf_model::State;
-use nf_net::Network;
 use nf_pattern::Pattern;
 use nf_thin_narrow::Firm;
 use std::alloc::{AllocError, Global};
@@ -44,18 +43,18 @@ fn keep(keepers: &mut [Option<LinkId>], node: NodeId, link: LinkId, resets: bool
 /// Returns for each node its keeper, a resetting, Tight or Full link into it, or `None` if there is none. Fails if an allocation fails.
 pub(crate) fn keepers(
     alloc: Global,
-    net: &Network,
-    sets: &LinkSets,
+    problem: &Problem,
     listed: &Pattern,
 ) -> Result<Vec<Option<LinkId>>, AllocError>
-    requires sets { AreSetsOf net.now.net sets.now }
-    requires listed { IsListedIn net.now.net sets.now listed.now }
-    ensures { IfOk result (λ keepers. AreKeepers net.now.net sets.now listed.now (length net.now.net.links) keepers.items) }
+    requires problem { IsPosed problem.now }
+    requires listed { IsListedFor problem.now listed.now }
+    ensures { IfOk result (λ keepers. AreKeepersFor problem.now listed.now keepers.items) }
 {
+    let net = problem.net;
     let mut keepers = vec![in alloc; None; net.node_count() as usize]?;
     for e in 0..net.link_count() {
         let link = LinkId(e);
-        let resets = sets.resetting(link);
+        let resets = problem.sets.resetting(link);
         let leads = leads(listed.state(link));
         keep(&mut keepers, net.link(link).head, link, resets, leads);
     }
@@ -93,21 +92,20 @@ fn may_have(may: bool, is_out: bool) -> bool
 /// allocation fails.
 pub(crate) fn firm_states(
     alloc: Global,
-    net: &Network,
-    sets: &LinkSets,
+    problem: &Problem,
     listed: &Pattern,
     keepers: &[Option<LinkId>],
     out: LinkId,
 ) -> Result<Vec<Firm>, AllocError>
-    requires sets { AreSetsOf net.now.net sets.now }
-    requires listed { IsListedIn net.now.net sets.now listed.now }
-    requires keepers { AreKeepers net.now.net sets.now listed.now (length net.now.net.links) keepers.now }
-    ensures { IfOk result (λ firm. AreFirmBy net.now.net sets.now listed.now keepers.now out firm.items) }
+    requires problem { IsPosed problem.now }
+    requires listed { IsListedFor problem.now listed.now }
+    requires keepers { AreKeepersFor problem.now listed.now keepers.now }
+    ensures { IfOk result (λ firm. AreFirmBy problem.now.net.now.net problem.now.sets.now listed.now keepers.now out firm.items) }
 {
     let mut firm = Vec::new(alloc);
-    for e in 0..net.link_count() {
+    for e in 0..problem.net.link_count() {
         let link = LinkId(e);
-        let here = net.link(link);
+        let here = problem.net.link(link);
         let zeroed = is_out(out, link);
         let tight = may_have(is_tight(listed.state(link)), zeroed);
         let full = may_have(here.capacity.is_some(), zeroed);

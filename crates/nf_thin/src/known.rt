@@ -5,10 +5,9 @@ ghost use Rattle.nf_thin_guess.specs.Guessing.{IsSolved};
 ghost use Rattle.nf_thin.specs.Knowing.{IsKnown, IsThinAt};
 ghost use Rattle.nf_thin.specs.Slopes.{AreThinSlopes};
 
+use crate::problem::Problem;
 use crate::thin::Thin;
 use nf_frac::{Halt, Q};
-use nf_graph::LinkSets;
-use nf_net::Network;
 use nf_pattern::Pattern;
 use nf_thin_guess::SolvedPattern;
 use nf_thin_one::{Outcome, each_is_led, judge_values};
@@ -26,22 +25,20 @@ pub(crate) struct Known {
 /// allocation fails.
 pub(crate) fn known_by(
     alloc: Global,
-    net: &Network,
-    sets: &LinkSets,
-    rate: Q,
+    problem: &Problem,
     last: SolvedPattern,
 ) -> Result<Option<Known>, AllocError>
-    requires { IsSolved passes_Q net.now.net sets.now rate last }
-    ensures known { IfOk result (λ found. IfSome found (λ known. IsKnown passes_Q net.now.net sets.now rate known)) }
-    ensures thin { IfOk result (λ found. IfSome found (λ known. AreThinSlopes net.now.net sets.now rate known.slopes.items)) }
+    requires { IsSolved passes_Q problem.now.net.now.net problem.now.sets.now problem.now.rate last }
+    ensures known { IfOk result
+        (λ found. IfSome found (λ known. IsKnown passes_Q problem.now.net.now.net problem.now.sets.now problem.now.rate known)) }
+    ensures thin { IfOk result
+        (λ found. IfSome found (λ known. AreThinSlopes problem.now.net.now.net problem.now.sets.now problem.now.rate known.slopes.items)) }
 {
-    // Proof: the contract reads `rate`, at which the values solve the pattern's table.
-    let _ = rate;
     let SolvedPattern { pattern, values } = last;
-    if !each_is_led(net, sets, &pattern) {
+    if !each_is_led(problem.net, problem.sets, &pattern) {
         return Ok(None);
     }
-    match judge_values(alloc, net, sets, &pattern, values) {
+    match judge_values(alloc, problem.net, problem.sets, &pattern, values) {
         Ok(Outcome::Accepted { flows, slopes }) => Ok(Some(Known {
             pattern,
             flows,

@@ -12,6 +12,7 @@ mod listings;
 mod near;
 mod node_test;
 mod pace;
+mod problem;
 mod ranges;
 mod scaling;
 mod searches;

@@ -1,10 +1,11 @@
 // The listing of a network's patterns, for a search.
 ghost use Rattle.std.specs.Prelude.{◌≡◌, IfOk};
-ghost use Rattle.nf_model.specs.Network.{IsNetwork, unbounded as unbounded_of};
-ghost use Rattle.nf_model.specs.Pattern.{IsPattern};
-ghost use Rattle.nf_thin.specs.Searching.{AreSetsOf, AsksOf};
+ghost use Rattle.nf_model.specs.Network.{unbounded as unbounded_of};
+ghost use Rattle.nf_thin.specs.Searching.{AsksOf};
+ghost use Rattle.nf_thin.specs.Posing.{IsPosed, IsPatternFor};
 
-use nf_graph::{LinkId, LinkSets};
+use crate::problem::Problem;
+use nf_graph::LinkId;
 use nf_net::Network;
 use nf_pattern::{Pattern, Patterns};
 use std::alloc::{AllocError, Global};
@@ -21,22 +22,30 @@ pub(crate) fn unbounded_flags(alloc: Global, net: &Network) -> Result<Vec<bool>,
     Ok(flags)
 }
 
-/// Returns the listing of a network's patterns for these sets, in the order by changes from `base`. Fails if an allocation fails.
+/// Returns the listing of a problem's patterns, in the order by changes from `base`, which need not be the problem's base. Fails if an
+/// allocation fails.
 pub(crate) fn listing(
     alloc: Global,
-    net: &Network,
-    sets: &LinkSets,
+    problem: &Problem,
     base: &Pattern,
 ) -> Result<Patterns, AllocError>
-    requires sets { AreSetsOf net.now.net sets.now }
-    requires base { IsPattern sets.now (unbounded_of net.now.net) base.now }
-    ensures asked { IfOk result (λ patterns. AsksOf net.now.net sets.now patterns) }
+    requires problem { IsPosed problem.now }
+    requires base { IsPatternFor problem.now base.now }
+    ensures asked { IfOk result (λ patterns. AsksOf problem.now.net.now.net problem.now.sets.now patterns) }
     ensures base { IfOk result (λ patterns. patterns.question.base ≡ base.now) }
     ensures place { IfOk result (λ patterns. patterns.place ≡ 0) }
-    ensures network { IsNetwork net.now.net }
 {
+    let net = problem.net;
     let hops = net.hops();
     let nodes = net.node_count();
     let unbounded = unbounded_flags(alloc, net)?;
-    Patterns::new(alloc, nodes, net.source(), hops, sets, base, &unbounded)
+    Patterns::new(
+        alloc,
+        nodes,
+        net.source(),
+        hops,
+        problem.sets,
+        base,
+        &unbounded,
+    )
 }

@@ -1,15 +1,14 @@
 // A listed pattern near the base: a guess of slopes begins with it, and bounds of ranks go by it. Nothing depends on how near it is.
-ghost use Rattle.std.specs.Prelude.{◌<◌, length, IfOk, IfSome};
-ghost use Rattle.nf_model.specs.Network.{IsNetwork, unbounded as unbounded_of};
-ghost use Rattle.nf_model.specs.Pattern.{IsPattern, IsListedIn};
-ghost use Rattle.nf_thin_equation_laws.specs.Equations.{IsPatternIn};
-ghost use Rattle.nf_pattern.specs.Given.{Gives, IsQuestion};
-ghost use Rattle.nf_thin.specs.Searching.{AreSetsOf, question_of};
+ghost use Rattle.std.specs.Prelude.{◌<◌, List, Bool, length, IfOk, IfSome};
+ghost use Rattle.nf_model.specs.ThinFlow.{Sets};
+ghost use Rattle.nf_model.specs.Pattern.{IsPattern};
+ghost use Rattle.nf_pattern.specs.Given.{Gives};
+ghost use Rattle.nf_thin.specs.Posing.{IsPosed, IsListedFor, IsPatternFor};
 
 use crate::listings::listing;
-use nf_graph::{LinkId, LinkSets};
+use crate::problem::Problem;
+use nf_graph::LinkId;
 use nf_model::State;
-use nf_net::Network;
 use nf_pattern::{Pattern, Patterns};
 use nf_thin_guess::mended;
 use std::alloc::{AllocError, Global};
@@ -27,37 +26,27 @@ fn copy_next(alloc: Global, patterns: &mut Patterns) -> Result<Option<Pattern>, 
     }
 }
 
-/// Returns a listed pattern near the base, or `None` if there is no listed pattern. It mostly takes no enumeration, even if the first
-/// listed pattern is far from the base. Fails if an allocation fails.
+/// Returns a listed pattern near `base`, which need not be the problem's base, or `None` if there is no listed pattern. It mostly takes no
+/// enumeration, even if the first listed pattern is far from the base. Fails if an allocation fails.
 pub(crate) fn near_listed(
     alloc: Global,
-    net: &Network,
-    sets: &LinkSets,
+    problem: &Problem,
     base: &Pattern,
 ) -> Result<Option<Pattern>, AllocError>
-    requires sets { AreSetsOf net.now.net sets.now }
-    requires base { IsPattern sets.now (unbounded_of net.now.net) base.now }
-    ensures pattern { IfOk result (λ found. IfSome found (λ near. IsPatternIn net.now.net sets.now near)) }
-    ensures listed { IfOk result (λ found. IfSome found (λ near. IsListedIn net.now.net sets.now near)) }
-    ensures question { IfOk result (λ found. IsQuestion (question_of net.now.net sets.now base.now)) }
-    ensures network { IsNetwork net.now.net }
+    requires problem { IsPosed problem.now }
+    requires base { IsPatternFor problem.now base.now }
+    ensures { IfOk result (λ found. IfSome found (λ near. IsListedFor problem.now near)) }
 {
-    // Proof: the network is well formed.
-    let _ = net.hops();
-    let near = mended(alloc, net, sets, base)?;
-    let mut patterns = listing(alloc, net, sets, &near)?;
+    let near = mended(alloc, problem.net, problem.sets, base)?;
+    let mut patterns = listing(alloc, problem, &near)?;
     copy_next(alloc, &mut patterns)
 }
 
 // Makes the link Tight if it has a state.
-fn tighten(net: &Network, sets: &LinkSets, link: LinkId, pattern: &mut Pattern)
-    requires pattern { IsPattern sets.now (unbounded_of net.now.net) pattern.old }
-    requires link { link < length pattern.old }
-    ensures { IsPattern sets.now (unbounded_of net.now.net) pattern.new }
+fn tighten(link: LinkId, pattern: &mut Pattern)
+    requires { link < length pattern.old }
+    ensures { (sets : Sets) (unbounded : List Bool) → IsPattern sets unbounded pattern.old → IsPattern sets unbounded pattern.new }
 {
-    // Proof: the contract reads `net` and `sets`.
-    let _ = net;
-    let _ = sets;
     if pattern.state(link).is_none() {
         return;
     }
@@ -65,35 +54,23 @@ fn tighten(net: &Network, sets: &LinkSets, link: LinkId, pattern: &mut Pattern)
 }
 
 // Returns the pattern in which each link with a state is Tight. Fails if an allocation fails.
-fn all_tight(
-    alloc: Global,
-    net: &Network,
-    sets: &LinkSets,
-    base: &Pattern,
-) -> Result<Pattern, AllocError>
-    requires sets { AreSetsOf net.now.net sets.now }
-    requires base { IsPattern sets.now (unbounded_of net.now.net) base.now }
-    ensures { IfOk result (λ tight. IsPattern sets.now (unbounded_of net.now.net) tight) }
+fn all_tight(alloc: Global, problem: &Problem) -> Result<Pattern, AllocError>
+    requires { IsPosed problem.now }
+    ensures { IfOk result (λ tight. IsPatternFor problem.now tight) }
 {
-    let mut tight = base.copy(alloc)?;
-    for e in 0..net.link_count() {
-        tighten(net, sets, LinkId(e), &mut tight);
+    let mut tight = problem.base.copy(alloc)?;
+    for e in 0..problem.net.link_count() {
+        tighten(LinkId(e), &mut tight);
     }
     Ok(tight)
 }
 
 /// Returns a listed pattern with many Tight links, as far as they close no cycle, or `None` if there is no listed pattern. Fails if an
 /// allocation fails.
-pub(crate) fn tight_listed(
-    alloc: Global,
-    net: &Network,
-    sets: &LinkSets,
-    base: &Pattern,
-) -> Result<Option<Pattern>, AllocError>
-    requires sets { AreSetsOf net.now.net sets.now }
-    requires base { IsPattern sets.now (unbounded_of net.now.net) base.now }
-    ensures { IfOk result (λ found. IfSome found (λ tight. IsListedIn net.now.net sets.now tight)) }
+pub(crate) fn tight_listed(alloc: Global, problem: &Problem) -> Result<Option<Pattern>, AllocError>
+    requires { IsPosed problem.now }
+    ensures { IfOk result (λ found. IfSome found (λ tight. IsListedFor problem.now tight)) }
 {
-    let tight = all_tight(alloc, net, sets, base)?;
-    near_listed(alloc, net, sets, &tight)
+    let tight = all_tight(alloc, problem)?;
+    near_listed(alloc, problem, &tight)
 }

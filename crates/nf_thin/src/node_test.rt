@@ -3,10 +3,12 @@
 ghost use Rattle.std.specs.Prelude.{◌≡◌, ◌<◌, ℕ, suc, true, List, length, slice_get, slice_set, Some, None, IfOk};
 ghost use Rattle.nf_rational.specs.Rational.{ℚ};
 ghost use Rattle.nf_model.specs.Entries.{number_at};
-ghost use Rattle.nf_model.specs.Network.{Network as SeenNetwork, Link as SeenLink, IsLink, IsNetwork};
+ghost use Rattle.nf_model.specs.Network.{Network as SeenNetwork, Link as SeenLink, IsLink};
+ghost use Rattle.nf_thin.specs.Posing.{IsPosed};
 ghost use Rattle.nf_thin.specs.Ranges.{IsWithin, IsFull, scaled};
 ghost use Rattle.nf_thin.specs.Conserving.{AreFull, CanFlow, AreWithin, IsConserved, BoundsFirst, BoundEach, AreSurpluses, surplus_by, surplus_of_first, needed_at, scaled_flow};
 
+use crate::problem::Problem;
 use crate::ranges::{Range, flow_range};
 use crate::scaling::scaled_range;
 use nf_frac::Q;
@@ -60,7 +62,8 @@ fn range_of(sets: &LinkSets, full: &[Range], pattern: &Pattern, link: LinkId) ->
     requires sets { length sets.now.active ≡ length pattern.now }
     requires full { length full.now ≡ length pattern.now }
     ensures { (net : SeenNetwork) (scale : ℕ) (rate : ℚ) (flows : List ℚ) (here : SeenLink)
-        → CanFlow scale net sets.now rate pattern.now full.now flows → IsLink net link here → IsWithin result (scaled scale (number_at flows link)) }
+        → CanFlow scale net sets.now rate pattern.now full.now flows → IsLink net link here
+        → IsWithin result (scaled scale (number_at flows link)) }
 {
     let most = range_at(full, link);
     flow_range(pattern.state(link), sets.resetting(link), most)
@@ -70,21 +73,21 @@ fn range_of(sets: &LinkSets, full: &[Range], pattern: &Pattern, link: LinkId) ->
 /// allocation fails.
 pub(crate) fn link_ranges(
     alloc: Global,
-    net: &Network,
-    sets: &LinkSets,
+    problem: &Problem,
     full: &[Range],
     pattern: &Pattern,
 ) -> Result<Vec<Range>, AllocError>
-    requires sets { length sets.now.active ≡ length net.now.net.links }
-    requires full { length full.now ≡ length net.now.net.links }
-    requires states { length pattern.now ≡ length net.now.net.links }
-    ensures count { IfOk result (λ ranges. length ranges.items ≡ length net.now.net.links) }
+    requires problem { IsPosed problem.now }
+    requires full { length full.now ≡ length problem.now.net.now.net.links }
+    requires states { length pattern.now ≡ length problem.now.net.now.net.links }
+    ensures count { IfOk result (λ ranges. length ranges.items ≡ length problem.now.net.now.net.links) }
     ensures carry { IfOk result (λ ranges. (scale : ℕ) (rate : ℚ) (flows : List ℚ)
-        → CanFlow scale net.now.net sets.now rate pattern.now full.now flows → AreWithin ranges.items (scaled_flow scale flows)) }
+        → CanFlow scale problem.now.net.now.net problem.now.sets.now rate pattern.now full.now flows
+        → AreWithin ranges.items (scaled_flow scale flows)) }
 {
-    let mut ranges = Vec::with_capacity(alloc, net.link_count() as usize)?;
-    for e in 0..net.link_count() {
-        ranges.push(range_of(sets, full, pattern, LinkId(e)))?;
+    let mut ranges = Vec::with_capacity(alloc, problem.net.link_count() as usize)?;
+    for e in 0..problem.net.link_count() {
+        ranges.push(range_of(problem.sets, full, pattern, LinkId(e)))?;
     }
     Ok(ranges)
 }
@@ -148,28 +151,28 @@ pub(crate) fn needed(net: &Network, supply: Range, node: NodeId) -> Range
 // Returns the range of a node's surplus with a link in its state. `range` bounds the outflow less the inflow on the links before this one.
 fn with_link(
     range: Range,
-    net: &Network,
-    sets: &LinkSets,
+    problem: &Problem,
     full: &[Range],
     pattern: &Pattern,
     node: NodeId,
     link: LinkId,
 ) -> Range
-    requires link { link < length net.now.net.links }
-    requires sets { length sets.now.active ≡ length net.now.net.links }
-    requires full { length full.now ≡ length net.now.net.links }
-    requires states { length pattern.now ≡ length net.now.net.links }
-    ensures { (scale : ℕ) (rate : ℚ) (flows : List ℚ) → CanFlow scale net.now.net sets.now rate pattern.now full.now flows
-        → IsWithin range (surplus_of_first net.now.net (scaled_flow scale flows) node link)
-        → IsWithin result (surplus_of_first net.now.net (scaled_flow scale flows) node (suc link)) }
+    requires problem { IsPosed problem.now }
+    requires link { link < length problem.now.net.now.net.links }
+    requires full { length full.now ≡ length problem.now.net.now.net.links }
+    requires states { length pattern.now ≡ length problem.now.net.now.net.links }
+    ensures { (scale : ℕ) (rate : ℚ) (flows : List ℚ)
+        → CanFlow scale problem.now.net.now.net problem.now.sets.now rate pattern.now full.now flows
+        → IsWithin range (surplus_of_first problem.now.net.now.net (scaled_flow scale flows) node link)
+        → IsWithin result (surplus_of_first problem.now.net.now.net (scaled_flow scale flows) node (suc link)) }
 {
-    let hop = &net.hops()[link.index()];
+    let hop = &problem.net.hops()[link.index()];
     let leaves = hop.tail == node;
     let enters = hop.head == node;
     if leaves == enters {
         return range;
     }
-    let flow = range_of(sets, full, pattern, link);
+    let flow = range_of(problem.sets, full, pattern, link);
     if leaves {
         range.sum(flow)
     } else {
@@ -178,68 +181,42 @@ fn with_link(
 }
 
 // Returns a range of the node's surplus, if every link's flow is possible in its state.
-fn stated_surplus(
-    net: &Network,
-    sets: &LinkSets,
-    full: &[Range],
-    pattern: &Pattern,
-    node: NodeId,
-) -> Range
-    requires sets { length sets.now.active ≡ length net.now.net.links }
-    requires full { length full.now ≡ length net.now.net.links }
-    requires states { length pattern.now ≡ length net.now.net.links }
-    ensures { (scale : ℕ) (rate : ℚ) (flows : List ℚ) → CanFlow scale net.now.net sets.now rate pattern.now full.now flows
-        → IsWithin result (surplus_by net.now.net (scaled_flow scale flows) node) }
+fn stated_surplus(problem: &Problem, full: &[Range], pattern: &Pattern, node: NodeId) -> Range
+    requires problem { IsPosed problem.now }
+    requires full { length full.now ≡ length problem.now.net.now.net.links }
+    requires states { length pattern.now ≡ length problem.now.net.now.net.links }
+    ensures { (scale : ℕ) (rate : ℚ) (flows : List ℚ)
+        → CanFlow scale problem.now.net.now.net problem.now.sets.now rate pattern.now full.now flows
+        → IsWithin result (surplus_by problem.now.net.now.net (scaled_flow scale flows) node) }
 {
     let mut range = Range::zero();
-    for e in 0..net.link_count() {
-        range = with_link(range, net, sets, full, pattern, node, LinkId(e));
+    for e in 0..problem.net.link_count() {
+        range = with_link(range, problem, full, pattern, node, LinkId(e));
     }
     range
-}
-
-// Returns whether the states at this node rule out a conserved flow. The answer false decides nothing.
-fn states_fail_at(
-    net: &Network,
-    sets: &LinkSets,
-    supply: Range,
-    full: &[Range],
-    pattern: &Pattern,
-    node: NodeId,
-) -> bool
-    requires network { IsNetwork net.now.net }
-    requires sets { length sets.now.active ≡ length net.now.net.links }
-    requires full { length full.now ≡ length net.now.net.links }
-    requires states { length pattern.now ≡ length net.now.net.links }
-    requires node { node < net.now.net.nodes }
-    ensures { result ≡ true → (scale : ℕ) (rate : ℚ) (flows : List ℚ) → IsWithin supply (scaled scale rate)
-        → CanFlow scale net.now.net sets.now rate pattern.now full.now flows → ⊥ }
-{
-    let range = stated_surplus(net, sets, full, pattern, node);
-    !range.meets(&needed(net, supply, node))
 }
 
 /// Returns whether the states at a node rule out a conserved flow. The answer false decides nothing, and is given for a node that the
 /// network lacks.
 pub(crate) fn fails_at(
-    net: &Network,
-    sets: &LinkSets,
+    problem: &Problem,
     supply: Range,
     full: &[Range],
     pattern: &Pattern,
     node: NodeId,
 ) -> bool
-    requires network { IsNetwork net.now.net }
-    requires sets { length sets.now.active ≡ length net.now.net.links }
-    requires full { length full.now ≡ length net.now.net.links }
-    requires states { length pattern.now ≡ length net.now.net.links }
+    requires problem { IsPosed problem.now }
+    requires full { length full.now ≡ length problem.now.net.now.net.links }
+    requires states { length pattern.now ≡ length problem.now.net.now.net.links }
     ensures { result ≡ true → (scale : ℕ) (rate : ℚ) (flows : List ℚ) → IsWithin supply (scaled scale rate)
-        → CanFlow scale net.now.net sets.now rate pattern.now full.now flows → ⊥ }
+        → CanFlow scale problem.now.net.now.net problem.now.sets.now rate pattern.now full.now flows → ⊥ }
 {
-    if node.0 < net.node_count() {
-        return states_fail_at(net, sets, supply, full, pattern, node);
+    let nodes = problem.net.node_count();
+    if node.0 >= nodes {
+        return false;
     }
-    false
+    let range = stated_surplus(problem, full, pattern, node);
+    !range.meets(&needed(problem.net, supply, node))
 }
 
 // Returns the range of a node's surplus.

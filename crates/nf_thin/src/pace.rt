@@ -1,14 +1,10 @@
 // The budget status of the patterns that the narrow search tries, one after the other.
-ghost use Rattle.nf_model.specs.Network.{unbounded as unbounded_of};
-ghost use Rattle.nf_model.specs.Pattern.{IsPattern, IsListedIn};
-ghost use Rattle.nf_pattern.specs.Given.{IsQuestion};
 ghost use Rattle.nf_thin.specs.Keeping.{Tells, IsInStep, StaysBehind};
-ghost use Rattle.nf_thin.specs.Searching.{AreSetsOf, question_of};
+ghost use Rattle.nf_thin.specs.Posing.{IsPosed, question_in, IsListedFor};
 
 use crate::listings::listing;
+use crate::problem::Problem;
 use crate::standing::{Standing, is_early, is_late};
-use nf_graph::LinkSets;
-use nf_net::Network;
 use nf_pattern::{Pattern, Patterns};
 use nf_thin_narrow::goes_on_to;
 use std::alloc::{AllocError, Global};
@@ -30,29 +26,39 @@ impl Pace {
     ghost use Rattle.nf_thin.specs.declared.standing.Standing.TheVariants.{Beyond};
 
     // Advances the full listing to a pattern, and returns the pattern's budget status. Returns `Unknown` if there is no full listing.
-    fn go_on(
-        &mut self,
-        net: &Network,
-        sets: &LinkSets,
-        base: &Pattern,
-        pattern: &Pattern,
-        budget: u64,
-    ) -> Standing
-        requires sets { AreSetsOf net.now.net sets.now }
-        requires question { IsQuestion (question_of net.now.net sets.now base.now) }
-        requires listed { IsListedIn net.now.net sets.now pattern.now }
-        requires behind { StaysBehind (question_of net.now.net sets.now base.now) self.old pattern.now }
-        ensures told { Tells (question_of net.now.net sets.now base.now) pattern.now budget result }
-        ensures in_step { (result ≡ Beyond → ⊥) → IsInStep (question_of net.now.net sets.now base.now) self.new pattern.now }
+    fn go_on(&mut self, problem: &Problem, pattern: &Pattern) -> Standing
+        requires problem { IsPosed problem.now }
+        requires listed { IsListedFor problem.now pattern.now }
+        requires behind { StaysBehind (question_in problem.now) self.old pattern.now }
+        ensures told { Tells (question_in problem.now) pattern.now problem.now.budget result }
+        ensures in_step { (result ≡ Beyond → ⊥) → IsInStep (question_in problem.now) self.new pattern.now }
     {
         let Some(all) = &mut self.walk else {
             return Standing::Unknown;
         };
-        if goes_on_to(all, pattern, budget, net.link_count()) {
+        let links = problem.net.link_count();
+        if goes_on_to(all, pattern, problem.budget, links) {
             Standing::Within
         } else {
             Standing::Beyond
         }
+    }
+
+    // Begins the full listing, advances it to a pattern, and returns the pattern's budget status. Fails if an allocation fails.
+    fn begin(
+        &mut self,
+        alloc: Global,
+        problem: &Problem,
+        pattern: &Pattern,
+    ) -> Result<Standing, AllocError>
+        requires problem { IsPosed problem.now }
+        requires listed { IsListedFor problem.now pattern.now }
+        ensures told { IfOk result (λ standing. Tells (question_in problem.now) pattern.now problem.now.budget standing) }
+        ensures in_step { IfOk result (λ standing. (standing ≡ Beyond → ⊥) → IsInStep (question_in problem.now) self.new pattern.now) }
+    {
+        let all = listing(alloc, problem, problem.base)?;
+        self.walk = Some(all);
+        Ok(self.go_on(problem, pattern))
     }
 
     /// Returns the budget status of the next pattern, which is later than the last one. Fails if an allocation fails. Bounds on its rank
@@ -60,39 +66,32 @@ impl Pace {
     pub(crate) fn keep_up(
         &mut self,
         alloc: Global,
-        net: &Network,
-        sets: &LinkSets,
-        base: &Pattern,
+        problem: &Problem,
         pattern: &Pattern,
         tried: u64,
-        budget: u64,
     ) -> Result<Standing, AllocError>
-        requires sets { AreSetsOf net.now.net sets.now }
-        requires base { IsPattern sets.now (unbounded_of net.now.net) base.now }
-        requires question { IsQuestion (question_of net.now.net sets.now base.now) }
-        requires listed { IsListedIn net.now.net sets.now pattern.now }
-        requires behind { StaysBehind (question_of net.now.net sets.now base.now) self.old pattern.now }
-        ensures told { IfOk result (λ standing. Tells (question_of net.now.net sets.now base.now) pattern.now budget standing) }
-        ensures in_step { IfOk result (λ standing. (standing ≡ Beyond → ⊥)
-            → IsInStep (question_of net.now.net sets.now base.now) self.new pattern.now) }
+        requires problem { IsPosed problem.now }
+        requires listed { IsListedFor problem.now pattern.now }
+        requires behind { StaysBehind (question_in problem.now) self.old pattern.now }
+        ensures told { IfOk result (λ standing. Tells (question_in problem.now) pattern.now problem.now.budget standing) }
+        ensures in_step { IfOk result (λ standing. (standing ≡ Beyond → ⊥) → IsInStep (question_in problem.now) self.new pattern.now) }
     {
         if self.walk.is_some() {
-            return Ok(self.go_on(net, sets, base, pattern, budget));
+            return Ok(self.go_on(problem, pattern));
         }
         if tried != self.asked {
             return Ok(Standing::Unknown);
         }
         self.asked = tried.saturating_mul(2).saturating_add(1);
-        if is_early(alloc, net, sets, base, pattern, budget)? {
+        if is_early(alloc, problem, pattern)? {
             return Ok(Standing::Within);
         }
-        if is_late(alloc, net, sets, base, pattern, budget)? {
+        if is_late(alloc, problem, pattern)? {
             return Ok(Standing::Beyond);
         }
         if tried < WALK_AFTER {
             return Ok(Standing::Unknown);
         }
-        self.walk = Some(listing(alloc, net, sets, base)?);
-        Ok(self.go_on(net, sets, base, pattern, budget))
+        self.begin(alloc, problem, pattern)
     }
 }

@@ -1,16 +1,18 @@
 // The search for a thin flow, by the first accepted pattern of the listing.
-ghost use Rattle.std.specs.Prelude.{◌≡◌, IfOk};
+ghost use Rattle.std.specs.Prelude.{IfOk};
 ghost use Rattle.nf_frac_def.specs.Passing.{passes_Q};
-ghost use Rattle.nf_model.specs.Network.{IsNetwork, unbounded as unbounded_of};
+ghost use Rattle.nf_model.specs.Network.{unbounded as unbounded_of};
 ghost use Rattle.nf_model.specs.ThinFlow.{IsThinFlow};
 ghost use Rattle.nf_model.specs.Pattern.{IsPattern};
 ghost use Rattle.nf_thin_def.specs.Search.{IsSearch};
 ghost use Rattle.nf_thin.specs.Searching.{Searches, SlopesAreOnly, AreSetsOf, AsksOf};
+ghost use Rattle.nf_thin.specs.Posing.{IsPosed, IsAnswerTo};
 ghost use Rattle.nf_thin.specs.Finding.{Finds};
 
 use crate::fault::SearchFault;
 use crate::finding::find_by_slopes;
 use crate::listings::listing;
+use crate::problem::Problem;
 use crate::thin::{Thin, ThinFlow};
 use crate::trying_next::try_next;
 use crate::vain::Vain;
@@ -23,16 +25,13 @@ use std::alloc::Global;
 // Tries the patterns of a listing from its start, until one is accepted.
 fn go_through(
     alloc: Global,
-    net: &Network,
-    sets: &LinkSets,
-    rate: Q,
+    problem: &Problem,
     patterns: &mut Patterns,
-    budget: u64,
 ) -> Result<Thin, SearchFault>
-    requires network { IsNetwork net.now.net }
-    requires sets { AreSetsOf net.now.net sets.now }
-    requires question { AsksOf net.now.net sets.now patterns.old }
-    ensures { Searches (IsSearch passes_Q net.now.net sets.now rate patterns.old.question.base budget) budget result }
+    requires problem { IsPosed problem.now }
+    requires question { AsksOf problem.now.net.now.net problem.now.sets.now patterns.old }
+    ensures { Searches (IsSearch passes_Q problem.now.net.now.net problem.now.sets.now problem.now.rate patterns.old.question.base
+        problem.now.budget) problem.now.budget result }
 {
     let mut vain = Vain {
         tried: 0,
@@ -40,12 +39,21 @@ fn go_through(
         node: NodeId(0),
     };
     while let Some(pattern) = patterns.next() {
-        let found = try_next(alloc, net, sets, rate, pattern, budget, &mut vain)?;
+        let found = try_next(alloc, problem, pattern, &mut vain)?;
         if let Some(thin) = found {
             return Ok(thin);
         }
     }
     Err(vain.fault())
+}
+
+// Searches by the whole listing.
+fn search_all(alloc: Global, problem: &Problem) -> Result<Thin, SearchFault>
+    requires { IsPosed problem.now }
+    ensures { Searches (IsAnswerTo problem.now) problem.now.budget result }
+{
+    let mut patterns = listing(alloc, problem, problem.base)?;
+    go_through(alloc, problem, &mut patterns)
 }
 
 /// Searches for a thin flow with resetting. Tries the listed patterns in their order by changes from `base`, until one is accepted. A
@@ -73,27 +81,27 @@ pub fn search(
     ensures thin { IfOk result (λ thin. IsThinFlow net.now.net sets.now rate thin.flows.items thin.labels.items) }
     ensures only { IfOk result (λ thin. SlopesAreOnly net.now.net sets.now rate thin.labels.items) }
 {
-    let mut patterns = listing(alloc, net, sets, base)?;
-    go_through(alloc, net, sets, rate, &mut patterns, budget)
+    // Proof: the network is well formed.
+    net.recall();
+    let problem = Problem {
+        net,
+        sets,
+        rate,
+        base,
+        budget,
+    };
+    search_all(alloc, &problem)
 }
 
-// Searches by the slopes of a thin flow, and by `search` if that finds no answer.
-fn find_or_search(
-    alloc: Global,
-    net: &Network,
-    sets: &LinkSets,
-    rate: Q,
-    base: &Pattern,
-    budget: u64,
-) -> Result<ThinFlow, SearchFault>
-    requires sets { AreSetsOf net.now.net sets.now }
-    requires base { IsPattern sets.now (unbounded_of net.now.net) base.now }
-    ensures { Finds (IsSearch passes_Q net.now.net sets.now rate base.now budget) budget result }
+// Searches by the slopes of a thin flow, and by the whole listing if that finds no answer.
+fn find_or_search(alloc: Global, problem: &Problem) -> Result<ThinFlow, SearchFault>
+    requires { IsPosed problem.now }
+    ensures { Finds (IsAnswerTo problem.now) problem.now.budget result }
 {
-    if let Some(found) = find_by_slopes(alloc, net, sets, rate, base, budget)? {
+    if let Some(found) = find_by_slopes(alloc, problem)? {
         return Ok(found);
     }
-    let thin = search(alloc, net, sets, rate, base, budget)?;
+    let thin = search_all(alloc, problem)?;
     Ok(thin.flow())
 }
 
@@ -114,6 +122,13 @@ pub fn find_thin(
     ensures only { IfOk result (λ found. SlopesAreOnly net.now.net sets.now rate found.slopes.items) }
 {
     // Proof: the network is well formed.
-    let _ = net.hops();
-    find_or_search(alloc, net, sets, rate, base, budget)
+    net.recall();
+    let problem = Problem {
+        net,
+        sets,
+        rate,
+        base,
+        budget,
+    };
+    find_or_search(alloc, &problem)
 }

@@ -2,27 +2,24 @@
 ghost use Rattle.std.specs.Prelude.{◌≡◌, ◌≤◌, ℕ, List, length, None, IfOk, IfSome};
 ghost use Rattle.nf_rational.specs.Rational.{ℚ};
 ghost use Rattle.nf_frac_def.specs.Passing.{passes_Q};
-ghost use Rattle.nf_model.specs.Network.{IsNetwork};
-ghost use Rattle.nf_model.specs.Pattern.{IsListedIn};
 ghost use Rattle.nf_thin_equation_laws.specs.Equations.{IsPatternIn};
-ghost use Rattle.nf_thin.specs.Searching.{AreSetsOf};
+ghost use Rattle.nf_thin.specs.Posing.{IsPosed, IsListedFor, GuidesFor};
 ghost use Rattle.nf_thin.specs.Ranges.{IsWithin, scaled};
 ghost use Rattle.nf_thin.specs.Conserving.{CanFlow};
-ghost use Rattle.nf_thin.specs.Sifting.{Guides, SiftsNext};
+ghost use Rattle.nf_thin.specs.Sifting.{SiftsNext};
 
 use crate::cycles::hold_no_cycle;
 use crate::fault::SearchFault;
 use crate::known::{Known, known_by, thin_at};
 use crate::leaves::comes_out;
 use crate::node_test::{fails_at, first_unbalanced, full_flows, link_ranges};
+use crate::problem::Problem;
 use crate::ranges::Range;
 use crate::scaling::{scale_for, scaled_range};
 use crate::thin::Thin;
 use crate::trying_next::try_next;
 use crate::vain::Vain;
-use nf_frac::Q;
-use nf_graph::{LinkSets, NodeId};
-use nf_net::Network;
+use nf_graph::NodeId;
 use nf_pattern::Pattern;
 use nf_thin_guess::guess;
 use nf_thin_one::is_one_pattern;
@@ -43,24 +40,23 @@ pub(crate) struct Guide {
 // the same node. Fails if an allocation fails.
 fn ruled_out_at(
     alloc: Global,
-    net: &Network,
-    sets: &LinkSets,
+    problem: &Problem,
     supply: Range,
     full: &[Range],
     pattern: &Pattern,
     first: NodeId,
 ) -> Result<Option<NodeId>, AllocError>
-    requires network { IsNetwork net.now.net }
-    requires sets { length sets.now.active ≡ length net.now.net.links }
-    requires full { length full.now ≡ length net.now.net.links }
-    requires states { length pattern.now ≡ length net.now.net.links }
+    requires problem { IsPosed problem.now }
+    requires full { length full.now ≡ length problem.now.net.now.net.links }
+    requires states { length pattern.now ≡ length problem.now.net.now.net.links }
     ensures { IfOk result (λ node. (scale : ℕ) (rate : ℚ) (flows : List ℚ) → IsWithin supply (scaled scale rate)
-        → CanFlow scale net.now.net sets.now rate pattern.now full.now flows → node ≡ None) }
+        → CanFlow scale problem.now.net.now.net problem.now.sets.now rate pattern.now full.now flows → node ≡ None) }
 {
-    if fails_at(net, sets, supply, full, pattern, first) {
+    if fails_at(problem, supply, full, pattern, first) {
         return Ok(Some(first));
     }
-    let mut ranges = link_ranges(alloc, net, sets, full, pattern)?;
+    let net = problem.net;
+    let mut ranges = link_ranges(alloc, problem, full, pattern)?;
     if let Some(node) = first_unbalanced(alloc, net, supply, &ranges)? {
         return Ok(Some(node));
     }
@@ -76,38 +72,36 @@ fn ruled_out_at(
 /// Refuses if the budget is spent.
 pub(crate) fn sift_next(
     alloc: Global,
-    net: &Network,
-    sets: &LinkSets,
-    rate: Q,
+    problem: &Problem,
     guide: &Guide,
     pattern: &Pattern,
-    budget: u64,
     vain: &mut Vain,
 ) -> Result<Option<Thin>, SearchFault>
-    requires pattern { IsPatternIn net.now.net sets.now pattern.now }
-    requires listed { IsListedIn net.now.net sets.now pattern.now }
-    requires guide { Guides passes_Q net.now.net sets.now rate guide.now }
-    requires within { vain.old.tried ≤ budget }
-    ensures { SiftsNext passes_Q net.now.net sets.now rate budget pattern.now vain.old vain.new result }
+    requires problem { IsPosed problem.now }
+    requires listed { IsListedFor problem.now pattern.now }
+    requires guide { GuidesFor problem.now guide.now }
+    requires within { vain.old.tried ≤ problem.now.budget }
+    ensures { SiftsNext passes_Q problem.now.net.now.net problem.now.sets.now problem.now.rate problem.now.budget pattern.now
+        vain.old vain.new result }
 {
+    let budget = problem.budget;
     if vain.tried == budget {
         return Err(SearchFault::Budget { tried: budget });
     }
-    if is_one_pattern(net, &guide.known.pattern, pattern) {
+    if is_one_pattern(problem.net, &guide.known.pattern, pattern) {
         let thin = thin_at(alloc, &guide.known, vain.tried + 1)?;
         return Ok(Some(thin));
     }
     let Some(node) = ruled_out_at(
         alloc,
-        net,
-        sets,
+        problem,
         guide.supply,
         &guide.full,
         pattern,
         vain.node,
     )?
     else {
-        return try_next(alloc, net, sets, rate, pattern, budget, vain);
+        return try_next(alloc, problem, pattern, vain);
     };
     vain.tried += 1;
     vain.node = node;
@@ -118,22 +112,23 @@ pub(crate) fn sift_next(
 /// active links hold no cycle. Fails if an allocation fails.
 pub(crate) fn guide_of(
     alloc: Global,
-    net: &Network,
-    sets: &LinkSets,
-    rate: Q,
+    problem: &Problem,
     first: &Pattern,
 ) -> Result<Option<Guide>, AllocError>
-    requires sets { AreSetsOf net.now.net sets.now }
-    requires first { IsPatternIn net.now.net sets.now first.now }
-    ensures { IfOk result (λ found. IfSome found (λ guide. Guides passes_Q net.now.net sets.now rate guide)) }
+    requires problem { IsPosed problem.now }
+    requires first { IsPatternIn problem.now.net.now.net problem.now.sets.now first.now }
+    ensures { IfOk result (λ found. IfSome found (λ guide. GuidesFor problem.now guide)) }
 {
+    let net = problem.net;
+    let sets = problem.sets;
+    let rate = problem.rate;
     if !hold_no_cycle(alloc, net, sets)? {
         return Ok(None);
     }
     let Some(last) = guess(alloc, net, sets, rate, first)? else {
         return Ok(None);
     };
-    let Some(known) = known_by(alloc, net, sets, rate, last)? else {
+    let Some(known) = known_by(alloc, problem, last)? else {
         return Ok(None);
     };
     let scale = scale_for(rate);

@@ -5,11 +5,10 @@ ghost use Rattle.nf_thin_equation_laws.specs.Equations.{IsPatternIn};
 ghost use Rattle.nf_thin.specs.Searching.{TriesNext};
 
 use crate::fault::SearchFault;
+use crate::problem::Problem;
 use crate::thin::Thin;
 use crate::vain::Vain;
-use nf_frac::{Halt, Q};
-use nf_graph::LinkSets;
-use nf_net::Network;
+use nf_frac::Halt;
 use nf_pattern::Pattern;
 use nf_thin_one::{Outcome, try_one};
 use std::alloc::Global;
@@ -17,22 +16,21 @@ use std::alloc::Global;
 /// Tries the next pattern. Returns its thin flow, or `None` if the pattern is not accepted. Refuses if the budget is spent.
 pub(crate) fn try_next(
     alloc: Global,
-    net: &Network,
-    sets: &LinkSets,
-    rate: Q,
+    problem: &Problem,
     pattern: &Pattern,
-    budget: u64,
     vain: &mut Vain,
 ) -> Result<Option<Thin>, SearchFault>
-    requires pattern { IsPatternIn net.now.net sets.now pattern.now }
-    requires within { vain.old.tried ≤ budget }
-    ensures { TriesNext passes_Q net.now.net sets.now rate budget pattern.now vain.old vain.new result }
+    requires pattern { IsPatternIn problem.now.net.now.net problem.now.sets.now pattern.now }
+    requires within { vain.old.tried ≤ problem.now.budget }
+    ensures { TriesNext passes_Q problem.now.net.now.net problem.now.sets.now problem.now.rate problem.now.budget pattern.now
+        vain.old vain.new result }
 {
+    let budget = problem.budget;
     if vain.tried == budget {
         return Err(SearchFault::Budget { tried: budget });
     }
     vain.tried += 1;
-    match try_one(alloc, net, sets, rate, pattern) {
+    match try_one(alloc, problem.net, problem.sets, problem.rate, pattern) {
         Ok(Outcome::Accepted { flows, slopes }) => {
             let pattern = pattern.copy(alloc)?;
             Ok(Some(Thin {

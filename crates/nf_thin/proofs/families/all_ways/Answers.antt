@@ -8,24 +8,24 @@ use Rattle.nf_thin.proofs.families.all_ways.Goals as goal
 pub firm_ways_before-requires-clause-firm : goal.firm_ways_before-requires-clause-firm
 firm_ways_before-requires-clause-firm c =
     let f = ap (λ (l : List Firm). length l) c.deref.ensures.value in
-    let n = c.in_ok-firm.ensures.count in let b = c.requires.base.count in let s = c.requires.sets.sets_are.count in omega arith
+    let n = c.in_ok-firm.ensures.count in let b = c.requires.problem.base.count in let s = c.requires.problem.sets.sets_are.count in omega arith
 
 pub firm_ways_before-requires-clause-fewer : goal.firm_ways_before-requires-clause-fewer
 firm_ways_before-requires-clause-fewer c =
-    let f = few_hops c.args.net.now c.hops.ensures.named in let h = hops_length c.args.net.now.net in
-    let b = c.requires.base.count in let s = c.requires.sets.sets_are.count in omega arith
+    let f = few_hops c.args.problem.now.net.now c.requires.problem.named in let h = hops_length c.args.problem.now.net.now.net in
+    let b = c.requires.problem.base.count in let s = c.requires.problem.sets.sets_are.count in omega arith
 
 pub loop-v-init : goal.loop-v-init
 loop-v-init c =
-    first_covers c.args.net.now.net c.args.sets.now c.args.base.now c.args.pattern.now c.args.listed.now c.requires.base c.requires.listed c.args.keepers.now c.link_count-count.result c.deref.result.now
-    (subst (λ (f : List Firm). AreFirmBy c.args.net.now.net c.args.sets.now c.args.listed.now c.args.keepers.now c.link_count-count.result f) (sym c.deref.ensures.value) c.in_ok-firm.ensures)
+    first_covers c.args.problem.now.net.now.net c.args.problem.now.sets.now c.args.problem.now.base.now c.args.pattern.now c.args.listed.now c.requires.problem.base c.requires.listed c.args.keepers.now c.link_count-count.result c.deref.result.now
+    (subst (λ (f : List Firm). AreFirmBy c.args.problem.now.net.now.net c.args.problem.now.sets.now c.args.listed.now c.args.keepers.now c.link_count-count.result f) (sym c.deref.ensures.value) c.in_ok-firm.ensures)
     c.in_ok-ways.ways c.in_ok-ways.ensures
 
 pub loop-v-preserved : goal.loop-v-preserved
 loop-v-preserved c =
-    covers_more c.args.net.now.net c.args.sets.now c.args.base.now c.args.pattern.now c.args.listed.now c.requires.base c.requires.listed c.args.keepers.now c.loop-v.v c.loop-v.ways c.loop-v.invariant
+    covers_more c.args.problem.now.net.now.net c.args.problem.now.sets.now c.args.problem.now.base.now c.args.pattern.now c.args.listed.now c.requires.problem.base c.requires.listed c.args.keepers.now c.loop-v.v c.loop-v.ways c.loop-v.invariant
     c.in_ok-more.more c.saturating_add-ways.result c.in_ok-more.ensures c.saturating_add-ways.ensures
 
 pub returns : goal.returns
 returns c =
-    covers_before c.args.net.now.net c.args.sets.now c.args.base.now c.args.pattern.now c.args.listed.now c.requires.base c.requires.listed c.args.keepers.now c.loop-v.v c.loop-v.ways c.loop-v.invariant
+    covers_before c.args.problem.now.net.now.net c.args.problem.now.sets.now c.args.problem.now.base.now c.args.pattern.now c.args.listed.now c.requires.problem.base c.requires.listed c.args.keepers.now c.loop-v.v c.loop-v.ways c.loop-v.invariant

@@ -7,6 +7,6 @@ pub returns-clause-differs : goal.returns-clause-differs
 returns-clause-differs c told = c.is_other.ensures c.if-not-is_other.false
 
 pub returns-clause-keeps : goal.returns-clause-keeps
-returns-clause-keeps c told =
-    may_keep_by c.args.net.now.net c.args.sets.now c.args.listed.now c.args.link c.args.node c.link-here.result c.state.result c.link-here.ensures.link
+returns-clause-keeps c told sets =
+    may_keep_by c.args.net.now.net sets c.args.listed.now c.args.link c.args.node c.link-here.result c.state.result c.link-here.ensures.link
     (sym (ap (λ (l : Link). l.head) c.here.view_is) ∙ c.is_one_node.ensures c.if-not-is_one_node.false) c.state.ensures (c.leads.ensures.leads told)

@@ -4,18 +4,18 @@ use Rattle.nf_thin.proofs.families.spare_keeper.Goals as goal
 
 pub has_state-requires : goal.has_state-requires
 has_state-requires c =
-    let k = keeper_within c.args.net.now.net c.args.sets.now c.args.listed.now _ c.args.node c.in_ok-keeper.keeper c.args.keepers.now c.requires.keepers c.in_ok-keeper.ensures in
-    let b = c.requires.base.count in let s = c.requires.sets.sets_are.count in omega arith
+    let k = keeper_within c.args.problem.now.net.now.net c.args.problem.now.sets.now c.args.listed.now _ c.args.node c.in_ok-keeper.keeper c.args.keepers.now c.requires.keepers c.in_ok-keeper.ensures in
+    let b = c.requires.problem.base.count in let s = c.requires.problem.sets.sets_are.count in omega arith
 
 pub other_keeper-requires : goal.other_keeper-requires
-other_keeper-requires c = record { listed = c.requires.listed.states.count ∙ c.requires.sets.sets_are.count }
+other_keeper-requires c = record { listed = c.requires.listed.states.count ∙ c.requires.problem.sets.sets_are.count }
 
 pub returns : goal.returns
 returns c = record {
   state = (c.has_state.ensures c.if-not-has_state.false).0;
   stated = (c.has_state.ensures c.if-not-has_state.false).1;
   keeps = c.in_ok-keeper.ensures;
-  within = keeper_within c.args.net.now.net c.args.sets.now c.args.listed.now _ c.args.node c.in_ok-keeper.keeper c.args.keepers.now c.requires.keepers c.in_ok-keeper.ensures;
+  within = keeper_within c.args.problem.now.net.now.net c.args.problem.now.sets.now c.args.listed.now _ c.args.node c.in_ok-keeper.keeper c.args.keepers.now c.requires.keepers c.in_ok-keeper.ensures;
   differs = c.in_ok-other.ensures.0;
-  may_keep = c.in_ok-other.ensures.1;
+  may_keep = c.in_ok-other.ensures.1 c.args.problem.now.sets.now;
 }

@@ -1,16 +1,10 @@
 use Rattle.std.proofs.Common.{subst}
 use Rattle.std.specs.Prelude.{Option, IfSome}
-use Rattle.std.proofs.lemmas.Result.{IfOk-weaker}
-use Rattle.nf_model.specs.Pattern.{Pattern}
-use Rattle.nf_thin_equation_laws.specs.Equations.{IsPatternIn}
-use Rattle.nf_pattern.specs.Given.{IsQuestion}
-use Rattle.nf_thin.specs.Searching.{question_of}
+use Rattle.nf_model.specs.Pattern.{Pattern, IsListedIn}
+use Rattle.nf_thin.proofs.Posed.{posed_pattern}
 use Rattle.nf_thin.proofs.finding.guide_from_base.Goals as goal
 
 pub guide_of-requires-clause-first : goal.guide_of-requires-clause-first
 guide_of-requires-clause-first c =
-    subst (λ (found : Option Pattern). IfSome found (λ first. IsPatternIn c.args.net.now.net c.args.sets.now first)) c.in-Some.is c.in_ok-near.ensures.pattern
-
-pub returns-clause-question : goal.returns-clause-question
-returns-clause-question c = IfOk-weaker c.guide_of.result _ (λ found. IsQuestion (question_of c.args.net.now.net c.args.sets.now c.args.base.now))
-    (λ found guide. c.in_ok-near.ensures.question) c.guide_of.ensures
+    let listed : IsListedIn c.args.problem.now.net.now.net c.args.problem.now.sets.now c.in-Some.near = subst (λ (found : Option Pattern). IfSome found (λ near. IsListedIn c.args.problem.now.net.now.net c.args.problem.now.sets.now near)) c.in-Some.is c.in_ok-near.ensures in
+    posed_pattern c.args.problem.now c.requires c.in-Some.near listed.states

@@ -7,11 +7,11 @@ use Rattle.nf_thin.proofs.finding.try_narrow.Given as goal
 abbrev pub invariant-loop-part : goal.invariant-loop-part
 invariant-loop-part l = record {
   same : l.patterns.question ≡ l.fn.patterns.question;
-  count : length l.whole ≡ length l.net.net.links;
-  within : l.vain.tried ≤ l.budget;
-  in_step : KeepsUp l.net.net l.sets l.base l.forced l.patterns.last l.pace;
-  vainly : NarrowVainly passes_Q l.net.net l.sets l.rate l.base l.forced l.vain.tried l.patterns.last;
+  count : length l.whole ≡ length l.problem.net.now.net.links;
+  within : l.vain.tried ≤ l.problem.budget;
+  in_step : KeepsUp l.problem.net.now.net l.problem.sets.now l.problem.base.now l.forced l.patterns.last l.pace;
+  vainly : NarrowVainly passes_Q l.problem.net.now.net l.problem.sets.now l.problem.rate l.problem.base.now l.forced l.vain.tried l.patterns.last;
 }
 
 abbrev pub decreases-loop-part : goal.decreases-loop-part
-decreases-loop-part l = l.budget - l.vain.tried
+decreases-loop-part l = l.problem.budget - l.vain.tried

@@ -7,25 +7,25 @@ use Rattle.nf_pattern.specs.Given.{Given}
 use Rattle.nf_thin.proofs.listings.listing.Goals as goal
 
 pub new-requires-clause-ends : goal.new-requires-clause-ends
-new-requires-clause-ends c = rw (c.node_count-nodes.ensures, c.hops-hops.ensures.value) (below_nodes c.args.net.now.net c.hops-hops.ensures.named.network)
+new-requires-clause-ends c = rw (c.node_count-nodes.ensures, c.hops-hops.ensures.value) (below_nodes c.args.problem.now.net.now.net c.requires.problem.named.network)
 
 pub new-requires-clause-active : goal.new-requires-clause-active
-new-requires-clause-active c = c.requires.sets.sets_are.count ∙ (sym (hops_length c.args.net.now.net) ∙ ap (λ (l : List Hop). length l) (sym c.hops-hops.ensures.value))
+new-requires-clause-active c = c.requires.problem.sets.sets_are.count ∙ (sym (hops_length c.args.problem.now.net.now.net) ∙ ap (λ (l : List Hop). length l) (sym c.hops-hops.ensures.value))
 
 pub new-requires-clause-unbounded : goal.new-requires-clause-unbounded
 new-requires-clause-unbounded c =
     ap (λ (l : List Bool). length l) (c.deref.ensures.value ∙ c.in_ok-unbounded.ensures)
-    ∙ (unbounded_length c.args.net.now.net ∙ (sym (hops_length c.args.net.now.net) ∙ ap (λ (l : List Hop). length l) (sym c.hops-hops.ensures.value)))
+    ∙ (unbounded_length c.args.problem.now.net.now.net ∙ (sym (hops_length c.args.problem.now.net.now.net) ∙ ap (λ (l : List Hop). length l) (sym c.hops-hops.ensures.value)))
 
 pub new-requires-clause-resetting : goal.new-requires-clause-resetting
-new-requires-clause-resetting c = c.requires.sets.count ∙ (sym (hops_length c.args.net.now.net) ∙ ap (λ (l : List Hop). length l) (sym c.hops-hops.ensures.value))
+new-requires-clause-resetting c = c.requires.problem.sets.count ∙ (sym (hops_length c.args.problem.now.net.now.net) ∙ ap (λ (l : List Hop). length l) (sym c.hops-hops.ensures.value))
 
 pub new-requires-clause-fewer : goal.new-requires-clause-fewer
-new-requires-clause-fewer c = rw (c.hops-hops.ensures.value) (few_hops c.args.net.now c.hops-hops.ensures.named)
+new-requires-clause-fewer c = rw (c.hops-hops.ensures.value) (few_hops c.args.problem.now.net.now c.requires.problem.named)
 
 pub new-requires-clause-base : goal.new-requires-clause-base
 new-requires-clause-base c =
-    subst (λ (flags : List Bool). IsPattern c.args.sets.now flags c.args.base.now) (sym (c.deref.ensures.value ∙ c.in_ok-unbounded.ensures)) c.requires.base
+    subst (λ (flags : List Bool). IsPattern c.args.problem.now.sets.now flags c.args.base.now) (sym (c.deref.ensures.value ∙ c.in_ok-unbounded.ensures)) c.requires.base
 
 pub returns-clause-base : goal.returns-clause-base
 returns-clause-base c =

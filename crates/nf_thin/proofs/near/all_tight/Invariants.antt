@@ -4,4 +4,4 @@ use Rattle.nf_thin.proofs.near.all_tight.Given as goal
 
 -- The pattern is still a pattern.
 abbrev pub invariant-loop-e : goal.invariant-loop-e
-invariant-loop-e l = IsPattern l.sets (unbounded l.net.net) l.tight
+invariant-loop-e l = IsPattern l.problem.sets.now (unbounded l.problem.net.now.net) l.tight

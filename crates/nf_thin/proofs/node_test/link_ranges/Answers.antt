@@ -10,7 +10,7 @@ pub range_of-requires-clause-full : goal.range_of-requires-clause-full
 range_of-requires-clause-full c = c.requires.full ∙ sym c.requires.states
 
 pub range_of-requires-clause-sets : goal.range_of-requires-clause-sets
-range_of-requires-clause-sets c = c.requires.sets ∙ sym c.requires.states
+range_of-requires-clause-sets c = c.requires.problem.sets.sets_are.count ∙ sym c.requires.states
 
 pub range_of-requires-clause-link : goal.range_of-requires-clause-link
 range_of-requires-clause-link c = let t = c.loop-e-test.true in let n = c.link_count-e-end.ensures in let s = c.requires.states in omega arith
@@ -23,10 +23,10 @@ loop-e-init c = record {
 
 pub loop-e-preserved : goal.loop-e-preserved
 loop-e-preserved c =
-    let link = entry c.args.net.now.net.links c.loop-e.e (let t = c.loop-e-test.true in let n = c.link_count-e-end.ensures in omega arith) in
+    let link = entry c.args.problem.now.net.now.net.links c.loop-e.e (let t = c.loop-e-test.true in let n = c.link_count-e-end.ensures in omega arith) in
     record {
       count = ap (λ (l : List Range). length l) c.in_ok-push.ensures.items ∙ length_pushed c.loop-e.ranges.items c.range_of.result c.loop-e.e c.loop-e.invariant.count;
       carry = λ scale rate flows can. subst (λ (l : List Range). AreWithin l (scaled_flow scale flows)) (sym c.in_ok-push.ensures.items)
           (each_pushed (λ (e : ℕ) (range : Range). IsWithin range (scaled_flow scale flows e)) c.loop-e.ranges.items c.range_of.result c.loop-e.e c.loop-e.invariant.count
-          (c.loop-e.invariant.carry scale rate flows can) (c.range_of.ensures c.args.net.now.net scale rate flows link.0 can link.1));
+          (c.loop-e.invariant.carry scale rate flows can) (c.range_of.ensures c.args.problem.now.net.now.net scale rate flows link.0 can link.1));
     }

@@ -7,5 +7,5 @@ use Rattle.nf_thin.proofs.node_test.link_ranges.Given as goal
 abbrev pub invariant-loop-e : goal.invariant-loop-e
 invariant-loop-e l = record {
   count : length l.ranges.items ≡ l.e;
-  carry : (scale : ℕ) (rate : ℚ) (flows : List ℚ) → CanFlow scale l.net.net l.sets rate l.pattern l.full flows → AreWithin l.ranges.items (scaled_flow scale flows);
+  carry : (scale : ℕ) (rate : ℚ) (flows : List ℚ) → CanFlow scale l.problem.net.now.net l.problem.sets.now rate l.pattern l.full flows → AreWithin l.ranges.items (scaled_flow scale flows);
 }

@@ -16,16 +16,16 @@ returns-in-Some c scale rate flows supply can = absurd (none-some c.in-Some.node
     (subst (λ (l : List Range). AreWithin l (scaled_flow scale flows)) (sym c.deref.ensures.value) (c.in_ok-ranges.ensures.carry scale rate flows can)) (
       scaled scale rate,
       supply,
-      scaled_conserves c.args.net.now.net scale rate (number_at flows)
-          (conserves scale c.args.net.now.net c.args.sets.now rate c.args.pattern.now c.args.full.now flows can c.requires.network),
+      scaled_conserves c.args.problem.now.net.now.net scale rate (number_at flows)
+          (conserves scale c.args.problem.now.net.now.net c.args.problem.now.sets.now rate c.args.pattern.now c.args.full.now flows can c.requires.problem.named.network),
     )) ∙ c.in-Some.is))
 
 pub returns : goal.returns
 returns c scale rate flows supply can = absurd (true≢false (sym (c.in_ok-comes_out.ensures (scaled_flow scale flows) (c.in_ok-ranges.ensures.carry scale rate flows can) (
   scaled scale rate,
   supply,
-  scaled_conserves c.args.net.now.net scale rate (number_at flows)
-      (conserves scale c.args.net.now.net c.args.sets.now rate c.args.pattern.now c.args.full.now flows can c.requires.network),
+  scaled_conserves c.args.problem.now.net.now.net scale rate (number_at flows)
+      (conserves scale c.args.problem.now.net.now.net c.args.problem.now.sets.now rate c.args.pattern.now c.args.full.now flows can c.requires.problem.named.network),
 )) ∙ c.if-branch.false))
 
 pub returns-then-fails_at : goal.returns-then-fails_at

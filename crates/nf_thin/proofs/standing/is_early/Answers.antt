@@ -7,22 +7,22 @@ use Rattle.nf_thin.proofs.Early.{early, from_test}
 use Rattle.nf_thin.proofs.standing.is_early.Goals as goal
 
 pub sole_flags-requires-clause-fewer : goal.sole_flags-requires-clause-fewer
-sole_flags-requires-clause-fewer c = rw (c.hops.ensures.value) (few_hops c.args.net.now c.hops.ensures.named)
+sole_flags-requires-clause-fewer c = rw (c.hops.ensures.value) (few_hops c.args.problem.now.net.now c.requires.problem.named)
 
 pub ways_before-requires-clause-fewer : goal.ways_before-requires-clause-fewer
 ways_before-requires-clause-fewer c =
-    let f = few_hops c.args.net.now c.hops.ensures.named in
-    let h = hops_length c.args.net.now.net in
-    let b = c.requires.base.count in
-    let s = c.requires.sets.sets_are.count in
+    let f = few_hops c.args.problem.now.net.now c.requires.problem.named in
+    let h = hops_length c.args.problem.now.net.now.net in
+    let b = c.requires.problem.base.count in
+    let s = c.requires.problem.sets.sets_are.count in
     omega arith
 
 pub returns : goal.returns
 returns c told listing place is at =
-    early c.args.net.now.net c.args.sets.now c.args.base.now c.args.pattern.now c.hops.ensures.named.network c.requires.sets c.requires.base c.deref.result.now c.deref-2.result.now
+    early c.args.problem.now.net.now.net c.args.problem.now.sets.now c.args.problem.now.base.now c.args.pattern.now c.requires.problem.named.network c.requires.problem.sets c.requires.problem.base c.deref.result.now c.deref-2.result.now
     (c.deref.ensures.value ∙ c.in_ok-unbounded.ensures)
     (ap (λ (l : List Bool). length l) c.deref-2.ensures.value ∙ (c.in_ok-sole.ensures.count ∙ ap (λ (l : List Hop). length l) c.hops.ensures.value))
-    (subst (λ (l : List Bool). AreSole c.args.net.now.net.source (hops c.args.net.now.net) c.args.sets.now l) (sym c.deref-2.ensures.value)
-    (subst (λ (l : List Hop). AreSole c.args.net.now.net.source l c.args.sets.now c.in_ok-sole.sole.items) c.hops.ensures.value
-    (subst (λ (n : ℕ). AreSole n c.hops.result.now c.args.sets.now c.in_ok-sole.sole.items) c.source.ensures.value c.in_ok-sole.ensures.sole)))
-    c.in_ok-ways.ways c.args.budget c.in_ok-ways.ensures (from_test c.in_ok-ways.ways c.args.budget told) (let f = c.ranges.budget.fits in omega arith) listing place is at
+    (subst (λ (l : List Bool). AreSole c.args.problem.now.net.now.net.source (hops c.args.problem.now.net.now.net) c.args.problem.now.sets.now l) (sym c.deref-2.ensures.value)
+    (subst (λ (l : List Hop). AreSole c.args.problem.now.net.now.net.source l c.args.problem.now.sets.now c.in_ok-sole.sole.items) c.hops.ensures.value
+    (subst (λ (n : ℕ). AreSole n c.hops.result.now c.args.problem.now.sets.now c.in_ok-sole.sole.items) c.source.ensures.value c.in_ok-sole.ensures.sole)))
+    c.in_ok-ways.ways c.args.problem.now.budget c.in_ok-ways.ensures (from_test c.in_ok-ways.ways c.args.problem.now.budget told) (let f = c.requires.problem.budget in omega arith) listing place is at

@@ -2,15 +2,16 @@ use Rattle.std.proofs.Common.{length, true, false, subst, sym, ap, ◌∙◌}
 use Rattle.std.proofs.lemmas.Option.{same_Some}
 use Rattle.nf_pattern.specs.Given.{Question, IsQuestion, IsListedBy, Given}
 use Rattle.nf_thin_narrow.specs.Asking.{StandsWithin, IsBehind, StandsAt}
-use Rattle.nf_thin.specs.Searching.{question_of}
+use Rattle.nf_thin.specs.Posing.{question_in}
 use Rattle.nf_thin.proofs.Hops.{hops_length}
+use Rattle.nf_thin.proofs.Posed.{posed_question}
 use Rattle.nf_thin.proofs.pace.Pace.go_on.Goals as goal
 
 pub goes_on_to-requires-clause-question : goal.goes_on_to-requires-clause-question
-goes_on_to-requires-clause-question c = subst IsQuestion (sym (c.requires.behind c.in-Some.all c.in-Some.is).through.same) c.requires.question
+goes_on_to-requires-clause-question c = subst IsQuestion (sym (c.requires.behind c.in-Some.all c.in-Some.is).through.same) (posed_question c.args.problem.now c.requires.problem)
 
 pub goes_on_to-requires-clause-links : goal.goes_on_to-requires-clause-links
-goes_on_to-requires-clause-links c = ap (λ (q : Question). length q.hops) (c.requires.behind c.in-Some.all c.in-Some.is).through.same ∙ (hops_length c.args.net.now.net ∙ sym c.link_count.ensures)
+goes_on_to-requires-clause-links c = ap (λ (q : Question). length q.hops) (c.requires.behind c.in-Some.all c.in-Some.is).through.same ∙ (hops_length c.args.problem.now.net.now.net ∙ sym c.link_count-links.ensures)
 
 pub goes_on_to-requires-clause-behind : goal.goes_on_to-requires-clause-behind
 goes_on_to-requires-clause-behind c =
@@ -18,16 +19,16 @@ goes_on_to-requires-clause-behind c =
 
 pub returns-then-goes_on_to-clause-told : goal.returns-then-goes_on_to-clause-told
 returns-then-goes_on_to-clause-told c =
-    subst (λ (q : Question). StandsWithin q c.args.pattern.now c.args.budget true) (c.requires.behind c.in-Some.all c.in-Some.is).through.same
-    (subst (λ b. StandsWithin c.in-Some.all.question c.args.pattern.now c.args.budget b) c.if-goes_on_to.true c.goes_on_to.ensures.within)
+    subst (λ (q : Question). StandsWithin q c.args.pattern.now c.args.problem.now.budget true) (c.requires.behind c.in-Some.all c.in-Some.is).through.same
+    (subst (λ b. StandsWithin c.in-Some.all.question c.args.pattern.now c.args.problem.now.budget b) c.if-goes_on_to.true c.goes_on_to.ensures.within)
 
 pub returns-then-goes_on_to-clause-in_step : goal.returns-then-goes_on_to-clause-in_step
 returns-then-goes_on_to-clause-in_step c other all is =
-    subst (λ (g : Given). StandsAt (question_of c.args.net.now.net c.args.sets.now c.args.base.now) g c.args.pattern.now) (same_Some c.goes_on_to.new.patterns all is)
+    subst (λ (g : Given). StandsAt (question_in c.args.problem.now) g c.args.pattern.now) (same_Some c.goes_on_to.new.patterns all is)
     (subst (λ (q : Question). StandsAt q c.goes_on_to.new.patterns c.args.pattern.now) (c.requires.behind c.in-Some.all c.in-Some.is).through.same
     (c.goes_on_to.ensures.stands c.if-goes_on_to.true (subst (λ (q : Question). IsListedBy q c.args.pattern.now) (sym (c.requires.behind c.in-Some.all c.in-Some.is).through.same) c.requires.listed)))
 
 pub returns-else-goes_on_to-clause-told : goal.returns-else-goes_on_to-clause-told
 returns-else-goes_on_to-clause-told c =
-    subst (λ (q : Question). StandsWithin q c.args.pattern.now c.args.budget false) (c.requires.behind c.in-Some.all c.in-Some.is).through.same
-    (subst (λ b. StandsWithin c.in-Some.all.question c.args.pattern.now c.args.budget b) c.if-goes_on_to.false c.goes_on_to.ensures.within)
+    subst (λ (q : Question). StandsWithin q c.args.pattern.now c.args.problem.now.budget false) (c.requires.behind c.in-Some.all c.in-Some.is).through.same
+    (subst (λ b. StandsWithin c.in-Some.all.question c.args.pattern.now c.args.problem.now.budget b) c.if-goes_on_to.false c.goes_on_to.ensures.within)
