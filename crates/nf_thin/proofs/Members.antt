@@ -1,20 +1,18 @@
 -- How many of a listing's first patterns a family has: at least as many as its assignments before the next pattern.
-use Rattle.std.proofs.Common.{◌≡◌, ◌≢◌, ◌⊎◌, inl, inr, ℕ, zero, suc, ◌+◌, ◌<◌, ◌≤◌, Bool, true, false, eqb-true, List, [], ◌∷◌, length, refl, sym, ap, subst, ◌∙◌, arith}
+use Rattle.std.proofs.Common.{◌≡◌, ◌≢◌, ◌⊎◌, inl, inr, ℕ, zero, suc, ◌+◌, ◌<◌, ◌≤◌, Bool, true, false, eqb-true, List, [], ◌∷◌, length, refl, sym, ap, ◌∙◌, arith}
 use Rattle.std.specs.Prelude.{Option, Some, None, slice_get, ◌==◌, if◌then◌else◌}
 use Rattle.std.proofs.lemmas.Bool.{false≢true}
 use Rattle.std.proofs.lemmas.Bool.Decides.{eqb_tells}
 use Rattle.std.proofs.lemmas.Option.{none-some, same_Some}
-use Rattle.nf_rational_laws.proofs.Naturals.{compared}
 use Rattle.nf_model.specs.declared.State.{State}
 use Rattle.nf_model.specs.Walk.{Hop}
 use Rattle.nf_model.specs.ThinFlow.{Sets}
-use Rattle.nf_model.specs.Pattern.{Pattern, rank, IsListed, IsBefore}
+use Rattle.nf_model.specs.Pattern.{Pattern, rank, IsListed}
 use Rattle.nf_thin_def.specs.Listing.{IsListing}
 use Rattle.nf_thin_laws.specs.Ways.{Choices, IsIn, AreIn, ways_before}
 use Rattle.nf_thin_laws.specs.Firm.{AllAscend, is_in, firm_before}
-use Rattle.nf_thin_laws.proofs.Listings.{IsBefore-asymmetric}
-use Rattle.nf_thin_laws.proofs.Counting.{AreIn-length, before_less}
-use Rattle.nf_thin_laws.proofs.Unranking.{Before, number_before}
+use Rattle.nf_thin_laws.proofs.Unranking.{number_before}
+use Rattle.nf_thin_laws.proofs.PlacesBelow.{there, fewer_lower, before_lower}
 use Rattle.nf_pattern.proofs.Successors.{same_rank}
 
 -- ---- sums over the first patterns of a list
@@ -106,23 +104,6 @@ is_one choices q h = ap (λ (b : Bool). if b then 1 else 0) (are_in_of choices q
 module _ (nodes source : ℕ) (hops : List Hop) (sets : Sets) (unbounded : List Bool) (base : Pattern) (choices : Choices) (listing : List Pattern)
     (is : IsListing nodes source hops sets unbounded base listing) (all : (q : Pattern) → AreIn choices q → IsListed nodes source hops sets unbounded q) (up : AllAscend choices)
     (count : length base ≡ length sets.active) where
-  in_listing : (i j : ℕ) (p r : Pattern) → i < j → slice_get listing i ≡ Some p → slice_get listing j ≡ Some r → IsBefore base p r
-  in_listing i j p r less at_p at_r = is.ordered (suc i) (suc j) p r (omega arith) (i, refl, at_p) (j, refl, at_r)
-
-  there : (q : Pattern) → AreIn choices q → (i : ℕ) × (slice_get listing i ≡ Some q)
-  there q in_q = let w = is.whole q (all q in_q) in (w.1.0, w.1.2)
-
-  same_at : (i j : ℕ) (p r : Pattern) → i ≡ j → slice_get listing i ≡ Some p → slice_get listing j ≡ Some r → p ≡ r
-  same_at i j p r same at_p at_r = same_Some p r (sym at_p ∙ (ap (slice_get listing) same ∙ at_r))
-
-  -- A pattern before another one has a lower index.
-  earlier : (p q : Pattern) → IsBefore base q p → (i j : ℕ) → slice_get listing i ≡ Some q → slice_get listing j ≡ Some p → (i < j) ⊎ ((i ≡ j) ⊎ (j < i)) → i < j
-  earlier p q before i j at_q at_p (inl h) = h
-  earlier p q before i j at_q at_p (inr (inl same)) =
-      let e : q ≡ p = same_at i j q p same at_q at_p in
-      let itself : IsBefore base p p = subst (λ (x : Pattern). IsBefore base x p) e before in absurd (IsBefore-asymmetric base p p itself itself)
-  earlier p q before i j at_q at_p (inr (inr more)) = absurd (IsBefore-asymmetric base q p before (in_listing j i p q more at_p at_q))
-
   -- One more member before j.
   one_more : (w : Pattern) → AreIn choices w → (i j k : ℕ) → slice_get listing i ≡ Some w → i < j → k ≤ members (in_family choices) listing i → suc k ≤ members (in_family choices) listing j
   one_more w in_w i j k at less h =
@@ -134,27 +115,18 @@ module _ (nodes source : ℕ) (hops : List Hop) (sets : Sets) (unbounded : List 
     at_least zero less q in_q number j at = omega arith
     at_least (suc k) less q in_q number j at =
         let w = number_before choices base p k up (omega arith) in
-        let t = there w.q w.in_choices in
+        let t = there nodes source hops sets unbounded base choices listing is all up count w.q w.in_choices in
         let h : k ≤ members (in_family choices) listing t.0 = at_least k (omega arith) w.q w.in_choices w.number t.0 t.1 in
-        one_more w.q w.in_choices t.0 j k t.1 (go w t.0 t.1 (compared t.0 j)) h
-      where
-        counts : length base ≡ length choices
-        counts = count ∙ (sym (all q in_q).states.count ∙ sym (AreIn-length choices q in_q))
-
-        go : (w : Before choices base p k) (i : ℕ) → slice_get listing i ≡ Some w.q → (i < j) ⊎ ((i ≡ j) ⊎ (j < i)) → i < j
-        go w i at_w (inl h) = h
-        go w i at_w (inr (inl same)) =
-            let e : ways_before choices base w.q ≡ ways_before choices base q = ap (ways_before choices base) (same_at i j w.q q same at_w at) in absurd (let f = w.number in omega arith)
-        go w i at_w (inr (inr more)) =
-            let l = before_less choices base q w.q in_q w.in_choices counts (in_listing j i q w.q more at at_w) in absurd (let f = w.number in omega arith)
+        one_more w.q w.in_choices t.0 j k t.1
+        (fewer_lower nodes source hops sets unbounded base choices listing is all up count q w.q in_q w.in_choices (let f = w.number in omega arith) t.0 j t.1 at) h
 
     so_many : (j n : ℕ) → slice_get listing j ≡ Some p → firm_before choices base p ≡ n → n ≤ members (in_family choices) listing j
     so_many j zero at e = omega arith
     so_many j (suc n) at e =
         let w = number_before choices base p n up (omega arith) in
-        let t = there w.q w.in_choices in
+        let t = there nodes source hops sets unbounded base choices listing is all up count w.q w.in_choices in
         let h = at_least n (omega arith) w.q w.in_choices w.number t.0 t.1 in
-        one_more w.q w.in_choices t.0 j n t.1 (earlier p w.q w.before t.0 j t.1 at (compared t.0 j)) h
+        one_more w.q w.in_choices t.0 j n t.1 (before_lower nodes source hops sets unbounded base choices listing is all up count p w.q w.before t.0 j t.1 at) h
 
   -- As many members come before a pattern as assignments.
   pub members_before : (p : Pattern) (j : ℕ) → slice_get listing j ≡ Some p → firm_before choices base p ≤ members (in_family choices) listing j

@@ -44,14 +44,14 @@ AreSets-sets_at net labels = record {
 }
 
 -- ---- along active links, labels grow by the transit times
-none : (a b : ℚ) → a ≡ b → a +ℚ 0ℚ ≤ℚ b
-none a b e = linear_le (a ∷ b ∷ []) (eq e ∷ []) (search reading_of depth 12) tt
+pub along_none : (a b : ℚ) → a ≡ b → a +ℚ 0ℚ ≤ℚ b
+along_none a b e = linear_le (a ∷ b ∷ []) (eq e ∷ []) (search reading_of depth 12) tt
 
-further : (a b c r s l : ℚ) → 0ℚ ≤ℚ b -ℚ (a +ℚ r) → s ≡ r → b +ℚ l ≤ℚ c → a +ℚ (s +ℚ l) ≤ℚ c
-further a b c r s l h e k = linear_le (a ∷ b ∷ c ∷ r ∷ s ∷ l ∷ []) (le h ∷ eq e ∷ le k ∷ []) (search reading_of depth 12) tt
+pub along_more : (a b c r s l : ℚ) → 0ℚ ≤ℚ b -ℚ (a +ℚ r) → s ≡ r → b +ℚ l ≤ℚ c → a +ℚ (s +ℚ l) ≤ℚ c
+along_more a b c r s l h e k = linear_le (a ∷ b ∷ c ∷ r ∷ s ∷ l ∷ []) (le h ∷ eq e ∷ le k ∷ []) (search reading_of depth 12) tt
 
-closed : (a l : ℚ) → a +ℚ l ≤ℚ a → 0ℚ <ℚ l → ⊥
-closed a l h k = linear_false (a ∷ l ∷ []) (le h ∷ lt k ∷ []) (search reading_of depth 12) tt
+pub along_closed : (a l : ℚ) → a +ℚ l ≤ℚ a → 0ℚ <ℚ l → ⊥
+along_closed a l h k = linear_false (a ∷ l ∷ []) (le h ∷ lt k ∷ []) (search reading_of depth 12) tt
 
 pub IsWalk-active : (net : Network) (sets : Sets) (walk : List ℕ) (v w : ℕ) → IsActiveWalk net sets walk v w → IsWalk (hops net) walk v w
 IsWalk-active net sets [] v w t = t
@@ -59,13 +59,13 @@ IsWalk-active net sets (e ∷ walk) v w t = subst (λ (k : ℕ). IsWalk (hops ne
 
 module _ (net : Network) (labels : List ℚ) where
   sum_of : (walk : List ℕ) (v w : ℕ) → IsActiveWalk net (sets_at net labels) walk v w → number_at labels v +ℚ transit_sum (hops net) walk ≤ℚ number_at labels w
-  sum_of [] v w t = none _ _ (ap (number_at labels) t)
+  sum_of [] v w t = along_none _ _ (ap (number_at labels) t)
   sum_of (e ∷ walk) v w t = subst (λ (k : ℕ). number_at labels k +ℚ transit_sum (hops net) (e ∷ walk) ≤ℚ number_at labels w) t.3
-      (further (number_at labels t.0.tail) (number_at labels t.0.head) _ t.0.transit (transit_of (hops net) e) (transit_sum (hops net) walk)
+      (along_more (number_at labels t.0.tail) (number_at labels t.0.head) _ t.0.transit (transit_of (hops net) e) (transit_sum (hops net) walk)
       (slack_of_active net labels e t.0 t.1 t.2) (transit_of-is net e t.0 t.1) (sum_of walk t.0.head w t.4))
 
   pub HoldNoCycle-sets_at : IsNetwork net → HoldNoCycle net (sets_at net labels)
-  HoldNoCycle-sets_at good e walk v t = closed (number_at labels v) _ (sum_of (e ∷ walk) v v t) (good.cycles e walk v (IsWalk-active net (sets_at net labels) (e ∷ walk) v v t))
+  HoldNoCycle-sets_at good e walk v t = along_closed (number_at labels v) _ (sum_of (e ∷ walk) v v t) (good.cycles e walk v (IsWalk-active net (sets_at net labels) (e ∷ walk) v v t))
 
 -- ---- from each node, active links lead backward to the source
 module _ (net : Network) (sets : Sets) where

@@ -27,3 +27,11 @@ entrywise-parts f [] (b ∷ ys) e z h = absurd (none-some z h)
 entrywise-parts f (a ∷ xs) [] e z h = absurd (none-some z h)
 entrywise-parts f (a ∷ xs) (b ∷ ys) zero z h = (a, b, refl, refl, sym (same_Some (f a b) z h))
 entrywise-parts f (a ∷ xs) (b ∷ ys) (suc e) z h = entrywise-parts f xs ys e z h
+
+-- A function that takes back what another did to each entry takes it back in the list.
+pub entrywise-back : {A B C : Type 0} (f : A → C → B) (g : A → B → C) (xs : List A) (ys : List B) → length xs ≡ length ys
+    → ((e : ℕ) (x : A) (y : B) → slice_get xs e ≡ Some x → slice_get ys e ≡ Some y → f x (g x y) ≡ y) → entrywise f xs (entrywise g xs ys) ≡ ys
+entrywise-back f g [] [] n h = refl
+entrywise-back f g [] (y ∷ ys) n h = absurd (omega arith)
+entrywise-back f g (x ∷ xs) [] n h = absurd (omega arith)
+entrywise-back f g (x ∷ xs) (y ∷ ys) n h = λ i. h 0 x y refl refl i ∷ entrywise-back f g xs ys (omega arith) (λ e a b p q. h (suc e) a b p q) i

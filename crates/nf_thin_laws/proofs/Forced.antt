@@ -1,5 +1,5 @@
 -- Patterns with forced states, and patterns without the forced links.
-use Rattle.std.proofs.Common.{◌≡◌, ◌⊎◌, inl, inr, ℕ, suc, Bool, true, false, List, [], ◌∷◌, length, refl, sym, ap, ◌∙◌, arith}
+use Rattle.std.proofs.Common.{◌≡◌, ◌⊎◌, inl, inr, ℕ, Bool, true, false, List, [], ◌∷◌, length, refl, sym, ap, ◌∙◌, arith}
 use Rattle.std.specs.Prelude.{Option, Some, None, slice_get}
 use Rattle.std.proofs.lemmas.Option.{none-some, same_Some, slice_get_within}
 use Rattle.nf_model.specs.declared.State.{State}
@@ -10,7 +10,7 @@ use Rattle.nf_model.specs.ThinFlow.{Sets}
 use Rattle.nf_model.specs.Pattern.{Pattern, HasState, NeedsState, IsPattern, IsTrail, IsForest, IsListed}
 use Rattle.nf_rational_laws.proofs.Entries.{entry}
 use Rattle.nf_thin_laws.specs.Forcing.{free_state, given_state, left_of, filled, still_active, now_resetting, sets_left, IsForcing, HasForced}
-use Rattle.nf_thin_laws.proofs.Entrywise.{entrywise-length, entrywise-at, entrywise-parts}
+use Rattle.nf_thin_laws.proofs.Entrywise.{entrywise-length, entrywise-at, entrywise-parts, entrywise-back}
 
 -- ---- forests of fewer hops
 trail_within : (hops : List Hop) (A B : ℕ → Type 0) → ((e : ℕ) → A e → B e) → (steps : List (ℕ × Bool)) (v w : ℕ) → IsTrail hops A steps v w → IsTrail hops B steps v w
@@ -24,23 +24,19 @@ forest_within hops A B into forest first steps v differ t = forest first steps v
 abbrev pub IsBare : Pattern → Pattern → Type 0
 IsBare forced p = (e : ℕ) (f : State) → HasState forced e f → slice_get p e ≡ Some None
 
+bare_left : (forced p : Pattern) → IsBare forced p → (e : ℕ) (f s : Option State) → slice_get forced e ≡ Some f → slice_get p e ≡ Some s → free_state f (given_state f s) ≡ s
+bare_left forced p b e None s h k = refl
+bare_left forced p b e (Some f) s h k = same_Some None s (sym (b e f h) ∙ k)
+
 pub left_of-filled : (forced p : Pattern) → length forced ≡ length p → IsBare forced p → left_of forced (filled forced p) ≡ p
-left_of-filled [] [] n b = refl
-left_of-filled [] (s ∷ p) n b = absurd (omega arith)
-left_of-filled (f ∷ forced) [] n b = absurd (omega arith)
-left_of-filled (None ∷ forced) (s ∷ p) n b = ap (λ (x : Pattern). s ∷ x) (left_of-filled forced p (omega arith) (λ e f h. b (suc e) f h))
-left_of-filled (Some f ∷ forced) (s ∷ p) n b =
-    ap (λ (x : Option State). x ∷ left_of forced (filled forced p)) (sym (same_Some s None (b 0 f refl)))
-    ∙ ap (λ (x : Pattern). s ∷ x) (left_of-filled forced p (omega arith) (λ e g h. b (suc e) g h))
+left_of-filled forced p n b = entrywise-back free_state given_state forced p n (bare_left forced p b)
+
+forced_given : (forced p : Pattern) → HasForced forced p → (e : ℕ) (f s : Option State) → slice_get forced e ≡ Some f → slice_get p e ≡ Some s → given_state f (free_state f s) ≡ s
+forced_given forced p has e None s h k = refl
+forced_given forced p has e (Some f) s h k = same_Some (Some f) s (sym (has e f h) ∙ k)
 
 pub filled-left_of : (forced p : Pattern) → length forced ≡ length p → HasForced forced p → filled forced (left_of forced p) ≡ p
-filled-left_of [] [] n h = refl
-filled-left_of [] (s ∷ p) n h = absurd (omega arith)
-filled-left_of (f ∷ forced) [] n h = absurd (omega arith)
-filled-left_of (None ∷ forced) (s ∷ p) n h = ap (λ (x : Pattern). s ∷ x) (filled-left_of forced p (omega arith) (λ e f k. h (suc e) f k))
-filled-left_of (Some f ∷ forced) (s ∷ p) n h =
-    ap (λ (x : Option State). x ∷ filled forced (left_of forced p)) (sym (same_Some s (Some f) (h 0 f refl)))
-    ∙ ap (λ (x : Pattern). s ∷ x) (filled-left_of forced p (omega arith) (λ e g k. h (suc e) g k))
+filled-left_of forced p n has = entrywise-back given_state free_state forced p n (forced_given forced p has)
 
 -- ---- entries
 state_left : (forced p : Pattern) (e : ℕ) (s : State) → HasState (left_of forced p) e s → (slice_get forced e ≡ Some None) × HasState p e s

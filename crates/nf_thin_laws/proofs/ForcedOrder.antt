@@ -1,6 +1,6 @@
 -- Patterns with forced states have the order of the patterns left.
-use Rattle.std.proofs.Common.{◌≡◌, inl, inr, suc, ◌+◌, Bool, true, false, [], ◌∷◌, length, refl, sym, ap, ◌∙◌, arith}
-use Rattle.std.specs.Prelude.{Option, Some, None, ◌==◌, if◌then◌else◌}
+use Rattle.std.proofs.Common.{◌≡◌, ◌⊎◌, inl, inr, suc, ◌+◌, ◌<◌, Bool, true, false, [], ◌∷◌, length, refl, sym, ap, ◌∙◌, arith}
+use Rattle.std.specs.Prelude.{◌↔◌, Option, Some, None, ◌==◌, if◌then◌else◌}
 use Rattle.std.proofs.lemmas.Option.{same_Some}
 use Rattle.nf_model.specs.declared.State.{State}
 use Rattle.nf_model.specs.Pattern.{Pattern, rank, changes, IsEarlier, IsBefore}
@@ -34,36 +34,28 @@ changes_split (Some f ∷ forced) (b ∷ base) (s ∷ p) n m h =
     let rest = changes_split forced base p (omega arith) (omega arith) (λ e g k. h (suc e) g k) in
     omega arith
 
-pub earlier_left : (forced p q : Pattern) → length forced ≡ length p → length q ≡ length p → HasForced forced p → HasForced forced q
-    → IsEarlier p q → IsEarlier (left_of forced p) (left_of forced q)
-earlier_left [] [] q n m h k less = absurd less
-earlier_left [] (s ∷ p) q n m h k less = absurd (omega arith)
-earlier_left (f ∷ forced) [] q n m h k less = absurd (omega arith)
-earlier_left (f ∷ forced) (s ∷ p) [] n m h k less = absurd (omega arith)
-earlier_left (None ∷ forced) (s ∷ p) (t ∷ q) n m h k (inl less) = inl less
-earlier_left (None ∷ forced) (s ∷ p) (t ∷ q) n m h k (inr less) =
-    inr (less.0, earlier_left forced p q (omega arith) (omega arith) (λ e g z. h (suc e) g z) (λ e g z. k (suc e) g z) less.1)
-earlier_left (Some f ∷ forced) (s ∷ p) (t ∷ q) n m h k (inl less) =
-    let same : rank s ≡ rank t = ap rank (same_Some s (Some f) (h 0 f refl) ∙ sym (same_Some t (Some f) (k 0 f refl))) in absurd (omega arith)
-earlier_left (Some f ∷ forced) (s ∷ p) (t ∷ q) n m h k (inr less) =
-    inr (refl, earlier_left forced p q (omega arith) (omega arith) (λ e g z. h (suc e) g z) (λ e g z. k (suc e) g z) less.1)
+on_later : {R E A B : Type 0} → (A → B) → R ⊎ (E × A) → R ⊎ (E × B)
+on_later f (inl less) = inl less
+on_later f (inr later) = inr (later.0, f later.1)
 
-pub earlier_put : (forced p q : Pattern) → length forced ≡ length p → length q ≡ length p → HasForced forced p → HasForced forced q
-    → IsEarlier (left_of forced p) (left_of forced q) → IsEarlier p q
-earlier_put [] [] q n m h k less = absurd (none q less)
-  where
-    none : (q : Pattern) → IsEarlier (left_of [] []) (left_of [] q) → ⊥
-    none [] l = l
-    none (t ∷ q) l = l
-earlier_put [] (s ∷ p) q n m h k less = absurd (omega arith)
-earlier_put (f ∷ forced) [] q n m h k less = absurd (omega arith)
-earlier_put (f ∷ forced) (s ∷ p) [] n m h k less = absurd (omega arith)
-earlier_put (None ∷ forced) (s ∷ p) (t ∷ q) n m h k (inl less) = inl less
-earlier_put (None ∷ forced) (s ∷ p) (t ∷ q) n m h k (inr less) =
-    inr (less.0, earlier_put forced p q (omega arith) (omega arith) (λ e g z. h (suc e) g z) (λ e g z. k (suc e) g z) less.1)
-earlier_put (Some f ∷ forced) (s ∷ p) (t ∷ q) n m h k (inl less) = absurd (omega arith)
-earlier_put (Some f ∷ forced) (s ∷ p) (t ∷ q) n m h k (inr less) =
-    inr (same_Some s (Some f) (h 0 f refl) ∙ sym (same_Some t (Some f) (k 0 f refl)), earlier_put forced p q (omega arith) (omega arith) (λ e g z. h (suc e) g z) (λ e g z. k (suc e) g z) less.1)
+only_later : {R S E F A B : Type 0} → (R → ⊥) → F → (A → B) → R ⊎ (E × A) → S ⊎ (F × B)
+only_later none same f (inl less) = absurd (none less)
+only_later none same f (inr later) = inr (same, f later.1)
+
+earlier_forced : (forced p q : Pattern) → length forced ≡ length p → length q ≡ length p → HasForced forced p → HasForced forced q
+    → IsEarlier p q ↔ IsEarlier (left_of forced p) (left_of forced q)
+earlier_forced [] [] [] n m h k = ((λ less. less), (λ less. less))
+earlier_forced [] [] (t ∷ q) n m h k = absurd (omega arith)
+earlier_forced [] (s ∷ p) q n m h k = absurd (omega arith)
+earlier_forced (f ∷ forced) [] q n m h k = absurd (omega arith)
+earlier_forced (f ∷ forced) (s ∷ p) [] n m h k = absurd (omega arith)
+earlier_forced (None ∷ forced) (s ∷ p) (t ∷ q) n m h k =
+    let rest = earlier_forced forced p q (omega arith) (omega arith) (λ e g z. h (suc e) g z) (λ e g z. k (suc e) g z) in
+    (on_later rest.0, on_later rest.1)
+earlier_forced (Some f ∷ forced) (s ∷ p) (t ∷ q) n m h k =
+    let rest = earlier_forced forced p q (omega arith) (omega arith) (λ e g z. h (suc e) g z) (λ e g z. k (suc e) g z) in
+    let same : s ≡ t = same_Some s (Some f) (h 0 f refl) ∙ sym (same_Some t (Some f) (k 0 f refl)) in
+    (only_later (λ (less : rank s < rank t). let r : rank s ≡ rank t = ap rank same in omega arith) refl rest.0, only_later (λ (less : 0 < 0). omega arith) same rest.1)
 
 module _ (forced base p q : Pattern) (n : length forced ≡ length p) (b : length base ≡ length p) (m : length q ≡ length p) (h : HasForced forced p) (k : HasForced forced q) where
   first : changes base p ≡ forced_changes forced base + changes (left_of forced base) (left_of forced p)
@@ -74,8 +66,8 @@ module _ (forced base p q : Pattern) (n : length forced ≡ length p) (b : lengt
 
   pub before_left : IsBefore base p q → IsBefore (left_of forced base) (left_of forced p) (left_of forced q)
   before_left (inl less) = let c = first in let d = second in inl (omega arith)
-  before_left (inr less) = let c = first in let d = second in let e = less.0 in inr (omega arith, earlier_left forced p q n m h k less.1)
+  before_left (inr less) = let c = first in let d = second in let e = less.0 in inr (omega arith, (earlier_forced forced p q n m h k).0 less.1)
 
   pub before_put : IsBefore (left_of forced base) (left_of forced p) (left_of forced q) → IsBefore base p q
   before_put (inl less) = let c = first in let d = second in inl (omega arith)
-  before_put (inr less) = let c = first in let d = second in let e = less.0 in inr (omega arith, earlier_put forced p q n m h k less.1)
+  before_put (inr less) = let c = first in let d = second in let e = less.0 in inr (omega arith, (earlier_forced forced p q n m h k).1 less.1)

@@ -28,7 +28,7 @@ abbrev pub LinkLaw : Bool → Option ℚ → ℚ → ℚ → ℚ → Type 0
 LinkLaw resets None x s t = UnboundedLaw x s t
 LinkLaw resets (Some c) x s t = BoundedLaw resets x c s t
 
-full_of : (x c t q : ℚ) → 0ℚ <ℚ c → 0ℚ ≤ℚ x → 0ℚ ≤ℚ t → q *ℚ c ≡ x → t ≤ℚ q → (0ℚ <ℚ x → q ≡ t) → x ≡ c *ℚ t
+pub full_of : (x c t q : ℚ) → 0ℚ <ℚ c → 0ℚ ≤ℚ x → 0ℚ ≤ℚ t → q *ℚ c ≡ x → t ≤ℚ q → (0ℚ <ℚ x → q ≡ t) → x ≡ c *ℚ t
 full_of x c t q h n m e l u = ⊎_elim
     (λ (k : 0ℚ <ℚ x). linear_eq (x ∷ c ∷ t ∷ q ∷ []) (eq e ∷ eq_times c (u k) ∷ []) (search reading_of depth 12) tt tt)
     (λ (k : x ≤ℚ 0ℚ).

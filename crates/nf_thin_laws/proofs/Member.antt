@@ -34,6 +34,7 @@ use Rattle.nf_thin_def.specs.Search.{Found, IsSearch}
 use Rattle.nf_thin_def.specs.PhaseRun.{Standing, Bounds, PhaseStep, IsStart, standing_after, IsSearchHere, phase_lists, Goes, at_horizon, goes, report_of, IsRunReport}
 use Rattle.nf_thin_def.proofs.Examples.{n, in_127_bits, link}
 use Rattle.nf_thin_def.proofs.Runs.{first_standing}
+use Rattle.nf_thin_laws.proofs.Patterns.{none_leads}
 use Rattle.nf_thin_laws.proofs.Listings.{NextInOrder, all_in_order, ordered_by_place}
 
 abbrev the_link : Link
@@ -162,18 +163,7 @@ two_listed (suc zero) p h = subst (IsListedIn net one_active) (same_Some _ p h) 
 two_listed (suc (suc i)) p h = absurd (none-some p h)
 
 not_zero : IsListedIn net one_active (Some Zero ∷ []) → ⊥
-not_zero h = at (h.entered 1 (omega arith) (λ e. omega arith))
-  where
-    at_link : (e : ℕ) → Has one_active.resetting e ⊎ (HasState (Some Zero ∷ []) e Tight ⊎ HasState (Some Zero ∷ []) e Full) → ⊥
-    at_link zero (inl k) = cc
-    at_link zero (inr (inl k)) = cc
-    at_link zero (inr (inr k)) = cc
-    at_link (suc e) (inl k) = cc
-    at_link (suc e) (inr (inl k)) = cc
-    at_link (suc e) (inr (inr k)) = cc
-
-    at : (e : ℕ) × (hop : Hop) × IsHop (hops net) e hop × (hop.head ≡ 1) × (Has one_active.resetting e ⊎ (HasState (Some Zero ∷ []) e Tight ⊎ HasState (Some Zero ∷ []) e Full)) → ⊥
-    at k = at_link k.0 k.4
+not_zero h = let w = h.entered 1 (omega arith) (λ e. omega arith) in none_leads one_active.resetting (Some Zero ∷ []) (refl, tt) (refl, tt) w.0 w.4
 
 place_of : (a : State) → IsListedIn net one_active (Some a ∷ []) → (place : ℕ) × HasPlace two place (Some a ∷ [])
 place_of Tight h = (1, (0, refl, refl))

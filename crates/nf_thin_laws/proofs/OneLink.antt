@@ -1,6 +1,7 @@
 -- Thin flows and phases of the network of one link.
 use Rattle.std.proofs.Common.{◌≡◌, ◌≢◌, ℕ, zero, suc, ◌<◌, List, [], ◌∷◌, length, ◌⊎◌, inl, inr, Bool, true, false, if◌then◌else◌, Option, Some, None, slice_get, sym, ap, subst, refl, ◌∙◌, arith}
 use Rattle.std.specs.Prelude.{is_none}
+use Rattle.std.proofs.lemmas.Option.{none-some, same_Some}
 use mathlib.Core.Path.{ap₂}
 use Rattle.nf_rational.specs.Rational.{ℚ}
 use Rattle.nf_rational.specs.Operations.{0ℚ, 1ℚ, ◌+ℚ◌, ◌-ℚ◌, ◌*ℚ◌, ◌/ℚ◌}
@@ -13,7 +14,7 @@ use Rattle.nf_model.specs.declared.State.{State}
 use Rattle.nf_model.specs.declared.State.TheVariants.{Tight, Full}
 use Rattle.nf_model.specs.Entries.{number_at, Has}
 use Rattle.nf_model.specs.Walk.{Hop, IsHop}
-use Rattle.nf_model.specs.Network.{Link, Piece, Network, IsLink, IsPiece, IsNetwork, ArePieces, hops, unbounded, rate_at}
+use Rattle.nf_model.specs.Network.{Link, Piece, Network, IsLink, IsPiece, IsNetwork, ArePieces, hop_of, hops, unbounded, rate_at}
 use Rattle.nf_model.specs.ThinFlow.{Sets, slacks_of, sets_of, sets_at, IsThinFlow}
 use Rattle.nf_model.specs.Pattern.{HasState, NeedsState, IsPattern, IsForest, IsListedIn, Equation, Inequality, Solves, Meets, IsSolution}
 use Rattle.nf_model.specs.Phases.{moved, AreStartLabels, Lasts, IsPhaseSequence}
@@ -30,6 +31,11 @@ use Rattle.nf_thin_laws.proofs.ActiveLinks.{AreSets-sets_at, HoldNoCycle-sets_at
 use Rattle.nf_thin_laws.proofs.Singular.{IsSolution-met}
 use Rattle.nf_rational_laws.proofs.Chains.{≤ℚ_refl, ≤ℚ_trans}
 
+-- A property of the one entry of a list is a property of each entry.
+only_entry : {A : Type 0} (P : ℕ → A → Type 0) (x : A) (e : ℕ) (y : A) → slice_get (x ∷ []) e ≡ Some y → P 0 x → P e y
+only_entry P x zero y p h = subst (λ z. P 0 z) (same_Some x y p) h
+only_entry P x (suc e) y p h = absurd (none-some y p)
+
 module _ (transit : ℚ) (capacity : Option ℚ) (pieces : List Piece) where
   abbrev net : Network
   net = one_link transit capacity pieces
@@ -37,29 +43,12 @@ module _ (transit : ℚ) (capacity : Option ℚ) (pieces : List Piece) where
   abbrev the_link : Link
   the_link = record { tail = 0; head = 1; transit = transit; capacity = capacity }
 
-  abbrev the_hop : Hop
-  the_hop = record { tail = 0; head = 1; transit = transit }
-
   -- A property of the one link is a property of each link.
   by_link : (P : ℕ → Link → Type 0) (e : ℕ) (link : Link) → IsLink net e link → P 0 the_link → P e link
-  by_link P zero link p x = subst (λ (l : Link). P 0 l) (same the_link link p) x
-    where
-      same : (a b : Link) → ◌≡◌ {A = Option Link} (Some a) (Some b) → a ≡ b
-      same a b q = cc
-  by_link P (suc e) link p x = absurd (none p)
-    where
-      none : ◌≡◌ {A = Option Link} None (Some link) → ⊥
-      none q = cc
+  by_link P e link p x = only_entry P the_link e link p x
 
-  by_hop : (P : ℕ → Hop → Type 0) (e : ℕ) (hop : Hop) → IsHop (hops net) e hop → P 0 the_hop → P e hop
-  by_hop P zero hop p x = subst (λ (h : Hop). P 0 h) (same the_hop hop p) x
-    where
-      same : (a b : Hop) → ◌≡◌ {A = Option Hop} (Some a) (Some b) → a ≡ b
-      same a b q = cc
-  by_hop P (suc e) hop p x = absurd (none p)
-    where
-      none : ◌≡◌ {A = Option Hop} None (Some hop) → ⊥
-      none q = cc
+  by_hop : (P : ℕ → Hop → Type 0) (e : ℕ) (hop : Hop) → IsHop (hops net) e hop → P 0 (hop_of the_link) → P e hop
+  by_hop P e hop p x = only_entry P (hop_of the_link) e hop p x
 
   -- ---- the first labels: the slack is 0
   no_slack : (t : ℚ) → t -ℚ (0ℚ +ℚ t) ≡ 0ℚ
@@ -119,8 +108,8 @@ module _ (transit : ℚ) (capacity : Option ℚ) (pieces : List Piece) where
   ends_differ true e = zero_one e
   ends_differ false e = zero_one (sym e)
 
-  only_hop : (e : ℕ) (hop : Hop) → IsHop (hops net) e hop → (e ≡ 0) × (hop ≡ the_hop)
-  only_hop e hop p = by_hop (λ (k : ℕ) (h : Hop). (k ≡ 0) × (h ≡ the_hop)) e hop p (refl, refl)
+  only_hop : (e : ℕ) (hop : Hop) → IsHop (hops net) e hop → (e ≡ 0) × (hop ≡ hop_of the_link)
+  only_hop e hop p = by_hop (λ (k : ℕ) (h : Hop). (k ≡ 0) × (h ≡ hop_of the_link)) e hop p (refl, refl)
 
   forest : (Allowed : ℕ → Type 0) → IsForest (hops net) Allowed
   forest Allowed (e, forward) [] v differ (hop, p, a, s, t) =
@@ -138,7 +127,7 @@ module _ (transit : ℚ) (capacity : Option ℚ) (pieces : List Piece) where
   listed state none leads = record {
     states = is_pattern state none;
     forest = forest (λ e. HasState (Some state ∷ []) e Tight);
-    entered = λ v h other. (0, the_hop, refl, entered_by v h other, inr leads);
+    entered = λ v h other. (0, hop_of the_link, refl, entered_by v h other, inr leads);
   }
 
   -- ---- solutions

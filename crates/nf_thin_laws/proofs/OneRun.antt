@@ -133,30 +133,62 @@ module _ (passes : Passing) (net : Network) (horizon : ℚ) (patterns : ℕ) whe
       let listed : IsListedIn net (sets_at net s.labels) h.pattern = search.is_listing.listed h.place h.pattern search.answers.has_place in
       ap (λ (w : Standing). length w.last) h.new_is ∙ (listed.states.count ∙ length-sets net s.labels)
 
--- ---- one end
-module _ (passes : Passing) (net : Network) (bounds : Bounds) where
+-- ---- a run by steps of any kind, with the ends of a phase run
+module _ (passes : Passing) (net : Network) (bounds : Bounds) (Step : Standing → Standing → Type 0) where
+  pub data StepsTo : Standing → Standing → Option (Cause ℚ) → Type 0 where
+    horizon_met : {s : Standing} → s.time ≡ bounds.horizon → StepsTo s s None
+    phases_made : {s : Standing} → s.time <ℚ bounds.horizon → s.made ≡ bounds.phases → StepsTo s s (Some (Cause.Phases s.made))
+    none_made : {s : Standing} {cause : Cause ℚ} → s.made < bounds.phases → Fails passes net bounds.horizon bounds.patterns s cause → StepsTo s s (Some cause)
+    one_made : {s new last : Standing} {stop : Option (Cause ℚ)} → s.made < bounds.phases → Step s new → StepsTo new last stop → StepsTo s last stop
+
+  -- The run state determines the step, and excludes a cause if there is a step.
+  pub record Determined : Type 0 where
+    pub one : (s t u : Standing) → length s.last ≡ length net.links → Step s t → Step s u → t ≡ u
+    pub below : (s t : Standing) → Step s t → s.time <ℚ bounds.horizon
+    pub or_fails : (s t : Standing) (c : Cause ℚ) → length s.last ≡ length net.links → Step s t → Fails passes net bounds.horizon bounds.patterns s c → ⊥
+    pub knows : (s t : Standing) → length s.last ≡ length net.links → Step s t → length t.last ≡ length net.links
+
   not_both : (s : Standing) → s.time ≡ bounds.horizon → s.time <ℚ bounds.horizon → ⊥
   not_both s e below = <ℚ_irrefl bounds.horizon (subst (λ (t : ℚ). t <ℚ bounds.horizon) e below)
 
+  pub same_end : Determined → (s l m : Standing) (o r : Option (Cause ℚ)) → length s.last ≡ length net.links → StepsTo s l o → StepsTo s m r → (l ≡ m) × (o ≡ r)
+  same_end d s l m o r knows (horizon_met e) (horizon_met f) = (refl, refl)
+  same_end d s l m o r knows (horizon_met e) (phases_made below f) = absurd (not_both s e below)
+  same_end d s l m o r knows (horizon_met e) (none_made may f) = absurd (not_both s e (fails_below passes net bounds.horizon bounds.patterns s _ f))
+  same_end d s l m o r knows (horizon_met e) (one_made may g rest) = absurd (not_both s e (d.below s _ g))
+  same_end d s l m o r knows (phases_made below e) (horizon_met f) = absurd (not_both s f below)
+  same_end d s l m o r knows (phases_made below e) (phases_made below' f) = (refl, refl)
+  same_end d s l m o r knows (phases_made below e) (none_made may f) = absurd (omega arith)
+  same_end d s l m o r knows (phases_made below e) (one_made may g rest) = absurd (omega arith)
+  same_end d s l m o r knows (none_made may f) (horizon_met e) = absurd (not_both s e (fails_below passes net bounds.horizon bounds.patterns s _ f))
+  same_end d s l m o r knows (none_made may f) (phases_made below e) = absurd (omega arith)
+  same_end d s l m o r knows (none_made may f) (none_made may' g) = (refl, ap Some (one_cause passes net bounds.horizon bounds.patterns s knows _ _ f g))
+  same_end d s l m o r knows (none_made may f) (one_made may' g rest) = absurd (d.or_fails s _ _ knows g f)
+  same_end d s l m o r knows (one_made may g rest) (horizon_met e) = absurd (not_both s e (d.below s _ g))
+  same_end d s l m o r knows (one_made may g rest) (phases_made below e) = absurd (omega arith)
+  same_end d s l m o r knows (one_made may g rest) (none_made may' f) = absurd (d.or_fails s _ _ knows g f)
+  same_end d s l m o r knows (one_made {new = t} may g rest) (one_made {new = u} may' h other) =
+      let same : t ≡ u = d.one s t u knows g h in
+      same_end d t l m o r (d.knows s t knows g) rest (subst (λ (w : Standing). StepsTo w m r) (sym same) other)
+
+-- ---- one end
+module _ (passes : Passing) (net : Network) (bounds : Bounds) where
+  steps_to : (s l : Standing) (o : Option (Cause ℚ)) → Runs passes net bounds s l o → StepsTo passes net bounds (Goes passes net bounds.horizon bounds.patterns) s l o
+  steps_to s l o (at_horizon e) = horizon_met e
+  steps_to s l o (at_phases below e) = phases_made below e
+  steps_to s l o (fails may f) = none_made may f
+  steps_to s l o (goes may g rest) = one_made may g (steps_to _ l o rest)
+
+  determined : Determined passes net bounds (Goes passes net bounds.horizon bounds.patterns)
+  determined = record {
+    one = λ s t u knows. one_phase passes net bounds.horizon bounds.patterns s knows t u;
+    below = λ s t g. g.finds.below;
+    or_fails = λ s t c knows. goes_or_fails passes net bounds.horizon bounds.patterns s knows t c;
+    knows = λ s t knows g. goes_knows passes net bounds.horizon bounds.patterns s t g;
+  }
+
   one_end : (s l m : Standing) (o r : Option (Cause ℚ)) → length s.last ≡ length net.links → Runs passes net bounds s l o → Runs passes net bounds s m r → (l ≡ m) × (o ≡ r)
-  one_end s l m o r knows (at_horizon e) (at_horizon f) = (refl, refl)
-  one_end s l m o r knows (at_horizon e) (at_phases below f) = absurd (not_both s e below)
-  one_end s l m o r knows (at_horizon e) (fails may f) = absurd (not_both s e (fails_below passes net bounds.horizon bounds.patterns s _ f))
-  one_end s l m o r knows (at_horizon e) (goes may g rest) = absurd (not_both s e g.finds.below)
-  one_end s l m o r knows (at_phases below e) (at_horizon f) = absurd (not_both s f below)
-  one_end s l m o r knows (at_phases below e) (at_phases below' f) = (refl, refl)
-  one_end s l m o r knows (at_phases below e) (fails may f) = absurd (omega arith)
-  one_end s l m o r knows (at_phases below e) (goes may g rest) = absurd (omega arith)
-  one_end s l m o r knows (fails may f) (at_horizon e) = absurd (not_both s e (fails_below passes net bounds.horizon bounds.patterns s _ f))
-  one_end s l m o r knows (fails may f) (at_phases below e) = absurd (omega arith)
-  one_end s l m o r knows (fails may f) (fails may' g) = (refl, ap Some (one_cause passes net bounds.horizon bounds.patterns s knows _ _ f g))
-  one_end s l m o r knows (fails may f) (goes may' g rest) = absurd (goes_or_fails passes net bounds.horizon bounds.patterns s knows _ _ g f)
-  one_end s l m o r knows (goes may g rest) (at_horizon e) = absurd (not_both s e g.finds.below)
-  one_end s l m o r knows (goes may g rest) (at_phases below e) = absurd (omega arith)
-  one_end s l m o r knows (goes may g rest) (fails may' f) = absurd (goes_or_fails passes net bounds.horizon bounds.patterns s knows _ _ g f)
-  one_end s l m o r knows (goes {new = t} may g rest) (goes {new = u} may' h other) =
-      let same : t ≡ u = one_phase passes net bounds.horizon bounds.patterns s knows t u g h in
-      one_end t l m o r (goes_knows passes net bounds.horizon bounds.patterns s t g) rest (subst (λ (w : Standing). Runs passes net bounds w m r) (sym same) other)
+  one_end s l m o r knows h k = same_end passes net bounds (Goes passes net bounds.horizon bounds.patterns) determined s l m o r knows (steps_to s l o h) (steps_to s m r k)
 
   pub one_run : (l m : Standing) (o r : Option (Cause ℚ)) → IsPhaseRun passes net bounds l o → IsPhaseRun passes net bounds m r → (l ≡ m) × (o ≡ r)
   one_run l m o r h k =

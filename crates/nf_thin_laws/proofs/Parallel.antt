@@ -10,17 +10,13 @@ use Rattle.nf_model.specs.Network.{Network, hops, unbounded}
 use Rattle.nf_model.specs.ThinFlow.{Sets}
 use Rattle.nf_model.specs.Pattern.{Pattern, HasState, NeedsState, IsPattern, IsTrail, AllDiffer, IsForest, IsListedIn, IsBefore}
 use Rattle.nf_thin_def.specs.Listing.{HasPlace, IsListingIn}
+use Rattle.nf_thin_laws.proofs.Patterns.{none_leads}
 use Rattle.nf_thin_laws.proofs.Listings.{NextInOrder, all_in_order, ordered_by_place}
 use Rattle.nf_thin_def.proofs.Examples.{n, link}
+use Rattle.nf_thin_def.proofs.Runs.{two_links}
 
 abbrev parallel : Network
-parallel = record {
-  nodes = 2;
-  source = 0;
-  sink = 1;
-  links = link 0 1 (n 1) (Some (n 2)) ∷ link 0 1 (n 1) (Some (n 2)) ∷ [];
-  pieces = record { start = n 0; rate = n 1 } ∷ [];
-}
+parallel = record two_links { links = link 0 1 (n 1) (Some (n 2)) ∷ link 0 1 (n 1) (Some (n 2)) ∷ []; pieces = record { start = n 0; rate = n 1 } ∷ [] }
 
 abbrev both : Sets
 both = record { active = true ∷ true ∷ []; resetting = false ∷ false ∷ [] }
@@ -130,21 +126,7 @@ not_both_tight h = h.forest (0, true) ((1, false) ∷ []) 0
     (_, refl, refl, refl, (_, refl, refl, refl, refl))
 
 not_both_zero : IsListedIn parallel both (states Zero Zero) → ⊥
-not_both_zero h = at (h.entered 1 (omega arith) (λ e. omega arith))
-  where
-    at_link : (e : ℕ) → Has both.resetting e ⊎ (HasState (states Zero Zero) e Tight ⊎ HasState (states Zero Zero) e Full) → ⊥
-    at_link zero (inl k) = cc
-    at_link zero (inr (inl k)) = cc
-    at_link zero (inr (inr k)) = cc
-    at_link (suc zero) (inl k) = cc
-    at_link (suc zero) (inr (inl k)) = cc
-    at_link (suc zero) (inr (inr k)) = cc
-    at_link (suc (suc e)) (inl k) = cc
-    at_link (suc (suc e)) (inr (inl k)) = cc
-    at_link (suc (suc e)) (inr (inr k)) = cc
-
-    at : (e : ℕ) × (hop : Hop) × IsHop two_hops e hop × (hop.head ≡ 1) × (Has both.resetting e ⊎ (HasState (states Zero Zero) e Tight ⊎ HasState (states Zero Zero) e Full)) → ⊥
-    at k = at_link k.0 k.4
+not_both_zero h = let w = h.entered 1 (omega arith) (λ e. omega arith) in none_leads both.resetting (states Zero Zero) (refl, (refl, tt)) (refl, (refl, tt)) w.0 w.4
 
 place_of : (a b : State) → IsListedIn parallel both (states a b) → (place : ℕ) × HasPlace seven place (states a b)
 place_of Tight Tight h = absurd (not_both_tight h)

@@ -1,12 +1,14 @@
 -- Properties of a listed pattern on the links of a network.
-use Rattle.std.proofs.Common.{◌≡◌, ◌≢◌, ℕ, ◌<◌, length, ◌⊎◌, inl, inr, ⊎_elim, Bool, true, false, Option, Some, None, slice_get, unwrap_or, sym, ap, ◌∙◌, arith}
-use Rattle.std.proofs.lemmas.Option.{slice_get_within}
+use Rattle.std.proofs.Common.{◌≡◌, ◌≢◌, ℕ, zero, suc, ◌<◌, List, [], ◌∷◌, length, ◌⊎◌, inl, inr, ⊎_elim, Bool, true, false, Option, Some, None, slice_get, unwrap_or, sym, ap, ◌∙◌, arith}
+use Rattle.std.specs.List.{AllByRecursion}
+use Rattle.std.proofs.lemmas.Bool.{true≢false}
+use Rattle.std.proofs.lemmas.Option.{none-some, same_Some, slice_get_within}
 use Rattle.nf_rational.specs.Rational.{ℚ}
 use Rattle.nf_rational.specs.Operations.{◌*ℚ◌}
 use Rattle.nf_rational.specs.Order.{◌<ℚ◌}
 use Rattle.nf_rational.specs.Operations.{0ℚ}
 use Rattle.nf_model.specs.declared.State.{State}
-use Rattle.nf_model.specs.declared.State.TheVariants.{Tight, Full}
+use Rattle.nf_model.specs.declared.State.TheVariants.{Tight, Full, Zero}
 use Rattle.nf_model.specs.Entries.{Has}
 use Rattle.nf_model.specs.Walk.{Hop, IsHop}
 use Rattle.nf_model.specs.Network.{Link, Network, IsLink, hop_of, hops, unbounded}
@@ -94,3 +96,16 @@ module _ (net : Network) (sets : Sets) (pattern : Pattern) (are : AreSets net se
       go (e, hop, p, at, inl r) = led_by v e hop p at (are.resetting e r) (λ link q. by_reset (without_state e link q (λ n. n.1 r)) (ap (λ (o : Option Bool). unwrap_or o false) r))
       go (e, hop, p, at, inr (inl s)) = led_by v e hop p at ((is_pattern.states e).1 (Tight, s)).0 (λ link q. by_tight s (not_reset e Tight s))
       go (e, hop, p, at, inr (inr s)) = led_by v e hop p at ((is_pattern.states e).1 (Full, s)).0 (λ link q. by_full s (not_reset e Full s))
+
+-- ---- a pattern with no state but Zero, and no resetting link
+all_same : {A : Type 0} (x : A) (xs : List A) → AllByRecursion (λ y. y ≡ x) xs → (e : ℕ) (y : A) → slice_get xs e ≡ Some y → y ≡ x
+all_same x [] all e y at = absurd (none-some y at)
+all_same x (z ∷ xs) all zero y at = sym (same_Some z y at) ∙ all.0
+all_same x (z ∷ xs) all (suc e) y at = all_same x xs all.1 e y at
+
+-- No link leads to its head.
+pub none_leads : (resetting : List Bool) (pattern : Pattern) → AllByRecursion (λ flag. flag ≡ false) resetting → AllByRecursion (λ state. state ≡ Some Zero) pattern
+    → (e : ℕ) → Has resetting e ⊎ (HasState pattern e Tight ⊎ HasState pattern e Full) → ⊥
+none_leads resetting pattern still zeros e (inl h) = true≢false (all_same false resetting still e true h)
+none_leads resetting pattern still zeros e (inr (inl h)) = let k : Some Tight ≡ Some Zero = all_same (Some Zero) pattern zeros e (Some Tight) h in cc
+none_leads resetting pattern still zeros e (inr (inr h)) = let k : Some Full ≡ Some Zero = all_same (Some Zero) pattern zeros e (Some Full) h in cc

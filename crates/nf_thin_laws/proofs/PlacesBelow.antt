@@ -11,7 +11,7 @@ use Rattle.nf_rational_laws.proofs.Naturals.{compared}
 use Rattle.nf_thin_laws.specs.Ways.{Choices, AreIn, ways_before}
 use Rattle.nf_thin_laws.specs.Firm.{AllAscend, firm_before}
 use Rattle.nf_thin_laws.proofs.Counting.{AreIn-length, before_less}
-use Rattle.nf_thin_laws.proofs.Unranking.{Before, number_before}
+use Rattle.nf_thin_laws.proofs.Unranking.{number_before}
 
 module _ (nodes source : ℕ) (hops : List Hop) (sets : Sets) (unbounded : List Bool) (base : Pattern) (choices : Choices) (listing : List Pattern)
     (is : IsListing nodes source hops sets unbounded base listing) (all : (q : Pattern) → AreIn choices q → IsListed nodes source hops sets unbounded q) (up : AllAscend choices)
@@ -19,11 +19,35 @@ module _ (nodes source : ℕ) (hops : List Hop) (sets : Sets) (unbounded : List 
   in_listing : (i j : ℕ) (p r : Pattern) → i < j → slice_get listing i ≡ Some p → slice_get listing j ≡ Some r → IsBefore base p r
   in_listing i j p r less at_p at_r = is.ordered (suc i) (suc j) p r (omega arith) (i, refl, at_p) (j, refl, at_r)
 
-  there : (q : Pattern) → AreIn choices q → (i : ℕ) × (slice_get listing i ≡ Some q)
+  pub there : (q : Pattern) → AreIn choices q → (i : ℕ) × (slice_get listing i ≡ Some q)
   there q in_q = let w = is.whole q (all q in_q) in (w.1.0, w.1.2)
 
   same_at : (i j : ℕ) (p r : Pattern) → i ≡ j → slice_get listing i ≡ Some p → slice_get listing j ≡ Some r → p ≡ r
   same_at i j p r same at_p at_r = same_Some p r (sym at_p ∙ (ap (slice_get listing) same ∙ at_r))
+
+  -- An assignment with fewer assignments before it has a lower index.
+  pub fewer_lower : (q w : Pattern) → AreIn choices q → AreIn choices w → ways_before choices base w < ways_before choices base q
+      → (i j : ℕ) → slice_get listing i ≡ Some w → slice_get listing j ≡ Some q → i < j
+  fewer_lower q w in_q in_w fewer i j at_w at_q = go (compared i j)
+    where
+      counts : length base ≡ length choices
+      counts = count ∙ (sym (all q in_q).states.count ∙ sym (AreIn-length choices q in_q))
+
+      go : (i < j) ⊎ ((i ≡ j) ⊎ (j < i)) → i < j
+      go (inl h) = h
+      go (inr (inl same)) = let e : ways_before choices base w ≡ ways_before choices base q = ap (ways_before choices base) (same_at i j w q same at_w at_q) in absurd (omega arith)
+      go (inr (inr more)) = let l = before_less choices base q w in_q in_w counts (in_listing j i q w more at_q at_w) in absurd (omega arith)
+
+  -- A pattern before another one has a lower index.
+  pub before_lower : (p q : Pattern) → IsBefore base q p → (i j : ℕ) → slice_get listing i ≡ Some q → slice_get listing j ≡ Some p → i < j
+  before_lower p q before i j at_q at_p = go (compared i j)
+    where
+      go : (i < j) ⊎ ((i ≡ j) ⊎ (j < i)) → i < j
+      go (inl h) = h
+      go (inr (inl same)) =
+          let e : q ≡ p = same_at i j q p same at_q at_p in
+          let itself : IsBefore base p p = subst (λ (x : Pattern). IsBefore base x p) e before in absurd (IsBefore-asymmetric base p p itself itself)
+      go (inr (inr more)) = absurd (IsBefore-asymmetric base q p before (in_listing j i p q more at_p at_q))
 
   module _ (p : Pattern) where
     at_least : (k : ℕ) → k < firm_before choices base p → (q : Pattern) → AreIn choices q → ways_before choices base q ≡ k → (j : ℕ) → slice_get listing j ≡ Some q → k ≤ j
@@ -32,25 +56,7 @@ module _ (nodes source : ℕ) (hops : List Hop) (sets : Sets) (unbounded : List 
         let w = number_before choices base p k up (omega arith) in
         let t = there w.q w.in_choices in
         let h : k ≤ t.0 = at_least k (omega arith) w.q w.in_choices w.number t.0 t.1 in
-        let l : t.0 < j = go w t.0 t.1 (compared t.0 j) in omega arith
-      where
-        counts : length base ≡ length choices
-        counts = count ∙ (sym (all q in_q).states.count ∙ sym (AreIn-length choices q in_q))
-
-        go : (w : Before choices base p k) (i : ℕ) → slice_get listing i ≡ Some w.q → (i < j) ⊎ ((i ≡ j) ⊎ (j < i)) → i < j
-        go w i at_w (inl h) = h
-        go w i at_w (inr (inl same)) =
-            let e : ways_before choices base w.q ≡ ways_before choices base q = ap (ways_before choices base) (same_at i j w.q q same at_w at) in absurd (let f = w.number in omega arith)
-        go w i at_w (inr (inr more)) =
-            let l = before_less choices base q w.q in_q w.in_choices counts (in_listing j i q w.q more at at_w) in absurd (let f = w.number in omega arith)
-
-    -- An assignment before it has a lower rank.
-    earlier_place : (q : Pattern) → IsBefore base q p → (i j : ℕ) → slice_get listing i ≡ Some q → slice_get listing j ≡ Some p → (i < j) ⊎ ((i ≡ j) ⊎ (j < i)) → i < j
-    earlier_place q before i j at_q at_p (inl h) = h
-    earlier_place q before i j at_q at_p (inr (inl same)) =
-        let e : q ≡ p = same_at i j q p same at_q at_p in
-        let itself : IsBefore base p p = subst (λ (x : Pattern). IsBefore base x p) e before in absurd (IsBefore-asymmetric base p p itself itself)
-    earlier_place q before i j at_q at_p (inr (inr more)) = absurd (IsBefore-asymmetric base q p before (in_listing j i p q more at_p at_q))
+        let l : t.0 < j = fewer_lower q w.q in_q w.in_choices (let f = w.number in omega arith) t.0 j t.1 at in omega arith
 
     so_many : (j n : ℕ) → slice_get listing j ≡ Some p → firm_before choices base p ≡ n → n ≤ j
     so_many j zero at e = omega arith
@@ -58,7 +64,7 @@ module _ (nodes source : ℕ) (hops : List Hop) (sets : Sets) (unbounded : List 
         let w = number_before choices base p n up (omega arith) in
         let t = there w.q w.in_choices in
         let h = at_least n (omega arith) w.q w.in_choices w.number t.0 t.1 in
-        let l = earlier_place w.q w.before t.0 j t.1 at (compared t.0 j) in omega arith
+        let l = before_lower p w.q w.before t.0 j t.1 at in omega arith
 
   pub bounded_below : (place : ℕ) (p : Pattern) → HasPlace listing place p → firm_before choices base p < place
   bounded_below place p at = let h = so_many p at.0 (firm_before choices base p) at.2 refl in let e = at.1 in omega arith

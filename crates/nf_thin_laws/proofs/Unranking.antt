@@ -135,23 +135,20 @@ numbered (c ∷ choices) (b ∷ base) n j up h =
     }
 
 -- ---- an assignment that is earlier than a pattern
+abbrev of_rank : ℕ → Option State
+of_rank zero = None
+of_rank (suc zero) = Some Tight
+of_rank (suc (suc zero)) = Some Full
+of_rank (suc (suc (suc rank))) = Some Zero
+
+of_rank-rank : (s : Option State) → of_rank (rank s) ≡ s
+of_rank-rank None = refl
+of_rank-rank (Some Tight) = refl
+of_rank-rank (Some Full) = refl
+of_rank-rank (Some Zero) = refl
+
 rank_same : (s t : Option State) → rank s ≡ rank t → s ≡ t
-rank_same None None h = refl
-rank_same None (Some Tight) h = absurd (omega arith)
-rank_same None (Some Full) h = absurd (omega arith)
-rank_same None (Some Zero) h = absurd (omega arith)
-rank_same (Some Tight) None h = absurd (omega arith)
-rank_same (Some Tight) (Some Tight) h = refl
-rank_same (Some Tight) (Some Full) h = absurd (omega arith)
-rank_same (Some Tight) (Some Zero) h = absurd (omega arith)
-rank_same (Some Full) None h = absurd (omega arith)
-rank_same (Some Full) (Some Tight) h = absurd (omega arith)
-rank_same (Some Full) (Some Full) h = refl
-rank_same (Some Full) (Some Zero) h = absurd (omega arith)
-rank_same (Some Zero) None h = absurd (omega arith)
-rank_same (Some Zero) (Some Tight) h = absurd (omega arith)
-rank_same (Some Zero) (Some Full) h = absurd (omega arith)
-rank_same (Some Zero) (Some Zero) h = refl
+rank_same s t h = sym (of_rank-rank s) ∙ ap of_rank h ∙ of_rank-rank t
 
 is_in-is : (states : List (Option State)) (s : Option State) → is_in states s ≡ true → IsIn states s
 is_in-is [] s h = absurd (false≢true h)
