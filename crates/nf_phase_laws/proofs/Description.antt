@@ -20,7 +20,7 @@ use Rattle.nf_phase_laws.proofs.Idle.{queue_by_slack-low}
 use Rattle.nf_phase_laws.proofs.Holds as held
 use Rattle.nf_phase_laws.proofs.Start.{at_first, label_not_negative, nothing_sent, slack_none}
 use Rattle.nf_phase_laws.proofs.Lasting.{step_of}
-use Rattle.nf_phase_laws.proofs.Phase.{PhaseStep, sent_before, sent_after, slack_before, slack_after, rises_on}
+use Rattle.nf_phase_laws.proofs.Phase.{PhaseStep, by_time, sent_before, sent_after, slack_before, slack_after, rises_on}
 use Rattle.nf_rational_laws.proofs.Chains.{≤ℚ_refl, ≤ℚ_trans}
 use Rattle.nf_rational_laws.proofs.Tests.{max0_none, max0_of}
 
@@ -122,13 +122,6 @@ module _ (net : Network) (amount label : ℕ → ℚ → ℚ) (until length rate
   first : Within 0ℚ until 0ℚ
   first = (≤ℚ_refl 0ℚ, step.holds.begun)
 
-  by_time : (P : ℚ → Type 0) → ((time : ℚ) → Within 0ℚ until time → P time) → ((t : ℚ) → Within 0ℚ length t → P (until +ℚ t)) → (time : ℚ) → Within 0ℚ (until +ℚ length) time → P time
-  by_time P f g time w = ⊎_elim
-      (λ (l : time <ℚ until). f time (w.0, ≤ℚ_of_lt _ _ l))
-      (λ (l : until ≤ℚ time). subst P (linear_eq (until ∷ time ∷ []) [] (search reading_of depth 12) tt tt)
-      (g (time -ℚ until) (linear_le (until ∷ time ∷ []) (le l ∷ []) (search reading_of depth 12) tt, linear_le (until ∷ time ∷ length ∷ []) (le w.1 ∷ []) (search reading_of depth 12) tt)))
-      (lt_or_le_ℚ time until)
-
   -- The label of a node up to the beginning of the phase, where nothing changes.
   so_far : (v : ℕ) (time : ℚ) → v < net.nodes → Within 0ℚ until time → Within 0ℚ (label v until) (label v time)
   so_far v time h w = (held.label_not_negative net amount label until step.good step.holds v time h w, rises_on net amount label until length rate x slope amount' label' step v time h w)
@@ -182,11 +175,11 @@ module _ (net : Network) (amount label : ℕ → ℚ → ℚ) (until length rate
 
   pub DescribesLinks-phase : DescribesLinks net amount' label' outflow' queue' (until +ℚ length)
   DescribesLinks-phase = record {
-    outflows = λ e link time p w. by_time (λ time. outflow' e (label' link.head time) ≡ sent net amount' label' e time) (λ time w. out_before e link time p w) (λ t w. out_after e link t p w) time w;
+    outflows = λ e link time p w. by_time until length (λ time. outflow' e (label' link.head time) ≡ sent net amount' label' e time) (λ time w. out_before e link time p w) (λ t w. out_after e link t p w) time w;
     outflows_early = λ e link time p w.
         let n : Within 0ℚ (label link.head 0ℚ) time = early link.head time (step.good.heads e link p) w in
         goes.outflow_before e link time p (sooner link.head time (step.good.heads e link p) n) ∙ describes.outflows_early e link time p n;
-    queues = λ e link time p w. by_time (λ time. QueueIs e link time) (λ time w. wait_before e link time p w) (λ t w. wait_after e link t p w) time w;
+    queues = λ e link time p w. by_time until length (λ time. QueueIs e link time) (λ time w. wait_before e link time p w) (λ t w. wait_after e link t p w) time w;
     queues_early = λ e link time p w.
         let n : Within 0ℚ (label link.tail 0ℚ) time = early link.tail time (step.good.tails e link p) w in
         goes.queue_before e link time p (sooner link.tail time (step.good.tails e link p) n) ∙ describes.queues_early e link time p n;

@@ -12,6 +12,8 @@ use Rattle.nf_rational_laws.proofs.Linear.{lt, eq, linear_lt, linear_eq}
 use Rattle.nf_frac_def.specs.Passing.{Passing}
 use Rattle.nf_model.specs.Entries.{number_at}
 use Rattle.nf_model.specs.Curve.{Point, Within, AreSlopes}
+use Rattle.nf_model.specs.Equilibrium.{Trace}
+use Rattle.nf_rational.specs.Signs.{is_positive}
 use Rattle.nf_model.specs.Network.{Link, Network, IsNetwork, IsLink, hop_of, hops, rate_at}
 use Rattle.nf_model.specs.ThinFlow.{slack, slacks_of, sets_at, IsThinFlow}
 use Rattle.nf_model.specs.Pattern.{Pattern, IsListedIn, Solves, Meets}
@@ -19,7 +21,7 @@ use Rattle.nf_model.specs.Phases.{slack_after, Lasts, IsPhaseLength, IsPhase}
 use Rattle.nf_model_laws.proofs.Curves.{EndsAt-value}
 use Rattle.nf_model_laws.proofs.Slacks.{slack_at, slack_after-moved}
 use Rattle.nf_thin_def.specs.CurveList.{LinkStep, LinkPhase, link_phase}
-use Rattle.nf_thin_def.specs.ReportCurves.{GrowingCurve, LinkCurves, curve_with, curves_after, amount_so_far}
+use Rattle.nf_thin_def.specs.ReportCurves.{GrowingCurve, LinkCurves, curve_with, curves_after, amount_so_far, trace_after}
 use Rattle.nf_thin_def.specs.PhaseRun.{Standing, PhaseStep, standing_after, flow_of}
 use Rattle.nf_thin_laws.proofs.Ending.{number-moved, length-moved, PhaseParts}
 use Rattle.nf_thin_laws.proofs.Accepted.{IsThinFlow-accepted}
@@ -35,7 +37,7 @@ use Rattle.nf_phase_laws.proofs.Length.{IsPhaseLength-some}
 use Rattle.nf_phase_laws.proofs.CurveSteps.{ends_at}
 use Rattle.nf_phase_laws.proofs.CurveRun.{Grown, Grown-after}
 use Rattle.nf_phase_laws.proofs.Points.{LastSlope, LastSlope-rates, Went}
-use Rattle.nf_phase_laws.proofs.StepValues.{filled_slope, step_value, step_value_at, steps-length}
+use Rattle.nf_phase_laws.proofs.StepValues.{filled_slope, rate_value, step_value, step_value_at, steps-length}
 use Rattle.nf_phase_laws.proofs.Filled.{queue_slope, Filled-at}
 use Rattle.nf_phase_laws.proofs.Traces.{same_point, went_to, TraceStep, TraceStep-after, QueueStepped, QueueStepped-after}
 use Rattle.nf_phase_laws.proofs.AfterPhase.{label_after_at, label_after-length, link_after_at, link_after-length}
@@ -163,10 +165,15 @@ module _ (passes : Passing) (net : Network) (good : IsNetwork net) (horizon : �
     amount_is : (y : ℚ) → y ≡ sent_now → amount_before e +ℚ step.length *ℚ number_at flows e ≡ y +ℚ number_at flows e *ℚ step.length
     amount_is y k = turn_label (amount_before e) y step.length (number_at flows e) (k ∙ sym so_far)
 
+    -- a trace at an end of the link: the inflow at the tail, or the outflow at the head
+    trace_step : (trace : Trace) (v : ℕ) (points : List Point) (y : ℚ) → v < net.nodes → points ≡ trace.points → AreSlopes trace.points trace.rates → LastPoint points (label_now v, y) → y ≡ sent_now
+        → TraceStep points (trace_after trace (number_at step.labels v) (one e link).amount (rate_value (is_positive (number_at slopes v)) (number_at flows e) (number_at slopes v)))
+        (label_now v) y step.length (number_at flows e) (number_at slopes v)
+    trace_step trace v points y below same rates last is = TraceStep-after trace (number_at flows e) (number_at slopes v) points (label_now v) y step.length (number_at step.labels v) (one e link).amount
+        same rates last some (moved_is v below) (amount_is y is) (LastSlope-rates trace.points trace.rates rates)
+
     inflow_step : TraceStep (curves.inflows e) (link_new e link c).inflow (label_now link.tail) sent_now step.length (number_at flows e) (number_at slopes link.tail)
-    inflow_step = TraceStep-after c.inflow (number_at flows e) (number_at slopes link.tail) (curves.inflows e) (label_now link.tail) sent_now step.length (number_at step.labels link.tail) (one e link).amount
-        (inflow_points s e c here) (well.inflow_rates e c here) (grown.curves_stand.inflows_end e link p) some (moved_is link.tail tail_in) (amount_is sent_now refl)
-        (LastSlope-rates c.inflow.points c.inflow.rates (well.inflow_rates e c here))
+    inflow_step = trace_step c.inflow link.tail (curves.inflows e) sent_now tail_in (inflow_points s e c here) (well.inflow_rates e c here) (grown.curves_stand.inflows_end e link p) refl
 
     abbrev out_now : ℚ
     out_now = at curves.outflows e (label_now link.head)
@@ -175,9 +182,7 @@ module _ (passes : Passing) (net : Network) (good : IsNetwork net) (horizon : �
     out_is = grown.describes.outflows e link s.time p now ∙ sent-is net (at curves.inflows) (at curves.labels) e link s.time p
 
     outflow_step : TraceStep (curves.outflows e) (link_new e link c).outflow (label_now link.head) out_now step.length (number_at flows e) (number_at slopes link.head)
-    outflow_step = TraceStep-after c.outflow (number_at flows e) (number_at slopes link.head) (curves.outflows e) (label_now link.head) out_now step.length (number_at step.labels link.head) (one e link).amount
-        (outflow_points s e c here) (well.outflow_rates e c here) (grown.description_stands.outflows_end e link p) some (moved_is link.head head_in) (amount_is out_now out_is)
-        (LastSlope-rates c.outflow.points c.outflow.rates (well.outflow_rates e c here))
+    outflow_step = trace_step c.outflow link.head (curves.outflows e) out_now head_in (outflow_points s e c here) (well.outflow_rates e c here) (grown.description_stands.outflows_end e link p) out_is
 
     -- the queue
     abbrev queue_now : ℚ

@@ -110,6 +110,14 @@ both_sink i' o' u' i o u j k r t a b s c d = linear_eq (i' ∷ o' ∷ u' ∷ i �
 source_moves : (a u l t : ℚ) → a ≡ u → l ≡ 1ℚ → a +ℚ l *ℚ t ≡ u +ℚ t
 source_moves a u l t e f = linear_eq (a ∷ u ∷ l ∷ t ∷ []) (eq e ∷ eq_times t f ∷ []) (search reading_of depth 12) tt tt
 
+-- up to the beginning of the phase, and from there on
+pub by_time : (until length : ℚ) (P : ℚ → Type 0) → ((time : ℚ) → Within 0ℚ until time → P time) → ((t : ℚ) → Within 0ℚ length t → P (until +ℚ t)) → (time : ℚ) → Within 0ℚ (until +ℚ length) time → P time
+by_time until length P f g time w = ⊎_elim
+    (λ (l : time <ℚ until). f time (w.0, ≤ℚ_of_lt _ _ l))
+    (λ (l : until ≤ℚ time). subst P (linear_eq (until ∷ time ∷ []) [] (search reading_of depth 12) tt tt)
+    (g (time -ℚ until) (linear_le (until ∷ time ∷ []) (le l ∷ []) (search reading_of depth 12) tt, linear_le (until ∷ time ∷ length ∷ []) (le w.1 ∷ []) (search reading_of depth 12) tt)))
+    (lt_or_le_ℚ time until)
+
 module _ (net : Network) (amount label : ℕ → ℚ → ℚ) (until length rate : ℚ) (x slope : ℕ → ℚ) (amount' label' : ℕ → ℚ → ℚ)
     (step : PhaseStep net amount label until length rate x slope amount' label') where
   abbrev old_sent : ℕ → ℚ → ℚ
@@ -117,14 +125,6 @@ module _ (net : Network) (amount label : ℕ → ℚ → ℚ) (until length rate
 
   abbrev new_sent : ℕ → ℚ → ℚ
   new_sent = sent net amount' label'
-
-  -- up to the beginning of the phase, and from there on
-  by_time : (P : ℚ → Type 0) → ((time : ℚ) → Within 0ℚ until time → P time) → ((t : ℚ) → Within 0ℚ length t → P (until +ℚ t)) → (time : ℚ) → Within 0ℚ (until +ℚ length) time → P time
-  by_time P f g time w = ⊎_elim
-      (λ (l : time <ℚ until). f time (w.0, ≤ℚ_of_lt _ _ l))
-      (λ (l : until ≤ℚ time). subst P (linear_eq (until ∷ time ∷ []) [] (search reading_of depth 12) tt tt)
-      (g (time -ℚ until) (linear_le (until ∷ time ∷ []) (le l ∷ []) (search reading_of depth 12) tt, linear_le (until ∷ time ∷ length ∷ []) (le w.1 ∷ []) (search reading_of depth 12) tt)))
-      (lt_or_le_ℚ time until)
 
   now : Within 0ℚ until until
   now = (step.holds.begun, ≤ℚ_refl until)
@@ -146,9 +146,9 @@ module _ (net : Network) (amount label : ℕ → ℚ → ℚ) (until length rate
 
   -- ---- labels
   label_rises : (v : ℕ) (s t : ℚ) → v < net.nodes → 0ℚ ≤ℚ s → s ≤ℚ t → t ≤ℚ until +ℚ length → label' v s ≤ℚ label' v t
-  label_rises v s t h i j k = by_time (λ t. s ≤ℚ t → label' v s ≤ℚ label' v t)
+  label_rises v s t h i j k = by_time until length (λ t. s ≤ℚ t → label' v s ≤ℚ label' v t)
       (λ t w j. le_along _ _ _ _ (step.goes.label_before v s h (i, ≤ℚ_trans _ _ _ j w.1)) (step.goes.label_before v t h w) (step.holds.label_rises v s t h i j w.1))
-      (λ t w j. by_time (λ s. s ≤ℚ until +ℚ t → label' v s ≤ℚ label' v (until +ℚ t))
+      (λ t w j. by_time until length (λ s. s ≤ℚ until +ℚ t → label' v s ≤ℚ label' v (until +ℚ t))
       (λ s u j. le_along _ _ _ _ (step.goes.label_before v s h u) refl (≤ℚ_trans _ _ _ (step.holds.label_rises v s until h u.0 u.1 (≤ℚ_refl until)) (after_start (label v until) (slope v) t _ (step.thin.slope_nn v) w.0 (step.goes.label_after v t h w))))
       (λ s u j. le_along _ _ _ _ (step.goes.label_after v s h u) (step.goes.label_after v t h w)
       (line_order (label v until) (slope v) s t (step.thin.slope_nn v) (linear_le (until ∷ s ∷ t ∷ []) (le j ∷ []) (search reading_of depth 12) tt)))
@@ -248,11 +248,11 @@ module _ (net : Network) (amount label : ℕ → ℚ → ℚ) (until length rate
       (IsQueue-by_slack link.capacity (amount' e) (label link.tail until) _ r.0 _ _ (x e) (slope link.tail) (slope link.head) t (link_step e link t p w) r.1 r.2 (past e link t w) (before_end e link t w) (queue_until e link p))
 
   queue : (e : ℕ) (link : Link) (time : ℚ) → IsLink net e link → Within 0ℚ (until +ℚ length) time → QueueAt e link time
-  queue e link time p w = by_time (λ time. QueueAt e link time) (λ time w. queue_before e link time p w) (λ t w. queue_after e link t p w) time w
+  queue e link time p w = by_time until length (λ time. QueueAt e link time) (λ time w. queue_before e link time p w) (λ t w. queue_after e link t p w) time w
 
   -- No slack of an unbounded link rises above 0.
   unbounded : (e : ℕ) (link : Link) (time : ℚ) → IsLink net e link → link.capacity ≡ None → Within 0ℚ (until +ℚ length) time → link_slack label' link time ≤ℚ 0ℚ
-  unbounded e link time p none w = by_time (λ time. link_slack label' link time ≤ℚ 0ℚ)
+  unbounded e link time p none w = by_time until length (λ time. link_slack label' link time ≤ℚ 0ℚ)
       (λ time w. subst (λ (s : ℚ). s ≤ℚ 0ℚ) (sym (slack_before e link time p w)) (step.holds.unbounded e link time p none w))
       (λ t w. unbounded_below (link_slack label link until) (link_slack label' link (until +ℚ t)) (x e) (slope link.tail) (slope link.head) t
       (subst (λ (c : Option ℚ). LinkStep c (link_slack label link until) (link_slack label' link (until +ℚ t)) (x e) (slope link.tail) (slope link.head) t) none (link_step e link t p w))
@@ -280,7 +280,7 @@ module _ (net : Network) (amount label : ℕ → ℚ → ℚ) (until length rate
   )
 
   entered : (v : ℕ) (time : ℚ) → v < net.nodes → v ≢ net.source → Within 0ℚ (until +ℚ length) time → EnteredAt v time
-  entered v time h other w = by_time (λ time. EnteredAt v time)
+  entered v time h other w = by_time until length (λ time. EnteredAt v time)
       (λ time w. entered_before v time w (step.holds.entered v time h other w))
       (λ t w. entered_after v t w (step.thin.entered v h other)) time w
 
@@ -324,7 +324,7 @@ module _ (net : Network) (amount label : ℕ → ℚ → ℚ) (until length rate
       (lt_or_le_ℚ (link_slack label' link (until +ℚ t)) 0ℚ)
 
   idle : (e : ℕ) (link : Link) (time : ℚ) → IsLink net e link → Within 0ℚ (until +ℚ length) time → IdleAt e link time
-  idle e link time p w = by_time (λ time. IdleAt e link time) (λ time w. idle_before e link time p w) (λ t w. idle_after e link t p w) time w
+  idle e link time p w = by_time until length (λ time. IdleAt e link time) (λ time w. idle_before e link time p w) (λ t w. idle_after e link t p w) time w
 
   -- ---- an empty queue stays empty without inflow
   idle_from : (e : ℕ) (link : Link) (t start z : ℚ) → IsLink net e link → Within 0ℚ length t → link_slack label link until ≤ℚ 0ℚ → x e ≡ 0ℚ
@@ -406,7 +406,7 @@ module _ (net : Network) (amount label : ℕ → ℚ → ℚ) (until length rate
   pub HoldsUpTo-phase : HoldsUpTo net amount' label' (until +ℚ length)
   HoldsUpTo-phase = record {
     begun = linear_le (until ∷ length ∷ []) (le step.holds.begun ∷ le step.some ∷ []) (search reading_of depth 12) tt;
-    source = by_time (λ time. label' net.source time ≡ time)
+    source = by_time until length (λ time. label' net.source time ≡ time)
         (λ time w. step.goes.label_before net.source time step.good.source w ∙ step.holds.source time w)
         (λ t w. step.goes.label_after net.source t step.good.source w ∙ source_moves _ _ _ t (step.holds.source until now) step.thin.starts);
     label_rises = label_rises;
@@ -415,19 +415,19 @@ module _ (net : Network) (amount label : ℕ → ℚ → ℚ) (until length rate
     amount_rises = λ e h. amount_rises e (link_within net e h).0 (link_within net e h).1;
     amount_starts = λ e h. step.goes.amount_before e (link_within net e h).0 0ℚ (link_within net e h).1 (≤ℚ_refl 0ℚ, label_nn _ until (tails e (link_within net e h).0 (link_within net e h).1) now) ∙ step.holds.amount_starts e h;
     sent_starts = λ e link p. sent_before e link 0ℚ p first ∙ step.holds.sent_starts e link p;
-    inner = λ v time h a b w. by_time (λ time. sum_in net.links (λ e. new_sent e time) v ≡ sum_out net.links (λ e. new_sent e time) v)
+    inner = λ v time h a b w. by_time until length (λ time. sum_in net.links (λ e. new_sent e time) v ≡ sum_out net.links (λ e. new_sent e time) v)
         (λ time w. in_before v time w ∙ step.holds.inner v time h a b w ∙ sym (out_before v time w))
         (λ t w. both_inner _ _ _ _ _ _ t (in_after v t w) (out_after v t w) (step.holds.inner v until h a b now) (step.thin.inner v h a b)) time w;
-    supplied = by_time (λ time. sum_in net.links (λ e. new_sent e time) net.source +ℚ supply net time ≡ sum_out net.links (λ e. new_sent e time) net.source)
+    supplied = by_time until length (λ time. sum_in net.links (λ e. new_sent e time) net.source +ℚ supply net time ≡ sum_out net.links (λ e. new_sent e time) net.source)
         (λ time w. ap (λ (s : ℚ). s +ℚ supply net time) (in_before net.source time w) ∙ step.holds.supplied time w ∙ sym (out_before net.source time w))
         (λ t w. both_source _ _ _ _ _ _ _ _ rate t (in_after net.source t w) (out_after net.source t w) (step.supply_after t w) (step.holds.supplied until now) step.thin.supplied);
-    drained = by_time (λ time. sum_in net.links (λ e. new_sent e time) net.sink ≡ sum_out net.links (λ e. new_sent e time) net.sink +ℚ supply net time)
+    drained = by_time until length (λ time. sum_in net.links (λ e. new_sent e time) net.sink ≡ sum_out net.links (λ e. new_sent e time) net.sink +ℚ supply net time)
         (λ time w. in_before net.sink time w ∙ step.holds.drained time w ∙ ap (λ (s : ℚ). s +ℚ supply net time) (sym (out_before net.sink time w)))
         (λ t w. both_sink _ _ _ _ _ _ _ _ rate t (in_after net.sink t w) (out_after net.sink t w) (step.supply_after t w) (step.holds.drained until now) step.thin.drained);
     queue = queue;
     unbounded = unbounded;
     entered = entered;
     idle = λ e link time t p w s h i j. idle e link time p w s t h i j;
-    idle_queue = λ e link time p w s h. by_time (λ time. EmptyAt e link time) (λ time w. empty_before e link time p w) (λ t w. empty_after e link t p w) time w s h;
+    idle_queue = λ e link time p w s h. by_time until length (λ time. EmptyAt e link time) (λ time w. empty_before e link time p w) (λ t w. empty_after e link t p w) time w s h;
     used = used;
   }

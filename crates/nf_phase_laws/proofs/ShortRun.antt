@@ -59,39 +59,33 @@ ShortRun-start net s h = record {
 }
 
 -- ---- the curve before a phase
-record LabelBefore (time : ℚ) (curves : List GrowingCurve) (v : ℕ) (after : GrowingCurve) : Type 0 where
+record LabelBefore (time : ℚ) (found : Option GrowingCurve) (after : GrowingCurve) : Type 0 where
   pub before : GrowingCurve
-  pub at : slice_get curves v ≡ Some before
+  pub at : found ≡ Some before
   pub label : ℚ
   pub slope : ℚ
   pub is : curve_with before (time, label) slope ≡ after
 
-label_before : (time : ℚ) (labels slopes : List ℚ) (curves : List GrowingCurve) (v : ℕ) (after : GrowingCurve) → slice_get (label_curves_after time labels slopes curves) v ≡ Some after
-    → LabelBefore time curves v after
+label_before : (time : ℚ) (labels slopes : List ℚ) (curves : List GrowingCurve) (v : ℕ) (after : GrowingCurve) → slice_get (label_curves_after time labels slopes curves) v ≡ Some after → LabelBefore time (slice_get curves v) after
 label_before time [] slopes curves v after h = absurd (none-some after h)
 label_before time (x ∷ labels) [] curves v after h = absurd (none-some after h)
 label_before time (x ∷ labels) (r ∷ slopes) [] v after h = absurd (none-some after h)
 label_before time (x ∷ labels) (r ∷ slopes) (c ∷ curves) zero after h = record { before = c; at = refl; label = x; slope = r; is = same_Some _ after h }
-label_before time (x ∷ labels) (r ∷ slopes) (c ∷ curves) (suc v) after h =
-    let w = label_before time labels slopes curves v after h in
-    record { before = w.before; at = w.at; label = w.label; slope = w.slope; is = w.is }
+label_before time (x ∷ labels) (r ∷ slopes) (c ∷ curves) (suc v) after h = label_before time labels slopes curves v after h
 
-record LinkBefore (labels : List ℚ) (curves : List LinkCurves) (e : ℕ) (after : LinkCurves) : Type 0 where
+record LinkBefore (labels : List ℚ) (found : Option LinkCurves) (after : LinkCurves) : Type 0 where
   pub before : LinkCurves
-  pub at : slice_get curves e ≡ Some before
+  pub at : found ≡ Some before
   pub link : Link
   pub step : LinkStep
   pub is : curves_after labels link before step ≡ after
 
-link_before : (labels : List ℚ) (links : List Link) (curves : List LinkCurves) (steps : List LinkStep) (e : ℕ) (after : LinkCurves) → slice_get (link_curves_after labels links curves steps) e ≡ Some after
-    → LinkBefore labels curves e after
+link_before : (labels : List ℚ) (links : List Link) (curves : List LinkCurves) (steps : List LinkStep) (e : ℕ) (after : LinkCurves) → slice_get (link_curves_after labels links curves steps) e ≡ Some after → LinkBefore labels (slice_get curves e) after
 link_before labels [] curves steps e after h = absurd (none-some after h)
 link_before labels (l ∷ links) [] steps e after h = absurd (none-some after h)
 link_before labels (l ∷ links) (c ∷ curves) [] e after h = absurd (none-some after h)
 link_before labels (l ∷ links) (c ∷ curves) (t ∷ steps) zero after h = record { before = c; at = refl; link = l; step = t; is = same_Some _ after h }
-link_before labels (l ∷ links) (c ∷ curves) (t ∷ steps) (suc e) after h =
-    let w = link_before labels links curves steps e after h in
-    record { before = w.before; at = w.at; link = w.link; step = w.step; is = w.is }
+link_before labels (l ∷ links) (c ∷ curves) (t ∷ steps) (suc e) after h = link_before labels links curves steps e after h
 
 -- ---- one phase
 module _ (net : Network) (s : Standing) (pattern : Pattern) (slopes : List ℚ) (step : PhaseStep) (well : WellRun net s) (well_after : WellRun net (standing_after net s pattern slopes step)) (short : ShortRun s) where

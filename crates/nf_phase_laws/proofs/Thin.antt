@@ -5,9 +5,9 @@ use Rattle.nf_rational.specs.Rational.{ℚ}
 use Rattle.nf_rational.specs.Operations.{0ℚ, 1ℚ, ◌+ℚ◌, ◌-ℚ◌, ◌*ℚ◌, ◌/ℚ◌}
 use Rattle.nf_rational.specs.Order.{◌≤ℚ◌, ◌<ℚ◌, max_ℚ}
 use Rattle.nf_rational_laws.proofs.Polynomial.{reading_of}
-use Rattle.nf_rational_laws.proofs.Order.{≤ℚ_of_same, ≤ℚ_of_lt, lt_or_le_ℚ, not_both_ℚ}
+use Rattle.nf_rational_laws.proofs.Order.{≤ℚ_of_same, ≤ℚ_of_lt, not_both_ℚ}
 use Rattle.nf_rational_laws.proofs.Tests.{max_ℚ_cases}
-use Rattle.nf_rational_laws.proofs.Linear.{le, lt, eq, le_times, eq_times, linear_le, linear_eq, linear_false}
+use Rattle.nf_rational_laws.proofs.Linear.{le, lt, eq, le_times, linear_le, linear_eq, linear_false}
 use Rattle.nf_model.specs.Entries.{number_at}
 use Rattle.nf_model.specs.Curve.{Within}
 use Rattle.nf_model.specs.Walk.{IsWalk, transit_sum}
@@ -21,6 +21,7 @@ use Rattle.nf_model_laws.proofs.Networks.{IsWalk-link, transit_of-is}
 use Rattle.nf_model_laws.proofs.Earliest.{IsPositive-link}
 use Rattle.nf_model_laws.proofs.Slacks.{active_of_slack, slack_of_active, resetting_of_slack, slack_of_resetting}
 use Rattle.nf_model_laws.proofs.Totals.{IsThinFlow-sink}
+use Rattle.nf_thin_laws.proofs.LinkLaws.{full_of}
 use Rattle.nf_phase_laws.specs.Invariant.{link_slack, HoldsUpTo}
 use Rattle.nf_phase_laws.proofs.Holds.{labels_earliest}
 use Rattle.nf_rational_laws.proofs.Chains.{≤ℚ_refl}
@@ -34,14 +35,6 @@ pub record LinkLaw (capacity : Option ℚ) (s x l m : ℚ) : Type 0 where
   pub used : (c : ℚ) → capacity ≡ Some c → s ≤ℚ 0ℚ → 0ℚ <ℚ x → (l ≤ℚ m) × (x ≤ℚ c *ℚ m)
   pub free : capacity ≡ None → m ≤ℚ l
   pub free_used : capacity ≡ None → 0ℚ <ℚ x → l ≤ℚ m
-
-full_of : (x c m q : ℚ) → 0ℚ <ℚ c → 0ℚ ≤ℚ x → 0ℚ ≤ℚ m → q *ℚ c ≡ x → m ≤ℚ q → (0ℚ <ℚ x → q ≡ m) → x ≡ c *ℚ m
-full_of x c m q h n i e l u = ⊎_elim
-    (λ (k : 0ℚ <ℚ x). linear_eq (x ∷ c ∷ m ∷ q ∷ []) (eq e ∷ eq_times c (u k) ∷ []) (search reading_of depth 12) tt tt)
-    (λ (k : x ≤ℚ 0ℚ).
-    let low : 0ℚ ≤ℚ c = ≤ℚ_of_lt _ _ h in
-    linear_eq (x ∷ c ∷ m ∷ q ∷ []) (le k ∷ le n ∷ eq e ∷ le_times low l ∷ le_times low i ∷ []) (search reading_of depth 12) tt tt)
-    (lt_or_le_ℚ 0ℚ x)
 
 filled : (x c m q : ℚ) → 0ℚ <ℚ c → q *ℚ c ≡ x → m ≤ℚ q → c *ℚ m ≤ℚ x
 filled x c m q h e k = let low : 0ℚ ≤ℚ c = ≤ℚ_of_lt _ _ h in linear_le (x ∷ c ∷ m ∷ q ∷ []) (eq e ∷ le_times low k ∷ []) (search reading_of depth 12) tt

@@ -11,6 +11,7 @@ use Rattle.nf_rational_laws.proofs.Linear.{linear_eq}
 use Rattle.nf_model.specs.Entries.{number_at}
 use Rattle.nf_model.specs.Curve.{Point, slope, AreSlopes}
 use Rattle.nf_model.specs.Network.{IsNetwork, Link, Network, IsLink}
+use Rattle.nf_model.specs.Pattern.{Pattern}
 use Rattle.nf_model.specs.Equilibrium.{Trace, points_at, points_of}
 use Rattle.nf_rational.specs.Signs.{is_positive}
 use Rattle.nf_thin_def.specs.ReportCurves.{GrowingCurve, LinkCurves, first_label_curve, first_trace, first_queue, first_curves}
@@ -56,6 +57,10 @@ pub record WellRun (net : Network) (s : Standing) : Type 0 where
   pub inflow_rates : (e : ℕ) (c : LinkCurves) → slice_get s.link_curves e ≡ Some c → AreSlopes c.inflow.points c.inflow.rates
   pub outflow_rates : (e : ℕ) (c : LinkCurves) → slice_get s.link_curves e ≡ Some c → AreSlopes c.outflow.points c.outflow.rates
   pub queue_slopes : (e : ℕ) (c : LinkCurves) → slice_get s.link_curves e ≡ Some c → LastSlope c.queue.points c.queue.slope
+
+-- The number of phases and the last pattern do not matter.
+pub WellRun-counted : (net : Network) (s : Standing) (made : ℕ) (last : Pattern) → WellRun net s → WellRun net (record s { made = made; last = last })
+WellRun-counted net s made last w = record { grow = w.grow; label_count = w.label_count; link_count = w.link_count; label_slopes = w.label_slopes; inflow_rates = w.inflow_rates; outflow_rates = w.outflow_rates; queue_slopes = w.queue_slopes }
 
 -- ---- the start
 flat : (l : ℚ) → 0ℚ *ℚ (l -ℚ 0ℚ) ≡ 0ℚ -ℚ 0ℚ
