@@ -24,19 +24,17 @@ use Rattle.nf_rational_laws.proofs.Results.{same_Ok}
 abbrev pub EndsIn : List Point → Point → Type 0
 EndsIn points last = (front : List Point) × (points ≡ front ++ last ∷ [])
 
+-- the points after the first one
+abbrev pub rest_of : List Point → List Point
+rest_of [] = []
+rest_of (x ∷ rest) = rest
+
 one_more : (p : Point) (points : List Point) (last : Point) → EndsIn points last → EndsIn (p ∷ points) last
 one_more p points last (front, same) = (p ∷ front, ap (λ (l : List Point). p ∷ l) same)
 
 one_less : (p q : Point) (rest : List Point) (last : Point) → EndsIn (p ∷ q ∷ rest) last → EndsIn (q ∷ rest) last
 one_less p q rest last ([], same) = absurd (cc)
-one_less p q rest last (x ∷ front, same) = (front, tail_of (p ∷ q ∷ rest) (x ∷ front ++ last ∷ []) same)
-  where
-    rest_of : List Point → List Point
-    rest_of [] = []
-    rest_of (x ∷ rest) = rest
-
-    tail_of : (a b : List Point) → a ≡ b → rest_of a ≡ rest_of b
-    tail_of a b e = ap rest_of e
+one_less p q rest last (x ∷ front, same) = (front, ap rest_of same)
 
 -- Short form preserves the last point.
 turning-ends : (p q : Point) (rest : List Point) (slopes : List ℚ) (last : Point) → SlopesFrom p (q ∷ rest) slopes → EndsIn (q ∷ rest) last → EndsIn (turning (q ∷ rest) slopes) last

@@ -184,27 +184,19 @@ module _ (net : Network) (good : IsNetwork net) (labels labels' slopes flows : L
   entry_after e link p = entry_within base e (let h = slice_get_within net.links e link p in let c = count in omega arith)
 
   -- ---- the same solutions
+  -- The equations of the nodes are those of any pattern.
+  solves_with : (old new : Sets) (p q : Pattern) (f l : List ℚ) → Solves net old rate p f l
+      → ((e : ℕ) (link : Link) (state : Option State) → IsLink net e link → slice_get q e ≡ Some state
+      → Equation state (unwrap_or (slice_get new.resetting e) false) link.capacity (number_at f e) (number_at l link.tail) (number_at l link.head)) → Solves net new rate q f l
+  solves_with old new p q f l s links = record { flow_count = s.flow_count; slope_count = s.slope_count; starts = s.starts; source = s.source; inner = s.inner; links = links }
+
   pub Solves-on : (f l : List ℚ) → Solves net (sets_at net labels) rate pattern f l → Solves net (sets_at net labels') rate base f l
-  Solves-on f l s = record {
-    flow_count = s.flow_count;
-    slope_count = s.slope_count;
-    starts = s.starts;
-    source = s.source;
-    inner = s.inner;
-    links = λ e link b p at. let o : (o : Option State) × (slice_get pattern e ≡ Some o) = entry_before e link p in
-        equation_on (before e) (after e) o.0 b link.capacity _ _ _ (goes-on e link p o.0 b o.1 at) (s.links e link o.0 p o.1);
-  }
+  Solves-on f l s = solves_with (sets_at net labels) (sets_at net labels') pattern base f l s (λ e link b p at. let o : (o : Option State) × (slice_get pattern e ≡ Some o) = entry_before e link p in
+      equation_on (before e) (after e) o.0 b link.capacity _ _ _ (goes-on e link p o.0 b o.1 at) (s.links e link o.0 p o.1))
 
   pub Solves-back : (f l : List ℚ) → Solves net (sets_at net labels') rate base f l → Solves net (sets_at net labels) rate pattern f l
-  Solves-back f l s = record {
-    flow_count = s.flow_count;
-    slope_count = s.slope_count;
-    starts = s.starts;
-    source = s.source;
-    inner = s.inner;
-    links = λ e link o p has. let b : (b : Option State) × (slice_get base e ≡ Some b) = entry_after e link p in
-        equation_back (before e) (after e) o b.0 link.capacity _ _ _ (goes-on e link p o b.0 has b.1) (s.links e link b.0 p b.1);
-  }
+  Solves-back f l s = solves_with (sets_at net labels') (sets_at net labels) base pattern f l s (λ e link o p has. let b : (b : Option State) × (slice_get base e ≡ Some b) = entry_after e link p in
+      equation_back (before e) (after e) o b.0 link.capacity _ _ _ (goes-on e link p o b.0 has b.1) (s.links e link b.0 p b.1))
 
   pub IsSolution-restricted : IsSolution net (sets_at net labels') rate base flows slopes
   IsSolution-restricted = record {

@@ -25,7 +25,7 @@ use Rattle.nf_phase_laws.specs.CurveSteps.{at, CurvesGoOn}
 use Rattle.nf_phase_laws.specs.DescriptionCurves.{DescriptionCurvesGoOn}
 use Rattle.nf_phase_laws.specs.CurveRun.{curves_of}
 use Rattle.nf_phase_laws.proofs.Length.{IsPhase-some}
-use Rattle.nf_phase_laws.proofs.WellRun.{WellRun}
+use Rattle.nf_phase_laws.proofs.WellRun.{WellRun, WellRun-counted}
 use Rattle.nf_phase_laws.proofs.Goes.{curves_go, description_goes}
 use Rattle.nf_phase_laws.proofs.Run.{parts_of, WellRun-goes, IsPhase-goes, Equilibrium-well}
 use Rattle.nf_resume_def.specs.Restoring.{growing, restore_list}
@@ -105,15 +105,7 @@ module _ (passes : Passing) (net : Network) (good : IsNetwork net) (bounds : Bou
 
   -- ---- phase by phase
   pub WellRun-last : (last : Pattern) (s : Standing) → WellRun net s → WellRun net (with_last last s)
-  WellRun-last last s w = record {
-    grow = w.grow;
-    label_count = w.label_count;
-    link_count = w.link_count;
-    label_slopes = w.label_slopes;
-    inflow_rates = w.inflow_rates;
-    outflow_rates = w.outflow_rates;
-    queue_slopes = w.queue_slopes;
-  }
+  WellRun-last last s w = WellRun-counted net s s.made last w
 
   record Gone (s t : Standing) : Type 0 where
     pub well : WellRun net t
