@@ -23,6 +23,7 @@ use Rattle.nf_phase_laws.proofs.ShortRun.{ShortRun}
 use Rattle.nf_phase_laws.proofs.WellRun.{WellRun, number_is, label_points, inflow_points, outflow_points, queue_points}
 use Rattle.nf_resume_def.specs.Restoring.{value_at_end, link_curves_of, standing_of, last_slope, growing, restore_list}
 use Rattle.nf_resume_def.specs.Resuming.{OfLink, CutLink, links_with, cut_short, cut_trace, cut_link, cut_flow_of, cut_flow}
+use Rattle.nf_resume_laws.proofs.CutShort.{rest_of}
 use Rattle.nf_resume_laws.proofs.CutFlow.{each_at, each_length, entry_within, of_link, links_with-at, links_with-length, value_at_end-is}
 use Rattle.nf_rational_laws.proofs.Entries.{slice_get-image, entry}
 use Rattle.nf_rational_laws.proofs.Results.{same_Ok}
@@ -74,14 +75,7 @@ without_first p q s rest r w = by w.front w.same
   where
     by : (front : List Point) → p ∷ q ∷ s ∷ rest ≡ front ++ w.before ∷ w.last ∷ [] → EndsWithSlope (q ∷ s ∷ rest) r
     by [] e = absurd (cc)
-    by (x ∷ front) e = record { front = front; before = w.before; last = w.last; same = tail_of _ _ e; slope_is = w.slope_is }
-      where
-        rest_of : List Point → List Point
-        rest_of [] = []
-        rest_of (y ∷ ys) = ys
-
-        tail_of : (a b : List Point) → a ≡ b → rest_of a ≡ rest_of b
-        tail_of a b e = ap rest_of e
+    by (x ∷ front) e = record { front = front; before = w.before; last = w.last; same = ap rest_of e; slope_is = w.slope_is }
 
 module _ (passes : Passing) where
   slope-known : (points : List Point) (found known : Option ℚ) → last_slope passes points ≡ Ok found → LastSlope points known → HasOnePoint points known → found ≡ known

@@ -1,16 +1,15 @@
 -- A resumed run has a unique end: each phase, and each cause for which there is none, follows from the run state.
-use Rattle.std.proofs.Common.{◌≡◌, ℕ, length, refl, sym, ap, ◌∙◌, subst, arith}
-use Rattle.std.specs.Prelude.{Option, Some, Ok}
+use Rattle.std.proofs.Common.{◌≡◌, ℕ, length, sym, ap, ◌∙◌, subst}
+use Rattle.std.specs.Prelude.{Option, Ok}
 use Rattle.nf_rational.specs.Rational.{ℚ}
 use Rattle.nf_rational.specs.Order.{◌<ℚ◌}
-use Rattle.nf_rational_laws.proofs.Order.{<ℚ_irrefl}
 use Rattle.nf_frac_def.specs.Passing.{Passing}
 use Rattle.nf_frac_def.specs.Checked.{each}
 use Rattle.nf_model.specs.Network.{Network}
 use Rattle.nf_net_def.specs.declared.Cause.{Cause}
 use Rattle.nf_net_def.specs.Report.{Report}
 use Rattle.nf_thin_def.specs.PhaseRun.{Standing, Bounds, Fails, report_of}
-use Rattle.nf_thin_laws.proofs.OneRun.{one_phase, one_cause, goes_or_fails, fails_below, goes_knows}
+use Rattle.nf_thin_laws.proofs.OneRun.{one_phase, goes_or_fails, goes_knows, StepsTo, horizon_met, phases_made, none_made, one_made, same_end}
 use Rattle.nf_rational_laws.proofs.Results.{same_Ok}
 use Rattle.nf_curve_laws.proofs.Operations.{then_ok}
 use Rattle.nf_resume_def.specs.Restoring.{growing, restore_list}
@@ -43,28 +42,22 @@ module _ (passes : Passing) (net : Network) (horizon : ℚ) (patterns : ℕ) (s 
 
 -- ---- the unique end
 module _ (passes : Passing) (net : Network) (bounds : Bounds) where
-  not_both : (s : Standing) → s.time ≡ bounds.horizon → s.time <ℚ bounds.horizon → ⊥
-  not_both s e below = <ℚ_irrefl bounds.horizon (subst (λ (t : ℚ). t <ℚ bounds.horizon) e below)
+  abbrev Makes : Standing → Standing → Type 0
+  Makes = Steps passes net bounds.horizon bounds.patterns
+
+  steps_to : (s l : Standing) (o : Option (Cause ℚ)) → RunsOn passes net bounds s l o → StepsTo passes net bounds Makes s l o
+  steps_to s l o (at_horizon e) = horizon_met e
+  steps_to s l o (at_phases below e) = phases_made below e
+  steps_to s l o (fails may f) = none_made may f
+  steps_to s l o (steps may g rest) = one_made may g (steps_to _ l o rest)
 
   one_end : (s l m : Standing) (o r : Option (Cause ℚ)) → length s.last ≡ length net.links → RunsOn passes net bounds s l o → RunsOn passes net bounds s m r → (l ≡ m) × (o ≡ r)
-  one_end s l m o r knows (at_horizon e) (at_horizon f) = (refl, refl)
-  one_end s l m o r knows (at_horizon e) (at_phases below f) = absurd (not_both s e below)
-  one_end s l m o r knows (at_horizon e) (fails may f) = absurd (not_both s e (fails_below passes net bounds.horizon bounds.patterns s _ f))
-  one_end s l m o r knows (at_horizon e) (steps may g rest) = absurd (not_both s e (step_below passes net bounds.horizon bounds.patterns s _ g))
-  one_end s l m o r knows (at_phases below e) (at_horizon f) = absurd (not_both s f below)
-  one_end s l m o r knows (at_phases below e) (at_phases below' f) = (refl, refl)
-  one_end s l m o r knows (at_phases below e) (fails may f) = absurd (omega arith)
-  one_end s l m o r knows (at_phases below e) (steps may g rest) = absurd (omega arith)
-  one_end s l m o r knows (fails may f) (at_horizon e) = absurd (not_both s e (fails_below passes net bounds.horizon bounds.patterns s _ f))
-  one_end s l m o r knows (fails may f) (at_phases below e) = absurd (omega arith)
-  one_end s l m o r knows (fails may f) (fails may' g) = (refl, ap Some (one_cause passes net bounds.horizon bounds.patterns s knows _ _ f g))
-  one_end s l m o r knows (fails may f) (steps may' g rest) = absurd (steps_or_fails passes net bounds.horizon bounds.patterns s knows _ _ g f)
-  one_end s l m o r knows (steps may g rest) (at_horizon e) = absurd (not_both s e (step_below passes net bounds.horizon bounds.patterns s _ g))
-  one_end s l m o r knows (steps may g rest) (at_phases below e) = absurd (omega arith)
-  one_end s l m o r knows (steps may g rest) (fails may' f) = absurd (steps_or_fails passes net bounds.horizon bounds.patterns s knows _ _ g f)
-  one_end s l m o r knows (steps {new = t} may g rest) (steps {new = u} may' h other) =
-      let same : t ≡ u = one_step passes net bounds.horizon bounds.patterns s knows t u g h in
-      one_end t l m o r (step_knows passes net bounds.horizon bounds.patterns s knows t g) rest (subst (λ (w : Standing). RunsOn passes net bounds w m r) (sym same) other)
+  one_end s l m o r knows h k = same_end passes net bounds Makes (record {
+    one = λ s t u knows. one_step passes net bounds.horizon bounds.patterns s knows t u;
+    below = λ s t g. step_below passes net bounds.horizon bounds.patterns s t g;
+    or_fails = λ s t c knows. steps_or_fails passes net bounds.horizon bounds.patterns s knows t c;
+    knows = λ s t knows. step_knows passes net bounds.horizon bounds.patterns s knows t;
+  }) s l m o r knows (steps_to s l o h) (steps_to s m r k)
 
 -- ---- the unique report
 restored_last : (passes : Passing) (net : Network) (report : Report) (s : Standing) → restart_list passes net report ≡ Ok s → s.last ≡ report.last

@@ -28,7 +28,7 @@ use Rattle.nf_thin_laws.proofs.OneRun.{length-sets}
 use Rattle.nf_thin_laws.proofs.Ending.{PhaseParts}
 use Rattle.nf_phase_laws.proofs.Length.{IsPhaseLength-some}
 use Rattle.nf_phase_laws.proofs.Still.{leaves_none}
-use Rattle.nf_phase_laws.proofs.WellRun.{WellRun}
+use Rattle.nf_phase_laws.proofs.WellRun.{WellRun, WellRun-counted}
 use Rattle.nf_phase_laws.proofs.Run.{WellRun-goes, parts_of}
 use Rattle.nf_phase_laws.proofs.Goes.{thin}
 use Rattle.nf_resume_def.specs.Open.{IsOpen, with_last}
@@ -163,15 +163,7 @@ module _ (passes : Passing) (net : Network) (good : IsNetwork net) (a b : Bounds
   well_cut = subst (WellRun net) g.new_is (WellRun-goes passes net good a s t g well)
 
   pub well_restored : WellRun net restored
-  well_restored = record {
-    grow = well_cut.grow;
-    label_count = well_cut.label_count;
-    link_count = well_cut.link_count;
-    label_slopes = well_cut.label_slopes;
-    inflow_rates = well_cut.inflow_rates;
-    outflow_rates = well_cut.outflow_rates;
-    queue_slopes = well_cut.queue_slopes;
-  }
+  well_restored = WellRun-counted net cut 0 cut.last well_cut
 
   -- ---- the phase of the resumed run
   module _ (r : Bounds) (w : Standing) (k : Goes passes net r.horizon r.patterns restored w) (none : NonePassesIn passes net r.horizon r.patterns restored w k) (to : r.horizon ≡ b.horizon) where
