@@ -27,7 +27,7 @@ use Rattle.nf_resume_laws.proofs.Printed.{rises-link, starts-link, label-nn, lab
 use Rattle.nf_resume_laws.proofs.Invariant.{HoldsUpTo-equilibrium}
 use Rattle.nf_unique_laws.specs.PriceLaws.{clipped, entered_of, left_of}
 use Rattle.nf_unique_laws.proofs.Clipped.{clipped-within, clipped-is, HasCurve-clipped}
-use Rattle.nf_unique_laws.proofs.OneLink.{entered-before, entered-rises, left-before, left-rises, left-room, left-late, left-queue}
+use Rattle.nf_unique_laws.proofs.OneLink.{AllServed, entered-before, entered-rises, left-before, left-rises, left-room, left-late, left-queue}
 
 -- ---- plain numbers: the amounts that entered and left, and the supply
 balanced : (i o : ℚ) → i +ℚ 0ℚ ≡ o +ℚ 0ℚ → o ≤ℚ i
@@ -90,47 +90,45 @@ module _ (net : Network) (flow : Flow) (good : IsNetwork net) (is : Equilibrium 
   to_left P e link p h = subst (λ (o : Option Link). P (λ time. G e (clipped (end (unwrap_or (option_map (λ (k : Link). k.head) o) 0)) time))) (sym p) h
 
   module _ (e : ℕ) (link : Link) (p : IsLink net e link) where
+    served : AllServed link.transit link.capacity (F e) (end link.tail) (end link.head) (G e)
+    served = record {
+      positive = IsPositive-link net e link good p;
+      rises = rises-link net flow good is e link p;
+      starts = starts-link net flow good is e link p;
+      forward = good.transits e link p;
+      tail_nn = tail-nn e link p;
+      head_nn = head-nn e link p;
+      out_is = λ time w. is.outflows e link time p w;
+      all_out = comes_out-at net flow good is e link flow.reached p now;
+    }
+
     amount_entered : IsAmount (λ time. F e (clipped (end link.tail) time))
     amount_entered = record {
-      before = entered-before link.transit link.capacity (F e) (IsPositive-link net e link good p) (rises-link net flow good is e link p) (starts-link net flow good is e link p)
-          (good.transits e link p) (end link.tail) (end link.head) (tail-nn e link p) (head-nn e link p) (G e) (λ time w. is.outflows e link time p w)
-          (comes_out-at net flow good is e link flow.reached p now);
-      rises = λ earlier later _ h. entered-rises link.transit link.capacity (F e) (IsPositive-link net e link good p) (rises-link net flow good is e link p) (starts-link net flow good is e link p)
-          (good.transits e link p) (end link.tail) (end link.head) (tail-nn e link p) (head-nn e link p) (G e) (λ time w. is.outflows e link time p w)
-          (comes_out-at net flow good is e link flow.reached p now) earlier later h;
+      before = entered-before link.transit link.capacity (F e) (end link.tail) (end link.head) (G e) served;
+      rises = λ earlier later _ h. entered-rises link.transit link.capacity (F e) (end link.tail) (end link.head) (G e) served earlier later h;
       has_curve = HasCurve-clipped (points_at (points_of flow.inflows) e) (end link.tail) (is.shape.inflows.each e (slice_get_within net.links e link p)) (tail-nn e link p);
     }
 
     amount_left : IsAmount (λ time. G e (clipped (end link.head) time))
     amount_left = record {
-      before = left-before link.transit link.capacity (F e) (IsPositive-link net e link good p) (rises-link net flow good is e link p) (starts-link net flow good is e link p)
-          (good.transits e link p) (end link.tail) (end link.head) (tail-nn e link p) (head-nn e link p) (G e) (λ time w. is.outflows e link time p w)
-          (comes_out-at net flow good is e link flow.reached p now);
-      rises = λ earlier later _ h. left-rises link.transit link.capacity (F e) (IsPositive-link net e link good p) (rises-link net flow good is e link p) (starts-link net flow good is e link p)
-          (good.transits e link p) (end link.tail) (end link.head) (tail-nn e link p) (head-nn e link p) (G e) (λ time w. is.outflows e link time p w)
-          (comes_out-at net flow good is e link flow.reached p now) earlier later h;
+      before = left-before link.transit link.capacity (F e) (end link.tail) (end link.head) (G e) served;
+      rises = λ earlier later _ h. left-rises link.transit link.capacity (F e) (end link.tail) (end link.head) (G e) served earlier later h;
       has_curve = HasCurve-clipped (points_at (points_of flow.outflows) e) (end link.head) (is.shape.outflows.each e (slice_get_within net.links e link p)) (head-nn e link p);
     }
 
     in_time : (time : ℚ) → left_of net flow e time ≤ℚ entered_of net flow e (time -ℚ link.transit)
     in_time time = to_entered (λ (f : ℚ → ℚ). left_of net flow e time ≤ℚ f (time -ℚ link.transit)) e link p
         (to_left (λ (g : ℚ → ℚ). g time ≤ℚ F e (clipped (end link.tail) (time -ℚ link.transit))) e link p
-        (left-late link.transit link.capacity (F e) (IsPositive-link net e link good p) (rises-link net flow good is e link p) (starts-link net flow good is e link p)
-        (good.transits e link p) (end link.tail) (end link.head) (tail-nn e link p) (head-nn e link p) (G e) (λ time w. is.outflows e link time p w)
-        (comes_out-at net flow good is e link flow.reached p now) time))
+        (left-late link.transit link.capacity (F e) (end link.tail) (end link.head) (G e) served time))
 
     in_capacity : (rate earlier later : ℚ) → link.capacity ≡ Some rate → earlier ≤ℚ later → left_of net flow e later -ℚ left_of net flow e earlier ≤ℚ rate *ℚ (later -ℚ earlier)
     in_capacity rate earlier later some h = to_left (λ (g : ℚ → ℚ). g later -ℚ g earlier ≤ℚ rate *ℚ (later -ℚ earlier)) e link p
-        (left-room link.transit link.capacity (F e) (IsPositive-link net e link good p) (rises-link net flow good is e link p) (starts-link net flow good is e link p)
-        (good.transits e link p) (end link.tail) (end link.head) (tail-nn e link p) (head-nn e link p) (G e) (λ time w. is.outflows e link time p w)
-        (comes_out-at net flow good is e link flow.reached p now) rate earlier later some h)
+        (left-room link.transit link.capacity (F e) (end link.tail) (end link.head) (G e) served rate earlier later some h)
 
     pub by_queue : (time : ℚ) → 0ℚ ≤ℚ time → IsOutflow link.transit link.capacity (entered_of net flow e) time (left_of net flow e time)
     by_queue time h = to_entered (λ (f : ℚ → ℚ). IsOutflow link.transit link.capacity f time (left_of net flow e time)) e link p
         (to_left (λ (g : ℚ → ℚ). IsOutflow link.transit link.capacity (λ t. F e (clipped (end link.tail) t)) time (g time)) e link p
-        (left-queue link.transit link.capacity (F e) (IsPositive-link net e link good p) (rises-link net flow good is e link p) (starts-link net flow good is e link p)
-        (good.transits e link p) (end link.tail) (end link.head) (tail-nn e link p) (head-nn e link p) (G e) (λ time w. is.outflows e link time p w)
-        (comes_out-at net flow good is e link flow.reached p now) time h))
+        (left-queue link.transit link.capacity (F e) (end link.tail) (end link.head) (G e) served time h))
 
   -- ---- node by node: only the time up to the label of the node matters
   outs-at : (v : ℕ) (time : ℚ) → sum_out net.links (λ e. entered_of net flow e time) v ≡ sum_out net.links (λ e. F e (clipped (end v) time)) v

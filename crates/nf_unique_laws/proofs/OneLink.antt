@@ -52,9 +52,22 @@ none_served c d f = linear_eq (c ∷ d ∷ f ∷ []) [] (search reading_of depth
 in_flight : (r s u : ℚ) → 0ℚ ≤ℚ u → u <ℚ s -ℚ r → r ≤ℚ s
 in_flight r s u n h = linear_le (r ∷ s ∷ u ∷ []) (le n ∷ lt h ∷ []) (search reading_of depth 12) tt
 
-module _ (transit : ℚ) (capacity : Option ℚ) (amount : ℚ → ℚ) (positive : IsPositive capacity) (rises : NeverFalls amount) (starts : amount 0ℚ ≡ 0ℚ) where
+-- A link up to the last times of its tail and its head: what enters by the one has left by the other.
+pub record AllServed (transit : ℚ) (capacity : Option ℚ) (amount : ℚ → ℚ) (tail_last head_last : ℚ) (out : ℚ → ℚ) : Type 0 where
+  pub positive : IsPositive capacity
+  pub rises : NeverFalls amount
+  pub starts : amount 0ℚ ≡ 0ℚ
+  pub forward : 0ℚ ≤ℚ transit
+  pub tail_nn : 0ℚ ≤ℚ tail_last
+  pub head_nn : 0ℚ ≤ℚ head_last
+  pub out_is : (time : ℚ) → Within 0ℚ head_last time → IsOutflow transit capacity amount time (out time)
+  pub all_out : IsOutflow transit capacity amount head_last (amount tail_last)
+
+module _ (transit : ℚ) (capacity : Option ℚ) (amount : ℚ → ℚ) (tail_last head_last : ℚ) (out : ℚ → ℚ) (served : AllServed transit capacity amount tail_last head_last out) where
+  open served use {positive, rises, starts, forward, tail_nn, head_nn, out_is, all_out}
+
   -- In any interval at most the capacity times its length leaves.
-  pub outflow-room : (rate earlier later x y : ℚ) → capacity ≡ Some rate → earlier ≤ℚ later → IsOutflow transit capacity amount earlier x → IsOutflow transit capacity amount later y
+  outflow-room : (rate earlier later x y : ℚ) → capacity ≡ Some rate → earlier ≤ℚ later → IsOutflow transit capacity amount earlier x → IsOutflow transit capacity amount later y
       → y -ℚ x ≤ℚ rate *ℚ (later -ℚ earlier)
   outflow-room rate earlier later x y some h p q =
       let k : 0ℚ ≤ℚ rate = ≤ℚ_of_lt _ _ (positive rate some) in
@@ -71,153 +84,150 @@ module _ (transit : ℚ) (capacity : Option ℚ) (amount : ℚ → ℚ) (positiv
       (lt_or_le_ℚ earlier transit))
       (lt_or_le_ℚ later transit)
 
-  module _ (forward : 0ℚ ≤ℚ transit) (tail_last head_last : ℚ) (tail_nn : 0ℚ ≤ℚ tail_last) (head_nn : 0ℚ ≤ℚ head_last) (out : ℚ → ℚ)
-      (out_is : (time : ℚ) → Within 0ℚ head_last time → IsOutflow transit capacity amount time (out time))
-      (all_out : IsOutflow transit capacity amount head_last (amount tail_last)) where
-    abbrev entered : ℚ → ℚ
-    entered time = amount (clipped tail_last time)
+  abbrev entered : ℚ → ℚ
+  entered time = amount (clipped tail_last time)
 
-    abbrev left : ℚ → ℚ
-    left time = out (clipped head_last time)
+  abbrev left : ℚ → ℚ
+  left time = out (clipped head_last time)
 
-    -- ---- what enters
-    pub entered-before : (time : ℚ) → time ≤ℚ 0ℚ → entered time ≡ 0ℚ
-    entered-before time h = ap amount (clipped-none tail_last time tail_nn h) ∙ starts
+  -- ---- what enters
+  pub entered-before : (time : ℚ) → time ≤ℚ 0ℚ → entered time ≡ 0ℚ
+  entered-before time h = ap amount (clipped-none tail_last time tail_nn h) ∙ starts
 
-    pub entered-rises : (earlier later : ℚ) → earlier ≤ℚ later → entered earlier ≤ℚ entered later
-    entered-rises earlier later h = rises _ _ (clipped-within tail_last earlier tail_nn).0 (clipped-rises tail_last earlier later tail_nn h)
+  pub entered-rises : (earlier later : ℚ) → earlier ≤ℚ later → entered earlier ≤ℚ entered later
+  entered-rises earlier later h = rises _ _ (clipped-within tail_last earlier tail_nn).0 (clipped-rises tail_last earlier later tail_nn h)
 
-    entered-nn : (time : ℚ) → 0ℚ ≤ℚ entered time
-    entered-nn time = amount-nn transit capacity amount positive rises starts (clipped tail_last time) (clipped-within tail_last time tail_nn).0
+  entered-nn : (time : ℚ) → 0ℚ ≤ℚ entered time
+  entered-nn time = amount-nn transit capacity amount positive rises starts (clipped tail_last time) (clipped-within tail_last time tail_nn).0
 
-    -- ---- what leaves
-    now : Within 0ℚ head_last head_last
-    now = (head_nn, ≤ℚ_refl head_last)
+  -- ---- what leaves
+  now : Within 0ℚ head_last head_last
+  now = (head_nn, ≤ℚ_refl head_last)
 
-    out-last : out head_last ≡ amount tail_last
-    out-last = IsOutflow-unique transit capacity amount head_last (out head_last) (amount tail_last) (out_is head_last now) all_out
+  out-last : out head_last ≡ amount tail_last
+  out-last = IsOutflow-unique transit capacity amount head_last (out head_last) (amount tail_last) (out_is head_last now) all_out
 
-    out-most : (time : ℚ) → Within 0ℚ head_last time → out time ≤ℚ amount tail_last
-    out-most time w = outflow-rises transit capacity amount positive rises starts time head_last (out time) (amount tail_last) w.1 (out_is time w) all_out
+  out-most : (time : ℚ) → Within 0ℚ head_last time → out time ≤ℚ amount tail_last
+  out-most time w = outflow-rises transit capacity amount positive rises starts time head_last (out time) (amount tail_last) w.1 (out_is time w) all_out
 
-    out-first : out 0ℚ ≡ 0ℚ
-    out-first = ⊎_elim
-        (λ (l : 0ℚ <ℚ transit). first_is.early l)
-        (λ (l : transit ≤ℚ 0ℚ). ≤ℚ_antisymm _ _
-        (subst (λ (z : ℚ). out 0ℚ ≤ℚ z) (ap amount (at_once transit l forward) ∙ starts) (outflow-entered transit capacity amount positive rises starts 0ℚ (out 0ℚ) l first_is))
-        (outflow-nn transit capacity amount positive rises starts 0ℚ (out 0ℚ) first_is))
-        (lt_or_le_ℚ 0ℚ transit)
-      where
-        first_is : IsOutflow transit capacity amount 0ℚ (out 0ℚ)
-        first_is = out_is 0ℚ (≤ℚ_refl 0ℚ, head_nn)
+  out-first : out 0ℚ ≡ 0ℚ
+  out-first = ⊎_elim
+      (λ (l : 0ℚ <ℚ transit). first_is.early l)
+      (λ (l : transit ≤ℚ 0ℚ). ≤ℚ_antisymm _ _
+      (subst (λ (z : ℚ). out 0ℚ ≤ℚ z) (ap amount (at_once transit l forward) ∙ starts) (outflow-entered transit capacity amount positive rises starts 0ℚ (out 0ℚ) l first_is))
+      (outflow-nn transit capacity amount positive rises starts 0ℚ (out 0ℚ) first_is))
+      (lt_or_le_ℚ 0ℚ transit)
+    where
+      first_is : IsOutflow transit capacity amount 0ℚ (out 0ℚ)
+      first_is = out_is 0ℚ (≤ℚ_refl 0ℚ, head_nn)
 
-    pub left-before : (time : ℚ) → time ≤ℚ 0ℚ → left time ≡ 0ℚ
-    left-before time h = ap out (clipped-none head_last time head_nn h) ∙ out-first
+  pub left-before : (time : ℚ) → time ≤ℚ 0ℚ → left time ≡ 0ℚ
+  left-before time h = ap out (clipped-none head_last time head_nn h) ∙ out-first
 
-    pub left-rises : (earlier later : ℚ) → earlier ≤ℚ later → left earlier ≤ℚ left later
-    left-rises earlier later h = outflow-rises transit capacity amount positive rises starts (clipped head_last earlier) (clipped head_last later) (left earlier) (left later)
-        (clipped-rises head_last earlier later head_nn h) (out_is _ (clipped-within head_last earlier head_nn)) (out_is _ (clipped-within head_last later head_nn))
+  pub left-rises : (earlier later : ℚ) → earlier ≤ℚ later → left earlier ≤ℚ left later
+  left-rises earlier later h = outflow-rises transit capacity amount positive rises starts (clipped head_last earlier) (clipped head_last later) (left earlier) (left later)
+      (clipped-rises head_last earlier later head_nn h) (out_is _ (clipped-within head_last earlier head_nn)) (out_is _ (clipped-within head_last later head_nn))
 
-    pub left-room : (rate earlier later : ℚ) → capacity ≡ Some rate → earlier ≤ℚ later → left later -ℚ left earlier ≤ℚ rate *ℚ (later -ℚ earlier)
-    left-room rate earlier later some h =
-        room_grows rate (clipped head_last earlier) (clipped head_last later) earlier later (left earlier) (left later) (≤ℚ_of_lt _ _ (positive rate some))
-        (clipped-stretch head_last earlier later head_nn h)
-        (outflow-room rate (clipped head_last earlier) (clipped head_last later) (left earlier) (left later) some (clipped-rises head_last earlier later head_nn h)
-        (out_is _ (clipped-within head_last earlier head_nn)) (out_is _ (clipped-within head_last later head_nn)))
+  pub left-room : (rate earlier later : ℚ) → capacity ≡ Some rate → earlier ≤ℚ later → left later -ℚ left earlier ≤ℚ rate *ℚ (later -ℚ earlier)
+  left-room rate earlier later some h =
+      room_grows rate (clipped head_last earlier) (clipped head_last later) earlier later (left earlier) (left later) (≤ℚ_of_lt _ _ (positive rate some))
+      (clipped-stretch head_last earlier later head_nn h)
+      (outflow-room rate (clipped head_last earlier) (clipped head_last later) (left earlier) (left later) some (clipped-rises head_last earlier later head_nn h)
+      (out_is _ (clipped-within head_last earlier head_nn)) (out_is _ (clipped-within head_last later head_nn)))
 
-    -- At most what had entered one transit time before.
-    out-late : (at time : ℚ) → Within 0ℚ head_last at → at ≤ℚ time → out at ≤ℚ entered (time -ℚ transit)
-    out-late at time w h = ⊎_elim
-        (λ (l : at <ℚ transit). subst (λ (z : ℚ). z ≤ℚ entered (time -ℚ transit)) (sym ((out_is at w).early l)) (entered-nn (time -ℚ transit)))
-        (λ (l : transit ≤ℚ at).
-        let before : out at ≤ℚ amount (at -ℚ transit) = outflow-entered transit capacity amount positive rises starts at (out at) l (out_is at w) in
-        ⊎_elim
-        (λ (v : (time -ℚ transit ≤ℚ tail_last) × (clipped tail_last (time -ℚ transit) ≡ time -ℚ transit)). subst (λ (z : ℚ). out at ≤ℚ amount z) (sym v.1)
-        (≤ℚ_trans _ _ _ before (rises _ _ (since transit at l) (sooner transit at time h))))
-        (λ (v : (tail_last ≤ℚ time -ℚ transit) × (clipped tail_last (time -ℚ transit) ≡ tail_last)). subst (λ (z : ℚ). out at ≤ℚ amount z) (sym v.1) (out-most at w))
-        (lands tail_last (time -ℚ transit) tail_nn (since transit time (≤ℚ_trans _ _ _ l h))))
-        (lt_or_le_ℚ at transit)
+  -- At most what had entered one transit time before.
+  out-late : (at time : ℚ) → Within 0ℚ head_last at → at ≤ℚ time → out at ≤ℚ entered (time -ℚ transit)
+  out-late at time w h = ⊎_elim
+      (λ (l : at <ℚ transit). subst (λ (z : ℚ). z ≤ℚ entered (time -ℚ transit)) (sym ((out_is at w).early l)) (entered-nn (time -ℚ transit)))
+      (λ (l : transit ≤ℚ at).
+      let before : out at ≤ℚ amount (at -ℚ transit) = outflow-entered transit capacity amount positive rises starts at (out at) l (out_is at w) in
+      ⊎_elim
+      (λ (v : (time -ℚ transit ≤ℚ tail_last) × (clipped tail_last (time -ℚ transit) ≡ time -ℚ transit)). subst (λ (z : ℚ). out at ≤ℚ amount z) (sym v.1)
+      (≤ℚ_trans _ _ _ before (rises _ _ (since transit at l) (sooner transit at time h))))
+      (λ (v : (tail_last ≤ℚ time -ℚ transit) × (clipped tail_last (time -ℚ transit) ≡ tail_last)). subst (λ (z : ℚ). out at ≤ℚ amount z) (sym v.1) (out-most at w))
+      (lands tail_last (time -ℚ transit) tail_nn (since transit time (≤ℚ_trans _ _ _ l h))))
+      (lt_or_le_ℚ at transit)
 
-    pub left-late : (time : ℚ) → left time ≤ℚ entered (time -ℚ transit)
-    left-late time = ⊎_elim
-        (λ (l : time <ℚ 0ℚ). subst (λ (z : ℚ). z ≤ℚ entered (time -ℚ transit)) (sym (left-before time (≤ℚ_of_lt _ _ l))) (entered-nn (time -ℚ transit)))
-        (λ (l : 0ℚ ≤ℚ time). out-late (clipped head_last time) time (clipped-within head_last time head_nn) (⊎_elim
-        (λ (v : (time ≤ℚ head_last) × (clipped head_last time ≡ time)). ≤ℚ_of_same _ _ v.1)
-        (λ (v : (head_last ≤ℚ time) × (clipped head_last time ≡ head_last)). subst (λ (z : ℚ). z ≤ℚ time) (sym v.1) v.0)
-        (lands head_last time head_nn l)))
-        (lt_or_le_ℚ time 0ℚ)
+  pub left-late : (time : ℚ) → left time ≤ℚ entered (time -ℚ transit)
+  left-late time = ⊎_elim
+      (λ (l : time <ℚ 0ℚ). subst (λ (z : ℚ). z ≤ℚ entered (time -ℚ transit)) (sym (left-before time (≤ℚ_of_lt _ _ l))) (entered-nn (time -ℚ transit)))
+      (λ (l : 0ℚ ≤ℚ time). out-late (clipped head_last time) time (clipped-within head_last time head_nn) (⊎_elim
+      (λ (v : (time ≤ℚ head_last) × (clipped head_last time ≡ time)). ≤ℚ_of_same _ _ v.1)
+      (λ (v : (head_last ≤ℚ time) × (clipped head_last time ≡ head_last)). subst (λ (z : ℚ). z ≤ℚ time) (sym v.1) v.0)
+      (lands head_last time head_nn l)))
+      (lt_or_le_ℚ time 0ℚ)
 
-    -- ---- the outflow satisfies the law of the point queue
-    -- Everything that leaves by the end had entered one transit time before, and nothing enters after that.
-    settled : (time : ℚ) → 0ℚ ≤ℚ time → head_last -ℚ transit ≤ℚ time → entered time ≡ amount tail_last
-    settled time n h = ⊎_elim
-        (λ (v : (time ≤ℚ tail_last) × (clipped tail_last time ≡ time)). ap amount v.1 ∙ ≤ℚ_antisymm _ _ (rises time tail_last n v.0) (⊎_elim
-        (λ (l : head_last <ℚ transit). subst (λ (z : ℚ). z ≤ℚ amount time) (sym (all_out.early l)) (amount-nn transit capacity amount positive rises starts time n))
-        (λ (l : transit ≤ℚ head_last). ≤ℚ_trans _ _ _ (outflow-entered transit capacity amount positive rises starts head_last (amount tail_last) l all_out)
-        (rises _ _ (since transit head_last l) h))
-        (lt_or_le_ℚ head_last transit)))
-        (λ (v : (tail_last ≤ℚ time) × (clipped tail_last time ≡ tail_last)). ap amount v.1)
-        (lands tail_last time tail_nn n)
+  -- ---- the outflow satisfies the law of the point queue
+  -- Everything that leaves by the end had entered one transit time before, and nothing enters after that.
+  settled : (time : ℚ) → 0ℚ ≤ℚ time → head_last -ℚ transit ≤ℚ time → entered time ≡ amount tail_last
+  settled time n h = ⊎_elim
+      (λ (v : (time ≤ℚ tail_last) × (clipped tail_last time ≡ time)). ap amount v.1 ∙ ≤ℚ_antisymm _ _ (rises time tail_last n v.0) (⊎_elim
+      (λ (l : head_last <ℚ transit). subst (λ (z : ℚ). z ≤ℚ amount time) (sym (all_out.early l)) (amount-nn transit capacity amount positive rises starts time n))
+      (λ (l : transit ≤ℚ head_last). ≤ℚ_trans _ _ _ (outflow-entered transit capacity amount positive rises starts head_last (amount tail_last) l all_out)
+      (rises _ _ (since transit head_last l) h))
+      (lt_or_le_ℚ head_last transit)))
+      (λ (v : (tail_last ≤ℚ time) × (clipped tail_last time ≡ tail_last)). ap amount v.1)
+      (lands tail_last time tail_nn n)
 
-    -- up to the last time of the head
-    out-queue : (time : ℚ) → Within 0ℚ head_last time → IsOutflow transit capacity entered time (out time)
-    out-queue time w =
-        let p : IsOutflow transit capacity amount time (out time) = out_is time w in
+  -- up to the last time of the head
+  out-queue : (time : ℚ) → Within 0ℚ head_last time → IsOutflow transit capacity entered time (out time)
+  out-queue time w =
+      let p : IsOutflow transit capacity amount time (out time) = out_is time w in
+      record {
+        early = p.early;
+        unbounded = λ l none. ⊎_elim
+            (λ (v : (time -ℚ transit ≤ℚ tail_last) × (clipped tail_last (time -ℚ transit) ≡ time -ℚ transit)). p.unbounded l none ∙ ap amount (sym v.1))
+            (λ (v : (tail_last ≤ℚ time -ℚ transit) × (clipped tail_last (time -ℚ transit) ≡ tail_last)). ≤ℚ_antisymm _ _ (out-most time w)
+            (subst (λ (z : ℚ). amount tail_last ≤ℚ z) (sym (p.unbounded l none)) (rises tail_last (time -ℚ transit) tail_nn v.0)) ∙ ap amount (sym v.1))
+            (lands tail_last (time -ℚ transit) tail_nn (since transit time l));
+        bounded = λ rate l some.
+            let k : 0ℚ ≤ℚ rate = ≤ℚ_of_lt _ _ (positive rate some) in
+            let g : IsLeast (λ since. amount since +ℚ rate *ℚ (time -ℚ transit -ℚ since)) 0ℚ (time -ℚ transit) (out time) = p.bounded rate l some in
+            record {
+              taken = (
+                g.taken.0,
+                g.taken.1,
+                ⊎_elim
+                    (λ (v : (g.taken.0 ≤ℚ tail_last) × (clipped tail_last g.taken.0 ≡ g.taken.0)). ap (λ (z : ℚ). amount z +ℚ rate *ℚ (time -ℚ transit -ℚ g.taken.0)) v.1 ∙ g.taken.2)
+                    (λ (v : (tail_last ≤ℚ g.taken.0) × (clipped tail_last g.taken.0 ≡ tail_last)). ap (λ (z : ℚ). amount z +ℚ rate *ℚ (time -ℚ transit -ℚ g.taken.0)) v.1
+                    ∙ just_taken rate (time -ℚ transit) g.taken.0 (amount g.taken.0) (amount tail_last) (out time) k g.taken.1.1 g.taken.2 (rises tail_last g.taken.0 tail_nn v.0) (out-most time w))
+                    (lands tail_last g.taken.0 tail_nn g.taken.1.0),
+              );
+              bound = λ t i. ⊎_elim
+                  (λ (v : (t ≤ℚ tail_last) × (clipped tail_last t ≡ t)). subst (λ (z : ℚ). out time ≤ℚ amount z +ℚ rate *ℚ (time -ℚ transit -ℚ t)) (sym v.1) (g.bound t i))
+                  (λ (v : (tail_last ≤ℚ t) × (clipped tail_last t ≡ tail_last)). subst (λ (z : ℚ). out time ≤ℚ amount z +ℚ rate *ℚ (time -ℚ transit -ℚ t)) (sym v.1)
+                  (more_served rate (time -ℚ transit) t (amount tail_last) (out time) k i.1 (out-most time w)))
+                  (lands tail_last t tail_nn i.0);
+            };
+      }
+
+  -- and after it
+  last-queue : (time : ℚ) → head_last ≤ℚ time → IsOutflow transit capacity entered time (amount tail_last)
+  last-queue time h = record {
+    early = λ l. all_out.early (before head_last time transit h l);
+    unbounded = λ l none. sym (settled (time -ℚ transit) (since transit time l) (sooner transit head_last time h));
+    bounded = λ rate l some.
+        let k : 0ℚ ≤ℚ rate = ≤ℚ_of_lt _ _ (positive rate some) in
+        let d : 0ℚ ≤ℚ time -ℚ transit = since transit time l in
         record {
-          early = p.early;
-          unbounded = λ l none. ⊎_elim
-              (λ (v : (time -ℚ transit ≤ℚ tail_last) × (clipped tail_last (time -ℚ transit) ≡ time -ℚ transit)). p.unbounded l none ∙ ap amount (sym v.1))
-              (λ (v : (tail_last ≤ℚ time -ℚ transit) × (clipped tail_last (time -ℚ transit) ≡ tail_last)). ≤ℚ_antisymm _ _ (out-most time w)
-              (subst (λ (z : ℚ). amount tail_last ≤ℚ z) (sym (p.unbounded l none)) (rises tail_last (time -ℚ transit) tail_nn v.0)) ∙ ap amount (sym v.1))
-              (lands tail_last (time -ℚ transit) tail_nn (since transit time l));
-          bounded = λ rate l some.
-              let k : 0ℚ ≤ℚ rate = ≤ℚ_of_lt _ _ (positive rate some) in
-              let g : IsLeast (λ since. amount since +ℚ rate *ℚ (time -ℚ transit -ℚ since)) 0ℚ (time -ℚ transit) (out time) = p.bounded rate l some in
-              record {
-                taken = (
-                  g.taken.0,
-                  g.taken.1,
-                  ⊎_elim
-                      (λ (v : (g.taken.0 ≤ℚ tail_last) × (clipped tail_last g.taken.0 ≡ g.taken.0)). ap (λ (z : ℚ). amount z +ℚ rate *ℚ (time -ℚ transit -ℚ g.taken.0)) v.1 ∙ g.taken.2)
-                      (λ (v : (tail_last ≤ℚ g.taken.0) × (clipped tail_last g.taken.0 ≡ tail_last)). ap (λ (z : ℚ). amount z +ℚ rate *ℚ (time -ℚ transit -ℚ g.taken.0)) v.1
-                      ∙ just_taken rate (time -ℚ transit) g.taken.0 (amount g.taken.0) (amount tail_last) (out time) k g.taken.1.1 g.taken.2 (rises tail_last g.taken.0 tail_nn v.0) (out-most time w))
-                      (lands tail_last g.taken.0 tail_nn g.taken.1.0),
-                );
-                bound = λ t i. ⊎_elim
-                    (λ (v : (t ≤ℚ tail_last) × (clipped tail_last t ≡ t)). subst (λ (z : ℚ). out time ≤ℚ amount z +ℚ rate *ℚ (time -ℚ transit -ℚ t)) (sym v.1) (g.bound t i))
-                    (λ (v : (tail_last ≤ℚ t) × (clipped tail_last t ≡ tail_last)). subst (λ (z : ℚ). out time ≤ℚ amount z +ℚ rate *ℚ (time -ℚ transit -ℚ t)) (sym v.1)
-                    (more_served rate (time -ℚ transit) t (amount tail_last) (out time) k i.1 (out-most time w)))
-                    (lands tail_last t tail_nn i.0);
-              };
-        }
+          taken = (time -ℚ transit, (d, ≤ℚ_refl _), none_served rate (time -ℚ transit) (entered (time -ℚ transit)) ∙ settled (time -ℚ transit) d (sooner transit head_last time h));
+          bound = λ t i. ⊎_elim
+              (λ (m : t <ℚ head_last -ℚ transit). ⊎_elim
+              (λ (v : (t ≤ℚ tail_last) × (clipped tail_last t ≡ t)). subst (λ (z : ℚ). amount tail_last ≤ℚ amount z +ℚ rate *ℚ (time -ℚ transit -ℚ t)) (sym v.1)
+              (served_on rate transit head_last time t (amount t) (amount tail_last) k h
+              ((all_out.bounded rate (in_flight transit head_last t i.0 m) some).bound t (i.0, ≤ℚ_of_lt _ _ m))))
+              (λ (v : (tail_last ≤ℚ t) × (clipped tail_last t ≡ tail_last)). more_served rate (time -ℚ transit) t (entered t) (amount tail_last) k i.1 (≤ℚ_of_same _ _ (ap amount (sym v.1))))
+              (lands tail_last t tail_nn i.0))
+              (λ (m : head_last -ℚ transit ≤ℚ t). more_served rate (time -ℚ transit) t (entered t) (amount tail_last) k i.1 (≤ℚ_of_same _ _ (sym (settled t i.0 m))))
+              (lt_or_le_ℚ t (head_last -ℚ transit));
+        };
+  }
+    where
+      before : (s t r : ℚ) → s ≤ℚ t → t <ℚ r → s <ℚ r
+      before s t r h l = linear_lt (s ∷ t ∷ r ∷ []) (le h ∷ lt l ∷ []) (search reading_of depth 12) tt
 
-    -- and after it
-    last-queue : (time : ℚ) → head_last ≤ℚ time → IsOutflow transit capacity entered time (amount tail_last)
-    last-queue time h = record {
-      early = λ l. all_out.early (before head_last time transit h l);
-      unbounded = λ l none. sym (settled (time -ℚ transit) (since transit time l) (sooner transit head_last time h));
-      bounded = λ rate l some.
-          let k : 0ℚ ≤ℚ rate = ≤ℚ_of_lt _ _ (positive rate some) in
-          let d : 0ℚ ≤ℚ time -ℚ transit = since transit time l in
-          record {
-            taken = (time -ℚ transit, (d, ≤ℚ_refl _), none_served rate (time -ℚ transit) (entered (time -ℚ transit)) ∙ settled (time -ℚ transit) d (sooner transit head_last time h));
-            bound = λ t i. ⊎_elim
-                (λ (m : t <ℚ head_last -ℚ transit). ⊎_elim
-                (λ (v : (t ≤ℚ tail_last) × (clipped tail_last t ≡ t)). subst (λ (z : ℚ). amount tail_last ≤ℚ amount z +ℚ rate *ℚ (time -ℚ transit -ℚ t)) (sym v.1)
-                (served_on rate transit head_last time t (amount t) (amount tail_last) k h
-                ((all_out.bounded rate (in_flight transit head_last t i.0 m) some).bound t (i.0, ≤ℚ_of_lt _ _ m))))
-                (λ (v : (tail_last ≤ℚ t) × (clipped tail_last t ≡ tail_last)). more_served rate (time -ℚ transit) t (entered t) (amount tail_last) k i.1 (≤ℚ_of_same _ _ (ap amount (sym v.1))))
-                (lands tail_last t tail_nn i.0))
-                (λ (m : head_last -ℚ transit ≤ℚ t). more_served rate (time -ℚ transit) t (entered t) (amount tail_last) k i.1 (≤ℚ_of_same _ _ (sym (settled t i.0 m))))
-                (lt_or_le_ℚ t (head_last -ℚ transit));
-          };
-    }
-      where
-        before : (s t r : ℚ) → s ≤ℚ t → t <ℚ r → s <ℚ r
-        before s t r h l = linear_lt (s ∷ t ∷ r ∷ []) (le h ∷ lt l ∷ []) (search reading_of depth 12) tt
-
-    pub left-queue : (time : ℚ) → 0ℚ ≤ℚ time → IsOutflow transit capacity entered time (left time)
-    left-queue time n = ⊎_elim
-        (λ (v : (time ≤ℚ head_last) × (clipped head_last time ≡ time)). subst (λ (z : ℚ). IsOutflow transit capacity entered time z) (ap out (sym v.1)) (out-queue time (n, v.0)))
-        (λ (v : (head_last ≤ℚ time) × (clipped head_last time ≡ head_last)). subst (λ (z : ℚ). IsOutflow transit capacity entered time z) (sym (ap out v.1 ∙ out-last)) (last-queue time v.0))
-        (lands head_last time head_nn n)
+  pub left-queue : (time : ℚ) → 0ℚ ≤ℚ time → IsOutflow transit capacity entered time (left time)
+  left-queue time n = ⊎_elim
+      (λ (v : (time ≤ℚ head_last) × (clipped head_last time ≡ time)). subst (λ (z : ℚ). IsOutflow transit capacity entered time z) (ap out (sym v.1)) (out-queue time (n, v.0)))
+      (λ (v : (head_last ≤ℚ time) × (clipped head_last time ≡ head_last)). subst (λ (z : ℚ). IsOutflow transit capacity entered time z) (sym (ap out v.1 ∙ out-last)) (last-queue time v.0))
+      (lands head_last time head_nn n)
