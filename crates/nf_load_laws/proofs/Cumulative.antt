@@ -9,7 +9,7 @@ use Rattle.nf_rational_laws.proofs.Linear.{le, lt, eq, eq_times, linear_lt, line
 use Rattle.nf_rational_laws.proofs.Order.{≤ℚ_of_lt, ≤ℚ_of_same, ≤ℚ_antisymm, lt_or_le_ℚ, not_both_ℚ, less_nn}
 use Rattle.nf_rational_laws.proofs.Tests.{lt_ℚ_cases, max0_of}
 use Rattle.nf_frac_def.specs.Passing.{Passing}
-use Rattle.nf_frac_def.specs.Checked.{checked, ◌>>=◌}
+use Rattle.nf_frac_def.specs.Checked.{Checked, checked, ◌>>=◌}
 use Rattle.nf_frac_def.specs.declared.Op.TheVariants.{Sum, Difference, Product}
 use Rattle.nf_model.specs.Curve.{Point, IsCurve, NeverFalls}
 use Rattle.nf_model.specs.Network.{Piece, ArePieces, time_in, supplied}
@@ -39,6 +39,23 @@ at_0 t y e = ⊎_elim
     (λ (w : (is_same t 0ℚ ≡ true) × (t ≡ 0ℚ)). ap (λ (b : Bool). point_after_0 b t y) w.0)
     (λ (w : (is_same t 0ℚ ≡ false) × (¬ (t ≡ 0ℚ))). absurd (w.1 e))
     (is_same_cases t 0ℚ)
+
+-- ---- the points from a piece on, by whether it starts before the last time
+module _ (passes : Passing) (so_far : ℚ) (piece : Piece) (later : List Piece) (last : ℚ) (points : List Point) where
+  abbrev pub with_more : Checked (List Point)
+  with_more = with_piece passes so_far piece (end_of later last) >>= λ sum. cumulative_from passes sum later last >>= λ rest. Ok (point_if_after_0 piece.start so_far ++ rest)
+
+  abbrev by_start : Bool → Checked (List Point)
+  by_start b = elim b [
+    | true ↦ with_more
+    | false ↦ Ok (point_if_after_0 last so_far)
+  ]
+
+  pub cumulative_more : lt_ℚ piece.start last ≡ true → cumulative_from passes so_far (piece ∷ later) last ≡ Ok points → with_more ≡ Ok points
+  cumulative_more t e = sym (ap by_start t) ∙ e
+
+  pub cumulative_done : lt_ℚ piece.start last ≡ false → cumulative_from passes so_far (piece ∷ later) last ≡ Ok points → point_if_after_0 last so_far ≡ points
+  cumulative_done t e = same_Ok _ _ (sym (ap by_start t) ∙ e)
 
 -- ---- how long a piece is the latest, up to the next start and after it
 
@@ -123,10 +140,7 @@ module _ (passes : Passing) (f : ℚ → ℚ) (last : ℚ) where
       (λ (w : (lt_ℚ piece.start last ≡ true) × (piece.start <ℚ last)).
       let here : end_of (piece ∷ later) last ≡ piece.start = min_is_left piece.start last (≤ℚ_of_lt _ _ w.1) in
       let goes_on : GoesOn so_far (piece ∷ later) = on (λ next rest q. subst (λ (x : ℚ). x ≤ℚ last) (first_of piece later next rest q) (≤ℚ_of_lt _ _ w.1)) in
-      let g' = sym (ap (λ (b : Bool). elim b [
-        | true ↦ with_piece passes so_far piece (end_of later last) >>= λ sum. cumulative_from passes sum later last >>= λ rest. Ok (point_if_after_0 piece.start so_far ++ rest)
-        | false ↦ Ok (point_if_after_0 last so_far)
-      ]) w.0) ∙ g in
+      let g' = cumulative_more passes so_far piece later last points w.0 g in
       let sum = then_ok (with_piece passes so_far piece (end_of later last)) _ points g' in
       let rest = then_ok (cumulative_from passes sum.between later last) _ points sum.next in
       let start_0 : 0ℚ <ℚ piece.start = zero_lt p.0 piece.start n (subst (λ (x : ℚ). p.0 <ℚ x) here h) in
@@ -144,11 +158,7 @@ module _ (passes : Passing) (f : ℚ → ℚ) (last : ℚ) where
       (λ q. next_goes_on so_far sum.between piece later s goes_on (≤ℚ_of_lt _ _ w.1) sum_is q) rest.first)))
       (λ (w : (lt_ℚ piece.start last ≡ false) × (last ≤ℚ piece.start)).
       let here : end_of (piece ∷ later) last ≡ last = min_is_right piece.start last w.1 in
-      let g' = sym (ap (λ (b : Bool). elim b [
-        | true ↦ with_piece passes so_far piece (end_of later last) >>= λ sum. cumulative_from passes sum later last >>= λ rest. Ok (point_if_after_0 piece.start so_far ++ rest)
-        | false ↦ Ok (point_if_after_0 last so_far)
-      ]) w.0) ∙ g in
-      subst (λ (l : List Point). FollowsFrom f last p l) (sym (after_0 last so_far (zero_lt p.0 last n (subst (λ (x : ℚ). p.0 <ℚ x) here h))) ∙ same_Ok _ _ g')
+      subst (λ (l : List Point). FollowsFrom f last p l) (sym (after_0 last so_far (zero_lt p.0 last n (subst (λ (x : ℚ). p.0 <ℚ x) here h))) ∙ cumulative_done passes so_far piece later last points w.0 g)
       (goes k at (subst (λ (x : ℚ). p.0 <ℚ x) here h) (subst (λ (x : ℚ). IsAffine f p.0 x k) here line) (ends (subst (λ (x : ℚ). f x ≡ so_far) here e) refl)))
       (lt_ℚ_cases piece.start last)
     where
@@ -201,10 +211,7 @@ module _ (passes : Passing) (pieces : List Piece) (last : ℚ) (good : ArePieces
       (λ (w : (lt_ℚ piece.start last ≡ true) × (piece.start <ℚ last)).
       let rise : StartsRise (piece ∷ later) = subst StartsRise (sym e) (StartsRise-pieces pieces good) in
       let on : GoesOn passes (λ t. supplied pieces t) last 0ℚ (piece ∷ later) = goes_from_0 (piece ∷ later) e in
-      let g' = sym (ap (λ (b : Bool). elim b [
-        | true ↦ with_piece passes 0ℚ piece (end_of later last) >>= λ sum. cumulative_from passes sum later last >>= λ rest. Ok (point_if_after_0 piece.start 0ℚ ++ rest)
-        | false ↦ Ok (point_if_after_0 last 0ℚ)
-      ]) w.0) ∙ g in
+      let g' = cumulative_more passes 0ℚ piece later last points w.0 g in
       let sum = then_ok (with_piece passes 0ℚ piece (end_of later last)) _ points g' in
       let rest = then_ok (cumulative_from passes sum.between later last) _ points sum.next in
       let end_later : piece.start <ℚ end_of later last = end_after piece.start later last w.1 (start_later piece later rise) in
@@ -241,11 +248,7 @@ module _ (passes : Passing) (pieces : List Piece) (last : ℚ) (good : ArePieces
       (λ (w : (lt_ℚ piece.start last ≡ true) × (piece.start <ℚ last)).
       absurd (not_both_ℚ piece.start last w.1 (subst (λ (x : ℚ). x ≤ℚ piece.start) (sym z) (starts_nn (piece ∷ later) piece later e refl))))
       (λ (w : (lt_ℚ piece.start last ≡ false) × (last ≤ℚ piece.start)).
-      let g' = sym (ap (λ (b : Bool). elim b [
-        | true ↦ with_piece passes 0ℚ piece (end_of later last) >>= λ sum. cumulative_from passes sum later last >>= λ rest. Ok (point_if_after_0 piece.start 0ℚ ++ rest)
-        | false ↦ Ok (point_if_after_0 last 0ℚ)
-      ]) w.0) ∙ g in
-      subst (λ (l : List Point). FollowsFrom (λ t. supplied pieces t) last (0ℚ, 0ℚ) l) (sym (at_0 last 0ℚ z) ∙ same_Ok _ _ g') (ends begins_0 (sym z)))
+      subst (λ (l : List Point). FollowsFrom (λ t. supplied pieces t) last (0ℚ, 0ℚ) l) (sym (at_0 last 0ℚ z) ∙ cumulative_done passes 0ℚ piece later last points w.0 g) (ends begins_0 (sym z)))
       (lt_ℚ_cases piece.start last)
 
   -- if no operation passes, the curve is the amount supplied by the pieces up to the last time

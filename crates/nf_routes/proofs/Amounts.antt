@@ -1,6 +1,6 @@
 -- Amounts: brought into short form, summed up, and what pieces supply. Exits: those of a link's loading.
-use Rattle.std.proofs.Common.{◌≡◌, List, [], ◌∷◌, Option, refl, sym, ap, subst, ◌∙◌}
-use Rattle.std.specs.Prelude.{Ok, map}
+use Rattle.std.proofs.Common.{◌≡◌, List, [], ◌∷◌, Option, refl, sym, subst, ◌∙◌}
+use Rattle.std.specs.Prelude.{Ok}
 use Rattle.nf_rational.specs.Rational.{ℚ}
 use Rattle.nf_rational.specs.Operations.{0ℚ, ◌+ℚ◌}
 use Rattle.nf_rational.specs.Order.{◌≤ℚ◌}
@@ -8,29 +8,22 @@ use Rattle.nf_rational_laws.proofs.Polynomial.{reading_of}
 use Rattle.nf_rational_laws.proofs.Linear.{le, eq, linear_le, linear_eq}
 use Rattle.nf_rational_laws.proofs.Chains.{≤ℚ_refl, ≤ℚ_trans}
 use Rattle.nf_frac_def.specs.Passing.{Passing}
-use Rattle.nf_frac_def.specs.Checked.{checked, each}
-use Rattle.nf_frac_def.specs.declared.Op.TheVariants.{Sum}
 use Rattle.nf_model.specs.Curve.{Point, value, IsCurve, NeverFalls}
 use Rattle.nf_model.specs.Network.{Piece}
 use Rattle.nf_model_laws.specs.Capacity.{IsPositive}
 use Rattle.nf_model_laws.proofs.Curves.{NeverFalls-value}
 use Rattle.nf_model_laws.proofs.Queues.{IsExit-after, IsExit-monotone}
-use Rattle.nf_curve_def.specs.Values.{checked_cut}
-use Rattle.nf_curve_def.specs.Short.{checked_short}
 use Rattle.nf_curve_def.specs.Sums.{checked_sum}
 use Rattle.nf_curve_def.specs.Meanings.{IsShortOf, IsSumOf}
-use Rattle.nf_curve_laws.proofs.Operations.{then_ok}
 use Rattle.nf_curve_laws.proofs.Following.{FollowsFrom}
-use Rattle.nf_curve_laws.proofs.Values.{Cut, checked_cut-is, follows-curve, follows-values}
+use Rattle.nf_curve_laws.proofs.Values.{follows-curve, follows-values}
 use Rattle.nf_curve_laws.proofs.Short.{checked_short-is}
 use Rattle.nf_curve_laws.proofs.Sums.{checked_sum-is}
-use Rattle.nf_load_def.specs.Loading.{Waits, Exit, Loaded, queue_point, exit_point, outflow_points, exit_of, all_waits, checked_loading}
+use Rattle.nf_load_def.specs.Loading.{Loaded, checked_loading}
 use Rattle.nf_load_def.specs.Meanings.{IsCumulative}
 use Rattle.nf_load_laws.proofs.Cumulative.{follows-values_rise}
 use Rattle.nf_load_laws.proofs.Functions.{exit_at, exit_at-is}
-use Rattle.nf_load_laws.proofs.Waiting.{AllWaits, all_waits-chain}
-use Rattle.nf_load_laws.proofs.Exiting.{AllExits, exits-are, exit-follows}
-use Rattle.nf_rational_laws.proofs.Results.{same_Ok}
+use Rattle.nf_load_laws.proofs.Loading.{ExitPoints, exit_points}
 use Rattle.nf_routes.specs.Amounts.{IsAmount, AreExits}
 
 -- ---- functions that have the same values from time 0 on
@@ -101,24 +94,8 @@ module _ (passes : Passing) (transit : ℚ) (capacity : Option ℚ) (inflow : Li
       }
 
   pub loaded_exits : checked_loading passes transit capacity inflow last ≡ Ok loaded → AreExits loaded.exit
-  unfolding checked_loading
   loaded_exits e =
-      let cut = then_ok (checked_cut passes inflow last) _ loaded e in
-      let waits = then_ok (all_waits passes capacity cut.between) _ loaded cut.next in
-      let all = then_ok (each (exit_of passes capacity transit) waits.between) _ loaded waits.next in
-      let end = then_ok (checked passes Sum last transit) _ loaded all.next in
-      let out = then_ok (checked_cut passes (outflow_points all.between) end.between) _ loaded end.next in
-      let q = then_ok (checked_short passes (map queue_point waits.between)) _ loaded out.next in
-      let o = then_ok (checked_short passes out.between) _ loaded q.next in
-      let x = then_ok (checked_short passes (map exit_point all.between)) _ loaded o.next in
-      let k : Cut passes inflow last cut.between = checked_cut-is passes inflow last cut.between amount.curve from_0 cut.first in
-      let w : AllWaits transit capacity inflow amount.curve last waits.between = all_waits-chain passes transit capacity inflow amount.curve last k.first k.rest waits.between k.begins k.follows
-      (ap (λ (l : List Point). all_waits passes capacity l) (sym k.cut_is) ∙ waits.first) in
-      let a : AllExits transit capacity inflow amount.curve passes w.first w.rest all.between = exits-are transit capacity inflow amount.curve passes last w.first w.rest all.between w.chain
-      (ap (λ (l : List Waits). each (exit_of passes capacity transit) l) (sym w.waits_are) ∙ all.first) in
-      let exits : AreExits (map exit_point all.between) =
-      subst (λ (l : List Exit). AreExits (map exit_point l)) (sym a.all_are)
-      (by_points (exit_point a.first) (map exit_point a.others) (ap (λ (y : Waits). y.time) a.are.0 ∙ w.begins)
-      (exit-follows transit capacity inflow amount.curve positive amount.rises waits_0 last w.first w.rest a.first a.others w.chain a.are)) in
-      subst (λ (l : Loaded). AreExits l.exit) (same_Ok _ _ x.next)
-      (short_exits (map exit_point all.between) x.between exits (checked_short-is passes (map exit_point all.between) x.between exits.curve x.first))
+      let x : ExitPoints passes transit capacity inflow last loaded amount.curve amount.rises waits_0 positive from_0 =
+      exit_points passes transit capacity inflow last loaded amount.curve amount.rises waits_0 positive from_0 e in
+      let exits : AreExits (x.first ∷ x.rest) = by_points x.first x.rest x.begins x.follows in
+      short_exits (x.first ∷ x.rest) loaded.exit exits (checked_short-is passes (x.first ∷ x.rest) loaded.exit exits.curve x.short)

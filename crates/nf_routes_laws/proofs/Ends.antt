@@ -1,14 +1,13 @@
 -- The ends of the curves of a loading by route. The exit of a link ends at the link's end.
-use Rattle.std.proofs.Common.{◌≡◌, List, [], ◌∷◌, ◌++◌, ◌⊎◌, inl, inr, ⊎_elim, Bool, true, false, Option, refl, sym, ap, subst, ◌∙◌}
-use Rattle.std.specs.Prelude.{Ok, map, if◌then◌else◌}
+use Rattle.std.proofs.Common.{◌≡◌, List, [], ◌∷◌, ◌++◌, ◌⊎◌, inl, inr, ⊎_elim, Bool, true, false, Option, refl, sym, subst, ◌∙◌}
+use Rattle.std.specs.Prelude.{Ok, if◌then◌else◌}
 use Rattle.nf_rational.specs.Rational.{ℚ}
 use Rattle.nf_rational.specs.Operations.{0ℚ}
 use Rattle.nf_rational.specs.Order.{◌≤ℚ◌, ◌<ℚ◌, lt_ℚ}
 use Rattle.nf_rational_laws.proofs.Order.{≤ℚ_of_lt, ≤ℚ_of_same}
 use Rattle.nf_rational_laws.proofs.Tests.{lt_ℚ_cases}
 use Rattle.nf_frac_def.specs.Passing.{Passing}
-use Rattle.nf_frac_def.specs.Checked.{checked, each, ◌>>=◌}
-use Rattle.nf_frac_def.specs.declared.Op.TheVariants.{Sum}
+use Rattle.nf_frac_def.specs.Checked.{each}
 use Rattle.nf_model.specs.Curve.{Point, value, TimesRise, IsCurve, NeverFalls}
 use Rattle.nf_model.specs.Network.{Piece}
 use Rattle.nf_model_laws.specs.Capacity.{IsPositive}
@@ -16,7 +15,6 @@ use Rattle.nf_model_laws.proofs.Curves.{value-after}
 use Rattle.nf_rational.specs.Signs.{is_zero, is_same}
 use Rattle.nf_curve_def.specs.Lines.{Sides}
 use Rattle.nf_curve_def.specs.Times.{times_of, both_times}
-use Rattle.nf_curve_def.specs.Values.{checked_cut}
 use Rattle.nf_curve_def.specs.Short.{turning, short_points, checked_slopes, checked_short}
 use Rattle.nf_curve_def.specs.Sums.{sides_at}
 use Rattle.nf_curve_laws.proofs.Operations.{then_ok}
@@ -24,12 +22,11 @@ use Rattle.nf_curve_laws.proofs.Following.{end_time, EndsAtTime, follows-end}
 use Rattle.nf_curve_laws.proofs.Pieces.{AreSides, sides_at-is}
 use Rattle.nf_curve_laws.proofs.Short.{times-up_to, checked_short-end}
 use Rattle.nf_curve_laws.proofs.Times.{IsOne}
-use Rattle.nf_curve_laws.proofs.Values.{Cut, checked_cut-is}
 use Rattle.nf_load_def.specs.Cumulative.{end_of, point_after_0, point_if_after_0, with_piece, cumulative_from, checked_cumulative}
-use Rattle.nf_load_def.specs.Loading.{Waits, Exit, Loaded, queue_point, exit_point, outflow_points, exit_of, all_waits, checked_loading}
+use Rattle.nf_load_def.specs.Loading.{Loaded, checked_loading}
+use Rattle.nf_load_laws.proofs.Cumulative.{cumulative_more, cumulative_done}
 use Rattle.nf_load_laws.proofs.Functions.{exit_at}
-use Rattle.nf_load_laws.proofs.Waiting.{AllWaits, all_waits-chain}
-use Rattle.nf_load_laws.proofs.Exiting.{AllExits, exits-are, exit-follows}
+use Rattle.nf_load_laws.proofs.Loading.{ExitPoints, exit_points}
 use Rattle.nf_check_def.specs.Curves.{last_value}
 use Rattle.nf_routes_def.specs.RoutesList.{next_from, next_entry}
 use Rattle.nf_routes_laws.specs.Laws.{NoneBeyond, CanShare}
@@ -107,10 +104,7 @@ module _ (passes : Passing) (last : ℚ) where
   from-upto so_far [] points e t w = at_last so_far points t (same_Ok _ _ e) w
   from-upto so_far (piece ∷ later) points e t w = ⊎_elim
       (λ (v : (lt_ℚ piece.start last ≡ true) × (piece.start <ℚ last)).
-      let e' = sym (ap (λ (b : Bool). elim b [
-        | true ↦ with_piece passes so_far piece (end_of later last) >>= λ sum. cumulative_from passes sum later last >>= λ rest. Ok (point_if_after_0 piece.start so_far ++ rest)
-        | false ↦ Ok (point_if_after_0 last so_far)
-      ]) v.0) ∙ e in
+      let e' = cumulative_more passes so_far piece later last points v.0 e in
       let sum = then_ok (with_piece passes so_far piece (end_of later last)) _ points e' in
       let rest = then_ok (cumulative_from passes sum.between later last) _ points sum.next in
       ⊎_elim
@@ -118,11 +112,7 @@ module _ (passes : Passing) (last : ℚ) where
       (λ (x : IsOne t (times_of rest.between)). from-upto sum.between later rest.between rest.first t x)
       (one-either (point_if_after_0 piece.start so_far) rest.between t (subst (λ (l : List Point). IsOne t (times_of l)) (sym (same_Ok _ _ rest.next)) w)))
       (λ (v : (lt_ℚ piece.start last ≡ false) × (last ≤ℚ piece.start)).
-      let e' = sym (ap (λ (b : Bool). elim b [
-        | true ↦ with_piece passes so_far piece (end_of later last) >>= λ sum. cumulative_from passes sum later last >>= λ rest. Ok (point_if_after_0 piece.start so_far ++ rest)
-        | false ↦ Ok (point_if_after_0 last so_far)
-      ]) v.0) ∙ e in
-      at_last so_far points t (same_Ok _ _ e') w)
+      at_last so_far points t (cumulative_done passes so_far piece later last points v.0 e) w)
       (lt_ℚ_cases piece.start last)
 
   pub cumulative-upto : (pieces : List Piece) (points : List Point) → 0ℚ ≤ℚ last → checked_cumulative passes pieces last ≡ Ok points → UpTo points last
@@ -138,24 +128,9 @@ module _ (passes : Passing) (last : ℚ) where
 -- ---- the exit of a link that is loaded
 pub loading-ends : (passes : Passing) (transit : ℚ) (capacity : Option ℚ) (inflow : List Point) (last : ℚ) (loaded : Loaded) → IsCurve inflow → NeverFalls (value inflow) → 0ℚ ≤ℚ transit → IsPositive capacity → 0ℚ ≤ℚ last
     → checked_loading passes transit capacity inflow last ≡ Ok loaded → EndsAtTime last loaded.exit
-unfolding checked_loading
 loading-ends passes transit capacity inflow last loaded c rises waits_0 positive from_0 e =
-    let cut = then_ok (checked_cut passes inflow last) _ loaded e in
-    let waits = then_ok (all_waits passes capacity cut.between) _ loaded cut.next in
-    let all = then_ok (each (exit_of passes capacity transit) waits.between) _ loaded waits.next in
-    let end = then_ok (checked passes Sum last transit) _ loaded all.next in
-    let out = then_ok (checked_cut passes (outflow_points all.between) end.between) _ loaded end.next in
-    let q = then_ok (checked_short passes (map queue_point waits.between)) _ loaded out.next in
-    let o = then_ok (checked_short passes out.between) _ loaded q.next in
-    let x = then_ok (checked_short passes (map exit_point all.between)) _ loaded o.next in
-    let k : Cut passes inflow last cut.between = checked_cut-is passes inflow last cut.between c from_0 cut.first in
-    let w : AllWaits transit capacity inflow c last waits.between = all_waits-chain passes transit capacity inflow c last k.first k.rest waits.between k.begins k.follows
-    (ap (λ (l : List Point). all_waits passes capacity l) (sym k.cut_is) ∙ waits.first) in
-    let a : AllExits transit capacity inflow c passes w.first w.rest all.between = exits-are transit capacity inflow c passes last w.first w.rest all.between w.chain
-    (ap (λ (l : List Waits). each (exit_of passes capacity transit) l) (sym w.waits_are) ∙ all.first) in
-    let ends : EndsAtTime last (map exit_point all.between) = subst (λ (l : List Exit). EndsAtTime last (map exit_point l)) (sym a.all_are)
-    (follows-end (exit_at transit capacity inflow c) last (exit_point a.first) (map exit_point a.others) (exit-follows transit capacity inflow c positive rises waits_0 last w.first w.rest a.first a.others w.chain a.are)) in
-    subst (λ (l : Loaded). EndsAtTime last l.exit) (same_Ok _ _ x.next) (checked_short-end passes (map exit_point all.between) x.between last ends x.first)
+    let x : ExitPoints passes transit capacity inflow last loaded c rises waits_0 positive from_0 = exit_points passes transit capacity inflow last loaded c rises waits_0 positive from_0 e in
+    checked_short-end passes (x.first ∷ x.rest) loaded.exit last (follows-end (exit_at transit capacity inflow c) last x.first x.rest x.follows) x.short
 
 -- ---- the next entry
 -- no value on the right is greater
