@@ -141,21 +141,27 @@ module _ (number rungs : ℕ) (some : 1 ≤ rungs) (few : rungs ≤ 30) where
   good_file : IsGoodDraft (file_of number rungs)
   good_file = record {
     version = inl refl;
-    source = λ name e. subst (λ x. has_name (ladder_nodes rungs) x ≡ true) (ap (λ o. unwrap_or o name) e) refl;
-    sink = λ name e. subst (λ x. has_name (ladder_nodes rungs) x ≡ true) (ap (λ o. unwrap_or o name) e) refl;
-    names = node_names rungs some few;
-    distinct = distinct_nodes rungs;
-    few_nodes = (let h : length (ladder_nodes rungs) ≡ 2 * rungs + 2 = node_count rungs some in omega arith);
-    links = drawn_named number 0 (ladder_ends rungs) named_ends;
-    ends_there = ap (list_all (has_name (ladder_nodes rungs))) ends_are ∙ ends_listed rungs some;
-    link_names = subst (IsDistinct bytes_eq) (sym (names_are ∙ link_names rungs)) (distinct_links rungs);
-    few_links = (
-        let h : length (ladder_links number rungs) ≡ length (ladder_ends rungs) = length-drawn number 0 (ladder_ends rungs) in
-        let k : length (ladder_ends rungs) ≡ 3 * rungs + 2 = link_count rungs some in omega arith);
-    pieces = fraction_pieces number (3 * rungs + 2);
-    few_pieces = omega arith;
-    not_negative = not_negative number (3 * rungs + 2);
-    rise = rising number (3 * rungs + 2);
+    good_nodes = record {
+      source = λ name e. subst (λ x. has_name (ladder_nodes rungs) x ≡ true) (ap (λ o. unwrap_or o name) e) refl;
+      sink = λ name e. subst (λ x. has_name (ladder_nodes rungs) x ≡ true) (ap (λ o. unwrap_or o name) e) refl;
+      names = node_names rungs some few;
+      distinct = distinct_nodes rungs;
+      few_nodes = (let h : length (ladder_nodes rungs) ≡ 2 * rungs + 2 = node_count rungs some in omega arith);
+    };
+    good_links = record {
+      links = drawn_named number 0 (ladder_ends rungs) named_ends;
+      ends_there = ap (list_all (has_name (ladder_nodes rungs))) ends_are ∙ ends_listed rungs some;
+      link_names = subst (IsDistinct bytes_eq) (sym (names_are ∙ link_names rungs)) (distinct_links rungs);
+      few_links = (
+          let h : length (ladder_links number rungs) ≡ length (ladder_ends rungs) = length-drawn number 0 (ladder_ends rungs) in
+          let k : length (ladder_ends rungs) ≡ 3 * rungs + 2 = link_count rungs some in omega arith);
+    };
+    good_pieces = record {
+      pieces = fraction_pieces number (3 * rungs + 2);
+      few_pieces = omega arith;
+      not_negative = not_negative number (3 * rungs + 2);
+      rise = rising number (3 * rungs + 2);
+    };
   }
 
   place_reached : (v : ℕ) → v < length (ladder_nodes rungs) → IsReached (file_of number rungs) v
@@ -185,19 +191,9 @@ module _ (number rungs : ℕ) (some : 1 ≤ rungs) (few : rungs ≤ 30) where
 
   as_file : network_of (file_of number rungs) (ladder_links number rungs) [] ≡ ladder number rungs
   unfolding ladder
-  as_file = λ i. record {
-    version = 1;
-    net = record {
-      nodes = count_met i;
-      source = 0;
-      sink = 1;
-      links = map (numbered (nodes_met i)) (ladder_links number rungs);
-      pieces = drawn_pieces number (3 * rungs + 2);
-    };
+  as_file = λ i. record (ladder number rungs) {
+    net = record ((ladder number rungs).net) { nodes = count_met i; links = map (numbered (nodes_met i)) (ladder_links number rungs) };
     node_names = nodes_met i;
-    link_names = names_of (ladder_links number rungs);
-    idle_nodes = [];
-    idle_links = [];
   }
 
   pub ladder_named : IsNamed (ladder number rungs)

@@ -114,21 +114,21 @@ module _ (number rungs : ℕ) (some : 1 ≤ rungs) (few : rungs ≤ 30) where
   on_rails : (l : Ends) (j : ℕ) → 1 ≤ j → j < rungs → Entry (rails_on j) l → Entry (ladder_ends rungs) l
   on_rails l j low high is = entry_left (links_in ++ links_along rungs ++ links_down rungs) (links_out rungs) l (entry_left (links_in ++ links_along rungs) (links_down rungs) l (entry_right links_in (links_along rungs) l (entry_flat rails_on l 1 (rungs - 1) j low (omega arith) is)))
 
+  -- Along a rail each node is reached from the one before.
+  rail_reached : (rail : ℕ → Name) → Reaches (file_of number rungs) 1 (rail 1)
+      → ((j : ℕ) → 1 ≤ j → j < rungs → Entry (ladder_ends rungs) (link_from (rail j) (rail j) (rail (j + 1)))) → (j : ℕ) → 1 ≤ j → j ≤ rungs → Reaches (file_of number rungs) j (rail j)
+  rail_reached rail first on zero low high = absurd (omega arith)
+  rail_reached rail first on (suc zero) low high = first
+  rail_reached rail first on (suc (suc j)) low high =
+      let next : suc j + 1 ≡ suc (suc j) = omega arith in
+      subst (λ (k : ℕ). Reaches (file_of number rungs) (suc (suc j)) (rail k)) next
+      (by_link (link_from (rail (suc j)) (rail (suc j)) (rail (suc j + 1))) (suc j) (on (suc j) (omega arith) (omega arith)) (rail_reached rail first on (suc j) (omega arith) (omega arith)))
+
   upper_reached : (j : ℕ) → 1 ≤ j → j ≤ rungs → Reaches (file_of number rungs) j (upper j)
-  upper_reached zero low high = absurd (omega arith)
-  upper_reached (suc zero) low high = by_link (link_from (codes "su") (codes "s") (upper 1)) 0 (0, refl) source_reached
-  upper_reached (suc (suc j)) low high =
-      let on : suc j + 1 ≡ suc (suc j) = omega arith in
-      subst (λ (k : ℕ). Reaches (file_of number rungs) (suc (suc j)) (upper k)) on
-      (by_link (link_from (upper (suc j)) (upper (suc j)) (upper (suc j + 1))) (suc j) (on_rails _ (suc j) (omega arith) (omega arith) (0, refl)) (upper_reached (suc j) (omega arith) (omega arith)))
+  upper_reached = rail_reached upper (by_link (link_from (codes "su") (codes "s") (upper 1)) 0 (0, refl) source_reached) (λ j low high. on_rails _ j low high (0, refl))
 
   lower_reached : (j : ℕ) → 1 ≤ j → j ≤ rungs → Reaches (file_of number rungs) j (lower j)
-  lower_reached zero low high = absurd (omega arith)
-  lower_reached (suc zero) low high = by_link (link_from (codes "sl") (codes "s") (lower 1)) 0 (1, refl) source_reached
-  lower_reached (suc (suc j)) low high =
-      let on : suc j + 1 ≡ suc (suc j) = omega arith in
-      subst (λ (k : ℕ). Reaches (file_of number rungs) (suc (suc j)) (lower k)) on
-      (by_link (link_from (lower (suc j)) (lower (suc j)) (lower (suc j + 1))) (suc j) (on_rails _ (suc j) (omega arith) (omega arith) (1, refl)) (lower_reached (suc j) (omega arith) (omega arith)))
+  lower_reached = rail_reached lower (by_link (link_from (codes "sl") (codes "s") (lower 1)) 0 (1, refl) source_reached) (λ j low high. on_rails _ j low high (1, refl))
 
   sink_reached : Reaches (file_of number rungs) (suc rungs) (codes "t")
   sink_reached = by_link (link_from (codes "ut") (upper rungs) (codes "t")) rungs (entry_right (links_in ++ links_along rungs ++ links_down rungs) (links_out rungs) _ (0, refl)) (upper_reached rungs some (omega arith))

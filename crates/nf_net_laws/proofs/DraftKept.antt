@@ -184,21 +184,34 @@ entry_read_as version (key ∷ words) entry e = elim (if_either (bytes_eq key (c
 ]
 
 -- ---- what holds of all lines read so far
+-- The names of the nodes, among them those of the source and the sink.
+pub record AreGoodNodes (source_name sink_name : Option Name) (nodes : List Name) : Type 0 where
+  pub source : (name : Name) → source_name ≡ Some name → has_name nodes name ≡ true
+  pub sink : (name : Name) → sink_name ≡ Some name → has_name nodes name ≡ true
+  pub names : list_all is_name nodes ≡ true
+  pub distinct : IsDistinct bytes_eq nodes
+  pub few_nodes : length nodes ≤ 64
+
+pub record AreGoodLinks (version : ℕ) (nodes : List Name) (all : List NamedLink) : Type 0 where
+  pub links : AllByRecursion (IsNamedLink version) all
+  pub ends_there : list_all (has_name nodes) (ends all) ≡ true
+  pub link_names : IsDistinct bytes_eq (names_of all)
+  pub few_links : length all ≤ 200
+
+pub record AreGoodPieces (all : List Piece) : Type 0 where
+  pub pieces : AllByRecursion IsFractionPiece all
+  pub few_pieces : length all ≤ 200
+  pub not_negative : AreNotNegative all
+  pub rise : Rises None all
+
 pub record IsGoodDraft (draft : Draft) : Type 0 where
   pub version : (draft.version ≡ 1) ⊎ (draft.version ≡ 2)
-  pub source : (name : Name) → draft.source ≡ Some name → has_name draft.nodes name ≡ true
-  pub sink : (name : Name) → draft.sink ≡ Some name → has_name draft.nodes name ≡ true
-  pub names : list_all is_name draft.nodes ≡ true
-  pub distinct : IsDistinct bytes_eq draft.nodes
-  pub few_nodes : length draft.nodes ≤ 64
-  pub links : AllByRecursion (IsNamedLink draft.version) draft.links
-  pub ends_there : list_all (has_name draft.nodes) (ends draft.links) ≡ true
-  pub link_names : IsDistinct bytes_eq (names_of draft.links)
-  pub few_links : length draft.links ≤ 200
-  pub pieces : AllByRecursion IsFractionPiece draft.pieces
-  pub few_pieces : length draft.pieces ≤ 200
-  pub not_negative : AreNotNegative draft.pieces
-  pub rise : Rises None draft.pieces
+  pub good_nodes : AreGoodNodes draft.source draft.sink draft.nodes
+  pub open good_nodes use *
+  pub good_links : AreGoodLinks draft.version draft.nodes draft.links
+  pub open good_links use *
+  pub good_pieces : AreGoodPieces draft.pieces
+  pub open good_pieces use *
 
 -- ---- rules that aren't broken
 first_says_no : (test : Bool) (rule : NetRule) (rest : List (Bool × NetRule)) → first_rule ((test, rule) ∷ rest) ≡ None → (test ≡ false) × (first_rule rest ≡ None)
@@ -247,19 +260,15 @@ module _ (draft : Draft) (h : IsGoodDraft draft) where
       → IsGoodDraft (record draft { source = source; sink = sink; nodes = with_names draft.nodes (name ∷ []) })
   end_named name source sink good few to from = record {
     version = h.version;
-    source = to;
-    sink = from;
-    names = all_with_names is_name draft.nodes (name ∷ []) h.names (λ i. good i && true);
-    distinct = distinct_with_names draft.nodes (name ∷ []) h.distinct;
-    few_nodes = few_names draft (name ∷ []) few;
-    links = h.links;
-    ends_there = ends_kept (name ∷ []);
-    link_names = h.link_names;
-    few_links = h.few_links;
-    pieces = h.pieces;
-    few_pieces = h.few_pieces;
-    not_negative = h.not_negative;
-    rise = h.rise;
+    good_nodes = record {
+      source = to;
+      sink = from;
+      names = all_with_names is_name draft.nodes (name ∷ []) h.names (λ i. good i && true);
+      distinct = distinct_with_names draft.nodes (name ∷ []) h.distinct;
+      few_nodes = few_names draft (name ∷ []) few;
+    };
+    good_links = record { links = h.links; ends_there = ends_kept (name ∷ []); link_names = h.link_names; few_links = h.few_links };
+    good_pieces = h.good_pieces;
   }
 
   named : (name other : Name) → Some name ≡ Some other → has_name (with_names draft.nodes (name ∷ [])) other ≡ true
@@ -287,29 +296,30 @@ module _ (draft : Draft) (h : IsGoodDraft draft) where
       let f = first_says_no (is_no_capacity l.capacity) N14 [] d.1 in
       record {
         version = h.version;
-        source = λ other is. still_there draft.nodes (l.tail ∷ l.head ∷ []) other (h.source other is);
-        sink = λ other is. still_there draft.nodes (l.tail ∷ l.head ∷ []) other (h.sink other is);
-        names = all_with_names is_name draft.nodes (l.tail ∷ l.head ∷ []) h.names (λ i. good.tail i && (good.head i && true));
-        distinct = distinct_with_names draft.nodes (l.tail ∷ l.head ∷ []) h.distinct;
-        few_nodes = few_names draft (l.tail ∷ l.head ∷ []) b.0;
-        links = all_push (IsNamedLink draft.version) draft.links l h.links (record {
-          name = good.name;
-          tail = good.tail;
-          head = good.head;
-          fraction = good.fraction;
-          transit = from_not_negative l.transit d.0;
-          capacity = from_capacity draft.version l.capacity good.capacity f.0;
-        });
-        ends_there = ap (list_all (has_name (with_names draft.nodes (l.tail ∷ l.head ∷ [])))) (ends-append draft.links (l ∷ []))
-            ∙ all_pushed (has_name (with_names draft.nodes (l.tail ∷ l.head ∷ []))) (ends draft.links) (l.tail ∷ l.head ∷ []) (ends_kept (l.tail ∷ l.head ∷ []))
-            (λ i. now_there draft.nodes (l.tail ∷ l.head ∷ []) l.tail (or_left (bytes_eq l.tail l.tail) (bytes_eq l.tail l.head || false) (bytes_eq-self l.tail)) i
-            && (now_there draft.nodes (l.tail ∷ l.head ∷ []) l.head (or_right (bytes_eq l.head l.tail) (bytes_eq l.head l.head || false) (or_left (bytes_eq l.head l.head) false (bytes_eq-self l.head))) i && true));
-        link_names = subst (IsDistinct bytes_eq) (sym (map-append (λ (l : NamedLink). l.name) draft.links (l ∷ []))) (distinct_push (names_of draft.links) l.name h.link_names a.0);
-        few_links = one_more_below draft.links l c.0;
-        pieces = h.pieces;
-        few_pieces = h.few_pieces;
-        not_negative = h.not_negative;
-        rise = h.rise;
+        good_nodes = record {
+          source = λ other is. still_there draft.nodes (l.tail ∷ l.head ∷ []) other (h.source other is);
+          sink = λ other is. still_there draft.nodes (l.tail ∷ l.head ∷ []) other (h.sink other is);
+          names = all_with_names is_name draft.nodes (l.tail ∷ l.head ∷ []) h.names (λ i. good.tail i && (good.head i && true));
+          distinct = distinct_with_names draft.nodes (l.tail ∷ l.head ∷ []) h.distinct;
+          few_nodes = few_names draft (l.tail ∷ l.head ∷ []) b.0;
+        };
+        good_links = record {
+          links = all_push (IsNamedLink draft.version) draft.links l h.links (record {
+            name = good.name;
+            tail = good.tail;
+            head = good.head;
+            fraction = good.fraction;
+            transit = from_not_negative l.transit d.0;
+            capacity = from_capacity draft.version l.capacity good.capacity f.0;
+          });
+          ends_there = ap (list_all (has_name (with_names draft.nodes (l.tail ∷ l.head ∷ [])))) (ends-append draft.links (l ∷ []))
+              ∙ all_pushed (has_name (with_names draft.nodes (l.tail ∷ l.head ∷ []))) (ends draft.links) (l.tail ∷ l.head ∷ []) (ends_kept (l.tail ∷ l.head ∷ []))
+              (λ i. now_there draft.nodes (l.tail ∷ l.head ∷ []) l.tail (or_left (bytes_eq l.tail l.tail) (bytes_eq l.tail l.head || false) (bytes_eq-self l.tail)) i
+              && (now_there draft.nodes (l.tail ∷ l.head ∷ []) l.head (or_right (bytes_eq l.head l.tail) (bytes_eq l.head l.head || false) (or_left (bytes_eq l.head l.head) false (bytes_eq-self l.head))) i && true));
+          link_names = subst (IsDistinct bytes_eq) (sym (map-append (λ (l : NamedLink). l.name) draft.links (l ∷ []))) (distinct_push (names_of draft.links) l.name h.link_names a.0);
+          few_links = one_more_below draft.links l c.0;
+        };
+        good_pieces = h.good_pieces;
       }
 
   piece_kept : (piece : Piece) → IsFractionPiece piece → broken_rule draft (InflowLine piece) ≡ None → IsGoodDraft (after draft (InflowLine piece))
@@ -320,38 +330,18 @@ module _ (draft : Draft) (h : IsGoodDraft draft) where
       let signs = or_parts (is_negative piece.start) (is_negative piece.rate) b.0 in
       record {
         version = h.version;
-        source = h.source;
-        sink = h.sink;
-        names = h.names;
-        distinct = h.distinct;
-        few_nodes = h.few_nodes;
-        links = h.links;
-        ends_there = h.ends_there;
-        link_names = h.link_names;
-        few_links = h.few_links;
-        pieces = all_push IsFractionPiece draft.pieces piece h.pieces good;
-        few_pieces = one_more_below draft.pieces piece a.0;
-        not_negative = all_push (λ (piece : Piece). (0ℚ ≤ℚ piece.start) × (0ℚ ≤ℚ piece.rate)) draft.pieces piece h.not_negative (from_not_negative piece.start signs.0, from_not_negative piece.rate signs.1);
-        rise = rises_push None draft.pieces piece h.rise c.0;
+        good_nodes = h.good_nodes;
+        good_links = h.good_links;
+        good_pieces = record {
+          pieces = all_push IsFractionPiece draft.pieces piece h.pieces good;
+          few_pieces = one_more_below draft.pieces piece a.0;
+          not_negative = all_push (λ (piece : Piece). (0ℚ ≤ℚ piece.start) × (0ℚ ≤ℚ piece.rate)) draft.pieces piece h.not_negative (from_not_negative piece.start signs.0, from_not_negative piece.rate signs.1);
+          rise = rises_push None draft.pieces piece h.rise c.0;
+        };
       }
 
   end_kept : IsGoodDraft (after draft End)
-  end_kept = record {
-    version = h.version;
-    source = h.source;
-    sink = h.sink;
-    names = h.names;
-    distinct = h.distinct;
-    few_nodes = h.few_nodes;
-    links = h.links;
-    ends_there = h.ends_there;
-    link_names = h.link_names;
-    few_links = h.few_links;
-    pieces = h.pieces;
-    few_pieces = h.few_pieces;
-    not_negative = h.not_negative;
-    rise = h.rise;
-  }
+  end_kept = record { version = h.version; good_nodes = h.good_nodes; good_links = h.good_links; good_pieces = h.good_pieces }
 
   entry_kept : (entry : Entry) → IsReadEntry draft.version entry → broken_rule draft entry ≡ None → IsGoodDraft (after draft entry)
   entry_kept (Source name) good e = source_kept name good e
@@ -391,19 +381,9 @@ empty_good : (version : ℕ) → (version ≡ 1) ⊎ (version ≡ 2) → IsGoodD
 unfolding IsDistinct
 empty_good version v = record {
   version = v;
-  source = λ name e. absurd (cc);
-  sink = λ name e. absurd (cc);
-  names = refl;
-  distinct = tt;
-  few_nodes = omega arith;
-  links = tt;
-  ends_there = refl;
-  link_names = tt;
-  few_links = omega arith;
-  pieces = tt;
-  few_pieces = omega arith;
-  not_negative = tt;
-  rise = tt;
+  good_nodes = record { source = λ name e. absurd (cc); sink = λ name e. absurd (cc); names = refl; distinct = tt; few_nodes = omega arith };
+  good_links = record { links = tt; ends_there = refl; link_names = tt; few_links = omega arith };
+  good_pieces = record { pieces = tt; few_pieces = omega arith; not_negative = tt; rise = tt };
 }
 
 version_is : (words : List (List ℕ)) (version : ℕ) → version_of words ≡ Some version → (version ≡ 1) ⊎ (version ≡ 2)

@@ -1,5 +1,5 @@
 -- For each rule a file that breaks it first, but for those that other examples have; and files that break none.
-use Rattle.std.proofs.Common.{map, ◌≡◌, ℕ, zero, suc, ◌<◌, Bool, true, false, List, [], ◌∷◌, ◌++◌, replicate, refl, sym, ◌∙◌, ap, subst, inl, inr, arith, flat_map, codes, pos, Ok, Err, Option, Some, None, unwrap_or, bytes_eq, lit<}
+use Rattle.std.proofs.Common.{map, ◌≡◌, ℕ, zero, suc, ◌<◌, Bool, true, false, List, [], ◌∷◌, ◌++◌, replicate, refl, sym, ◌∙◌, ap, subst, ◌⊎◌, inl, inr, arith, flat_map, codes, pos, Ok, Err, Option, Some, None, unwrap_or, bytes_eq, lit<}
 use Rattle.std.specs.List.{range_with_len, AllByRecursion}
 use Rattle.nf_rational.specs.Rational.{ℚ, ratio}
 use Rattle.nf_rational.specs.Gcd.{gcd}
@@ -13,6 +13,7 @@ use Rattle.nf_model.specs.Walk.{Hop, IsHop, IsWalk, transit_of, transit_sum, IsL
 use Rattle.nf_frac_words.specs.Digits.{digits_of}
 use Rattle.nf_frac_words.specs.Numbers.{number_of, decimal_of, parts_of, decimal_parts_of}
 use Rattle.nf_frac_words.specs.Printed.{printed, printed_parts}
+use Rattle.nf_net_def.specs.declared.NetRule.{NetRule}
 use Rattle.nf_net_def.specs.declared.NetRule.TheVariants.{N1, N2, N3, N4, N5, N6, N7, N8, N9, N10, N11, N12, N13, N14, N15, N16, N18, N19, N20, N21, N22}
 use Rattle.nf_net_def.specs.Named.{Named}
 use Rattle.nf_net_def.specs.NetFile.{Reads}
@@ -38,53 +39,32 @@ pub too_long : Reads (text (codes "nfot 1" ∷ (codes "source s # " ++ replicate
 unfolding whole ratio gcd le_ℚ lt_ℚ digits_of number_of parts_of decimal_of decimal_parts_of printed printed_parts
 too_long = refl
 
-pub no_version : Reads (text (codes "# a network" ∷ codes "nfot 3" ∷ codes "sources s" ∷ [])) (Err (record { rule = N3; line = 2 }))
-unfolding whole ratio gcd le_ℚ lt_ℚ digits_of number_of parts_of decimal_of decimal_parts_of printed printed_parts
-no_version = refl
+-- ---- files that break a rule first, with the line
+abbrev Broken : Type 0
+Broken = List (List ℕ) × NetRule × ℕ
 
-pub nothing : Reads (text (codes "# nothing" ∷ [])) (Err (record { rule = N3; line = 1 }))
-unfolding whole ratio gcd le_ℚ lt_ℚ digits_of number_of parts_of decimal_of decimal_parts_of printed printed_parts
-nothing = refl
+abbrev AreRead : List Broken → Type 0
+AreRead files = AllByRecursion (λ (file : Broken). Reads (text file.0) (Err (record { rule = file.1; line = file.2 }))) files
 
-pub after_end : Reads (text (codes "nfot 1" ∷ codes "source s" ∷ codes "sink t" ∷ codes "link a s t 1 1" ∷ codes "end" ∷ codes "# fine" ∷ codes "foo" ∷ [])) (Err (record { rule = N4; line = 7 }))
-unfolding whole ratio gcd le_ℚ lt_ℚ digits_of number_of parts_of decimal_of decimal_parts_of printed printed_parts
-after_end = refl
+abbrev broken : List Broken
+broken =
+    (codes "# a network" ∷ codes "nfot 3" ∷ codes "sources s" ∷ [], N3, 2)
+    ∷ (codes "# nothing" ∷ [], N3, 1)
+    ∷ (codes "nfot 1" ∷ codes "source s" ∷ codes "sink t" ∷ codes "link a s t 1 1" ∷ codes "end" ∷ codes "# fine" ∷ codes "foo" ∷ [], N4, 7)
+    ∷ (codes "nfot 1" ∷ codes "source s" ∷ codes "sink t" ∷ codes "links a s t 1 1" ∷ codes "end" ∷ [], N5, 4)
+    ∷ (codes "nfot 1" ∷ codes "source s" ∷ codes "sink t" ∷ codes "link a s t 1" ∷ codes "end" ∷ [], N6, 4)
+    ∷ (codes "nfot 1" ∷ codes "source s" ∷ codes "sink t" ∷ codes "link a s t! x 1" ∷ codes "end" ∷ [], N7, 4)
+    ∷ (codes "nfot 1" ∷ codes "source s" ∷ codes "sink t" ∷ codes "link a s t 1 inf" ∷ codes "end" ∷ [], N8, 4)
+    ∷ (codes "nfot 1" ∷ codes "source s" ∷ codes "sink t" ∷ codes "source s" ∷ [], N9, 4)
+    ∷ (codes "nfot 2" ∷ codes "source s" ∷ codes "sink t" ∷ codes "link a s t -0.5 0" ∷ codes "end" ∷ [], N13, 4)
+    ∷ (codes "nfot 1" ∷ codes "source s" ∷ codes "sink t" ∷ codes "link a s t 0 0/3" ∷ codes "end" ∷ [], N14, 4)
+    ∷ (codes "nfot 1" ∷ codes "source s" ∷ codes "sink t" ∷ codes "link a s t 1 1" ∷ codes "inflow 0 -1" ∷ codes "end" ∷ [], N15, 5)
+    ∷ (codes "nfot 1" ∷ codes "source s" ∷ codes "sink t" ∷ codes "inflow 1/2 1" ∷ codes "inflow 2/4 2" ∷ codes "end" ∷ [], N16, 5)
+    ∷ []
 
-pub no_keyword : Reads (text (codes "nfot 1" ∷ codes "source s" ∷ codes "sink t" ∷ codes "links a s t 1 1" ∷ codes "end" ∷ [])) (Err (record { rule = N5; line = 4 }))
+pub broken_read : AreRead broken
 unfolding whole ratio gcd le_ℚ lt_ℚ digits_of number_of parts_of decimal_of decimal_parts_of printed printed_parts
-no_keyword = refl
-
-pub word_missing : Reads (text (codes "nfot 1" ∷ codes "source s" ∷ codes "sink t" ∷ codes "link a s t 1" ∷ codes "end" ∷ [])) (Err (record { rule = N6; line = 4 }))
-unfolding whole ratio gcd le_ℚ lt_ℚ digits_of number_of parts_of decimal_of decimal_parts_of printed printed_parts
-word_missing = refl
-
-pub bad_name : Reads (text (codes "nfot 1" ∷ codes "source s" ∷ codes "sink t" ∷ codes "link a s t! x 1" ∷ codes "end" ∷ [])) (Err (record { rule = N7; line = 4 }))
-unfolding whole ratio gcd le_ℚ lt_ℚ digits_of number_of parts_of decimal_of decimal_parts_of printed printed_parts
-bad_name = refl
-
-pub no_infinity : Reads (text (codes "nfot 1" ∷ codes "source s" ∷ codes "sink t" ∷ codes "link a s t 1 inf" ∷ codes "end" ∷ [])) (Err (record { rule = N8; line = 4 }))
-unfolding whole ratio gcd le_ℚ lt_ℚ digits_of number_of parts_of decimal_of decimal_parts_of printed printed_parts
-no_infinity = refl
-
-pub two_sources : Reads (text (codes "nfot 1" ∷ codes "source s" ∷ codes "sink t" ∷ codes "source s" ∷ [])) (Err (record { rule = N9; line = 4 }))
-unfolding whole ratio gcd le_ℚ lt_ℚ digits_of number_of parts_of decimal_of decimal_parts_of printed printed_parts
-two_sources = refl
-
-pub negative_transit : Reads (text (codes "nfot 2" ∷ codes "source s" ∷ codes "sink t" ∷ codes "link a s t -0.5 0" ∷ codes "end" ∷ [])) (Err (record { rule = N13; line = 4 }))
-unfolding whole ratio gcd le_ℚ lt_ℚ digits_of number_of parts_of decimal_of decimal_parts_of printed printed_parts
-negative_transit = refl
-
-pub no_capacity : Reads (text (codes "nfot 1" ∷ codes "source s" ∷ codes "sink t" ∷ codes "link a s t 0 0/3" ∷ codes "end" ∷ [])) (Err (record { rule = N14; line = 4 }))
-unfolding whole ratio gcd le_ℚ lt_ℚ digits_of number_of parts_of decimal_of decimal_parts_of printed printed_parts
-no_capacity = refl
-
-pub negative_rate : Reads (text (codes "nfot 1" ∷ codes "source s" ∷ codes "sink t" ∷ codes "link a s t 1 1" ∷ codes "inflow 0 -1" ∷ codes "end" ∷ [])) (Err (record { rule = N15; line = 5 }))
-unfolding whole ratio gcd le_ℚ lt_ℚ digits_of number_of parts_of decimal_of decimal_parts_of printed printed_parts
-negative_rate = refl
-
-pub start_again : Reads (text (codes "nfot 1" ∷ codes "source s" ∷ codes "sink t" ∷ codes "inflow 1/2 1" ∷ codes "inflow 2/4 2" ∷ codes "end" ∷ [])) (Err (record { rule = N16; line = 5 }))
-unfolding whole ratio gcd le_ℚ lt_ℚ digits_of number_of parts_of decimal_of decimal_parts_of printed printed_parts
-start_again = refl
+broken_read = (refl, (refl, (refl, (refl, (refl, (refl, (refl, (refl, (refl, (refl, (refl, (refl, tt))))))))))))
 
 -- ---- N10 to N12: so many lines, of which each has a number in it
 abbrev so_many : ℕ → (List ℕ → List ℕ) → List (List ℕ)
@@ -93,18 +73,26 @@ so_many count line_of = map (λ k. line_of (digits_of k)) (range_with_len 0 coun
 abbrev first_lines : List (List ℕ)
 first_lines = codes "nfot 1" ∷ codes "source s" ∷ codes "sink t" ∷ []
 
--- two nodes and 62 others; the 63rd link names one more
-pub nodes_too_many : Reads (text (first_lines ++ so_many 63 (λ k. codes "link l" ++ k ++ codes " s v" ++ k ++ codes " 1 1"))) (Err (record { rule = N10; line = 66 }))
-unfolding whole ratio gcd le_ℚ lt_ℚ digits_of number_of parts_of decimal_of decimal_parts_of printed printed_parts
-nodes_too_many = refl
+-- In the first file there are two nodes and 62 others; the 63rd link names one more.
+abbrev crowded : List Broken
+crowded =
+    (first_lines ++ so_many 63 (λ k. codes "link l" ++ k ++ codes " s v" ++ k ++ codes " 1 1"), N10, 66)
+    ∷ (first_lines ++ so_many 201 (λ k. codes "link l" ++ k ++ codes " s t 1 1"), N11, 204)
+    ∷ (first_lines ++ so_many 201 (λ k. codes "inflow " ++ k ++ codes " 1"), N12, 204)
+    ∷ []
 
-pub links_too_many : Reads (text (first_lines ++ so_many 201 (λ k. codes "link l" ++ k ++ codes " s t 1 1"))) (Err (record { rule = N11; line = 204 }))
+pub crowded_read : AreRead crowded
 unfolding whole ratio gcd le_ℚ lt_ℚ digits_of number_of parts_of decimal_of decimal_parts_of printed printed_parts
-links_too_many = refl
+crowded_read = (refl, (refl, (refl, tt)))
 
-pub pieces_too_many : Reads (text (first_lines ++ so_many 201 (λ k. codes "inflow " ++ k ++ codes " 1"))) (Err (record { rule = N12; line = 204 }))
-unfolding whole ratio gcd le_ℚ lt_ℚ digits_of number_of parts_of decimal_of decimal_parts_of printed printed_parts
-pieces_too_many = refl
+-- ---- the rules of the whole file
+-- the first three rules of a list are met, and a rule after them is the first that is broken
+fourth : {A B C D X Y Z : Type 0} → (A → ⊥) → (B → ⊥) → (C → ⊥) → D → X ⊎ ((A → ⊥) × (Y ⊎ ((B → ⊥) × (Z ⊎ ((C → ⊥) × D)))))
+fourth a b c d = inr (a, inr (b, inr (c, d)))
+
+-- all six rules are met
+all_met : {A B C D E F : Type 0} → (A → ⊥) → (B → ⊥) → (C → ⊥) → (D → ⊥) → (E → ⊥) → (F → ⊥) → (A → ⊥) × ((B → ⊥) × ((C → ⊥) × ((D → ⊥) × ((E → ⊥) × ((F → ⊥) × Unit {0})))))
+all_met a b c d e f = (a, (b, (c, (d, (e, (f, tt))))))
 
 -- ---- N18 and N19
 pub no_sink : Reads (text (codes "nfot 1" ∷ codes "source s" ∷ codes "end" ∷ [])) (Err (record { rule = N18; line = 0 }))
@@ -143,24 +131,12 @@ below_two zero = true
 below_two (suc zero) = true
 below_two (suc (suc n)) = false
 
+not_to_two : (walk : List ℕ) → IsWalk (hop 0 1 (n 1) ∷ hop 2 1 (n 1) ∷ []) walk 0 2 → ⊥
+not_to_two walk h = let k : below_two 2 ≡ true = stays (hop 0 1 (n 1) ∷ hop 2 1 (n 1) ∷ []) below_two ((λ e. refl), ((λ e. refl), tt)) walk 0 2 refl h in absurd (cc)
+
 pub node_unreached : Reads (text (codes "nfot 1" ∷ codes "source s" ∷ codes "sink t" ∷ codes "link a s t 1 1" ∷ codes "link x w t 1 1" ∷ codes "end" ∷ [])) (Err (record { rule = N20; line = 0 }))
 unfolding whole ratio gcd le_ℚ lt_ℚ digits_of number_of parts_of decimal_of decimal_parts_of printed printed_parts
-node_unreached = (
-  inr (
-    (λ e. absurd (cc)),
-    inr (
-      (λ e. absurd (cc)),
-      inr (
-        s_and_t,
-        inl (
-          (2, lit< tt, λ r. let k : below_two 2 ≡ true = stays (hop 0 1 (n 1) ∷ hop 2 1 (n 1) ∷ []) below_two ((λ e. refl), ((λ e. refl), tt)) r.0 0 2 refl r.1 in absurd (cc)),
-          refl,
-        ),
-      ),
-    ),
-  ),
-  refl,
-)
+node_unreached = (fourth (λ e. absurd (cc)) (λ e. absurd (cc)) s_and_t (inl ((2, lit< tt, λ r. not_to_two r.0 r.1), refl)), refl)
 
 -- in version 2 it is the sink that counts: nodes are s, t, u
 abbrev not_one : ℕ → Bool
@@ -168,24 +144,12 @@ not_one zero = true
 not_one (suc zero) = false
 not_one (suc (suc n)) = true
 
+not_to_one : (walk : List ℕ) → IsWalk (hop 0 2 (n 1) ∷ []) walk 0 1 → ⊥
+not_to_one walk h = let k : not_one 1 ≡ true = stays (hop 0 2 (n 1) ∷ []) not_one ((λ e. refl), tt) walk 0 1 refl h in absurd (cc)
+
 pub sink_unreached : Reads (text (codes "nfot 2" ∷ codes "source s" ∷ codes "sink t" ∷ codes "link a s u 1 1" ∷ codes "end" ∷ [])) (Err (record { rule = N20; line = 0 }))
 unfolding whole ratio gcd le_ℚ lt_ℚ digits_of number_of parts_of decimal_of decimal_parts_of printed printed_parts
-sink_unreached = (
-  inr (
-    (λ e. absurd (cc)),
-    inr (
-      (λ e. absurd (cc)),
-      inr (
-        s_and_t,
-        inl (
-          (λ r. let k : not_one 1 ≡ true = stays (hop 0 2 (n 1) ∷ []) not_one ((λ e. refl), tt) r.0 0 1 refl r.1 in absurd (cc)),
-          refl,
-        ),
-      ),
-    ),
-  ),
-  refl,
-)
+sink_unreached = (fourth (λ e. absurd (cc)) (λ e. absurd (cc)) s_and_t (inl ((λ r. not_to_one r.0 r.1), refl)), refl)
 
 -- ---- N21
 abbrev round_trip : List Hop
@@ -200,22 +164,10 @@ three_reached (suc (suc (suc v))) h = absurd (omega arith)
 pub zero_cycle : Reads (text (codes "nfot 1" ∷ codes "source s" ∷ codes "sink t" ∷ codes "link a s t 1 1" ∷ codes "link c t u 0 1" ∷ codes "link d u t 0 1" ∷ codes "end" ∷ [])) (Err (record { rule = N21; line = 0 }))
 unfolding whole ratio gcd le_ℚ lt_ℚ digits_of number_of parts_of decimal_of decimal_parts_of printed printed_parts
 zero_cycle = (
-  inr (
-    (λ e. absurd (cc)),
-    inr (
-      (λ e. absurd (cc)),
-      inr (
-        s_and_t,
-        inr (
-          (λ r. r.2 (three_reached r.0 r.1)),
-          inl (
-            record { first = 1; walk = 2 ∷ []; node = 1; closed = (hop 1 2 (n 0), refl, refl, (hop 2 1 (n 0), refl, refl, refl)); zero = (refl, (refl, tt)) },
-            refl,
-          ),
-        ),
-      ),
-    ),
-  ),
+  fourth (λ e. absurd (cc)) (λ e. absurd (cc)) s_and_t (inr (
+    (λ r. r.2 (three_reached r.0 r.1)),
+    inl (record { first = 1; walk = 2 ∷ []; node = 1; closed = (hop 1 2 (n 0), refl, refl, (hop 2 1 (n 0), refl, refl, refl)); zero = (refl, (refl, tt)) }, refl),
+  )),
   refl,
 )
 
@@ -277,25 +229,13 @@ pub sum_passes : Reads (text (codes "nfot 1" ∷ codes "source s" ∷ codes "sin
     (Err (record { rule = N22; line = 0 }))
 unfolding whole ratio gcd le_ℚ lt_ℚ digits_of number_of parts_of decimal_of decimal_parts_of printed printed_parts beyond
 sum_passes = (
-  inr (
-    (λ e. absurd (cc)),
+  fourth (λ e. absurd (cc)) (λ e. absurd (cc)) s_and_t (inr (
+    (λ r. r.2 (row_reached longest r.0 r.1)),
     inr (
-      (λ e. absurd (cc)),
-      inr (
-        s_and_t,
-        inr (
-          (λ r. r.2 (row_reached longest r.0 r.1)),
-          inr (
-            (λ c. none_zero (in_a_row longest) (refl, (refl, tt)) c.first c.closed.0 c.closed.1 c.zero.0),
-            inl (
-              record { link = 1; hop = hop 2 1 (n 1); least = longest; is_hop = refl; is_least = longest_is_least; is_fraction = refl; passes = refl },
-              refl,
-            ),
-          ),
-        ),
-      ),
+      (λ c. none_zero (in_a_row longest) (refl, (refl, tt)) c.first c.closed.0 c.closed.1 c.zero.0),
+      inl (record { link = 1; hop = hop 2 1 (n 1); least = longest; is_hop = refl; is_least = longest_is_least; is_fraction = refl; passes = refl }, refl),
     ),
-  ),
+  )),
   refl,
 )
 
@@ -352,19 +292,8 @@ one_hop_fits (suc e) h least is is_least wide = absurd (let none : ◌≡◌ {A 
 pub one_link_read : Reads commented (Ok one_link)
 unfolding whole ratio gcd le_ℚ lt_ℚ digits_of number_of parts_of decimal_of decimal_parts_of printed printed_parts
 one_link_read = (
-  (
-    (λ e. absurd (cc)),
-    (
-      (λ e. absurd (cc)),
-      (
-        s_and_t,
-        (
-          (λ r. r.2 (one_hop_reached r.0 r.1)),
-          ((λ c. none_zero one_hop (refl, tt) c.first c.closed.0 c.closed.1 c.zero.0), ((λ p. one_hop_fits p.link p.hop p.least p.is_hop p.is_least p.passes), tt)),
-        ),
-      ),
-    ),
-  ),
+  all_met (λ e. absurd (cc)) (λ e. absurd (cc)) s_and_t (λ r. r.2 (one_hop_reached r.0 r.1))
+      (λ c. none_zero one_hop (refl, tt) c.first c.closed.0 c.closed.1 c.zero.0) (λ p. one_hop_fits p.link p.hop p.least p.is_hop p.is_least p.passes),
   record { flags = true ∷ []; active = (((λ e. ([], refl)), (λ r. refl)), tt); network = refl },
 )
 
@@ -376,17 +305,12 @@ abbrev half : ℚ
 half = ratio (pos 5) 10
 
 abbrev one_idle : Named
-one_idle = record {
+one_idle = record one_link {
   version = 2;
-  net = record {
-    nodes = 2;
-    source = 0;
-    sink = 1;
+  net = record one_link.net {
     links = record { tail = 0; head = 1; transit = half; capacity = Some (ratio (pos 150) 100) } ∷ [];
     pieces = record { start = n 0; rate = n 2 } ∷ [];
   };
-  node_names = codes "s" ∷ codes "t" ∷ [];
-  link_names = codes "a" ∷ [];
   idle_nodes = codes "w" ∷ [];
   idle_links = record { name = codes "x"; tail = codes "w"; head = codes "t"; transit = n 1; capacity = Some (n 1) } ∷ [];
 }
@@ -407,19 +331,8 @@ two_hops_fit (suc (suc e)) h least is is_least wide = absurd (let none : ◌≡�
 pub one_idle_read : Reads with_idle (Ok one_idle)
 unfolding whole ratio gcd le_ℚ lt_ℚ digits_of number_of parts_of decimal_of decimal_parts_of printed printed_parts
 one_idle_read = (
-  (
-    (λ e. absurd (cc)),
-    (
-      (λ e. absurd (cc)),
-      (
-        s_and_t,
-        (
-          (λ f. f (1 ∷ [], (hop 0 1 half, refl, refl, refl))),
-          ((λ c. none_zero two_hops (refl, (refl, tt)) c.first c.closed.0 c.closed.1 c.zero.0), ((λ p. two_hops_fit p.link p.hop p.least p.is_hop p.is_least p.passes), tt)),
-        ),
-      ),
-    ),
-  ),
+  all_met (λ e. absurd (cc)) (λ e. absurd (cc)) s_and_t (λ f. f (1 ∷ [], (hop 0 1 half, refl, refl, refl)))
+      (λ c. none_zero two_hops (refl, (refl, tt)) c.first c.closed.0 c.closed.1 c.zero.0) (λ p. two_hops_fit p.link p.hop p.least p.is_hop p.is_least p.passes),
   record {
     flags = false ∷ true ∷ [];
     active = (((λ e. absurd (cc)), (λ r. absurd (not_two r.0 r.1))), (((λ e. ([], refl)), (λ r. refl)), tt));
