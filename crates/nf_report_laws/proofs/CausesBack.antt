@@ -13,7 +13,7 @@ use Rattle.nf_net_def.specs.declared.Cause.TheVariants.{Phases, Patterns, Passed
 use Rattle.nf_net_def.specs.Causes.{part_word, op_word, count_word, cause_words}
 use Rattle.nf_report_def.specs.declared.ReportRule.TheVariants.{P6, P8, P9}
 use Rattle.nf_report_def.specs.ReportCauses.{or_rule, printed_number, place_in, part_of, op_of, done_cause, phases_cause, patterns_cause, passed_cause, nopattern_cause, CauseKind, IsDone, IsPhases, IsPatterns, IsPassed, IsNoPattern, cause_kind, cause_of_kind, cause_in}
-use Rattle.nf_report_laws.specs.Readable.{IsReadableCause}
+use Rattle.nf_report_laws.specs.Readable.{IsCount, IsReadableCause}
 use Rattle.nf_report_laws.proofs.Outcomes.{both_ok, or_ok, no_err, named_is}
 use Rattle.nf_report_laws.proofs.NumbersBack.{number_back, number_is, count_back, count_is, place_back, place_is}
 use Rattle.nf_rational_laws.proofs.Results.{same_Ok}
@@ -73,44 +73,36 @@ cause_back (Some (NoPattern phase)) h = ap (λ o. or_rule P8 o >>= λ phase. Ok 
 abbrev Says : List (List ℕ) → Option (Cause ℚ) → Type 0
 Says words stop = (words ≡ cause_words stop) × IsReadableCause stop
 
+-- a cause of one count
+count_is_said : (word count : List ℕ) (make : ℕ → Option (Cause ℚ)) (stop : Option (Cause ℚ)) → ((k : ℕ) → IsCount k → Says (word ∷ digits_of k ∷ []) (make k))
+    → (or_rule P8 (count_of count) >>= λ k. Ok (make k)) ≡ Ok stop → Says (word ∷ count ∷ []) stop
+count_is_said word count make stop says e =
+    let w = both_ok (or_rule P8 (count_of count)) _ stop e in
+    let k = count_is count w.between (or_ok P8 (count_of count) w.between w.first) in
+    subst (Says (word ∷ count ∷ [])) (same_Ok _ stop w.next) (subst (λ (c : List ℕ). Says (word ∷ c ∷ []) (make w.between)) (sym k.0) (says w.between k.1))
+
 done_is : (words : List (List ℕ)) (stop : Option (Cause ℚ)) → done_cause words ≡ Ok stop → Says (codes "done" ∷ words) stop
 done_is [] stop e = subst (Says (codes "done" ∷ [])) (same_Ok None stop e) (refl, tt)
 done_is (word ∷ words) stop e = absurd (no_err P6 stop e)
 
 phases_is : (words : List (List ℕ)) (stop : Option (Cause ℚ)) → phases_cause words ≡ Ok stop → Says (codes "phases" ∷ words) stop
-phases_is [] stop e = absurd (no_err P6 stop e)
-phases_is (made ∷ []) stop e =
-    let w = both_ok (or_rule P8 (count_of made)) _ stop e in
-    let k = count_is made w.between (or_ok P8 (count_of made) w.between w.first) in
-    subst (Says (codes "phases" ∷ made ∷ [])) (same_Ok _ stop w.next) (ap (λ d. codes "phases" ∷ d ∷ []) k.0, k.1)
-phases_is (made ∷ more ∷ words) stop e = absurd (no_err P6 stop e)
+phases_is (made ∷ []) stop e = count_is_said (codes "phases") made (λ k. Some (Phases k)) stop (λ k h. (refl, h)) e
+phases_is words stop e = absurd (no_err P6 stop e)
 
 patterns_is : (words : List (List ℕ)) (stop : Option (Cause ℚ)) → patterns_cause words ≡ Ok stop → Says (codes "patterns" ∷ words) stop
-patterns_is [] stop e = absurd (no_err P6 stop e)
-patterns_is (phase ∷ []) stop e = absurd (no_err P6 stop e)
 patterns_is (phase ∷ tried ∷ []) stop e =
     let w = both_ok (or_rule P8 (count_of phase)) _ stop e in
     let v = both_ok (or_rule P8 (count_of tried)) _ stop w.next in
     let k = count_is phase w.between (or_ok P8 (count_of phase) w.between w.first) in
     let l = count_is tried v.between (or_ok P8 (count_of tried) v.between v.first) in
     subst (Says (codes "patterns" ∷ phase ∷ tried ∷ [])) (same_Ok _ stop v.next) ((λ i. codes "patterns" ∷ k.0 i ∷ l.0 i ∷ []), (k.1, l.1))
-patterns_is (phase ∷ tried ∷ more ∷ words) stop e = absurd (no_err P6 stop e)
+patterns_is words stop e = absurd (no_err P6 stop e)
 
 nopattern_is : (words : List (List ℕ)) (stop : Option (Cause ℚ)) → nopattern_cause words ≡ Ok stop → Says (codes "nopattern" ∷ words) stop
-nopattern_is [] stop e = absurd (no_err P6 stop e)
-nopattern_is (phase ∷ []) stop e =
-    let w = both_ok (or_rule P8 (count_of phase)) _ stop e in
-    let k = count_is phase w.between (or_ok P8 (count_of phase) w.between w.first) in
-    subst (Says (codes "nopattern" ∷ phase ∷ [])) (same_Ok _ stop w.next) (ap (λ d. codes "nopattern" ∷ d ∷ []) k.0, k.1)
-nopattern_is (phase ∷ more ∷ words) stop e = absurd (no_err P6 stop e)
+nopattern_is (phase ∷ []) stop e = count_is_said (codes "nopattern") phase (λ k. Some (NoPattern k)) stop (λ k h. (refl, h)) e
+nopattern_is words stop e = absurd (no_err P6 stop e)
 
 passed_is : (words : List (List ℕ)) (stop : Option (Cause ℚ)) → passed_cause words ≡ Ok stop → Says (codes "passed" ∷ words) stop
-passed_is [] stop e = absurd (no_err P6 stop e)
-passed_is (a ∷ []) stop e = absurd (no_err P6 stop e)
-passed_is (a ∷ b ∷ []) stop e = absurd (no_err P6 stop e)
-passed_is (a ∷ b ∷ c ∷ []) stop e = absurd (no_err P6 stop e)
-passed_is (a ∷ b ∷ c ∷ d ∷ []) stop e = absurd (no_err P6 stop e)
-passed_is (a ∷ b ∷ c ∷ d ∷ f ∷ []) stop e = absurd (no_err P6 stop e)
 passed_is (phase ∷ part ∷ place ∷ op ∷ left ∷ right ∷ []) stop e =
     let w0 = both_ok (or_rule P8 (count_of phase)) _ stop e in
     let w1 = both_ok (or_rule P8 (place_in place)) _ stop w0.next in
@@ -126,7 +118,7 @@ passed_is (phase ∷ part ∷ place ∷ op ∷ left ∷ right ∷ []) stop e =
     let k5 = op_is op w5.between (or_ok P9 (op_of op) w5.between w5.first) in
     subst (Says (codes "passed" ∷ phase ∷ part ∷ place ∷ op ∷ left ∷ right ∷ [])) (same_Ok _ stop w5.next)
     ((λ i. codes "passed" ∷ k0.0 i ∷ k4 i ∷ k1.0 i ∷ k5 i ∷ k2.0 i ∷ k3.0 i ∷ []), (k0.1, k1.1, k2.1, k3.1))
-passed_is (a ∷ b ∷ c ∷ d ∷ f ∷ g ∷ h ∷ words) stop e = absurd (no_err P6 stop e)
+passed_is words stop e = absurd (no_err P6 stop e)
 
 abbrev kind_word : CauseKind → List ℕ
 kind_word IsDone = codes "done"

@@ -78,17 +78,7 @@ trace_put kind draft next name o p rate e h k t a =
 -- ---- the lines of one curve
 module _ (n : Named) (d : ReportDraft) where
   abbrev pub in_body : List ReadCurve → Option ReadCurve → List CurveKey → ReportDraft
-  in_body done current keys = record {
-    stage = InBody;
-    horizon = d.horizon;
-    reached = d.reached;
-    stop = d.stop;
-    done = done;
-    current = current;
-    keys = keys;
-    next_state = d.next_state;
-    states = d.states;
-  }
+  in_body done current keys = record d { stage = InBody; done = done; current = current; keys = keys }
 
   abbrev Says : Kind → (Option (List (List ℕ)) → ReportDraft → List (List ℕ) → Result ReportDraft ReportRule) → Type 0
   Says kind line = (done : List ReadCurve) (current : Option ReadCurve) (keys : List CurveKey) (next : Option (List (List ℕ))) (words : List (List ℕ))

@@ -2,6 +2,7 @@
 use Rattle.std.proofs.Common.{◌≡◌, ℕ, List, [], ◌∷◌, Bool, true, false, ◌&&◌, if◌then◌else◌, Option, Some, None, Result, Ok, Err, refl, ap, ◌∙◌, bytes_eq}
 use Rattle.std.specs.List.{AllByRecursion}
 use Rattle.nf_frac_def.specs.Checked.{◌>>=◌}
+use Rattle.nf_frac_def.proofs.Binding.{bind_ok}
 use Rattle.nf_net_laws.proofs.NameFacts.{same_names}
 use Rattle.nf_report_def.specs.declared.ReportRule.{ReportRule}
 use Rattle.nf_report_def.specs.ReportCauses.{or_rule, first_named}
@@ -29,8 +30,7 @@ pub record Both {A B E : Type 0} (r : Result A E) (f : A → Result B E) (y : B)
   pub next : f between ≡ Ok y
 
 pub both_ok : {A B E : Type 0} (r : Result A E) (f : A → Result B E) (y : B) → (r >>= f) ≡ Ok y → Both r f y
-both_ok (Ok x) f y e = record { between = x; first = refl; next = e }
-both_ok (Err p) f y e = absurd (no_err p y e)
+both_ok r f y e = let w = bind_ok r f y e in record { between = w.0; first = w.1; next = w.2 }
 
 pub or_ok : {A : Type 0} (rule : ReportRule) (o : Option A) (y : A) → or_rule rule o ≡ Ok y → o ≡ Some y
 or_ok rule None y e = absurd (no_err rule y e)

@@ -1,5 +1,5 @@
 -- A report is read line by line, where each line is the line of its words.
-use Rattle.std.proofs.Common.{◌≡◌, ℕ, ◌+◌, Bool, true, false, List, [], ◌∷◌, ◌++◌, map, flat_map, Option, Some, None, Result, Ok, Err, refl, sym, ap, subst, ◌∙◌, bytes_eq}
+use Rattle.std.proofs.Common.{◌≡◌, ℕ, ◌+◌, Bool, true, false, List, [], ◌∷◌, ◌++◌, map, flat_map, Option, Some, None, Result, Ok, Err, refl, sym, ap, subst, ◌∙◌, bytes_eq, if◌then◌else◌}
 use Rattle.std.specs.List.{AllByRecursion}
 use Rattle.nf_frac_def.specs.Checked.{◌>>=◌}
 use Rattle.nf_text_def.specs.Lines.{TextLine}
@@ -81,32 +81,23 @@ words_text [] h = refl
 words_text (line ∷ lines) h = λ i. sym (same_names (line.bytes ++ line.ending) (line_of_words (words line.bytes)) h.0) i ++ words_text lines h.1 i
 
 -- ---- keys
+-- the kind that a word names, where any other word counts as that of a queue
+abbrev kind_of : List ℕ → Kind
+kind_of word =
+    if bytes_eq word (key_word OfLabel) then OfLabel
+    else (if bytes_eq word (key_word OfNever) then OfNever
+    else (if bytes_eq word (key_word OfInflow) then OfInflow
+    else (if bytes_eq word (key_word OfOutflow) then OfOutflow else OfQueue)))
+
+kind_back : (kind : Kind) → kind_of (key_word kind) ≡ kind
+kind_back OfLabel = refl
+kind_back OfNever = refl
+kind_back OfInflow = refl
+kind_back OfOutflow = refl
+kind_back OfQueue = refl
+
 kind_same : (a b : Kind) → bytes_eq (key_word a) (key_word b) ≡ true → a ≡ b
-kind_same OfLabel OfLabel e = refl
-kind_same OfLabel OfNever e = absurd (cc)
-kind_same OfLabel OfInflow e = absurd (cc)
-kind_same OfLabel OfOutflow e = absurd (cc)
-kind_same OfLabel OfQueue e = absurd (cc)
-kind_same OfNever OfLabel e = absurd (cc)
-kind_same OfNever OfNever e = refl
-kind_same OfNever OfInflow e = absurd (cc)
-kind_same OfNever OfOutflow e = absurd (cc)
-kind_same OfNever OfQueue e = absurd (cc)
-kind_same OfInflow OfLabel e = absurd (cc)
-kind_same OfInflow OfNever e = absurd (cc)
-kind_same OfInflow OfInflow e = refl
-kind_same OfInflow OfOutflow e = absurd (cc)
-kind_same OfInflow OfQueue e = absurd (cc)
-kind_same OfOutflow OfLabel e = absurd (cc)
-kind_same OfOutflow OfNever e = absurd (cc)
-kind_same OfOutflow OfInflow e = absurd (cc)
-kind_same OfOutflow OfOutflow e = refl
-kind_same OfOutflow OfQueue e = absurd (cc)
-kind_same OfQueue OfLabel e = absurd (cc)
-kind_same OfQueue OfNever e = absurd (cc)
-kind_same OfQueue OfInflow e = absurd (cc)
-kind_same OfQueue OfOutflow e = absurd (cc)
-kind_same OfQueue OfQueue e = refl
+kind_same a b e = sym (kind_back a) ∙ ap kind_of (same_names (key_word a) (key_word b) e) ∙ kind_back b
 
 pub key_same : (kind : Kind) (name : Name) (key : CurveKey) → is_key kind name key ≡ true → key ≡ key_of kind name
 key_same kind name key e =
