@@ -8,14 +8,14 @@ use Rattle.nf_rational.specs.Order.{◌≤ℚ◌}
 use Rattle.nf_rational_laws.proofs.Polynomial.{reading_of}
 use Rattle.nf_rational_laws.proofs.Linear.{le, eq, linear_le, linear_eq}
 use Rattle.nf_frac_def.specs.declared.Op.TheVariants.{Sum}
-use Rattle.nf_model.specs.Walk.{Hop, IsHop, IsWalk, transit_of, transit_sum, IsLeastTransit}
+use Rattle.nf_model.specs.Walk.{Hop, IsWalk, transit_of, transit_sum, IsLeastTransit}
 use Rattle.nf_model.specs.Network.{Link, hops}
 use Rattle.nf_model.specs.Phases.{AreStartLabels}
 use Rattle.nf_model_laws.proofs.Networks.{transit_of-hop}
 use Rattle.nf_net_def.specs.Names.{Name}
 use Rattle.nf_net_def.specs.Named.{NamedLink, Named, links_by_name}
 use Rattle.nf_net_def.specs.WellNamed.{IsFraction, IsCapacity, IsNamedLink, IsNamed}
-use Rattle.nf_net_laws.proofs.WalkFacts.{walk_push}
+use Rattle.nf_net_laws.proofs.WalkFacts.{walk_push, LastHop}
 use Rattle.nf_report_laws.specs.Readable.{IsFractionOrNone}
 use Rattle.nf_report_run_laws.proofs.Lists.{all_from}
 use Rattle.nf_report_run_laws.proofs.Fractions.{AreFractions, zero_fraction, result_fraction, IsFractionLink, HasFractions}
@@ -38,14 +38,10 @@ named_fractions n h = record { links = link_fractions n.version n.node_names n.l
 
 -- ---- walks by their last hop
 pub record EndsBy (hops : List Hop) (u v : ℕ) (walk : List ℕ) : Type 0 where
-  pub front : List ℕ
-  pub number : ℕ
-  pub hop : Hop
-  pub is_walk : IsWalk hops front u hop.tail
-  pub is_hop : IsHop hops number hop
-  pub head : hop.head ≡ v
-  pub shorter : suc (length front) ≡ length walk
-  pub sum : transit_sum hops walk ≡ transit_sum hops front +ℚ hop.transit
+  pub last : LastHop hops u v
+  pub open last use *
+  pub shorter : suc (length last.front) ≡ length walk
+  pub sum : transit_sum hops walk ≡ transit_sum hops last.front +ℚ last.hop.transit
 
 alone : (t x : ℚ) → t ≡ x → t +ℚ 0ℚ ≡ 0ℚ +ℚ x
 alone t x e = linear_eq (t ∷ x ∷ []) (eq e ∷ []) (search reading_of depth 12) tt tt
@@ -55,24 +51,14 @@ longer t s f x e = linear_eq (t ∷ s ∷ f ∷ x ∷ []) (eq e ∷ []) (search 
 
 ends_by : (hops : List Hop) (e : ℕ) (walk : List ℕ) (u v : ℕ) → IsWalk hops (e ∷ walk) u v → EndsBy hops u v (e ∷ walk)
 ends_by hops e [] u v h = record {
-  front = [];
-  number = e;
-  hop = h.0;
-  is_walk = sym h.2;
-  is_hop = h.1;
-  head = h.3;
+  last = record { front = []; number = e; hop = h.0; is_walk = sym h.2; is_hop = h.1; head = h.3 };
   shorter = refl;
   sum = alone (transit_of hops e) h.0.transit (transit_of-hop hops e h.0 h.1);
 }
 ends_by hops e (f ∷ walk) u v h =
     let r : EndsBy hops h.0.head v (f ∷ walk) = ends_by hops f walk h.0.head v h.3 in
     record {
-      front = e ∷ r.front;
-      number = r.number;
-      hop = r.hop;
-      is_walk = (h.0, h.1, h.2, r.is_walk);
-      is_hop = r.is_hop;
-      head = r.head;
+      last = record { front = e ∷ r.front; number = r.number; hop = r.hop; is_walk = (h.0, h.1, h.2, r.is_walk); is_hop = r.is_hop; head = r.head };
       shorter = ap suc r.shorter;
       sum = longer (transit_of hops e) (transit_sum hops (f ∷ walk)) (transit_sum hops r.front) r.hop.transit r.sum;
     }
