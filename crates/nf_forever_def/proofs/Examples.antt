@@ -7,16 +7,13 @@ use Rattle.nf_rational.specs.Operations.{whole, neg_ℚ, inv_ℚ, ◌+ℚ◌, �
 use Rattle.nf_rational.specs.Order.{le_ℚ, lt_ℚ, min_ℚ, max_ℚ}
 use Rattle.nf_frac_def.specs.Passing.{beyond}
 use Rattle.nf_frac_def.specs.Checked.{checked, Checked}
-use Rattle.nf_model.specs.Network.{Network}
 use Rattle.nf_model.specs.Equilibrium.{Trace, Flow}
-use Rattle.nf_thin_def.proofs.Examples.{n, in_127_bits, link, Parts, parts_of, i}
+use Rattle.nf_thin_def.proofs.Examples.{n, in_127_bits, Parts, parts_of, i}
+use Rattle.nf_thin_def.proofs.Runs.{points_in, two_links}
 use Rattle.nf_thin_def.specs.Extend.{extend_list}
 use Rattle.nf_forever_def.specs.Tails.{Tail}
 use Rattle.nf_forever_def.specs.ForeverRun.{end_list}
 use Rattle.nf_forever_def.specs.Extended.{extended}
-
-abbrev pub two_links : Network
-two_links = record { nodes = 2; source = 0; sink = 1; links = link 0 1 (n 1) (Some (n 1)) ∷ link 0 1 (n 3) (Some (n 1)) ∷ []; pieces = record { start = n 0; rate = n 3 } ∷ [] }
 
 abbrev three_halves : ℚ
 three_halves = ratio (pos 3) 2
@@ -46,9 +43,6 @@ flow_to_1 = record {
 
 abbrev pub tail_from_1 : Tail
 tail_from_1 = record { slopes = n 1 ∷ three_halves ∷ []; flows = three_halves ∷ three_halves ∷ [] }
-
-abbrev points_in : List (ℚ × ℚ) → List (Parts × Parts)
-points_in points = map (λ p. (parts_of p.0, parts_of p.1)) points
 
 abbrev curves_in : List (List (ℚ × ℚ)) → List (List (Parts × Parts))
 curves_in curves = map points_in curves

@@ -9,7 +9,8 @@ use Rattle.nf_model.specs.declared.State.TheVariants.{Full}
 use Rattle.nf_net_def.specs.declared.Cause.TheVariants.{Phases}
 use Rattle.nf_net_def.specs.Named.{Named}
 use Rattle.nf_forever_def.specs.ForeverText.{forever_text}
-use Rattle.nf_forever_def.proofs.Examples.{two_links, flow_to_1, tail_from_1}
+use Rattle.nf_thin_def.proofs.Runs.{two_links}
+use Rattle.nf_forever_def.proofs.Examples.{flow_to_1, tail_from_1}
 
 abbrev text_of : List (List ℕ) → List ℕ
 text_of lines = flat_map (λ line. line ++ 10 ∷ []) lines

@@ -1,5 +1,5 @@
 -- A flow extended by a tail from the departure that it reached.
-use Rattle.std.specs.Prelude.{if◌then◌else◌, Bool, true, false, List, [], ◌∷◌, ◌++◌, Option, Some, None}
+use Rattle.std.specs.Prelude.{if◌then◌else◌, ℕ, Bool, true, false, List, [], ◌∷◌, ◌++◌, Option, Some, None}
 use Rattle.std.specs.List.{last_or}
 use Rattle.std.specs.Option.{option_map_or}
 use Rattle.nf_rational.specs.Rational.{ℚ}
@@ -49,17 +49,18 @@ labels_with_end until labels curves = []
 
 -- For each link the inflow extended to the label of the tail, the outflow to that of the head, and the queue to that of the tail.
 module _ (while : ℚ) (slopes labels : List ℚ) where
+  -- For each link a trace extended to the label of one of its ends.
+  abbrev pub traces_with_end : (Link → ℕ) → List Link → List ℚ → List Trace → List Trace
+  traces_with_end end (link ∷ links) (flow ∷ flows) (trace ∷ traces) =
+      trace_with_end (is_positive (number_at slopes (end link))) trace (number_at labels (end link), value_after trace.points while flow)
+      ∷ traces_with_end end links flows traces
+  traces_with_end end links flows traces = []
+
   abbrev pub inflows_with_end : List Link → List ℚ → List Trace → List Trace
-  inflows_with_end (link ∷ links) (flow ∷ flows) (trace ∷ traces) =
-      trace_with_end (is_positive (number_at slopes link.tail)) trace (number_at labels link.tail, value_after trace.points while flow)
-      ∷ inflows_with_end links flows traces
-  inflows_with_end links flows traces = []
+  inflows_with_end = traces_with_end (λ (link : Link). link.tail)
 
   abbrev pub outflows_with_end : List Link → List ℚ → List Trace → List Trace
-  outflows_with_end (link ∷ links) (flow ∷ flows) (trace ∷ traces) =
-      trace_with_end (is_positive (number_at slopes link.head)) trace (number_at labels link.head, value_after trace.points while flow)
-      ∷ outflows_with_end links flows traces
-  outflows_with_end links flows traces = []
+  outflows_with_end = traces_with_end (λ (link : Link). link.head)
 
   abbrev pub queues_with_end : List Link → List (List Point) → List (List Point)
   queues_with_end (link ∷ links) (points ∷ curves) =

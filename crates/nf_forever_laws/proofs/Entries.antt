@@ -9,7 +9,7 @@ use Rattle.nf_model.specs.Network.{Link, hop_of}
 use Rattle.nf_model.specs.ThinFlow.{slack}
 use Rattle.nf_model.specs.Equilibrium.{Trace}
 use Rattle.nf_rational.specs.Signs.{is_positive}
-use Rattle.nf_forever_def.specs.Extended.{value_after, labels_then, queue_then, with_end, trace_with_end, labels_with_end, inflows_with_end, outflows_with_end, queues_with_end}
+use Rattle.nf_forever_def.specs.Extended.{value_after, labels_then, queue_then, with_end, trace_with_end, labels_with_end, traces_with_end, queues_with_end}
 
 pub labels_then_at : (w : ℚ) (slopes : List ℚ) (curves : List (List Point)) (v : ℕ) (r : ℚ) (ps : List Point) → slice_get slopes v ≡ Some r → slice_get curves v ≡ Some ps
     → slice_get (labels_then w slopes curves) v ≡ Some (value_after ps w r)
@@ -39,46 +39,29 @@ labels_then-length w (y ∷ slopes) (d ∷ curves) zero h k = absurd (omega arit
 labels_then-length w (y ∷ slopes) (d ∷ curves) (suc n) h k = ap suc (labels_then-length w slopes curves n (omega arith) (omega arith))
 
 module _ (w : ℚ) (slopes labels : List ℚ) where
-  abbrev pub inflow_new : Link → ℚ → Trace → Trace
-  inflow_new link flow trace = trace_with_end (is_positive (number_at slopes link.tail)) trace (number_at labels link.tail, value_after trace.points w flow)
-
-  abbrev pub outflow_new : Link → ℚ → Trace → Trace
-  outflow_new link flow trace = trace_with_end (is_positive (number_at slopes link.head)) trace (number_at labels link.head, value_after trace.points w flow)
+  -- the trace of a link at one of its ends
+  abbrev pub trace_new : (Link → ℕ) → Link → ℚ → Trace → Trace
+  trace_new end link flow trace = trace_with_end (is_positive (number_at slopes (end link))) trace (number_at labels (end link), value_after trace.points w flow)
 
   abbrev pub queue_new : Link → List Point → List Point
   queue_new link points = with_end (is_positive (number_at slopes link.tail)) points (number_at labels link.tail, queue_then link.capacity (slack labels (hop_of link)))
 
-  pub inflows_at : (links : List Link) (flows : List ℚ) (traces : List Trace) (e : ℕ) (link : Link) (x : ℚ) (t : Trace) → slice_get links e ≡ Some link → slice_get flows e ≡ Some x → slice_get traces e ≡ Some t
-      → slice_get (inflows_with_end w slopes labels links flows traces) e ≡ Some (inflow_new link x t)
-  inflows_at [] flows traces e link x t h k j = absurd (none-some link h)
-  inflows_at (l ∷ links) [] traces e link x t h k j = absurd (none-some x k)
-  inflows_at (l ∷ links) (y ∷ flows) [] e link x t h k j = absurd (none-some t j)
-  inflows_at (l ∷ links) (y ∷ flows) (d ∷ traces) zero link x t h k j = ap (λ (l : Link). Some (inflow_new l y d)) (same_Some l link h)
-      ∙ ap (λ (y : ℚ). Some (inflow_new link y d)) (same_Some y x k) ∙ ap (λ (d : Trace). Some (inflow_new link x d)) (same_Some d t j)
-  inflows_at (l ∷ links) (y ∷ flows) (d ∷ traces) (suc e) link x t h k j = inflows_at links flows traces e link x t h k j
+  pub traces_at : (end : Link → ℕ) (links : List Link) (flows : List ℚ) (traces : List Trace) (e : ℕ) (link : Link) (x : ℚ) (t : Trace)
+      → slice_get links e ≡ Some link → slice_get flows e ≡ Some x → slice_get traces e ≡ Some t
+      → slice_get (traces_with_end w slopes labels end links flows traces) e ≡ Some (trace_new end link x t)
+  traces_at end [] flows traces e link x t h k j = absurd (none-some link h)
+  traces_at end (l ∷ links) [] traces e link x t h k j = absurd (none-some x k)
+  traces_at end (l ∷ links) (y ∷ flows) [] e link x t h k j = absurd (none-some t j)
+  traces_at end (l ∷ links) (y ∷ flows) (d ∷ traces) zero link x t h k j = ap (λ (l : Link). Some (trace_new end l y d)) (same_Some l link h)
+      ∙ ap (λ (y : ℚ). Some (trace_new end link y d)) (same_Some y x k) ∙ ap (λ (d : Trace). Some (trace_new end link x d)) (same_Some d t j)
+  traces_at end (l ∷ links) (y ∷ flows) (d ∷ traces) (suc e) link x t h k j = traces_at end links flows traces e link x t h k j
 
-  pub inflows-length : (links : List Link) (flows : List ℚ) (traces : List Trace) → length flows ≡ length links → length traces ≡ length links
-      → length (inflows_with_end w slopes labels links flows traces) ≡ length links
-  inflows-length [] flows traces k j = refl
-  inflows-length (l ∷ links) [] traces k j = k
-  inflows-length (l ∷ links) (y ∷ flows) [] k j = j
-  inflows-length (l ∷ links) (y ∷ flows) (d ∷ traces) k j = ap suc (inflows-length links flows traces (omega arith) (omega arith))
-
-  pub outflows_at : (links : List Link) (flows : List ℚ) (traces : List Trace) (e : ℕ) (link : Link) (x : ℚ) (t : Trace) → slice_get links e ≡ Some link → slice_get flows e ≡ Some x → slice_get traces e ≡ Some t
-      → slice_get (outflows_with_end w slopes labels links flows traces) e ≡ Some (outflow_new link x t)
-  outflows_at [] flows traces e link x t h k j = absurd (none-some link h)
-  outflows_at (l ∷ links) [] traces e link x t h k j = absurd (none-some x k)
-  outflows_at (l ∷ links) (y ∷ flows) [] e link x t h k j = absurd (none-some t j)
-  outflows_at (l ∷ links) (y ∷ flows) (d ∷ traces) zero link x t h k j = ap (λ (l : Link). Some (outflow_new l y d)) (same_Some l link h)
-      ∙ ap (λ (y : ℚ). Some (outflow_new link y d)) (same_Some y x k) ∙ ap (λ (d : Trace). Some (outflow_new link x d)) (same_Some d t j)
-  outflows_at (l ∷ links) (y ∷ flows) (d ∷ traces) (suc e) link x t h k j = outflows_at links flows traces e link x t h k j
-
-  pub outflows-length : (links : List Link) (flows : List ℚ) (traces : List Trace) → length flows ≡ length links → length traces ≡ length links
-      → length (outflows_with_end w slopes labels links flows traces) ≡ length links
-  outflows-length [] flows traces k j = refl
-  outflows-length (l ∷ links) [] traces k j = k
-  outflows-length (l ∷ links) (y ∷ flows) [] k j = j
-  outflows-length (l ∷ links) (y ∷ flows) (d ∷ traces) k j = ap suc (outflows-length links flows traces (omega arith) (omega arith))
+  pub traces-length : (end : Link → ℕ) (links : List Link) (flows : List ℚ) (traces : List Trace) → length flows ≡ length links → length traces ≡ length links
+      → length (traces_with_end w slopes labels end links flows traces) ≡ length links
+  traces-length end [] flows traces k j = refl
+  traces-length end (l ∷ links) [] traces k j = k
+  traces-length end (l ∷ links) (y ∷ flows) [] k j = j
+  traces-length end (l ∷ links) (y ∷ flows) (d ∷ traces) k j = ap suc (traces-length end links flows traces (omega arith) (omega arith))
 
   pub queues_at : (links : List Link) (curves : List (List Point)) (e : ℕ) (link : Link) (ps : List Point) → slice_get links e ≡ Some link → slice_get curves e ≡ Some ps
       → slice_get (queues_with_end w slopes labels links curves) e ≡ Some (queue_new link ps)

@@ -13,7 +13,7 @@ use Rattle.nf_model.specs.Curve.{Point, AreSlopes}
 use Rattle.nf_model.specs.Network.{Link, Network, IsNetwork, IsLink, hop_of, hops, rate_at}
 use Rattle.nf_model.specs.ThinFlow.{slack, slacks_of, sets_at, IsThinFlow}
 use Rattle.nf_model.specs.Phases.{moved, IsUnending, IsPhase}
-use Rattle.nf_model.specs.Equilibrium.{Trace, Flow, points_of, HasShape, HasSlopes, Equilibrium}
+use Rattle.nf_model.specs.Equilibrium.{Trace, Flow, points_of, points_at, HasShape, HasSlopes, Equilibrium}
 use Rattle.nf_model_laws.proofs.Curves.{EndsAt-value}
 use Rattle.nf_phase_laws.specs.Invariant.{link_slack, queue_by_slack}
 use Rattle.nf_phase_laws.specs.CurveSteps.{LastPoint, GoesOnTo, at, CurvesGoOn}
@@ -25,8 +25,8 @@ use Rattle.nf_phase_laws.proofs.CurveRun.{Grown, Grown-after, Equilibrium-grown}
 use Rattle.nf_phase_laws.proofs.WellRun.{number_is, points_is}
 use Rattle.nf_phase_laws.proofs.Traces.{same_point, TraceStep}
 use Rattle.nf_forever_def.specs.Tails.{Tail}
-use Rattle.nf_forever_def.specs.Extended.{last_point, value_after, labels_then, queue_then, extended}
-use Rattle.nf_forever_laws.proofs.Entries.{labels_then_at, labels_with_end_at, labels_with_end-length, labels_then-length, inflow_new, outflow_new, queue_new, inflows_at, inflows-length, outflows_at, outflows-length, queues_at, queues-length}
+use Rattle.nf_forever_def.specs.Extended.{last_point, value_after, labels_then, queue_then, traces_with_end, extended}
+use Rattle.nf_forever_laws.proofs.Entries.{labels_then_at, labels_with_end_at, labels_with_end-length, labels_then-length, trace_new, queue_new, traces_at, traces-length, queues_at, queues-length}
 use Rattle.nf_forever_laws.proofs.Steps.{last_point-is, TraceStep-last, CurveStep, CurveStep-last}
 use Rattle.nf_rational_laws.proofs.Chains.{≤ℚ_refl}
 use Rattle.nf_rational_laws.proofs.Entries.{slice_get-image, entry}
@@ -134,49 +134,48 @@ module _ (net : Network) (flow : Flow) (tail : Tail) (until : ℚ) (labels : Lis
     amount_is : (points : List Point) (a y : ℚ) → LastPoint points (a, y) → value_after points while (number_at tail.flows e) ≡ y +ℚ number_at tail.flows e *ℚ while
     amount_is points a y l = same_value (last_point points) (a, y) while (number_at tail.flows e) (last_point-is points (a, y) l)
 
-    -- the inflow
-    inflow_found : (t : Trace) × (slice_get flow.inflows e ≡ Some t)
-    inflow_found = entry flow.inflows e (let n = shape.inflows.count in let m : length (points_of flow.inflows) ≡ length flow.inflows = length-map flow.inflows (λ (t : Trace). t.points) in let i = inside in omega arith)
+    -- a trace at one end of the link: the inflow at the tail, or the outflow at the head
+    module _ (end : Link → ℕ) (end_in : end link < net.nodes) (traces : List Trace) (count : length (points_of traces) ≡ length net.links) (rates : HasSlopes traces)
+        (last : LastPoint (points_at (points_of traces) e) (label_now (end link), at (points_at (points_of traces)) e (label_now (end link)))) where
+      abbrev value_now : ℚ
+      value_now = at (points_at (points_of traces)) e (label_now (end link))
 
-    module _ (t : Trace) (here : slice_get flow.inflows e ≡ Some t) where
-      inflow_is : curves.inflows e ≡ t.points
-      inflow_is = points_is (points_of flow.inflows) e t.points (slice_get-image (λ (t : Trace). t.points) flow.inflows e t here)
+      abbrev traces' : List Trace
+      traces' = traces_with_end while tail.slopes then end net.links tail.flows traces
 
-      inflow_entry : slice_get new.inflows e ≡ Some (inflow_new while tail.slopes then link (number_at tail.flows e) t)
-      inflow_entry = inflows_at while tail.slopes then net.links tail.flows flow.inflows e link (number_at tail.flows e) t p flow_here here
+      found : (t : Trace) × (slice_get traces e ≡ Some t)
+      found = entry traces e (let n = count in let m : length (points_of traces) ≡ length traces = length-map traces (λ (t : Trace). t.points) in let i = inside in omega arith)
 
-      inflow_after : curves'.inflows e ≡ (inflow_new while tail.slopes then link (number_at tail.flows e) t).points
-      inflow_after = points_is (points_of new.inflows) e (inflow_new while tail.slopes then link (number_at tail.flows e) t).points
-          (slice_get-image (λ (t : Trace). t.points) new.inflows e (inflow_new while tail.slopes then link (number_at tail.flows e) t) inflow_entry)
+      abbrev trace' : Trace
+      trace' = trace_new while tail.slopes then end link (number_at tail.flows e) found.0
 
-      inflow_last : LastPoint t.points (label_now link.tail, at curves.inflows e (label_now link.tail))
-      inflow_last = subst (λ (ps : List Point). LastPoint ps (label_now link.tail, at curves.inflows e (label_now link.tail))) inflow_is (grown.curves_stand.inflows_end e link p)
+      points_now : points_at (points_of traces) e ≡ found.0.points
+      points_now = points_is (points_of traces) e found.0.points (slice_get-image (λ (t : Trace). t.points) traces e found.0 found.1)
 
-      inflow_step : TraceStep t.points (inflow_new while tail.slopes then link (number_at tail.flows e) t) (label_now link.tail) (at curves.inflows e (label_now link.tail)) while (number_at tail.flows e) (number_at tail.slopes link.tail)
-      inflow_step = TraceStep-last t (number_at tail.flows e) (number_at tail.slopes link.tail) (label_now link.tail) (at curves.inflows e (label_now link.tail)) while (number_at then link.tail)
-          (value_after t.points while (number_at tail.flows e)) (inflow_rates e t here) inflow_last some (then_is link.tail tail_in) (amount_is t.points _ _ inflow_last)
+      trace_then : slice_get traces' e ≡ Some trace'
+      trace_then = traces_at while tail.slopes then end net.links tail.flows traces e link (number_at tail.flows e) found.0 p flow_here found.1
 
-    -- the outflow
-    outflow_found : (t : Trace) × (slice_get flow.outflows e ≡ Some t)
-    outflow_found = entry flow.outflows e (let n = shape.outflows.count in let m : length (points_of flow.outflows) ≡ length flow.outflows = length-map flow.outflows (λ (t : Trace). t.points) in let i = inside in omega arith)
+      points_then : points_at (points_of traces') e ≡ trace'.points
+      points_then = points_is (points_of traces') e trace'.points (slice_get-image (λ (t : Trace). t.points) traces' e trace' trace_then)
 
-    module _ (t : Trace) (here : slice_get flow.outflows e ≡ Some t) where
-      outflow_is : curves.outflows e ≡ t.points
-      outflow_is = points_is (points_of flow.outflows) e t.points (slice_get-image (λ (t : Trace). t.points) flow.outflows e t here)
+      last_now : LastPoint found.0.points (label_now (end link), value_now)
+      last_now = subst (λ (ps : List Point). LastPoint ps (label_now (end link), value_now)) points_now last
 
-      outflow_entry : slice_get new.outflows e ≡ Some (outflow_new while tail.slopes then link (number_at tail.flows e) t)
-      outflow_entry = outflows_at while tail.slopes then net.links tail.flows flow.outflows e link (number_at tail.flows e) t p flow_here here
+      trace_step : TraceStep found.0.points trace' (label_now (end link)) value_now while (number_at tail.flows e) (number_at tail.slopes (end link))
+      trace_step = TraceStep-last found.0 (number_at tail.flows e) (number_at tail.slopes (end link)) (label_now (end link)) value_now while (number_at then (end link))
+          (value_after found.0.points while (number_at tail.flows e)) (rates e found.0 found.1) last_now some (then_is (end link) end_in) (amount_is found.0.points _ _ last_now)
 
-      outflow_after : curves'.outflows e ≡ (outflow_new while tail.slopes then link (number_at tail.flows e) t).points
-      outflow_after = points_is (points_of new.outflows) e (outflow_new while tail.slopes then link (number_at tail.flows e) t).points
-          (slice_get-image (λ (t : Trace). t.points) new.outflows e (outflow_new while tail.slopes then link (number_at tail.flows e) t) outflow_entry)
+      abbrev Goes : List Point → List Point → Type 0
+      Goes points points' = GoesOnTo points points' (label_now (end link), value_now) (label_now (end link) +ℚ number_at tail.slopes (end link) *ℚ while, value_now +ℚ number_at tail.flows e *ℚ while)
 
-      outflow_last : LastPoint t.points (label_now link.head, at curves.outflows e (label_now link.head))
-      outflow_last = subst (λ (ps : List Point). LastPoint ps (label_now link.head, at curves.outflows e (label_now link.head))) outflow_is (grown.description_stands.outflows_end e link p)
+      trace_goes : 0ℚ <ℚ number_at tail.slopes (end link) → Goes (points_at (points_of traces) e) (points_at (points_of traces') e)
+      trace_goes h = subst (λ (ps : List Point). Goes ps (points_at (points_of traces') e)) (sym points_now) (subst (Goes found.0.points) (sym points_then) (trace_step.goes h))
 
-      outflow_step : TraceStep t.points (outflow_new while tail.slopes then link (number_at tail.flows e) t) (label_now link.head) (at curves.outflows e (label_now link.head)) while (number_at tail.flows e) (number_at tail.slopes link.head)
-      outflow_step = TraceStep-last t (number_at tail.flows e) (number_at tail.slopes link.head) (label_now link.head) (at curves.outflows e (label_now link.head)) while (number_at then link.head)
-          (value_after t.points while (number_at tail.flows e)) (outflow_rates e t here) outflow_last some (then_is link.head head_in) (amount_is t.points _ _ outflow_last)
+      trace_stays : number_at tail.slopes (end link) ≡ 0ℚ → points_at (points_of traces') e ≡ points_at (points_of traces) e
+      trace_stays h = points_then ∙ trace_step.stays h ∙ sym points_now
+
+      trace_rates : (t : Trace) → slice_get traces' e ≡ Some t → AreSlopes t.points t.rates
+      trace_rates t there = subst (λ (t : Trace). AreSlopes t.points t.rates) (same_Some _ t (sym trace_then ∙ there)) trace_step.rates
 
     -- the queue
     queue_here : slice_get flow.queues e ≡ Some (curves.queues e)
@@ -200,20 +199,14 @@ module _ (net : Network) (flow : Flow) (tail : Tail) (until : ℚ) (labels : Lis
   curves_go : CurvesGoOn net curves.inflows curves.labels flow.reached while (number_at tail.flows) (number_at tail.slopes) curves'.inflows curves'.labels
   curves_go = record {
     labels_go = label_goes;
-    inflows_go = λ e link p h. (let f = inflow_found e link p in
-        subst (λ (ps : List Point). GoesOnTo ps (curves'.inflows e) (label_now link.tail, at curves.inflows e (label_now link.tail)) (label_now link.tail +ℚ number_at tail.slopes link.tail *ℚ while, at curves.inflows e (label_now link.tail) +ℚ number_at tail.flows e *ℚ while)) (sym (inflow_is e link p f.0 f.1))
-        (subst (λ (ps : List Point). GoesOnTo f.0.points ps (label_now link.tail, at curves.inflows e (label_now link.tail)) (label_now link.tail +ℚ number_at tail.slopes link.tail *ℚ while, at curves.inflows e (label_now link.tail) +ℚ number_at tail.flows e *ℚ while)) (sym (inflow_after e link p f.0 f.1))
-        ((inflow_step e link p f.0 f.1).goes h)));
-    inflows_stay = λ e link p h. (let f = inflow_found e link p in inflow_after e link p f.0 f.1 ∙ (inflow_step e link p f.0 f.1).stays h ∙ sym (inflow_is e link p f.0 f.1));
+    inflows_go = λ e link p. trace_goes e link p (λ (k : Link). k.tail) (good.tails e link p) flow.inflows shape.inflows.count inflow_rates (grown.curves_stand.inflows_end e link p);
+    inflows_stay = λ e link p. trace_stays e link p (λ (k : Link). k.tail) (good.tails e link p) flow.inflows shape.inflows.count inflow_rates (grown.curves_stand.inflows_end e link p);
   }
 
   description_goes : DescriptionCurvesGoOn net (at curves.labels) (at curves'.labels) curves.outflows curves.queues flow.reached while (number_at tail.flows) (number_at tail.slopes) curves'.outflows curves'.queues
   description_goes = record {
-    outflows_go = λ e link p h. (let f = outflow_found e link p in
-        subst (λ (ps : List Point). GoesOnTo ps (curves'.outflows e) (label_now link.head, at curves.outflows e (label_now link.head)) (label_now link.head +ℚ number_at tail.slopes link.head *ℚ while, at curves.outflows e (label_now link.head) +ℚ number_at tail.flows e *ℚ while)) (sym (outflow_is e link p f.0 f.1))
-        (subst (λ (ps : List Point). GoesOnTo f.0.points ps (label_now link.head, at curves.outflows e (label_now link.head)) (label_now link.head +ℚ number_at tail.slopes link.head *ℚ while, at curves.outflows e (label_now link.head) +ℚ number_at tail.flows e *ℚ while)) (sym (outflow_after e link p f.0 f.1))
-        ((outflow_step e link p f.0 f.1).goes h)));
-    outflows_stay = λ e link p h. (let f = outflow_found e link p in outflow_after e link p f.0 f.1 ∙ (outflow_step e link p f.0 f.1).stays h ∙ sym (outflow_is e link p f.0 f.1));
+    outflows_go = λ e link p. trace_goes e link p (λ (k : Link). k.head) (good.heads e link p) flow.outflows shape.outflows.count outflow_rates (grown.description_stands.outflows_end e link p);
+    outflows_stay = λ e link p. trace_stays e link p (λ (k : Link). k.head) (good.heads e link p) flow.outflows shape.outflows.count outflow_rates (grown.description_stands.outflows_end e link p);
     queues_go = λ e link p h. subst (λ (ps : List Point). GoesOnTo (curves.queues e) ps (label_now link.tail, at curves.queues e (label_now link.tail)) (label_now link.tail +ℚ number_at tail.slopes link.tail *ℚ while, queue_by_slack link.capacity (link_slack (at curves'.labels) link (flow.reached +ℚ while)))) (sym (queue_after e link p))
         ((queue_step e link p).goes h);
     queues_stay = λ e link p h. queue_after e link p ∙ (queue_step e link p).stays h;
@@ -229,10 +222,10 @@ module _ (net : Network) (flow : Flow) (tail : Tail) (until : ℚ) (labels : Lis
   traces_length traces h = sym (length-map traces (λ (t : Trace). t.points)) ∙ h
 
   inflows_count : length new.inflows ≡ length net.links
-  inflows_count = inflows-length while tail.slopes then net.links tail.flows flow.inflows thin.flow_count (traces_length flow.inflows shape.inflows.count)
+  inflows_count = traces-length while tail.slopes then (λ (k : Link). k.tail) net.links tail.flows flow.inflows thin.flow_count (traces_length flow.inflows shape.inflows.count)
 
   outflows_count : length new.outflows ≡ length net.links
-  outflows_count = outflows-length while tail.slopes then net.links tail.flows flow.outflows thin.flow_count (traces_length flow.outflows shape.outflows.count)
+  outflows_count = traces-length while tail.slopes then (λ (k : Link). k.head) net.links tail.flows flow.outflows thin.flow_count (traces_length flow.outflows shape.outflows.count)
 
   new_shape : HasShape net new
   new_shape = record {
@@ -245,14 +238,12 @@ module _ (net : Network) (flow : Flow) (tail : Tail) (until : ℚ) (labels : Lis
   new_inflow_rates : HasSlopes new.inflows
   new_inflow_rates e trace there =
       let l = link_within net e (let n = inflows_count in let w = slice_get_within new.inflows e trace there in omega arith) in
-      let f = inflow_found e l.0 l.1 in
-      subst (λ (t : Trace). AreSlopes t.points t.rates) (same_Some _ trace (sym (inflow_entry e l.0 l.1 f.0 f.1) ∙ there)) (inflow_step e l.0 l.1 f.0 f.1).rates
+      trace_rates e l.0 l.1 (λ (k : Link). k.tail) (good.tails e l.0 l.1) flow.inflows shape.inflows.count inflow_rates (grown.curves_stand.inflows_end e l.0 l.1) trace there
 
   new_outflow_rates : HasSlopes new.outflows
   new_outflow_rates e trace there =
       let l = link_within net e (let n = outflows_count in let w = slice_get_within new.outflows e trace there in omega arith) in
-      let f = outflow_found e l.0 l.1 in
-      subst (λ (t : Trace). AreSlopes t.points t.rates) (same_Some _ trace (sym (outflow_entry e l.0 l.1 f.0 f.1) ∙ there)) (outflow_step e l.0 l.1 f.0 f.1).rates
+      trace_rates e l.0 l.1 (λ (k : Link). k.head) (good.heads e l.0 l.1) flow.outflows shape.outflows.count outflow_rates (grown.description_stands.outflows_end e l.0 l.1) trace there
 
   pub Equilibrium-extended : Equilibrium net new
   Equilibrium-extended = Equilibrium-grown net (moved labels tail.slopes while) new good new_grown new_shape new_inflow_rates new_outflow_rates
