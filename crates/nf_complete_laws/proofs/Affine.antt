@@ -1,5 +1,5 @@
 -- Affine numbers: a linear form of an assignment, plus a constant.
-use Rattle.std.proofs.Common.{◌≡◌, ℕ, zero, suc, List, [], ◌∷◌, ◌++◌, Bool, true, false, if◌then◌else◌, eqb}
+use Rattle.std.proofs.Common.{◌≡◌, ℕ, zero, suc, List, [], ◌∷◌, ◌++◌, Bool, true, false, if◌then◌else◌, eqb, map, ◌∙◌}
 use Rattle.nf_rational.specs.Rational.{ℚ}
 use Rattle.nf_rational.specs.Operations.{0ℚ, ◌+ℚ◌, ◌-ℚ◌, ◌*ℚ◌}
 use Rattle.nf_rational.specs.Order.{◌≤ℚ◌}
@@ -7,6 +7,7 @@ use Rattle.nf_rational_laws.proofs.Polynomial.{reading_of}
 use Rattle.nf_rational_laws.proofs.Linear.{le, eq, eq_times, linear_le, linear_eq}
 use Rattle.nf_model.specs.Network.{Link, sum_in, sum_out}
 use Rattle.nf_model_laws.proofs.Potential.{sum_to}
+use Rattle.nf_complete_laws.proofs.Turned.{turned, sum_in-turned}
 use Rattle.nf_linear_laws.specs.Systems.{Form, form_value}
 use Rattle.nf_linear_laws.proofs.Forms.{form_value-append, scaled, form_value-scaled, variable, form_value-variable}
 
@@ -75,16 +76,14 @@ pub Affine-sum_to : (n : ℕ) (f : ℕ → (ℕ → ℚ) → ℚ) → ((v : ℕ)
 Affine-sum_to zero f p = Affine-constant 0ℚ
 Affine-sum_to (suc n) f p = Affine-plus (λ x. sum_to n (λ v. f v x)) (f n) (Affine-sum_to n f p) (p n)
 
-pub Affine-sum_in : (links : List Link) (f : ℕ → (ℕ → ℚ) → ℚ) (v : ℕ) → ((e : ℕ) → Affine (f e)) → Affine (λ x. sum_in links (λ e. f e x) v)
-Affine-sum_in [] f v p = Affine-constant 0ℚ
-Affine-sum_in (link ∷ links) f v p =
-    let rest : Affine (λ x. sum_in links (λ e. f (suc e) x) v) = Affine-sum_in links (λ e. f (suc e)) v (λ e. p (suc e)) in
-    Affine-if (eqb link.head v) (λ x. f 0 x +ℚ sum_in links (λ e. f (suc e) x) v) (λ x. sum_in links (λ e. f (suc e) x) v)
-    (Affine-plus (f 0) (λ x. sum_in links (λ e. f (suc e) x) v) (p 0) rest) rest
-
 pub Affine-sum_out : (links : List Link) (f : ℕ → (ℕ → ℚ) → ℚ) (v : ℕ) → ((e : ℕ) → Affine (f e)) → Affine (λ x. sum_out links (λ e. f e x) v)
 Affine-sum_out [] f v p = Affine-constant 0ℚ
 Affine-sum_out (link ∷ links) f v p =
     let rest : Affine (λ x. sum_out links (λ e. f (suc e) x) v) = Affine-sum_out links (λ e. f (suc e)) v (λ e. p (suc e)) in
     Affine-if (eqb link.tail v) (λ x. f 0 x +ℚ sum_out links (λ e. f (suc e) x) v) (λ x. sum_out links (λ e. f (suc e) x) v)
     (Affine-plus (f 0) (λ x. sum_out links (λ e. f (suc e) x) v) (p 0) rest) rest
+
+pub Affine-sum_in : (links : List Link) (f : ℕ → (ℕ → ℚ) → ℚ) (v : ℕ) → ((e : ℕ) → Affine (f e)) → Affine (λ x. sum_in links (λ e. f e x) v)
+Affine-sum_in links f v p =
+    let along : Affine (λ x. sum_out (map turned links) (λ e. f e x) v) = Affine-sum_out (map turned links) f v p in
+    record { form = along.form; rest = along.rest; is = λ x. sum_in-turned links (λ e. f e x) v ∙ along.is x }

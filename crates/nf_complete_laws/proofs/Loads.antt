@@ -1,6 +1,6 @@
 -- The flow of a link if slopes are powers of a number k that is at least 1. Here a and b are the exponents of the slopes of the tail and
 -- the head, and t is the exponent of the flow into the head.
-use Rattle.std.proofs.Common.{◌≡◌, ℕ, ◌<◌, ◌≤◌, max, [], ◌∷◌, inl, inr, ⊎_elim, Bool, true, false, Option, Some, None, subst, refl, arith}
+use Rattle.std.proofs.Common.{◌≡◌, ℕ, ◌<◌, ◌≤◌, max, [], ◌∷◌, ◌⊎◌, inl, inr, ⊎_elim, Bool, true, false, Option, Some, None, subst, refl, arith}
 use Rattle.std.proofs.lemmas.Bool.{cases_lt}
 use Rattle.std.proofs.lemmas.Option.{none-some, same_Some}
 use Rattle.nf_rational.specs.Rational.{ℚ}
@@ -89,17 +89,16 @@ module _ (k : ℚ) (one : 1ℚ ≤ℚ k) (a b t : ℕ) where
       (λ (l : a ≤ b). ⊎_elim (λ (m : t < b). level l m) (λ (m : b ≤ t). full l m) (cases_lt t b))
       (cases_lt b a)
     where
+      within : (x : ℚ) → 0ℚ ≤ℚ x → x ≤ℚ c *ℚ power k b → (x ≤ℚ 0ℚ) ⊎ (power k a ≤ℚ power k b) → (power k b ≤ℚ power k a) ⊎ ((d : ℚ) × (Some c ≡ Some d) × (d *ℚ power k b ≤ℚ x))
+          → Fits (Some c) x (power k a) (power k b)
+      within x positive most used upper = record { no_negative = positive; most = λ d e. same_capacity x c (power k b) d most e; used = used; upper = upper }
+
       empty : b < a → Load k false (Some c) a b t
       empty l = record {
         flow = 0ℚ;
         no_negative = ≤ℚ_refl 0ℚ;
         fills = λ e. absurd (cc);
-        fits = λ _. record {
-          no_negative = ≤ℚ_refl 0ℚ;
-          most = λ d e. same_capacity 0ℚ c (power k b) d (nn_times c (power k b) n (power-nn k one b)) e;
-          used = inl (≤ℚ_refl 0ℚ);
-          upper = inl (rises b a (omega arith));
-        };
+        fits = λ _. within 0ℚ (≤ℚ_refl 0ℚ) (nn_times c (power k b) n (power-nn k one b)) (inl (≤ℚ_refl 0ℚ)) (inl (rises b a (omega arith)));
         most = nn_times c (power k t) n (power-nn k one t);
         least = λ e. let f : b ≡ max a t = e in absurd (omega arith);
       }
@@ -109,12 +108,7 @@ module _ (k : ℚ) (one : 1ℚ ≤ℚ k) (a b t : ℕ) where
         flow = c *ℚ power k t;
         no_negative = nn_times c (power k t) n (power-nn k one t);
         fills = λ e. absurd (cc);
-        fits = λ _. record {
-          no_negative = nn_times c (power k t) n (power-nn k one t);
-          most = λ d e. same_capacity (c *ℚ power k t) c (power k b) d (times_le c (power k t) (power k b) n (rises t b (omega arith))) e;
-          used = inr (rises a b l);
-          upper = inl (rises b a (omega arith));
-        };
+        fits = λ _. within (c *ℚ power k t) (nn_times c (power k t) n (power-nn k one t)) (times_le c (power k t) (power k b) n (rises t b (omega arith))) (inr (rises a b l)) (inl (rises b a (omega arith)));
         most = ≤ℚ_refl (c *ℚ power k t);
         least = λ _. ≤ℚ_refl (c *ℚ power k t);
       }
@@ -124,12 +118,7 @@ module _ (k : ℚ) (one : 1ℚ ≤ℚ k) (a b t : ℕ) where
         flow = c *ℚ power k b;
         no_negative = nn_times c (power k b) n (power-nn k one b);
         fills = λ e. absurd (cc);
-        fits = λ _. record {
-          no_negative = nn_times c (power k b) n (power-nn k one b);
-          most = λ d e. same_capacity (c *ℚ power k b) c (power k b) d (≤ℚ_refl (c *ℚ power k b)) e;
-          used = inr (rises a b l);
-          upper = inr (c, refl, ≤ℚ_refl (c *ℚ power k b));
-        };
+        fits = λ _. within (c *ℚ power k b) (nn_times c (power k b) n (power-nn k one b)) (≤ℚ_refl (c *ℚ power k b)) (inr (rises a b l)) (inr (c, refl, ≤ℚ_refl (c *ℚ power k b)));
         most = times_le c (power k b) (power k t) n (rises b t m);
         least = λ e. let f : b ≡ max a t = e in times_le c (power k t) (power k b) n (rises t b (omega arith));
       }
