@@ -46,49 +46,31 @@ one_named : read (codes "# b carries nothing" ∷ codes "flows 1" ∷ codes "flo
 unfolding flows_in number_of number_parts whole ratio gcd le_ℚ lt_ℚ
 one_named = refl
 
-no_ascii : read (codes "flows 1" ∷ codes "rate a 1" ∷ (127 ∷ []) ∷ []) ≡ Err (S1, 3)
-unfolding flows_in number_of number_parts whole ratio gcd le_ℚ lt_ℚ
-no_ascii = refl
+-- For each rule a file that breaks it first, with the line.
+abbrev Refused : Type 0
+Refused = List (List ℕ) × FlowsRule × ℕ
 
-no_version : read (codes "# a comment" ∷ codes "flow a 1" ∷ codes "end" ∷ []) ≡ Err (S3, 2)
-unfolding flows_in number_of number_parts whole ratio gcd le_ℚ lt_ℚ
-no_version = refl
+abbrev refused : List Refused
+refused =
+    (codes "flows 1" ∷ codes "rate a 1" ∷ (127 ∷ []) ∷ [], S1, 3)
+    ∷ (codes "# a comment" ∷ codes "flow a 1" ∷ codes "end" ∷ [], S3, 2)
+    ∷ ([], S3, 1)
+    ∷ (codes "flows 1" ∷ codes "end" ∷ codes "rate" ∷ [], S4, 3)
+    ∷ (codes "flows 1" ∷ codes "rate a" ∷ codes "end" ∷ [], S5, 2)
+    ∷ (codes "flows 1" ∷ codes "flow x" ∷ codes "end" ∷ [], S6, 2)
+    ∷ (codes "flows 1" ∷ codes "flow s -1" ∷ codes "end" ∷ [], S7, 2)
+    ∷ (codes "flows 1" ∷ codes "flow a 1.5" ∷ codes "end" ∷ [], S8, 2)
+    ∷ (codes "flows 1" ∷ codes "slope t 0" ∷ codes "slope t -1" ∷ codes "end" ∷ [], S9, 3)
+    ∷ (codes "flows 1" ∷ codes "flow a 0" ∷ codes "slope s 1" ∷ codes "flow a 0" ∷ codes "end" ∷ [], S10, 4)
+    ∷ (codes "flows 1" ∷ codes "flow a 1" ∷ [], S11, 0)
+    ∷ []
 
-nothing : read [] ≡ Err (S3, 1)
-unfolding flows_in number_of number_parts whole ratio gcd le_ℚ lt_ℚ
-nothing = refl
+abbrev refusal : Refused → Result (List Parts × List Parts) (FlowsRule × ℕ)
+refusal file = Err (file.1, file.2)
 
-after_end : read (codes "flows 1" ∷ codes "end" ∷ codes "rate" ∷ []) ≡ Err (S4, 3)
+all_refused : map (λ (file : Refused). read file.0) refused ≡ map refusal refused
 unfolding flows_in number_of number_parts whole ratio gcd le_ℚ lt_ℚ
-after_end = refl
-
-no_keyword : read (codes "flows 1" ∷ codes "rate a" ∷ codes "end" ∷ []) ≡ Err (S5, 2)
-unfolding flows_in number_of number_parts whole ratio gcd le_ℚ lt_ℚ
-no_keyword = refl
-
-one_word_less : read (codes "flows 1" ∷ codes "flow x" ∷ codes "end" ∷ []) ≡ Err (S6, 2)
-unfolding flows_in number_of number_parts whole ratio gcd le_ℚ lt_ℚ
-one_word_less = refl
-
-no_link : read (codes "flows 1" ∷ codes "flow s -1" ∷ codes "end" ∷ []) ≡ Err (S7, 2)
-unfolding flows_in number_of number_parts whole ratio gcd le_ℚ lt_ℚ
-no_link = refl
-
-no_number : read (codes "flows 1" ∷ codes "flow a 1.5" ∷ codes "end" ∷ []) ≡ Err (S8, 2)
-unfolding flows_in number_of number_parts whole ratio gcd le_ℚ lt_ℚ
-no_number = refl
-
-negative : read (codes "flows 1" ∷ codes "slope t 0" ∷ codes "slope t -1" ∷ codes "end" ∷ []) ≡ Err (S9, 3)
-unfolding flows_in number_of number_parts whole ratio gcd le_ℚ lt_ℚ
-negative = refl
-
-twice : read (codes "flows 1" ∷ codes "flow a 0" ∷ codes "slope s 1" ∷ codes "flow a 0" ∷ codes "end" ∷ []) ≡ Err (S10, 4)
-unfolding flows_in number_of number_parts whole ratio gcd le_ℚ lt_ℚ
-twice = refl
-
-no_end : read (codes "flows 1" ∷ codes "flow a 1" ∷ []) ≡ Err (S11, 0)
-unfolding flows_in number_of number_parts whole ratio gcd le_ℚ lt_ℚ
-no_end = refl
+all_refused = refl
 
 -- ---- the printed answer if the flow of a has grown to 1 and b is empty
 written : settled_text two_named (Some Tight ∷ Some Zero ∷ []) (n 1 ∷ n 0 ∷ []) ≡ text_of (codes "state a tight" ∷ codes "state b zero" ∷ codes "flow a 1" ∷ codes "flow b 0" ∷ codes "end" ∷ [])

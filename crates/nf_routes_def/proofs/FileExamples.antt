@@ -56,83 +56,46 @@ two : read (codes "routes 1" ∷ codes "route one p z" ∷ codes "rate one 0 1" 
 unfolding routes_in routes_of_lines takes_all loading_order number_of number_parts whole ratio gcd le_ℚ lt_ℚ
 two = refl
 
-no_ascii : read (codes "routes 1" ∷ codes "rate a 1" ∷ (127 ∷ []) ∷ []) ≡ Err (codes "G1", 3)
-unfolding routes_in routes_of_lines takes_all loading_order number_of number_parts whole ratio gcd le_ℚ lt_ℚ
-no_ascii = refl
+-- For each rule files that break it first, with the line.
+abbrev Refused : Type 0
+Refused = List (List ℕ) × List ℕ × ℕ
 
-nothing : read [] ≡ Err (codes "G3", 1)
-unfolding routes_in routes_of_lines takes_all loading_order number_of number_parts whole ratio gcd le_ℚ lt_ℚ
-nothing = refl
+abbrev refused_files : List Refused
+refused_files =
+    (codes "routes 1" ∷ codes "rate a 1" ∷ (127 ∷ []) ∷ [], codes "G1", 3)
+    ∷ ([], codes "G3", 1)
+    ∷ (codes "# a comment" ∷ codes "routes 2" ∷ codes "end" ∷ [], codes "G3", 2)
+    ∷ (codes "routes 1" ∷ codes "end" ∷ codes "route" ∷ [], codes "G4", 3)
+    ∷ (codes "routes 1" ∷ codes "inflow 0 1" ∷ codes "end" ∷ [], codes "G5", 2)
+    ∷ (codes "routes 1" ∷ codes "route one" ∷ codes "end" ∷ [], codes "G6", 2)
+    ∷ (codes "routes 1" ∷ codes "route o/e x" ∷ codes "end" ∷ [], codes "G7", 2)
+    -- a route cannot name an unreached link
+    ∷ (codes "routes 1" ∷ codes "route one w" ∷ codes "end" ∷ [], codes "G8", 2)
+    -- a rate needs the line of its route above it
+    ∷ (codes "routes 1" ∷ codes "rate one 0 x" ∷ codes "route one p z" ∷ codes "end" ∷ [], codes "G8", 2)
+    ∷ (codes "routes 1" ∷ codes "route one p z" ∷ codes "rate one 0 1.5" ∷ codes "end" ∷ [], codes "G9", 3)
+    -- a second route with a name already used is not tested for a walk
+    ∷ (codes "routes 1" ∷ codes "route one p z" ∷ codes "route one z p" ∷ codes "end" ∷ [], codes "G10", 3)
+    ∷ (codes "routes 1" ∷ map (λ k. codes "route r" ++ digits_of k ++ codes " p z") (range_with_len 0 101) ++ codes "end" ∷ [], codes "G11", 102)
+    ∷ (codes "routes 1" ∷ codes "route one p q" ∷ codes "end" ∷ [], codes "G12", 2)
+    ∷ (codes "routes 1" ∷ codes "route one p z" ∷ codes "rate one 1 0" ∷ codes "rate one 0 -1" ∷ codes "end" ∷ [], codes "G13", 4)
+    ∷ (codes "routes 1" ∷ codes "route one p z" ∷ codes "route two q z" ∷ codes "rate one 1 0" ∷ codes "rate two 1 2" ∷ codes "rate one 1 2" ∷ codes "end" ∷ [], codes "G14", 6)
+    ∷ (codes "routes 1" ∷ codes "route one p z" ∷ [], codes "G16", 0)
+    ∷ []
 
-no_version : read (codes "# a comment" ∷ codes "routes 2" ∷ codes "end" ∷ []) ≡ Err (codes "G3", 2)
-unfolding routes_in routes_of_lines takes_all loading_order number_of number_parts whole ratio gcd le_ℚ lt_ℚ
-no_version = refl
+abbrev refusal : Refused → Result (List (Name × List ℕ × List (Parts × Parts))) (List ℕ × ℕ)
+refusal file = Err (file.1, file.2)
 
-after_end : read (codes "routes 1" ∷ codes "end" ∷ codes "route" ∷ []) ≡ Err (codes "G4", 3)
-unfolding routes_in routes_of_lines takes_all loading_order number_of number_parts whole ratio gcd le_ℚ lt_ℚ
-after_end = refl
-
-no_keyword : read (codes "routes 1" ∷ codes "inflow 0 1" ∷ codes "end" ∷ []) ≡ Err (codes "G5", 2)
-unfolding routes_in routes_of_lines takes_all loading_order number_of number_parts whole ratio gcd le_ℚ lt_ℚ
-no_keyword = refl
-
-no_links : read (codes "routes 1" ∷ codes "route one" ∷ codes "end" ∷ []) ≡ Err (codes "G6", 2)
-unfolding routes_in routes_of_lines takes_all loading_order number_of number_parts whole ratio gcd le_ℚ lt_ℚ
-no_links = refl
-
-no_name : read (codes "routes 1" ∷ codes "route o/e x" ∷ codes "end" ∷ []) ≡ Err (codes "G7", 2)
-unfolding routes_in routes_of_lines takes_all loading_order number_of number_parts whole ratio gcd le_ℚ lt_ℚ
-no_name = refl
-
--- a route cannot name an unreached link
-idle : read (codes "routes 1" ∷ codes "route one w" ∷ codes "end" ∷ []) ≡ Err (codes "G8", 2)
-unfolding routes_in routes_of_lines takes_all loading_order number_of number_parts whole ratio gcd le_ℚ lt_ℚ
-idle = refl
-
--- a rate needs the line of its route above it
-no_route : read (codes "routes 1" ∷ codes "rate one 0 x" ∷ codes "route one p z" ∷ codes "end" ∷ []) ≡ Err (codes "G8", 2)
-unfolding routes_in routes_of_lines takes_all loading_order number_of number_parts whole ratio gcd le_ℚ lt_ℚ
-no_route = refl
-
-no_number : read (codes "routes 1" ∷ codes "route one p z" ∷ codes "rate one 0 1.5" ∷ codes "end" ∷ []) ≡ Err (codes "G9", 3)
-unfolding routes_in routes_of_lines takes_all loading_order number_of number_parts whole ratio gcd le_ℚ lt_ℚ
-no_number = refl
-
--- a second route with a name already used is not tested for a walk
-twice : read (codes "routes 1" ∷ codes "route one p z" ∷ codes "route one z p" ∷ codes "end" ∷ []) ≡ Err (codes "G10", 3)
-unfolding routes_in routes_of_lines takes_all loading_order number_of number_parts whole ratio gcd le_ℚ lt_ℚ
-twice = refl
-
-too_many : read (codes "routes 1" ∷ map (λ k. codes "route r" ++ digits_of k ++ codes " p z") (range_with_len 0 101) ++ codes "end" ∷ []) ≡ Err (codes "G11", 102)
+all_refused : map (λ (file : Refused). read file.0) refused_files ≡ map refusal refused_files
 unfolding routes_in routes_of_lines takes_all loading_order number_of number_parts digits_of whole ratio gcd le_ℚ lt_ℚ
-too_many = refl
-
-no_walk : read (codes "routes 1" ∷ codes "route one p q" ∷ codes "end" ∷ []) ≡ Err (codes "G12", 2)
-unfolding routes_in routes_of_lines takes_all loading_order number_of number_parts whole ratio gcd le_ℚ lt_ℚ
-no_walk = refl
-
-negative : read (codes "routes 1" ∷ codes "route one p z" ∷ codes "rate one 1 0" ∷ codes "rate one 0 -1" ∷ codes "end" ∷ []) ≡ Err (codes "G13", 4)
-unfolding routes_in routes_of_lines takes_all loading_order number_of number_parts whole ratio gcd le_ℚ lt_ℚ
-negative = refl
-
-not_above : read (codes "routes 1" ∷ codes "route one p z" ∷ codes "route two q z" ∷ codes "rate one 1 0" ∷ codes "rate two 1 2" ∷ codes "rate one 1 2" ∷ codes "end" ∷ []) ≡ Err (codes "G14", 6)
-unfolding routes_in routes_of_lines takes_all loading_order number_of number_parts whole ratio gcd le_ℚ lt_ℚ
-not_above = refl
-
-no_end : read (codes "routes 1" ∷ codes "route one p z" ∷ []) ≡ Err (codes "G16", 0)
-unfolding routes_in routes_of_lines takes_all loading_order number_of number_parts whole ratio gcd le_ℚ lt_ℚ
-no_end = refl
+all_refused = refl
 
 -- ---- links b from u to v and c back: one route takes c after b, the other b after c
 abbrev crossing : Named
-crossing = record {
-  version = 1;
-  net = record {
+crossing = record named {
+  net = record net {
     nodes = 4;
-    source = 0;
-    sink = 1;
     links = link 0 2 (n 1) (Some (n 1)) ∷ link 2 3 (n 1) (Some (n 1)) ∷ link 3 2 (n 1) (Some (n 1)) ∷ link 3 1 (n 1) (Some (n 1)) ∷ link 2 1 (n 1) (Some (n 1)) ∷ link 0 3 (n 1) (Some (n 1)) ∷ [];
-    pieces = [];
   };
   node_names = codes "s" ∷ codes "t" ∷ codes "u" ∷ codes "v" ∷ [];
   link_names = codes "a" ∷ codes "b" ∷ codes "c" ∷ codes "d" ∷ codes "e" ∷ codes "f" ∷ [];
