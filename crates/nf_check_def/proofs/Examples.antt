@@ -1,5 +1,5 @@
 -- Examples of loading and checking small networks, by computation.
-use Rattle.std.specs.Prelude.{◌≡◌, ℕ, List, [], ◌∷◌, Option, Some, None, Result, Ok, Err, map, pos, refl}
+use Rattle.std.specs.Prelude.{◌≡◌, ℕ, List, [], ◌∷◌, Option, Some, None, Result, Ok, Err, pos, refl}
 use Rattle.nf_rational.specs.Gcd.{gcd}
 use Rattle.nf_rational.specs.Rational.{ℚ, ratio}
 use Rattle.nf_rational.specs.Operations.{whole, neg_ℚ, inv_ℚ, ◌+ℚ◌, ◌-ℚ◌, ◌*ℚ◌, ◌/ℚ◌}
@@ -16,6 +16,7 @@ use Rattle.nf_model.specs.Curve.{Point}
 use Rattle.nf_model.specs.Network.{Network, Piece}
 use Rattle.nf_model.specs.Equilibrium.{Trace, Flow}
 use Rattle.nf_thin_def.proofs.Examples.{n, L, in_127_bits, link, Parts, parts_of, i}
+use Rattle.nf_thin_def.proofs.Runs.{points_in, two_links}
 use Rattle.nf_curve_def.specs.Lines.{checked_slope, checked_line, checked_inverse, checked_cross}
 use Rattle.nf_curve_def.specs.Values.{checked_value, checked_cut}
 use Rattle.nf_curve_def.specs.Times.{both_times}
@@ -36,9 +37,6 @@ use Rattle.nf_check_def.specs.Routes.{checked_middle, detour_list}
 use Rattle.nf_check_def.specs.CheckList.{trial, check_list}
 
 -- ---- by numerators and denominators
-abbrev points_in : List Point → List (Parts × Parts)
-points_in points = map (λ p. (parts_of p.0, parts_of p.1)) points
-
 abbrev loaded_in : Result Loaded (Passed ℚ) → Option (List (List (Parts × Parts)))
 loaded_in (Ok loaded) = Some (points_in loaded.queue ∷ points_in loaded.outflow ∷ points_in loaded.exit ∷ [])
 loaded_in (Err p) = None
@@ -58,15 +56,6 @@ unfolding load_link_list checked_cumulative checked_loading checked_cut checked_
 loading = refl
 
 -- ---- two links from source to sink: transit times 1 and 3, capacities 1, supplied at rate 3
-abbrev network_b : Network
-network_b = record {
-  nodes = 2;
-  source = 0;
-  sink = 1;
-  links = link 0 1 (n 1) (Some (n 1)) ∷ link 0 1 (n 3) (Some (n 1)) ∷ [];
-  pieces = record { start = n 0; rate = n 3 } ∷ [];
-}
-
 abbrev trace : List Point → List ℚ → Trace
 trace points rates = record { points = points; rates = rates }
 
@@ -83,17 +72,17 @@ flow_with rate amount later = record {
 }
 
 -- it is an equilibrium
-accepted : answer_in (check_list in_127_bits network_b (flow_with (n 3) (n 3) (ratio (pos 3) 2))) ≡ Ok Yes
+accepted : answer_in (check_list in_127_bits two_links (flow_with (n 3) (n 3) (ratio (pos 3) 2))) ≡ Ok Yes
 unfolding check_list trial least_exits total_in total_out detour_list checked_middle checked_difference checked_composed checked_least checked_sum both_times checked_inverse checked_cross checked_cumulative checked_loading checked_cut checked_value checked_short checked_slope checked_line grown drained exit_after checked beyond whole ratio gcd neg_ℚ inv_ℚ ◌+ℚ◌ ◌-ℚ◌ ◌*ℚ◌ ◌/ℚ◌ le_ℚ lt_ℚ min_ℚ max_ℚ
 accepted = refl
 
 -- an amount that doesn't fit its rate
-other_rate : answer_in (check_list in_127_bits network_b (flow_with (n 3) (ratio (pos 22) 7) (ratio (pos 3) 2))) ≡ Ok (No C2 (OfLink 0) (i 0) (i 3) (pos 22, 7))
+other_rate : answer_in (check_list in_127_bits two_links (flow_with (n 3) (ratio (pos 22) 7) (ratio (pos 3) 2))) ≡ Ok (No C2 (OfLink 0) (i 0) (i 3) (pos 22, 7))
 unfolding check_list trial least_exits total_in total_out detour_list checked_middle checked_difference checked_composed checked_least checked_sum both_times checked_inverse checked_cross checked_cumulative checked_loading checked_cut checked_value checked_short checked_slope checked_line grown drained exit_after checked beyond whole ratio gcd neg_ℚ inv_ℚ ◌+ℚ◌ ◌-ℚ◌ ◌*ℚ◌ ◌/ℚ◌ le_ℚ lt_ℚ min_ℚ max_ℚ
 other_rate = refl
 
 -- with the rates that agree with it, the sink's label differs: the first corner is where the two links' exits cross
-other_label : answer_in (check_list in_127_bits network_b (flow_with (ratio (pos 22) 7) (ratio (pos 22) 7) (ratio (pos 61) 42))) ≡ Ok (No C3 (Node 1) (pos 14, 15) (pos 19, 5) (pos 59, 15))
+other_label : answer_in (check_list in_127_bits two_links (flow_with (ratio (pos 22) 7) (ratio (pos 22) 7) (ratio (pos 61) 42))) ≡ Ok (No C3 (Node 1) (pos 14, 15) (pos 19, 5) (pos 59, 15))
 unfolding check_list trial least_exits total_in total_out detour_list checked_middle checked_difference checked_composed checked_least checked_sum both_times checked_inverse checked_cross checked_cumulative checked_loading checked_cut checked_value checked_short checked_slope checked_line grown drained exit_after checked beyond whole ratio gcd neg_ℚ inv_ℚ ◌+ℚ◌ ◌-ℚ◌ ◌*ℚ◌ ◌/ℚ◌ le_ℚ lt_ℚ min_ℚ max_ℚ
 other_label = refl
 
@@ -107,7 +96,7 @@ first_only = record {
   queues = ((n 0, n 0) ∷ (n 4, n 8) ∷ []) ∷ ((n 0, n 0) ∷ []) ∷ [];
 }
 
-too_little : answer_in (check_list in_127_bits network_b first_only) ≡ Ok (No C7 (Node 1) (i 4) (i 6) (i 12))
+too_little : answer_in (check_list in_127_bits two_links first_only) ≡ Ok (No C7 (Node 1) (i 4) (i 6) (i 12))
 unfolding check_list trial least_exits total_in total_out detour_list checked_middle checked_difference checked_composed checked_least checked_sum both_times checked_inverse checked_cross checked_cumulative checked_loading checked_cut checked_value checked_short checked_slope checked_line grown drained exit_after checked beyond whole ratio gcd neg_ℚ inv_ℚ ◌+ℚ◌ ◌-ℚ◌ ◌*ℚ◌ ◌/ℚ◌ le_ℚ lt_ℚ min_ℚ max_ℚ
 too_little = refl
 
@@ -178,7 +167,7 @@ lesser : both_in (checked_least in_127_bits ((n 0, n 1) ∷ (n 4, n 13) ∷ []) 
 unfolding checked_least both_times checked_value checked_cross checked_line checked_slope checked beyond whole ratio gcd neg_ℚ inv_ℚ ◌+ℚ◌ ◌-ℚ◌ ◌*ℚ◌ ◌/ℚ◌ le_ℚ lt_ℚ min_ℚ
 lesser = refl
 
--- ---- unbounded links: with `network_b`'s first link unbounded, loaded at rate 2
+-- ---- unbounded links: with `two_links`'s first link unbounded, loaded at rate 2
 unbounded_loading : loaded_in (load_link_list in_127_bits (n 3) (link 0 1 (n 1) None, record { start = n 0; rate = n 2 } ∷ []))
     ≡ Some (((i 0, i 0) ∷ (i 3, i 0) ∷ []) ∷ ((i 0, i 0) ∷ (i 1, i 0) ∷ (i 4, i 6) ∷ []) ∷ ((i 0, i 1) ∷ (i 3, i 4) ∷ []) ∷ [])
 unfolding load_link_list checked_cumulative checked_loading checked_cut checked_value checked_short checked_slope checked_line grown drained exit_after checked beyond whole ratio gcd neg_ℚ inv_ℚ ◌+ℚ◌ ◌-ℚ◌ ◌*ℚ◌ ◌/ℚ◌ le_ℚ lt_ℚ min_ℚ

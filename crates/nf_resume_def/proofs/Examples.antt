@@ -12,13 +12,13 @@ use Rattle.nf_frac_def.specs.declared.Passed.{Passed}
 use Rattle.nf_frac_def.specs.declared.PassedAt.{PassedAt}
 use Rattle.nf_model.specs.declared.State.TheVariants.{Full}
 use Rattle.nf_model.specs.Curve.{Point}
-use Rattle.nf_model.specs.Network.{Network}
 use Rattle.nf_model.specs.Equilibrium.{Trace, Flow}
 use Rattle.nf_model.specs.Pattern.{Pattern}
 use Rattle.nf_thin_def.specs.ReportCurves.{GrowingCurve, LinkCurves}
 use Rattle.nf_thin_def.specs.PhaseRun.{Standing}
 use Rattle.nf_net_def.specs.Report.{Report}
-use Rattle.nf_thin_def.proofs.Examples.{n, in_127_bits, link, Parts, parts_of, i}
+use Rattle.nf_thin_def.proofs.Examples.{n, in_127_bits, Parts, parts_of, i}
+use Rattle.nf_thin_def.proofs.Runs.{points_in, two_links}
 use Rattle.nf_curve_def.specs.Lines.{checked_slope, checked_line, checked_inverse, checked_cross}
 use Rattle.nf_curve_def.specs.Values.{checked_value, checked_cut}
 use Rattle.nf_curve_def.specs.Times.{both_times}
@@ -34,9 +34,6 @@ use Rattle.nf_check_def.specs.Routes.{checked_middle, detour_list}
 use Rattle.nf_check_def.specs.CheckList.{trial, check_list}
 use Rattle.nf_resume_def.specs.Restoring.{restore_list}
 use Rattle.nf_resume_def.specs.Resuming.{Outcome, Refused, Stands, cut_flow, restart_list, resume_list}
-
-abbrev points_in : List Point → List (Parts × Parts)
-points_in points = map (λ p. (parts_of p.0, parts_of p.1)) points
 
 abbrev curve_in : GrowingCurve → List (Parts × Parts) × Option Parts
 curve_in c = (points_in c.points, option_map parts_of c.slope)
@@ -58,15 +55,6 @@ abbrev outcome_in : Result Outcome (PassedAt ℚ) → Option Seen
 outcome_in (Ok (Stands s)) = Some (standing_in s)
 outcome_in (Ok (Refused answer)) = None
 outcome_in (Err p) = None
-
-abbrev network_b : Network
-network_b = record {
-  nodes = 2;
-  source = 0;
-  sink = 1;
-  links = link 0 1 (n 1) (Some (n 1)) ∷ link 0 1 (n 3) (Some (n 1)) ∷ [];
-  pieces = record { start = n 0; rate = n 3 } ∷ [];
-}
 
 abbrev half : ℕ → ℚ
 half k = ratio (pos k) 2
@@ -109,10 +97,10 @@ expected = Some (
   ),
 )
 
-resumed_at_2 : outcome_in (resume_list in_127_bits network_b (report to_2)) ≡ expected
+resumed_at_2 : outcome_in (resume_list in_127_bits two_links (report to_2)) ≡ expected
 unfolding resume_list restart_list cut_flow restore_list check_list trial least_exits total_in total_out detour_list checked_middle checked_difference checked_composed checked_least checked_sum both_times checked_inverse checked_cross checked_cumulative checked_loading checked_cut checked_value checked_short checked_slope checked_line grown drained exit_after checked beyond whole ratio gcd neg_ℚ inv_ℚ ◌+ℚ◌ ◌-ℚ◌ ◌*ℚ◌ ◌/ℚ◌ le_ℚ lt_ℚ min_ℚ max_ℚ
 resumed_at_2 = refl
 
-cut_at_2 : outcome_in (resume_list in_127_bits network_b (report beyond_2)) ≡ expected
+cut_at_2 : outcome_in (resume_list in_127_bits two_links (report beyond_2)) ≡ expected
 unfolding resume_list restart_list cut_flow restore_list check_list trial least_exits total_in total_out detour_list checked_middle checked_difference checked_composed checked_least checked_sum both_times checked_inverse checked_cross checked_cumulative checked_loading checked_cut checked_value checked_short checked_slope checked_line grown drained exit_after checked beyond whole ratio gcd neg_ℚ inv_ℚ ◌+ℚ◌ ◌-ℚ◌ ◌*ℚ◌ ◌/ℚ◌ le_ℚ lt_ℚ min_ℚ max_ℚ
 cut_at_2 = refl
