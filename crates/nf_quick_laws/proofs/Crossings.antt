@@ -26,11 +26,11 @@ one_and a b c e f = linear_eq (a ∷ b ∷ c ∷ []) (eq e ∷ eq f ∷ []) (sea
 none_on : (a b c : ℚ) → a ≡ 0ℚ → b ≡ c → a +ℚ b ≡ c
 none_on a b c e f = linear_eq (a ∷ b ∷ c ∷ []) (eq e ∷ eq f ∷ []) (search reading_of depth 12) tt tt
 
-choose : (b : Bool) (x y : ℚ) → b ≡ true → (if b then x else y) ≡ x
+pub choose : (b : Bool) (x y : ℚ) → b ≡ true → (if b then x else y) ≡ x
 choose true x y e = refl
 choose false x y e = absurd (cc)
 
-choose_not : (b : Bool) (x y : ℚ) → b ≡ false → (if b then x else y) ≡ y
+pub choose_not : (b : Bool) (x y : ℚ) → b ≡ false → (if b then x else y) ≡ y
 choose_not true x y e = absurd (cc)
 choose_not false x y e = refl
 

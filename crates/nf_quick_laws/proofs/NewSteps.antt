@@ -257,19 +257,20 @@ module _ (net : Network) (flows new : List ℚ) (walk : List Step) (amount : ℚ
       by_way true capacity g = refl
       by_way false capacity g = absurd (no_flow_back _ (ap (λ (k : ℕ). number_at flows k) t.link ∙ z) g)
 
-  into_source : (e : ℕ) (link : Link) → IsLink net e link → link.head ≡ net.source → number_at new e ≡ 0ℚ
-  into_source e link p h = ⊎_elim
-      (λ (z : crossed walk e ≡ 0ℚ). stays _ _ _ amount z (pushed.flow e) ∙ sound.into_source e link p h)
-      (λ (t : Taken e). absurd (t.holds.0.end_other
-      (sym t.holds.0.leads.ends ∙ ap (λ (d : Bool). end_of d t.holds.0.leads.link) (only_along e t (sound.into_source e link p h)) ∙ ap (λ (l : Link). l.head) (same_link e t.holds.0.leads.link link (taken_link e t) p) ∙ h)))
+  -- A link without flow that the walk can not take stays without flow.
+  not_taken : (e : ℕ) → number_at flows e ≡ 0ℚ → (Taken e → ⊥) → number_at new e ≡ 0ℚ
+  not_taken e z none = ⊎_elim
+      (λ (c : crossed walk e ≡ 0ℚ). stays _ _ _ amount c (pushed.flow e) ∙ z)
+      (λ (t : Taken e). absurd (none t))
       (taken_or_not e)
 
+  into_source : (e : ℕ) (link : Link) → IsLink net e link → link.head ≡ net.source → number_at new e ≡ 0ℚ
+  into_source e link p h = let z = sound.into_source e link p h in not_taken e z (λ t. t.holds.0.end_other
+      (sym t.holds.0.leads.ends ∙ ap (λ (d : Bool). end_of d t.holds.0.leads.link) (only_along e t z) ∙ ap (λ (l : Link). l.head) (same_link e t.holds.0.leads.link link (taken_link e t) p) ∙ h))
+
   out_of_sink : (e : ℕ) (link : Link) → IsLink net e link → link.tail ≡ net.sink → number_at new e ≡ 0ℚ
-  out_of_sink e link p h = ⊎_elim
-      (λ (z : crossed walk e ≡ 0ℚ). stays _ _ _ amount z (pushed.flow e) ∙ sound.out_of_sink e link p h)
-      (λ (t : Taken e). absurd (t.holds.0.begin_other
-      (sym t.holds.0.leads.begins ∙ ap (λ (d : Bool). begin_of d t.holds.0.leads.link) (only_along e t (sound.out_of_sink e link p h)) ∙ ap (λ (l : Link). l.tail) (same_link e t.holds.0.leads.link link (taken_link e t) p) ∙ h)))
-      (taken_or_not e)
+  out_of_sink e link p h = let z = sound.out_of_sink e link p h in not_taken e z (λ t. t.holds.0.begin_other
+      (sym t.holds.0.leads.begins ∙ ap (λ (d : Bool). begin_of d t.holds.0.leads.link) (only_along e t z) ∙ ap (λ (l : Link). l.tail) (same_link e t.holds.0.leads.link link (taken_link e t) p) ∙ h))
 
   pub IsSound-pushed : IsSound net new
   IsSound-pushed = record {

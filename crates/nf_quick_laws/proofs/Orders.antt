@@ -162,7 +162,7 @@ pub IsAtMost-more : (a b : Reach) (step : Step) (l x y : ℚ) → x ≡ a.distan
 IsAtMost-more a b step l x y e f (inl h) = inl (lt_plus _ _ l x y h e f)
 IsAtMost-more a b step l x y e f (inr h) = inr (eq_plus _ _ l x y h.0 e f, AreFewerOrFirst-append a.steps b.steps step h.1)
 
-lt_not : (x y : ℚ) → lt_ℚ x y ≡ false → y ≤ℚ x
+pub lt_not : (x y : ℚ) → lt_ℚ x y ≡ false → y ≤ℚ x
 lt_not x y e = ⊎_elim (λ (w : (lt_ℚ x y ≡ true) × (x <ℚ y)). absurd (clash (lt_ℚ x y) w.0 e)) (λ (w : (lt_ℚ x y ≡ false) × (y ≤ℚ x)). w.1) (lt_ℚ_cases x y)
   where
     clash : (b : Bool) → b ≡ true → b ≡ false → ⊥

@@ -19,6 +19,7 @@ use Rattle.nf_quick_def.specs.Rounds.{op_of, lesser, capacity_of, room_along, ro
 use Rattle.nf_quick_def.specs.Pushes.{push_step, push_list}
 use Rattle.nf_quick_def.specs.Pushed.{IsPushed}
 use Rattle.nf_quick_laws.proofs.Apart.{EachStep}
+use Rattle.nf_quick_laws.proofs.Crossings.{choose, choose_not}
 use Rattle.nf_quick_laws.proofs.Offers.{bind-ok, checked-ok}
 use Rattle.nf_rational_laws.proofs.Chains.{≤ℚ_refl, ≤ℚ_trans}
 use Rattle.nf_rational_laws.proofs.Extremes.{min_left, min_right, min_keeps}
@@ -42,14 +43,6 @@ moved : (d : Bool) (x a : ℚ) → result_of (op_of d) x a ≡ x +ℚ signed d 1
 moved true x a = linear_eq (x ∷ a ∷ []) [] (search reading_of depth 12) tt tt
 moved false x a = linear_eq (x ∷ a ∷ []) [] (search reading_of depth 12) tt tt
 
-choose : (b : Bool) (x : ℚ) → b ≡ true → (if b then x else 0ℚ) ≡ x
-choose true x e = refl
-choose false x e = absurd (cc)
-
-choose_not : (b : Bool) (x : ℚ) → b ≡ false → (if b then x else 0ℚ) ≡ 0ℚ
-choose_not true x e = absurd (cc)
-choose_not false x e = refl
-
 none_moved : (x a s : ℚ) → s ≡ 0ℚ → x ≡ x +ℚ s *ℚ a
 none_moved x a s e = linear_eq (x ∷ a ∷ s ∷ []) (eq_times a e ∷ []) (search reading_of depth 12) tt tt
 
@@ -68,8 +61,8 @@ module _ (passes : Passing) (amount : ℚ) where
   after_step flows step z h is e = ⊎_elim
       (λ (w : (eqb step.link e ≡ true) × (step.link ≡ e)).
       subst (λ (k : ℕ). number_at (set flows step.link z) k ≡ number_at flows k +ℚ (if eqb step.link e then signed step.forward 1ℚ else 0ℚ) *ℚ amount) w.1
-      (number_at-set flows step.link z h ∙ is ∙ moved step.forward (number_at flows step.link) amount ∙ same_moved _ amount _ _ (choose (eqb step.link e) _ w.0)))
-      (λ (w : (eqb step.link e ≡ false) × (step.link ≢ e)). number_at-else flows step.link e z w.1 ∙ none_moved _ amount _ (choose_not (eqb step.link e) _ w.0))
+      (number_at-set flows step.link z h ∙ is ∙ moved step.forward (number_at flows step.link) amount ∙ same_moved _ amount _ _ (choose (eqb step.link e) _ _ w.0)))
+      (λ (w : (eqb step.link e ≡ false) × (step.link ≢ e)). number_at-else flows step.link e z w.1 ∙ none_moved _ amount _ (choose_not (eqb step.link e) _ _ w.0))
       (eqb_tells step.link e)
 
   pub IsPushed-fold : (walk : List Step) (flows new : List ℚ) → EachStep (λ step. step.link < length flows) walk → fold_checked (push_step passes amount) flows walk ≡ Ok new → IsPushed flows walk amount new
