@@ -62,6 +62,20 @@ begin_step passes net horizon patterns s _ apart (continues c g) = absurd (apart
 begin_step passes net horizon patterns s t apart (begins c g) = g
 
 -- ---- a phase that is found
+abbrev pub made_goes : (passes : Passing) (net : Network) (horizon : ℚ) (patterns : ℕ) (s : Standing) (phase : Phase) → LeadsOn passes net horizon patterns s phase
+    → (t : Standing) → t ≡ after_phase net s phase → Goes passes net horizon patterns s t
+made_goes passes net horizon patterns s phase leads t e = record {
+  place = leads.place;
+  pattern = phase.pattern;
+  flows = leads.flows;
+  slopes = phase.slopes.items;
+  finds = leads.finds;
+  step = step_in phase;
+  lists = leads.lists;
+  is_length = leads.is_length;
+  new_is = e;
+}
+
 module _ (passes : Passing) (net : Network) (good : IsNetwork net) (horizon : ℚ) (patterns : ℕ) (s : Standing) (reaches : Reaches passes net s) (phase : Phase)
     (leads : LeadsOn passes net horizon patterns s phase) where
   abbrev next : Standing
@@ -71,17 +85,7 @@ module _ (passes : Passing) (net : Network) (good : IsNetwork net) (horizon : �
   here = Stands-reached passes net good s reaches
 
   pub goes_made : (t : Standing) → t ≡ next → Goes passes net horizon patterns s t
-  goes_made t e = record {
-    place = leads.place;
-    pattern = phase.pattern;
-    flows = leads.flows;
-    slopes = phase.slopes.items;
-    finds = leads.finds;
-    step = step_in phase;
-    lists = leads.lists;
-    is_length = leads.is_length;
-    new_is = e;
-  }
+  goes_made = made_goes passes net horizon patterns s phase leads
 
   pub steps_made : (rests : Bool) → MatchBool rests (Continues net s) (Continues net s → ⊥) → (t : Standing) → t ≡ after_rest rests net s phase → Steps passes net horizon patterns s t
   steps_made true c t e = subst (Steps passes net horizon patterns s) (sym e) (continues c (goes_made next refl))

@@ -17,7 +17,8 @@ use Rattle.nf_phase.specs.declared.fault.StepFault.{StepFault}
 use Rattle.nf_phase.specs.declared.finding.PhaseStart.{PhaseStart}
 use Rattle.nf_phase.specs.declared.phase.Phase.{Phase}
 use Rattle.nf_phase.specs.Stepping.{StandsFor, IsCauseOn, tail_of}
-use Rattle.nf_phase.specs.Finding.{step_in, after_phase, IsFound, FindsNone, ListsPass, LeadsOn}
+use Rattle.nf_phase.specs.Finding.{after_phase, IsFound, FindsNone, ListsPass, LeadsOn}
+use Rattle.nf_phase.proofs.Stepped.{made_goes}
 use Rattle.nf_phase.proofs.Found.{part_err, by_fault, stands_as, none_on, extend_on, lists_on}
 
 -- ---- the cause for which there is no thin flow
@@ -63,16 +64,6 @@ module _ (passes : Passing) (net : Network) (patterns : ℕ) (s : Standing) (fou
         → GoesToEnd passes net patterns s t
     goes_to_end phase leads same t e = record {
       end = end;
-      goes = record {
-        place = leads.place;
-        pattern = phase.pattern;
-        flows = leads.flows;
-        slopes = phase.slopes.items;
-        finds = leads.finds;
-        step = step_in phase;
-        lists = leads.lists;
-        is_length = leads.is_length;
-        new_is = e;
-      };
+      goes = made_goes passes net end patterns s phase leads t e;
       is_end = subst (λ (slopes : List ℚ). ends slopes ≡ Ok (Some end)) (sym same) end_is;
     }
