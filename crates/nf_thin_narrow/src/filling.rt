@@ -86,48 +86,8 @@ pub(crate) fn left_pattern(
     Ok(left)
 }
 
-// Returns the active links, without those forced to be Zero. Fails if an allocation fails.
-fn active_left(
-    alloc: Global,
-    forced: &Pattern,
-    sets: &LinkSets,
-    links: u32,
-) -> Result<Vec<bool>, AllocError>
-    requires forced { length forced.now ≡ links }
-    requires sets { length sets.now.active ≡ links }
-    ensures { IfOk result (λ flags. flags.items ≡ entrywise still_active_of forced.now sets.now.active) }
-{
-    let mut flags = Vec::new(alloc);
-    for e in 0..links {
-        let link = LinkId(e);
-        let flag = still_active(forced.state(link), sets.active(link));
-        flags.push(flag)?;
-    }
-    Ok(flags)
-}
-
-// Returns the resetting links and those forced to be Full. Fails if an allocation fails.
-fn resetting_left(
-    alloc: Global,
-    forced: &Pattern,
-    sets: &LinkSets,
-    links: u32,
-) -> Result<Vec<bool>, AllocError>
-    requires forced { length forced.now ≡ links }
-    requires active { length sets.now.active ≡ links }
-    requires resetting { length sets.now.resetting ≡ links }
-    ensures { IfOk result (λ flags. flags.items ≡ entrywise now_resetting_of forced.now sets.now.resetting) }
-{
-    let mut flags = Vec::new(alloc);
-    for e in 0..links {
-        let link = LinkId(e);
-        let flag = now_resetting(forced.state(link), sets.resetting(link));
-        flags.push(flag)?;
-    }
-    Ok(flags)
-}
-
-// Returns the link sets without the forced links. Fails if an allocation fails.
+// Returns the link sets without the forced links: the active links without those forced to be Zero, and the resetting links with those
+// forced to be Full. Fails if an allocation fails.
 pub(crate) fn left_sets(
     alloc: Global,
     forced: &Pattern,
@@ -139,7 +99,15 @@ pub(crate) fn left_sets(
     requires forcing { (unbounded : List Bool) × IsForcing sets.now unbounded forced.now }
     ensures { IfOk result (λ left. left ≡ sets_left forced.now sets.now) }
 {
-    let active = active_left(alloc, forced, sets, links)?;
-    let resetting = resetting_left(alloc, forced, sets, links)?;
+    let mut active = Vec::new(alloc);
+    let mut resetting = Vec::new(alloc);
+    for e in 0..links {
+        let link = LinkId(e);
+        let forced_here = forced.state(link);
+        let stays = still_active(forced_here, sets.active(link));
+        active.push(stays)?;
+        let resets = now_resetting(forced_here, sets.resetting(link));
+        resetting.push(resets)?;
+    }
     LinkSets::new(alloc, &active, &resetting)
 }

@@ -3,10 +3,13 @@ use Rattle.std.specs.Prelude.{Some, slice_get, if◌then◌else◌}
 use Rattle.std.proofs.lemmas.Option.{slice_get-get_or}
 use Rattle.nf_model.specs.Pattern.{changes}
 use Rattle.nf_pattern.proofs.Counting.{few_changes}
+use Rattle.nf_thin_laws.specs.Forcing.{change}
+use Rattle.nf_thin_laws.specs.Firm.{is_in}
 use Rattle.nf_thin_narrow.specs.declared.firm.Firm.{Firm}
+use Rattle.nf_thin_narrow.specs.Firming.{states_of_firm}
 use Rattle.nf_thin_narrow.specs.Rows.{Tells}
-use Rattle.nf_thin_narrow.proofs.Stepping.{changes_behind, changes_step_at}
-use Rattle.nf_thin_narrow.proofs.FirmStepping.{ways_from, tells_more, earlier_more, earlier_at}
+use Rattle.nf_thin_narrow.proofs.Stepping.{changes_behind, changes_step_at, row_more, earlier_more, earlier_at}
+use Rattle.nf_thin_narrow.proofs.FirmStepping.{ways_from, earlier_from, ways_step, earlier_step}
 use Rattle.nf_thin_narrow.proofs.firm.earlier_firm.Goals as goal
 
 pub overflow_add-made : goal.overflow_add-made
@@ -42,18 +45,25 @@ loop-e-preserved c =
     let less : c.loop-e.made + c.change-made.result < length c.loop-e.row = omega arith in
     let tells : Tells c.loop-e.row (ways_from c.args.base.now c.args.firm.now (suc (c.loop-e.e - 1))) =
     subst (λ (n : ℕ). Tells c.loop-e.row (ways_from c.args.base.now c.args.firm.now n)) at c.loop-e.invariant.tells in
+    let firm : Firm = get_or c.args.firm.now (c.loop-e.e - 1) none in
+    let behind = changes_step_at c.args.base.now c.args.pattern.now (c.loop-e.e - 1) (suc (c.loop-e.e - 1)) c.state-here.result c.state-state.result refl c.state-here.ensures c.state-state.ensures in
+    let split : c.loop-e.made + c.change-made.result ≡ change c.state-here.result c.state-state.result + changes (drop (suc (c.loop-e.e - 1)) c.args.base.now) (drop (suc (c.loop-e.e - 1)) c.args.pattern.now) = omega arith in
     let at_f : slice_get c.args.firm.now (c.loop-e.e - 1) ≡ Some (get_or c.args.firm.now (c.loop-e.e - 1) none) =
     slice_get-get_or c.args.firm.now (c.loop-e.e - 1) none (let n = c.requires.firm in omega arith) in
     record {
       within = omega arith;
       count = c.add_firm.ensures.count ∙ c.loop-e.invariant.count;
       made_is = now;
-      tells = tells_more c.args.base.now c.args.pattern.now c.args.firm.now (c.loop-e.e - 1) c.state-here.result c.state-state.result (get_or c.args.firm.now (c.loop-e.e - 1) none)
-          c.state-here.ensures c.state-state.ensures at_f c.loop-e.row tells c.add_firm.new.row c.add_firm.ensures.count c.add_firm.ensures.ways;
-      earlier_is = earlier_more c.args.base.now c.args.pattern.now c.args.firm.now (c.loop-e.e - 1) c.state-here.result c.state-state.result (get_or c.args.firm.now (c.loop-e.e - 1) none)
-          c.state-here.ensures c.state-state.ensures at_f
-          c.loop-e.row tells c.loop-e.earlier (changes (drop (suc (c.loop-e.e - 1)) c.args.base.now) (drop (suc (c.loop-e.e - 1)) c.args.pattern.now)) (c.loop-e.made + c.change-made.result) refl now less
-          (earlier_at c.args.base.now c.args.pattern.now c.args.firm.now c.loop-e.e (suc (c.loop-e.e - 1)) c.loop-e.made c.loop-e.earlier at made c.loop-e.invariant.earlier_is)
-          c.firm_under-under.result c.along-same.result c.saturating_add-earlier.result c.firm_under-under.ensures
-          (c.along-same.ensures ∙ ap (λ (b : Bool). if b then c.loop-e.earlier else 0) c.may_have.ensures) c.saturating_add-earlier.ensures;
+      tells = row_more (states_of_firm c.state-here.result firm) c.state-here.result c.state-state.result (ways_from c.args.base.now c.args.firm.now (suc (c.loop-e.e - 1))) c.loop-e.row tells
+          (ways_from c.args.base.now c.args.firm.now (c.loop-e.e - 1))
+          (ways_step c.args.base.now c.args.pattern.now c.args.firm.now (c.loop-e.e - 1) c.state-here.result c.state-state.result firm c.state-here.ensures c.state-state.ensures at_f)
+          c.add_firm.new.row c.add_firm.ensures.count c.add_firm.ensures.ways;
+      earlier_is = earlier_more (states_of_firm c.state-here.result firm) c.state-here.result c.state-state.result (ways_from c.args.base.now c.args.firm.now (suc (c.loop-e.e - 1))) c.loop-e.row tells
+          (is_in (states_of_firm c.state-here.result firm) c.state-state.result) (earlier_from c.args.base.now c.args.firm.now c.args.pattern.now (suc (c.loop-e.e - 1)))
+          (earlier_from c.args.base.now c.args.firm.now c.args.pattern.now (c.loop-e.e - 1) (c.loop-e.made + c.change-made.result))
+          (changes (drop (suc (c.loop-e.e - 1)) c.args.base.now) (drop (suc (c.loop-e.e - 1)) c.args.pattern.now)) (c.loop-e.made + c.change-made.result)
+          (earlier_step c.args.base.now c.args.pattern.now c.args.firm.now (c.loop-e.e - 1) c.state-here.result c.state-state.result firm c.state-here.ensures c.state-state.ensures at_f (c.loop-e.made + c.change-made.result))
+          split less c.loop-e.earlier c.firm_under-under.result c.along-same.result c.saturating_add-earlier.result
+          (earlier_at (earlier_from c.args.base.now c.args.firm.now c.args.pattern.now) c.args.base.now c.args.pattern.now c.loop-e.e (suc (c.loop-e.e - 1)) c.loop-e.made c.loop-e.earlier at made c.loop-e.invariant.earlier_is)
+          c.firm_under-under.ensures (c.along-same.ensures ∙ ap (λ (b : Bool). if b then c.loop-e.earlier else 0) c.may_have.ensures) c.saturating_add-earlier.ensures;
     }
