@@ -1,8 +1,7 @@
 -- A pattern in which one link changes its state.
-use Rattle.std.proofs.Common.{◌≡◌, ◌≢◌, ⊎_elim, ℕ, zero, suc, ◌<◌, Bool, true, false, List, [], ◌∷◌, length, length-set, set, eqb, refl, sym, ap, subst, ◌∙◌, arith}
+use Rattle.std.proofs.Common.{◌≡◌, ◌≢◌, ⊎_elim, ℕ, Bool, true, false, List, length-set, set, sym, ap, subst, ◌∙◌}
 use Rattle.std.specs.Prelude.{Option, Some, None, is_none, IsSome, slice_get}
 use Rattle.std.specs.Option.{option_map}
-use Rattle.std.proofs.lemmas.Bool.Decides.{eqb_tells}
 use Rattle.std.proofs.lemmas.Option.{slice_get-map, same_Some, slice_get_within}
 use Rattle.nf_rational.specs.Rational.{ℚ}
 use Rattle.nf_model.specs.declared.State.{State}
@@ -11,35 +10,21 @@ use Rattle.nf_model.specs.Entries.{Has}
 use Rattle.nf_model.specs.Network.{Link, Network, IsLink, unbounded}
 use Rattle.nf_model.specs.ThinFlow.{Sets}
 use Rattle.nf_model.specs.Pattern.{Pattern, HasState, NeedsState, IsPattern}
+use Rattle.nf_pattern.proofs.Setting.{set_same, set_other, tell}
 use Rattle.nf_thin_equation_laws.specs.Equations.{IsPatternIn}
 
-entry_set : {A : Type 0} (xs : List A) (i : ℕ) (x : A) → i < length xs → slice_get (set xs i x) i ≡ Some x
-entry_set [] i x h = absurd (omega arith)
-entry_set (y ∷ xs) zero x h = refl
-entry_set (y ∷ xs) (suc i) x h = entry_set xs i x (omega arith)
-
-other_entry : {A : Type 0} (xs : List A) (i k : ℕ) (x : A) → k ≢ i → slice_get (set xs i x) k ≡ slice_get xs k
-other_entry [] i k x apart = refl
-other_entry (y ∷ xs) zero zero x apart = absurd (apart refl)
-other_entry (y ∷ xs) zero (suc k) x apart = refl
-other_entry (y ∷ xs) (suc i) zero x apart = refl
-other_entry (y ∷ xs) (suc i) (suc k) x apart = other_entry xs i k x (λ e. apart (ap suc e))
-
-by_place : (P : Type 0) (k e : ℕ) → (k ≡ e → P) → (k ≢ e → P) → P
-by_place P k e same apart = ⊎_elim
-    (λ (w : (eqb k e ≡ true) × (k ≡ e)). same w.1)
-    (λ (w : (eqb k e ≡ false) × (k ≢ e)). apart w.1)
-    (eqb_tells k e)
+pub by_place : (P : Type 0) (k e : ℕ) → (k ≡ e → P) → (k ≢ e → P) → P
+by_place P k e same apart = ⊎_elim same apart (tell k e)
 
 module _ (sets : Sets) (flags : List Bool) (pattern : Pattern) (is : IsPattern sets flags pattern) (e : ℕ) (old new : State) (has : HasState pattern e old) (fits : new ≡ Full → Has flags e → ⊥) where
   abbrev changed : Pattern
   changed = set pattern e (Some new)
 
   here : HasState changed e new
-  here = entry_set pattern e (Some new) (slice_get_within pattern e (Some old) has)
+  here = set_same pattern e (Some new) (slice_get_within pattern e (Some old) has)
 
   elsewhere : (k : ℕ) → k ≢ e → slice_get changed k ≡ slice_get pattern k
-  elsewhere k apart = other_entry pattern e k (Some new) apart
+  elsewhere k apart = set_other pattern e k (Some new) apart
 
   same_new : (k : ℕ) (state : State) → k ≡ e → HasState changed k state → new ≡ state
   same_new k state same h = inside (same_Some (Some new) (Some state) (sym here ∙ subst (λ (i : ℕ). HasState changed i state) same h))

@@ -1,2 +1,4 @@
 pub mod Flags
 pub mod Changing
+pub mod Capacities
+pub mod Numbered

@@ -1,1 +1,3 @@
 pub mod Guessing
+pub mod Numbers
+pub mod Values

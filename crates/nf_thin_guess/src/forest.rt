@@ -1,5 +1,7 @@
-// A forest of links, and its traversal, which crosses each link in both directions. No contract depends on it, since a guess is judged like
-// any other pattern.
+// A forest of links, and its traversal, which crosses each link in both directions. No contract says which nodes it joins, since a guess is
+// judged like any other pattern.
+ghost use Rattle.std.specs.Prelude.{ℕ, ◌<◌, length};
+ghost use Rattle.nf_thin_guess.specs.Numbers.{HasNumber};
 
 use nf_graph::NodeId;
 use std::alloc::{AllocError, Global};
@@ -19,6 +21,16 @@ struct Branch {
 struct Place {
     node: NodeId,
     branch: Option<usize>,
+}
+
+// Gives a number to a node, if the list has an entry for it.
+fn put_number(numbers: &mut [Option<u32>], node: NodeId, number: u32)
+    ensures kept { (v : ℕ) → HasNumber numbers.old v → HasNumber numbers.new v }
+    ensures put { node < length numbers.old → HasNumber numbers.new node }
+{
+    if node.index() < numbers.len() {
+        numbers[node.index()] = Some(number);
+    }
 }
 
 /// A forest of links, in the order in which they were added, with the last branch at each node.
@@ -136,15 +148,18 @@ impl Forest {
     }
 
     /// Gives a number to the start node and all nodes joined with it.
-    pub(crate) fn give_number(&self, start: NodeId, number: u32, numbers: &mut [Option<u32>]) {
+    pub(crate) fn give_number(&self, start: NodeId, number: u32, numbers: &mut [Option<u32>])
+        requires { start < length numbers.old }
+        ensures kept { (v : ℕ) → HasNumber numbers.old v → HasNumber numbers.new v }
+        ensures start { HasNumber numbers.new start }
+    {
+        put_number(numbers, start, number);
         let mut place = self.place_at(start);
-        for _ in 0..=self.most_steps() {
-            if place.node.index() < numbers.len() {
-                numbers[place.node.index()] = Some(number);
-            }
+        for _ in 0..self.most_steps() {
             let Some(next) = self.step(start, place) else {
                 return;
             };
+            put_number(numbers, next.node, number);
             place = next;
         }
     }

@@ -5,10 +5,12 @@ ghost use Rattle.nf_frac_def.specs.Passing.{passes_Q};
 ghost use Rattle.nf_thin_equation_laws.specs.Equations.{IsPatternIn};
 ghost use Rattle.nf_thin_one.specs.Trying.{AreValuesOf};
 ghost use Rattle.nf_thin_guess.specs.Guessing.{IsSolved};
+ghost use Rattle.nf_thin_guess.specs.Values.{AreComplete};
 
 use crate::by_parts::part_values;
-use crate::repairs::repair;
-use crate::reverting::reverted;
+use crate::repairs::Repairs;
+use crate::reverting::Reverting;
+use crate::values::Values;
 use nf_frac::{Halt, Q};
 use nf_graph::LinkSets;
 use nf_net::Network;
@@ -74,15 +76,21 @@ fn repaired(
     sets: &LinkSets,
     rate: Q,
     pattern: &mut Pattern,
-) -> Result<Option<Vec<Q>>, AllocError>
+) -> Result<Option<Values>, AllocError>
     requires { IsPatternIn net.now.net sets.now pattern.old }
-    ensures { IsPatternIn net.now.net sets.now pattern.new }
+    ensures pattern { IsPatternIn net.now.net sets.now pattern.new }
+    ensures values { IfOk result (λ found. IfSome found (λ values. AreComplete net.now.net values)) }
 {
     for _ in 0..most_repairs(net) {
         let Some(values) = part_values(alloc, net, sets, rate, pattern)? else {
             return Ok(None);
         };
-        if !repair(alloc, net, sets, &values, pattern)? {
+        let repairs = Repairs {
+            net,
+            sets,
+            values: &values,
+        };
+        if !repairs.repair(alloc, pattern)? {
             return Ok(Some(values));
         }
     }
@@ -106,6 +114,13 @@ pub fn guess(
     let Some(values) = repaired(alloc, net, sets, rate, &mut pattern)? else {
         return Ok(None);
     };
-    let last = reverted(alloc, net, sets, rate, first, &values, pattern)?;
+    let reverting = Reverting {
+        net,
+        sets,
+        rate,
+        first,
+        values: &values,
+    };
+    let last = reverting.reverted(alloc, pattern)?;
     solved_pattern(alloc, net, sets, rate, last)
 }

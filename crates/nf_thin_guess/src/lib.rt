@@ -13,6 +13,7 @@ mod part_slopes;
 mod repairs;
 mod reverting;
 mod tight_flows;
+mod values;
 
 pub use guessing::{SolvedPattern, guess};
 pub use mending::mended;

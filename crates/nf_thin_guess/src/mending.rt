@@ -33,6 +33,7 @@ fn keep_or_loosen(
         return Ok(());
     }
     if !change(net, sets, pattern, link, State::Full) {
+        // Each link with a state may be Zero, so the result is true.
         let _ = change(net, sets, pattern, link, State::Zero);
     }
     Ok(())

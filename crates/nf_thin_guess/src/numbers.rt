@@ -10,6 +10,13 @@ pub fn number_or_zero(numbers: &[Q], place: usize) -> Q {
     }
 }
 
+/// Sets the entry at an index, or does nothing beyond the end.
+pub(crate) fn set_at(numbers: &mut [Q], place: usize, number: Q) {
+    if place < numbers.len() {
+        numbers[place] = number;
+    }
+}
+
 /// Adds a number to the entry at an index, or does nothing beyond the end. Refuses if the sum passes.
 pub(crate) fn add_at(numbers: &mut [Q], place: usize, number: Q) -> Result<(), Halt<Q>> {
     if place < numbers.len() {

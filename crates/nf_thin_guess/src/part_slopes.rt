@@ -1,6 +1,8 @@
 // The slopes that solve a pattern's table, from one equation for each Tight component. All nodes of a component have the same slope, and
 // its outflow less its inflow is known. No contract depends on these slopes, since a guess is judged like any other pattern.
-ghost use Rattle.std.specs.Prelude.{◌≡◌, ◌<◌, ◌≤◌, length};
+ghost use Rattle.std.specs.Prelude.{◌≡◌, ◌<◌, ◌≤◌, length, IfOk, IfSome};
+ghost use Rattle.nf_thin_equation_laws.specs.Equations.{IsPatternIn};
+ghost use Rattle.nf_thin_guess.specs.Numbers.{AreNumberedTo};
 
 use crate::node_parts::{Parts, state_in, tight_forest};
 use crate::numbers::{add_at, number_or_zero, take_off_at};
@@ -32,8 +34,8 @@ fn full_links(
     pattern: &Pattern,
     parts: &Parts,
 ) -> Result<Vec<FullLink>, AllocError>
-    requires sets { length sets.now.active ≡ length net.now.net.links }
-    requires states { length pattern.now ≡ length net.now.net.links }
+    requires pattern { IsPatternIn net.now.net sets.now pattern.now }
+    requires parts { AreNumberedTo net.now.net.nodes parts.now.numbers.items }
 {
     let mut links = Vec::new(alloc);
     for e in 0..net.link_count() {
@@ -41,7 +43,7 @@ fn full_links(
             let here = net.link(LinkId(e));
             let tail = parts.number(here.tail);
             let head = parts.number(here.head);
-            let capacity = here.capacity.unwrap_or(Q::zero());
+            let capacity = here.capacity.unwrap();
             if tail != head {
                 links.push(FullLink {
                     tail,
@@ -249,7 +251,10 @@ fn slopes_of_nodes(
     nodes: u32,
     parts: &Parts,
     others: &[Q],
-) -> Result<Vec<Q>, AllocError> {
+) -> Result<Vec<Q>, AllocError>
+    requires { AreNumberedTo nodes parts.now.numbers.items }
+    ensures { IfOk result (λ slopes. length slopes.items ≡ nodes) }
+{
     let mut slopes = Vec::with_capacity(alloc, nodes as usize)?;
     for v in 0..nodes {
         let number = parts.number(NodeId(v));
@@ -267,8 +272,9 @@ fn slopes_from(
     pattern: &Pattern,
     parts: &Parts,
 ) -> Result<Option<Vec<Q>>, Halt<Q>>
-    requires sets { length sets.now.active ≡ length net.now.net.links }
-    requires states { length pattern.now ≡ length net.now.net.links }
+    requires pattern { IsPatternIn net.now.net sets.now pattern.now }
+    requires parts { AreNumberedTo net.now.net.nodes parts.now.numbers.items }
+    ensures { IfOk result (λ found. IfSome found (λ slopes. length slopes.items ≡ net.now.net.nodes)) }
 {
     let links = full_links(alloc, net, sets, pattern, parts)?;
     let sink_part = parts.number(net.sink());
@@ -288,8 +294,8 @@ pub(crate) fn part_slopes(
     rate: Q,
     pattern: &Pattern,
 ) -> Result<Option<Vec<Q>>, Halt<Q>>
-    requires sets { length sets.now.active ≡ length net.now.net.links }
-    requires states { length pattern.now ≡ length net.now.net.links }
+    requires { IsPatternIn net.now.net sets.now pattern.now }
+    ensures { IfOk result (λ found. IfSome found (λ slopes. length slopes.items ≡ net.now.net.nodes)) }
 {
     let Some(forest) = tight_forest(alloc, net, sets, pattern)? else {
         return Ok(None);

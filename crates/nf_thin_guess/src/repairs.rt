@@ -3,10 +3,11 @@
 ghost use Rattle.std.specs.Prelude.{◌≡◌, ◌<◌, length, IsTrue, IsSome};
 ghost use Rattle.nf_model.specs.declared.State.TheVariants.{Full};
 ghost use Rattle.nf_thin_equation_laws.specs.Equations.{IsPatternIn};
+ghost use Rattle.nf_thin_guess.specs.Values.{AreComplete};
 
 use crate::forest::Forest;
 use crate::node_parts::tight_forest;
-use crate::numbers::number_or_zero;
+use crate::values::Values;
 use nf_frac::Q;
 use nf_graph::{LinkId, LinkSets};
 use nf_model::State;
@@ -73,67 +74,6 @@ fn is_spare(net: &Network, sets: &LinkSets, pattern: &Pattern, link: LinkId) -> 
     false
 }
 
-// Makes a Tight link with a negative flow Zero, if another link that may carry flow leads to its head. Makes a Tight link with too much
-// flow Full. Returns whether the state changes.
-fn loosen_link(
-    net: &Network,
-    sets: &LinkSets,
-    values: &[Q],
-    flow: Q,
-    link: LinkId,
-    pattern: &mut Pattern,
-) -> bool
-    requires pattern { IsPatternIn net.now.net sets.now pattern.old }
-    requires link { link < length net.now.net.links }
-    ensures { IsPatternIn net.now.net sets.now pattern.new }
-{
-    match pattern.state(link) {
-        Some(State::Tight) => {}
-        _ => return false,
-    }
-    if flow < Q::zero() {
-        if !is_spare(net, sets, pattern, link) {
-            return false;
-        }
-        return change(net, sets, pattern, link, State::Zero);
-    }
-    let here = net.link(link);
-    if !overfills(
-        here.capacity,
-        flow,
-        number_or_zero(values, here.head.index()),
-    ) {
-        return false;
-    }
-    change(net, sets, pattern, link, State::Full)
-}
-
-// Repairs each Tight link that violates its inequalities. Returns whether a state changes.
-fn loosen(net: &Network, sets: &LinkSets, values: &[Q], pattern: &mut Pattern) -> bool
-    requires { IsPatternIn net.now.net sets.now pattern.old }
-    ensures { IsPatternIn net.now.net sets.now pattern.new }
-{
-    let mut changes = false;
-    let mut column = net.node_count() as usize;
-    for e in 0..net.link_count() {
-        let link = LinkId(e);
-        if sets.active(link) {
-            if loosen_link(
-                net,
-                sets,
-                values,
-                number_or_zero(values, column),
-                link,
-                pattern,
-            ) {
-                changes = true;
-            }
-            column += 1;
-        }
-    }
-    changes
-}
-
 // Returns whether the link is Full with a smaller slope at its head, or Zero with a greater one.
 fn breaks(state: Option<State>, tail_slope: Q, head_slope: Q) -> bool {
     match state {
@@ -143,68 +83,104 @@ fn breaks(state: Option<State>, tail_slope: Q, head_slope: Q) -> bool {
     }
 }
 
-// Makes a Full link with a smaller slope at its head, or a Zero link with a greater one, Tight. Changes nothing if the link would close a
-// cycle with other Tight links. Returns whether the state changes.
-fn tighten_link(
-    net: &Network,
-    sets: &LinkSets,
-    values: &[Q],
-    link: LinkId,
-    forest: &mut Forest,
-    pattern: &mut Pattern,
-) -> Result<bool, AllocError>
-    requires pattern { IsPatternIn net.now.net sets.now pattern.old }
-    requires link { link < length net.now.net.links }
-    ensures { IsPatternIn net.now.net sets.now pattern.new }
-{
-    let here = net.link(link);
-    let tail_slope = number_or_zero(values, here.tail.index());
-    let head_slope = number_or_zero(values, here.head.index());
-    if !breaks(pattern.state(link), tail_slope, head_slope) {
-        return Ok(false);
-    }
-    if !forest.grow(here.tail, here.head)? {
-        return Ok(false);
-    }
-    let changes = change(net, sets, pattern, link, State::Tight);
-    Ok(changes)
+/// A borrowed view of what the repairs of a pattern read: a network with its sets, and the values that solve the pattern's table.
+#[derive(Clone, Copy)]
+pub(crate) struct Repairs<'a> {
+    pub(crate) net: &'a Network,
+    pub(crate) sets: &'a LinkSets,
+    pub(crate) values: &'a Values,
+    pub(crate) ghost complete: { AreComplete net.now.net values.now },
 }
 
-// Repairs all Full and Zero links that violate their inequalities, in link order. Returns whether a state changes.
-fn tighten(
-    alloc: Global,
-    net: &Network,
-    sets: &LinkSets,
-    values: &[Q],
-    pattern: &mut Pattern,
-) -> Result<bool, AllocError>
-    requires { IsPatternIn net.now.net sets.now pattern.old }
-    ensures { IsPatternIn net.now.net sets.now pattern.new }
-{
-    let Some(mut forest) = tight_forest(alloc, net, sets, pattern)? else {
-        return Ok(false);
-    };
-    let mut changes = false;
-    for e in 0..net.link_count() {
-        if tighten_link(net, sets, values, LinkId(e), &mut forest, pattern)? {
-            changes = true;
+impl<'a> Repairs<'a> {
+    // Makes a Tight link with a negative flow Zero, if another link that may carry flow leads to its head. Makes a Tight link with too much
+    // flow Full. Returns whether the state changes.
+    fn loosen_link(&self, link: LinkId, pattern: &mut Pattern) -> bool
+        requires pattern { IsPatternIn self.now.net.now.net self.now.sets.now pattern.old }
+        requires link { link < length self.now.net.now.net.links }
+        ensures { IsPatternIn self.now.net.now.net self.now.sets.now pattern.new }
+    {
+        match pattern.state(link) {
+            Some(State::Tight) => {}
+            _ => return false,
         }
+        let flow = self.values.flow(link);
+        if flow < Q::zero() {
+            if !is_spare(self.net, self.sets, pattern, link) {
+                return false;
+            }
+            return change(self.net, self.sets, pattern, link, State::Zero);
+        }
+        let here = self.net.link(link);
+        if !overfills(here.capacity, flow, self.values.slope(here.head)) {
+            return false;
+        }
+        change(self.net, self.sets, pattern, link, State::Full)
     }
-    Ok(changes)
-}
 
-/// Repairs once each link that violates its inequality. Returns whether a state changes. Fails if an allocation fails.
-pub(crate) fn repair(
-    alloc: Global,
-    net: &Network,
-    sets: &LinkSets,
-    values: &[Q],
-    pattern: &mut Pattern,
-) -> Result<bool, AllocError>
-    requires { IsPatternIn net.now.net sets.now pattern.old }
-    ensures { IsPatternIn net.now.net sets.now pattern.new }
-{
-    let loosened = loosen(net, sets, values, pattern);
-    let tightened = tighten(alloc, net, sets, values, pattern)?;
-    Ok(loosened || tightened)
+    // Repairs each Tight link that violates its inequalities. Returns whether a state changes.
+    fn loosen(&self, pattern: &mut Pattern) -> bool
+        requires { IsPatternIn self.now.net.now.net self.now.sets.now pattern.old }
+        ensures { IsPatternIn self.now.net.now.net self.now.sets.now pattern.new }
+    {
+        let mut changes = false;
+        for e in 0..self.net.link_count() {
+            if self.loosen_link(LinkId(e), pattern) {
+                changes = true;
+            }
+        }
+        changes
+    }
+
+    // Makes a Full link with a smaller slope at its head, or a Zero link with a greater one, Tight. Changes nothing if the link would close
+    // a cycle with other Tight links. Returns whether the state changes.
+    fn tighten_link(
+        &self,
+        link: LinkId,
+        forest: &mut Forest,
+        pattern: &mut Pattern,
+    ) -> Result<bool, AllocError>
+        requires pattern { IsPatternIn self.now.net.now.net self.now.sets.now pattern.old }
+        requires link { link < length self.now.net.now.net.links }
+        ensures { IsPatternIn self.now.net.now.net self.now.sets.now pattern.new }
+    {
+        let here = self.net.link(link);
+        let tail_slope = self.values.slope(here.tail);
+        let head_slope = self.values.slope(here.head);
+        if !breaks(pattern.state(link), tail_slope, head_slope) {
+            return Ok(false);
+        }
+        if !forest.grow(here.tail, here.head)? {
+            return Ok(false);
+        }
+        let changes = change(self.net, self.sets, pattern, link, State::Tight);
+        Ok(changes)
+    }
+
+    // Repairs all Full and Zero links that violate their inequalities, in link order. Returns whether a state changes.
+    fn tighten(&self, alloc: Global, pattern: &mut Pattern) -> Result<bool, AllocError>
+        requires { IsPatternIn self.now.net.now.net self.now.sets.now pattern.old }
+        ensures { IsPatternIn self.now.net.now.net self.now.sets.now pattern.new }
+    {
+        let Some(mut forest) = tight_forest(alloc, self.net, self.sets, pattern)? else {
+            return Ok(false);
+        };
+        let mut changes = false;
+        for e in 0..self.net.link_count() {
+            if self.tighten_link(LinkId(e), &mut forest, pattern)? {
+                changes = true;
+            }
+        }
+        Ok(changes)
+    }
+
+    /// Repairs once each link that violates its inequality. Returns whether a state changes. Fails if an allocation fails.
+    pub(crate) fn repair(&self, alloc: Global, pattern: &mut Pattern) -> Result<bool, AllocError>
+        requires { IsPatternIn self.now.net.now.net self.now.sets.now pattern.old }
+        ensures { IsPatternIn self.now.net.now.net self.now.sets.now pattern.new }
+    {
+        let loosened = self.loosen(pattern);
+        let tightened = self.tighten(alloc, pattern)?;
+        Ok(loosened || tightened)
+    }
 }

@@ -1,10 +1,15 @@
 // The flows of links, for the slopes that solve a pattern's table. A Full or resetting link fills its capacity. The Tight links form a
 // forest, and conservation of flow determines their flows from the leaves inward. No contract depends on these flows, since a guess is
 // judged like any other pattern.
-ghost use Rattle.std.specs.Prelude.{◌≡◌, ◌<◌, length};
+ghost use Rattle.std.specs.Prelude.{◌≡◌, ◌<◌, length, IsSome, IfOk, IfSome};
+ghost use Rattle.nf_model.specs.declared.State.TheVariants.{Full};
+ghost use Rattle.nf_model.specs.Network.{Link as SeenLink, IsLink};
+ghost use Rattle.nf_thin_equation_laws.specs.Equations.{IsPatternIn};
+ghost use Rattle.nf_thin_guess.specs.Values.{AreComplete};
 
 use crate::node_parts::state_in;
-use crate::numbers::{add_at, number_or_zero, take_off_at};
+use crate::numbers::{add_at, number_or_zero, set_at, take_off_at};
+use crate::values::Values;
 use nf_frac::{Halt, Part, Q, at};
 use nf_graph::{LinkId, LinkSets, NodeId};
 use nf_model::State;
@@ -12,12 +17,12 @@ use nf_net::{Link, Network};
 use nf_pattern::Pattern;
 use std::alloc::{AllocError, Global};
 
-// A Tight link whose flow is undetermined: its ends, and the index of its flow among the values.
+// A Tight link whose flow is undetermined, with its ends.
 #[derive(Clone, Copy)]
 struct OpenLink {
+    id: LinkId,
     tail: NodeId,
     head: NodeId,
-    place: usize,
 }
 
 impl OpenLink {
@@ -113,15 +118,13 @@ impl OpenFlows {
     }
 
     // Determines the flow of a leaf's link by what is missing there. Returns the link's other end if that becomes a leaf.
-    fn close_leaf(&mut self, leaf: NodeId, values: &mut [Q]) -> Result<Option<NodeId>, Halt<Q>> {
+    fn close_leaf(&mut self, leaf: NodeId, flows: &mut [Q]) -> Result<Option<NodeId>, Halt<Q>> {
         let Some(link) = self.take_open(leaf) else {
             return Ok(None);
         };
         let missing = number_or_zero(&self.missing, leaf.index());
         let (flow, other) = link.flow_from(leaf, missing)?;
-        if link.place < values.len() {
-            values[link.place] = flow;
-        }
+        set_at(flows, link.id.index(), flow);
         self.close(link, flow)?;
         Ok(if self.is_leaf(other) {
             Some(other)
@@ -132,65 +135,73 @@ impl OpenFlows {
 }
 
 // Returns the flow that fills a link: its capacity times the slope of its head. Records it at both ends.
-fn fill(link: Link, values: &[Q], flows: &mut OpenFlows) -> Result<Q, Halt<Q>> {
-    let capacity = link.capacity.unwrap_or(Q::zero());
-    let head_slope = number_or_zero(values, link.head.index());
+fn fill(link: Link, head_slope: Q, undetermined: &mut OpenFlows) -> Result<Q, Halt<Q>>
+    requires { IsSome link.capacity }
+{
+    let capacity = link.capacity.unwrap();
     let flow = at!(Part::Table, capacity.product(head_slope));
-    flows.carry(link.tail, link.head, flow)?;
+    undetermined.carry(link.tail, link.head, flow)?;
     Ok(flow)
 }
 
-// Appends the flow of a link to the values. A Tight link gets 0 and is undetermined.
-fn put_flow(
+// Returns the flow of an active link in its state. A Tight link gets 0 and is undetermined.
+fn flow_of(
     net: &Network,
     link: LinkId,
     state: State,
-    values: &mut Vec<Q>,
-    flows: &mut OpenFlows,
-) -> Result<(), Halt<Q>>
-    requires { link < length net.now.net.links }
+    slopes: &[Q],
+    undetermined: &mut OpenFlows,
+) -> Result<Q, Halt<Q>>
+    requires link { link < length net.now.net.links }
+    requires bounded { state ≡ Full → (here : SeenLink) → IsLink net.now.net link here → IsSome here.capacity }
+    requires slopes { length slopes.now ≡ net.now.net.nodes }
 {
     let here = net.link(link);
-    let flow = match state {
+    match state {
         State::Tight => {
-            flows.open(OpenLink {
+            undetermined.open(OpenLink {
+                id: link,
                 tail: here.tail,
                 head: here.head,
-                place: values.len(),
             })?;
-            Q::zero()
+            Ok(Q::zero())
         }
-        State::Zero => Q::zero(),
-        State::Full => fill(here, values, flows)?,
-    };
-    values.push(flow)?;
-    Ok(())
+        State::Zero => Ok(Q::zero()),
+        State::Full => fill(here, slopes[here.head.index()], undetermined),
+    }
 }
 
-// Appends the flow of each active link, in link order.
+// Sets the flow of each active link.
 fn put_flows(
     net: &Network,
     sets: &LinkSets,
     pattern: &Pattern,
-    values: &mut Vec<Q>,
-    flows: &mut OpenFlows,
+    slopes: &[Q],
+    flows: &mut [Q],
+    undetermined: &mut OpenFlows,
 ) -> Result<(), Halt<Q>>
-    requires sets { length sets.now.active ≡ length net.now.net.links }
-    requires states { length pattern.now ≡ length net.now.net.links }
+    requires pattern { IsPatternIn net.now.net sets.now pattern.now }
+    requires slopes { length slopes.now ≡ net.now.net.nodes }
+    requires flows { length flows.old ≡ length net.now.net.links }
 {
     for e in 0..net.link_count() {
         if let Some(state) = state_in(sets, pattern, LinkId(e)) {
-            put_flow(net, LinkId(e), state, values, flows)?;
+            let flow = flow_of(net, LinkId(e), state, slopes, undetermined)?;
+            flows[e as usize] = flow;
         }
     }
     Ok(())
 }
 
 // Returns the nodes that are leaves at the start. Fails if an allocation fails.
-fn leaves(alloc: Global, net: &Network, flows: &OpenFlows) -> Result<Vec<NodeId>, AllocError> {
+fn leaves(
+    alloc: Global,
+    net: &Network,
+    undetermined: &OpenFlows,
+) -> Result<Vec<NodeId>, AllocError> {
     let mut leaves = Vec::new(alloc);
     for v in 0..net.node_count() {
-        if flows.is_leaf(NodeId(v)) {
+        if undetermined.is_leaf(NodeId(v)) {
             leaves.push(NodeId(v))?;
         }
     }
@@ -201,22 +212,22 @@ fn leaves(alloc: Global, net: &Network, flows: &OpenFlows) -> Result<Vec<NodeId>
 fn close_leaves(
     alloc: Global,
     net: &Network,
-    values: &mut [Q],
-    flows: &mut OpenFlows,
+    flows: &mut [Q],
+    undetermined: &mut OpenFlows,
 ) -> Result<(), Halt<Q>> {
-    let mut leaves = leaves(alloc, net, flows)?;
+    let mut leaves = leaves(alloc, net, undetermined)?;
     for _ in 0..net.node_count() {
         let Some(leaf) = leaves.pop() else {
             return Ok(());
         };
-        if let Some(next) = flows.close_leaf(leaf, values)? {
+        if let Some(next) = undetermined.close_leaf(leaf, flows)? {
             leaves.push(next)?;
         }
     }
     Ok(())
 }
 
-/// Returns these slopes, and after them the flows of the active links, in link order. Returns `None` if Tight links close a cycle.
+/// Returns these slopes with the flows of the links. Returns `None` if Tight links close a cycle.
 pub(crate) fn with_flows(
     alloc: Global,
     net: &Network,
@@ -224,17 +235,17 @@ pub(crate) fn with_flows(
     rate: Q,
     pattern: &Pattern,
     slopes: Vec<Q>,
-) -> Result<Option<Vec<Q>>, Halt<Q>>
-    requires sets { length sets.now.active ≡ length net.now.net.links }
-    requires states { length pattern.now ≡ length net.now.net.links }
+) -> Result<Option<Values>, Halt<Q>>
+    requires pattern { IsPatternIn net.now.net sets.now pattern.now }
+    requires slopes { length slopes.items ≡ net.now.net.nodes }
+    ensures { IfOk result (λ found. IfSome found (λ values. AreComplete net.now.net values)) }
 {
-    let mut values = Vec::with_capacity(alloc, slopes.len() + net.link_count() as usize)?;
-    values.extend_from_slice(&slopes)?;
-    let mut flows = OpenFlows::new(alloc, net, rate)?;
-    put_flows(net, sets, pattern, &mut values, &mut flows)?;
-    close_leaves(alloc, net, &mut values, &mut flows)?;
-    if flows.open.is_empty() {
-        Ok(Some(values))
+    let mut flows = vec![in alloc; Q::zero(); net.link_count() as usize]?;
+    let mut undetermined = OpenFlows::new(alloc, net, rate)?;
+    put_flows(net, sets, pattern, &slopes, &mut flows, &mut undetermined)?;
+    close_leaves(alloc, net, &mut flows, &mut undetermined)?;
+    if undetermined.open.is_empty() {
+        Ok(Some(Values { slopes, flows }))
     } else {
         Ok(None)
     }

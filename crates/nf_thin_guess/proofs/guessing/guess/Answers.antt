@@ -1,10 +1,7 @@
-use Rattle.std.proofs.Common.{sym, subst, ◌∙◌}
+use Rattle.std.proofs.Common.{sym, subst}
 use Rattle.nf_model.specs.Pattern.{Pattern}
 use Rattle.nf_thin_equation_laws.specs.Equations.{IsPatternIn}
 use Rattle.nf_thin_guess.proofs.guessing.guess.Goals as goal
 
 pub repaired-requires : goal.repaired-requires
 repaired-requires c = subst (λ (p : Pattern). IsPatternIn c.args.net.now.net c.args.sets.now p) (sym c.in_ok-pattern.ensures) c.requires
-
-pub reverted-requires-clause-first : goal.reverted-requires-clause-first
-reverted-requires-clause-first c = c.requires.pattern_is.count ∙ c.requires.sets_are.count
