@@ -7,10 +7,10 @@ ghost use Rattle.nf_thin_laws.specs.Firm.{is_in, firm_earlier, firm_before};
 ghost use Rattle.nf_thin_narrow.specs.Rows.{most, number_in, Tells, none_left};
 ghost use Rattle.nf_thin_narrow.specs.Firming.{states_of_firm, firm_choices};
 
-use crate::row::{change, count_changes, first_row, rank, sum_of, ways_with};
+use crate::row::{change, count_changes, first_row, sum_of, ways_with};
 use nf_graph::LinkId;
 use nf_model::State;
-use nf_pattern::Pattern;
+use nf_pattern::{Pattern, rank};
 use std::alloc::{AllocError, Global};
 
 /// The combinable states of a link with a state in the base. Every combination of such states, one for each link, counts as an assignment.

@@ -1,26 +1,14 @@
 // Rows of counts. Entry k is the number of assignments of states to the links from some link on with exactly k changes from the base.
 ghost use Rattle.std.specs.Prelude.{◌≡◌, ◌<◌, ◌≤◌, ◌^◌, ℕ, suc, Bool, min, length, IfOk};
-ghost use Rattle.nf_model.specs.Pattern.{rank as rank_of, changes as changes_of};
+ghost use Rattle.nf_model.specs.Pattern.{changes as changes_of};
 ghost use Rattle.nf_thin_laws.specs.Forcing.{change as change_of};
 ghost use Rattle.nf_thin_laws.specs.Ways.{left_ways, ways_by, ways_below, ways, ways_earlier, states_of, choices_of, ways_before as ways_before_of};
 ghost use Rattle.nf_thin_narrow.specs.Rows.{most, number_in, Tells, first_ways, none_left};
 
 use nf_graph::LinkId;
 use nf_model::State;
-use nf_pattern::Pattern;
+use nf_pattern::{Pattern, rank};
 use std::alloc::{AllocError, Global};
-
-// Returns the rank of a state: no state, Tight, Full, Zero in this order.
-pub(crate) fn rank(state: Option<State>) -> u32
-    ensures { result ≡ rank_of state }
-{
-    match state {
-        None => 0,
-        Some(State::Tight) => 1,
-        Some(State::Full) => 2,
-        Some(State::Zero) => 3,
-    }
-}
 
 // Returns 1 if the state differs from the base state, and 0 otherwise.
 pub(crate) fn change(base: Option<State>, state: Option<State>) -> usize
