@@ -1,7 +1,16 @@
 -- Preconditions of a check.
-use Rattle.std.specs.Prelude.{◌≡◌, length}
+use Rattle.std.specs.Prelude.{◌≡◌, ℕ, ◌<◌, List, length, Ok}
+use Rattle.nf_rational.specs.Rational.{ℚ}
+use Rattle.nf_frac_def.specs.Passing.{passes_Q}
+use Rattle.nf_frac_def.specs.Checked.{each}
 use Rattle.nf_model.specs.Network.{Network}
+use Rattle.nf_model.specs.Equilibrium.{points_at}
+use Rattle.nf_curve_def.specs.Values.{checked_cut}
+use Rattle.nf_check_def.specs.Rules.{all_nodes}
+use Rattle.nf_check_def.specs.CheckList.{label_cut}
 use Rattle.nf_check_laws.specs.Laws.{CanBeChecked}
+use Rattle.nf_check_rules.specs.Kept.{curves_of}
+use Rattle.nf_curve.specs.Points.{Grown}
 use Rattle.nf_curve.specs.Flows.{flow_of}
 use Rattle.nf_curve.specs.declared.flow.Flow.{Flow}
 
@@ -12,3 +21,11 @@ pub record IsGivenFlow (net : Network) (flow : Flow) : Type 0 where
   pub outflows : length flow.outflows.items ≡ length net.links
   pub queues : length flow.queues.items ≡ length net.links
   pub checked : CanBeChecked net (flow_of flow)
+
+-- each curve is its own cut at the time `last`
+abbrev pub AreWhole : List Grown → ℚ → Type 0
+AreWhole curves last = (v : ℕ) → v < length curves → checked_cut passes_Q (points_at (curves_of curves) v) last ≡ Ok (points_at (curves_of curves) v)
+
+-- the labels cut at the departure reached, none of which breaks C1
+abbrev pub AreCut : Network → Flow → List Grown → Type 0
+AreCut net flow labels = each (label_cut passes_Q net (flow_of flow)) (all_nodes net) ≡ Ok (curves_of labels)

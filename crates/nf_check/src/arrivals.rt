@@ -54,7 +54,7 @@ fn check_arrival(
     match &least {
         None => Ok(()),
         Some(least) => {
-            let label = curve_at(&worked.labels, node.index());
+            let label = curve_at(worked.labels, node.index());
             compare(
                 CheckRule::C3,
                 Subject::Node(node),
@@ -108,7 +108,7 @@ pub(crate) fn check_arrivals(
 {
     let source = net.source();
     let line = departures(alloc, flow.reached)?;
-    let label = curve_at(&worked.labels, source.index());
+    let label = curve_at(worked.labels, source.index());
     compare(
         CheckRule::C3,
         Subject::Node(source),

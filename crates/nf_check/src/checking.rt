@@ -11,35 +11,41 @@ ghost use Rattle.nf_check_def.specs.Rules.{Checks};
 ghost use Rattle.nf_check_def.specs.CheckList.{trial, check_list};
 ghost use Rattle.nf_curve.specs.Flows.{trace_of, flow_of};
 ghost use Rattle.nf_check.specs.Answers.{IsExact};
-ghost use Rattle.nf_check.specs.Given.{IsGivenFlow};
-ghost use Rattle.nf_check_rules.specs.Kept.{IsWorked, curves_of, labels_in, loaded_in};
+ghost use Rattle.nf_check.specs.Given.{IsGivenFlow, AreCut};
+ghost use Rattle.nf_check_rules.specs.Kept.{IsWorked, curves_of, loadings_of, labels_in, loaded_in};
 ghost use Rattle.nf_check_rules.specs.Steps.{worked_list, told_list, compared_list};
 ghost use Rattle.nf_check_rules.specs.Trials.{Tries, done};
 
 use crate::answer::{Answer, answer_of};
 use crate::arrivals::check_arrivals;
-use crate::labels::cut_labels;
+use crate::labels::{are_whole, check_labels, cut_labels};
 use nf_check_rules::{
     Ended, Exits, Worked, check_balances, check_inflows, check_outflows, check_queues, check_rates,
     check_routes, load_links,
 };
 use nf_curve::{Curve, Flow, Trace};
 use nf_frac::{Halt, Q};
+use nf_load::Loaded;
 use nf_net::Network;
 use std::alloc::Global;
 
-// Computes the labels up to the departure reached, and loads the links. Tests C1 and C2 before it loads the links.
+// Loads the links. Tests C1 for the inflows and C2 before it loads the links. `labels` are the labels up to the departure reached.
 #[tactic(auto, unfolding(nf_check_rules::specs::Steps::worked_list))]
-fn work_out(alloc: Global, net: &Network, flow: &Flow) -> Result<Worked, Ended>
-    requires { IsGivenFlow net.now.net flow.now }
-    ensures list { Tries (λ worked. (labels_in worked, loaded_in worked)) result (worked_list passes_Q net.now.net (flow_of flow.now)) }
-    ensures worked { IfOk result (IsWorked net.now.net) }
+fn load_tested(
+    alloc: Global,
+    net: &Network,
+    flow: &Flow,
+    labels: &[Curve],
+) -> Result<Vec<Loaded>, Ended>
+    requires given { IsGivenFlow net.now.net flow.now }
+    requires labels { AreCut net.now.net flow.now labels.now }
+    ensures list { Tries (λ loaded. (curves_of labels.now, loadings_of loaded.items)) result
+        (worked_list passes_Q net.now.net (flow_of flow.now)) }
+    ensures count { IfOk result (λ loaded. length loaded.items ≡ length net.now.net.links) }
 {
-    let labels = cut_labels(alloc, net, flow)?;
     check_inflows(net, flow)?;
     check_rates(net, flow)?;
-    let loaded = load_links(alloc, net, flow, &labels)?;
-    Ok(Worked { labels, loaded })
+    load_links(alloc, net, flow, labels)
 }
 
 // Tests C4 for the outflows of all links, and then C5 for their queues.
@@ -68,13 +74,31 @@ fn compare_all(alloc: Global, net: &Network, flow: &Flow, worked: &Worked) -> Re
     check_routes(alloc, net, flow, worked, &mut exits)
 }
 
-// Tests all rules, in order.
+// Tests all rules after C1 for the labels. `labels` are the labels up to the departure reached.
+fn test_with(alloc: Global, net: &Network, flow: &Flow, labels: &[Curve]) -> Result<(), Ended>
+    requires given { IsGivenFlow net.now.net flow.now }
+    requires labels { AreCut net.now.net flow.now labels.now }
+    ensures { Tries (λ _. tt) result (done (trial passes_Q net.now.net (flow_of flow.now))) }
+{
+    let loaded = load_tested(alloc, net, flow, labels)?;
+    let worked = Worked {
+        labels,
+        loaded: &loaded,
+    };
+    compare_all(alloc, net, flow, &worked)
+}
+
+// Tests all rules, in order. Borrows the labels if each ends at the departure reached. Otherwise cuts copies of them there.
 fn test_all(alloc: Global, net: &Network, flow: &Flow) -> Result<(), Ended>
     requires { IsGivenFlow net.now.net flow.now }
     ensures { Tries (λ _. tt) result (done (trial passes_Q net.now.net (flow_of flow.now))) }
 {
-    let worked = work_out(alloc, net, flow)?;
-    compare_all(alloc, net, flow, &worked)
+    if are_whole(&flow.labels, flow.reached) {
+        check_labels(net, flow)?;
+        return test_with(alloc, net, flow, &flow.labels);
+    }
+    let labels = cut_labels(alloc, net, flow)?;
+    test_with(alloc, net, flow, &labels)
 }
 
 // Does nothing. Proof: the points of each curve are a curve.

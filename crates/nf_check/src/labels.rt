@@ -1,14 +1,18 @@
 // Rule C1 for labels: no label is negative up to the departure reached.
-ghost use Rattle.std.specs.Prelude.{◌≡◌, ◌<◌, length, option_map};
+ghost use Rattle.std.specs.Prelude.{◌≡◌, ◌<◌, length, option_map, IsTrue, Ok};
 ghost use Rattle.nf_rational.specs.Operations.{0ℚ};
 ghost use Rattle.nf_rational.specs.Order.{◌≤ℚ◌};
 ghost use Rattle.nf_frac_def.specs.Passing.{passes_Q};
 ghost use Rattle.nf_frac_def.specs.Checked.{each};
+ghost use Rattle.nf_model.specs.Equilibrium.{points_at};
+ghost use Rattle.nf_model.specs.Network.{Network as SeenNetwork};
+ghost use Rattle.nf_curve_def.specs.Values.{checked_cut};
 ghost use Rattle.nf_check_def.specs.PointRules.{negative_point as negative_by};
 ghost use Rattle.nf_check_def.specs.Rules.{all_nodes};
 ghost use Rattle.nf_check_def.specs.CheckList.{label_cut};
 ghost use Rattle.nf_curve.specs.Differences.{difference_of};
 ghost use Rattle.nf_curve.specs.Flows.{flow_of};
+ghost use Rattle.nf_check.specs.Given.{AreWhole};
 ghost use Rattle.nf_check_rules.specs.Kept.{curves_of};
 ghost use Rattle.nf_check_rules.specs.Trials.{Tries};
 
@@ -37,11 +41,58 @@ fn negative_point(curve: &Curve) -> Option<Difference>
     None
 }
 
+// Returns whether the last point of a curve is at the time `last`. Then the curve is its own cut there.
+fn is_whole(curve: &Curve, last: Q) -> bool
+    requires { 0ℚ ≤ℚ last }
+    ensures { IsTrue result → checked_cut passes_Q curve.now.points last ≡ Ok curve.now.points }
+{
+    // Proof: there is a point.
+    curve.recall();
+    let (time, _) = curve.last();
+    time.is_same(last)
+}
+
+/// Returns whether each of the labels ends at the time `last`. Then each label is its own cut there.
+pub(crate) fn are_whole(labels: &[Curve], last: Q) -> bool
+    requires { 0ℚ ≤ℚ last }
+    ensures { IsTrue result → AreWhole labels.now last }
+{
+    for label in labels {
+        if !is_whole(label, last) {
+            return false;
+        }
+    }
+    true
+}
+
+// Tests C1 for the label of a node, which ends at the departure reached.
+fn check_label(flow: &Flow, node: NodeId) -> Result<(), Ended>
+    requires node { node < length flow.now.labels.items }
+    requires whole { AreWhole flow.now.labels.items flow.now.reached }
+    ensures { (net : SeenNetwork) → Tries (λ _. points_at (flow_of flow.now).labels node) result (label_cut passes_Q net (flow_of flow.now) node) }
+{
+    let label = curve_at(&flow.labels, node.index());
+    unless(CheckRule::C1, Subject::Node(node), negative_point(label))
+}
+
+/// Tests C1 for the labels of all nodes, each of which ends at the departure reached. Does not allocate.
+pub(crate) fn check_labels(net: &Network, flow: &Flow) -> Result<(), Ended>
+    requires labels { length flow.now.labels.items ≡ net.now.net.nodes }
+    requires whole { AreWhole flow.now.labels.items flow.now.reached }
+    ensures { Tries (λ _. curves_of flow.now.labels.items) result
+        (each (label_cut passes_Q net.now.net (flow_of flow.now)) (all_nodes net.now.net)) }
+{
+    for number in 0..net.node_count() {
+        check_label(flow, NodeId(number))?;
+    }
+    Ok(())
+}
+
 // Cuts the label of a node at the departure reached, and tests C1 for it.
-fn cut_label(alloc: Global, net: &Network, flow: &Flow, node: NodeId) -> Result<Curve, Ended>
+fn cut_label(alloc: Global, flow: &Flow, node: NodeId) -> Result<Curve, Ended>
     requires node { node < length flow.now.labels.items }
     requires reached { 0ℚ ≤ℚ flow.now.reached }
-    ensures { Tries (λ c. c.points) result (label_cut passes_Q net.now.net (flow_of flow.now) node) }
+    ensures { (net : SeenNetwork) → Tries (λ c. c.points) result (label_cut passes_Q net (flow_of flow.now) node) }
 {
     let label = curve_at(&flow.labels, node.index());
     let cut = label.cut(alloc, flow.reached, Part::Check)?;
@@ -58,7 +109,7 @@ pub(crate) fn cut_labels(alloc: Global, net: &Network, flow: &Flow) -> Result<Ve
 {
     let mut labels = Vec::with_capacity(alloc, net.node_count() as usize)?;
     for number in 0..net.node_count() {
-        let cut = cut_label(alloc, net, flow, NodeId(number))?;
+        let cut = cut_label(alloc, flow, NodeId(number))?;
         labels.push(cut)?;
     }
     Ok(labels)

@@ -1,7 +1,8 @@
 -- Curves by their numbers.
-use Rattle.std.proofs.Common.{◌≡◌, ◌≢◌, ℕ, ◌+◌, ◌<◌, List, [], length, map, get_or, Some, Option, slice_get, unwrap_or, option_map, ⊎_elim, true, false, eqb, refl, sym, ap, subst, ◌∙◌, arith}
+use Rattle.std.proofs.Common.{◌≡◌, ◌≢◌, ℕ, ◌+◌, ◌<◌, List, [], ◌∷◌, ◌++◌, take, length, map, get_or, Some, Option, slice_get, unwrap_or, option_map, ⊎_elim, true, false, eqb, refl, sym, ap, subst, ◌∙◌, arith}
 use Rattle.std.proofs.lemmas.Bool.Decides.{eqb_tells}
-use Rattle.std.proofs.lemmas.Option.{slice_get_read, slice_get-map}
+use Rattle.std.proofs.lemmas.List.{take_more}
+use Rattle.std.proofs.lemmas.Option.{slice_get_read, slice_get-map, slice_get_within, get_or_from_slice_get}
 use Rattle.nf_model.specs.Curve.{Point, IsCurve}
 use Rattle.nf_model.specs.Equilibrium as model
 use Rattle.nf_model.specs.Equilibrium.{points_at, points_of}
@@ -21,6 +22,13 @@ get_map {A} {B} f xs k x e = slice_get-map f xs k ∙ ap (option_map f) e
 module _ (curves : List Grown) (k : ℕ) (curve : Grown) (is : slice_get curves k ≡ Some curve) where
   pub curve_there : curve.points ≡ points_at (curves_of curves) k
   curve_there = sym (ap (λ (o : Option (List Point)). unwrap_or o []) (get_map (λ (c : Grown). c.points) curves k curve is))
+
+-- one more of the first curves
+pub curves_more : (curves : List Grown) (k : ℕ) (curve : Grown) → slice_get curves k ≡ Some curve → take (k + 1) (curves_of curves) ≡ take k (curves_of curves) ++ points_at (curves_of curves) k ∷ []
+curves_more curves k curve is =
+    let there : slice_get (curves_of curves) k ≡ Some curve.points = get_map (λ (c : Grown). c.points) curves k curve is in
+    take_more (curves_of curves) k [] (slice_get_within (curves_of curves) k curve.points there)
+    ∙ ap (λ (x : List Point). take k (curves_of curves) ++ x ∷ []) (get_or_from_slice_get (curves_of curves) k curve.points [] there ∙ curve_there curves k curve is)
 
 module _ (traces : List Trace) (k : ℕ) (trace : Trace) (is : slice_get traces k ≡ Some trace) where
   pub trace_there : slice_get (map trace_of traces) k ≡ Some (trace_of trace)
@@ -43,10 +51,10 @@ one_more P i all here k h = ⊎_elim
     (λ (w : (eqb k i ≡ false) × (k ≢ i)). all k (let n = w.1 in omega arith))
     (eqb_tells k i)
 
-pub next_curve : (curves : List Grown) (i : ℕ) (curve : Grown) → i < length curves → curve ≡ get_or curves i curve → IsCurve curve.points → ((k : ℕ) → k < i → IsCurve (points_at (curves_of curves) k))
-    → (k : ℕ) → k < i + 1 → IsCurve (points_at (curves_of curves) k)
-next_curve curves i curve h is c all = one_more (λ k. IsCurve (points_at (curves_of curves) k)) i all
-    (subst (λ (l : List Point). IsCurve l) (curve_there curves i curve (slice_get_read curves _ i curve refl h is)) c)
+pub next_curve : (P : List Point → Type 0) (curves : List Grown) (i : ℕ) (curve : Grown) → i < length curves → curve ≡ get_or curves i curve → P curve.points → ((k : ℕ) → k < i → P (points_at (curves_of curves) k))
+    → (k : ℕ) → k < i + 1 → P (points_at (curves_of curves) k)
+next_curve P curves i curve h is c all = one_more (λ k. P (points_at (curves_of curves) k)) i all
+    (subst P (curve_there curves i curve (slice_get_read curves _ i curve refl h is)) c)
 
 pub next_trace : (traces : List Trace) (i : ℕ) (trace : Trace) → i < length traces → trace ≡ get_or traces i trace → IsCurve trace.curve.points → ((k : ℕ) → k < i → IsCurve (points_at (points_of (map trace_of traces)) k))
     → (k : ℕ) → k < i + 1 → IsCurve (points_at (points_of (map trace_of traces)) k)

@@ -1,5 +1,5 @@
 -- What is known of the labels and inflows once the first rules hold.
-use Rattle.std.proofs.Common.{◌≡◌, ℕ, zero, suc, ◌+◌, ◌<◌, List, [], ◌∷◌, length, Option, Some, None, slice_get, unwrap_or, refl, sym, ap, subst, ◌∙◌, arith}
+use Rattle.std.proofs.Common.{◌≡◌, ℕ, zero, suc, ◌+◌, ◌-◌, ◌<◌, true, List, [], ◌∷◌, length, Option, Some, None, slice_get, unwrap_or, refl, sym, ap, subst, ◌∙◌, arith}
 use Rattle.std.proofs.lemmas.List.{length-map}
 use Rattle.std.specs.Prelude.{Result, Ok, Err}
 use Rattle.std.specs.List.{enumerate_from, range_with_len}
@@ -14,7 +14,10 @@ use Rattle.nf_model.specs.Network.{Network}
 use Rattle.nf_model.specs.Equilibrium.{Flow, points_at, points_of}
 use Rattle.nf_curve_def.specs.Lines.{Sides}
 use Rattle.nf_curve_def.specs.Values.{checked_cut}
+use Rattle.nf_rational.specs.Signs.{is_same}
+use Rattle.nf_curve_laws.proofs.Operations.{same_of}
 use Rattle.nf_curve_laws.proofs.Values.{checked_cut-exact}
+use Rattle.nf_curve.proofs.Whole.{whole_cut}
 use Rattle.nf_check_def.specs.declared.CheckRule.{CheckRule}
 use Rattle.nf_check_def.specs.declared.CheckRule.TheVariants.{C1}
 use Rattle.nf_check_def.specs.declared.Subject.{Subject}
@@ -27,10 +30,11 @@ use Rattle.nf_check_laws.specs.Laws.{CanBeChecked}
 use Rattle.nf_check_laws.proofs.Points.{IsLabel, cut_of, label-cut, negative-none, decides-inflow, value_from_all}
 use Rattle.nf_curve.specs.Points.{Grown}
 use Rattle.nf_load.specs.Loadings.{loaded_of}
+use Rattle.nf_load.specs.declared.loading.Loaded.{Loaded}
 use Rattle.nf_check_rules.specs.declared.worked.Worked.{Worked}
-use Rattle.nf_check_rules.specs.Kept.{IsFromZero, IsWorked, curves_of, labels_in, loaded_in}
+use Rattle.nf_check_rules.specs.Kept.{IsFromZero, IsWorked, curves_of, loadings_of, labels_in}
 use Rattle.nf_check_rules.specs.Trials.{done}
-use Rattle.nf_check_rules.proofs.Trying.{Came, done_came}
+use Rattle.nf_check_rules.proofs.Trying.{Came, done_came, goes_on}
 
 -- ---- parts of what went through
 record Both {A B : Type 0} (r : Trial A) (f : A → Trial B) (y : B) : Type 0 where
@@ -128,7 +132,7 @@ module _ (passes : Passing) (net : Network) (flow : Flow) (given : CanBeChecked 
       let v : Came (inflow_rule passes net flow e) = subst (λ (j : ℕ). Came (inflow_rule passes net flow j)) (from_0 e) (each_came (inflow_rule passes net flow) (length net.links) 0 e w.value w.is h) in
       (decides-inflow net flow given e h).holds (unless_came C1 (OfLink e) (inflow_fault (points_at (points_of flow.inflows) e)) v.value v.is)
 
-pub loaded_many : {A X : Type 0} (f : ℕ × X → Trial A) (links : List X) (ys : List A) → each f (enumerate_from 0 links) ≡ Ok ys → length ys ≡ length links
+loaded_many : {A X : Type 0} (f : ℕ × X → Trial A) (links : List X) (ys : List A) → each f (enumerate_from 0 links) ≡ Ok ys → length ys ≡ length links
 loaded_many f links ys e = links_many f links 0 ys e
 
 -- ---- a label that has no negative point is never negative
@@ -136,27 +140,44 @@ pub never_negative : (points : List Point) → IsFromZero points → (t : ℚ) �
 never_negative [] k t h = absurd k.curve
 never_negative (p ∷ rest) k t h = value_from_all 0ℚ p rest t k.curve.1 k.none_negative (subst (λ (z : ℚ). z ≤ℚ t) (sym k.curve.0) h)
 
+pub labels_in_number : (passes : Passing) (net : Network) (flow : Flow) → CanBeChecked net flow → (labels : List Grown) → each (label_cut passes net flow) (all_nodes net) ≡ Ok (curves_of labels) → length labels ≡ net.nodes
+labels_in_number passes net flow given labels e = sym (length-map labels (λ (c : Grown). c.points)) ∙ labels_many passes net flow given (curves_of labels) e
+
+-- a curve whose last point is at a time is its own cut there
+pub cut_at_end : (passes : Passing) (points : List Point) (last : ℚ) (p : Point) → IsCurve points → 0 < length points → slice_get points (length points - 1) ≡ Some p → is_same p.0 last ≡ true → 0ℚ ≤ℚ last
+    → checked_cut passes points last ≡ Ok points
+cut_at_end passes points last p c some is same h =
+    let all : length points ≡ suc (length points - 1) = omega (arith, some) in
+    let at : p.0 ≡ last = same_of p.0 last same in
+    subst (λ (t : ℚ). checked_cut passes points t ≡ Ok points) at (whole_cut passes points (length points - 1) p c all is (subst (λ (t : ℚ). 0ℚ ≤ℚ t) (sym at) h))
+
+-- such a label is cut without an operation, and C1 is tested for it
+pub label_cut_whole : (passes : Passing) (net : Network) (flow : Flow) (v : ℕ) (label : List Point) → label ≡ points_at flow.labels v → checked_cut passes label flow.reached ≡ Ok label
+    → label_cut passes net flow v ≡ (unless C1 (Node v) (negative_point label) >>= λ _. Ok label)
+label_cut_whole passes net flow v label is whole =
+    let cut : in_part Check (checked_cut passes (points_at flow.labels v) flow.reached) ≡ Ok label = ap (λ (l : List Point). in_part Check (checked_cut passes l flow.reached)) (sym is) ∙ ap (in_part Check) whole in
+    goes_on (in_part Check (checked_cut passes (points_at flow.labels v) flow.reached)) _ label cut
+
+pub loaded_in_number : (passes : Passing) (net : Network) (flow : Flow) (labels : List (List Point)) (loaded : List Loaded) → each (loading passes net flow labels) (enumerate_from 0 net.links) ≡ Ok (loadings_of loaded)
+    → length loaded ≡ length net.links
+loaded_in_number passes net flow labels loaded e = sym (length-map loaded loaded_of) ∙ loaded_many (loading passes net flow labels) net.links (loadings_of loaded) e
+
 -- ---- what was worked out
 pub worked_known : (passes : Passing) (net : Network) (flow : Flow) → CanBeChecked net flow → (w : Worked) → each (label_cut passes net flow) (all_nodes net) ≡ Ok (labels_in w)
-    → (ls : List (List Point)) → each (loading passes net flow ls) (enumerate_from 0 net.links) ≡ Ok (loaded_in w) → IsWorked net w
-worked_known passes net flow given w e ls f = record {
-  nodes = sym (length-map w.labels.items (λ (c : Grown). c.points)) ∙ labels_many passes net flow given (labels_in w) e;
-  links = sym (length-map w.loaded.items loaded_of) ∙ loaded_many (loading passes net flow ls) net.links (loaded_in w) f;
+    → length w.loaded.now ≡ length net.links → IsWorked net w
+worked_known passes net flow given w e links = record {
+  nodes = labels_in_number passes net flow given w.labels.now e;
+  links = links;
   labels = labels_known passes net flow given (labels_in w) e;
 }
 
 -- ---- the label of a node
-pub label_known : (w : Worked) (curves : List Grown) (k v : ℕ) (points : List Point) → IsFromZero (points_at (labels_in w) v) → curves ≡ w.labels.items → k ≡ v → points ≡ points_at (curves_of curves) k
-    → IsFromZero points
-label_known w curves k v points known e f g =
-    subst (λ (l : List Point). IsFromZero l) (sym (g ∙ ap (λ (l : List Grown). points_at (curves_of l) k) e ∙ ap (λ (j : ℕ). points_at (labels_in w) j) f)) known
-
-pub labels_in_number : (passes : Passing) (net : Network) (flow : Flow) → CanBeChecked net flow → (all labels : List Grown) → all ≡ labels → each (label_cut passes net flow) (all_nodes net) ≡ Ok (curves_of labels) → length all ≡ net.nodes
-labels_in_number passes net flow given all labels same e = ap length same ∙ sym (length-map labels (λ (c : Grown). c.points)) ∙ labels_many passes net flow given (curves_of labels) e
+pub label_known : (w : Worked) (k v : ℕ) (points : List Point) → IsFromZero (points_at (labels_in w) v) → k ≡ v → points ≡ points_at (labels_in w) k → IsFromZero points
+label_known w k v points known f g = subst (λ (l : List Point). IsFromZero l) (sym (g ∙ ap (λ (j : ℕ). points_at (labels_in w) j) f)) known
 
 -- where a label of a node, or a curve of a link, is looked for there is one
-pub label_there : (net : Network) (w : Worked) → IsWorked net w → (curves : List Grown) (k v : ℕ) → curves ≡ w.labels.items → k ≡ v → v < net.nodes → k < length curves
-label_there net w h curves k v e f g = subst (λ (n : ℕ). k < n) (sym (ap length e ∙ h.nodes)) (subst (λ (n : ℕ). n < net.nodes) (sym f) g)
+pub label_there : (net : Network) (w : Worked) → IsWorked net w → (k v : ℕ) → k ≡ v → v < net.nodes → k < length w.labels.now
+label_there net w h k v f g = subst (λ (n : ℕ). k < n) (sym h.nodes) (subst (λ (n : ℕ). n < net.nodes) (sym f) g)
 
 pub one_there : {A : Type 0} (xs ys : List A) (k n : ℕ) → xs ≡ ys → length ys ≡ n → k < n → k < length xs
 one_there xs ys k n e f g = subst (λ (m : ℕ). k < m) (sym (ap length e ∙ f)) g

@@ -19,7 +19,9 @@ use Rattle.nf_check_def.specs.Rules.{all_nodes, all_links, nodes_but}
 use Rattle.nf_check_def.specs.Trial.{Trial, in_part}
 use Rattle.nf_check_def.specs.Curves.{departures, total_in, total_out}
 use Rattle.nf_check_def.specs.CheckList.{compared, label_cut, inflow_rule, link_rates, loading, arrivals, outflow_rule, queue_rule, balance, sink_rules, route, trial}
-use Rattle.nf_check_rules.specs.Trials.{done}
+use Rattle.nf_check_rules.specs.declared.ended.Ended.{Ended}
+use Rattle.nf_check_rules.specs.Trials.{EndsAs, done}
+use Rattle.nf_check_rules.proofs.Trying.{ends, ends_as}
 use Rattle.nf_check_rules.proofs.PointByPoint.{first_same}
 use Rattle.nf_check_rules.specs.Points.{first_value}
 use Rattle.nf_check_rules.specs.Steps.{compared_by, worked_list, arrivals_list, told_list, balances_list, compared_list, tested_list}
@@ -87,6 +89,13 @@ tested-is passes net flow = worked_same (each (label_cut passes net flow) (all_n
     (λ supplied. each (balance passes net flow labels loaded supplied) (nodes_but net.sink net)) (λ supplied. sink_rules passes net flow labels loaded supplied)
     (each (route passes net flow labels loaded) (enumerate_from 0 net.links)))
     ∙ sym (ap (λ (r : Trial Pair). r >>= λ w. compared_list passes net flow w.0 w.1) (worked_is passes net flow))
+
+-- a label that ends the check
+pub labels_end : (passes : Passing) (net : Network) (flow : Flow) (e : Ended) → EndsAs e (each (label_cut passes net flow) (all_nodes net)) → EndsAs e (done (trial passes net flow))
+unfolding tested_list worked_list
+labels_end passes net flow e h =
+    ends_as e (done (trial passes net flow)) (tested_list passes net flow) (tested-is passes net flow)
+    (ends e (worked_list passes net flow) (λ worked. compared_list passes net flow worked.0 worked.1) (ends e (each (label_cut passes net flow) (all_nodes net)) _ h))
 
 -- ---- the labels at the source, however they are named
 pub arrivals-is : (passes : Passing) (net : Network) (flow : Flow) (labels : List (List Point)) (loaded : List Loaded) (source : ℕ) (label line : List Point) → source ≡ net.source

@@ -65,3 +65,8 @@ done_came (Err p) e = absurd (cc)
 -- of equal trials
 pub tries_as : {X A : Type 0} (value : X → A) (result : Result X Ended) (r s : Trial A) → r ≡ s → Tries value result s → Tries value result r
 tries_as {X} {A} value result r s same h = subst (λ (w : Trial A). Tries value result w) (sym same) h
+
+-- with a function of the value
+pub tries_map : {X A B : Type 0} (value : X → A) (f : A → B) (result : Result X Ended) (r : Trial A) → Tries value result r → Tries (λ x. f (value x)) result (r >>= λ y. Ok (f y))
+tries_map value f (Ok x) r h = ap (λ w. w >>= λ y. Ok (f y)) h
+tries_map value f (Err e) r h = ends e r (λ y. Ok (f y)) h

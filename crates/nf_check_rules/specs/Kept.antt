@@ -19,10 +19,10 @@ abbrev pub loadings_of : List Loaded → List lists.Loaded
 loadings_of loaded = map loaded_of loaded
 
 abbrev pub labels_in : Worked → List (List Point)
-labels_in w = curves_of w.labels.items
+labels_in w = curves_of w.labels.now
 
 abbrev pub loaded_in : Worked → List lists.Loaded
-loaded_in w = loadings_of w.loaded.items
+loaded_in w = loadings_of w.loaded.now
 
 -- a curve without a negative value
 pub record IsFromZero (points : List Point) : Type 0 where
@@ -31,6 +31,6 @@ pub record IsFromZero (points : List Point) : Type 0 where
 
 -- one label curve without negative values per node, and one loading per link
 pub record IsWorked (net : Network) (worked : Worked) : Type 0 where
-  pub nodes : length worked.labels.items ≡ net.nodes
-  pub links : length worked.loaded.items ≡ length net.links
+  pub nodes : length worked.labels.now ≡ net.nodes
+  pub links : length worked.loaded.now ≡ length net.links
   pub labels : (v : ℕ) → v < net.nodes → IsFromZero (points_at (labels_in worked) v)

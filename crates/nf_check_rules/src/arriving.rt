@@ -36,8 +36,8 @@ fn exit_along(
         (checked_composed passes_Q (loaded_by (loaded_in worked.now) link).exit (points_at (labels_in worked.now) here.tail) reached)) }
 {
     let tail = net.link(link).tail;
-    let exit = &loaded_at(&worked.loaded, link).exit;
-    let label = curve_at(&worked.labels, tail.index());
+    let exit = &loaded_at(worked.loaded, link).exit;
+    let label = curve_at(worked.labels, tail.index());
     Curve::compose(alloc, exit, label, reached, Part::Check)
 }
 

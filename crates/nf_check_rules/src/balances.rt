@@ -57,7 +57,7 @@ fn end_at(net: &Network, flow: &Flow, worked: &Worked, node: NodeId) -> Q
     if node == net.source() {
         flow.reached
     } else {
-        last_value(curve_at(&worked.labels, node.index()))
+        last_value(curve_at(worked.labels, node.index()))
     }
 }
 
@@ -77,7 +77,7 @@ fn check_balance(
     ensures { Tries (λ _. tt) result
         (balance passes_Q net.now.net (flow_of flow.now) (labels_in worked.now) (loaded_in worked.now) supplied.now.points node) }
 {
-    let comes = total_in(alloc, net, &worked.loaded, node)?;
+    let comes = total_in(alloc, net, worked.loaded, node)?;
     let total = with_supply(alloc, net, supplied, node, comes)?;
     let goes = total_out(alloc, net, flow, node)?;
     compare(
@@ -150,8 +150,8 @@ fn check_sink(
         (sink_rules passes_Q net.now.net (flow_of flow.now) (labels_in worked.now) (loaded_in worked.now) supplied.now.points) }
 {
     let sink = net.sink();
-    let label = curve_at(&worked.labels, sink.index());
-    let comes = total_in(alloc, net, &worked.loaded, sink)?;
+    let label = curve_at(worked.labels, sink.index());
+    let comes = total_in(alloc, net, worked.loaded, sink)?;
     let goes = total_out(alloc, net, flow, sink)?;
     compare(
         CheckRule::C7,

@@ -1,5 +1,5 @@
 // Loading of a flow's inflows.
-ghost use Rattle.std.specs.Prelude.{◌≡◌, ◌<◌, ℕ, length};
+ghost use Rattle.std.specs.Prelude.{◌≡◌, ◌<◌, ℕ, length, IfOk};
 ghost use Rattle.nf_frac_def.specs.Passing.{passes_Q};
 ghost use Rattle.nf_frac_def.specs.Checked.{each};
 ghost use Rattle.std.specs.List.{enumerate_from};
@@ -59,8 +59,9 @@ pub fn load_links(
     requires inflows { length flow.now.inflows.items ≡ length net.now.net.links }
     requires labels { length labels.now ≡ net.now.net.nodes }
     requires hold { (e : ℕ) → e < length net.now.net.links → Holds net.now.net (flow_of flow.now) (Inflow e) }
-    ensures { Tries (λ loaded. loadings_of loaded.items) result
+    ensures list { Tries (λ loaded. loadings_of loaded.items) result
         (each (loading passes_Q net.now.net (flow_of flow.now) (curves_of labels.now)) (enumerate_from 0 net.now.net.links)) }
+    ensures count { IfOk result (λ loaded. length loaded.items ≡ length net.now.net.links) }
 {
     let mut loaded = Vec::with_capacity(alloc, net.link_count() as usize)?;
     for number in 0..net.link_count() {

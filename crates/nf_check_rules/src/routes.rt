@@ -72,9 +72,9 @@ fn check_route(
 {
     let here = net.link(link);
     let inflow = &trace_at(&flow.inflows, link).curve;
-    let exit = &loaded_at(&worked.loaded, link).exit;
-    let tail_label = curve_at(&worked.labels, here.tail.index());
-    let head_label = curve_at(&worked.labels, here.head.index());
+    let exit = &loaded_at(worked.loaded, link).exit;
+    let tail_label = curve_at(worked.labels, here.tail.index());
+    let head_label = curve_at(worked.labels, here.head.index());
     let detour = detour(
         alloc,
         inflow,

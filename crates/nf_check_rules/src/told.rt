@@ -28,9 +28,9 @@ fn check_outflow(net: &Network, flow: &Flow, worked: &Worked, link: LinkId) -> R
         (outflow_rule passes_Q net.now.net (flow_of flow.now) (labels_in worked.now) (loaded_in worked.now) (link, here)) }
 {
     let head = net.link(link).head;
-    let last = last_value(curve_at(&worked.labels, head.index()));
+    let last = last_value(curve_at(worked.labels, head.index()));
     let told = &trace_at(&flow.outflows, link).curve;
-    let right = &loaded_at(&worked.loaded, link).outflow;
+    let right = &loaded_at(worked.loaded, link).outflow;
     compare(CheckRule::C4, Subject::Link(link), told, right, last)
 }
 
@@ -43,9 +43,9 @@ fn check_queue(net: &Network, flow: &Flow, worked: &Worked, link: LinkId) -> Res
         (queue_rule passes_Q net.now.net (flow_of flow.now) (labels_in worked.now) (loaded_in worked.now) (link, here)) }
 {
     let tail = net.link(link).tail;
-    let last = last_value(curve_at(&worked.labels, tail.index()));
+    let last = last_value(curve_at(worked.labels, tail.index()));
     let told = curve_at(&flow.queues, link.index());
-    let right = &loaded_at(&worked.loaded, link).queue;
+    let right = &loaded_at(worked.loaded, link).queue;
     compare(CheckRule::C5, Subject::Link(link), told, right, last)
 }
 

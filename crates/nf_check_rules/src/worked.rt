@@ -11,11 +11,12 @@ use nf_curve::{Curve, Trace};
 use nf_graph::LinkId;
 use nf_load::Loaded;
 
-/// Curves computed from a flow. `labels` holds its labels up to the departure reached, and `loaded` the loading of each link.
-#[derive(Drop)]
-pub struct Worked {
-    pub labels: Vec<Curve>,
-    pub loaded: Vec<Loaded>,
+/// A borrowed view of curves computed from a flow. `labels` are its labels up to the departure reached, and `loaded` are the loadings of its
+/// links.
+#[derive(Clone, Copy)]
+pub struct Worked<'a> {
+    pub labels: &'a [Curve],
+    pub loaded: &'a [Loaded],
 }
 
 /// Returns the curve of a number.

@@ -32,7 +32,7 @@ returns-in_err-least-clause-tries c =
 
 pub returns-clause-tries : goal.returns-clause-tries
 returns-clause-tries c =
-    let label_is = c.curve_at-label.ensures ∙ ap (λ (l : List Grown). points_at (curves_of l) c.index.result) c.deref.ensures.value ∙ ap (points_at (labels_in c.args.worked.now)) c.index.ensures in
+    let label_is = c.curve_at-label.ensures ∙ ap (points_at (labels_in c.args.worked.now)) c.index.ensures in
     tries_as (λ _. tt) c.compare.result (arrivals passes_Q c.args.net.now.net (flow_of c.args.flow.now) (labels_in c.args.worked.now) (loaded_in c.args.worked.now) c.args.node) _
     (part_goes Check (least_exits passes_Q (labels_in c.args.worked.now) (loaded_in c.args.worked.now) c.args.flow.now.reached c.args.net.now.net.links c.args.node) _ (Some c.in-Some.least.points) (c.in_ok-least.ensures.list ∙ ap (λ (o : Option Grown). Ok (option_map (λ (g : Grown). g.points) o)) c.in-Some.is)
     ∙ ap (λ (l : List Point). compared_by passes_Q C3 (Node c.args.node) l c.in-Some.least.points c.args.flow.now.reached) (sym label_is))

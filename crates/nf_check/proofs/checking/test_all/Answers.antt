@@ -1,25 +1,38 @@
 use Rattle.std.proofs.lemmas.Result.{err_from_is_err_and}
-use Rattle.std.proofs.Common.{◌∙◌}
+use Rattle.std.proofs.Common.{◌≡◌, List, ap, subst, sym, ◌∙◌}
+use Rattle.std.specs.Prelude.{Ok}
 use Rattle.nf_frac_def.specs.Passing.{passes_Q}
+use Rattle.nf_frac_def.specs.Checked.{each}
 use Rattle.nf_curve.specs.Flows.{flow_of}
-use Rattle.nf_check_def.specs.CheckList.{trial}
-use Rattle.nf_check_rules.specs.Kept.{labels_in, loaded_in}
+use Rattle.nf_curve.specs.Points.{Grown}
+use Rattle.nf_check_def.specs.Rules.{all_nodes}
+use Rattle.nf_check_def.specs.CheckList.{label_cut, trial}
+use Rattle.nf_check_rules.specs.Kept.{curves_of}
 use Rattle.nf_check_rules.specs.Steps.{worked_list, tested_list}
 use Rattle.nf_check_rules.specs.Trials.{done}
-use Rattle.nf_check_rules.proofs.Trying.{goes_on, ends, ends_as, tries_as}
-use Rattle.nf_check_rules.proofs.Testing.{tested-is}
+use Rattle.nf_check_rules.proofs.Trying.{ends, ends_as}
+use Rattle.nf_check_rules.proofs.Testing.{tested-is, labels_end}
+use Rattle.nf_check.specs.Given.{AreWhole}
 use Rattle.nf_check.proofs.checking.test_all.Goals as goal
 
-pub returns-in_err-worked : goal.returns-in_err-worked
-unfolding tested_list
-returns-in_err-worked c =
-    let p = err_from_is_err_and c.from_residual.result c.from_residual.ensures.1 in
-    rw (p.1, p.2) (ends_as c.in_err-worked.field-0.0 (done (trial passes_Q c.args.net.now.net (flow_of c.args.flow.now))) _ (tested-is passes_Q c.args.net.now.net (flow_of c.args.flow.now))
-    (ends c.in_err-worked.field-0.0 (worked_list passes_Q c.args.net.now.net (flow_of c.args.flow.now)) _ c.in_err-worked.ensures.list))
+pub are_whole-requires : goal.are_whole-requires
+are_whole-requires c = c.requires.checked.reached
 
-pub returns : goal.returns
-unfolding tested_list
-returns c = tries_as (λ _. tt) c.compare_all.result (done (trial passes_Q c.args.net.now.net (flow_of c.args.flow.now))) _
-    (tested-is passes_Q c.args.net.now.net (flow_of c.args.flow.now)
-    ∙ goes_on (worked_list passes_Q c.args.net.now.net (flow_of c.args.flow.now)) _ (labels_in c.in_ok-worked.worked, loaded_in c.in_ok-worked.worked) c.in_ok-worked.ensures.list)
-    c.compare_all.ensures
+pub check_labels-requires-clause-whole : goal.check_labels-requires-clause-whole
+check_labels-requires-clause-whole c = subst (λ (l : List Grown). AreWhole l c.args.flow.now.reached) c.deref.ensures.value (c.are_whole.ensures c.if-are_whole.true)
+
+pub returns-in_err-check_labels : goal.returns-in_err-check_labels
+returns-in_err-check_labels c =
+    let p = err_from_is_err_and c.from_residual.result c.from_residual.ensures.1 in
+    rw (p.1, p.2) (labels_end passes_Q c.args.net.now.net (flow_of c.args.flow.now) c.in_err-check_labels.field-0.0 c.in_err-check_labels.ensures)
+
+pub test_with-requires-clause-labels : goal.test_with-requires-clause-labels
+test_with-requires-clause-labels c = c.in_ok-check_labels.ensures ∙ ap (λ (l : List Grown). Ok (curves_of l)) (sym c.deref-2.ensures.value)
+
+pub returns-in_err-labels : goal.returns-in_err-labels
+returns-in_err-labels c =
+    let p = err_from_is_err_and c.from_residual-in_err-labels.result c.from_residual-in_err-labels.ensures.1 in
+    rw (p.1, p.2) (labels_end passes_Q c.args.net.now.net (flow_of c.args.flow.now) c.in_err-labels.field-0.0 c.in_err-labels.ensures)
+
+pub test_with-requires-2-clause-labels : goal.test_with-requires-2-clause-labels
+test_with-requires-2-clause-labels c = c.in_ok-labels.ensures ∙ ap (λ (l : List Grown). Ok (curves_of l)) (sym c.deref-3.ensures.value)

@@ -16,7 +16,7 @@ use Rattle.nf_check_rules.proofs.Trying.{goes_on, ends, ends_as, part_goes, part
 use Rattle.nf_check.proofs.labels.cut_label.Goals as goal
 
 pub returns-in_err-cut : goal.returns-in_err-cut
-returns-in_err-cut c =
+returns-in_err-cut c = λ net.
     let p = err_from_is_err_and c.from_residual.result c.from_residual.ensures.1 in
     let label_is : c.curve_at-label.result.now.points ≡ points_at (flow_of c.args.flow.now).labels c.args.node =
     c.curve_at-label.ensures ∙ ap (λ (l : List Grown). points_at (curves_of l) c.index.result) c.deref.ensures.value ∙ ap (points_at (flow_of c.args.flow.now).labels) c.index.ensures in
@@ -24,17 +24,17 @@ returns-in_err-cut c =
     rw (p.1, p.2) (part_stops Check (checked_cut passes_Q (points_at (flow_of c.args.flow.now).labels c.args.node) c.args.flow.now.reached) _ c.in_err-cut.field-0.0 stopped)
 
 pub returns-in_err-unless : goal.returns-in_err-unless
-returns-in_err-unless c =
+returns-in_err-unless c = λ net.
     let p = err_from_is_err_and c.from_residual-in_err-unless.result c.from_residual-in_err-unless.ensures.1 in
     let label_is : c.curve_at-label.result.now.points ≡ points_at (flow_of c.args.flow.now).labels c.args.node =
     c.curve_at-label.ensures ∙ ap (λ (l : List Grown). points_at (curves_of l) c.index.result) c.deref.ensures.value ∙ ap (points_at (flow_of c.args.flow.now).labels) c.index.ensures in
     let came = rw label_is at c.in_ok-cut.ensures.list in
     let ended = rw c.negative_point.ensures at c.in_err-unless.ensures in
-    rw (p.1, p.2) (ends_as c.in_err-unless.field-0.0 (label_cut passes_Q c.args.net.now.net (flow_of c.args.flow.now) c.args.node) _
+    rw (p.1, p.2) (ends_as c.in_err-unless.field-0.0 (label_cut passes_Q net (flow_of c.args.flow.now) c.args.node) _
     (part_goes Check (checked_cut passes_Q (points_at (flow_of c.args.flow.now).labels c.args.node) c.args.flow.now.reached) _ c.in_ok-cut.cut.points came) (ends c.in_err-unless.field-0.0 (unless C1 (Node c.args.node) (negative_point c.in_ok-cut.cut.points)) _ ended))
 
 pub returns : goal.returns
-returns c =
+returns c = λ net.
     let label_is : c.curve_at-label.result.now.points ≡ points_at (flow_of c.args.flow.now).labels c.args.node =
     c.curve_at-label.ensures ∙ ap (λ (l : List Grown). points_at (curves_of l) c.index.result) c.deref.ensures.value ∙ ap (points_at (flow_of c.args.flow.now).labels) c.index.ensures in
     let came = rw label_is at c.in_ok-cut.ensures.list in

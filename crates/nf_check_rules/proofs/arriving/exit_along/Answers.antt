@@ -13,19 +13,19 @@ use Rattle.nf_check_rules.proofs.arriving.exit_along.Goals as goal
 
 pub compose-requires-clause-inner : goal.compose-requires-clause-inner
 compose-requires-clause-inner c = λ time w. never_negative c.curve_at-label.result.now.points
-    (label_known c.args.worked.now _ _ c.link.result.tail c.curve_at-label.result.now.points
+    (label_known c.args.worked.now _ c.link.result.tail c.curve_at-label.result.now.points
     (c.requires.worked.labels c.link.result.tail (c.link.ensures.named.network.tails c.args.link c.link.result c.link.ensures.link))
-    c.deref-2.ensures.value (c.index.ensures ∙ ap (λ (l : Link). l.tail) c.tail.view_is) c.curve_at-label.ensures) time w.0
+    (c.index.ensures ∙ ap (λ (l : Link). l.tail) c.tail.view_is) c.curve_at-label.ensures) time w.0
 
 pub curve_at-label-requires : goal.curve_at-label-requires
-curve_at-label-requires c = label_there c.args.net.now.net c.args.worked.now c.requires.worked _ c.index.result c.link.result.tail c.deref-2.ensures.value (c.index.ensures ∙ ap (λ (l : Link). l.tail) c.tail.view_is)
+curve_at-label-requires c = label_there c.args.net.now.net c.args.worked.now c.requires.worked c.index.result c.link.result.tail (c.index.ensures ∙ ap (λ (l : Link). l.tail) c.tail.view_is)
     (c.link.ensures.named.network.tails c.args.link c.link.result c.link.ensures.link)
 
 pub returns : goal.returns
 returns c = λ here is.
     let one : c.link.result ≡ here = same_some c.link.result here (sym c.link.ensures.link ∙ is) in
     let exit : (loaded_of c.loaded_at.result.now).exit ≡ (loaded_at (loaded_in c.args.worked.now) c.args.link).exit =
-    ap (λ (l : lists.Loaded). l.exit) (c.loaded_at.ensures ∙ ap (λ (l : List Loaded). loaded_at (loadings_of l) c.args.link) c.deref.ensures.value) in
+    ap (λ (l : lists.Loaded). l.exit) c.loaded_at.ensures in
     let label : c.curve_at-label.result.now.points ≡ points_at (labels_in c.args.worked.now) here.tail =
-    c.curve_at-label.ensures ∙ ap (λ (l : List Grown). points_at (curves_of l) c.index.result) c.deref-2.ensures.value ∙ ap (points_at (labels_in c.args.worked.now)) (c.index.ensures ∙ ap (λ (l : Link). l.tail) (c.tail.view_is ∙ one)) in
+    c.curve_at-label.ensures ∙ ap (points_at (labels_in c.args.worked.now)) (c.index.ensures ∙ ap (λ (l : Link). l.tail) (c.tail.view_is ∙ one)) in
     rw (sym exit, sym label) c.compose.ensures.list

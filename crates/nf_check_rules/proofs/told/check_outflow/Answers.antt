@@ -15,21 +15,21 @@ use Rattle.nf_check_rules.proofs.told.check_outflow.Goals as goal
 
 pub compare-requires : goal.compare-requires
 compare-requires c = c.last_value-last.ensures.nonnegative
-    (label_known c.args.worked.now _ _ c.link.result.head c.curve_at.result.now.points
+    (label_known c.args.worked.now _ c.link.result.head c.curve_at.result.now.points
     (c.requires.worked.labels c.link.result.head (c.link.ensures.named.network.heads c.args.link c.link.result c.link.ensures.link))
-    c.deref.ensures.value (c.index.ensures ∙ ap (λ (l : Link). l.head) c.head.view_is) c.curve_at.ensures).none_negative
+    (c.index.ensures ∙ ap (λ (l : Link). l.head) c.head.view_is) c.curve_at.ensures).none_negative
 
 pub returns : goal.returns
 returns c = λ here is.
     let one : c.link.result ≡ here = same_some c.link.result here (sym c.link.ensures.link ∙ is) in
     let told : c.trace_at.result.now.curve.points ≡ points_at (points_of (flow_of c.args.flow.now).outflows) c.args.link =
-    c.trace_at.ensures.points ∙ ap (λ (l : List Trace). points_at (points_of (map trace_of l)) c.args.link) c.deref-2.ensures.value in
+    c.trace_at.ensures.points ∙ ap (λ (l : List Trace). points_at (points_of (map trace_of l)) c.args.link) c.deref.ensures.value in
     let right : (loaded_of c.loaded_at.result.now).outflow ≡ (loaded_at (loaded_in c.args.worked.now) c.args.link).outflow =
-    ap (λ (l : lists.Loaded). l.outflow) (c.loaded_at.ensures ∙ ap (λ (l : List Loaded). loaded_at (loadings_of l) c.args.link) c.deref-3.ensures.value) in
+    ap (λ (l : lists.Loaded). l.outflow) c.loaded_at.ensures in
     let last : c.last_value-last.result ≡ last_value (points_at (labels_in c.args.worked.now) here.head) =
-    c.last_value-last.ensures.value ∙ ap last_value (c.curve_at.ensures ∙ ap (λ (l : List Grown). points_at (curves_of l) c.index.result) c.deref.ensures.value ∙ ap (points_at (labels_in c.args.worked.now)) (c.index.ensures ∙ ap (λ (l : Link). l.head) (c.head.view_is ∙ one))) in
+    c.last_value-last.ensures.value ∙ ap last_value (c.curve_at.ensures ∙ ap (points_at (labels_in c.args.worked.now)) (c.index.ensures ∙ ap (λ (l : Link). l.head) (c.head.view_is ∙ one))) in
     rw (sym told, sym right, sym last) c.compare.ensures
 
 pub curve_at-requires : goal.curve_at-requires
-curve_at-requires c = label_there c.args.net.now.net c.args.worked.now c.requires.worked _ c.index.result c.link.result.head c.deref.ensures.value (c.index.ensures ∙ ap (λ (l : Link). l.head) c.head.view_is)
+curve_at-requires c = label_there c.args.net.now.net c.args.worked.now c.requires.worked c.index.result c.link.result.head (c.index.ensures ∙ ap (λ (l : Link). l.head) c.head.view_is)
     (c.link.ensures.named.network.heads c.args.link c.link.result c.link.ensures.link)
