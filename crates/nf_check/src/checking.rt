@@ -12,7 +12,8 @@ ghost use Rattle.nf_check_def.specs.CheckList.{trial, check_list};
 ghost use Rattle.nf_curve.specs.Flows.{trace_of, flow_of};
 ghost use Rattle.nf_check.specs.Answers.{IsExact};
 ghost use Rattle.nf_check.specs.Given.{IsGivenFlow, AreCut};
-ghost use Rattle.nf_check_rules.specs.Kept.{IsWorked, curves_of, loadings_of, labels_in, loaded_in};
+ghost use Rattle.nf_check_rules.specs.Kept.{curves_of, loadings_of};
+ghost use Rattle.nf_check_rules.specs.Views.{in_view};
 ghost use Rattle.nf_check_rules.specs.Steps.{worked_list, told_list, compared_list};
 ghost use Rattle.nf_check_rules.specs.Trials.{Tries, done};
 
@@ -50,28 +51,23 @@ fn load_tested(
 
 // Tests C4 for the outflows of all links, and then C5 for their queues.
 #[tactic(auto, unfolding(nf_check_rules::specs::Steps::told_list))]
-fn check_told(net: &Network, flow: &Flow, worked: &Worked) -> Result<(), Ended>
-    requires outflows { length flow.now.outflows.items ≡ length net.now.net.links }
-    requires queues { length flow.now.queues.items ≡ length net.now.net.links }
-    requires worked { IsWorked net.now.net worked.now }
-    ensures { Tries (λ _. tt) result (told_list passes_Q net.now.net (flow_of flow.now) (labels_in worked.now) (loaded_in worked.now)) }
+fn check_told(worked: &Worked) -> Result<(), Ended>
+    ensures { Tries (λ _. tt) result (in_view told_list worked.now) }
 {
-    check_outflows(net, flow, worked)?;
-    check_queues(net, flow, worked)
+    check_outflows(worked)?;
+    check_queues(worked)
 }
 
 // Tests the rules that compare curves: C3 to C8.
 #[tactic(auto, unfolding(nf_check_rules::specs::Steps::compared_list), using(nf_check_rules::proofs::Keeping::none_kept))]
-fn compare_all(alloc: Global, net: &Network, flow: &Flow, worked: &Worked) -> Result<(), Ended>
-    requires given { IsGivenFlow net.now.net flow.now }
-    requires worked { IsWorked net.now.net worked.now }
-    ensures { Tries (λ _. tt) result (compared_list passes_Q net.now.net (flow_of flow.now) (labels_in worked.now) (loaded_in worked.now)) }
+fn compare_all(alloc: Global, worked: &Worked) -> Result<(), Ended>
+    ensures { Tries (λ _. tt) result (in_view compared_list worked.now) }
 {
-    let mut exits = Exits::none(alloc, net)?;
-    check_arrivals(alloc, net, flow, worked, &mut exits)?;
-    check_told(net, flow, worked)?;
-    check_balances(alloc, net, flow, worked)?;
-    check_routes(alloc, net, flow, worked, &mut exits)
+    let mut exits = Exits::none(alloc, worked.net)?;
+    check_arrivals(alloc, worked, &mut exits)?;
+    check_told(worked)?;
+    check_balances(alloc, worked)?;
+    check_routes(alloc, worked, &mut exits)
 }
 
 // Tests all rules after C1 for the labels. `labels` are the labels up to the departure reached.
@@ -82,10 +78,12 @@ fn test_with(alloc: Global, net: &Network, flow: &Flow, labels: &[Curve]) -> Res
 {
     let loaded = load_tested(alloc, net, flow, labels)?;
     let worked = Worked {
+        net,
+        flow,
         labels,
         loaded: &loaded,
     };
-    compare_all(alloc, net, flow, &worked)
+    compare_all(alloc, &worked)
 }
 
 // Tests all rules, in order. Borrows the labels if each ends at the departure reached. Otherwise cuts copies of them there.

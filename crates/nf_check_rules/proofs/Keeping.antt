@@ -25,10 +25,11 @@ use Rattle.nf_curve.specs.Points.{Grown}
 use Rattle.nf_curve.proofs.Exits.{was_ok}
 use Rattle.nf_check_rules.specs.declared.exits.Exits.{Exits}
 use Rattle.nf_check_rules.specs.declared.worked.Worked.{Worked}
-use Rattle.nf_check_rules.specs.Exits.{short_exits, AreKept, Keeps}
-use Rattle.nf_check_rules.specs.Kept.{labels_in, loaded_in}
-use Rattle.nf_check_rules.specs.Sent.{sent_list, known_list}
+use Rattle.nf_check_rules.specs.Exits.{AreKept, Keeps, exits_along}
+use Rattle.nf_check_rules.specs.Sent.{short_exits, sent_list, known_list}
+use Rattle.nf_check_rules.specs.Views.{network_in, labels_in, loaded_in}
 use Rattle.nf_check_rules.specs.Trials.{of_halt, EndsAs}
+use Rattle.nf_check_rules.specs.Views.{network_in, labels_in, loaded_in}
 use Rattle.nf_check_rules.proofs.Trying.{ends, part_ends, part_goes}
 
 -- ---- entries of a list of which one was set
@@ -47,10 +48,10 @@ pub same_some : {A : Type 0} (x y : A) → Some x ≡ Some y → x ≡ y
 same_some x y e = cc
 
 -- ---- exits that are kept
-pub none_kept : (net : Network) (worked : Worked) (last : ℚ) (exits : Exits) → exits.kept.items ≡ replicate (length net.links) None → AreKept net worked last exits
-none_kept net worked last exits is = record {
-  count = ap (λ (l : List (Option Grown)). length l) is ∙ length-replicate (length net.links) None;
-  kept = λ e link curve there at. absurd (nothing (length net.links) e curve (sym (ap (λ (l : List (Option Grown)). slice_get l e) is) ∙ at));
+pub none_kept : (worked : Worked) (exits : Exits) → exits.kept.items ≡ replicate (length (network_in worked).links) None → AreKept worked exits
+none_kept worked exits is = record {
+  count = ap (λ (l : List (Option Grown)). length l) is ∙ length-replicate (length (network_in worked).links) None;
+  kept = λ e link curve there at. absurd (nothing (length (network_in worked).links) e curve (sym (ap (λ (l : List (Option Grown)). slice_get l e) is) ∙ at));
 }
   where
     nothing : (n e : ℕ) (curve : Grown) → slice_get (replicate n None) e ≡ Some (Some curve) → ⊥
@@ -58,13 +59,10 @@ none_kept net worked last exits is = record {
     nothing (suc n) zero curve at = cc
     nothing (suc n) (suc e) curve at = nothing n e curve at
 
-module _ (net : Network) (worked : Worked) (last : ℚ) (old new : Exits) (before : AreKept net worked last old) (e : ℕ) where
-  abbrev exits_of : ℕ → Link → Checked (List Point)
-  exits_of f link = short_exits passes_Q (loaded_at (loaded_in worked) f).exit (points_at (labels_in worked) link.tail) last
-
-  module _ (link : Link) (there : IsLink net e link) where
-    pub keep_kept : (points : List Point) → at_part Check (checked_composed passes_Q (loaded_at (loaded_in worked) e).exit (points_at (labels_in worked) link.tail) last) ≡ Ok points → Keeps e points old new
-        → AreKept net worked last new
+module _ (worked : Worked) (old new : Exits) (before : AreKept worked old) (e : ℕ) where
+  module _ (link : Link) (there : IsLink (network_in worked) e link) where
+    pub keep_kept : (points : List Point) → at_part Check (checked_composed passes_Q (loaded_at (loaded_in worked) e).exit (points_at (labels_in worked) link.tail) worked.flow.now.reached) ≡ Ok points → Keeps e points old new
+        → AreKept worked new
     keep_kept points came (inl same) = record {
       count = ap (λ (l : List (Option Grown)). length l) same ∙ before.count;
       kept = λ f other curve is at. before.kept f other curve is (sym (ap (λ (l : List (Option Grown)). slice_get l f) same) ∙ at);
@@ -74,29 +72,27 @@ module _ (net : Network) (worked : Worked) (last : ℚ) (old new : Exits) (befor
       kept = λ f other curve is at. by_place f other curve is (set_cases old.kept.items e f (Some w.0) (Some curve) (sym (ap (λ (l : List (Option Grown)). slice_get l f) w.1) ∙ at));
     }
       where
-        here : exits_of e link ≡ Ok w.0.points
-        here = ap (λ (r : Checked (List Point)). r >>= λ exits. checked_short passes_Q exits) (was_ok Check (checked_composed passes_Q (loaded_at (loaded_in worked) e).exit (points_at (labels_in worked) link.tail) last) points came) ∙ w.2
+        here : exits_along worked e link ≡ Ok w.0.points
+        here = ap (λ (r : Checked (List Point)). r >>= λ exits. checked_short passes_Q exits) (was_ok Check (checked_composed passes_Q (loaded_at (loaded_in worked) e).exit (points_at (labels_in worked) link.tail) worked.flow.now.reached) points came) ∙ w.2
 
-        by_place : (f : ℕ) (other : Link) (curve : Grown) → IsLink net f other → ((f ≡ e) × (Some curve ≡ Some w.0)) ⊎ (slice_get old.kept.items f ≡ Some (Some curve)) → exits_of f other ≡ Ok curve.points
+        by_place : (f : ℕ) (other : Link) (curve : Grown) → IsLink (network_in worked) f other → ((f ≡ e) × (Some curve ≡ Some w.0)) ⊎ (slice_get old.kept.items f ≡ Some (Some curve)) → exits_along worked f other ≡ Ok curve.points
         by_place f other curve is (inl d) =
-            let one : link ≡ other = same_some link other (sym there ∙ ap (λ (k : ℕ). slice_get net.links k) (sym d.0) ∙ is) in
-            ap (λ (k : ℕ). exits_of k other) d.0 ∙ ap (λ (l : Link). exits_of e l) (sym one) ∙ here ∙ ap (λ (c : Grown). Ok c.points) (sym (same_some curve w.0 d.1))
+            let one : link ≡ other = same_some link other (sym there ∙ ap (λ (k : ℕ). slice_get (network_in worked).links k) (sym d.0) ∙ is) in
+            ap (λ (k : ℕ). exits_along worked k other) d.0 ∙ ap (λ (l : Link). exits_along worked e l) (sym one) ∙ here ∙ ap (λ (c : Grown). Ok c.points) (sym (same_some curve w.0 d.1))
         by_place f other curve is (inr d) = before.kept f other curve is d
 
     -- those of a link, if they are kept
-    pub known_kept : (kept : Option Grown) (exit label : List Point) → slice_get old.kept.items e ≡ Some kept → exit ≡ (loaded_at (loaded_in worked) e).exit → label ≡ points_at (labels_in worked) link.tail
-        → IfSome kept (λ exits. short_exits passes_Q exit label last ≡ Ok exits.points)
-    known_kept None exit label at f g = tt
-    known_kept (Some curve) exit label at f g =
-        ap (λ (l : List Point). short_exits passes_Q l label last) f ∙ ap (λ (l : List Point). short_exits passes_Q (loaded_at (loaded_in worked) e).exit l last) g ∙ before.kept e link curve there at
+    pub known_kept : (kept : Option Grown) → slice_get old.kept.items e ≡ Some kept → IfSome kept (λ exits. exits_along worked e link ≡ Ok exits.points)
+    known_kept None at = tt
+    known_kept (Some curve) at = before.kept e link curve there at
 
-  pub take_kept : new.kept.items ≡ set old.kept.items e None → AreKept net worked last new
+  pub take_kept : new.kept.items ≡ set old.kept.items e None → AreKept worked new
   take_kept gone = record {
     count = ap (λ (l : List (Option Grown)). length l) gone ∙ length-set old.kept.items e None ∙ before.count;
     kept = λ f other curve is at. by_place f other curve is (set_cases old.kept.items e f None (Some curve) (sym (ap (λ (l : List (Option Grown)). slice_get l f) gone) ∙ at));
   }
     where
-      by_place : (f : ℕ) (other : Link) (curve : Grown) → IsLink net f other → ((f ≡ e) × (Some curve ≡ None)) ⊎ (slice_get old.kept.items f ≡ Some (Some curve)) → exits_of f other ≡ Ok curve.points
+      by_place : (f : ℕ) (other : Link) (curve : Grown) → IsLink (network_in worked) f other → ((f ≡ e) × (Some curve ≡ None)) ⊎ (slice_get old.kept.items f ≡ Some (Some curve)) → exits_along worked f other ≡ Ok curve.points
       by_place f other curve is (inl d) = let no = d.1 in absurd (cc)
       by_place f other curve is (inr d) = before.kept f other curve is d
 

@@ -1,8 +1,8 @@
 -- What is known of the labels and inflows once the first rules hold.
-use Rattle.std.proofs.Common.{◌≡◌, ℕ, zero, suc, ◌+◌, ◌-◌, ◌<◌, true, List, [], ◌∷◌, length, Option, Some, None, slice_get, unwrap_or, refl, sym, ap, subst, ◌∙◌, arith}
+use Rattle.std.proofs.Common.{◌≡◌, ℕ, zero, suc, ◌+◌, ◌-◌, ◌<◌, true, List, [], ◌∷◌, length, map, Option, Some, None, slice_get, unwrap_or, refl, sym, ap, subst, ◌∙◌, arith}
 use Rattle.std.proofs.lemmas.List.{length-map}
 use Rattle.std.specs.Prelude.{Result, Ok, Err}
-use Rattle.std.specs.List.{enumerate_from, range_with_len}
+use Rattle.std.specs.List.{AllByRecursion, enumerate_from, range_with_len}
 use Rattle.nf_rational.specs.Rational.{ℚ}
 use Rattle.nf_rational.specs.Operations.{0ℚ}
 use Rattle.nf_rational.specs.Order.{◌≤ℚ◌}
@@ -11,7 +11,7 @@ use Rattle.nf_frac_def.specs.Checked.{Checked, each, ◌>>=◌}
 use Rattle.nf_frac_def.specs.declared.Part.TheVariants.{Check}
 use Rattle.nf_model.specs.Curve.{Point, value, IsCurve}
 use Rattle.nf_model.specs.Network.{Network}
-use Rattle.nf_model.specs.Equilibrium.{Flow, points_at, points_of}
+use Rattle.nf_model.specs.Equilibrium.{Flow, Trace, points_at, points_of}
 use Rattle.nf_curve_def.specs.Lines.{Sides}
 use Rattle.nf_curve_def.specs.Values.{checked_cut}
 use Rattle.nf_rational.specs.Signs.{is_same}
@@ -29,11 +29,13 @@ use Rattle.nf_check_def.specs.CheckList.{label_cut, inflow_rule, loading}
 use Rattle.nf_check_laws.specs.Laws.{CanBeChecked}
 use Rattle.nf_check_laws.proofs.Points.{IsLabel, cut_of, label-cut, negative-none, decides-inflow, value_from_all}
 use Rattle.nf_curve.specs.Points.{Grown}
+use Rattle.nf_curve.specs.Flows.{flow_of, trace_of}
+use Rattle.nf_curve.specs.declared.flow.Flow as code
 use Rattle.nf_load.specs.Loadings.{loaded_of}
 use Rattle.nf_load.specs.declared.loading.Loaded.{Loaded}
-use Rattle.nf_check_rules.specs.declared.worked.Worked.{Worked}
-use Rattle.nf_check_rules.specs.Kept.{IsFromZero, IsWorked, curves_of, loadings_of, labels_in}
+use Rattle.nf_check_rules.specs.Kept.{IsFromZero, IsWorked, curves_of, loadings_of}
 use Rattle.nf_check_rules.specs.Trials.{done}
+use Rattle.nf_check_rules.proofs.PointByPoint.{all_from_0}
 use Rattle.nf_check_rules.proofs.Trying.{Came, done_came, goes_on}
 
 -- ---- parts of what went through
@@ -163,21 +165,27 @@ pub loaded_in_number : (passes : Passing) (net : Network) (flow : Flow) (labels 
 loaded_in_number passes net flow labels loaded e = sym (length-map loaded loaded_of) ∙ loaded_many (loading passes net flow labels) net.links (loadings_of loaded) e
 
 -- ---- what was worked out
-pub worked_known : (passes : Passing) (net : Network) (flow : Flow) → CanBeChecked net flow → (w : Worked) → each (label_cut passes net flow) (all_nodes net) ≡ Ok (labels_in w)
-    → length w.loaded.now ≡ length net.links → IsWorked net w
-worked_known passes net flow given w e links = record {
-  nodes = labels_in_number passes net flow given w.labels.now e;
+pub worked_known : (passes : Passing) (net : Network) (flow : code.Flow) (given : CanBeChecked net (flow_of flow)) (labels : List Grown) (loaded : List Loaded) → each (label_cut passes net (flow_of flow)) (all_nodes net) ≡ Ok (curves_of labels)
+    → length loaded ≡ length net.links → IsWorked net flow labels loaded
+worked_known passes net flow given labels loaded e links = record {
+  reached = given.reached;
+  nodes = labels_in_number passes net (flow_of flow) given labels e;
+  labels = λ v h i p at. all_from_0 (points_at (curves_of labels) v) i p at (labels_known passes net (flow_of flow) given (curves_of labels) e v h).none_negative;
+  inflows = sym (length-map flow.inflows.items trace_of) ∙ sym (length-map (map trace_of flow.inflows.items) (λ (t : Trace). t.points)) ∙ given.shape.inflows.count;
+  outflows = sym (length-map flow.outflows.items trace_of) ∙ sym (length-map (map trace_of flow.outflows.items) (λ (t : Trace). t.points)) ∙ given.shape.outflows.count;
+  queues = sym (length-map flow.queues.items (λ (c : Grown). c.points)) ∙ given.shape.queues.count;
   links = links;
-  labels = labels_known passes net flow given (labels_in w) e;
 }
 
--- ---- the label of a node
-pub label_known : (w : Worked) (k v : ℕ) (points : List Point) → IsFromZero (points_at (labels_in w) v) → k ≡ v → points ≡ points_at (labels_in w) k → IsFromZero points
-label_known w k v points known f g = subst (λ (l : List Point). IsFromZero l) (sym (g ∙ ap (λ (j : ℕ). points_at (labels_in w) j) f)) known
+-- points none of which is negative
+pub all_points : (points : List Point) → ((i : ℕ) (p : Point) → slice_get points i ≡ Some p → 0ℚ ≤ℚ p.1) → AllByRecursion (λ q. 0ℚ ≤ℚ q.1) points
+all_points [] h = tt
+all_points (p ∷ rest) h = (h 0 p refl, all_points rest (λ i q at. h (suc i) q at))
 
--- where a label of a node, or a curve of a link, is looked for there is one
-pub label_there : (net : Network) (w : Worked) → IsWorked net w → (k v : ℕ) → k ≡ v → v < net.nodes → k < length w.labels.now
-label_there net w h k v f g = subst (λ (n : ℕ). k < n) (sym h.nodes) (subst (λ (n : ℕ). n < net.nodes) (sym f) g)
+-- ---- a number equal to one that is below a bound
+pub below_as : (k v n : ℕ) → k ≡ v → v < n → k < n
+below_as k v n e h = subst (λ (i : ℕ). i < n) (sym e) h
 
+-- a curve of a link is looked for where there is one
 pub one_there : {A : Type 0} (xs ys : List A) (k n : ℕ) → xs ≡ ys → length ys ≡ n → k < n → k < length xs
 one_there xs ys k n e f g = subst (λ (m : ℕ). k < m) (sym (ap length e ∙ f)) g

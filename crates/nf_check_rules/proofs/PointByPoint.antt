@@ -37,6 +37,23 @@ drop_none [] (suc i) h = refl
 drop_none (x ∷ xs) zero h = absurd (omega arith)
 drop_none (x ∷ xs) (suc i) h = drop_none xs i (omega arith)
 
+-- ---- two entries in succession, where i is the number of the second one
+pub few_left : {A : Type 0} (xs : List A) (i : ℕ) → 0 < i → length xs ≤ i → length (drop (i - 1) xs) ≤ 1
+few_left {A} xs i some h = go xs (i - 1) (omega arith)
+  where
+    go : (xs : List A) (k : ℕ) → length xs ≤ k + 1 → length (drop k xs) ≤ 1
+    go [] zero h = omega arith
+    go [] (suc k) h = omega arith
+    go (x ∷ xs) zero h = omega arith
+    go (x ∷ xs) (suc k) h = go xs k (omega arith)
+
+pub drop_two : {A : Type 0} (xs : List A) (i : ℕ) (x y : A) → 0 < i → slice_get xs (i - 1) ≡ Some x → slice_get xs i ≡ Some y → drop (i - 1) xs ≡ x ∷ y ∷ drop (i + 1) xs
+drop_two {A} xs i x y some at next =
+    drop_one xs (i - 1) x at ∙ ap (λ (l : List A). x ∷ l) (ap (λ (k : ℕ). drop k xs) (let same : (i - 1) + 1 ≡ i = omega arith in same) ∙ drop_one xs i y next)
+
+pub drop_next : {A : Type 0} (xs : List A) (i : ℕ) (y : A) → slice_get xs i ≡ Some y → drop ((i + 1) - 1) xs ≡ y ∷ drop (i + 1) xs
+drop_next {A} xs i y next = ap (λ (k : ℕ). drop k xs) (let same : (i + 1) - 1 ≡ i = omega arith in same) ∙ drop_one xs i y next
+
 -- ---- the first negative point
 module _ (points : List Point) (i : ℕ) (so_far : negative_point (drop i points) ≡ negative_point points) where
   module _ (p : Point) (at : slice_get points i ≡ Some p) where
@@ -52,35 +69,23 @@ module _ (points : List Point) (i : ℕ) (so_far : negative_point (drop i points
 -- ---- the first fall, where i is the number of the point after the one looked at
 module _ (points : List Point) (i : ℕ) (some : 0 < i) (so_far : first_fall (drop (i - 1) points) ≡ first_fall points) where
   pub no_fall : length points ≤ i → first_fall points ≡ None
-  no_fall h = sym so_far ∙ alone (drop (i - 1) points) (short points (i - 1) (omega arith))
+  no_fall h = sym so_far ∙ alone (drop (i - 1) points) (few_left points i some h)
     where
-      short : (xs : List Point) (k : ℕ) → length xs ≤ k + 1 → length (drop k xs) ≤ 1
-      short [] zero h = omega arith
-      short [] (suc k) h = omega arith
-      short (x ∷ xs) zero h = omega arith
-      short (x ∷ xs) (suc k) h = short xs k (omega arith)
-
       alone : (xs : List Point) → length xs ≤ 1 → first_fall xs ≡ None
       alone [] h = refl
       alone (x ∷ []) h = refl
       alone (x ∷ y ∷ xs) h = absurd (omega arith)
 
   module _ (p q : Point) (at : slice_get points (i - 1) ≡ Some p) (next : slice_get points i ≡ Some q) where
-    from_q : drop i points ≡ q ∷ drop (i + 1) points
-    from_q = drop_one points i q next
-
-    both : drop (i - 1) points ≡ p ∷ q ∷ drop (i + 1) points
-    both = drop_one points (i - 1) p at ∙ ap (λ (l : List Point). p ∷ l) (ap (λ (k : ℕ). drop k points) (let same : (i - 1) + 1 ≡ i = omega arith in same) ∙ from_q)
-
     by_pair : (if lt_ℚ q.1 p.1 then Some (record { time = p.0; left = p.1; right = q.1 }) else falling_from q (drop (i + 1) points)) ≡ first_fall points
-    by_pair = sym (ap first_fall both) ∙ so_far
+    by_pair = sym (ap first_fall (drop_two points i p q some at next)) ∙ so_far
 
     pub falls : lt_ℚ q.1 p.1 ≡ true → first_fall points ≡ Some (record { time = p.0; left = p.1; right = q.1 })
     falls t = sym (sym (ap (λ (b : Bool). if b then Some (record { time = p.0; left = p.1; right = q.1 }) else falling_from q (drop (i + 1) points)) t) ∙ by_pair)
 
     pub rises : lt_ℚ q.1 p.1 ≡ false → first_fall (drop ((i + 1) - 1) points) ≡ first_fall points
     rises t =
-        ap first_fall (ap (λ (k : ℕ). drop k points) (let same : (i + 1) - 1 ≡ i = omega arith in same) ∙ from_q)
+        ap first_fall (drop_next points i q next)
         ∙ sym (ap (λ (b : Bool). if b then Some (record { time = p.0; left = p.1; right = q.1 }) else falling_from q (drop (i + 1) points)) t) ∙ by_pair
 
 -- ---- rates

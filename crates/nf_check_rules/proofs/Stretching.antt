@@ -1,5 +1,5 @@
 -- Stretches of departures, one after the other.
-use Rattle.std.proofs.Common.{◌≡◌, ℕ, zero, suc, ◌+◌, ◌-◌, ◌<◌, ◌≤◌, List, [], ◌∷◌, length, drop, Option, Some, None, slice_get, refl, sym, ap, subst, ◌∙◌, arith}
+use Rattle.std.proofs.Common.{◌≡◌, ℕ, zero, suc, ◌+◌, ◌-◌, ◌<◌, ◌≤◌, List, [], ◌∷◌, length, drop, Bool, true, false, Option, Some, None, slice_get, refl, sym, ap, subst, ◌∙◌, arith}
 use Rattle.std.specs.Prelude.{Result, Ok, Err, pos, nat_abs, SomeIff, unwrap_or, OnOk}
 use Rattle.nf_rational.specs.Gcd.{gcd}
 use Rattle.nf_rational.specs.Rational.{ℚ, ratio}
@@ -30,33 +30,21 @@ use Rattle.nf_check_rules.specs.Sent.{sent_list}
 use Rattle.nf_check_rules.specs.Departures.{IsDeparture}
 use Rattle.nf_check_rules.specs.declared.sent.Sent.{Sent}
 use Rattle.nf_check_rules.specs.declared.stretches.Departure.{Departure}
-use Rattle.nf_check_rules.proofs.PointByPoint.{drop_one}
+use Rattle.nf_check_rules.proofs.PointByPoint.{few_left, drop_two, drop_next}
 
 module _ (passes : Passing) (taken exits labels : List Point) (times : List ℚ) (i : ℕ) (some : 0 < i)
     (so_far : all_stretches passes taken exits labels (drop (i - 1) times) ≡ all_stretches passes taken exits labels times) where
   pub no_stretch : length times ≤ i → all_stretches passes taken exits labels times ≡ Ok None
-  no_stretch h = sym so_far ∙ alone (drop (i - 1) times) (short times (i - 1) (omega arith))
+  no_stretch h = sym so_far ∙ alone (drop (i - 1) times) (few_left times i some h)
     where
-      short : (xs : List ℚ) (k : ℕ) → length xs ≤ k + 1 → length (drop k xs) ≤ 1
-      short [] zero h = omega arith
-      short [] (suc k) h = omega arith
-      short (x ∷ xs) zero h = omega arith
-      short (x ∷ xs) (suc k) h = short xs k (omega arith)
-
       alone : (xs : List ℚ) → length xs ≤ 1 → all_stretches passes taken exits labels xs ≡ Ok None
       alone [] h = refl
       alone (x ∷ []) h = refl
       alone (x ∷ y ∷ xs) h = absurd (omega arith)
 
   module _ (first next : ℚ) (at : slice_get times (i - 1) ≡ Some first) (there : slice_get times i ≡ Some next) where
-    from_next : drop i times ≡ next ∷ drop (i + 1) times
-    from_next = drop_one times i next there
-
-    both : drop (i - 1) times ≡ first ∷ next ∷ drop (i + 1) times
-    both = drop_one times (i - 1) first at ∙ ap (λ (l : List ℚ). first ∷ l) (ap (λ (k : ℕ). drop k times) (let same : (i - 1) + 1 ≡ i = omega arith in same) ∙ from_next)
-
     by_stretch : (on_stretch passes taken exits labels first next >>= λ here. or_later passes here (stretches_from passes taken exits labels next (drop (i + 1) times))) ≡ all_stretches passes taken exits labels times
-    by_stretch = sym (ap (all_stretches passes taken exits labels) both) ∙ so_far
+    by_stretch = sym (ap (all_stretches passes taken exits labels) (drop_two times i first next some at there)) ∙ so_far
 
     pub stretch_stops : (p : PassedAt ℚ) → at_part Check (on_stretch passes taken exits labels first next) ≡ Err p → at_part Check (all_stretches passes taken exits labels times) ≡ Err p
     stretch_stops p e = ap (at_part Check) (sym by_stretch) ∙ after_err Check (on_stretch passes taken exits labels first next) _ p e
@@ -66,7 +54,7 @@ module _ (passes : Passing) (taken exits labels : List Point) (times : List ℚ)
 
     pub stretch_goes : at_part Check (on_stretch passes taken exits labels first next) ≡ Ok None → all_stretches passes taken exits labels (drop ((i + 1) - 1) times) ≡ all_stretches passes taken exits labels times
     stretch_goes e =
-        ap (all_stretches passes taken exits labels) (ap (λ (k : ℕ). drop k times) (let same : (i + 1) - 1 ≡ i = omega arith in same) ∙ from_next)
+        ap (all_stretches passes taken exits labels) (drop_next times i next there)
         ∙ sym (ap (λ (r : Checked (Option Sides)). r >>= λ here. or_later passes here (stretches_from passes taken exits labels next (drop (i + 1) times))) (was_ok Check (on_stretch passes taken exits labels first next) None e))
         ∙ by_stretch
 
@@ -76,6 +64,20 @@ module _ (passes : Passing) (taken exits labels : List Point) (first next : ℚ)
   next_passes before b p e =
       ap (λ (r : Checked ℚ). at_part Check (r >>= λ before. checked_value passes taken next >>= λ after. on_rising passes (lt_ℚ before after) exits labels first next)) b
       ∙ after_err Check (checked_value passes taken next) _ p e
+
+  -- a stretch between two departures at which the amounts are known
+  module _ (before after : ℚ) (first_is : checked_value passes taken first ≡ Ok before) (next_is : checked_value passes taken next ≡ Ok after) (rises : Bool) (test : rises ≡ lt_ℚ before after) where
+    stretch_is : on_stretch passes taken exits labels first next ≡ on_rising passes rises exits labels first next
+    stretch_is =
+        ap (λ (r : Checked ℚ). r >>= λ before. checked_value passes taken next >>= λ after. on_rising passes (lt_ℚ before after) exits labels first next) first_is
+        ∙ ap (λ (r : Checked ℚ). r >>= λ after. on_rising passes (lt_ℚ before after) exits labels first next) next_is
+        ∙ ap (λ (b : Bool). on_rising passes b exits labels first next) (sym test)
+
+    pub stretch_rises : rises ≡ true → on_stretch passes taken exits labels first next ≡ on_rising passes true exits labels first next
+    stretch_rises t = stretch_is ∙ ap (λ (b : Bool). on_rising passes b exits labels first next) t
+
+    pub stretch_level : rises ≡ false → on_stretch passes taken exits labels first next ≡ Ok None
+    stretch_level t = stretch_is ∙ ap (λ (b : Bool). on_rising passes b exits labels first next) t
 
 module _ (passes : Passing) (taken exits labels : List Point) where
   pub first_passes : (times : List ℚ) → 2 ≤ length times → (first : ℚ) → slice_get times 0 ≡ Some first → (p : PassedAt ℚ) → at_part Check (checked_value passes taken first) ≡ Err p

@@ -1,13 +1,16 @@
 -- Three curves of a link, by departure.
-use Rattle.std.specs.Prelude.{◌≡◌, ℕ, ◌≤◌, List, length, if◌then◌else◌, ◌+◌, Ok}
+use Rattle.std.specs.Prelude.{◌≡◌, ℕ, ◌≤◌, List, length, if◌then◌else◌, ◌+◌, Option, Ok}
 use Rattle.nf_rational.specs.Rational.{ℚ}
 use Rattle.nf_rational.specs.Order.{lt_ℚ}
-use Rattle.nf_frac_def.specs.Passing.{Passing}
+use Rattle.nf_frac_def.specs.Passing.{Passing, passes_Q}
 use Rattle.nf_frac_def.specs.Checked.{Checked, ◌>>=◌}
 use Rattle.nf_model.specs.Curve.{Point, IsCurve}
+use Rattle.nf_curve_def.specs.Lines.{Sides}
 use Rattle.nf_curve_def.specs.Short.{checked_short}
 use Rattle.nf_curve_def.specs.Composed.{checked_composed}
+use Rattle.nf_check_def.specs.Routes.{detour_list}
 use Rattle.nf_curve.specs.Places.{place_of}
+use Rattle.nf_check_rules.specs.declared.link_curves.LinkCurves.{LinkCurves}
 use Rattle.nf_check_rules.specs.declared.sent.Sent.{Sent}
 use Rattle.nf_check_rules.specs.declared.sent.Places.{Places}
 
@@ -35,6 +38,12 @@ moved_on place here other = if lt_ℚ other here then place else place + 1
 abbrev pub points_in : Sent → List Point × List Point × List Point
 points_in sent = (sent.taken.points, sent.exits.points, sent.labels.points)
 
+-- the exits of a link by departure up to `last`, from its exits by entry and its tail's label
+abbrev pub short_exits : Passing → List Point → List Point → ℚ → Checked (List Point)
+short_exits passes exit tail_label last = do
+  exits ← checked_composed passes exit tail_label last
+  checked_short passes exits
+
 -- the three curves of a link up to the departure `last`, from its inflow, its exits and the labels of its ends
 unfoldable pub sent_list : Passing → List Point → List Point → List Point → List Point → ℚ → Checked (List Point × List Point × List Point)
 sent_list passes inflow exit tail_label head_label last = do
@@ -52,3 +61,17 @@ known_list passes inflow exits tail_label head_label last = do
   short_taken ← checked_short passes taken
   short_labels ← checked_short passes head_label
   Ok (short_taken, exits, short_labels)
+
+-- the same of the curves of a link
+abbrev pub sent_by : LinkCurves → Checked (List Point × List Point × List Point)
+sent_by link = sent_list passes_Q link.inflow.now.points link.exit.now.points link.tail_label.now.points link.head_label.now.points link.last
+
+abbrev pub known_by : LinkCurves → List Point → Checked (List Point × List Point × List Point)
+known_by link exits = known_list passes_Q link.inflow.now.points exits link.tail_label.now.points link.head_label.now.points link.last
+
+abbrev pub exits_of : LinkCurves → Checked (List Point)
+exits_of link = short_exits passes_Q link.exit.now.points link.tail_label.now.points link.last
+
+-- the test of a link
+abbrev pub detours_of : LinkCurves → Checked (Option Sides)
+detours_of link = detour_list passes_Q link.inflow.now.points link.exit.now.points link.tail_label.now.points link.head_label.now.points link.last

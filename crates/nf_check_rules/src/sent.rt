@@ -1,18 +1,16 @@
 // Three curves of a link, by departure.
 ghost use Rattle.std.specs.Prelude.{◌≡◌, IfOk, IfSome, Ok};
-ghost use Rattle.nf_rational.specs.Rational.{ℚ};
 ghost use Rattle.nf_rational.specs.Operations.{0ℚ};
 ghost use Rattle.nf_rational.specs.Order.{◌≤ℚ◌};
 ghost use Rattle.nf_frac_def.specs.declared.Part.TheVariants.{Check};
 ghost use Rattle.nf_frac_def.specs.Passing.{passes_Q};
 ghost use Rattle.nf_frac_def.specs.Checked.{at_part, seen_at, Gives};
-ghost use Rattle.nf_model.specs.Curve.{Within, value};
 ghost use Rattle.nf_curve_def.specs.Sums.{sides_at as sides_by};
 ghost use Rattle.nf_check_def.specs.Routes.{three_times};
 ghost use Rattle.nf_curve.specs.Differences.{difference_of};
-ghost use Rattle.nf_check_rules.specs.Exits.{short_exits};
-ghost use Rattle.nf_check_rules.specs.Sent.{AreCurves, ArePlaces, AreWithin, points_in, sent_list, known_list};
+ghost use Rattle.nf_check_rules.specs.Sent.{AreCurves, ArePlaces, AreWithin, points_in, sent_by, known_by, exits_of};
 
+use crate::link_curves::LinkCurves;
 use crate::places::{place_near, value_at};
 use crate::times::{merged, times_of};
 use nf_curve::{Curve, Difference};
@@ -37,27 +35,17 @@ pub(crate) struct Places {
 }
 
 impl Sent {
-    // Computes the three curves of a link up to the departure `last`, from its inflow, its exits and the labels of its ends.
+    // Computes the three curves of a link, for departures up to its `last`.
     #[tactic(auto, unfolding(crate::specs::Sent::sent_list))]
-    fn by_exit(
-        alloc: Global,
-        inflow: &Curve,
-        exit: &Curve,
-        tail_label: &Curve,
-        head_label: &Curve,
-        last: Q,
-    ) -> Result<Sent, Halt<Q>>
-        requires last { 0ℚ ≤ℚ last }
-        requires label { (time : ℚ) → Within 0ℚ last time → 0ℚ ≤ℚ value tail_label.now.points time }
-        ensures list { Gives points_in (λ q. q) result
-            (at_part Check (sent_list passes_Q inflow.now.points exit.now.points tail_label.now.points head_label.now.points last)) }
+    fn by_exit(alloc: Global, link: &LinkCurves) -> Result<Sent, Halt<Q>>
+        ensures list { Gives points_in (λ q. q) result (at_part Check (sent_by link.now)) }
         ensures curves { IfOk result AreCurves }
     {
-        let all_taken = Curve::compose(alloc, inflow, tail_label, last, Part::Check)?;
-        let all_exits = Curve::compose(alloc, exit, tail_label, last, Part::Check)?;
+        let all_taken = link.by_departure(alloc, link.inflow)?;
+        let all_exits = link.by_departure(alloc, link.exit)?;
         let taken = Curve::short(alloc, &all_taken, Part::Check)?;
         let exits = Curve::short(alloc, &all_exits, Part::Check)?;
-        let labels = Curve::short(alloc, head_label, Part::Check)?;
+        let labels = Curve::short(alloc, link.head_label, Part::Check)?;
         Ok(Sent {
             taken,
             exits,
@@ -67,25 +55,15 @@ impl Sent {
 
     // Computes the three curves from exits by departure in short form.
     #[tactic(auto, unfolding(crate::specs::Sent::known_list))]
-    fn by_exits(
-        alloc: Global,
-        inflow: &Curve,
-        exits: Curve,
-        tail_label: &Curve,
-        head_label: &Curve,
-        last: Q,
-    ) -> Result<Sent, Halt<Q>>
-        requires last { 0ℚ ≤ℚ last }
-        requires label { (time : ℚ) → Within 0ℚ last time → 0ℚ ≤ℚ value tail_label.now.points time }
-        ensures list { Gives points_in (λ q. q) result
-            (at_part Check (known_list passes_Q inflow.now.points exits.points tail_label.now.points head_label.now.points last)) }
+    fn by_exits(alloc: Global, link: &LinkCurves, exits: Curve) -> Result<Sent, Halt<Q>>
+        ensures list { Gives points_in (λ q. q) result (at_part Check (known_by link.now exits.points)) }
         ensures curves { IfOk result AreCurves }
     {
         // Proof: the exits are a curve.
         exits.recall();
-        let all_taken = Curve::compose(alloc, inflow, tail_label, last, Part::Check)?;
+        let all_taken = link.by_departure(alloc, link.inflow)?;
         let taken = Curve::short(alloc, &all_taken, Part::Check)?;
-        let labels = Curve::short(alloc, head_label, Part::Check)?;
+        let labels = Curve::short(alloc, link.head_label, Part::Check)?;
         Ok(Sent {
             taken,
             exits,
@@ -93,27 +71,20 @@ impl Sent {
         })
     }
 
-    /// Computes the three curves of a link up to the departure `last`, from its inflow, its exits and the labels of its ends. Reuses the
-    /// exits by departure in short form, if `kept` holds them.
+    /// Computes the three curves of a link, for departures up to its `last`. Reuses the exits by departure in short form, if `kept` holds
+    /// them.
     pub(crate) fn along(
         alloc: Global,
-        inflow: &Curve,
-        exit: &Curve,
-        tail_label: &Curve,
-        head_label: &Curve,
+        link: &LinkCurves,
         kept: Option<Curve>,
-        last: Q,
     ) -> Result<Sent, Halt<Q>>
-        requires last { 0ℚ ≤ℚ last }
-        requires label { (time : ℚ) → Within 0ℚ last time → 0ℚ ≤ℚ value tail_label.now.points time }
-        requires kept { IfSome kept (λ exits. short_exits passes_Q exit.now.points tail_label.now.points last ≡ Ok exits.points) }
-        ensures list { Gives points_in (λ q. q) result
-            (at_part Check (sent_list passes_Q inflow.now.points exit.now.points tail_label.now.points head_label.now.points last)) }
+        requires { IfSome kept (λ exits. exits_of link.now ≡ Ok exits.points) }
+        ensures list { Gives points_in (λ q. q) result (at_part Check (sent_by link.now)) }
         ensures curves { IfOk result AreCurves }
     {
         match kept {
-            Some(exits) => Sent::by_exits(alloc, inflow, exits, tail_label, head_label, last),
-            None => Sent::by_exit(alloc, inflow, exit, tail_label, head_label, last),
+            Some(exits) => Sent::by_exits(alloc, link, exits),
+            None => Sent::by_exit(alloc, link),
         }
     }
 

@@ -9,7 +9,7 @@ ghost use Rattle.nf_frac_def.specs.Checked.{at_part, seen_at};
 ghost use Rattle.nf_curve_def.specs.Values.{checked_value};
 ghost use Rattle.nf_curve_def.specs.Sums.{sides_at as sides_by};
 ghost use Rattle.nf_curve_def.specs.Differences.{do_differ as do_differ_by};
-ghost use Rattle.nf_check_def.specs.Routes.{checked_middle, at_middle as at_middle_by, on_rising as on_rising_by, on_stretch as on_stretch_by, all_stretches};
+ghost use Rattle.nf_check_def.specs.Routes.{checked_middle, at_middle as at_middle_by, on_stretch as on_stretch_by, all_stretches};
 ghost use Rattle.nf_curve.specs.Differences.{difference_of};
 ghost use Rattle.nf_check_rules.specs.Departures.{IsDeparture};
 ghost use Rattle.nf_check_rules.specs.Sent.{AreWithin};
@@ -100,34 +100,8 @@ fn at_middle(
     Ok(Some(sides))
 }
 
-// Returns a difference of exit and head label on an interval on which flow enters the link. Tests the start first. If they agree there and
+// Returns a difference of exit and head label on an interval, if flow enters the link there. Tests the start first. If they agree there and
 // differ at the end, returns their values in the middle.
-fn on_rising(
-    sent: &Sent,
-    here: &Departure,
-    there: &mut Departure,
-) -> Result<Option<Difference>, PassedAt<Q>>
-    requires here { IsDeparture sent.now here.now }
-    requires there { IsDeparture sent.now there.old }
-    ensures list { seen_at (option_map difference_of) (λ q. q) result ≡
-        at_part Check (on_rising_by passes_Q true sent.now.exits.points sent.now.labels.points here.now.time there.old.time) }
-    ensures there { OnOk result (IsDeparture sent.now there.new) }
-    ensures time { OnOk result (there.new.time ≡ there.old.time) }
-{
-    let sides = sides_of(sent, here)?;
-    if do_differ(&sides) {
-        return Ok(Some(sides));
-    }
-    let end = sent.sides_at(&there.places, there.time)?;
-    there.sides = Some(end);
-    if do_differ(&end) {
-        at_middle(sent, &here.places, here.time, there.time)
-    } else {
-        Ok(None)
-    }
-}
-
-// Returns a difference of exit and head label on an interval, if flow enters the link there.
 fn on_stretch(
     sent: &Sent,
     here: &Departure,
@@ -141,8 +115,17 @@ fn on_stretch(
     ensures there { OnOk result (IsDeparture sent.now there.new) }
     ensures time { OnOk result (there.new.time ≡ there.old.time) }
 {
-    if here.taken.is_below(there.taken) {
-        on_rising(sent, here, there)
+    if !here.taken.is_below(there.taken) {
+        return Ok(None);
+    }
+    let sides = sides_of(sent, here)?;
+    if do_differ(&sides) {
+        return Ok(Some(sides));
+    }
+    let end = sent.sides_at(&there.places, there.time)?;
+    there.sides = Some(end);
+    if do_differ(&end) {
+        at_middle(sent, &here.places, here.time, there.time)
     } else {
         Ok(None)
     }

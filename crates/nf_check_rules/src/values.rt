@@ -40,6 +40,8 @@ pub(crate) fn last_value(curve: &Curve) -> Q
     ensures value { result ≡ last_by curve.now.points }
     ensures nonnegative { AllByRecursion (λ q. 0ℚ ≤ℚ q.1) curve.now.points → 0ℚ ≤ℚ result }
 {
-    let (_, value) = curve.point(curve.len() - 1);
+    // Proof: there is a point.
+    curve.recall();
+    let (_, value) = curve.last();
     value
 }

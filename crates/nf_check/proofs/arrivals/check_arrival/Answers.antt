@@ -4,36 +4,30 @@ use Rattle.std.specs.Prelude.{Option, Ok, option_map}
 use Rattle.nf_frac_def.specs.Passing.{passes_Q}
 use Rattle.nf_frac_def.specs.declared.Part.TheVariants.{Check}
 use Rattle.nf_model.specs.Curve.{Point}
-use Rattle.nf_model.specs.Equilibrium.{points_at}
-use Rattle.nf_curve.specs.Flows.{flow_of}
 use Rattle.nf_curve.specs.Points.{Grown}
 use Rattle.nf_check_def.specs.declared.CheckRule.TheVariants.{C3}
 use Rattle.nf_check_def.specs.declared.Subject.TheVariants.{Node}
 use Rattle.nf_check_def.specs.Curves.{least_exits}
 use Rattle.nf_check_def.specs.CheckList.{arrivals}
-use Rattle.nf_check_rules.specs.Kept.{curves_of, labels_in, loaded_in}
+use Rattle.nf_check_rules.specs.Views.{labels_in, loaded_in, in_view}
 use Rattle.nf_check_rules.specs.Steps.{compared_by}
 use Rattle.nf_check_rules.proofs.Trying.{part_goes, part_stops, tries_as}
 use Rattle.nf_check.proofs.arrivals.check_arrival.Goals as goal
 
-pub least_exits-requires-clause-worked : goal.least_exits-requires-clause-worked
-least_exits-requires-clause-worked c = c.requires.worked
+pub least_exits-requires : goal.least_exits-requires
+least_exits-requires c = c.requires.kept
 
-pub least_exits-requires-clause-reached : goal.least_exits-requires-clause-reached
-least_exits-requires-clause-reached c = c.requires.reached
-
-pub least_exits-requires-clause-kept : goal.least_exits-requires-clause-kept
-least_exits-requires-clause-kept c = c.requires.kept
+pub compare-requires : goal.compare-requires
+compare-requires c = c.args.worked.now.known.reached
 
 pub returns-in_err-least-clause-tries : goal.returns-in_err-least-clause-tries
 returns-in_err-least-clause-tries c =
     let p = err_from_is_err_and c.from_residual.result c.from_residual.ensures.1 in
-    rw (p.1, p.2) (part_stops Check (least_exits passes_Q (labels_in c.args.worked.now) (loaded_in c.args.worked.now) c.args.flow.now.reached c.args.net.now.net.links c.args.node) _ c.in_err-least.field-0.0 c.in_err-least.ensures.list)
+    rw (p.1, p.2) (part_stops Check (least_exits passes_Q (labels_in c.args.worked.now) (loaded_in c.args.worked.now) c.args.worked.now.flow.now.reached c.args.worked.now.net.now.net.links c.args.node) _ c.in_err-least.field-0.0 c.in_err-least.ensures.list)
 
 pub returns-clause-tries : goal.returns-clause-tries
 returns-clause-tries c =
-    let label_is = c.curve_at-label.ensures ∙ ap (points_at (labels_in c.args.worked.now)) c.index.ensures in
-    tries_as (λ _. tt) c.compare.result (arrivals passes_Q c.args.net.now.net (flow_of c.args.flow.now) (labels_in c.args.worked.now) (loaded_in c.args.worked.now) c.args.node) _
-    (part_goes Check (least_exits passes_Q (labels_in c.args.worked.now) (loaded_in c.args.worked.now) c.args.flow.now.reached c.args.net.now.net.links c.args.node) _ (Some c.in-Some.least.points) (c.in_ok-least.ensures.list ∙ ap (λ (o : Option Grown). Ok (option_map (λ (g : Grown). g.points) o)) c.in-Some.is)
-    ∙ ap (λ (l : List Point). compared_by passes_Q C3 (Node c.args.node) l c.in-Some.least.points c.args.flow.now.reached) (sym label_is))
+    tries_as (λ _. tt) c.compare.result (in_view arrivals c.args.worked.now c.args.node) _
+    (part_goes Check (least_exits passes_Q (labels_in c.args.worked.now) (loaded_in c.args.worked.now) c.args.worked.now.flow.now.reached c.args.worked.now.net.now.net.links c.args.node) _ (Some c.in-Some.least.points) (c.in_ok-least.ensures.list ∙ ap (λ (o : Option Grown). Ok (option_map (λ (g : Grown). g.points) o)) c.in-Some.is)
+    ∙ ap (λ (l : List Point). compared_by passes_Q C3 (Node c.args.node) l c.in-Some.least.points c.args.worked.now.flow.now.reached) (sym c.label_at-label.ensures.points))
     c.compare.ensures

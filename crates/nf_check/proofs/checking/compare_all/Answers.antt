@@ -1,53 +1,45 @@
 use Rattle.std.proofs.lemmas.Result.{err_from_is_err_and}
 use Rattle.std.proofs.Common.{◌∙◌, rules}
-use Rattle.nf_frac_def.specs.Passing.{passes_Q}
-use Rattle.nf_curve.specs.Flows.{flow_of}
-use Rattle.nf_check_rules.specs.Kept.{labels_in, loaded_in}
+use Rattle.nf_check_rules.specs.Views.{in_view}
 use Rattle.nf_check_rules.specs.Steps.{arrivals_list, told_list, balances_list, compared_list}
 use Rattle.nf_check_rules.proofs.Keeping.{none_kept}
 use Rattle.nf_check_rules.proofs.Trying.{goes_on, ends, ends_as, tries_as}
 use Rattle.nf_check.proofs.checking.compare_all.Goals as goal
 
-pub check_arrivals-requires-clause-worked : goal.check_arrivals-requires-clause-worked
-check_arrivals-requires-clause-worked c = c.requires.worked
-
-pub check_arrivals-requires-clause-reached : goal.check_arrivals-requires-clause-reached
-check_arrivals-requires-clause-reached c = c.requires.given.checked.reached
-
-pub check_arrivals-requires-clause-kept : goal.check_arrivals-requires-clause-kept
-check_arrivals-requires-clause-kept c = none_kept c.args.net.now.net c.args.worked.now c.args.flow.now.reached c.in_ok-exits.exits c.in_ok-exits.ensures
+pub check_arrivals-requires : goal.check_arrivals-requires
+check_arrivals-requires c = none_kept c.args.worked.now c.in_ok-exits.exits c.in_ok-exits.ensures
 
 pub returns-in_err-check_arrivals : goal.returns-in_err-check_arrivals
 unfolding compared_list
 returns-in_err-check_arrivals c =
     let p = err_from_is_err_and c.from_residual-in_err-check_arrivals.result c.from_residual-in_err-check_arrivals.ensures.1 in
-    rw (p.1, p.2) (ends c.in_err-check_arrivals.field-0.0 (arrivals_list passes_Q c.args.net.now.net (flow_of c.args.flow.now) (labels_in c.args.worked.now) (loaded_in c.args.worked.now)) _ c.in_err-check_arrivals.ensures.tries)
+    rw (p.1, p.2) (ends c.in_err-check_arrivals.field-0.0 (in_view arrivals_list c.args.worked.now) _ c.in_err-check_arrivals.ensures.tries)
 
 pub returns-in_err-check_told : goal.returns-in_err-check_told
 unfolding compared_list
 returns-in_err-check_told c =
     let p = err_from_is_err_and c.from_residual-in_err-check_told.result c.from_residual-in_err-check_told.ensures.1 in
-    rw (p.1, p.2) (ends_as c.in_err-check_told.field-0.0 (compared_list passes_Q c.args.net.now.net (flow_of c.args.flow.now) (labels_in c.args.worked.now) (loaded_in c.args.worked.now)) _
-    (goes_on (arrivals_list passes_Q c.args.net.now.net (flow_of c.args.flow.now) (labels_in c.args.worked.now) (loaded_in c.args.worked.now)) _ tt c.in_ok-check_arrivals.ensures.tries)
-    (ends c.in_err-check_told.field-0.0 (told_list passes_Q c.args.net.now.net (flow_of c.args.flow.now) (labels_in c.args.worked.now) (loaded_in c.args.worked.now)) _ c.in_err-check_told.ensures))
+    rw (p.1, p.2) (ends_as c.in_err-check_told.field-0.0 (in_view compared_list c.args.worked.now) _
+    (goes_on (in_view arrivals_list c.args.worked.now) _ tt c.in_ok-check_arrivals.ensures.tries)
+    (ends c.in_err-check_told.field-0.0 (in_view told_list c.args.worked.now) _ c.in_err-check_told.ensures))
 
 pub returns-in_err-check_balances : goal.returns-in_err-check_balances
 unfolding compared_list
 returns-in_err-check_balances c =
     let p = err_from_is_err_and c.from_residual-in_err-check_balances.result c.from_residual-in_err-check_balances.ensures.1 in
-    rw (p.1, p.2) (ends_as c.in_err-check_balances.field-0.0 (compared_list passes_Q c.args.net.now.net (flow_of c.args.flow.now) (labels_in c.args.worked.now) (loaded_in c.args.worked.now)) _
-    (goes_on (arrivals_list passes_Q c.args.net.now.net (flow_of c.args.flow.now) (labels_in c.args.worked.now) (loaded_in c.args.worked.now)) _ tt (search rules)
-    ∙ goes_on (told_list passes_Q c.args.net.now.net (flow_of c.args.flow.now) (labels_in c.args.worked.now) (loaded_in c.args.worked.now)) _ tt (search rules))
-    (ends c.in_err-check_balances.field-0.0 (balances_list passes_Q c.args.net.now.net (flow_of c.args.flow.now) (labels_in c.args.worked.now) (loaded_in c.args.worked.now)) _ c.in_err-check_balances.ensures))
+    rw (p.1, p.2) (ends_as c.in_err-check_balances.field-0.0 (in_view compared_list c.args.worked.now) _
+    (goes_on (in_view arrivals_list c.args.worked.now) _ tt (search rules)
+    ∙ goes_on (in_view told_list c.args.worked.now) _ tt (search rules))
+    (ends c.in_err-check_balances.field-0.0 (in_view balances_list c.args.worked.now) _ c.in_err-check_balances.ensures))
 
-pub check_routes-requires-clause-kept : goal.check_routes-requires-clause-kept
-check_routes-requires-clause-kept c = c.in_ok-check_arrivals.ensures.kept
+pub check_routes-requires : goal.check_routes-requires
+check_routes-requires c = c.in_ok-check_arrivals.ensures.kept
 
 pub returns : goal.returns
 unfolding compared_list
 returns c =
-    tries_as (λ _. tt) c.check_routes.result (compared_list passes_Q c.args.net.now.net (flow_of c.args.flow.now) (labels_in c.args.worked.now) (loaded_in c.args.worked.now)) _
-    (goes_on (arrivals_list passes_Q c.args.net.now.net (flow_of c.args.flow.now) (labels_in c.args.worked.now) (loaded_in c.args.worked.now)) _ tt c.in_ok-check_arrivals.ensures.tries
-    ∙ goes_on (told_list passes_Q c.args.net.now.net (flow_of c.args.flow.now) (labels_in c.args.worked.now) (loaded_in c.args.worked.now)) _ tt c.in_ok-check_told.ensures
-    ∙ goes_on (balances_list passes_Q c.args.net.now.net (flow_of c.args.flow.now) (labels_in c.args.worked.now) (loaded_in c.args.worked.now)) _ tt c.in_ok-check_balances.ensures)
+    tries_as (λ _. tt) c.check_routes.result (in_view compared_list c.args.worked.now) _
+    (goes_on (in_view arrivals_list c.args.worked.now) _ tt c.in_ok-check_arrivals.ensures.tries
+    ∙ goes_on (in_view told_list c.args.worked.now) _ tt c.in_ok-check_told.ensures
+    ∙ goes_on (in_view balances_list c.args.worked.now) _ tt c.in_ok-check_balances.ensures)
     c.check_routes.ensures.tries

@@ -27,7 +27,7 @@ returns-in_err-check_labels c =
     rw (p.1, p.2) (labels_end passes_Q c.args.net.now.net (flow_of c.args.flow.now) c.in_err-check_labels.field-0.0 c.in_err-check_labels.ensures)
 
 pub test_with-requires-clause-labels : goal.test_with-requires-clause-labels
-test_with-requires-clause-labels c = c.in_ok-check_labels.ensures ∙ ap (λ (l : List Grown). Ok (curves_of l)) (sym c.deref-2.ensures.value)
+test_with-requires-clause-labels c = c.in_ok-check_labels.ensures ∙ ap (λ (l : List Grown). Ok (curves_of l)) (sym c.deref-then-are_whole.ensures.value)
 
 pub returns-in_err-labels : goal.returns-in_err-labels
 returns-in_err-labels c =
@@ -35,4 +35,4 @@ returns-in_err-labels c =
     rw (p.1, p.2) (labels_end passes_Q c.args.net.now.net (flow_of c.args.flow.now) c.in_err-labels.field-0.0 c.in_err-labels.ensures)
 
 pub test_with-requires-2-clause-labels : goal.test_with-requires-2-clause-labels
-test_with-requires-2-clause-labels c = c.in_ok-labels.ensures ∙ ap (λ (l : List Grown). Ok (curves_of l)) (sym c.deref-3.ensures.value)
+test_with-requires-2-clause-labels c = c.in_ok-labels.ensures ∙ ap (λ (l : List Grown). Ok (curves_of l)) (sym c.deref-2.ensures.value)

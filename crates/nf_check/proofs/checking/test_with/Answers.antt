@@ -19,8 +19,8 @@ returns-in_err-loaded c =
     rw (p.1, p.2) (ends_as c.in_err-loaded.field-0.0 (done (trial passes_Q c.args.net.now.net (flow_of c.args.flow.now))) _ (tested-is passes_Q c.args.net.now.net (flow_of c.args.flow.now))
     (ends c.in_err-loaded.field-0.0 (worked_list passes_Q c.args.net.now.net (flow_of c.args.flow.now)) _ c.in_err-loaded.ensures.list))
 
-pub compare_all-requires-clause-worked : goal.compare_all-requires-clause-worked
-compare_all-requires-clause-worked c = worked_known passes_Q c.args.net.now.net (flow_of c.args.flow.now) c.requires.given.checked _ c.requires.labels (ap (λ (l : List Loaded). length l) c.deref.ensures.value ∙ c.in_ok-loaded.ensures.count)
+pub invariant_of-worked : goal.invariant_of-worked
+invariant_of-worked c = record { known = worked_known passes_Q c.args.net.now.net c.args.flow.now c.requires.given.checked c.args.labels.now _ c.requires.labels (ap (λ (l : List Loaded). length l) c.deref.ensures.value ∙ c.in_ok-loaded.ensures.count) }
 
 pub returns : goal.returns
 unfolding tested_list

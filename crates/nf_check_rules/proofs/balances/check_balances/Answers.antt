@@ -4,10 +4,9 @@ use Rattle.nf_frac_def.specs.Passing.{passes_Q}
 use Rattle.nf_frac_def.specs.Checked.{each}
 use Rattle.nf_frac_def.specs.declared.Part.TheVariants.{Load}
 use Rattle.nf_load_def.specs.Cumulative.{checked_cumulative}
-use Rattle.nf_curve.specs.Flows.{flow_of}
 use Rattle.nf_check_def.specs.Rules.{nodes_but}
 use Rattle.nf_check_def.specs.CheckList.{balance}
-use Rattle.nf_check_rules.specs.Kept.{labels_in, loaded_in}
+use Rattle.nf_check_rules.specs.Views.{in_view}
 use Rattle.nf_check_rules.specs.Steps.{balances_list}
 use Rattle.nf_check_rules.specs.Trials.{done}
 use Rattle.nf_check_rules.proofs.Trying.{goes_on, ends, ends_as, part_goes, part_stops, tries_as}
@@ -17,32 +16,26 @@ pub returns-in_err-supplied : goal.returns-in_err-supplied
 unfolding balances_list
 returns-in_err-supplied c =
     let p = err_from_is_err_and c.from_residual.result c.from_residual.ensures.1 in
-    rw (p.1, p.2) (part_stops Load (checked_cumulative passes_Q c.args.net.now.net.pieces c.args.flow.now.reached) _ c.in_err-supplied.field-0.0 (rw c.pieces.ensures.value at c.in_err-supplied.ensures.list))
-
-pub check_balances_at-requires-clause-worked : goal.check_balances_at-requires-clause-worked
-check_balances_at-requires-clause-worked c = c.requires.worked
+    rw (p.1, p.2) (part_stops Load (checked_cumulative passes_Q c.args.worked.now.net.now.net.pieces c.args.worked.now.flow.now.reached) _ c.in_err-supplied.field-0.0 (rw c.pieces.ensures.value at c.in_err-supplied.ensures.list))
 
 pub returns-in_err-check_balances_at : goal.returns-in_err-check_balances_at
 unfolding balances_list
 returns-in_err-check_balances_at c =
     let p = err_from_is_err_and c.from_residual-in_err-check_balances_at.result c.from_residual-in_err-check_balances_at.ensures.1 in
-    rw (p.1, p.2) (ends_as c.in_err-check_balances_at.field-0.0 (balances_list passes_Q c.args.net.now.net (flow_of c.args.flow.now) (labels_in c.args.worked.now) (loaded_in c.args.worked.now)) _
-    (part_goes Load (checked_cumulative passes_Q c.args.net.now.net.pieces c.args.flow.now.reached) _ c.in_ok-supplied.supplied.points (rw c.pieces.ensures.value at c.in_ok-supplied.ensures.list))
+    rw (p.1, p.2) (ends_as c.in_err-check_balances_at.field-0.0 (in_view balances_list c.args.worked.now) _
+    (part_goes Load (checked_cumulative passes_Q c.args.worked.now.net.now.net.pieces c.args.worked.now.flow.now.reached) _ c.in_ok-supplied.supplied.points (rw c.pieces.ensures.value at c.in_ok-supplied.ensures.list))
     (ends c.in_err-check_balances_at.field-0.0
-    (done (each (balance passes_Q c.args.net.now.net (flow_of c.args.flow.now) (labels_in c.args.worked.now) (loaded_in c.args.worked.now) c.in_ok-supplied.supplied.points) (nodes_but c.args.net.now.net.sink c.args.net.now.net))) _
+    (done (each (in_view balance c.args.worked.now c.in_ok-supplied.supplied.points) (nodes_but c.args.worked.now.net.now.net.sink c.args.worked.now.net.now.net))) _
     c.in_err-check_balances_at.ensures))
-
-pub check_sink-requires-clause-worked : goal.check_sink-requires-clause-worked
-check_sink-requires-clause-worked c = c.requires.worked
 
 pub returns : goal.returns
 unfolding balances_list
 returns c =
-    tries_as (λ _. tt) c.check_sink.result (balances_list passes_Q c.args.net.now.net (flow_of c.args.flow.now) (labels_in c.args.worked.now) (loaded_in c.args.worked.now)) _
-    (part_goes Load (checked_cumulative passes_Q c.args.net.now.net.pieces c.args.flow.now.reached) _ c.in_ok-supplied.supplied.points (rw c.pieces.ensures.value at c.in_ok-supplied.ensures.list)
-    ∙ goes_on (done (each (balance passes_Q c.args.net.now.net (flow_of c.args.flow.now) (labels_in c.args.worked.now) (loaded_in c.args.worked.now) c.in_ok-supplied.supplied.points) (nodes_but c.args.net.now.net.sink c.args.net.now.net))) _
+    tries_as (λ _. tt) c.check_sink.result (in_view balances_list c.args.worked.now) _
+    (part_goes Load (checked_cumulative passes_Q c.args.worked.now.net.now.net.pieces c.args.worked.now.flow.now.reached) _ c.in_ok-supplied.supplied.points (rw c.pieces.ensures.value at c.in_ok-supplied.ensures.list)
+    ∙ goes_on (done (each (in_view balance c.args.worked.now c.in_ok-supplied.supplied.points) (nodes_but c.args.worked.now.net.now.net.sink c.args.worked.now.net.now.net))) _
     tt c.in_ok-check_balances_at.ensures)
     c.check_sink.ensures
 
-pub check_sink-requires-clause-inflows : goal.check_sink-requires-clause-inflows
-check_sink-requires-clause-inflows c = c.requires.inflows
+pub cumulative-requires-clause-until : goal.cumulative-requires-clause-until
+cumulative-requires-clause-until c = c.args.worked.now.known.reached

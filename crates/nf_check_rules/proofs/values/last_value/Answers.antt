@@ -1,9 +1,9 @@
-use Rattle.std.proofs.Common.{◌-◌, arith}
+use Rattle.std.proofs.Common.{◌-◌, length, arith}
 use Rattle.nf_check_rules.proofs.PointByPoint.{last_is, all_from_0}
 use Rattle.nf_check_rules.proofs.values.last_value.Goals as goal
 
 pub returns-clause-value : goal.returns-clause-value
-returns-clause-value c = last_is c.args.curve.now.points (c.len.result - 1) c.point-value.result c.point-value.ensures (omega (arith, c.len.ensures.count, c.len.ensures.some))
+returns-clause-value c = last_is c.args.curve.now.points (length c.args.curve.now.points - 1) c.last-value.result c.last-value.ensures (omega (arith, c.recall.ensures.some))
 
 pub returns-clause-nonnegative : goal.returns-clause-nonnegative
-returns-clause-nonnegative c = λ all. all_from_0 c.args.curve.now.points (c.len.result - 1) c.point-value.result c.point-value.ensures all
+returns-clause-nonnegative c = λ all. all_from_0 c.args.curve.now.points (length c.args.curve.now.points - 1) c.last-value.result c.last-value.ensures all
