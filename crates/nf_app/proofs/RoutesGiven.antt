@@ -13,8 +13,9 @@ use Rattle.nf_routes_def.specs.RoutesList.{Routed}
 use Rattle.nf_routes_def.specs.Meanings.{IsRouted, RoutesArrive}
 use Rattle.nf_routes.specs.declared.carried.Carried.{Carried}
 use Rattle.nf_routes.specs.Carried.{carried_of}
-use Rattle.nf_routes_read.specs.declared.fault.RoutesFault.{RoutesFault}
-use Rattle.nf_routes_read.specs.Files.{IfBroken}
+use Rattle.nf_side.specs.declared.fault.SideFault.{SideFault}
+use Rattle.nf_side.specs.Faults.{IfBroken}
+use Rattle.nf_routes_def.specs.declared.RoutesRule.{RoutesRule}
 use Rattle.nf_app_answers.specs.declared.refusal.Refusal.{Refusal}
 use Rattle.nf_app_words.specs.Requests.{Routes}
 use Rattle.nf_app_answers.specs.Answers.{Distributed}
@@ -26,9 +27,9 @@ module _ (n : Named) (file name : List ℕ) (horizon : ℚ) (text : List ℕ) wh
   abbrev Answers : Refusal → Type 0
   Answers refusal = (refusal ≡ Refusal.NoMemory) ⊎ IsGiven n text (Routes file name horizon) (answer_of refusal)
 
-  pub routes_refused : (fault : RoutesFault) → IfBroken fault (λ broken. ReadsRoutes n text (Err broken)) → Answers (refusal_of_routes fault)
-  routes_refused (RoutesFault.Broken rule line) e = inr (inr (inl (record { rule = rule; line = line }, refl, e)))
-  routes_refused RoutesFault.Memory e = inl refl
+  pub routes_refused : (fault : SideFault RoutesRule) → IfBroken fault (λ broken. ReadsRoutes n text (Err broken)) → Answers (refusal_of_routes fault)
+  routes_refused (SideFault.Broken rule line) e = inr (inr (inl (record { rule = rule; line = line }, refl, e)))
+  routes_refused SideFault.Memory e = inl refl
 
   module _ (routes : List NamedRoute) (read : ReadsRoutes n text (Ok routes)) where
     pub distributing_stopped : (halt : Halt ℚ) → Stops (λ (q : ℚ). q) halt (by_route_list n routes horizon) → Answers (refusal_of_halt halt)

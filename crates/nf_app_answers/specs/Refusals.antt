@@ -4,9 +4,10 @@ use Rattle.nf_edge.specs.declared.FetchFault.TheVariants.{Failed, TooLong, Memor
 use Rattle.nf_rational.specs.Rational.{ℚ}
 use Rattle.nf_frac_def.specs.declared.Halt.{Halt}
 use Rattle.nf_net_file.specs.declared.fault.NetFault.{NetFault}
-use Rattle.nf_load_read.specs.declared.fault.LoadsFault.{LoadsFault}
-use Rattle.nf_complete_read.specs.declared.fault.FlowsFault.{FlowsFault}
-use Rattle.nf_routes_read.specs.declared.fault.RoutesFault.{RoutesFault}
+use Rattle.nf_side.specs.declared.fault.SideFault.{SideFault}
+use Rattle.nf_report_def.specs.declared.LoadRule.{LoadRule}
+use Rattle.nf_complete_def.specs.declared.FlowsRule.{FlowsRule}
+use Rattle.nf_routes_def.specs.declared.RoutesRule.{RoutesRule}
 use Rattle.nf_report_read.specs.declared.fault.ReportFault.{ReportFault}
 use Rattle.nf_app_answers.specs.declared.refusal.Refusal.{Refusal}
 use Rattle.nf_app_answers.specs.Answers.{ProgramAnswer, NoMemory, NoRequest, ShelfFailed, ShelfTooLong, Malformed, MalformedLoads, MalformedFlows, MalformedRoutes, MalformedReport, Passes, Unbounded, NotThin, Earlier}
@@ -35,17 +36,17 @@ abbrev pub refusal_of_net : NetFault → Refusal
 refusal_of_net (NetFault.Broken rule line) = Refusal.Malformed rule line
 refusal_of_net NetFault.Memory = Refusal.NoMemory
 
-abbrev pub refusal_of_loads : LoadsFault → Refusal
-refusal_of_loads (LoadsFault.Broken rule line) = Refusal.MalformedLoads rule line
-refusal_of_loads LoadsFault.Memory = Refusal.NoMemory
+abbrev pub refusal_of_loads : SideFault LoadRule → Refusal
+refusal_of_loads (SideFault.Broken rule line) = Refusal.MalformedLoads rule line
+refusal_of_loads SideFault.Memory = Refusal.NoMemory
 
-abbrev pub refusal_of_flows : FlowsFault → Refusal
-refusal_of_flows (FlowsFault.Broken rule line) = Refusal.MalformedFlows rule line
-refusal_of_flows FlowsFault.Memory = Refusal.NoMemory
+abbrev pub refusal_of_flows : SideFault FlowsRule → Refusal
+refusal_of_flows (SideFault.Broken rule line) = Refusal.MalformedFlows rule line
+refusal_of_flows SideFault.Memory = Refusal.NoMemory
 
-abbrev pub refusal_of_routes : RoutesFault → Refusal
-refusal_of_routes (RoutesFault.Broken rule line) = Refusal.MalformedRoutes rule line
-refusal_of_routes RoutesFault.Memory = Refusal.NoMemory
+abbrev pub refusal_of_routes : SideFault RoutesRule → Refusal
+refusal_of_routes (SideFault.Broken rule line) = Refusal.MalformedRoutes rule line
+refusal_of_routes SideFault.Memory = Refusal.NoMemory
 
 abbrev pub refusal_of_report : ReportFault → Refusal
 refusal_of_report (ReportFault.Broken rule line) = Refusal.MalformedReport rule line

@@ -1,5 +1,5 @@
 -- The words of a line, by their number.
-use Rattle.std.proofs.Common.{◌≡◌, ◌≢◌, ℕ, ◌<◌, false, List, length, drop, Result, Ok, Err, refl, ◌∙◌, ap}
+use Rattle.std.proofs.Common.{◌≡◌, ◌≢◌, ℕ, ◌<◌, false, List, length, drop, Result, Err, refl, ◌∙◌, ap}
 use Rattle.std.specs.Result.{result_ok}
 use Rattle.nf_rational.specs.Rational.{ℚ}
 use Rattle.nf_frac_words.specs.Numbers.{number_of}
@@ -8,10 +8,10 @@ use Rattle.nf_net_def.specs.Numbers.{greatest}
 use Rattle.nf_text.specs.Within.{word_at}
 use Rattle.nf_side.specs.NameAt.{IsNameAt}
 use Rattle.nf_side.proofs.NamesOf.{where_named, where_not_named}
-use Rattle.nf_side.proofs.WordCounts.{one_word, three_words, unless_one, unless_three}
+use Rattle.nf_side.proofs.WordCounts.{three_words, unless_three}
 use Rattle.nf_complete_def.specs.declared.FlowsRule.{FlowsRule}
 use Rattle.nf_complete_def.specs.declared.FlowsRule.TheVariants.{S6, S7}
-use Rattle.nf_complete_def.specs.FlowsFile.{FlowsEntry, End, number_entry, named_line, end_line}
+use Rattle.nf_complete_def.specs.FlowsFile.{FlowsEntry, number_entry, named_line}
 
 -- ---- `flow` and `slope`
 module _ (make : ℕ → ℚ → FlowsEntry) (names : List Name) (words : List (List ℕ)) where
@@ -26,10 +26,3 @@ module _ (make : ℕ → ℚ → FlowsEntry) (names : List Name) (words : List (
 
   pub named : (place : ℕ) → length words ≡ 3 → IsNameAt names (word_at words 1) place → named_line make names (drop 1 words) ≡ at_place place
   named place n is = ap (λ (ws : List (List ℕ)). named_line make names (drop 1 ws)) (three_words words n) ∙ where_named names (word_at words 1) at_place (Err S7) place is
-
--- ---- `end`
-pub end_count_wrong : (words : List (List ℕ)) → 0 < length words → length words ≢ 1 → end_line (drop 1 words) ≡ Err S6
-end_count_wrong words some n = unless_one (λ (ws : List (List ℕ)). end_line (drop 1 ws)) (Err S6) (λ _ _ _. refl) words some n
-
-pub end_count_right : (words : List (List ℕ)) → length words ≡ 1 → end_line (drop 1 words) ≡ Ok End
-end_count_right words n = ap (λ (ws : List (List ℕ)). end_line (drop 1 ws)) (one_word words n)

@@ -1,26 +1,37 @@
 // The parser state of a flows file.
 ghost use Rattle.std.specs.Prelude.{◌≡◌, ◌<◌, if◌then◌else◌, length, set, Some, Ok, Err, IfOk, OnOk, MatchResult};
 ghost use Rattle.nf_complete_def.specs.declared.FlowsRule.TheVariants.{S10};
-ghost use Rattle.nf_complete_def.specs.FlowsFile.{is_given, add_flows, empty_flows, or_nothing, if_ended};
+ghost use Rattle.nf_complete_def.specs.FlowsFile.{is_given, add_flows, or_nothing, if_ended, flows_frame};
 ghost use Rattle.nf_side.specs.Said.{said_by};
-ghost use Rattle.nf_complete_read.specs.Drafts.{seen_draft, HasPlaces};
-ghost use Rattle.nf_complete_read.specs.Files.{given_of, IfBroken};
+ghost use Rattle.nf_side.specs.Drafted.{open_frame};
+ghost use Rattle.nf_side.specs.Faults.{IfBroken};
+ghost use Rattle.nf_complete_read.specs.Drafts.{HasPlaces};
+ghost use Rattle.nf_complete_read.specs.Files.{given_of};
 
 use crate::entry::{Entry, read_entry};
-use crate::fault::FlowsFault;
 use crate::flows::Flows;
+use crate::reading::FlowsFault;
 use nf_complete_def::FlowsRule;
 use nf_frac::Q;
 use nf_net::Network;
-use nf_side::ReadLine;
+use nf_side::{FileHead, LineFault, ReadLine, SideDraft};
 use std::alloc::{AllocError, Global};
+use std::marker::Model;
 
 /// The parser state: the flows of links and slopes of nodes read so far, and whether `end` was read.
 #[derive(Drop)]
 pub struct Draft {
-    pub flows: Vec<Option<Q>>,
-    pub slopes: Vec<Option<Q>>,
-    pub ended: bool,
+    flows: Vec<Option<Q>>,
+    slopes: Vec<Option<Q>>,
+    ended: bool,
+}
+
+impl Model for Draft {
+    ghost use Rattle.nf_complete_def.specs.FlowsFile.{FlowsDraft};
+
+    ghost Value = { FlowsDraft };
+
+    ghost view = { λ d. record { flows = d.flows.items; slopes = d.slopes.items; ended = d.ended } };
 }
 
 // Sets the number at an index. Refuses with S10 if there is one already.
@@ -48,24 +59,10 @@ fn or_zero(alloc: Global, numbers: &[Option<Q>]) -> Result<Vec<Q>, AllocError>
 }
 
 impl Draft {
-    /// Returns the empty parser state: no number was read.
-    pub fn new(alloc: Global, net: &Network) -> Result<Draft, AllocError>
-        ensures nothing { IfOk result (λ draft. seen_draft draft ≡ empty_flows net.now) }
-        ensures places { IfOk result (λ draft. HasPlaces net.now draft) }
-    {
-        // Proof: each link and each node has a name.
-        net.recall();
-        Ok(Draft {
-            flows: vec![in alloc; None; net.link_count() as usize]?,
-            slopes: vec![in alloc; None; net.node_count() as usize]?,
-            ended: false,
-        })
-    }
-
-    /// Adds the entry of a line. Refuses with the first of S4 to S10 that the line breaks.
-    pub fn add_line(&mut self, net: &Network, line: &ReadLine) -> Result<(), FlowsRule>
+    // Adds the entry of a line. Refuses with the first of S4 to S10 that the line breaks.
+    fn add(&mut self, net: &Network, line: &ReadLine) -> Result<(), FlowsRule>
         requires places { HasPlaces net.now self.old }
-        ensures adds { add_flows net.now (seen_draft self.old) line.now.words ≡ said_by (λ _. seen_draft self.new) result }
+        ensures adds { add_flows net.now self.old line.now.words ≡ said_by (λ _. self.new) result }
         ensures places { OnOk result (HasPlaces net.now self.new) }
     {
         if self.ended {
@@ -81,10 +78,10 @@ impl Draft {
 
     /// Returns the flows and slopes. Refuses with S11 if there was no `end` line, or if an allocation fails.
     pub fn close(&self, alloc: Global) -> Result<Flows, FlowsFault>
-        ensures closes { MatchResult result (λ flows. if_ended (seen_draft self.now) ≡ Ok (given_of flows))
-            (λ fault. IfBroken fault (λ broken. if_ended (seen_draft self.now) ≡ Err broken)) }
-        ensures flows { IfOk result (λ flows. length flows.flows.items ≡ length self.now.flows.items) }
-        ensures slopes { IfOk result (λ flows. length flows.slopes.items ≡ length self.now.slopes.items) }
+        ensures closes { MatchResult result (λ flows. if_ended self.now ≡ Ok (given_of flows))
+            (λ fault. IfBroken fault (λ broken. if_ended self.now ≡ Err broken)) }
+        ensures flows { IfOk result (λ flows. length flows.flows.items ≡ length self.now.flows) }
+        ensures slopes { IfOk result (λ flows. length flows.slopes.items ≡ length self.now.slopes) }
     {
         if !self.ended {
             return Err(FlowsFault::Broken {
@@ -96,5 +93,39 @@ impl Draft {
             flows: or_zero(alloc, &self.flows)?,
             slopes: or_zero(alloc, &self.slopes)?,
         })
+    }
+}
+
+impl SideDraft for Draft {
+    type Rule = FlowsRule;
+
+    ghost frame = { λ n. open_frame (flows_frame n) };
+
+    ghost fits = { HasPlaces };
+
+    fn head() -> FileHead<FlowsRule> {
+        FileHead {
+            not_ascii: FlowsRule::S1,
+            long_line: FlowsRule::S2,
+            no_head: FlowsRule::S3,
+            keyword: b"flows",
+        }
+    }
+
+    fn new(alloc: Global, net: &Network) -> Result<Draft, AllocError> {
+        // Proof: each link and each node has a name.
+        net.recall();
+        Ok(Draft {
+            flows: vec![in alloc; None; net.link_count() as usize]?,
+            slopes: vec![in alloc; None; net.node_count() as usize]?,
+            ended: false,
+        })
+    }
+
+    fn add_line(&mut self, net: &Network, line: &ReadLine) -> Result<(), LineFault<FlowsRule>> {
+        if let Err(rule) = self.add(net, line) {
+            return Err(LineFault::Broken(rule));
+        }
+        Ok(())
     }
 }

@@ -71,7 +71,7 @@ fn read_slope(net: &Network, line: &ReadLine) -> Result<Entry, FlowsRule>
 }
 
 // Reads `end`.
-#[tactic(auto, using(crate::proofs::FlowWords::end_count_wrong, crate::proofs::FlowWords::end_count_right))]
+#[tactic(auto, using(nf_side::proofs::LineWords::end_count_wrong, nf_side::proofs::LineWords::end_count_right))]
 fn read_end(line: &ReadLine) -> Result<Entry, FlowsRule>
     requires { 0 < length line.now.words }
     ensures says { end_line (drop 1 line.now.words) ≡ said_by seen_entry result }

@@ -4,11 +4,9 @@
 
 mod draft;
 mod entry;
-mod fault;
 mod flows;
 mod reading;
 
-pub use fault::FlowsFault;
 pub use flows::Flows;
 pub use nf_complete_def::FlowsRule;
-pub use reading::parse_flows;
+pub use reading::{FlowsFault, parse_flows};

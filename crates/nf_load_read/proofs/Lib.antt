@@ -1,4 +1,2 @@
-pub mod LoadWords
-pub mod PieceRules
 pub mod LoadsRead
 pub mod Pushed

@@ -1,4 +1,2 @@
 pub mod Entries
-pub mod Drafts
-pub mod Files
 pub mod Kept

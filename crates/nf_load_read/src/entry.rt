@@ -17,7 +17,7 @@ pub enum Entry {
 }
 
 // `rate LINK START RATE`
-#[tactic(auto, using(crate::proofs::LoadWords::rate_count_wrong, crate::proofs::LoadWords::rate_unknown, crate::proofs::LoadWords::rate_known))]
+#[tactic(auto, using(nf_side::proofs::LineWords::rate_count_wrong, nf_side::proofs::LineWords::rate_unknown, nf_side::proofs::LineWords::rate_known))]
 fn read_rate(net: &Network, line: &ReadLine, near: LinkId) -> Result<Entry, LoadRule>
     requires { 0 < length line.now.words }
     ensures says { rate_line net.now.link_names (drop 1 line.now.words) ≡ said_by seen_entry result }
@@ -39,7 +39,7 @@ fn read_rate(net: &Network, line: &ReadLine, near: LinkId) -> Result<Entry, Load
 }
 
 // `end`
-#[tactic(auto, using(crate::proofs::LoadWords::end_count_wrong, crate::proofs::LoadWords::end_count_right))]
+#[tactic(auto, using(nf_side::proofs::LineWords::end_count_wrong, nf_side::proofs::LineWords::end_count_right))]
 fn read_end(line: &ReadLine) -> Result<(), LoadRule>
     requires { 0 < length line.now.words }
     ensures { end_line (drop 1 line.now.words) ≡ said_by (λ _. file.End) result }

@@ -4,11 +4,9 @@
 
 mod draft;
 mod entry;
-mod fault;
 mod loads;
 mod reading;
 
-pub use fault::LoadsFault;
 pub use loads::Loads;
 pub use nf_report_def::LoadRule;
-pub use reading::parse_loads;
+pub use reading::{LoadsFault, parse_loads};

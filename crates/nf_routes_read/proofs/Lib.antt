@@ -2,7 +2,6 @@ pub mod Pairs
 pub mod Taking
 pub mod RouteNames
 pub mod RouteWords
-pub mod PieceRules
 pub mod RouteLinks
 pub mod RouteSteps
 pub mod RoutesRead

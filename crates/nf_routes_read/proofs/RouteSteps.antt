@@ -5,11 +5,11 @@ use Rattle.nf_model.specs.Network.{Piece, Network}
 use Rattle.nf_frac_def.specs.Checked.{◌>>=◌}
 use Rattle.nf_net_def.specs.Named.{Named}
 use Rattle.nf_side_def.specs.Lines.{unless_rule}
+use Rattle.nf_side.specs.declared.fault.LineFault.{LineFault}
+use Rattle.nf_side.specs.Faults.{IfRule}
 use Rattle.nf_routes_def.specs.declared.RoutesRule.{RoutesRule}
 use Rattle.nf_routes_def.specs.declared.RoutesRule.TheVariants.{G4}
 use Rattle.nf_routes_def.specs.RoutesFile.{NamedRoute, RoutesEntry, RoutesDraft, RouteLine, RateLine, route_names, pieces_of, routes_entry, routes_rule_of, routes_after, add_route_line, with_piece, longer, rule_behind}
-use Rattle.nf_routes_read.specs.declared.fault.RoutesLineFault.{RoutesLineFault}
-use Rattle.nf_routes_read.specs.Files.{IfRule}
 
 abbrev draft_of : List NamedRoute → Bool → RoutesDraft
 draft_of routes ended = record { routes = routes; ended = ended }
@@ -37,10 +37,10 @@ module _ (n : Named) (draft : RoutesDraft) (words : List (List ℕ)) (routes : L
   abbrev after_entry : Result RoutesEntry RoutesRule → Result RoutesDraft RoutesRule
   after_entry r = r >>= λ entry. unless_rule (routes_rule_of n.net draft entry) (routes_after draft entry)
 
-  pub entry_breaks : (fault : RoutesLineFault) → draft.ended ≡ false → routes ≡ draft.routes → IfRule fault (λ rule. routes_entry n.link_names (route_names routes) words ≡ Err rule)
+  pub entry_breaks : (fault : LineFault RoutesRule) → draft.ended ≡ false → routes ≡ draft.routes → IfRule fault (λ rule. routes_entry n.link_names (route_names routes) words ≡ Err rule)
       → IfRule fault (λ rule. add_route_line n draft words ≡ Err rule)
-  entry_breaks (RoutesLineFault.Broken rule) open_ same e =
+  entry_breaks (LineFault.Broken rule) open_ same e =
       ap (λ (b : Bool). cond b (Err G4) (after_entry (routes_entry n.link_names (route_names draft.routes) words))) open_
       ∙ ap (λ (r : List NamedRoute). after_entry (routes_entry n.link_names (route_names r) words)) (sym same)
       ∙ ap after_entry e
-  entry_breaks RoutesLineFault.Memory open_ same e = tt
+  entry_breaks LineFault.Memory open_ same e = tt

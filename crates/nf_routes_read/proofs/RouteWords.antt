@@ -1,21 +1,14 @@
 -- The words of a line, by their number.
-use Rattle.std.proofs.Common.{◌≡◌, ◌≢◌, ℕ, ◌<◌, ◌≤◌, Bool, true, false, not, cond, List, [], ◌∷◌, length, drop, map, Result, Ok, Err, refl, sym, ◌∙◌, ap, arith, bytes_eq, codes}
+use Rattle.std.proofs.Common.{◌≡◌, ℕ, ◌<◌, ◌≤◌, Bool, true, false, not, cond, List, [], ◌∷◌, length, drop, map, Result, Ok, Err, refl, sym, ◌∙◌, ap, arith, bytes_eq, codes}
 use Rattle.std.specs.List.{list_all}
 use Rattle.std.proofs.lemmas.Bool.{cond-true, cond-false}
-use Rattle.std.specs.Result.{result_ok}
-use Rattle.nf_frac_words.specs.Numbers.{number_of}
 use Rattle.nf_net_def.specs.Names.{Name, is_name, has_name, place_of}
-use Rattle.nf_net_def.specs.Numbers.{greatest}
 use Rattle.nf_text.specs.Within.{word_at}
-use Rattle.nf_side.specs.NameAt.{IsNameAt}
-use Rattle.nf_side.proofs.NamesOf.{where_named, where_not_named}
-use Rattle.nf_side.proofs.WordCounts.{one_word, four_words, unless_one, unless_four}
-use Rattle.nf_side_def.specs.Lines.{piece_entry}
+use Rattle.nf_side.specs.declared.fault.LineFault.{LineFault}
+use Rattle.nf_side.specs.Faults.{IfRule}
 use Rattle.nf_routes_def.specs.declared.RoutesRule.{RoutesRule}
-use Rattle.nf_routes_def.specs.declared.RoutesRule.TheVariants.{G6, G7, G8, G9}
-use Rattle.nf_routes_def.specs.RoutesFile.{RoutesEntry, RouteLine, RateLine, End, route_line, rate_line, end_line, routes_entry}
-use Rattle.nf_routes_read.specs.declared.fault.RoutesLineFault.{RoutesLineFault}
-use Rattle.nf_routes_read.specs.Files.{IfRule}
+use Rattle.nf_routes_def.specs.declared.RoutesRule.TheVariants.{G6, G7, G8}
+use Rattle.nf_routes_def.specs.RoutesFile.{RoutesEntry, RouteLine, route_line, rate_line, end_line, routes_entry}
 use Rattle.nf_routes_read.specs.Entries.{AreLinksOf, NoLinks}
 
 -- ---- `route`
@@ -50,32 +43,9 @@ module _ (names : List Name) where
         let links_are = sym are.places in
         by_links true are.there ∙ λ i. Ok (RouteLine (name_is i) (links_are i))
 
-    pub route_no_links : (fault : RoutesLineFault) → NoLinks fault names (drop 2 words) → IfRule fault (λ rule. route_line names (drop 1 words) ≡ Err rule)
-    route_no_links (RoutesLineFault.Broken rule) (same, none) = by_links false none ∙ ap (λ (r : RoutesRule). Err r) (sym same)
-    route_no_links RoutesLineFault.Memory h = tt
-
--- ---- `rate`
-module _ (names : List Name) (words : List (List ℕ)) where
-  pub rate_count_wrong : 0 < length words → length words ≢ 4 → rate_line names (drop 1 words) ≡ Err G6
-  rate_count_wrong some n =
-      unless_four (λ (ws : List (List ℕ)). rate_line names (drop 1 ws)) (Err G6) refl (λ _. refl) (λ _ _. refl) (λ _ _ _. refl) (λ _ _ _ _ _ _. refl) words n
-
-  module _ (n : length words ≡ 4) where
-    abbrev of_route : ℕ → Result RoutesEntry RoutesRule
-    of_route place = piece_entry (λ piece. RateLine place piece) G9 (result_ok (number_of greatest (word_at words 2))) (result_ok (number_of greatest (word_at words 3)))
-
-    pub rate_unknown : has_name names (word_at words 1) ≡ false → rate_line names (drop 1 words) ≡ Err G8
-    rate_unknown e = ap (λ (ws : List (List ℕ)). rate_line names (drop 1 ws)) (four_words words n) ∙ where_not_named names (word_at words 1) of_route (Err G8) e
-
-    pub rate_known : (place : ℕ) → IsNameAt names (word_at words 1) place → rate_line names (drop 1 words) ≡ of_route place
-    rate_known place is = ap (λ (ws : List (List ℕ)). rate_line names (drop 1 ws)) (four_words words n) ∙ where_named names (word_at words 1) of_route (Err G8) place is
-
--- ---- `end`
-pub end_count_wrong : (words : List (List ℕ)) → 0 < length words → length words ≢ 1 → end_line (drop 1 words) ≡ Err G6
-end_count_wrong words some n = unless_one (λ (ws : List (List ℕ)). end_line (drop 1 ws)) (Err G6) (λ _ _ _. refl) words some n
-
-pub end_count_right : (words : List (List ℕ)) → length words ≡ 1 → end_line (drop 1 words) ≡ Ok End
-end_count_right words n = ap (λ (ws : List (List ℕ)). end_line (drop 1 ws)) (one_word words n)
+    pub route_no_links : (fault : LineFault RoutesRule) → NoLinks fault names (drop 2 words) → IfRule fault (λ rule. route_line names (drop 1 words) ≡ Err rule)
+    route_no_links (LineFault.Broken rule) (same, none) = by_links false none ∙ ap (λ (r : RoutesRule). Err r) (sym same)
+    route_no_links LineFault.Memory h = tt
 
 -- ---- a line by its key
 module _ (links routes : List Name) (words : List (List ℕ)) (key : List ℕ) (some : length words ≡ 0 → ⊥) (is_key : key ≡ word_at words 0) where

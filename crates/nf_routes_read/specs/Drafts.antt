@@ -1,12 +1,8 @@
--- Parser states, as values of the definitions.
+-- The end of a routes file.
 use Rattle.std.specs.Prelude.{List, Result}
 use Rattle.nf_frac_def.specs.Checked.{◌>>=◌}
 use Rattle.nf_net_def.specs.Named.{Named}
 use Rattle.nf_routes_def.specs.RoutesFile.{NamedRoute, RoutesBroken, RoutesDraft, routes_ended, unless_circle}
-use Rattle.nf_routes_read.specs.declared.draft.Draft.{Draft}
-
-abbrev pub seen_draft : Draft → RoutesDraft
-seen_draft d = record { routes = d.routes.items; ended = d.ended }
 
 -- the routes, or the first broken rule of the whole file; the loading order decides G17
 abbrev pub routes_closed : Named → RoutesDraft → Result (List NamedRoute) RoutesBroken

@@ -5,10 +5,10 @@ use Rattle.nf_net_def.specs.Names.{Name, has_name, place_of}
 use Rattle.nf_routes_def.specs.declared.RoutesRule.{RoutesRule}
 use Rattle.nf_routes_def.specs.declared.RoutesRule.TheVariants.{G8}
 use Rattle.nf_routes_def.specs.RoutesFile as file
-use Rattle.nf_routes_read.specs.declared.fault.RoutesLineFault.{RoutesLineFault}
+use Rattle.nf_side.specs.declared.fault.LineFault.{LineFault}
+use Rattle.nf_side.specs.Faults.{IfRule}
 use Rattle.nf_routes_read.specs.declared.entry.Entry.{Entry}
 use Rattle.nf_routes_read.specs.declared.entry.Entry.TheVariants.{Route, Rate, End}
-use Rattle.nf_routes_read.specs.Files.{IfRule}
 
 abbrev pub seen_entry : Entry → file.RoutesEntry
 seen_entry (Route route) = file.RouteLine route.name route.route.links
@@ -16,7 +16,7 @@ seen_entry (Rate place piece) = file.RateLine place piece
 seen_entry End = file.End
 
 -- the result is the entry of the line or the rule that it breaks, or an allocation failed
-abbrev pub Says : Result file.RoutesEntry RoutesRule → Result Entry RoutesLineFault → Type 0
+abbrev pub Says : Result file.RoutesEntry RoutesRule → Result Entry (LineFault RoutesRule) → Type 0
 Says said result = MatchResult result (λ entry. said ≡ Ok (seen_entry entry)) (λ fault. IfRule fault (λ rule. said ≡ Err rule))
 
 -- a new route has no pieces, and the route of a piece is one of the first `routes`
@@ -38,5 +38,5 @@ pub record AreLinksOf (names : List Name) (words : List (List ℕ)) (links : Lis
   pub within : All (λ e. e < length names) links
 
 -- one of the words names no link, or an allocation failed
-abbrev pub NoLinks : RoutesLineFault → List Name → List (List ℕ) → Type 0
+abbrev pub NoLinks : LineFault RoutesRule → List Name → List (List ℕ) → Type 0
 NoLinks fault names words = IfRule fault (λ rule. (rule ≡ G8) × (list_all (has_name names) words ≡ false))

@@ -1,4 +1,3 @@
 pub mod Codes
-pub mod Files
 pub mod Entries
 pub mod Drafts

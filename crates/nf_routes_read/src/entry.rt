@@ -8,11 +8,10 @@ ghost use Rattle.nf_routes_def.specs.declared.RoutesRule.TheVariants.{G8};
 ghost use Rattle.nf_routes_def.specs.RoutesFile.{route_names, route_line, rate_line, end_line, routes_entry};
 ghost use Rattle.nf_routes_read.specs.Entries.{AreLinksOf, NoLinks, Says, Fits, HasLinks};
 
-use crate::fault::RoutesLineFault;
 use crate::route::Route;
 use nf_net::{LinkId, Network, Piece};
 use nf_routes_def::RoutesRule;
-use nf_side::{ReadLine, is_name, is_word, link_of, number_of};
+use nf_side::{LineFault, ReadLine, is_name, is_word, link_of, number_of};
 use std::alloc::Global;
 
 /// The entry of a line. `Route` is a route without pieces, `Rate` is a piece for the route at an index, and `End` is the `end` line.
@@ -54,7 +53,11 @@ pub fn place_of(routes: &[Route], name: &[u8]) -> Option<usize>
 }
 
 // Returns the links named by the words from the third on. Refuses with G8 if a word names no link.
-fn read_links(alloc: Global, net: &Network, line: &ReadLine) -> Result<Vec<LinkId>, RoutesLineFault>
+fn read_links(
+    alloc: Global,
+    net: &Network,
+    line: &ReadLine,
+) -> Result<Vec<LinkId>, LineFault<RoutesRule>>
     requires { 2 ≤ length line.now.words }
     ensures { MatchResult result (λ links. AreLinksOf net.now.link_names (drop 2 line.now.words) links.items)
         (λ fault. NoLinks fault net.now.link_names (drop 2 line.now.words)) }
@@ -62,7 +65,7 @@ fn read_links(alloc: Global, net: &Network, line: &ReadLine) -> Result<Vec<LinkI
     let mut links = Vec::new(alloc);
     for place in 2..line.len() {
         let Some(link) = link_of(net, line.at(place)) else {
-            return Err(RoutesLineFault::Broken(RoutesRule::G8));
+            return Err(LineFault::Broken(RoutesRule::G8));
         };
         links.push(link)?;
     }
@@ -71,17 +74,17 @@ fn read_links(alloc: Global, net: &Network, line: &ReadLine) -> Result<Vec<LinkI
 
 // Reads `route NAME LINK LINK ...`.
 #[tactic(auto, using(crate::proofs::RouteWords::route_count_wrong, crate::proofs::RouteWords::route_bad_name, crate::proofs::RouteWords::route_known))]
-fn read_route(alloc: Global, net: &Network, line: &ReadLine) -> Result<Entry, RoutesLineFault>
+fn read_route(alloc: Global, net: &Network, line: &ReadLine) -> Result<Entry, LineFault<RoutesRule>>
     requires { 0 < length line.now.words }
     ensures says { Says (route_line net.now.link_names (drop 1 line.now.words)) result }
     ensures fits { (routes : ℕ) → IfOk result (λ entry. Fits routes entry) }
     ensures links { IfOk result (λ entry. HasLinks (length net.now.link_names) entry) }
 {
     if line.len() < 3 {
-        return Err(RoutesLineFault::Broken(RoutesRule::G6));
+        return Err(LineFault::Broken(RoutesRule::G6));
     }
     let Some(name) = name_of(line.at(1)) else {
-        return Err(RoutesLineFault::Broken(RoutesRule::G7));
+        return Err(LineFault::Broken(RoutesRule::G7));
     };
     let links = read_links(alloc, net, line)?;
     let route = Route::new(alloc, name, links)?;
@@ -89,38 +92,38 @@ fn read_route(alloc: Global, net: &Network, line: &ReadLine) -> Result<Entry, Ro
 }
 
 // Reads `rate NAME START RATE`.
-#[tactic(auto, using(crate::proofs::RouteWords::rate_count_wrong, crate::proofs::RouteWords::rate_unknown, crate::proofs::RouteWords::rate_known))]
-fn read_rate(routes: &[Route], line: &ReadLine) -> Result<Entry, RoutesLineFault>
+#[tactic(auto, using(nf_side::proofs::LineWords::rate_count_wrong, nf_side::proofs::LineWords::rate_unknown, nf_side::proofs::LineWords::rate_known))]
+fn read_rate(routes: &[Route], line: &ReadLine) -> Result<Entry, LineFault<RoutesRule>>
     requires { 0 < length line.now.words }
     ensures says { Says (rate_line (route_names routes.now) (drop 1 line.now.words)) result }
     ensures fits { IfOk result (λ entry. Fits (length routes.now) entry) }
     ensures links { (links : ℕ) → IfOk result (λ entry. HasLinks links entry) }
 {
     if line.len() != 4 {
-        return Err(RoutesLineFault::Broken(RoutesRule::G6));
+        return Err(LineFault::Broken(RoutesRule::G6));
     }
     let Some(place) = place_of(routes, line.at(1)) else {
-        return Err(RoutesLineFault::Broken(RoutesRule::G8));
+        return Err(LineFault::Broken(RoutesRule::G8));
     };
     let Some(start) = number_of(line.at(2)) else {
-        return Err(RoutesLineFault::Broken(RoutesRule::G9));
+        return Err(LineFault::Broken(RoutesRule::G9));
     };
     let Some(rate) = number_of(line.at(3)) else {
-        return Err(RoutesLineFault::Broken(RoutesRule::G9));
+        return Err(LineFault::Broken(RoutesRule::G9));
     };
     Ok(Entry::Rate(place, Piece { start, rate }))
 }
 
 // Reads `end`.
-#[tactic(auto, using(crate::proofs::RouteWords::end_count_wrong, crate::proofs::RouteWords::end_count_right))]
-fn read_end(line: &ReadLine) -> Result<Entry, RoutesLineFault>
+#[tactic(auto, using(nf_side::proofs::LineWords::end_count_wrong, nf_side::proofs::LineWords::end_count_right))]
+fn read_end(line: &ReadLine) -> Result<Entry, LineFault<RoutesRule>>
     requires { 0 < length line.now.words }
     ensures says { Says (end_line (drop 1 line.now.words)) result }
     ensures fits { (routes : ℕ) → IfOk result (λ entry. Fits routes entry) }
     ensures links { (links : ℕ) → IfOk result (λ entry. HasLinks links entry) }
 {
     if line.len() != 1 {
-        return Err(RoutesLineFault::Broken(RoutesRule::G6));
+        return Err(LineFault::Broken(RoutesRule::G6));
     }
     Ok(Entry::End)
 }
@@ -132,13 +135,13 @@ pub fn read_entry(
     net: &Network,
     routes: &[Route],
     line: &ReadLine,
-) -> Result<Entry, RoutesLineFault>
+) -> Result<Entry, LineFault<RoutesRule>>
     ensures says { Says (routes_entry net.now.link_names (route_names routes.now) line.now.words) result }
     ensures fits { IfOk result (λ entry. Fits (length routes.now) entry) }
     ensures links { IfOk result (λ entry. HasLinks (length net.now.link_names) entry) }
 {
     if line.len() == 0 {
-        return Err(RoutesLineFault::Broken(RoutesRule::G5));
+        return Err(LineFault::Broken(RoutesRule::G5));
     }
     let key = line.at(0);
     if is_word(key, b"route") {
@@ -150,5 +153,5 @@ pub fn read_entry(
     if is_word(key, b"end") {
         return read_end(line);
     }
-    Err(RoutesLineFault::Broken(RoutesRule::G5))
+    Err(LineFault::Broken(RoutesRule::G5))
 }

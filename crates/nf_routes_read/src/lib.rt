@@ -4,16 +4,14 @@
 
 mod draft;
 mod entry;
-mod fault;
 mod order;
 mod reading;
 mod route;
 mod routes;
 mod walk;
 
-pub use fault::RoutesFault;
 pub use nf_routes_def::RoutesRule;
 pub use order::loading_order;
-pub use reading::parse_routes;
+pub use reading::{RoutesFault, parse_routes};
 pub use route::Route;
 pub use routes::Routes;

@@ -1,6 +1,6 @@
 pub mod NamesOf
 pub mod ContentLines
 pub mod WordCounts
+pub mod LineWords
 pub mod HeadWords
-pub mod PieceRules
 pub mod Frame

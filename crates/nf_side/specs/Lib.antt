@@ -1,3 +1,5 @@
 pub mod NameAt
-pub mod PiecesBehind
 pub mod Said
+pub mod Faults
+pub mod Heads
+pub mod Drafted

@@ -2,20 +2,21 @@
 ghost use Rattle.std.specs.Prelude.{◌≡◌, None};
 ghost use Rattle.std.specs.List.{last_or};
 ghost use Rattle.nf_net_def.specs.NetLines as lines;
-ghost use Rattle.nf_side.specs.PiecesBehind.{fault_behind};
+ghost use Rattle.nf_side_def.specs.Lines.{piece_rule as piece_rule_by};
 
 use nf_frac::Q;
 use nf_net::Piece;
 
-/// What can be wrong with a piece behind others, where there may be only so many.
+/// The rules that a piece can break behind others, for one kind of side file.
 #[derive(Clone, Copy)]
-pub enum PieceFault {
+pub struct PieceRules<R> {
     /// Its start or its rate is negative.
-    Negative,
+    pub negative: R,
     /// Its start isn't after that of the piece before.
-    NotAfter,
-    /// There are as many pieces as may be.
-    TooMany,
+    pub not_after: R,
+    /// There are already `most` pieces.
+    pub too_many: R,
+    pub most: usize,
 }
 
 // A start isn't after that of the last piece.
@@ -29,19 +30,19 @@ fn is_not_after(before: &[Piece], start: Q) -> bool
     start.is_at_most(last.start)
 }
 
-/// What is wrong with a piece behind those before it, where there may be at most `most` in all: the first that is, in the order of
-/// PieceFault; None where nothing is. Takes no memory.
-pub fn piece_fault(before: &[Piece], piece: &Piece, most: usize) -> Option<PieceFault>
-    ensures { result ≡ fault_behind most before.now piece.now }
+/// The first rule that a piece breaks behind those before it, in the order of the fields of PieceRules; None where it breaks none. Takes
+/// no memory.
+pub fn piece_rule<R: Copy>(before: &[Piece], piece: &Piece, rules: PieceRules<R>) -> Option<R>
+    ensures { result ≡ piece_rule_by rules.most rules.negative rules.not_after rules.too_many before.now piece.now }
 {
     if piece.start.is_below(Q::zero()) || piece.rate.is_below(Q::zero()) {
-        return Some(PieceFault::Negative);
+        return Some(rules.negative);
     }
     if is_not_after(before, piece.start) {
-        return Some(PieceFault::NotAfter);
+        return Some(rules.not_after);
     }
-    if before.len() >= most {
-        return Some(PieceFault::TooMany);
+    if before.len() >= rules.most {
+        return Some(rules.too_many);
     }
     None
 }

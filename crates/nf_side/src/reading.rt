@@ -18,9 +18,9 @@ fn push_content<'a>(lines: &mut Vec<ReadLine<'a>>, line: ReadLine<'a>) -> Result
     Ok(())
 }
 
-/// The lines of a text of at most 67,108,864 bytes that have words, in their order; or the fault of the first line that has one,
-/// with words or without.
-pub fn contents<'a>(alloc: Global, text: &'a [u8]) -> Result<Vec<ReadLine<'a>>, TextFault>
+// The lines of a text of at most 67,108,864 bytes that have words, in their order; or the fault of the first line that has one,
+// with words or without.
+pub(crate) fn contents<'a>(alloc: Global, text: &'a [u8]) -> Result<Vec<ReadLine<'a>>, TextFault>
     requires { length text.now ≤ longest_text }
     ensures lines { IfOk result (λ lines. lines.items ≡ content_lines (read_lines text.now)) }
     ensures none { OnOk result (first_fault text.now ≡ None) }
@@ -37,9 +37,9 @@ pub fn contents<'a>(alloc: Global, text: &'a [u8]) -> Result<Vec<ReadLine<'a>>, 
     }
 }
 
-/// Whether the words of a line are a keyword and the version 1.
+// Whether the words of a line are a keyword and the version 1.
 #[tactic(auto, using(crate::proofs::HeadWords::head_count_wrong, crate::proofs::HeadWords::head_is))]
-pub fn is_head(line: &ReadLine, keyword: &[u8]) -> bool
+pub(crate) fn is_head(line: &ReadLine, keyword: &[u8]) -> bool
     ensures { result ≡ is_head_by keyword.now line.now.words }
 {
     line.len() == 2 && is_word(line.at(0), keyword) && is_word(line.at(1), b"1")
