@@ -1,5 +1,5 @@
 // Answering the words: an outcome, or why there is none.
-ghost use Rattle.std.specs.Prelude.{◌≡◌, ◌≤◌, ℕ, List, length, Some, Ok, Err};
+ghost use Rattle.std.specs.Prelude.{◌≡◌, ◌≤◌, ℕ, List, length, Some, Ok, Err, IfOk, MatchResult};
 ghost use Rattle.nf_rational.specs.Operations.{0ℚ};
 ghost use Rattle.nf_rational.specs.Order.{◌≤ℚ◌};
 ghost use Rattle.nf_edge.specs.Names.{texts};
@@ -10,7 +10,9 @@ ghost use Rattle.nf_quick.specs.declared.fault.QuickFault.TheVariants as QuickFa
 ghost use Rattle.nf_quick_def.specs.Answers.{IsQuickFlow};
 ghost use Rattle.nf_rational.specs.Rational.{ℚ};
 ghost use Rattle.nf_net_def.specs.Named.{Named};
-ghost use Rattle.nf_net_def.specs.Report.{Report};
+ghost use Rattle.nf_net_def.specs.Report.{Report as SeenReport, IsWellFormed};
+ghost use Rattle.nf_report_def.specs.ReportFile.{report_in};
+ghost use Rattle.nf_report_read.specs.Files.{IfBroken, report_of};
 ghost use Rattle.nf_resume.specs.Faults.{IsResumeFault};
 ghost use Rattle.nf_app_files.specs.Files.{visit, report_limit};
 ghost use Rattle.nf_app_words.specs.Requests.{Solve, SolveForever, Show, Load, Check, Gen, Settle, Resume, Routes, CanBeAsked, request_of};
@@ -35,7 +37,7 @@ use nf_load::parse_loads;
 use nf_net::{Network, text};
 use nf_phase::{Budgets, solve};
 use nf_quick::{Augment, Quick, QuickFault, departure, quickest};
-use nf_report::parse_report;
+use nf_report::{Report, ReportFault, parse_report};
 use nf_resume::{ResumeFault, resume};
 use nf_routes::carry_routes;
 use nf_routes_read::parse_routes;
@@ -107,14 +109,24 @@ fn load_to(alloc: Global, net: &Network, loads: &[u8], horizon: Q) -> Result<Com
     Ok(Computed::Loaded { horizon, links })
 }
 
+// Parses a report. The text, which may be long, is dropped.
+fn parse_whole(alloc: Global, net: &Network, text: Vec<u8>) -> Result<Report, ReportFault>
+    requires { length text.items ≤ report_limit }
+    ensures reads { MatchResult result (λ report. report_in net.now text.items ≡ Ok (report_of report))
+        (λ fault. IfBroken fault (λ broken. report_in net.now text.items ≡ Err broken)) }
+    ensures formed { IfOk result (λ report. IsWellFormed net.now.net (report_of report)) }
+{
+    parse_report(alloc, net, &text)
+}
+
 // Parses a report and checks its flow.
-fn check_report(alloc: Global, net: &Network, text: &[u8]) -> Result<Computed, Refusal>
-    requires { length text.now ≤ report_limit }
-    ensures { (file name : List ℕ) → IsGiving net.now text.now (Check file name) result }
+fn check_report(alloc: Global, net: &Network, text: Vec<u8>) -> Result<Computed, Refusal>
+    requires { length text.items ≤ report_limit }
+    ensures { (file name : List ℕ) → IsGiving net.now text.items (Check file name) result }
 {
     // Proof: the network is that of an accepted file.
     net.recall();
-    let report = parse_report(alloc, net, text)?;
+    let report = parse_whole(alloc, net, text)?;
     let verdict = check(alloc, net, &report.flow)?;
     Ok(Computed::Checked { verdict })
 }
@@ -133,7 +145,7 @@ fn settle_to(alloc: Global, net: &Network, text: &[u8]) -> Result<Computed, Refu
 
 // Returns why a report isn't resumed: if its flow is no equilibrium, the verdict of the check.
 fn refuse_resume(fault: ResumeFault) -> Result<Computed, Refusal>
-    ensures { (net : Named) (file name text : List ℕ) (horizon : ℚ) (phases patterns : ℕ) (old : Report) → IsReportText net text old
+    ensures { (net : Named) (file name text : List ℕ) (horizon : ℚ) (phases patterns : ℕ) (old : SeenReport) → IsReportText net text old
         → IsResumeFault passes_Q net.net old horizon fault → IsGiving net text (Resume file name horizon phases patterns) result }
 {
     match fault {
@@ -148,17 +160,17 @@ fn refuse_resume(fault: ResumeFault) -> Result<Computed, Refusal>
 fn resume_to(
     alloc: Global,
     net: &Network,
-    text: &[u8],
+    text: Vec<u8>,
     horizon: Q,
     budgets: Budgets,
 ) -> Result<Computed, Refusal>
-    requires { length text.now ≤ report_limit }
-    ensures { (file name : List ℕ) → IsGiving net.now text.now (Resume file name horizon budgets.phases budgets.patterns) result }
+    requires { length text.items ≤ report_limit }
+    ensures { (file name : List ℕ) → IsGiving net.now text.items (Resume file name horizon budgets.phases budgets.patterns) result }
 {
     // Proof: the network is that of an accepted file, and the parts of the horizon are within the bound.
     net.recall();
     horizon.recall();
-    let report = parse_report(alloc, net, text)?;
+    let report = parse_whole(alloc, net, text)?;
     match resume(alloc, net, &report, horizon, budgets) {
         Ok(solution) => Ok(Computed::Solved { horizon, solution }),
         Err(fault) => refuse_resume(fault),
@@ -263,10 +275,15 @@ fn with_net(found: Result<Computed, Refusal>, net: Network) -> Result<Outcome, R
 }
 
 // Answers a request with its network and the bytes of its second file, if it has one.
-fn find(alloc: Global, request: &Request, net: &Network, other: &[u8]) -> Result<Computed, Refusal>
+fn find(
+    alloc: Global,
+    request: &Request,
+    net: &Network,
+    other: Vec<u8>,
+) -> Result<Computed, Refusal>
     requires asked { CanBeAsked (requested request.now) }
-    requires fits { OtherFits (requested request.now) other.now }
-    ensures { IsGiving net.now other.now (requested request.now) result }
+    requires fits { OtherFits (requested request.now) other.items }
+    ensures { IsGiving net.now other.items (requested request.now) result }
 {
     match *request {
         Request::Solve {
@@ -281,7 +298,7 @@ fn find(alloc: Global, request: &Request, net: &Network, other: &[u8]) -> Result
             ..
         } => solve_on(alloc, net, Budgets { phases, patterns }),
         Request::Show { .. } => show(alloc, net),
-        Request::Load { horizon, .. } => load_to(alloc, net, other, horizon),
+        Request::Load { horizon, .. } => load_to(alloc, net, &other, horizon),
         Request::Check { .. } => check_report(alloc, net, other),
         Request::Quick {
             amount,
@@ -301,14 +318,14 @@ fn find(alloc: Global, request: &Request, net: &Network, other: &[u8]) -> Result
             horizon,
             Budgets { phases, patterns },
         ),
-        Request::Settle { .. } => settle_to(alloc, net, other),
+        Request::Settle { .. } => settle_to(alloc, net, &other),
         Request::Resume {
             horizon,
             phases,
             patterns,
             ..
         } => resume_to(alloc, net, other, horizon, Budgets { phases, patterns }),
-        Request::Routes { horizon, .. } => distribute(alloc, net, other, horizon),
+        Request::Routes { horizon, .. } => distribute(alloc, net, &other, horizon),
     }
 }
 
@@ -327,7 +344,7 @@ fn answer_request<S: Shelf>(
     let (net, other) = gather(alloc, request, shelf)?;
     // Proof: the network is that of an accepted file.
     net.recall();
-    with_net(find(alloc, request, &net, &other), net)
+    with_net(find(alloc, request, &net, other), net)
 }
 
 /// Answers the words with the files of the shelf.

@@ -1,13 +1,11 @@
-use Rattle.std.proofs.Common.{ℕ, List, sym, subst}
 use Rattle.std.proofs.lemmas.Result.{err_from_is_err_and}
 use Rattle.nf_app_words.specs.RequestViews.{requested}
 use Rattle.nf_app_files.specs.Files.{visit}
-use Rattle.nf_app.specs.Requests.{OtherFits, OtherIsText}
 use Rattle.nf_app.proofs.Calls.{given}
 use Rattle.nf_app.proofs.answering.answer_request.Goals as goal
 
 pub find-requires-clause-fits : goal.find-requires-clause-fits
-find-requires-clause-fits g c = subst (λ (t : List ℕ). OtherFits (requested c.args.request.now) t) (sym c.deref.ensures.value) c.in_ok-net.ensures.fits
+find-requires-clause-fits g c = c.in_ok-net.ensures.fits
 
 pub returns-in_err-net-clause-answered : goal.returns-in_err-net-clause-answered
 returns-in_err-net-clause-answered g c words asks =
@@ -18,8 +16,8 @@ pub returns-clause-answered : goal.returns-clause-answered
 returns-clause-answered g c words asks =
     let shelf = visit g.S.Shelf c.args.shelf.now c.gather.new.shelf in
     let gathered = c.in_ok-net.ensures.gathered words asks in
-    given (record { words = words; shelf = shelf }) (requested c.args.request.now) c.in_ok-net.net c.recall.ensures gathered.0 c.deref.result.now
-    (subst (λ (t : List ℕ). OtherIsText shelf (requested c.args.request.now) t) (sym c.deref.ensures.value) gathered.1) c.find.result c.find.ensures c.with_net.result c.with_net.ensures
+    given (record { words = words; shelf = shelf }) (requested c.args.request.now) c.in_ok-net.net c.recall.ensures gathered.0 c.in_ok-net.other.items
+    gathered.1 c.find.result c.find.ensures c.with_net.result c.with_net.ensures
 
 pub returns-in_err-net-clause-same : goal.returns-in_err-net-clause-same
 returns-in_err-net-clause-same g c = c.in_err-net.ensures.same

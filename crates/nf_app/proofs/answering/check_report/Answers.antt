@@ -37,16 +37,16 @@ check-requires-clause-reached c = c.in_ok-report.ensures.formed.reached
 pub returns-in_err-report : goal.returns-in_err-report
 returns-in_err-report c file name =
     let p = err_from_is_err_and c.from_residual.result c.from_residual.ensures.1 in
-    rw (p.1, p.2) (report_refused c.args.net.now c.recall.ensures file name c.args.text.now c.in_err-report.field-0.0 c.in_err-report.ensures.reads)
+    rw (p.1, p.2) (report_refused c.args.net.now c.recall.ensures file name c.args.text.items c.in_err-report.field-0.0 c.in_err-report.ensures.reads)
 
 pub returns-in_err-verdict : goal.returns-in_err-verdict
 returns-in_err-verdict c file name =
     let p = err_from_is_err_and c.from_residual-in_err-verdict.result c.from_residual-in_err-verdict.ensures.1 in
-    rw (p.1, p.2) (checking_stopped c.args.net.now c.recall.ensures file name c.args.text.now (report_of c.in_ok-report.report) c.in_ok-report.ensures.reads c.in_err-verdict.field-0.0 c.in_err-verdict.ensures.list)
+    rw (p.1, p.2) (checking_stopped c.args.net.now c.recall.ensures file name c.args.text.items (report_of c.in_ok-report.report) c.in_ok-report.ensures.reads c.in_err-verdict.field-0.0 c.in_err-verdict.ensures.list)
 
 pub returns : goal.returns
 returns c file name = (
-  verdict_given c.args.net.now c.recall.ensures file name c.args.text.now (report_of c.in_ok-report.report) c.in_ok-report.ensures.reads
+  verdict_given c.args.net.now c.recall.ensures file name c.args.text.items (report_of c.in_ok-report.report) c.in_ok-report.ensures.reads
       c.in_ok-verdict.verdict c.in_ok-verdict.ensures.list c.in_ok-verdict.ensures.rules c.in_ok-verdict.ensures.exact,
   tt,
 )

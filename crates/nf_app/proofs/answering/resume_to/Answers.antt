@@ -13,7 +13,7 @@ resume-requires c = c.in_ok-report.ensures.formed
 pub returns-in_err-report : goal.returns-in_err-report
 returns-in_err-report c file name =
     let p = err_from_is_err_and c.from_residual.result c.from_residual.ensures.1 in
-    rw (p.1, p.2) (old_refused c.args.net.now file name c.args.text.now c.args.horizon c.args.budgets.phases c.args.budgets.patterns c.recall.ensures c.in_err-report.field-0.0 c.in_err-report.ensures.reads)
+    rw (p.1, p.2) (old_refused c.args.net.now file name c.args.text.items c.args.horizon c.args.budgets.phases c.args.budgets.patterns c.recall.ensures c.in_err-report.field-0.0 c.in_err-report.ensures.reads)
 
 pub returns-in-Ok : goal.returns-in-Ok
 returns-in-Ok c file name =
@@ -22,8 +22,8 @@ returns-in-Ok c file name =
     let bounds = bounds_of c.args.horizon c.args.budgets in
     let old = report_of c.in_ok-report.report in
     let new = report_in c.args.horizon s in (
-      gone_on_given c.args.net.now file name c.args.text.now c.args.horizon c.args.budgets.phases c.args.budgets.patterns old
-          (a_report c.args.net.now c.recall.ensures c.args.text.now old c.in_ok-report.ensures.reads) new s.phases
+      gone_on_given c.args.net.now file name c.args.text.items c.args.horizon c.args.budgets.phases c.args.budgets.patterns old
+          (a_report c.args.net.now c.recall.ensures c.args.text.items old c.in_ok-report.ensures.reads) new s.phases
           e.not_earlier e.resumed e.formed e.equilibrium e.goes_on e.short e.ends
           (resumed_reads_back c.args.net.now c.recall.ensures bounds
           (record {
@@ -31,12 +31,12 @@ returns-in-Ok c file name =
             phases = omega arith;
             patterns = omega arith;
           })
-          old s.phases new c.args.text.now c.in_ok-report.ensures.reads e.formed e.resumed),
+          old s.phases new c.args.text.items c.in_ok-report.ensures.reads e.formed e.resumed),
       e.formed,
     )
 
 pub returns : goal.returns
 returns c file name =
     let old = report_of c.in_ok-report.report in
-    c.refuse_resume.ensures c.args.net.now file name c.args.text.now c.args.horizon c.args.budgets.phases c.args.budgets.patterns old
-    (a_report c.args.net.now c.recall.ensures c.args.text.now old c.in_ok-report.ensures.reads) c.in-Err.ensures.fault
+    c.refuse_resume.ensures c.args.net.now file name c.args.text.items c.args.horizon c.args.budgets.phases c.args.budgets.patterns old
+    (a_report c.args.net.now c.recall.ensures c.args.text.items old c.in_ok-report.ensures.reads) c.in-Err.ensures.fault
