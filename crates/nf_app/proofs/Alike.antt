@@ -1,6 +1,6 @@
 -- What of an answer is the same in every equilibrium: its flow is an equilibrium, and that of a network.
 use Rattle.std.proofs.Common.{◌≡◌, ℕ, List, inl, inr, refl, sym, ap, subst, ◌∙◌}
-use Rattle.std.specs.Prelude.{Option, Some, None, IfSome, Result, Ok}
+use Rattle.std.specs.Prelude.{Option, Some, None, IfSome, Ok}
 use Rattle.nf_rational.specs.Rational.{ℚ}
 use Rattle.nf_rational.specs.Operations.{0ℚ}
 use Rattle.nf_rational.specs.Order.{◌≤ℚ◌}
@@ -27,6 +27,7 @@ use Rattle.nf_app.specs.Arrivals.{arrival_of, ArrivesIn, IsArrival}
 use Rattle.nf_app.specs.Given.{IsGiven}
 use Rattle.nf_app.specs.Runs.{Run}
 use Rattle.nf_app.specs.Uniqueness.{SameForever, SameIfYes, SameArrival, IsSameInAll, AnswerIsSameInAll}
+use Rattle.nf_app.proofs.Results.{same_ok}
 
 -- ---- a run without a horizon
 each_some : {A : Type 0} (P Q : A → Type 0) (o : Option A) → ((x : A) → P x → Q x) → IfSome o P → IfSome o Q
@@ -42,9 +43,6 @@ same_forever net forever good equilibrium goes_on = (
 )
 
 -- ---- a report that is checked
-same_ok : {A E : Type 0} (r : Result A E) (x y : A) → r ≡ Ok x → r ≡ Ok y → x ≡ y
-same_ok r x y h k = cc
-
 same_if_yes : (n : Named) (text : List ℕ) (report : Report) (verdict : Verdict ℕ ℕ ℚ) → IsNetwork n.net → report_in n text ≡ Ok report → IsExact n.net report.flow verdict → SameIfYes n text verdict
 same_if_yes n text report Yes good reads exact = λ other is.
     subst (λ (r : Report). SameInAll n.net r.flow) (same_ok (report_in n text) report other reads is) (SameInAll-equilibrium n.net report.flow good exact)

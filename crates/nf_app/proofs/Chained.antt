@@ -1,6 +1,6 @@
 -- `check` says yes of what `solve` wrote, and `resume` of one such text writes another.
 use Rattle.std.proofs.Common.{◌≡◌, ◌⊎◌, ℕ, Bool, true, false, List, [], ◌∷◌, ◌++◌, refl, sym, ap, subst, ◌∙◌, inl, inr}
-use Rattle.std.specs.Prelude.{Some, IsOk, is_ok, Result, Ok, Err, codes}
+use Rattle.std.specs.Prelude.{Some, IsOk, is_ok, Result, Ok, codes}
 use Rattle.std.proofs.lemmas.Option.{same_Some}
 use Rattle.std.proofs.lemmas.List.{append_cancel_left}
 use Rattle.nf_rational.specs.Rational.{ℚ}
@@ -20,7 +20,7 @@ use Rattle.nf_check.specs.Answers.{IsExact}
 use Rattle.nf_report_def.specs.ReportFile.{report_in}
 use Rattle.nf_app_answers.specs.declared.status.Status.{Status}
 use Rattle.nf_app_answers.specs.Answers.{ProgramAnswer, Solved, SolvedForever, Shown, Loaded, Checked, Quickest, TooManyWalks, Generated, Settled, Distributed, NoMemory, NoRequest, ShelfFailed, ShelfTooLong, Malformed, MalformedLoads, MalformedFlows, MalformedRoutes, MalformedReport, Passes, Unbounded, NotThin, Earlier, status_of, status_of_stop, out_text}
-use Rattle.nf_app_files.specs.Files.{Visit, network_file}
+use Rattle.nf_app_files.specs.Files.{Visit, input_file}
 use Rattle.nf_app_files.specs.Fetching.{NetworkReads}
 use Rattle.nf_app_files.specs.Sinks.{TookAll}
 use Rattle.nf_app_files.specs.Shown.{IsShown, IsShownWhole}
@@ -29,7 +29,7 @@ use Rattle.nf_app.specs.Requests.{files_of, generated_by, budgets_of, bounds_to}
 use Rattle.nf_app.specs.Answered.{SolveAnswer}
 use Rattle.nf_app.specs.Given.{IsGiven}
 use Rattle.nf_app.specs.Runs.{Call, Run, IsRefusedCall, IsComputed, IsAnswer, Ran, NoFault, IsOneOf}
-use Rattle.nf_app.specs.Completeness.{ReachesHorizon, ToldRequest}
+use Rattle.nf_app.specs.Completeness.{ToldRequest}
 use Rattle.nf_app.specs.Resumption.{AsksToResumeRun}
 use Rattle.nf_app.specs.Chained.{WroteReport, ChecksSolved, SaysYes, ResumesSolved, ResumesSolvedText}
 use Rattle.nf_app.proofs.Fetched.{reads_told}
@@ -37,12 +37,7 @@ use Rattle.nf_app.proofs.ToldRequests.{Answers, told_answers}
 use Rattle.nf_app.proofs.Solving.{no_stop}
 use Rattle.nf_app.proofs.Resuming.{writes_report_of_one_run}
 use Rattle.nf_app.proofs.Only.{whole}
-
-same_ok : {A E : Type 0} (r : Result A E) (x y : A) → r ≡ Ok x → r ≡ Ok y → x ≡ y
-same_ok r x y h k = cc
-
-ok_err : {A E : Type 0} (r : Result A E) (x : A) (e : E) → r ≡ Ok x → r ≡ Err e → ⊥
-ok_err r x e h k = cc
+use Rattle.nf_app.proofs.Results.{same_ok, ok_err}
 
 is_ok_so : {A E : Type 0} (r : Result A E) (x : A) → r ≡ Ok x → IsOk r
 is_ok_so r x e = ap is_ok e
@@ -128,7 +123,7 @@ module _ (shelf : Visit) (file text : List ℕ) (s : WroteReport shelf file text
       same_Some computed.request (Solve file s.horizon s.phases s.patterns) (sym one ∙ other)
 
   reads : (bytes : List ℕ) → shelf.told file ≡ Some bytes → Reads bytes (Ok computed.net)
-  reads bytes told = reads_told s.run.call.shelf (network_file file) bytes (s.told ∙ told) [] (Ok computed.net)
+  reads bytes told = reads_told s.run.call.shelf (input_file file) bytes (s.told ∙ told) [] (Ok computed.net)
       (subst (λ (q : Request). NetworkReads s.run.call.shelf (generated_by q) (files_of q) (Ok computed.net)) asked computed.read.reads)
 
   solved : SolveAnswer computed.net bounds s.ran.answer

@@ -1,6 +1,6 @@
 -- How a run ends whose files are known, within their limits and well formed: the table of the commands.
-use Rattle.std.proofs.Common.{◌≡◌, ◌⊎◌, ℕ, List, [], ◌∷◌, refl, sym, ◌∙◌, ap, subst, inl, inr}
-use Rattle.std.specs.Prelude.{Option, Some, None, IsSome, IsOk, Result, Ok, Err}
+use Rattle.std.proofs.Common.{◌≡◌, ℕ, List, [], ◌∷◌, refl, sym, ◌∙◌, ap, subst, inl, inr}
+use Rattle.std.specs.Prelude.{Option, Some, None, IsSome, Ok, Err}
 use Rattle.nf_rational.specs.Rational.{ℚ}
 use Rattle.nf_rational.specs.Order.{◌≤ℚ◌}
 use Rattle.nf_rational_laws.proofs.Order.{not_both_ℚ}
@@ -10,7 +10,6 @@ use Rattle.nf_model.specs.Network.{IsNetwork}
 use Rattle.nf_model.specs.Equilibrium.{Equilibrium}
 use Rattle.nf_net_def.specs.declared.Cause.{Cause}
 use Rattle.nf_net_def.specs.Named.{Named}
-use Rattle.nf_net_def.specs.WellNamed.{IsNamed}
 use Rattle.nf_net_def.specs.Report.{Report}
 use Rattle.nf_thin_laws.proofs.OneRun.{one_report}
 use Rattle.nf_check_def.specs.declared.Answer.{Answer as Verdict}
@@ -35,16 +34,7 @@ use Rattle.nf_app.specs.Runs.{Run, Ran, NoFault, IsOneOf}
 use Rattle.nf_app.specs.Completeness.{ends_of, best_ends_of, SecondReads, IsUnhindered, ToldRequest, EndsWell, IsComplete}
 use Rattle.nf_app.proofs.Only.{whole}
 use Rattle.nf_app.proofs.ToldRequests.{Answers, told_answers}
-
-same_ok : {A E : Type 0} (r : Result A E) (x y : A) → r ≡ Ok x → r ≡ Ok y → x ≡ y
-same_ok r x y h k = cc
-
-ok_err : {A E : Type 0} (r : Result A E) (x : A) (e : E) → r ≡ Ok x → r ≡ Err e → ⊥
-ok_err r x e h k = cc
-
-ok_not_err : {A E : Type 0} (r : Result A E) (e : E) → IsOk r → r ≡ Err e → ⊥
-ok_not_err (Ok x) e h k = cc
-ok_not_err (Err d) e h k = cc
+use Rattle.nf_app.proofs.Results.{same_ok, ok_err, ok_not_err}
 
 -- ---- by the stop of a run, or the verdict
 abbrev RunEnds : List Status → List Status

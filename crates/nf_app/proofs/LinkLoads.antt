@@ -4,13 +4,11 @@ use Rattle.std.specs.Prelude.{Option, Some, None, Result, Ok, Err, slice_get, zi
 use Rattle.nf_frac_def.proofs.Each.{with_front}
 use Rattle.nf_model.specs.Network.{Link, Piece}
 use Rattle.nf_report_def.specs.LoadsFile.{pieces_at}
+use Rattle.nf_app.proofs.Results.{same_some}
 
 pub no_front : {B E : Type 0} (r : Result (List B) E) → with_front [] r ≡ r
 no_front (Ok ys) = refl
 no_front (Err p) = refl
-
-same_some : {A : Type 0} (o : Option A) (x y : A) → o ≡ Some x → o ≡ Some y → x ≡ y
-same_some o x y h k = cc
 
 some_none : {A : Type 0} (o : Option A) (x : A) → o ≡ Some x → o ≡ None → ⊥
 some_none o x h k = cc

@@ -1,6 +1,6 @@
 -- What a text is as a report, from what was read of it.
-use Rattle.std.proofs.Common.{◌≡◌, ◌≢◌, ℕ, List, sym, ap, ◌∙◌}
-use Rattle.std.specs.Prelude.{Result, Ok, Err}
+use Rattle.std.proofs.Common.{◌≡◌, ◌≢◌, ℕ, List, ap, ◌∙◌}
+use Rattle.std.specs.Prelude.{Ok, Err}
 use Rattle.nf_net_def.specs.Named.{Named}
 use Rattle.nf_net_def.specs.WellNamed.{IsNamed}
 use Rattle.nf_net_def.specs.Report.{Report, IsWellFormed, report_text}
@@ -10,9 +10,7 @@ use Rattle.nf_report_laws.proofs.ReportBack.{report_back}
 use Rattle.nf_report_laws.proofs.ReportFit.{fit}
 use Rattle.nf_report_laws.proofs.ReportKept.{report_kept}
 use Rattle.nf_app.specs.Reports.{IsReportText, IsNoReportText}
-
-ok_err : {A E : Type 0} (r : Result A E) (x : A) (e : E) → r ≡ Ok x → r ≡ Err e → ⊥
-ok_err r x e h k = cc
+use Rattle.nf_app.proofs.Results.{ok_err}
 
 module _ (n : Named) (named : IsNamed n) (text : List ℕ) where
   pub a_report : (report : Report) → report_in n text ≡ Ok report → IsReportText n text report

@@ -1,6 +1,6 @@
 -- What `resume` writes of the report of a run: the report of one run from the start.
-use Rattle.std.proofs.Common.{◌≡◌, ◌⊎◌, ℕ, List, refl, sym, ap, subst, ◌∙◌, inl, inr}
-use Rattle.std.specs.Prelude.{None, Result, Ok, Err}
+use Rattle.std.proofs.Common.{◌≡◌, ℕ, List, refl, sym, ap, subst, ◌∙◌, inl, inr}
+use Rattle.std.specs.Prelude.{None, Ok}
 use Rattle.nf_rational.specs.Rational.{ℚ}
 use Rattle.nf_frac_def.specs.Passing.{passes_Q}
 use Rattle.nf_model.specs.Network.{IsNetwork}
@@ -16,17 +16,15 @@ use Rattle.nf_app_words.specs.Requests.{Request, Solve, SolveForever, Show, Load
 use Rattle.nf_app_answers.specs.declared.status.Status.{Status}
 use Rattle.nf_app_answers.specs.Answers.{ProgramAnswer, Solved, Checked, Passes, Earlier, MalformedReport, status_of, out_text}
 use Rattle.nf_app_files.specs.Sinks.{TookAll}
-use Rattle.nf_app_files.specs.Shown.{IsShown, IsShownWhole}
+use Rattle.nf_app_files.specs.Shown.{IsShown}
 use Rattle.nf_app.specs.Requests.{bounds_to}
 use Rattle.nf_app.specs.Given.{IsGiven}
 use Rattle.nf_app.specs.Answered.{ResumeAnswer}
-use Rattle.nf_app.specs.Runs.{Call, Run, Ran}
+use Rattle.nf_app.specs.Runs.{Run, Ran}
 use Rattle.nf_app.specs.Resumption.{AsksToResumeRun, WritesReportOfOneRun, ReportIsOfOneRun, AnswerIsOfOneRun, ComputesReportOfOneRun}
 use Rattle.nf_app.proofs.ToldRequests.{Answers, told_answers}
 use Rattle.nf_app.proofs.Solving.{no_stop}
-
-same_ok : {A E : Type 0} (r : Result A E) (x y : A) → r ≡ Ok x → r ≡ Ok y → x ≡ y
-same_ok r x y h k = cc
+use Rattle.nf_app.proofs.Results.{same_ok}
 
 -- ---- the report that was read in this call
 module _ (n : Named) (text : List ℕ) (horizon : ℚ) (phases patterns : ℕ) (good : IsNetwork n.net) where

@@ -30,6 +30,7 @@ use Rattle.nf_complete.specs.declared.settled.Settled.{Settled}
 use Rattle.nf_complete.specs.Settling.{SettlesTo}
 use Rattle.nf_app.specs.Settling.{SlacksFit, TestFits, AreThin, PassesFirst, at_slack, at_test, at_settling, AreStartSets, SettlesAtStart}
 use Rattle.nf_app.proofs.Starting.{start_sets_good, start_source, start_rate}
+use Rattle.nf_app.proofs.Results.{same_err, ok_err}
 
 -- ---- what a test says
 pub some_of : (test : Bool) (P N : Type 0) → MatchBool test P N → test ≡ true → P
@@ -39,12 +40,6 @@ some_of false P N h e = let never : ⊥ = cc in absurd never
 pub none_of : (test : Bool) (P N : Type 0) → MatchBool test P N → test ≡ false → N
 none_of true P N h e = let never : ⊥ = cc in absurd never
 none_of false P N h e = h
-
-ok_err : {A E : Type 0} (r : Result A E) (x : A) (e : E) → r ≡ Ok x → r ≡ Err e → ⊥
-ok_err r x e h k = cc
-
-same_err : {A E : Type 0} (r : Result A E) (d e : E) → r ≡ Err d → r ≡ Err e → d ≡ e
-same_err r d e h k = cc
 
 -- an operation that passes in a part
 passed_in : {A : Type 0} (part : Part) (r : Result A (Passed ℚ)) (at : PassedAt ℚ) → at_part part r ≡ Err at → (p : Passed ℚ) × (r ≡ Err p) × (placed part p ≡ at)

@@ -6,7 +6,7 @@ use Rattle.std.proofs.lemmas.List.Elements.{All-cons, All-nil, All-head, All-tai
 use Rattle.nf_net_def.specs.Named.{Named}
 use Rattle.nf_net_def.specs.NetLines.{Broken}
 use Rattle.nf_net_def.specs.NetFile.{Reads}
-use Rattle.nf_app_files.specs.Files.{Wanted, Visit, network_file, loads_file, flows_file, routes_file, report_file}
+use Rattle.nf_app_files.specs.Files.{Wanted, Visit, input_file, report_file}
 use Rattle.nf_app_files.specs.Fetching.{IsLastText, NetworkReads}
 use Rattle.nf_app_words.specs.Requests.{Request, Solve, SolveForever, Show, Load, Check, Quick, Gen, Settle, Resume, Routes}
 use Rattle.nf_app_answers.specs.Answers.{ProgramAnswer}
@@ -70,16 +70,16 @@ module _ (shelf : Visit) where
   -- all files that a request wants
   pub all_held : (request : Request) (network second : List ℕ) → TellsText shelf.told (first_of request) network → TellsText shelf.told (other_of request) second → BothFit request network second
       → All (Holds shelf) (files_of request)
-  all_held (Solve file horizon phases patterns) a b p q fit = one (network_file file) a p fit.network_fits
-  all_held (SolveForever file phases patterns) a b p q fit = one (network_file file) a p fit.network_fits
-  all_held (Show file) a b p q fit = one (network_file file) a p fit.network_fits
-  all_held (Load file loads horizon) a b p q fit = two (network_file file) (loads_file loads) a b p q fit.network_fits fit.second_fits
-  all_held (Check file report) a b p q fit = two (network_file file) (report_file report) a b p q fit.network_fits fit.second_fits
-  all_held (Quick file amount augments) a b p q fit = one (network_file file) a p fit.network_fits
+  all_held (Solve file horizon phases patterns) a b p q fit = one (input_file file) a p fit.network_fits
+  all_held (SolveForever file phases patterns) a b p q fit = one (input_file file) a p fit.network_fits
+  all_held (Show file) a b p q fit = one (input_file file) a p fit.network_fits
+  all_held (Load file loads horizon) a b p q fit = two (input_file file) (input_file loads) a b p q fit.network_fits fit.second_fits
+  all_held (Check file report) a b p q fit = two (input_file file) (report_file report) a b p q fit.network_fits fit.second_fits
+  all_held (Quick file amount augments) a b p q fit = one (input_file file) a p fit.network_fits
   all_held (Gen number rungs horizon phases patterns) a b p q fit = All-nil (Holds shelf)
-  all_held (Settle file flows) a b p q fit = two (network_file file) (flows_file flows) a b p q fit.network_fits fit.second_fits
-  all_held (Resume file report horizon phases patterns) a b p q fit = two (network_file file) (report_file report) a b p q fit.network_fits fit.second_fits
-  all_held (Routes file routes horizon) a b p q fit = two (network_file file) (routes_file routes) a b p q fit.network_fits fit.second_fits
+  all_held (Settle file flows) a b p q fit = two (input_file file) (input_file flows) a b p q fit.network_fits fit.second_fits
+  all_held (Resume file report horizon phases patterns) a b p q fit = two (input_file file) (report_file report) a b p q fit.network_fits fit.second_fits
+  all_held (Routes file routes horizon) a b p q fit = two (input_file file) (input_file routes) a b p q fit.network_fits fit.second_fits
 
   -- the network is read from the known text
   pub network_so : (made : Option Named) (files : List Wanted) (text : List ℕ) (read : Result Named Broken) → TellsText shelf.told (slice_get files 0) text → NetworkReads shelf made files read → NetworkIs made text read

@@ -1,6 +1,6 @@
 -- Words have at most one answer with the known bytes of their files.
-use Rattle.std.proofs.Common.{◌≡◌, ℕ, ◌<◌, List, [], ◌∷◌, length, replicate, refl, sym, ap, subst, ◌∙◌, inl, inr, arith}
-use Rattle.std.specs.Prelude.{Option, Some, None, IfSome, IsOk, Result, Ok, Err, map}
+use Rattle.std.proofs.Common.{◌≡◌, ℕ, ◌<◌, List, length, replicate, refl, sym, ap, subst, ◌∙◌, inl, inr}
+use Rattle.std.specs.Prelude.{Option, Some, None, IfSome, Result, Ok, Err, map}
 use Rattle.std.proofs.lemmas.Option.{none-some}
 use Rattle.nf_rational.specs.Rational.{ℚ}
 use Rattle.nf_rational.specs.Operations.{0ℚ}
@@ -51,27 +51,12 @@ use Rattle.nf_app.specs.Arrivals.{arrival_of}
 use Rattle.nf_app.specs.Refused.{IsUnbounded}
 use Rattle.nf_app.specs.Settling.{AreSettled, AreNotThin, PassesFirst, at_slack, at_test, at_settling}
 use Rattle.nf_app.specs.Given.{IsGiven}
-use Rattle.nf_app.specs.Told.{Telling, TellsText, BothFit, NetworkIs, TextsGive, too_long, malformed, answered, WordsGive, IsToldAnswer}
+use Rattle.nf_app.specs.Told.{Telling, TellsText, NetworkIs, TextsGive, too_long, malformed, answered, WordsGive, IsToldAnswer}
 use Rattle.nf_app.proofs.Gives.{Arrives, DepartsGive, FlowGives, QuickGives, StartGives, SettleGives, RestGives, ResumeGives, Gives}
 use Rattle.nf_app.proofs.Texts.{given_there, network_there, fit_there}
 use Rattle.nf_app.proofs.ToldGiven.{given_so}
 use Rattle.nf_app.proofs.Starting.{start_sets_good}
-
-same_some : {A : Type 0} (o : Option A) (x y : A) → o ≡ Some x → o ≡ Some y → x ≡ y
-same_some o x y h k = cc
-
-same_ok : {A E : Type 0} (r : Result A E) (x y : A) → r ≡ Ok x → r ≡ Ok y → x ≡ y
-same_ok r x y h k = cc
-
-same_err : {A E : Type 0} (r : Result A E) (x y : E) → r ≡ Err x → r ≡ Err y → x ≡ y
-same_err r x y h k = cc
-
-ok_err : {A E : Type 0} (r : Result A E) (x : A) (e : E) → r ≡ Ok x → r ≡ Err e → ⊥
-ok_err r x e h k = cc
-
-fits_passes : {A E : Type 0} (r : Result A E) (e : E) → IsOk r → r ≡ Err e → ⊥
-fits_passes (Ok x) e h k = cc
-fits_passes (Err d) e h k = cc
+use Rattle.nf_app.proofs.Results.{same_some, same_ok, same_err, ok_err, ok_not_err}
 
 -- ---- the arrival beside a quickest flow
 one_arrival : (net : Network) (departs : Option ℚ) (arrival other : Arrival) → Arrives net departs arrival → Arrives net departs other → arrival ≡ other
@@ -121,27 +106,27 @@ module _ (net : Network) where
     one_settled r s h k = one_settling passes_Q net (sets_at net labels) given.slopes given.flows r s good h k
 
     settled_or_passes : (pattern : Pattern) (flows : List ℚ) (at : PassedAt ℚ) → AreSettled net labels given pattern flows → PassesFirst net labels given at → ⊥
-    settled_or_passes pattern flows _ s (at_slack p e) = fits_passes (slack_list passes_Q (hops net) labels) p s.slacks e
-    settled_or_passes pattern flows _ s (at_test p fit e) = fits_passes (thin_list passes_Q net (sets_at net labels) (rate_at net 0ℚ) given.flows given.slopes) p s.test e
+    settled_or_passes pattern flows _ s (at_slack p e) = ok_not_err (slack_list passes_Q (hops net) labels) p s.slacks e
+    settled_or_passes pattern flows _ s (at_test p fit e) = ok_not_err (thin_list passes_Q net (sets_at net labels) (rate_at net 0ℚ) given.flows given.slopes) p s.test e
     settled_or_passes pattern flows _ s (at_settling p slacks test thin k) = ok_err (Ok flows) flows p refl (one_settled (Ok flows) (Err p) s.computed k)
 
     not_thin_or_passes : (at : PassedAt ℚ) → AreNotThin net labels given → PassesFirst net labels given at → ⊥
-    not_thin_or_passes _ s (at_slack p e) = fits_passes (slack_list passes_Q (hops net) labels) p s.slacks e
-    not_thin_or_passes _ s (at_test p fit e) = fits_passes (thin_list passes_Q net (sets_at net labels) (rate_at net 0ℚ) given.flows given.slopes) p s.test e
+    not_thin_or_passes _ s (at_slack p e) = ok_not_err (slack_list passes_Q (hops net) labels) p s.slacks e
+    not_thin_or_passes _ s (at_test p fit e) = ok_not_err (thin_list passes_Q net (sets_at net labels) (rate_at net 0ℚ) given.flows given.slopes) p s.test e
     not_thin_or_passes _ s (at_settling p slacks test thin k) = s.not_thin thin
 
     one_passing : (at other : PassedAt ℚ) → PassesFirst net labels given at → PassesFirst net labels given other → at ≡ other
     one_passing _ _ (at_slack p e) (at_slack q f) = ap (λ (x : Passed ℚ). placed Slack x) (same_err (slack_list passes_Q (hops net) labels) p q e f)
-    one_passing _ _ (at_slack p e) (at_test q fit f) = absurd (fits_passes (slack_list passes_Q (hops net) labels) p fit e)
-    one_passing _ _ (at_slack p e) (at_settling q fit test thin k) = absurd (fits_passes (slack_list passes_Q (hops net) labels) p fit e)
-    one_passing _ _ (at_test p fit e) (at_slack q f) = absurd (fits_passes (slack_list passes_Q (hops net) labels) q fit f)
+    one_passing _ _ (at_slack p e) (at_test q fit f) = absurd (ok_not_err (slack_list passes_Q (hops net) labels) p fit e)
+    one_passing _ _ (at_slack p e) (at_settling q fit test thin k) = absurd (ok_not_err (slack_list passes_Q (hops net) labels) p fit e)
+    one_passing _ _ (at_test p fit e) (at_slack q f) = absurd (ok_not_err (slack_list passes_Q (hops net) labels) q fit f)
     one_passing _ _ (at_test p fit e) (at_test q fit' f) =
         ap (λ (x : Passed ℚ). placed Verdict x) (same_err (thin_list passes_Q net (sets_at net labels) (rate_at net 0ℚ) given.flows given.slopes) p q e f)
     one_passing _ _ (at_test p fit e) (at_settling q fit' test thin k) =
-        absurd (fits_passes (thin_list passes_Q net (sets_at net labels) (rate_at net 0ℚ) given.flows given.slopes) p test e)
-    one_passing _ _ (at_settling p fit test thin k) (at_slack q f) = absurd (fits_passes (slack_list passes_Q (hops net) labels) q fit f)
+        absurd (ok_not_err (thin_list passes_Q net (sets_at net labels) (rate_at net 0ℚ) given.flows given.slopes) p test e)
+    one_passing _ _ (at_settling p fit test thin k) (at_slack q f) = absurd (ok_not_err (slack_list passes_Q (hops net) labels) q fit f)
     one_passing _ _ (at_settling p fit test thin k) (at_test q fit' f) =
-        absurd (fits_passes (thin_list passes_Q net (sets_at net labels) (rate_at net 0ℚ) given.flows given.slopes) q test f)
+        absurd (ok_not_err (thin_list passes_Q net (sets_at net labels) (rate_at net 0ℚ) given.flows given.slopes) q test f)
     one_passing _ _ (at_settling p fit test thin k) (at_settling q fit' test' thin' l) = ap (λ (x : Passed ℚ). placed Verdict x) (same_err (Err p) p q refl (one_settled (Err p) (Err q) k l))
 
     module _ (are : AreStartLabels net labels) where

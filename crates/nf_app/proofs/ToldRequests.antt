@@ -1,5 +1,5 @@
 -- What a call answers whose files are known, within their limits and well formed: that of its command; or an allocation failed, or the shelf.
-use Rattle.std.proofs.Common.{◌≡◌, ◌⊎◌, ℕ, ◌<◌, List, [], ◌∷◌, length, refl, sym, subst, ◌∙◌, inl, inr, arith}
+use Rattle.std.proofs.Common.{◌≡◌, ◌⊎◌, ℕ, ◌<◌, List, length, refl, sym, subst, ◌∙◌, inl, inr, arith}
 use Rattle.std.specs.Prelude.{Option, Some, None, IfSome, Result, Ok, Err}
 use Rattle.std.specs.List.{All}
 use Rattle.std.proofs.lemmas.Option.{same_Some}
@@ -15,16 +15,10 @@ use Rattle.nf_app_words.specs.Requests.{Request, request_of}
 use Rattle.nf_app.specs.Requests.{files_of, other_of, generated_by, OtherIsText}
 use Rattle.nf_app.specs.Given.{IsGiven}
 use Rattle.nf_app.specs.Runs.{Call, Asks, Reached, Read, IsRefusedCall, IsComputed, IsAnswer}
-use Rattle.nf_app.specs.Told.{NetworkIs}
 use Rattle.nf_app.specs.Completeness.{ToldRequest}
 use Rattle.nf_app.proofs.Texts.{Holds, all_held, network_so, same_second, given_there, in_the_middle}
 use Rattle.nf_app.proofs.ToldOnce.{one_network}
-
-same_ok : {A E : Type 0} (r : Result A E) (x y : A) → r ≡ Ok x → r ≡ Ok y → x ≡ y
-same_ok r x y h k = cc
-
-ok_err : {A E : Type 0} (r : Result A E) (x : A) (e : E) → r ≡ Ok x → r ≡ Err e → ⊥
-ok_err r x e h k = cc
+use Rattle.nf_app.proofs.Results.{same_ok, ok_err}
 
 some_none : {A : Type 0} (o : Option A) (x : A) → o ≡ Some x → o ≡ None → ⊥
 some_none o x h k = cc

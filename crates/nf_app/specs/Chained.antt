@@ -9,7 +9,7 @@ use Rattle.nf_net_def.specs.Report.{Report}
 use Rattle.nf_thin_def.specs.PhaseRun.{IsRunReport}
 use Rattle.nf_resume_run_laws.specs.ResumedLaws.{RestFits}
 use Rattle.nf_app_answers.specs.declared.status.Status.{Status}
-use Rattle.nf_app_files.specs.Files.{Visit, network_limit, report_limit}
+use Rattle.nf_app_files.specs.Files.{Visit, input_limit, report_limit}
 use Rattle.nf_app_files.specs.Sinks.{TookAll}
 use Rattle.nf_app_words.specs.Requests.{Solve, Check, Resume}
 use Rattle.nf_app.specs.Requests.{bounds_to}
@@ -41,7 +41,7 @@ pub record ChecksSolved (call : Call) : Type 0 where
   pub file : List ℕ
   pub report_name : List ℕ
   pub asks : Asks call (Check file report_name)
-  pub network : Tells call.shelf file network_limit
+  pub network : Tells call.shelf file input_limit
   pub report : Tells call.shelf report_name report_limit
   pub solved : WroteReport call.shelf file report.text
 
@@ -61,7 +61,7 @@ pub record ResumesSolved (call : Call) : Type 0 where
   pub phases : ℕ
   pub patterns : ℕ
   pub asks : Asks call (Resume file report_name horizon phases patterns)
-  pub network : Tells call.shelf file network_limit
+  pub network : Tells call.shelf file input_limit
   pub report : Tells call.shelf report_name report_limit
   pub net : Named
   pub reads : Reads network.text (Ok net)

@@ -8,21 +8,21 @@ use Rattle.nf_phase.specs.declared.solution.Budgets.{Budgets}
 use Rattle.nf_phase.specs.Solution.{bounds_of}
 use Rattle.nf_app_words.specs.Numbers.{usual_phases, usual_patterns}
 use Rattle.nf_app_words.specs.Requests.{Request, Solve, SolveForever, Show, Load, Check, Quick, Gen, Settle, Resume, Routes}
-use Rattle.nf_app_files.specs.Files.{Wanted, Visit, network_file, loads_file, flows_file, routes_file, report_file}
+use Rattle.nf_app_files.specs.Files.{Wanted, Visit, input_file, report_file}
 use Rattle.nf_app_files.specs.Fetching.{IsLastText}
 
 -- the files that are wanted, in the order in which they are fetched; the first is the network's
 abbrev pub files_of : Request → List Wanted
-files_of (Solve file horizon phases patterns) = network_file file ∷ []
-files_of (SolveForever file phases patterns) = network_file file ∷ []
-files_of (Show file) = network_file file ∷ []
-files_of (Load file loads horizon) = network_file file ∷ loads_file loads ∷ []
-files_of (Check file report) = network_file file ∷ report_file report ∷ []
-files_of (Quick file amount augments) = network_file file ∷ []
+files_of (Solve file horizon phases patterns) = input_file file ∷ []
+files_of (SolveForever file phases patterns) = input_file file ∷ []
+files_of (Show file) = input_file file ∷ []
+files_of (Load file loads horizon) = input_file file ∷ input_file loads ∷ []
+files_of (Check file report) = input_file file ∷ report_file report ∷ []
+files_of (Quick file amount augments) = input_file file ∷ []
 files_of (Gen number rungs horizon phases patterns) = []
-files_of (Settle file flows) = network_file file ∷ flows_file flows ∷ []
-files_of (Resume file report horizon phases patterns) = network_file file ∷ report_file report ∷ []
-files_of (Routes file routes horizon) = network_file file ∷ routes_file routes ∷ []
+files_of (Settle file flows) = input_file file ∷ input_file flows ∷ []
+files_of (Resume file report horizon phases patterns) = input_file file ∷ report_file report ∷ []
+files_of (Routes file routes horizon) = input_file file ∷ input_file routes ∷ []
 
 -- the network's file, if one is wanted
 abbrev pub first_of : Request → Option Wanted

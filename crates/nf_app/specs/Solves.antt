@@ -10,7 +10,7 @@ use Rattle.nf_thin_def.specs.PhaseRun.{Bounds, IsRunReport}
 use Rattle.nf_report_run_laws.specs.ReadableLaws.{ReadsBack}
 use Rattle.nf_app_answers.specs.declared.status.Status.{Status}
 use Rattle.nf_app_answers.specs.Answers.{status_of_stop}
-use Rattle.nf_app_files.specs.Files.{network_limit}
+use Rattle.nf_app_files.specs.Files.{input_limit}
 use Rattle.nf_app_files.specs.Sinks.{TookAll}
 use Rattle.nf_app_words.specs.Requests.{Solve}
 use Rattle.nf_app.specs.Requests.{bounds_to}
@@ -25,7 +25,7 @@ pub record AsksToSolve (call : Call) : Type 0 where
   pub asks : Asks call (Solve file horizon phases patterns)
   pub text : List ℕ
   pub told : call.shelf.told file ≡ Some text
-  pub within : length text ≤ network_limit
+  pub within : length text ≤ input_limit
   pub net : Named
   pub reads : Reads text (Ok net)
 

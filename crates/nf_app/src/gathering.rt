@@ -2,7 +2,7 @@
 ghost use Rattle.std.specs.Prelude.{◌≡◌, ◌≤◌, ℕ, List, [], Some, IfOk, IfErr};
 ghost use Rattle.std.specs.Result.{result_map_both};
 ghost use Rattle.nf_app_answers.specs.declared.refusal.Refusal.TheVariants as Refusal;
-ghost use Rattle.nf_app_files.specs.Files.{visit, network_file};
+ghost use Rattle.nf_app_files.specs.Files.{visit, input_file};
 ghost use Rattle.nf_app_files.specs.Fetching.{AreRead};
 ghost use Rattle.nf_gen.specs.Ladder.{most_rungs, ladder};
 ghost use Rattle.nf_app_words.specs.Requests.{CanBeAsked, request_of};
@@ -18,14 +18,8 @@ use nf_gen::generated;
 use nf_net::Network;
 use std::alloc::Global;
 
-/// The most bytes that a loads file may have.
-const LONGEST_LOADS: u32 = 1_048_576;
-
-/// The most bytes that a flows file may have.
-const LONGEST_FLOWS: u32 = 1_048_576;
-
-/// The most bytes that a routes file may have.
-const LONGEST_ROUTES: u32 = 1_048_576;
+/// The most bytes that a loads, flows or routes file may have.
+const LONGEST_INPUT: u32 = 1_048_576;
 
 /// The most bytes that a report may have.
 const LONGEST_REPORT: u32 = 67_108_864;
@@ -36,7 +30,7 @@ fn fetch_one<S: Shelf>(
     shelf: &mut S,
     file: &str,
 ) -> Result<(Network, Vec<u8>), Refusal>
-    ensures read { AreRead (visit S.Shelf shelf.old shelf.new) (network_file file.now) []
+    ensures read { AreRead (visit S.Shelf shelf.old shelf.new) (input_file file.now) []
         (result_map_both (λ got. (got.0, [])) (λ refusal. refusal) result) }
     ensures same { (name : List ℕ) → S.told shelf.new name ≡ S.told shelf.old name }
     ensures never_falls { S.faults shelf.old ≤ S.faults shelf.new }
@@ -76,7 +70,7 @@ pub(crate) fn gather<S: Shelf>(
         Request::SolveForever { file, .. } => fetch_one(alloc, shelf, file),
         Request::Show { file } => fetch_one(alloc, shelf, file),
         Request::Load { file, loads, .. } => {
-            fetch_network_with(alloc, shelf, file, loads, LONGEST_LOADS)
+            fetch_network_with(alloc, shelf, file, loads, LONGEST_INPUT)
         }
         Request::Check { file, report } => {
             fetch_network_with(alloc, shelf, file, report, LONGEST_REPORT)
@@ -84,13 +78,13 @@ pub(crate) fn gather<S: Shelf>(
         Request::Quick { file, .. } => fetch_one(alloc, shelf, file),
         Request::Gen { number, rungs, .. } => make_ladder(alloc, *number, *rungs),
         Request::Settle { file, flows } => {
-            fetch_network_with(alloc, shelf, file, flows, LONGEST_FLOWS)
+            fetch_network_with(alloc, shelf, file, flows, LONGEST_INPUT)
         }
         Request::Resume { file, report, .. } => {
             fetch_network_with(alloc, shelf, file, report, LONGEST_REPORT)
         }
         Request::Routes { file, routes, .. } => {
-            fetch_network_with(alloc, shelf, file, routes, LONGEST_ROUTES)
+            fetch_network_with(alloc, shelf, file, routes, LONGEST_INPUT)
         }
     }
 }

@@ -13,6 +13,27 @@ use Rattle.nf_app_files.specs.Files.{Wanted, Visit, names_of, Fits, FetchedNone,
 use Rattle.nf_app_answers.specs.Refusals.{refusal_of_fetch}
 use Rattle.nf_app_files.specs.Fetching.{IsTextOf, IsLastText, AreMissing, AreFetched}
 
+-- ---- files that aren't all there
+-- what holds of each of the three reasons holds of every refusal that is one of them
+pub missing_cases : (shelf : Visit) (files : List Wanted) (P : Refusal → Type 0)
+    → (AreMissing shelf files Refusal.NoMemory → P Refusal.NoMemory)
+    → (AreMissing shelf files Refusal.ShelfFailed → P Refusal.ShelfFailed)
+    → (AreMissing shelf files Refusal.ShelfTooLong → P Refusal.ShelfTooLong)
+    → (refusal : Refusal) → AreMissing shelf files refusal → P refusal
+missing_cases shelf files P for_memory failed too_long Refusal.NoMemory h = for_memory h
+missing_cases shelf files P for_memory failed too_long Refusal.NoRequest h = absurd h
+missing_cases shelf files P for_memory failed too_long Refusal.ShelfFailed h = failed h
+missing_cases shelf files P for_memory failed too_long Refusal.ShelfTooLong h = too_long h
+missing_cases shelf files P for_memory failed too_long (Refusal.Malformed rule line) h = absurd h
+missing_cases shelf files P for_memory failed too_long (Refusal.MalformedLoads rule line) h = absurd h
+missing_cases shelf files P for_memory failed too_long (Refusal.MalformedFlows rule line) h = absurd h
+missing_cases shelf files P for_memory failed too_long (Refusal.MalformedRoutes rule line) h = absurd h
+missing_cases shelf files P for_memory failed too_long (Refusal.MalformedReport rule line) h = absurd h
+missing_cases shelf files P for_memory failed too_long (Refusal.Passes at) h = absurd h
+missing_cases shelf files P for_memory failed too_long Refusal.Unbounded h = absurd h
+missing_cases shelf files P for_memory failed too_long Refusal.NotThin h = absurd h
+missing_cases shelf files P for_memory failed too_long Refusal.Earlier h = absurd h
+
 -- ---- one file
 module _ (shelf : Visit) (file : Wanted) where
   abbrev IsAsked : Type 0
@@ -53,20 +74,12 @@ module _ (shelf : Visit) (file next : Wanted) where
   }
 
   pub first_missing : (refusal : Refusal) → AreMissing shelf (file ∷ []) refusal → AreMissing shelf (file ∷ next ∷ []) refusal
-  first_missing Refusal.NoMemory (inl none) = inl none
-  first_missing Refusal.NoMemory (inr h) = inr (h.0, still_reached h.0 h.1)
-  first_missing Refusal.NoRequest h = absurd h
-  first_missing Refusal.ShelfFailed h = (h.0, still_reached h.0 h.1, h.2)
-  first_missing Refusal.ShelfTooLong h = (h.0, still_reached h.0 h.1, h.2)
-  first_missing (Refusal.Malformed rule line) h = absurd h
-  first_missing (Refusal.MalformedLoads rule line) h = absurd h
-  first_missing (Refusal.MalformedFlows rule line) h = absurd h
-  first_missing (Refusal.MalformedRoutes rule line) h = absurd h
-  first_missing (Refusal.MalformedReport rule line) h = absurd h
-  first_missing (Refusal.Passes at) h = absurd h
-  first_missing Refusal.Unbounded h = absurd h
-  first_missing Refusal.NotThin h = absurd h
-  first_missing Refusal.Earlier h = absurd h
+  first_missing refusal h = missing_cases shelf (file ∷ []) (λ (r : Refusal). AreMissing shelf (file ∷ next ∷ []) r) for_memory
+      (λ k. (k.0, still_reached k.0 k.1, k.2)) (λ k. (k.0, still_reached k.0 k.1, k.2)) refusal h
+    where
+      for_memory : AreMissing shelf (file ∷ []) Refusal.NoMemory → AreMissing shelf (file ∷ next ∷ []) Refusal.NoMemory
+      for_memory (inl none) = inl none
+      for_memory (inr k) = inr (k.0, still_reached k.0 k.1)
 
 -- ---- a second file is fetched behind the first
 -- what a shelf did in two calls, of which the second begins where the first ends
@@ -123,26 +136,21 @@ module _ (one other : Visit) (f g : Wanted) (follows : Follows one other) (first
   }
 
   pub second_missing : (refusal : Refusal) → AreMissing other (g ∷ []) refusal → AreMissing both (f ∷ g ∷ []) refusal
-  second_missing Refusal.NoMemory (inl none) = inr (f, record { first = []; behind = g ∷ []; files_are = refl; asked = none ∙ follows.asked ∙ first.asked; fit = All-nil (Fits both) })
-  second_missing Refusal.NoMemory (inr h) = inr (h.0, reached_more h.0 h.1)
-  second_missing Refusal.NoRequest h = absurd h
-  second_missing Refusal.ShelfFailed h = (h.0, reached_more h.0 h.1, (h.2.0, rose h.2.1))
-  second_missing Refusal.ShelfTooLong h =
-      let there = subst (λ (o : Option (List ℕ)). IfSome o (λ text. Rose other.faults_before other.faults_now ⊎ (h.0.limit < length text))) (follows.told h.0.name) h.2.1 in
-      (h.0, reached_more h.0 h.1, (h.2.0, IfSome_then (one.told h.0.name) there (λ text longer. either longer)))
+  second_missing refusal h = missing_cases other (g ∷ []) (λ (r : Refusal). AreMissing both (f ∷ g ∷ []) r) for_memory
+      (λ k. (k.0, reached_more k.0 k.1, (k.2.0, rose k.2.1))) too_long refusal h
     where
+      for_memory : AreMissing other (g ∷ []) Refusal.NoMemory → AreMissing both (f ∷ g ∷ []) Refusal.NoMemory
+      for_memory (inl none) = inr (f, record { first = []; behind = g ∷ []; files_are = refl; asked = none ∙ follows.asked ∙ first.asked; fit = All-nil (Fits both) })
+      for_memory (inr k) = inr (k.0, reached_more k.0 k.1)
+
       either : {P : Type 0} → (Rose other.faults_before other.faults_now ⊎ P) → (Rose both.faults_before both.faults_now ⊎ P)
       either (inl r) = inl (rose r)
       either (inr p) = inr p
-  second_missing (Refusal.Malformed rule line) h = absurd h
-  second_missing (Refusal.MalformedLoads rule line) h = absurd h
-  second_missing (Refusal.MalformedFlows rule line) h = absurd h
-  second_missing (Refusal.MalformedRoutes rule line) h = absurd h
-  second_missing (Refusal.MalformedReport rule line) h = absurd h
-  second_missing (Refusal.Passes at) h = absurd h
-  second_missing Refusal.Unbounded h = absurd h
-  second_missing Refusal.NotThin h = absurd h
-  second_missing Refusal.Earlier h = absurd h
+
+      too_long : AreMissing other (g ∷ []) Refusal.ShelfTooLong → AreMissing both (f ∷ g ∷ []) Refusal.ShelfTooLong
+      too_long k =
+          let there = subst (λ (o : Option (List ℕ)). IfSome o (λ text. Rose other.faults_before other.faults_now ⊎ (k.0.limit < length text))) (follows.told k.0.name) k.2.1 in
+          (k.0, reached_more k.0 k.1, (k.2.0, IfSome_then (one.told k.0.name) there (λ text longer. either longer)))
 
   -- bytes of the first file are still such, and so are those of the last one
   text_of : (text : List ℕ) → IsTextOf one f text → IsTextOf both f text

@@ -12,6 +12,7 @@ use Rattle.nf_app_answers.specs.declared.refusal.Refusal.{Refusal}
 use Rattle.nf_app_answers.specs.Refusals.{refusal_of_net}
 use Rattle.nf_app_files.specs.Files.{Wanted, Visit, names_of, Fits, FetchedAll, FetchedTo}
 use Rattle.nf_app_files.specs.Fetching.{AreTexts, NetworkReads, AreMissing, AreFetched, AreRead}
+use Rattle.nf_app_files.proofs.Fetched.{missing_cases}
 
 -- ---- the last of files that were all fetched was reached
 record EndsIn (x : Wanted) (xs : List Wanted) : Type 0 where
@@ -70,16 +71,5 @@ module _ (shelf : Visit) (file : Wanted) (others : List Wanted) (text : List ℕ
 
 -- nothing was read, since a file is missing
 pub network_missing : (shelf : Visit) (file : Wanted) (others : List Wanted) (refusal : Refusal) → AreMissing shelf (file ∷ others) refusal → AreRead shelf file others (Err refusal)
-network_missing shelf file others Refusal.NoMemory h = h
-network_missing shelf file others Refusal.NoRequest h = h
-network_missing shelf file others Refusal.ShelfFailed h = h
-network_missing shelf file others Refusal.ShelfTooLong h = h
-network_missing shelf file others (Refusal.Malformed rule line) h = absurd h
-network_missing shelf file others (Refusal.MalformedLoads rule line) h = h
-network_missing shelf file others (Refusal.MalformedFlows rule line) h = h
-network_missing shelf file others (Refusal.MalformedRoutes rule line) h = h
-network_missing shelf file others (Refusal.MalformedReport rule line) h = h
-network_missing shelf file others (Refusal.Passes at) h = h
-network_missing shelf file others Refusal.Unbounded h = h
-network_missing shelf file others Refusal.NotThin h = h
-network_missing shelf file others Refusal.Earlier h = h
+network_missing shelf file others refusal h =
+    missing_cases shelf (file ∷ others) (λ (r : Refusal). AreRead shelf file others (Err r)) (λ k. k) (λ k. k) (λ k. k) refusal h

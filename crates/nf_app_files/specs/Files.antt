@@ -4,18 +4,9 @@ use Rattle.std.specs.List.{All, last_or}
 use Rattle.nf_edge.specs.declared.Shelf.{Ghosts}
 use Rattle.nf_edge.specs.Faults.{Rose}
 
--- the most bytes that a network file, a loads file, a flows file, a routes file and a report may have
-abbrev pub network_limit : ℕ
-network_limit = 1048576
-
-abbrev pub loads_limit : ℕ
-loads_limit = 1048576
-
-abbrev pub flows_limit : ℕ
-flows_limit = 1048576
-
-abbrev pub routes_limit : ℕ
-routes_limit = 1048576
+-- the most bytes that a file may have that isn't a report, and that a report may have
+abbrev pub input_limit : ℕ
+input_limit = 1048576
 
 abbrev pub report_limit : ℕ
 report_limit = 67108864
@@ -25,18 +16,9 @@ pub record Wanted : Type 0 where
   pub name : List ℕ
   pub limit : ℕ
 
--- a file of each kind
-abbrev pub network_file : List ℕ → Wanted
-network_file name = record { name = name; limit = network_limit }
-
-abbrev pub loads_file : List ℕ → Wanted
-loads_file name = record { name = name; limit = loads_limit }
-
-abbrev pub flows_file : List ℕ → Wanted
-flows_file name = record { name = name; limit = flows_limit }
-
-abbrev pub routes_file : List ℕ → Wanted
-routes_file name = record { name = name; limit = routes_limit }
+-- a file that isn't a report: a network, loads, flows or routes file; and a report
+abbrev pub input_file : List ℕ → Wanted
+input_file name = record { name = name; limit = input_limit }
 
 abbrev pub report_file : List ℕ → Wanted
 report_file name = record { name = name; limit = report_limit }

@@ -1,7 +1,7 @@
 // Fetching the files of a request, and parsing the first as a network.
 ghost use Rattle.std.specs.Prelude.{◌≡◌, ◌≤◌, ℕ, List, [], ◌∷◌, length, IfOk};
 ghost use Rattle.std.specs.Result.{result_map_both};
-ghost use Rattle.nf_app_files.specs.Files.{visit, network_limit, network_file};
+ghost use Rattle.nf_app_files.specs.Files.{visit, input_limit, input_file};
 ghost use Rattle.nf_app_files.specs.Fetching.{AreFetched, AreRead};
 
 use nf_app_answers::Refusal;
@@ -37,9 +37,9 @@ fn fetch_files<S: Shelf>(
     ensures same { (name : List ℕ) → S.told shelf.new name ≡ S.told shelf.old name }
     ensures never_falls { S.faults shelf.old ≤ S.faults shelf.new }
     ensures fetched { AreFetched (visit S.Shelf shelf.old shelf.new)
-        (network_file file.now ∷ record { name = other.now; limit = limit } ∷ [])
+        (input_file file.now ∷ record { name = other.now; limit = limit } ∷ [])
         (result_map_both (λ texts. texts.0.items ∷ texts.1.items ∷ []) (λ refusal. refusal) result) }
-    ensures first { IfOk result (λ texts. length texts.0.items ≤ network_limit) }
+    ensures first { IfOk result (λ texts. length texts.0.items ≤ input_limit) }
     ensures second { IfOk result (λ texts. length texts.1.items ≤ limit) }
 {
     let text = fetch_file(alloc, shelf, file, LONGEST_FILE)?;
@@ -54,7 +54,7 @@ fn fetch_files<S: Shelf>(
 pub fn fetch_network<S: Shelf>(alloc: Global, shelf: &mut S, file: &str) -> Result<Network, Refusal>
     ensures same { (name : List ℕ) → S.told shelf.new name ≡ S.told shelf.old name }
     ensures never_falls { S.faults shelf.old ≤ S.faults shelf.new }
-    ensures read { AreRead (visit S.Shelf shelf.old shelf.new) (network_file file.now) []
+    ensures read { AreRead (visit S.Shelf shelf.old shelf.new) (input_file file.now) []
         (result_map_both (λ net. (net, [])) (λ refusal. refusal) result) }
 {
     let text = fetch_file(alloc, shelf, file, LONGEST_FILE)?;
@@ -75,7 +75,7 @@ pub fn fetch_network_with<S: Shelf>(
 ) -> Result<(Network, Vec<u8>), Refusal>
     ensures same { (name : List ℕ) → S.told shelf.new name ≡ S.told shelf.old name }
     ensures never_falls { S.faults shelf.old ≤ S.faults shelf.new }
-    ensures read { AreRead (visit S.Shelf shelf.old shelf.new) (network_file file.now) (record { name = other.now; limit = limit } ∷ [])
+    ensures read { AreRead (visit S.Shelf shelf.old shelf.new) (input_file file.now) (record { name = other.now; limit = limit } ∷ [])
         (result_map_both (λ read. (read.0, read.1.items ∷ [])) (λ refusal. refusal) result) }
     ensures within { IfOk result (λ read. length read.1.items ≤ limit) }
 {
