@@ -155,3 +155,9 @@ gathered_written {E} {F} {old} {now} {end} {f} {g} {h} {u} {r} start page text b
 pub gathered_refused : {E F : Type 0} {old now : Option (List ℕ)} {f g : ℕ} {e : E} (start page text : List ℕ) (r : Result (Unit {0}) F) → start ≡ [] → IsErr r
     → Gathered old now f g start page text (Err e) → Wrote old now f g text r
 gathered_refused start page text r e fails w = wrote_front [] text r (append-nil (start ++ text) ∙ ap (λ (l : List ℕ). l ++ text) e) fails w.refused
+
+-- of several parts one was refused
+pub parts_refused : {E : Type 0} {old now : Option (List ℕ)} {f g : ℕ} (start page text : List ℕ) (r : Result (Unit {0}) E) → start ≡ [] → IsErr r
+    → Gathered old now f g start page text r → Wrote old now f g text r
+parts_refused start page text (Ok u) e fails w = cc
+parts_refused start page text (Err d) e fails w = gathered_refused start page text (Err d) e fails w

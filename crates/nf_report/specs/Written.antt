@@ -2,6 +2,7 @@
 use Rattle.std.specs.Prelude.{ℕ, List, [], ◌∷◌, flat_map, map, Option, Some, None, Result, codes, ◌++◌, length}
 use Rattle.nf_rational.specs.Rational.{ℚ}
 use Rattle.nf_model.specs.Equilibrium.{Flow}
+use Rattle.nf_model.specs.Pattern.{Pattern}
 use Rattle.nf_frac_words.specs.Digits.{digits_of}
 use Rattle.nf_frac_words.specs.Printed.{printed}
 use Rattle.nf_edge.specs.Taken.{Wrote}
@@ -10,7 +11,7 @@ use Rattle.nf_net_def.specs.Names.{Name}
 use Rattle.nf_net_def.specs.declared.Cause.{Cause}
 use Rattle.nf_net_def.specs.Causes.{cause_words}
 use Rattle.nf_net_def.specs.Named.{Named}
-use Rattle.nf_net_def.specs.Report.{for_each, label_lines, link_lines}
+use Rattle.nf_net_def.specs.Report.{for_each, label_lines, link_lines, state_lines}
 
 -- the words of a line
 abbrev pub Line : Type 0
@@ -52,3 +53,7 @@ never_lines names = map (λ name. codes "never" ∷ name ∷ []) names
 abbrev pub flow_lines : Named → Flow → List Line
 flow_lines n flow = for_each n.net.nodes (label_lines n flow) ++ never_lines n.idle_nodes
     ++ for_each (length n.net.links) (link_lines n flow)
+
+-- what comes after the head: the flow, the states of the links that have one, and the end
+abbrev pub body_lines : Named → Flow → Pattern → List Line
+body_lines n flow last = flow_lines n flow ++ for_each (length n.net.links) (state_lines n last) ++ (codes "end" ∷ []) ∷ []

@@ -4,12 +4,11 @@ ghost use Rattle.std.specs.Option.{option_copied};
 ghost use Rattle.nf_frac_words.specs.Digits.{digits_of};
 ghost use Rattle.nf_edge.specs.Taken.{Wrote};
 ghost use Rattle.nf_model.specs.Equilibrium.{HasShape};
-ghost use Rattle.nf_net_def.specs.Report.{IsWellFormed, report_lines, report_text};
 ghost use Rattle.nf_net_def.specs.Names.{name_at};
-ghost use Rattle.nf_net_def.specs.Report.{for_each, label_lines, link_lines, state_lines};
+ghost use Rattle.nf_net_def.specs.Report.{IsWellFormed, for_each, label_lines, link_lines, state_lines, report_text};
 ghost use Rattle.nf_report_def.specs.ReportFile.{report_in};
 ghost use Rattle.nf_curve.specs.Flows.{flow_of};
-ghost use Rattle.nf_report.specs.Written.{never_lines, flow_lines, head_lines};
+ghost use Rattle.nf_report.specs.Written.{never_lines, flow_lines, head_lines, body_lines};
 ghost use Rattle.nf_report.specs.Pages.{GatheredLines};
 
 use crate::causes::{put_cause, put_number, put_state};
@@ -207,23 +206,19 @@ fn put_head<O: Sink>(
     put_cause(out, page, stopped)
 }
 
-// Puts the whole report.
-fn put_report<O: Sink>(
+// Puts what comes after the head: the flow, the states of the links, and the end.
+fn put_body<O: Sink>(
     out: &mut O,
     page: &mut Page,
     net: &Network,
-    horizon: Q,
     flow: &Flow,
-    stopped: Option<&Stop>,
     last: &Pattern,
 ) -> Result<(), SinkFault>
-    requires { IsWellFormed net.now.net
-        (record { horizon = horizon; flow = flow_of flow.now; stop = option_copied stopped; last = last.now }) }
+    requires shape { HasShape net.now.net (flow_of flow.now) }
+    requires states { length last.now ≡ length net.now.net.links }
     ensures { GatheredLines (O.took out.old) (O.took out.new) (O.faults out.old) (O.faults out.new) page.old page.new
-        (report_lines net.now (record { horizon = horizon; flow = flow_of flow.now; stop = option_copied stopped.entry; last = last.now }))
-        result }
+        (body_lines net.now (flow_of flow.now) last.now) result }
 {
-    put_head(out, page, net, horizon, flow, stopped)?;
     put_flow(out, page, net, flow)?;
     put_states(out, page, net, last)?;
     put_line(out, page, b"end", &[])
@@ -254,6 +249,7 @@ pub fn write_report<O: Sink>(
     // Proof: all numbers and counts of the report can be read.
     written_reads_back(net, horizon, flow, stopped, last);
     let mut page = Page::new();
-    put_report(out, &mut page, net, horizon, flow, stopped, last)?;
+    put_head(out, &mut page, net, horizon, flow, stopped)?;
+    put_body(out, &mut page, net, flow, last)?;
     write_text(out, page.as_slice())
 }
