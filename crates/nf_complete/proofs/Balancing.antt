@@ -1,6 +1,6 @@
 -- Results of the sums at a node.
 use Rattle.std.proofs.Common.{◌≡◌, ℕ, suc, ◌+◌, List, [], ◌∷◌, Bool, true, false, ◌&&◌, if◌then◌else◌, eqb, sym, ap, subst, refl, ◌∙◌, arith}
-use Rattle.std.specs.Prelude.{slice_get, unwrap_or, Ok, Err, IsOk}
+use Rattle.std.specs.Prelude.{Result, slice_get, unwrap_or, Ok, Err, IsOk}
 use Rattle.std.specs.Bool.{Decides}
 use Rattle.std.specs.List.{enumerate_from}
 use Rattle.nf_rational.specs.Rational.{ℚ}
@@ -14,10 +14,13 @@ use Rattle.nf_frac_def.specs.declared.Part.TheVariants.{Verdict}
 use Rattle.nf_frac_def.specs.Checked.{Checked, fold_checked, at_part, ◌>>=◌}
 use Rattle.nf_frac_def.proofs.Binding.{bind_ok}
 use Rattle.nf_model.specs.Entries.{number_at}
-use Rattle.nf_model.specs.Network.{Link, Network, sum_in, sum_out}
+use Rattle.nf_model.specs.Network.{Link, Network, IsLink, sum_in, sum_out}
 use Rattle.nf_model.specs.ThinFlow.{Sets}
 use Rattle.nf_rational_laws.proofs.Results.{same_Ok}
 use Rattle.nf_complete_def.specs.ThinList.{Sums, sum_more, in_more, out_more, with_rate, sums_at}
+use Rattle.nf_complete.specs.NodeSums.{end_by, more_at}
+use Rattle.nf_complete.specs.declared.node_sums.End.{End}
+use Rattle.nf_complete.specs.declared.node_sums.End.TheVariants.{Head, Tail}
 use Rattle.nf_complete.specs.Testing.{Tells, same_test}
 use Rattle.nf_complete.specs.ThinParts.{active_flow, brought, taken_away, IsBalanced}
 use Rattle.nf_complete.proofs.Deciding.{says_by, Decides-same}
@@ -52,23 +55,20 @@ module _ (passes : Passing) (net : Network) (sets : Sets) (rate : ℚ) (flows : 
   later : (f : ℕ → ℚ) (k : ℕ) → ((e : ℕ) → f e ≡ carried (k + e)) → (e : ℕ) → f (suc e) ≡ carried ((k + 1) + e)
   later f k same e = same (suc e) ∙ ap carried (let z : k + suc e ≡ (k + 1) + e = omega arith in z)
 
-  in-is : (links : List Link) (v k : ℕ) (f : ℕ → ℚ) (start y : ℚ) → ((e : ℕ) → f e ≡ carried (k + e)) → fold_checked (in_more passes net sets rate flows v) start (enumerate_from k links) ≡ Ok y
-      → y ≡ start +ℚ sum_in links f v
-  in-is [] v k f start y same h = none_added start y (sym (same_Ok start y h))
-  in-is (link ∷ links) v k f start y same h =
-      let b = bind_ok (in_more passes net sets rate flows v start (k, link)) (λ next. fold_checked (in_more passes net sets rate flows v) next (enumerate_from (k + 1) links)) y h in
-      added (eqb link.head v) start (f 0) (sum_in links (λ e. f (suc e)) v) b.0 y
-      (more-is (unwrap_or (slice_get sets.active k) false) (eqb link.head v) start b.0 k b.1 ∙ ap (λ (x : ℚ). if eqb link.head v then start +ℚ x else start) (sym (first_of f k same)))
-      (in-is links v (k + 1) (λ e. f (suc e)) b.0 y (later f k same) b.2)
-
-  out-is : (links : List Link) (v k : ℕ) (f : ℕ → ℚ) (start y : ℚ) → ((e : ℕ) → f e ≡ carried (k + e)) → fold_checked (out_more passes net sets rate flows v) start (enumerate_from k links) ≡ Ok y
-      → y ≡ start +ℚ sum_out links f v
-  out-is [] v k f start y same h = none_added start y (sym (same_Ok start y h))
-  out-is (link ∷ links) v k f start y same h =
-      let b = bind_ok (out_more passes net sets rate flows v start (k, link)) (λ next. fold_checked (out_more passes net sets rate flows v) next (enumerate_from (k + 1) links)) y h in
-      added (eqb link.tail v) start (f 0) (sum_out links (λ e. f (suc e)) v) b.0 y
-      (more-is (unwrap_or (slice_get sets.active k) false) (eqb link.tail v) start b.0 k b.1 ∙ ap (λ (x : ℚ). if eqb link.tail v then start +ℚ x else start) (sym (first_of f k same)))
-      (out-is links v (k + 1) (λ e. f (suc e)) b.0 y (later f k same) b.2)
+  -- the sum over the links with one end at a node
+  module _ (v : ℕ) (end : Link → ℕ) (more : ℚ → ℕ × Link → Checked ℚ) (total : List Link → (ℕ → ℚ) → ℚ)
+      (more_by : (so_far : ℚ) (e : ℕ) (link : Link) → more so_far (e, link) ≡ sum_more passes net sets rate flows (unwrap_or (slice_get sets.active e) false && eqb (end link) v) so_far e)
+      (total_none : (f : ℕ → ℚ) → total [] f ≡ 0ℚ)
+      (total_more : (link : Link) (links : List Link) (f : ℕ → ℚ) → total (link ∷ links) f ≡ (if eqb (end link) v then f 0 +ℚ total links (λ e. f (suc e)) else total links (λ e. f (suc e)))) where
+    total-is : (links : List Link) (k : ℕ) (f : ℕ → ℚ) (start y : ℚ) → ((e : ℕ) → f e ≡ carried (k + e)) → fold_checked more start (enumerate_from k links) ≡ Ok y → y ≡ start +ℚ total links f
+    total-is [] k f start y same h = none_added start y (sym (same_Ok start y h)) ∙ ap (λ (x : ℚ). start +ℚ x) (sym (total_none f))
+    total-is (link ∷ links) k f start y same h =
+        let b = bind_ok (more start (k, link)) (λ next. fold_checked more next (enumerate_from (k + 1) links)) y h in
+        added (eqb (end link) v) start (f 0) (total links (λ e. f (suc e))) b.0 y
+        (more-is (unwrap_or (slice_get sets.active k) false) (eqb (end link) v) start b.0 k (sym (more_by start k link) ∙ b.1)
+        ∙ ap (λ (x : ℚ). if eqb (end link) v then start +ℚ x else start) (sym (first_of f k same)))
+        (total-is links (k + 1) (λ e. f (suc e)) b.0 y (later f k same) b.2)
+        ∙ ap (λ (x : ℚ). start +ℚ x) (sym (total_more link links f))
 
   from_zero : (y s : ℚ) → y ≡ 0ℚ +ℚ s → y ≡ s
   from_zero y s e = linear_eq (y ∷ s ∷ []) (eq e ∷ []) (search reading_of depth 12) tt tt
@@ -77,14 +77,21 @@ module _ (passes : Passing) (net : Network) (sets : Sets) (rate : ℚ) (flows : 
   at_zero e = ap carried (let z : e ≡ 0 + e = omega arith in z)
 
   comes-is : (v : ℕ) (y : ℚ) → fold_checked (in_more passes net sets rate flows v) 0ℚ (enumerate_from 0 net.links) ≡ Ok y → y ≡ sum_in net.links carried v
-  comes-is v y h = from_zero y (sum_in net.links carried v) (in-is net.links v 0 carried 0ℚ y at_zero h)
+  comes-is v y h = from_zero y (sum_in net.links carried v) (total-is v (λ l. l.head) (in_more passes net sets rate flows v) (λ links f. sum_in links f v) (λ so_far e link. refl) (λ f. refl) (λ link links f. refl) net.links 0 carried 0ℚ y at_zero h)
 
   goes-is : (v : ℕ) (y : ℚ) → fold_checked (out_more passes net sets rate flows v) 0ℚ (enumerate_from 0 net.links) ≡ Ok y → y ≡ sum_out net.links carried v
-  goes-is v y h = from_zero y (sum_out net.links carried v) (out-is net.links v 0 carried 0ℚ y at_zero h)
+  goes-is v y h = from_zero y (sum_out net.links carried v) (total-is v (λ l. l.tail) (out_more passes net sets rate flows v) (λ links f. sum_out links f v) (λ so_far e link. refl) (λ f. refl) (λ link links f. refl) net.links 0 carried 0ℚ y at_zero h)
 
   stays-is : (stays : Bool) (sum y : ℚ) → with_rate passes net sets rate flows stays sum ≡ Ok y → y ≡ (if stays then sum +ℚ rate else sum)
   stays-is true sum y h = operation-is passes Sum sum rate y h
   stays-is false sum y h = sym (same_Ok sum y h)
+
+  -- ---- a link more, by its end
+  pub more_told : (r : Result ℚ (PassedAt ℚ)) (end : End) (v : ℕ) (so_far : ℚ) (e : ℕ) (at : Bool)
+      → r ≡ at_part Verdict (sum_more passes net sets rate flows (unwrap_or (slice_get sets.active e) false && at) so_far e)
+      → ((here : Link) → IsLink net e here → at ≡ eqb (end_by end here) v) → (here : Link) → IsLink net e here → r ≡ at_part Verdict (more_at passes net sets rate flows end v so_far (e, here))
+  more_told r Head v so_far e at said is here p = said ∙ ap (λ (b : Bool). at_part Verdict (sum_more passes net sets rate flows (unwrap_or (slice_get sets.active e) false && b) so_far e)) (is here p)
+  more_told r Tail v so_far e at said is here p = said ∙ ap (λ (b : Bool). at_part Verdict (sum_more passes net sets rate flows (unwrap_or (slice_get sets.active e) false && b) so_far e)) (is here p)
 
   -- ---- the node
   module _ (v : ℕ) where

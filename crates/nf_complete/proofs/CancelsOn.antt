@@ -1,6 +1,6 @@
 -- Cycles of interior links are cancelled, one after the other.
 use Rattle.std.proofs.Common.{◌≡◌, ℕ, ◌<◌, List, Bool, sym, ap, subst, refl, ◌∙◌, arith}
-use Rattle.std.specs.Prelude.{◌↔◌, Option, Some, None, Result, Ok, Err, IfOk, MatchOption}
+use Rattle.std.specs.Prelude.{◌↔◌, length, Option, Some, None, Ok, Err, MatchOption}
 use Rattle.std.proofs.lemmas.Option.{MatchOption-at_some, MatchOption-at_none}
 use Rattle.nf_rational.specs.Rational.{ℚ}
 use Rattle.nf_rational.specs.Operations.{0ℚ}
@@ -64,14 +64,17 @@ module _ (net : Network) (sets : Sets) (slopes flows : List ℚ) (flags : List B
   pub known_of : (known : ℕ) → AreForestBelow net sets slopes flows known → IsForest (hops net) (λ e. (e < known) × Has flags e)
   known_of known f = forest-weaker (hops net) (λ e. (e < known) × IsInterior net sets slopes flows e) (λ e. (e < known) × Has flags e) (λ e w. (w.0, (are e).0 w.1)) f
 
-  abbrev ForestOrCloses : {X : Type 0} → (X → ℕ) → (X → List (ℕ × Bool)) → Option X → Type 0
-  ForestOrCloses last_of steps_of found = MatchOption found (IsForest (hops net) (IsInterior net sets slopes flows)) (λ x. ClosesNext net sets slopes flows (last_of x) (steps_of x))
+-- the flags of interior links
+module _ (passes : Passing) (net : Network) (sets : Sets) (slopes : List ℚ) (fulls : List (Option ℚ)) (fulls_ok : fulls_list passes net sets slopes ≡ Ok fulls)
+    (flows : List ℚ) (count : length flows ≡ length net.links) where
+  pub interior_known : (known : ℕ) → AreForestBelow net sets slopes flows known → IsForest (hops net) (λ e. (e < known) × Has (interior_flags sets fulls flows) e)
+  interior_known known f = known_of net sets slopes flows (interior_flags sets fulls flows) (flags_are passes net sets slopes fulls fulls_ok flows count) known f
 
-  pub found_of : {X E : Type 0} (last_of : X → ℕ) (steps_of : X → List (ℕ × Bool)) (result : Result (Option X) E)
-      → IfOk result (λ found. MatchOption found (IsForest (hops net) (Has flags)) (λ x. Closes (hops net) flags (last_of x) (steps_of x))) → IfOk result (ForestOrCloses last_of steps_of)
-  found_of last_of steps_of (Ok (Some x)) h = closes_of (last_of x) (steps_of x) h
-  found_of last_of steps_of (Ok None) h = forest_of h
-  found_of last_of steps_of (Err e) h = tt
+  pub interior_found : {X : Type 0} (last_of : X → ℕ) (steps_of : X → List (ℕ × Bool)) (found : Option X)
+      → MatchOption found (IsForest (hops net) (Has (interior_flags sets fulls flows))) (λ x. Closes (hops net) (interior_flags sets fulls flows) (last_of x) (steps_of x))
+      → MatchOption found (IsForest (hops net) (IsInterior net sets slopes flows)) (λ x. ClosesNext net sets slopes flows (last_of x) (steps_of x))
+  interior_found last_of steps_of (Some x) h = closes_of net sets slopes flows (interior_flags sets fulls flows) (flags_are passes net sets slopes fulls fulls_ok flows count) (last_of x) (steps_of x) h
+  interior_found last_of steps_of None h = forest_of net sets slopes flows (interior_flags sets fulls flows) (flags_are passes net sets slopes fulls fulls_ok flows count) h
 
 -- ---- an operation that passes, as an answer
 pub passed_of : {A : Type 0} (list : Checked A) (p : PassedAt ℚ) → at_part Verdict list ≡ Err p → (q : Passed ℚ) × (list ≡ Err q) × (p ≡ placed Verdict q)

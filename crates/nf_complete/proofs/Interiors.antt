@@ -49,8 +49,11 @@ module _ (sets : Sets) (fulls : List (Option ℚ)) (flows : List ℚ) where
   test_at e b h same = slice_get-image (interior_test sets fulls flows) (range_with_len 0 (length flows)) e (0 + e) (range_at 0 (length flows) e h)
       ∙ ap (λ (k : ℕ). Some (interior_test sets fulls flows k)) (let z : 0 + e ≡ e = omega arith in z) ∙ ap (λ (t : Bool). Some t) (sym same)
 
+  pub flags_by_flows : length (interior_flags sets fulls flows) ≡ length flows
+  flags_by_flows = length-map-range_with_len (interior_test sets fulls flows) 0 (length flows)
+
   pub flags_whole : (e : ℕ) (items : List Bool) → length flows ≤ e → items ≡ take e (interior_flags sets fulls flows) → items ≡ interior_flags sets fulls flows
-  flags_whole e items h so = so ∙ take_all e (interior_flags sets fulls flows) (let c = length-map-range_with_len (interior_test sets fulls flows) 0 (length flows) in omega arith)
+  flags_whole e items h so = so ∙ take_all e (interior_flags sets fulls flows) (let c = flags_by_flows in omega arith)
 
 -- ---- how many flags are set
 abbrev pub set_count : List Bool → ℕ
@@ -111,7 +114,7 @@ module _ (passes : Passing) (net : Network) (sets : Sets) (slopes : List ℚ) (f
   flags = interior_flags sets fulls flows
 
   pub flags_count : length flags ≡ length net.links
-  flags_count = length-map-range_with_len (interior_test sets fulls flows) 0 (length flows) ∙ flow_count
+  flags_count = flags_by_flows sets fulls flows ∙ flow_count
 
   flag_at : (e : ℕ) → e < length flows → slice_get flags e ≡ Some (interior_test sets fulls flows e)
   flag_at e h = test_at sets fulls flows e (interior_test sets fulls flows e) h refl

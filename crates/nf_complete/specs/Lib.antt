@@ -5,5 +5,6 @@ pub mod Settling
 pub mod NextCycles
 pub mod Testing
 pub mod ThinParts
+pub mod NodeSums
 pub mod States
 pub mod FitSets

@@ -1,5 +1,5 @@
 // Flow conservation at the nodes.
-ghost use Rattle.std.specs.Prelude.{◌≡◌, ◌<◌, ◌&&◌, ℕ, List, length, if◌then◌else◌};
+ghost use Rattle.std.specs.Prelude.{◌≡◌, ◌<◌, ◌&&◌, ◌==◌, ℕ, List, length, if◌then◌else◌};
 ghost use Rattle.std.specs.List.{enumerate_from, range_with_len};
 ghost use Rattle.nf_rational.specs.Rational.{ℚ};
 ghost use Rattle.nf_rational.specs.Operations.{0ℚ};
@@ -8,7 +8,8 @@ ghost use Rattle.nf_frac_def.specs.Passing.{passes_Q};
 ghost use Rattle.nf_frac_def.specs.Checked.{at_part, each, fold_checked};
 ghost use Rattle.nf_model.specs.Network.{Network as SeenNetwork, Link as SeenLink, IsLink};
 ghost use Rattle.nf_model.specs.ThinFlow.{Sets};
-ghost use Rattle.nf_complete_def.specs.ThinList.{is_active, sum_more, in_more, out_more, with_rate as with_rate_by, sums_at};
+ghost use Rattle.nf_complete_def.specs.ThinList.{is_active, sum_more, with_rate as with_rate_by, sums_at};
+ghost use Rattle.nf_complete.specs.NodeSums.{end_by, more_at};
 ghost use Rattle.nf_complete.specs.Testing.{Tells};
 ghost use Rattle.nf_complete.specs.ThinParts.{IsBalanced};
 
@@ -38,69 +39,42 @@ fn with_flow(
     }
 }
 
-// Adds the flow of a link to a node's inflow so far, if the link is active and enters the node.
-fn come_more(
-    net: &Network,
-    sets: &LinkSets,
-    flows: &[Q],
-    node: NodeId,
-    link: LinkId,
-    so_far: Q,
-) -> Result<Q, PassedAt<Q>>
-    requires link { link < length net.now.net.links }
-    requires sets { length sets.now.active ≡ length net.now.net.links }
-    requires flows { length flows.now ≡ length net.now.net.links }
-    ensures { (rate : ℚ) (here : SeenLink) → IsLink net.now.net link here
-        → result ≡ at_part Verdict (in_more passes_Q net.now.net sets.now rate flows.now node so_far (link, here)) }
-{
-    let here = net.link(link);
-    with_flow(sets, flows, link, here.head == node, so_far)
+// An end of a link.
+#[derive(Clone, Copy)]
+enum End {
+    Head,
+    Tail,
 }
 
-// Adds the flow of a link to a node's outflow so far, if the link is active and leaves the node.
-fn go_more(
-    net: &Network,
-    sets: &LinkSets,
-    flows: &[Q],
-    node: NodeId,
-    link: LinkId,
-    so_far: Q,
-) -> Result<Q, PassedAt<Q>>
-    requires link { link < length net.now.net.links }
-    requires sets { length sets.now.active ≡ length net.now.net.links }
-    requires flows { length flows.now ≡ length net.now.net.links }
-    ensures { (rate : ℚ) (here : SeenLink) → IsLink net.now.net link here
-        → result ≡ at_part Verdict (out_more passes_Q net.now.net sets.now rate flows.now node so_far (link, here)) }
+// Returns whether the node is at this end of the link.
+fn is_at(net: &Network, link: LinkId, end: End, node: NodeId) -> bool
+    requires { link < length net.now.net.links }
+    ensures { (here : SeenLink) → IsLink net.now.net link here → result ≡ (end_by end here == node) }
 {
     let here = net.link(link);
-    with_flow(sets, flows, link, here.tail == node, so_far)
-}
-
-// Returns the sum of the flows of the active links into a node.
-fn come(net: &Network, sets: &LinkSets, flows: &[Q], node: NodeId) -> Result<Q, PassedAt<Q>>
-    requires sets { length sets.now.active ≡ length net.now.net.links }
-    requires flows { length flows.now ≡ length net.now.net.links }
-    ensures { (rate : ℚ) → result ≡ at_part Verdict
-        (fold_checked (in_more passes_Q net.now.net sets.now rate flows.now node) 0ℚ (enumerate_from 0 net.now.net.links)) }
-{
-    let mut so_far = Q::zero();
-    for e in 0..net.link_count() {
-        let next = come_more(net, sets, flows, node, LinkId(e), so_far)?;
-        so_far = next;
+    match end {
+        End::Head => here.head == node,
+        End::Tail => here.tail == node,
     }
-    Ok(so_far)
 }
 
-// Returns the sum of the flows of the active links out of a node.
-fn go(net: &Network, sets: &LinkSets, flows: &[Q], node: NodeId) -> Result<Q, PassedAt<Q>>
+// Returns the sum of the flows of the active links with this end at the node.
+fn flow_at(
+    net: &Network,
+    sets: &LinkSets,
+    flows: &[Q],
+    end: End,
+    node: NodeId,
+) -> Result<Q, PassedAt<Q>>
     requires sets { length sets.now.active ≡ length net.now.net.links }
     requires flows { length flows.now ≡ length net.now.net.links }
     ensures { (rate : ℚ) → result ≡ at_part Verdict
-        (fold_checked (out_more passes_Q net.now.net sets.now rate flows.now node) 0ℚ (enumerate_from 0 net.now.net.links)) }
+        (fold_checked (more_at passes_Q net.now.net sets.now rate flows.now end node) 0ℚ (enumerate_from 0 net.now.net.links)) }
 {
     let mut so_far = Q::zero();
     for e in 0..net.link_count() {
-        let next = go_more(net, sets, flows, node, LinkId(e), so_far)?;
+        let at_node = is_at(net, LinkId(e), end, node);
+        let next = with_flow(sets, flows, LinkId(e), at_node, so_far)?;
         so_far = next;
     }
     Ok(so_far)
@@ -139,8 +113,8 @@ fn balances_at(
     ensures { Tells (IsBalanced net.now.net sets.now rate flows.now node)
         (sums_at passes_Q net.now.net sets.now rate flows.now node) result }
 {
-    let by_links = come(net, sets, flows, node)?;
-    let sent = go(net, sets, flows, node)?;
+    let by_links = flow_at(net, sets, flows, End::Head, node)?;
+    let sent = flow_at(net, sets, flows, End::Tail, node)?;
     let all = with_rate(node == net.sink(), sent, rate)?;
     let brought = brought(node == net.source(), rate, by_links);
     Ok(brought.is_same(all))

@@ -4,16 +4,17 @@ ghost use Rattle.nf_rational.specs.Rational.{ℚ};
 ghost use Rattle.nf_rational.specs.Operations.{0ℚ};
 ghost use Rattle.nf_rational.specs.Order.{◌≤ℚ◌};
 ghost use Rattle.nf_frac_def.specs.Passing.{passes_Q};
+ghost use Rattle.nf_model.specs.Entries.{Has};
 ghost use Rattle.nf_model.specs.Network.{hops as hops_of};
 ghost use Rattle.nf_model.specs.ThinFlow.{IsThinFlow};
 ghost use Rattle.nf_model.specs.Pattern.{IsForest, IsListedIn, IsSolution};
-ghost use Rattle.nf_complete_def.specs.Interior.{IsInterior};
 ghost use Rattle.nf_complete_def.specs.Cancelling.{fulls_list, Cancels};
 ghost use Rattle.nf_complete_def.specs.SettledPattern.{IsSettledPattern};
 ghost use Rattle.nf_complete_laws.specs.SettleLaws.{AreGoodSets};
 ghost use Rattle.nf_complete.specs.FitSets.{AreFitSets};
 ghost use Rattle.nf_complete.specs.Settling.{ComesTo, SettlesTo};
-ghost use Rattle.nf_complete.specs.NextCycles.{AreForestBelow, ClosesNext};
+ghost use Rattle.nf_complete.specs.Cycles.{Closes};
+ghost use Rattle.nf_complete.specs.InteriorFlags.{interior_flags};
 
 use crate::cancelling::cancel;
 use crate::cycle::{Cycle, first_cycle};
@@ -33,19 +34,15 @@ fn next_cycle(
     sets: &LinkSets,
     fulls: &[Option<Q>],
     flows: &[Q],
-    slopes: &[Q],
     known: usize,
 ) -> Result<Option<Cycle>, AllocError>
     requires sets { length sets.now.active ≡ length net.now.net.links }
+    requires fulls { length fulls.now ≡ length net.now.net.links }
     requires flows { length flows.now ≡ length net.now.net.links }
-    requires fulls { fulls_list passes_Q net.now.net sets.now slopes.now ≡ Ok fulls.now }
-    requires known { AreForestBelow net.now.net sets.now slopes.now flows.now known }
-    ensures { IfOk result
-        (λ found. MatchOption found (IsForest (hops_of net.now.net) (IsInterior net.now.net sets.now slopes.now flows.now))
-        (λ cycle. ClosesNext net.now.net sets.now slopes.now flows.now cycle.last cycle.steps.items)) }
+    requires known { IsForest (hops_of net.now.net) (λ e. (e < known) × Has (interior_flags sets.now fulls.now flows.now) e) }
+    ensures { IfOk result (λ found. MatchOption found (IsForest (hops_of net.now.net) (Has (interior_flags sets.now fulls.now flows.now)))
+        (λ cycle. Closes (hops_of net.now.net) (interior_flags sets.now fulls.now flows.now) cycle.last cycle.steps.items)) }
 {
-    // Proof: the slopes determine the flows that fill the links.
-    let _ = slopes;
     let interior = interior(alloc, sets, fulls, flows, net.link_count())?;
     first_cycle(alloc, net.node_count(), net.hops(), &interior, known)
 }
@@ -64,11 +61,12 @@ fn cancelled(
     requires fulls { fulls_list passes_Q net.now.net sets.now slopes.now ≡ Ok fulls.now }
     ensures { ComesTo (Cancels passes_Q net.now.net sets.now slopes.now fulls.now flows.now) (λ new. new.items) result }
 {
-    // Proof: there are fewer than 2^32 links.
+    // Proof: there are fewer than 2^32 links, and the slopes determine the flows that fill them.
     let _ = net.link_count();
+    let _ = slopes;
     let mut new = flows.to_vec(alloc)?;
     let mut known = 0;
-    while let Some(cycle) = next_cycle(alloc, net, sets, fulls, &new, slopes, known)? {
+    while let Some(cycle) = next_cycle(alloc, net, sets, fulls, &new, known)? {
         known = cycle.last;
         new = cancel(alloc, &cycle.steps, fulls, &new)?;
     }

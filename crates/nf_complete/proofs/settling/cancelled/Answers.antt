@@ -9,7 +9,7 @@ use Rattle.nf_complete_def.specs.Interior.{IsNextCycle}
 use Rattle.nf_complete.specs.NextCycles.{AreForestBelow, ClosesNext}
 use Rattle.nf_complete.proofs.Filling.{fulls_count}
 use Rattle.nf_complete.proofs.Telling.{value_of}
-use Rattle.nf_complete.proofs.CancelsOn.{closes_at, none_at, known_first, known_on, list_at, halts_of, cancels_first, cancels_more, cancels_end, cancels_stop, fewer_interior}
+use Rattle.nf_complete.proofs.CancelsOn.{interior_found, interior_known, closes_at, none_at, known_first, known_on, list_at, halts_of, cancels_first, cancels_more, cancels_end, cancels_stop, fewer_interior}
 use Rattle.nf_complete.proofs.settling.cancelled.Goals as goal
 
 pub loop-new-init : goal.loop-new-init
@@ -26,10 +26,12 @@ pub next_cycle-requires-clause-flows : goal.next_cycle-requires-clause-flows
 next_cycle-requires-clause-flows c = ap length c.deref.ensures.value ∙ c.loop-new.invariant.1.thin.flow_count
 
 pub next_cycle-requires-clause-known : goal.next_cycle-requires-clause-known
-next_cycle-requires-clause-known c = subst (λ (f : List ℚ). AreForestBelow c.args.net.now.net c.args.sets.now c.args.slopes.now f c.loop-new.known) (sym c.deref.ensures.value) c.loop-new.invariant.2
+next_cycle-requires-clause-known c = interior_known passes_Q c.args.net.now.net c.args.sets.now c.args.slopes.now c.args.fulls.now c.requires.fulls c.deref.result.now
+    (ap length c.deref.ensures.value ∙ c.loop-new.invariant.1.thin.flow_count) c.loop-new.known
+    (subst (λ (f : List ℚ). AreForestBelow c.args.net.now.net c.args.sets.now c.args.slopes.now f c.loop-new.known) (sym c.deref.ensures.value) c.loop-new.invariant.2)
 
 pub next_cycle-requires-clause-fulls : goal.next_cycle-requires-clause-fulls
-next_cycle-requires-clause-fulls c = c.requires.fulls
+next_cycle-requires-clause-fulls c = fulls_count passes_Q c.args.net.now.net c.args.sets.now c.args.slopes.now c.args.fulls.now c.requires.fulls
 
 pub cancel-requires-clause-count : goal.cancel-requires-clause-count
 cancel-requires-clause-count c = fulls_count passes_Q c.args.net.now.net c.args.sets.now c.args.slopes.now c.args.fulls.now c.requires.fulls
@@ -43,7 +45,7 @@ cancel-requires-clause-fewer c =
 pub returns-in_err-new-2 : goal.returns-in_err-new-2
 returns-in_err-new-2 c =
     let next : IsNextCycle c.args.net.now.net c.args.sets.now c.args.slopes.now c.loop-new.new.items c.in-Some.cycle.steps.items =
-    (closes_at (λ cycle. cycle.last) (λ cycle. cycle.steps.items) c.args.net.now.net c.args.sets.now c.args.slopes.now c.deref.result.now c.loop-new.new.items c.in_ok-cycle.field-0 c.in-Some.cycle c.deref.ensures.value c.in-Some.is c.in_ok-cycle.ensures).is_next in
+    (closes_at (λ cycle. cycle.last) (λ cycle. cycle.steps.items) c.args.net.now.net c.args.sets.now c.args.slopes.now c.deref.result.now c.loop-new.new.items c.in_ok-cycle.field-0 c.in-Some.cycle c.deref.ensures.value c.in-Some.is (interior_found passes_Q c.args.net.now.net c.args.sets.now c.args.slopes.now c.args.fulls.now c.requires.fulls c.deref.result.now (ap length c.deref.ensures.value ∙ c.loop-new.invariant.1.thin.flow_count) (λ cycle. cycle.last) (λ cycle. cycle.steps.items) c.in_ok-cycle.field-0 c.in_ok-cycle.ensures)).is_next in
     let p = err_from_is_err_and c.from_residual-in_err-new-2.result c.from_residual-in_err-new-2.ensures.1 in
     rw (p.1, p.2) (halts_of (Cancels passes_Q c.args.net.now.net c.args.sets.now c.args.slopes.now c.args.fulls.now c.args.flows.now) (λ (v : Vec ℚ Global). v.items)
     (cancel_list passes_Q c.deref-in-Some.result.now c.args.fulls.now c.deref-in-Some-2.result.now) c.in_err-new-2.field-0.0
@@ -54,12 +56,12 @@ returns-in_err-new-2 c =
 pub loop-new-preserved : goal.loop-new-preserved
 loop-new-preserved c =
     let next : IsNextCycle c.args.net.now.net c.args.sets.now c.args.slopes.now c.loop-new.new.items c.in-Some.cycle.steps.items =
-    (closes_at (λ cycle. cycle.last) (λ cycle. cycle.steps.items) c.args.net.now.net c.args.sets.now c.args.slopes.now c.deref.result.now c.loop-new.new.items c.in_ok-cycle.field-0 c.in-Some.cycle c.deref.ensures.value c.in-Some.is c.in_ok-cycle.ensures).is_next in
+    (closes_at (λ cycle. cycle.last) (λ cycle. cycle.steps.items) c.args.net.now.net c.args.sets.now c.args.slopes.now c.deref.result.now c.loop-new.new.items c.in_ok-cycle.field-0 c.in-Some.cycle c.deref.ensures.value c.in-Some.is (interior_found passes_Q c.args.net.now.net c.args.sets.now c.args.slopes.now c.args.fulls.now c.requires.fulls c.deref.result.now (ap length c.deref.ensures.value ∙ c.loop-new.invariant.1.thin.flow_count) (λ cycle. cycle.last) (λ cycle. cycle.steps.items) c.in_ok-cycle.field-0 c.in_ok-cycle.ensures)).is_next in
     let worked : cancel_list passes_Q c.in-Some.cycle.steps.items c.args.fulls.now c.loop-new.new.items ≡ Ok c.in_ok-new-2.new.items =
     sym (list_at passes_Q c.args.fulls.now c.deref-in-Some.result.now c.in-Some.cycle.steps.items c.deref-in-Some-2.result.now c.loop-new.new.items c.deref-in-Some.ensures.value c.deref-in-Some-2.ensures.value)
     ∙ value_of (cancel_list passes_Q c.deref-in-Some.result.now c.args.fulls.now c.deref-in-Some-2.result.now) c.in_ok-new-2.new.items (sym c.in_ok-new-2.ensures) in
     let closes : ClosesNext c.args.net.now.net c.args.sets.now c.args.slopes.now c.loop-new.new.items c.in-Some.cycle.last c.in-Some.cycle.steps.items =
-    closes_at (λ cycle. cycle.last) (λ cycle. cycle.steps.items) c.args.net.now.net c.args.sets.now c.args.slopes.now c.deref.result.now c.loop-new.new.items c.in_ok-cycle.field-0 c.in-Some.cycle c.deref.ensures.value c.in-Some.is c.in_ok-cycle.ensures in (
+    closes_at (λ cycle. cycle.last) (λ cycle. cycle.steps.items) c.args.net.now.net c.args.sets.now c.args.slopes.now c.deref.result.now c.loop-new.new.items c.in_ok-cycle.field-0 c.in-Some.cycle c.deref.ensures.value c.in-Some.is (interior_found passes_Q c.args.net.now.net c.args.sets.now c.args.slopes.now c.args.fulls.now c.requires.fulls c.deref.result.now (ap length c.deref.ensures.value ∙ c.loop-new.invariant.1.thin.flow_count) (λ cycle. cycle.last) (λ cycle. cycle.steps.items) c.in_ok-cycle.field-0 c.in_ok-cycle.ensures) in (
       c.loop-new.invariant.0,
       cancels_more passes_Q c.args.net.now.net c.args.sets.now c.loop-new.invariant.0 c.args.slopes.now c.args.fulls.now c.args.flows.now c.loop-new.new.items c.loop-new.invariant.1 c.in-Some.cycle.steps.items next c.requires.sets c.requires.fulls c.in_ok-new-2.new.items worked,
       known_on passes_Q c.args.net.now.net c.args.sets.now c.loop-new.invariant.0 c.args.slopes.now c.args.fulls.now c.args.flows.now c.loop-new.new.items c.loop-new.invariant.1 c.in-Some.cycle.steps.items next c.requires.sets c.requires.fulls c.in_ok-new-2.new.items worked c.in-Some.cycle.last closes.before,
@@ -68,7 +70,7 @@ loop-new-preserved c =
 pub loop-new-smaller : goal.loop-new-smaller
 loop-new-smaller c =
     let next : IsNextCycle c.args.net.now.net c.args.sets.now c.args.slopes.now c.loop-new.new.items c.in-Some.cycle.steps.items =
-    (closes_at (λ cycle. cycle.last) (λ cycle. cycle.steps.items) c.args.net.now.net c.args.sets.now c.args.slopes.now c.deref.result.now c.loop-new.new.items c.in_ok-cycle.field-0 c.in-Some.cycle c.deref.ensures.value c.in-Some.is c.in_ok-cycle.ensures).is_next in
+    (closes_at (λ cycle. cycle.last) (λ cycle. cycle.steps.items) c.args.net.now.net c.args.sets.now c.args.slopes.now c.deref.result.now c.loop-new.new.items c.in_ok-cycle.field-0 c.in-Some.cycle c.deref.ensures.value c.in-Some.is (interior_found passes_Q c.args.net.now.net c.args.sets.now c.args.slopes.now c.args.fulls.now c.requires.fulls c.deref.result.now (ap length c.deref.ensures.value ∙ c.loop-new.invariant.1.thin.flow_count) (λ cycle. cycle.last) (λ cycle. cycle.steps.items) c.in_ok-cycle.field-0 c.in_ok-cycle.ensures)).is_next in
     let worked : cancel_list passes_Q c.in-Some.cycle.steps.items c.args.fulls.now c.loop-new.new.items ≡ Ok c.in_ok-new-2.new.items =
     sym (list_at passes_Q c.args.fulls.now c.deref-in-Some.result.now c.in-Some.cycle.steps.items c.deref-in-Some-2.result.now c.loop-new.new.items c.deref-in-Some.ensures.value c.deref-in-Some-2.ensures.value)
     ∙ value_of (cancel_list passes_Q c.deref-in-Some.result.now c.args.fulls.now c.deref-in-Some-2.result.now) c.in_ok-new-2.new.items (sym c.in_ok-new-2.ensures) in
@@ -76,4 +78,4 @@ loop-new-smaller c =
 
 pub returns : goal.returns
 returns c = cancels_end passes_Q c.args.net.now.net c.args.sets.now c.loop-new.invariant.0 c.args.slopes.now c.args.fulls.now c.args.flows.now c.loop-new.new.items c.loop-new.invariant.1
-    (none_at (λ cycle. cycle.last) (λ cycle. cycle.steps.items) c.args.net.now.net c.args.sets.now c.args.slopes.now c.deref.result.now c.loop-new.new.items c.in_ok-cycle.field-0 c.deref.ensures.value c.in_default.is c.in_ok-cycle.ensures)
+    (none_at (λ cycle. cycle.last) (λ cycle. cycle.steps.items) c.args.net.now.net c.args.sets.now c.args.slopes.now c.deref.result.now c.loop-new.new.items c.in_ok-cycle.field-0 c.deref.ensures.value c.in_default.is (interior_found passes_Q c.args.net.now.net c.args.sets.now c.args.slopes.now c.args.fulls.now c.requires.fulls c.deref.result.now (ap length c.deref.ensures.value ∙ c.loop-new.invariant.1.thin.flow_count) (λ cycle. cycle.last) (λ cycle. cycle.steps.items) c.in_ok-cycle.field-0 c.in_ok-cycle.ensures))

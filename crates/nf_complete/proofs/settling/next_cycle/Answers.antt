@@ -1,27 +1,23 @@
 use Rattle.std.proofs.Common.{◌<◌, List, Bool, length, sym, ap, subst, ◌∙◌}
 use Rattle.std.specs.Prelude.{IfOk, MatchOption}
-use Rattle.nf_frac_def.specs.Passing.{passes_Q}
 use Rattle.nf_model.specs.Entries.{Has}
 use Rattle.nf_model.specs.Walk.{Hop}
 use Rattle.nf_model.specs.Network.{hops}
 use Rattle.nf_model.specs.Pattern.{IsForest}
 use Rattle.nf_complete.specs.Cycles.{Closes}
-use Rattle.nf_complete.specs.InteriorFlags.{interior_flags}
-use Rattle.nf_complete.proofs.Filling.{fulls_count}
 use Rattle.nf_complete.proofs.Hops.{hops_count, hops_below, few_hops}
-use Rattle.nf_complete.proofs.Interiors.{flags_count, flags_are}
-use Rattle.nf_complete.proofs.CancelsOn.{found_of, known_of}
+use Rattle.nf_complete.proofs.Interiors.{flags_by_flows}
 use Rattle.nf_complete.proofs.settling.next_cycle.Goals as goal
 
 pub interior-requires-clause-fulls : goal.interior-requires-clause-fulls
-interior-requires-clause-fulls c = fulls_count passes_Q c.args.net.now.net c.args.sets.now c.args.slopes.now c.args.fulls.now c.requires.fulls ∙ sym c.link_count.ensures
+interior-requires-clause-fulls c = c.requires.fulls ∙ sym c.link_count.ensures
 
 pub first_cycle-requires-clause-ends : goal.first_cycle-requires-clause-ends
 first_cycle-requires-clause-ends c = rw (c.node_count.ensures, c.hops.ensures.value) (hops_below c.args.net.now.net c.hops.ensures.named.network)
 
 pub first_cycle-requires-clause-count : goal.first_cycle-requires-clause-count
 first_cycle-requires-clause-count c =
-    ap length (c.deref.ensures.value ∙ c.in_ok-interior.ensures) ∙ flags_count passes_Q c.args.net.now.net c.args.sets.now c.args.slopes.now c.args.fulls.now c.requires.fulls c.args.flows.now c.requires.flows
+    ap length (c.deref.ensures.value ∙ c.in_ok-interior.ensures) ∙ flags_by_flows c.args.sets.now c.args.fulls.now c.args.flows.now ∙ c.requires.flows
     ∙ sym (ap length c.hops.ensures.value ∙ hops_count c.args.net.now.net)
 
 pub first_cycle-requires-clause-fewer : goal.first_cycle-requires-clause-fewer
@@ -29,15 +25,11 @@ first_cycle-requires-clause-fewer c = rw (c.hops.ensures.value) (few_hops c.args
 
 pub first_cycle-requires-clause-known : goal.first_cycle-requires-clause-known
 first_cycle-requires-clause-known c =
-    let f : IsForest (hops c.args.net.now.net) (λ e. (e < c.args.known) × Has (interior_flags c.args.sets.now c.args.fulls.now c.args.flows.now) e) =
-    known_of c.args.net.now.net c.args.sets.now c.args.slopes.now c.args.flows.now (interior_flags c.args.sets.now c.args.fulls.now c.args.flows.now)
-    (flags_are passes_Q c.args.net.now.net c.args.sets.now c.args.slopes.now c.args.fulls.now c.requires.fulls c.args.flows.now c.requires.flows) c.args.known c.requires.known in
     subst (λ (h : List Hop). IsForest h (λ e. (e < c.args.known) × Has c.deref.result.now e)) (sym c.hops.ensures.value)
-    (subst (λ (f : List Bool). IsForest (hops c.args.net.now.net) (λ e. (e < c.args.known) × Has f e)) (sym (c.deref.ensures.value ∙ c.in_ok-interior.ensures)) f)
+    (subst (λ (f : List Bool). IsForest (hops c.args.net.now.net) (λ e. (e < c.args.known) × Has f e)) (sym (c.deref.ensures.value ∙ c.in_ok-interior.ensures)) c.requires.known)
 
 pub returns : goal.returns
-returns c = found_of c.args.net.now.net c.args.sets.now c.args.slopes.now c.args.flows.now (interior_flags c.args.sets.now c.args.fulls.now c.args.flows.now)
-    (flags_are passes_Q c.args.net.now.net c.args.sets.now c.args.slopes.now c.args.fulls.now c.requires.fulls c.args.flows.now c.requires.flows) (λ cycle. cycle.last) (λ cycle. cycle.steps.items) c.first_cycle.result
-    (subst (λ (f : List Bool). IfOk c.first_cycle.result (λ found. MatchOption found (IsForest (hops c.args.net.now.net) (Has f)) (λ cycle. Closes (hops c.args.net.now.net) f cycle.last cycle.steps.items)))
+returns c =
+    subst (λ (f : List Bool). IfOk c.first_cycle.result (λ found. MatchOption found (IsForest (hops c.args.net.now.net) (Has f)) (λ cycle. Closes (hops c.args.net.now.net) f cycle.last cycle.steps.items)))
     (c.deref.ensures.value ∙ c.in_ok-interior.ensures)
-    (subst (λ (h : List Hop). IfOk c.first_cycle.result (λ found. MatchOption found (IsForest h (Has c.deref.result.now)) (λ cycle. Closes h c.deref.result.now cycle.last cycle.steps.items))) c.hops.ensures.value c.first_cycle.ensures))
+    (subst (λ (h : List Hop). IfOk c.first_cycle.result (λ found. MatchOption found (IsForest h (Has c.deref.result.now)) (λ cycle. Closes h c.deref.result.now cycle.last cycle.steps.items))) c.hops.ensures.value c.first_cycle.ensures)
