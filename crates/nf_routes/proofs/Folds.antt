@@ -11,7 +11,7 @@ use Rattle.nf_frac_def.proofs.Each.{with_front}
 use Rattle.nf_model.specs.Curve.{Point}
 use Rattle.nf_routes_def.specs.Routes.{Route}
 use Rattle.nf_routes_def.specs.RoutesList.{begins_with, goes_over, last_entry, begin_if, begin_all, add_if, sum_from, next_if, next_all}
-use Rattle.nf_curve.proofs.Exits.{after_err, was_ok, front_err, stops_on}
+use Rattle.nf_curve.proofs.Exits.{after_err, was_ok, front_none, front_err, stops_on}
 use Rattle.nf_curve.proofs.Shortening.{drop-at}
 use Rattle.nf_routes.specs.Standing.{Along}
 
@@ -64,6 +64,9 @@ pub record Steps (f : Route → Sent → Checked Sent) (routes : List Route) (ol
   pub count : length now ≡ length old
 
 module _ (f : Route → Sent → Checked Sent) (routes : List Route) (old : List Sent) where
+  pub steps_first : Steps f routes old old 0
+  steps_first = record { same = front_none (step_all f routes old); rest = refl; count = refl }
+
   module _ (now : List Sent) (i : ℕ) (so_far : Steps f routes old now i) where
     -- at the end all are made
     pub steps_last : length routes ≤ i → length old ≤ i → at_part Load (step_all f routes old) ≡ Ok now

@@ -10,5 +10,7 @@ pub mod All
 pub mod Alone
 pub mod Carries
 pub mod Travelling
+pub mod Knowing
+pub mod Repeating
 pub mod Whole
 mod Passed

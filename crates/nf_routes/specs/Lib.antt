@@ -1,4 +1,5 @@
 pub mod Amounts
+pub mod Points
 pub mod Codes
 pub mod Beginning
 pub mod Standing

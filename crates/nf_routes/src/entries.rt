@@ -10,11 +10,13 @@ ghost use Rattle.nf_routes_def.specs.RoutesList as lists;
 ghost use Rattle.nf_routes_def.specs.RoutesFile.{routes_of};
 ghost use Rattle.nf_routes.specs.Amounts.{AreExits};
 ghost use Rattle.nf_routes.specs.Beginning.{first_entry as first_by, HavePieces};
+ghost use Rattle.nf_routes.specs.Points.{AreKnown};
 ghost use Rattle.nf_routes.specs.Standing.{Along, Sends};
 
 use crate::next::next_entry;
+use crate::points::copied_points;
 use crate::stages::Stages;
-use nf_curve::Curve;
+use nf_curve::{Curve, Point};
 use nf_frac::{Halt, Part, Q};
 use nf_load::cumulative;
 use nf_net::{LinkId, Piece};
@@ -131,21 +133,24 @@ fn send_on(
     route: &Route,
     link: LinkId,
     exit: &Curve,
+    known: &mut Vec<Point>,
     sent: &mut Stages,
 ) -> Result<(), Halt<Q>>
     requires exits { AreExits exit.now.points }
+    requires known { AreKnown exit.now.points known.old.items }
     requires sends { Sends link route.now.route sent.old }
-    ensures { Gives (λ _. sent.new) (λ q. q) result
+    ensures list { Gives (λ _. sent.new) (λ q. q) result
         (at_part Load (lists.next_if passes_Q (lists.goes_over route.now.route.links link) exit.now.points sent.old)) }
+    ensures known { AreKnown exit.now.points known.new.items }
 {
     if goes_over(route.links(), link) {
-        let next = next_entry(alloc, exit, sent.last())?;
+        let next = next_entry(alloc, exit, known, sent.last())?;
         sent.push(next)?;
     }
     Ok(())
 }
 
-/// Sends the amounts of all routes over the link on through it.
+/// Sends the amounts of all routes over the link on through it. Exits at times that routes share are computed once.
 pub(crate) fn send_all_on(
     alloc: Global,
     routes: &[Route],
@@ -158,8 +163,9 @@ pub(crate) fn send_all_on(
     ensures { Gives (λ _. entries.new) (λ q. q) result
         (at_part Load (lists.next_all passes_Q link exit.now.points (routes_of routes.now) entries.old)) }
 {
+    let mut known = copied_points(alloc, exit.as_points())?;
     for i in 0..routes.len() {
-        send_on(alloc, &routes[i], link, exit, &mut entries[i])?;
+        send_on(alloc, &routes[i], link, exit, &mut known, &mut entries[i])?;
     }
     Ok(())
 }

@@ -8,6 +8,7 @@ mod ends;
 mod entries;
 mod loading;
 mod next;
+mod points;
 mod routed;
 mod so_far;
 mod stages;

@@ -20,8 +20,8 @@ next_entry-requires-clause-amount c =
 pub next_entry-requires-clause-exits : goal.next_entry-requires-clause-exits
 next_entry-requires-clause-exits c = c.requires.exits
 
-pub returns-in_err-next : goal.returns-in_err-next
-returns-in_err-next c =
+pub returns-in_err-next-clause-list : goal.returns-in_err-next-clause-list
+returns-in_err-next-clause-list c =
     let p = err_from_is_err_and c.from_residual.result c.from_residual.ensures.1 in
     let yes : goes_over c.args.route.now.route.links c.args.link ≡ true = ap (λ (l : List ℕ). goes_over l c.args.link) (sym c.links.ensures) ∙ sym c.goes_over.ensures ∙ c.if-goes_over.true in
     rw (p.1, p.2) (stops_on c.in_err-next.field-0.0 (at_part Load (next_entry passes_Q c.args.exit.now.points c.last.result.now.points))
