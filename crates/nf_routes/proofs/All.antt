@@ -1,22 +1,26 @@
 -- The loading of all links, one after the other, as the list has it.
 use Rattle.std.proofs.Common.{◌≡◌, ℕ, zero, suc, ◌+◌, ◌≤◌, List, [], ◌∷◌, ◌++◌, length, take, drop, sym, ap, subst, ◌∙◌, arith}
-use Rattle.std.specs.Prelude.{Option, Some, Ok, slice_get}
+use Rattle.std.specs.Prelude.{Option, Some, Ok, Err, slice_get}
 use Rattle.std.proofs.lemmas.List.{drop_all, take_all, take-append-drop}
 use Rattle.nf_rational.specs.Rational.{ℚ}
 use Rattle.nf_rational.specs.Operations.{0ℚ}
 use Rattle.nf_rational.specs.Order.{◌≤ℚ◌}
 use Rattle.nf_frac_def.specs.declared.Halt.{Halt}
 use Rattle.nf_frac_def.specs.declared.Part.TheVariants.{Load}
+use Rattle.nf_frac_def.specs.declared.PassedAt.{PassedAt}
 use Rattle.nf_frac_def.specs.Passing.{Passing}
 use Rattle.nf_frac_def.specs.Checked.{Checked, Stops, at_part, ◌>>=◌}
 use Rattle.nf_model.specs.Network.{Link, Network, IsLink, IsNetwork}
-use Rattle.nf_curve.proofs.Exits.{after_err, was_ok, stops_on}
+use Rattle.nf_curve.proofs.Exits.{after_err, was_ok, stops_on, err_before, ok_before}
 use Rattle.nf_routes_def.specs.Routes.{Route, AreRoutes, HoldCircle, all_pairs, loading_order}
-use Rattle.nf_routes_def.specs.RoutesList.{SoFar, load_here, load_all}
+use Rattle.nf_routes_def.specs.RoutesList.{SoFar, load_here}
 use Rattle.nf_routes_laws.proofs.Ordering.{takes_all-straight}
 use Rattle.nf_routes_read.proofs.Taking.{IsPlaced, order_placed}
 use Rattle.nf_routes.specs.Beginning.{nothing_loaded, nothing_sent, all_loaded}
 use Rattle.nf_routes.specs.Standing.{MayLoad, IsComplete}
+use Rattle.nf_routes.specs.Keeping.{kept_after, load_kept, all_kept}
+use Rattle.nf_routes.specs.declared.keeping.Kept.{Kept}
+use Rattle.nf_routes.proofs.Alone.{stands_kept, all_kept-is}
 use Rattle.nf_routes.proofs.Folds.{drop_at}
 use Rattle.nf_routes.proofs.Stands.{Stands, stands_first, may_load, steps_of, stands_next, stands_last, all_taken}
 
@@ -50,35 +54,52 @@ module _ (net : Network) (routes : List Route) (order : List ℕ) (is_order : or
       (subst (λ (l : List ℕ). Stands net routes l so_far) (take_all i order h) stands)
 
 -- ---- the loading of the links
-pub record Loads (passes : Passing) (net : Network) (routes : List Route) (horizon : ℚ) (order : List ℕ) (so_far : SoFar) (i : ℕ) : Type 0 where
-  pub same : load_all passes net routes horizon (drop i order) so_far ≡ all_loaded passes net routes horizon
+pub record Loads (passes : Passing) (kept : Kept) (net : Network) (routes : List Route) (horizon : ℚ) (order : List ℕ) (so_far : SoFar) (i : ℕ) : Type 0 where
+  pub same : load_kept passes kept net routes horizon (drop i order) so_far ≡ all_kept passes kept net routes horizon
   pub stands : Stands net routes (take i order) so_far
 
-module _ (passes : Passing) (net : Network) (routes : List Route) (horizon : ℚ) (order : List ℕ) (is_order : order ≡ loading_order (length net.links) routes) where
-  pub loads_first : (are : AreRoutes net routes) (so_far : SoFar) → so_far.links ≡ nothing_loaded net.links → so_far.entries ≡ nothing_sent routes → Loads passes net routes horizon order so_far 0
+module _ (passes : Passing) (kept : Kept) (net : Network) (routes : List Route) (horizon : ℚ) (order : List ℕ) (is_order : order ≡ loading_order (length net.links) routes) where
+  pub loads_first : (are : AreRoutes net routes) (so_far : SoFar) → so_far.links ≡ nothing_loaded net.links → so_far.entries ≡ nothing_sent routes → Loads passes kept net routes horizon order so_far 0
   loads_first are so_far h k = record {
-    same = ap (λ (l : List ℕ). load_all passes net routes horizon l so_far) is_order
-        ∙ ap (λ (l : List _). load_all passes net routes horizon (loading_order (length net.links) routes) (record { links = l; entries = so_far.entries })) h
-        ∙ ap (λ (l : List _). load_all passes net routes horizon (loading_order (length net.links) routes) (record { links = nothing_loaded net.links; entries = l })) k;
+    same = ap (λ (l : List ℕ). load_kept passes kept net routes horizon l so_far) is_order
+        ∙ ap (λ (l : List _). load_kept passes kept net routes horizon (loading_order (length net.links) routes) (record { links = l; entries = so_far.entries })) h
+        ∙ ap (λ (l : List _). load_kept passes kept net routes horizon (loading_order (length net.links) routes) (record { links = nothing_loaded net.links; entries = l })) k;
     stands = stands_first net routes so_far are h k;
   }
 
-  module _ (so_far : SoFar) (i : ℕ) (loads : Loads passes net routes horizon order so_far i) where
-    pub loads_last : length order ≤ i → at_part Load (all_loaded passes net routes horizon) ≡ Ok so_far
-    loads_last h = ap (at_part Load) (sym loads.same ∙ ap (λ (l : List ℕ). load_all passes net routes horizon l so_far) (drop_all i order h))
+  module _ (so_far : SoFar) (i : ℕ) (loads : Loads passes kept net routes horizon order so_far i) where
+    pub loads_last : length order ≤ i → at_part Load (all_kept passes kept net routes horizon) ≡ Ok so_far
+    loads_last h = ap (at_part Load) (sym loads.same ∙ ap (λ (l : List ℕ). load_kept passes kept net routes horizon l so_far) (drop_all i order h))
 
     module _ (e : ℕ) (at : slice_get order i ≡ Some e) where
-      here : (load_here passes horizon routes so_far e (slice_get net.links e) >>= λ next. load_all passes net routes horizon (drop (i + 1) order) next) ≡ all_loaded passes net routes horizon
-      here = sym (ap (λ (l : List ℕ). load_all passes net routes horizon l so_far) (drop_at order i e at)) ∙ loads.same
+      here : (load_here passes horizon routes so_far e (slice_get net.links e) >>= λ next. load_kept passes kept net routes horizon (drop (i + 1) order) (kept_after kept next)) ≡ all_kept passes kept net routes horizon
+      here = sym (ap (λ (l : List ℕ). load_kept passes kept net routes horizon l so_far) (drop_at order i e at)) ∙ loads.same
 
-      pub loads_stop : (h : Halt ℚ) → Stops (λ (q : ℚ). q) h (at_part Load (load_here passes horizon routes so_far e (slice_get net.links e))) → Stops (λ (q : ℚ). q) h (at_part Load (all_loaded passes net routes horizon))
-      loads_stop h s = stops_on h (at_part Load (load_here passes horizon routes so_far e (slice_get net.links e))) (at_part Load (all_loaded passes net routes horizon))
-          (λ p k. ap (at_part Load) (sym here) ∙ after_err Load (load_here passes horizon routes so_far e (slice_get net.links e)) (λ next. load_all passes net routes horizon (drop (i + 1) order) next) p k) s
+      pub loads_stop : (h : Halt ℚ) → Stops (λ (q : ℚ). q) h (at_part Load (load_here passes horizon routes so_far e (slice_get net.links e))) → Stops (λ (q : ℚ). q) h (at_part Load (all_kept passes kept net routes horizon))
+      loads_stop h s = stops_on h (at_part Load (load_here passes horizon routes so_far e (slice_get net.links e))) (at_part Load (all_kept passes kept net routes horizon))
+          (λ p k. ap (at_part Load) (sym here)
+          ∙ after_err Load (load_here passes horizon routes so_far e (slice_get net.links e)) (λ next. load_kept passes kept net routes horizon (drop (i + 1) order) (kept_after kept next)) p k) s
 
-      pub loads_go : (link : Link) (next : SoFar) → IsLink net e link → 0ℚ ≤ℚ horizon → IsNetwork net → at_part Load (load_here passes horizon routes so_far e (slice_get net.links e)) ≡ Ok next → Loads passes net routes horizon order next (i + 1)
+      pub loads_go : (link : Link) (next : SoFar) → IsLink net e link → 0ℚ ≤ℚ horizon → IsNetwork net → at_part Load (load_here passes horizon routes so_far e (slice_get net.links e)) ≡ Ok next
+          → Loads passes kept net routes horizon order (kept_after kept next) (i + 1)
       loads_go link next is from_0 good k =
           let was = was_ok Load (load_here passes horizon routes so_far e (slice_get net.links e)) next k in
           record {
-            same = ap (λ (r : Checked SoFar). r >>= λ n. load_all passes net routes horizon (drop (i + 1) order) n) (sym was) ∙ here;
-            stands = stands_go net routes order is_order i e at passes horizon link so_far next is from_0 good loads.stands was;
+            same = ap (λ (r : Checked SoFar). r >>= λ n. load_kept passes kept net routes horizon (drop (i + 1) order) (kept_after kept n)) (sym was) ∙ here;
+            stands = stands_kept net routes (take (i + 1) order) kept next (stands_go net routes order is_order i e at passes horizon link so_far next is from_0 good loads.stands was);
           }
+
+-- ---- the same as with all entries
+pub record Whole (passes : Passing) (kept : Kept) (net : Network) (routes : List Route) (horizon : ℚ) (so_far : SoFar) : Type 0 where
+  pub all : SoFar
+  pub loaded : at_part Load (all_loaded passes net routes horizon) ≡ Ok all
+  pub same : kept_after kept all ≡ so_far
+
+module _ (passes : Passing) (kept : Kept) (net : Network) (routes : List Route) (horizon : ℚ) where
+  pub kept_stops : (p : PassedAt ℚ) → at_part Load (all_kept passes kept net routes horizon) ≡ Err p → at_part Load (all_loaded passes net routes horizon) ≡ Err p
+  kept_stops p h = err_before Load (all_loaded passes net routes horizon) (kept_after kept) p (ap (at_part Load) (sym (all_kept-is passes kept net routes horizon)) ∙ h)
+
+  pub whole_of : (so_far : SoFar) → at_part Load (all_kept passes kept net routes horizon) ≡ Ok so_far → Whole passes kept net routes horizon so_far
+  whole_of so_far h =
+      let w = ok_before Load (all_loaded passes net routes horizon) (kept_after kept) so_far (ap (at_part Load) (sym (all_kept-is passes kept net routes horizon)) ∙ h) in
+      record { all = w.0; loaded = ap (at_part Load) w.1; same = w.2 }

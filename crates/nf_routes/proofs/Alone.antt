@@ -1,4 +1,4 @@
--- The last entry of each route alone: the loading of a link goes on as with all entries.
+-- The last entry of each route alone: the loading goes on as with all entries.
 use Rattle.std.proofs.Common.{◌≡◌, ℕ, zero, suc, ◌+◌, ◌<◌, ◌≤◌, List, [], ◌∷◌, ◌++◌, length, map, take, drop, set, Bool, true, false, refl, sym, ap, ◌∙◌, append-nil, arith}
 use Rattle.std.specs.Prelude.{Option, Some, None, Ok, Err, slice_get}
 use Rattle.std.specs.List.{AllByRecursion}
@@ -15,7 +15,9 @@ use Rattle.nf_routes_def.specs.RoutesList.{SoFar, begins_with, goes_over, last_e
 use Rattle.nf_routes.specs.Amounts.{IsAmount}
 use Rattle.nf_routes.specs.Beginning.{nothing_loaded, nothing_sent, all_loaded}
 use Rattle.nf_routes.specs.Standing.{Along}
-use Rattle.nf_routes.specs.Carrying.{last_alone, with_last, carry_here, carry_all, all_carried}
+use Rattle.nf_routes.specs.Keeping.{last_alone, with_last, kept_after, load_kept, all_kept}
+use Rattle.nf_routes.specs.declared.keeping.Kept.{Kept}
+use Rattle.nf_routes.specs.declared.keeping.Kept.TheVariants.{Every, Last}
 use Rattle.nf_routes.proofs.Lists.{last_push}
 use Rattle.nf_routes.proofs.Passed.{chain}
 use Rattle.nf_routes.proofs.Folds.{Sent, step_all, begin_all-is, next_all-is}
@@ -96,8 +98,16 @@ along_alone taken [] (sent ∷ rest) along = absurd along
 along_alone taken (route ∷ routes) [] along = absurd along
 along_alone taken (route ∷ routes) (sent ∷ rest) along = (alone_sound taken route sent along.0, along_alone taken routes rest along.1)
 
-pub stands_alone : (net : Network) (routes : List Route) (taken : List ℕ) (so_far : SoFar) → Stands net routes taken so_far → Stands net routes taken (with_last so_far)
+stands_alone : (net : Network) (routes : List Route) (taken : List ℕ) (so_far : SoFar) → Stands net routes taken so_far → Stands net routes taken (with_last so_far)
 stands_alone net routes taken so_far s = record { count = s.count; loaded = s.loaded; exits = s.exits; entries = along_alone taken routes so_far.entries s.entries }
+
+pub stands_kept : (net : Network) (routes : List Route) (taken : List ℕ) (kept : Kept) (so_far : SoFar) → Stands net routes taken so_far → Stands net routes taken (kept_after kept so_far)
+stands_kept net routes taken Every so_far s = s
+stands_kept net routes taken Last so_far s = stands_alone net routes taken so_far s
+
+first_kept : (kept : Kept) (s : SoFar) → map last_alone s.entries ≡ s.entries → kept_after kept s ≡ s
+first_kept Every s e = refl
+first_kept Last s e = ap (λ (l : List Sent). record { links = s.links; entries = l }) e
 
 -- ---- computations, one after the other
 after_same : {A B : Type 0} (r : Checked A) (f g : A → Checked B) → ((x : A) → f x ≡ g x) → (r >>= f) ≡ (r >>= g)
@@ -213,31 +223,37 @@ module _ (passes : Passing) where
       begun_alone (Ok begun) = sums_alone begun
       begun_alone (Err p) = refl
 
-      link_alone : carry_here passes horizon routes (with_last s) e (Some link) ≡ carry_here passes horizon routes s e (Some link)
+      link_alone : ended (load_here passes horizon routes (with_last s) e (Some link)) ≡ ended (load_here passes horizon routes s e (Some link))
       link_alone =
           sym (begun_alone (begin_all passes horizon e routes (map last_alone s.entries)))
           ∙ ap (λ (r : Checked (List Sent)). ended (r >>= after_begin)) (begins_alone horizon e routes s.entries)
           ∙ begun_alone (begin_all passes horizon e routes s.entries)
 
-    here_alone : (link : Option Link) → carry_here passes horizon routes (with_last s) e link ≡ carry_here passes horizon routes s e link
+    here_alone : (link : Option Link) → ended (load_here passes horizon routes (with_last s) e link) ≡ ended (load_here passes horizon routes s e link)
     here_alone None = ap (λ (l : List Sent). Ok (record { links = s.links; entries = l })) (all_twice s.entries)
     here_alone (Some link) = link_alone link
 
+  here_kept : (kept : Kept) (horizon : ℚ) (routes : List Route) (s : SoFar) (e : ℕ) (link : Option Link)
+      → (load_here passes horizon routes (kept_after kept s) e link >>= λ next. Ok (kept_after kept next)) ≡ (load_here passes horizon routes s e link >>= λ next. Ok (kept_after kept next))
+  here_kept Every horizon routes s e link = refl
+  here_kept Last horizon routes s e link = here_alone horizon routes s e link
+
   -- ---- the loading of all links
-  carried_is : (net : Network) (routes : List Route) (horizon : ℚ) (order : List ℕ) (s : SoFar)
-      → carry_all passes net routes horizon order (with_last s) ≡ (load_all passes net routes horizon order s >>= λ all. Ok (with_last all))
-  carried_is net routes horizon [] s = refl
-  carried_is net routes horizon (e ∷ order) s =
-      ap (λ (r : Checked SoFar). r >>= λ next. carry_all passes net routes horizon order next) (here_alone horizon routes s e (slice_get net.links e))
-      ∙ later (load_here passes horizon routes s e (slice_get net.links e)) (λ next. carried_is net routes horizon order next)
+  kept_is : (kept : Kept) (net : Network) (routes : List Route) (horizon : ℚ) (order : List ℕ) (s : SoFar)
+      → load_kept passes kept net routes horizon order (kept_after kept s) ≡ (load_all passes net routes horizon order s >>= λ all. Ok (kept_after kept all))
+  kept_is kept net routes horizon [] s = refl
+  kept_is kept net routes horizon (e ∷ order) s =
+      sym (chain (load_here passes horizon routes (kept_after kept s) e (slice_get net.links e)) (λ next. Ok (kept_after kept next)) (λ next. load_kept passes kept net routes horizon order next))
+      ∙ ap (λ (r : Checked SoFar). r >>= λ next. load_kept passes kept net routes horizon order next) (here_kept kept horizon routes s e (slice_get net.links e))
+      ∙ later (load_here passes horizon routes s e (slice_get net.links e)) (λ next. kept_is kept net routes horizon order next)
     where
-      later : (r : Checked SoFar) → ((next : SoFar) → carry_all passes net routes horizon order (with_last next) ≡ (load_all passes net routes horizon order next >>= λ all. Ok (with_last all)))
-          → ((r >>= λ next. Ok (with_last next)) >>= λ next. carry_all passes net routes horizon order next)
-          ≡ ((r >>= λ next. load_all passes net routes horizon order next) >>= λ all. Ok (with_last all))
+      later : (r : Checked SoFar) → ((next : SoFar) → load_kept passes kept net routes horizon order (kept_after kept next) ≡ (load_all passes net routes horizon order next >>= λ all. Ok (kept_after kept all)))
+          → ((r >>= λ next. Ok (kept_after kept next)) >>= λ next. load_kept passes kept net routes horizon order next)
+          ≡ ((r >>= λ next. load_all passes net routes horizon order next) >>= λ all. Ok (kept_after kept all))
       later (Ok next) same = same next
       later (Err p) same = refl
 
-  pub all_carried-is : (net : Network) (routes : List Route) (horizon : ℚ) → all_carried passes net routes horizon ≡ (all_loaded passes net routes horizon >>= λ all. Ok (with_last all))
-  all_carried-is net routes horizon =
-      ap (λ (l : List Sent). carry_all passes net routes horizon (loading_order (length net.links) routes) (record { links = nothing_loaded net.links; entries = l })) (sym (none_alone routes))
-      ∙ carried_is net routes horizon (loading_order (length net.links) routes) (record { links = nothing_loaded net.links; entries = nothing_sent routes })
+  pub all_kept-is : (kept : Kept) (net : Network) (routes : List Route) (horizon : ℚ) → all_kept passes kept net routes horizon ≡ (all_loaded passes net routes horizon >>= λ all. Ok (kept_after kept all))
+  all_kept-is kept net routes horizon =
+      ap (λ (s : SoFar). load_kept passes kept net routes horizon (loading_order (length net.links) routes) s) (sym (first_kept kept (record { links = nothing_loaded net.links; entries = nothing_sent routes }) (none_alone routes)))
+      ∙ kept_is kept net routes horizon (loading_order (length net.links) routes) (record { links = nothing_loaded net.links; entries = nothing_sent routes })

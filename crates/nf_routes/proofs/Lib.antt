@@ -6,9 +6,8 @@ pub mod Folds
 pub mod Sound
 pub mod Stands
 pub mod Here
-pub mod All
 pub mod Alone
-pub mod Carries
+pub mod All
 pub mod Travelling
 pub mod Knowing
 pub mod Repeating

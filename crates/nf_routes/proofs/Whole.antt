@@ -1,5 +1,5 @@
 -- Loading by route as a whole, as the list has it.
-use Rattle.std.proofs.Common.{◌≡◌, List, sym, ap, ◌∙◌}
+use Rattle.std.proofs.Common.{◌≡◌, List, [], ◌∷◌, refl, sym, ap, ◌∙◌}
 use Rattle.std.specs.Prelude.{Ok, Err, map}
 use Rattle.nf_rational.specs.Rational.{ℚ}
 use Rattle.nf_frac_def.specs.declared.PassedAt.{PassedAt}
@@ -14,11 +14,15 @@ use Rattle.nf_curve.proofs.Exits.{after_err, after_ok}
 use Rattle.nf_routes_def.specs.Routes.{Route}
 use Rattle.nf_routes_def.specs.RoutesList.{SoFar, Routed, end_or, loaded_or, but_last, last_entry, travel_on, routes_list}
 use Rattle.nf_routes.specs.Beginning.{all_loaded}
+use Rattle.nf_routes.specs.Keeping.{last_alone, kept_after, kept_result}
+use Rattle.nf_routes.specs.declared.keeping.Kept.{Kept}
+use Rattle.nf_routes.specs.declared.keeping.Kept.TheVariants.{Every, Last}
 use Rattle.nf_routes.specs.Travels.{travel_along}
+use Rattle.nf_routes.proofs.Alone.{last_of_all}
 use Rattle.nf_routes.proofs.Travelling.{travel_on-is, each_same}
 
 module _ (passes : Passing) (net : Network) (routes : List Route) (horizon : ℚ) where
-  abbrev ended_as : SoFar → List (List Point) → Routed
+  abbrev pub ended_as : SoFar → List (List Point) → Routed
   ended_as s travels = record { ends = map (end_or passes) s.links; links = map (loaded_or passes) s.links; entries = map (but_last passes) s.entries; arrivals = map last_entry s.entries; travels = travels }
 
   abbrev after_loads : SoFar → Checked Routed
@@ -50,3 +54,29 @@ pub same_parts : {ends ends' : List ℚ} {links links' : List Loaded} {entries e
     → ends ≡ ends' → links ≡ links' → entries ≡ entries' → arrivals ≡ arrivals'
     → ◌≡◌ {A = Routed} (record { ends = ends; links = links; entries = entries; arrivals = arrivals; travels = travels }) (record { ends = ends'; links = links'; entries = entries'; arrivals = arrivals'; travels = travels })
 same_parts {travels = travels} a b c d = λ i. record { ends = a i; links = b i; entries = c i; arrivals = d i; travels = travels }
+
+-- ---- what is kept of the result
+none_left : (passes : Passing) (entries : List (List (List Point))) → map (λ _. []) (map (but_last passes) entries) ≡ map (but_last passes) (map last_alone entries)
+none_left passes [] = refl
+none_left passes ([] ∷ rest) = ap (λ (l : List (List (List Point))). [] ∷ l) (none_left passes rest)
+none_left passes ((entry ∷ more) ∷ rest) = ap (λ (l : List (List (List Point))). [] ∷ l) (none_left passes rest)
+
+pub kept_ended : (passes : Passing) (net : Network) (routes : List Route) (horizon : ℚ) (kept : Kept) (s : SoFar) (travels : List (List Point))
+    → kept_result kept (ended_as passes net routes horizon s travels) ≡ ended_as passes net routes horizon (kept_after kept s) travels
+kept_ended passes net routes horizon Every s travels = refl
+kept_ended passes net routes horizon Last s travels = same_parts refl refl (none_left passes s.entries) (sym (last_of_all s.entries))
+
+pub kept_links : (kept : Kept) (s : SoFar) → (kept_after kept s).links ≡ s.links
+kept_links Every s = refl
+kept_links Last s = refl
+
+-- a result, by what is kept of it
+abbrev pub entries_in : Routed → List (List (List Point)) → Routed
+entries_in r entries = record { ends = r.ends; links = r.links; entries = entries; arrivals = r.arrivals; travels = r.travels }
+
+pub with_all : (all kept : Routed) → kept_result Last all ≡ kept → all ≡ entries_in kept all.entries
+with_all all kept e = ap (λ (r : Routed). entries_in r all.entries) e
+
+pub all_of : {A : Type 0} (r : Checked A) → (r >>= λ x. Ok x) ≡ r
+all_of (Ok x) = refl
+all_of (Err p) = refl

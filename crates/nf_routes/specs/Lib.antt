@@ -5,5 +5,5 @@ pub mod Beginning
 pub mod Standing
 pub mod Travels
 pub mod Routed
-pub mod Carrying
+pub mod Keeping
 pub mod Carried

@@ -11,9 +11,8 @@ ghost use Rattle.nf_routes_def.specs.Meanings.{IsRouted, RoutesArrive};
 ghost use Rattle.nf_routes_def.specs.RoutesFile.{routes_of};
 ghost use Rattle.nf_routes.specs.Carried.{carried_of};
 
-use crate::carrying::carry_all;
-use crate::routed::{ended, parted};
-use crate::travels::travels;
+use crate::keeping::Kept;
+use crate::routed::load_kept;
 use nf_curve::Curve;
 use nf_frac::{Halt, Q};
 use nf_load::Loaded;
@@ -50,17 +49,11 @@ pub fn carry_routes(
     ensures arrives { IfOk result (λ c. RoutesArrive net.now.net (routes_of routes.now) horizon
         (carried_of net.now.net (routes_of routes.now) horizon c)) }
 {
-    // Proof: transit times and capacities are those of a network.
-    net.recall();
-    let list = routes.as_slice();
-    let so_far = carry_all(alloc, net, list, horizon)?;
-    let (ends, links) = ended(alloc, so_far.links)?;
-    let (_, arrivals) = parted(alloc, so_far.entries)?;
-    let travels = travels(alloc, &links, list, horizon)?;
+    let loaded = load_kept(alloc, net, routes, horizon, Kept::Last)?;
     Ok(Carried {
-        ends,
-        links,
-        arrivals,
-        travels,
+        ends: loaded.ends,
+        links: loaded.links,
+        arrivals: loaded.arrivals,
+        travels: loaded.travels,
     })
 }

@@ -3,9 +3,9 @@
 #![tactic(auto)]
 
 mod carried;
-mod carrying;
 mod ends;
 mod entries;
+mod keeping;
 mod loading;
 mod next;
 mod points;

@@ -8,11 +8,12 @@ ghost use Rattle.nf_frac_def.specs.Checked.{at_part, Gives};
 ghost use Rattle.nf_routes_def.specs.Routes.{AreRoutes, HoldCircle};
 ghost use Rattle.nf_routes_def.specs.RoutesList as lists;
 ghost use Rattle.nf_routes_def.specs.RoutesFile.{routes_of};
-ghost use Rattle.nf_routes.specs.Beginning.{all_loaded};
+ghost use Rattle.nf_routes.specs.Keeping.{all_kept};
 ghost use Rattle.nf_routes.specs.Standing.{seen_so_far, MayLoad, IsComplete};
 
 use crate::ends::end_of;
 use crate::entries::{begin_all, inflow_of, send_all_on};
+use crate::keeping::{Kept, keep};
 use crate::so_far::{LoadedLink, SoFar};
 use nf_frac::{Halt, Q};
 use nf_load::load_link;
@@ -46,17 +47,19 @@ pub(crate) fn load_here(
     Ok(())
 }
 
-/// Loads all links, each after the links that directly precede it on a route. The routes may not hold a circle of links.
+/// Loads all links, each after the links that directly precede it on a route. After each link, drops the entries that are not kept. The
+/// routes may not hold a circle of links.
 pub(crate) fn load_all(
     alloc: Global,
     net: &Network,
     routes: &[Route],
     horizon: Q,
+    kept: Kept,
 ) -> Result<SoFar, Halt<Q>>
     requires horizon { 0ℚ ≤ℚ horizon }
     requires routes { AreRoutes net.now.net (routes_of routes.now) }
     requires straight { ¬ HoldCircle (routes_of routes.now) }
-    ensures list { Gives seen_so_far (λ q. q) result (at_part Load (all_loaded passes_Q net.now.net (routes_of routes.now) horizon)) }
+    ensures list { Gives seen_so_far (λ q. q) result (at_part Load (all_kept passes_Q kept net.now.net (routes_of routes.now) horizon)) }
     ensures complete { IfOk result (λ so_far. IsComplete net.now.net (routes_of routes.now) (seen_so_far so_far)) }
 {
     // Proof: transit times and capacities are those of a network.
@@ -65,6 +68,7 @@ pub(crate) fn load_all(
     let mut so_far = SoFar::new(alloc, net, routes)?;
     for link in &order {
         load_here(alloc, net, routes, horizon, *link, &mut so_far)?;
+        keep(&mut so_far, kept)?;
     }
     Ok(so_far)
 }

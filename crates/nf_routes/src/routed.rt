@@ -1,18 +1,21 @@
 // The whole loading by route.
-ghost use Rattle.std.specs.Prelude.{◌≡◌, map, IfOk};
+ghost use Rattle.std.specs.Prelude.{◌≡◌, map, Ok, IfOk};
 ghost use Rattle.nf_rational.specs.Operations.{0ℚ};
 ghost use Rattle.nf_rational.specs.Order.{◌≤ℚ◌};
 ghost use Rattle.nf_frac_def.specs.Passing.{passes_Q};
 ghost use Rattle.nf_frac_def.specs.declared.Part.TheVariants.{Load};
 ghost use Rattle.nf_frac_def.specs.Checked.{at_part, Gives};
 ghost use Rattle.nf_routes_def.specs.Routes.{AreWalks};
+ghost use Rattle.nf_routes_def.specs.RoutesList as lists;
 ghost use Rattle.nf_routes_def.specs.RoutesList.{end_or, loaded_or, but_last, last_entry, routes_list};
 ghost use Rattle.nf_routes_def.specs.Meanings.{IsRouted, RoutesArrive};
 ghost use Rattle.nf_routes_def.specs.RoutesFile.{routes_of};
 ghost use Rattle.nf_load.specs.Loadings.{loaded_of};
+ghost use Rattle.nf_routes.specs.Keeping.{kept_list};
 ghost use Rattle.nf_routes.specs.Standing.{AreLoaded, HaveSent};
 ghost use Rattle.nf_routes.specs.Routed.{routed_of};
 
+use crate::keeping::Kept;
 use crate::loading::load_all;
 use crate::so_far::LoadedLink;
 use crate::stages::Stages;
@@ -37,11 +40,8 @@ pub struct Routed {
     pub travels: Vec<Curve>,
 }
 
-/// Returns the ends and the loadings of the links.
-pub(crate) fn ended(
-    alloc: Global,
-    links: Vec<Option<LoadedLink>>,
-) -> Result<(Vec<Q>, Vec<Loaded>), AllocError>
+// Returns the ends and the loadings of the links.
+fn ended(alloc: Global, links: Vec<Option<LoadedLink>>) -> Result<(Vec<Q>, Vec<Loaded>), AllocError>
     requires { AreLoaded links.items }
     ensures ends { IfOk result (λ parts. parts.0.items ≡ map (end_or passes_Q) links.items) }
     ensures loaded { IfOk result (λ parts. map loaded_of parts.1.items ≡ map (loaded_or passes_Q) links.items) }
@@ -57,11 +57,8 @@ pub(crate) fn ended(
     Ok((ends, all))
 }
 
-/// Splits the routes' stages: returns the entries into the links of each route, and the amount that has arrived.
-pub(crate) fn parted(
-    alloc: Global,
-    entries: Vec<Stages>,
-) -> Result<(Vec<Vec<Curve>>, Vec<Curve>), AllocError>
+// Splits the routes' stages: returns the entries into the links of each route, and the amount that has arrived.
+fn parted(alloc: Global, entries: Vec<Stages>) -> Result<(Vec<Vec<Curve>>, Vec<Curve>), AllocError>
     requires { HaveSent entries.items }
     ensures entries { IfOk result
         (λ parts. map (λ sent. map (λ c. c.points) sent.items) parts.0.items ≡ map (but_last passes_Q) entries.items) }
@@ -76,6 +73,38 @@ pub(crate) fn parted(
         }
     }
     Ok((all, arrivals))
+}
+
+/// Loads a network by route, with the entries that are kept, as `load_routes` does with all.
+pub(crate) fn load_kept(
+    alloc: Global,
+    net: &Network,
+    routes: &Routes,
+    horizon: Q,
+    kept: Kept,
+) -> Result<Routed, Halt<Q>>
+    requires horizon { 0ℚ ≤ℚ horizon }
+    requires walks { AreWalks net.now.net (routes_of routes.now) }
+    ensures list { Gives routed_of (λ q. q) result (at_part Load (kept_list passes_Q kept net.now.net (routes_of routes.now) horizon)) }
+    ensures routed { (all : lists.Routed) → routes_list passes_Q net.now.net (routes_of routes.now) horizon ≡ Ok all
+        → IsRouted net.now.net (routes_of routes.now) horizon all }
+    ensures arrives { (all : lists.Routed) → routes_list passes_Q net.now.net (routes_of routes.now) horizon ≡ Ok all
+        → RoutesArrive net.now.net (routes_of routes.now) horizon all }
+{
+    // Proof: transit times and capacities are those of a network.
+    net.recall();
+    let list = routes.as_slice();
+    let so_far = load_all(alloc, net, list, horizon, kept)?;
+    let (ends, links) = ended(alloc, so_far.links)?;
+    let (entries, arrivals) = parted(alloc, so_far.entries)?;
+    let travels = travels(alloc, &links, list, horizon)?;
+    Ok(Routed {
+        ends,
+        links,
+        entries,
+        arrivals,
+        travels,
+    })
 }
 
 /// Loads a network by route up to a horizon, a time of at least 0, with routes of this network. The flow of a route uses its links in
@@ -97,18 +126,5 @@ pub fn load_routes(
     ensures routed { IfOk result (λ r. IsRouted net.now.net (routes_of routes.now) horizon (routed_of r)) }
     ensures arrives { IfOk result (λ r. RoutesArrive net.now.net (routes_of routes.now) horizon (routed_of r)) }
 {
-    // Proof: transit times and capacities are those of a network.
-    net.recall();
-    let list = routes.as_slice();
-    let so_far = load_all(alloc, net, list, horizon)?;
-    let (ends, links) = ended(alloc, so_far.links)?;
-    let (entries, arrivals) = parted(alloc, so_far.entries)?;
-    let travels = travels(alloc, &links, list, horizon)?;
-    Ok(Routed {
-        ends,
-        links,
-        entries,
-        arrivals,
-        travels,
-    })
+    load_kept(alloc, net, routes, horizon, Kept::Every)
 }

@@ -2,7 +2,7 @@
 ghost use Rattle.std.specs.Prelude.{◌≡◌, ◌<◌, [], ◌∷◌, ◌++◌, length, map, OnOk, IsSome, IfSome};
 ghost use Rattle.nf_frac_def.specs.Passing.{passes_Q};
 ghost use Rattle.nf_routes_def.specs.RoutesList.{last_entry, but_last};
-ghost use Rattle.nf_routes.specs.Carrying.{last_alone};
+ghost use Rattle.nf_routes.specs.Keeping.{last_alone};
 
 use nf_curve::Curve;
 use std::alloc::{AllocError, Global};

@@ -1,83 +1,46 @@
-use Rattle.std.proofs.Common.{◌≡◌, List, map, sym, ap, subst, ◌∙◌}
+use Rattle.std.proofs.Common.{sym, ap, ◌∙◌}
 use Rattle.std.specs.Prelude.{Ok}
 use Rattle.std.proofs.lemmas.Result.{err_from_is_err_and}
 use Rattle.nf_frac_def.specs.declared.Part.TheVariants.{Load}
 use Rattle.nf_frac_def.specs.Passing.{passes_Q}
-use Rattle.nf_frac_def.specs.Checked.{at_part, each}
-use Rattle.nf_check_def.specs.Curves.{departures}
-use Rattle.nf_curve.proofs.Exits.{stops_on, was_ok}
-use Rattle.nf_curve.specs.Points.{Grown}
-use Rattle.nf_load.specs.Loadings.{loaded_of}
-use Rattle.nf_load.specs.declared.loading.Loaded.{Loaded}
-use Rattle.nf_routes_def.specs.Routes.{Route, AreRoutes, HoldCircle}
-use Rattle.nf_routes_def.specs.RoutesFile.{NamedRoute, routes_of}
-use Rattle.nf_routes_def.specs.RoutesList.{SoFar, last_entry, end_or, loaded_or, routes_list}
-use Rattle.nf_routes_laws.proofs.Arriving.{arrive}
-use Rattle.nf_routes_laws.proofs.Routed.{routes_list-is}
-use Rattle.nf_routes_laws.proofs.FileKept.{are_routes}
-use Rattle.nf_routes.specs.Carrying.{with_last, all_carried}
-use Rattle.nf_routes.specs.Carried.{entries_or, carried_of}
-use Rattle.nf_routes.specs.Standing.{seen_so_far}
-use Rattle.nf_routes.specs.Travels.{HaveExits, GoOverAll, travel_along}
-use Rattle.nf_routes.proofs.Travelling.{complete_exits, complete_over}
-use Rattle.nf_routes.proofs.Alone.{last_of_all}
-use Rattle.nf_routes.proofs.Carries.{carried_stops, whole_of}
-use Rattle.nf_routes.proofs.Whole.{load_stops, travel_stops, list_comes, same_parts}
+use Rattle.nf_frac_def.specs.Checked.{at_part}
+use Rattle.nf_curve.proofs.Exits.{stops_on, was_ok, err_before, ok_before}
+use Rattle.nf_routes_def.specs.RoutesFile.{routes_of}
+use Rattle.nf_routes_def.specs.RoutesList.{routes_list}
+use Rattle.nf_routes.specs.Keeping.{kept_result, kept_list}
+use Rattle.nf_routes.specs.declared.keeping.Kept.TheVariants.{Last}
+use Rattle.nf_routes.specs.Carried.{entries_or}
+use Rattle.nf_routes.specs.Routed.{routed_of}
+use Rattle.nf_routes.proofs.Whole.{entries_in, with_all}
 use Rattle.nf_routes.proofs.carried.carry_routes.Goals as goal
 
-pub carry_all-requires-clause-routes : goal.carry_all-requires-clause-routes
-carry_all-requires-clause-routes c =
-    subst (λ (l : List NamedRoute). AreRoutes c.args.net.now.net (routes_of l)) (sym c.as_slice-list.ensures.value) (are_routes c.args.net.now.net c.args.routes.now c.as_slice-list.ensures.kept.form c.requires.walks)
-
-pub carry_all-requires-clause-straight : goal.carry_all-requires-clause-straight
-carry_all-requires-clause-straight c = subst (λ (l : List NamedRoute). HoldCircle (routes_of l) → ⊥) (sym c.as_slice-list.ensures.value) c.as_slice-list.ensures.kept.straight
-
-pub returns-in_err-so_far-clause-list : goal.returns-in_err-so_far-clause-list
-returns-in_err-so_far-clause-list c =
+pub returns-in_err-loaded-clause-list : goal.returns-in_err-loaded-clause-list
+returns-in_err-loaded-clause-list c =
     let p = err_from_is_err_and c.from_residual.result c.from_residual.ensures.1 in
-    let same : c.as_slice-list.result.now ≡ c.args.routes.now = c.as_slice-list.ensures.value in
-    rw (p.1, p.2) (stops_on c.in_err-so_far.field-0.0 (at_part Load (all_carried passes_Q c.args.net.now.net (routes_of c.as_slice-list.result.now) c.args.horizon)) (at_part Load (routes_list passes_Q c.args.net.now.net (routes_of c.args.routes.now) c.args.horizon))
-    (λ q k. ap (λ (l : List NamedRoute). at_part Load (routes_list passes_Q c.args.net.now.net (routes_of l) c.args.horizon)) (sym same) ∙ load_stops passes_Q c.args.net.now.net (routes_of c.as_slice-list.result.now) c.args.horizon q (carried_stops passes_Q c.args.net.now.net (routes_of c.as_slice-list.result.now) c.args.horizon q k)) c.in_err-so_far.ensures.list)
-
-pub travels-requires-clause-exits : goal.travels-requires-clause-exits
-travels-requires-clause-exits c =
-    let links : map loaded_of c.deref.result.now ≡ map (loaded_or passes_Q) c.in_ok-so_far.so_far.links.items = ap (λ (l : List Loaded). map loaded_of l) c.deref.ensures.value ∙ c.in_ok-ends.ensures.loaded in
-    subst HaveExits (sym links) (complete_exits passes_Q c.args.net.now.net (routes_of c.as_slice-list.result.now) (seen_so_far c.in_ok-so_far.so_far) c.in_ok-so_far.ensures.complete)
-
-pub travels-requires-clause-over : goal.travels-requires-clause-over
-travels-requires-clause-over c =
-    let same : c.as_slice-list.result.now ≡ c.args.routes.now = c.as_slice-list.ensures.value in
-    let links : map loaded_of c.deref.result.now ≡ map (loaded_or passes_Q) c.in_ok-so_far.so_far.links.items = ap (λ (l : List Loaded). map loaded_of l) c.deref.ensures.value ∙ c.in_ok-ends.ensures.loaded in
-    let are : AreRoutes c.args.net.now.net (routes_of c.as_slice-list.result.now) = subst (λ (l : List NamedRoute). AreRoutes c.args.net.now.net (routes_of l)) (sym same) (are_routes c.args.net.now.net c.args.routes.now c.as_slice-list.ensures.kept.form c.requires.walks) in
-    subst (λ (l : List _). GoOverAll l (routes_of c.as_slice-list.result.now)) (sym links) (complete_over passes_Q c.args.net.now.net (routes_of c.as_slice-list.result.now) (seen_so_far c.in_ok-so_far.so_far) c.in_ok-so_far.ensures.complete are)
-
-pub returns-in_err-travels-clause-list : goal.returns-in_err-travels-clause-list
-returns-in_err-travels-clause-list c =
-    let p = err_from_is_err_and c.from_residual-in_err-travels.result c.from_residual-in_err-travels.ensures.1 in
-    let same : c.as_slice-list.result.now ≡ c.args.routes.now = c.as_slice-list.ensures.value in
-    let whole = whole_of passes_Q c.args.net.now.net (routes_of c.as_slice-list.result.now) c.args.horizon (seen_so_far c.in_ok-so_far.so_far) c.in_ok-so_far.ensures.list in
-    let links : map loaded_of c.deref.result.now ≡ map (loaded_or passes_Q) whole.so_far.links = ap (λ (l : List Loaded). map loaded_of l) c.deref.ensures.value ∙ c.in_ok-ends.ensures.loaded ∙ ap (λ (s : SoFar). map (loaded_or passes_Q) s.links) (sym whole.same) in
-    rw (p.1, p.2) (stops_on c.in_err-travels.field-0.0 (at_part Load (each (λ (route : Route). travel_along passes_Q c.args.horizon (map loaded_of c.deref.result.now) route.links (departures c.args.horizon)) (routes_of c.as_slice-list.result.now))) (at_part Load (routes_list passes_Q c.args.net.now.net (routes_of c.args.routes.now) c.args.horizon))
-    (λ q k. ap (λ (l : List NamedRoute). at_part Load (routes_list passes_Q c.args.net.now.net (routes_of l) c.args.horizon)) (sym same) ∙ travel_stops passes_Q c.args.net.now.net (routes_of c.as_slice-list.result.now) c.args.horizon whole.so_far whole.loaded (map loaded_of c.deref.result.now) links q k) c.in_err-travels.ensures)
+    let list = routes_list passes_Q c.args.net.now.net (routes_of c.args.routes.now) c.args.horizon in
+    rw (p.1, p.2) (stops_on c.in_err-loaded.field-0.0 (at_part Load (kept_list passes_Q Last c.args.net.now.net (routes_of c.args.routes.now) c.args.horizon)) (at_part Load list)
+    (λ q k. err_before Load list (kept_result Last) q k) c.in_err-loaded.ensures.list)
 
 pub returns-clause-list : goal.returns-clause-list
 returns-clause-list c =
-    let same : c.as_slice-list.result.now ≡ c.args.routes.now = c.as_slice-list.ensures.value in
-    let whole = whole_of passes_Q c.args.net.now.net (routes_of c.as_slice-list.result.now) c.args.horizon (seen_so_far c.in_ok-so_far.so_far) c.in_ok-so_far.ensures.list in
-    let links : map loaded_of c.deref.result.now ≡ map (loaded_or passes_Q) whole.so_far.links = ap (λ (l : List Loaded). map loaded_of l) c.deref.ensures.value ∙ c.in_ok-ends.ensures.loaded ∙ ap (λ (s : SoFar). map (loaded_or passes_Q) s.links) (sym whole.same) in
-    let comes = ap (λ (l : List NamedRoute). at_part Load (routes_list passes_Q c.args.net.now.net (routes_of l) c.args.horizon)) (sym same)
-    ∙ list_comes passes_Q c.args.net.now.net (routes_of c.as_slice-list.result.now) c.args.horizon whole.so_far whole.loaded (map loaded_of c.deref.result.now) links (map (λ (g : Grown). g.points) c.in_ok-travels.travels.items) c.in_ok-travels.ensures in
-    let ends = sym (c.in_ok-ends.ensures.ends ∙ ap (λ (s : SoFar). map (end_or passes_Q) s.links) (sym whole.same)) in
-    let loaded = sym (c.in_ok-ends.ensures.loaded ∙ ap (λ (s : SoFar). map (loaded_or passes_Q) s.links) (sym whole.same)) in
-    let entries = sym (ap entries_or (was_ok Load (routes_list passes_Q c.args.net.now.net (routes_of c.args.routes.now) c.args.horizon) _ comes)) in
-    let arrivals = sym (c.in_ok-arrivals.ensures.arrivals ∙ ap (λ (s : SoFar). map last_entry s.entries) (sym whole.same) ∙ last_of_all whole.so_far.entries) in
-    comes ∙ ap Ok (same_parts ends loaded entries arrivals)
+    let list = routes_list passes_Q c.args.net.now.net (routes_of c.args.routes.now) c.args.horizon in
+    let w = ok_before Load list (kept_result Last) (routed_of c.in_ok-loaded.loaded) c.in_ok-loaded.ensures.list in
+    ap (at_part Load) w.1
+    ∙ ap Ok (with_all w.0 (routed_of c.in_ok-loaded.loaded) w.2
+    ∙ ap (entries_in (routed_of c.in_ok-loaded.loaded)) (sym (ap entries_or w.1)))
 
 pub returns-clause-routed : goal.returns-clause-routed
-returns-clause-routed c =
-    routes_list-is passes_Q c.args.net.now.net (routes_of c.args.routes.now) c.args.horizon _ c.recall.ensures.network (are_routes c.args.net.now.net c.args.routes.now c.as_slice-list.ensures.kept.form c.requires.walks) c.as_slice-list.ensures.kept.straight c.requires.horizon
-    (was_ok Load (routes_list passes_Q c.args.net.now.net (routes_of c.args.routes.now) c.args.horizon) _ (returns-clause-list c))
+returns-clause-routed c = c.in_ok-loaded.ensures.routed _ (was_ok Load (routes_list passes_Q c.args.net.now.net (routes_of c.args.routes.now) c.args.horizon) _ (returns-clause-list c))
 
 pub returns-clause-arrives : goal.returns-clause-arrives
-returns-clause-arrives c =
-    arrive c.args.net.now.net (routes_of c.args.routes.now) c.args.horizon _ c.recall.ensures.network (are_routes c.args.net.now.net c.args.routes.now c.as_slice-list.ensures.kept.form c.requires.walks) c.requires.horizon (returns-clause-routed c)
+returns-clause-arrives c = c.in_ok-loaded.ensures.arrives _ (was_ok Load (routes_list passes_Q c.args.net.now.net (routes_of c.args.routes.now) c.args.horizon) _ (returns-clause-list c))
+
+pub returns-in_err-loaded-clause-routed : goal.returns-in_err-loaded-clause-routed
+returns-in_err-loaded-clause-routed c =
+    let p = err_from_is_err_and c.from_residual.result c.from_residual.ensures.1 in
+    rw p.1 tt
+
+pub returns-in_err-loaded-clause-arrives : goal.returns-in_err-loaded-clause-arrives
+returns-in_err-loaded-clause-arrives c =
+    let p = err_from_is_err_and c.from_residual.result c.from_residual.ensures.1 in
+    rw p.1 tt

@@ -1,19 +1,20 @@
-use Rattle.std.proofs.Common.{◌≡◌, ◌≤◌, ℕ, length, refl, ap, ◌∙◌, arith}
+use Rattle.std.proofs.Common.{◌≡◌, ◌≤◌, ◌+◌, ℕ, length, refl, sym, ap, subst, ◌∙◌, arith}
 use Rattle.std.proofs.lemmas.Option.{slice_get_read}
 use Rattle.std.proofs.lemmas.Result.{err_from_is_err_and}
 use Rattle.nf_frac_def.specs.Passing.{passes_Q}
 use Rattle.nf_rational_laws.proofs.Entries.{entry}
 use Rattle.nf_routes_def.specs.Routes.{loading_order}
 use Rattle.nf_routes_def.specs.RoutesFile.{routes_of}
+use Rattle.nf_routes_def.specs.RoutesList.{SoFar}
 use Rattle.nf_routes.specs.Standing.{seen_so_far}
-use Rattle.nf_routes.proofs.All.{placed_at, may_load_at, stands_complete, loads_first, loads_last, loads_stop, loads_go}
+use Rattle.nf_routes.proofs.All.{placed_at, may_load_at, stands_complete, Loads, loads_first, loads_last, loads_stop, loads_go}
 use Rattle.nf_routes.proofs.loading.load_all.Goals as goal
 
 pub loop-link-init : goal.loop-link-init
 loop-link-init c =
     let order : c.deref-link-items.result.now ≡ loading_order (length c.args.net.now.net.links) (routes_of c.args.routes.now) =
     c.deref-link-items.ensures.value ∙ c.in_ok-order.ensures ∙ ap (λ (n : ℕ). loading_order n (routes_of c.args.routes.now)) c.link_count.ensures in
-    loads_first passes_Q c.args.net.now.net (routes_of c.args.routes.now) c.args.horizon c.deref-link-items.result.now order c.requires.routes (seen_so_far c.in_ok-so_far.so_far) c.in_ok-so_far.ensures.links c.in_ok-so_far.ensures.entries
+    loads_first passes_Q c.args.kept c.args.net.now.net (routes_of c.args.routes.now) c.args.horizon c.deref-link-items.result.now order c.requires.routes (seen_so_far c.in_ok-so_far.so_far) c.in_ok-so_far.ensures.links c.in_ok-so_far.ensures.entries
 
 pub load_here-requires-clause-link : goal.load_here-requires-clause-link
 load_here-requires-clause-link c =
@@ -35,7 +36,7 @@ returns-in_err-load_here-clause-list c =
     let order : c.deref-link-items.result.now ≡ loading_order (length c.args.net.now.net.links) (routes_of c.args.routes.now) =
     c.deref-link-items.ensures.value ∙ c.in_ok-order.ensures ∙ ap (λ (n : ℕ). loading_order n (routes_of c.args.routes.now)) c.link_count.ensures in
     let at = slice_get_read c.deref-link-items.result.now _ c.loop-link.link-index c.link-item.result refl c.loop-link-test.true c.link-item.is in
-    rw (p.1, p.2) (loads_stop passes_Q c.args.net.now.net (routes_of c.args.routes.now) c.args.horizon c.deref-link-items.result.now order (seen_so_far c.loop-link.so_far) c.loop-link.link-index c.loop-link.invariant c.link-item.result at c.in_err-load_here.field-0.0 c.in_err-load_here.ensures)
+    rw (p.1, p.2) (loads_stop passes_Q c.args.kept c.args.net.now.net (routes_of c.args.routes.now) c.args.horizon c.deref-link-items.result.now order (seen_so_far c.loop-link.so_far) c.loop-link.link-index c.loop-link.invariant c.link-item.result at c.in_err-load_here.field-0.0 c.in_err-load_here.ensures)
 
 pub loop-link-preserved : goal.loop-link-preserved
 loop-link-preserved c =
@@ -43,7 +44,8 @@ loop-link-preserved c =
     c.deref-link-items.ensures.value ∙ c.in_ok-order.ensures ∙ ap (λ (n : ℕ). loading_order n (routes_of c.args.routes.now)) c.link_count.ensures in
     let at = slice_get_read c.deref-link-items.result.now _ c.loop-link.link-index c.link-item.result refl c.loop-link-test.true c.link-item.is in
     let one = entry c.args.net.now.net.links c.link-item.result (placed_at c.args.net.now.net (routes_of c.args.routes.now) c.deref-link-items.result.now order c.loop-link.link-index c.link-item.result at).below in
-    loads_go passes_Q c.args.net.now.net (routes_of c.args.routes.now) c.args.horizon c.deref-link-items.result.now order (seen_so_far c.loop-link.so_far) c.loop-link.link-index c.loop-link.invariant c.link-item.result at one.0 (seen_so_far c.load_here.new.so_far) one.1 c.requires.horizon c.recall.ensures.network c.in_ok-load_here.ensures
+    subst (λ (s : SoFar). Loads passes_Q c.args.kept c.args.net.now.net (routes_of c.args.routes.now) c.args.horizon c.deref-link-items.result.now s (c.loop-link.link-index + 1)) (sym c.in_ok-keep.ensures)
+    (loads_go passes_Q c.args.kept c.args.net.now.net (routes_of c.args.routes.now) c.args.horizon c.deref-link-items.result.now order (seen_so_far c.loop-link.so_far) c.loop-link.link-index c.loop-link.invariant c.link-item.result at one.0 (seen_so_far c.load_here.new.so_far) one.1 c.requires.horizon c.recall.ensures.network c.in_ok-load_here.ensures)
 
 pub returns-clause-complete : goal.returns-clause-complete
 returns-clause-complete c =
@@ -84,4 +86,14 @@ pub returns-clause-list : goal.returns-clause-list
 returns-clause-list c =
     let order : c.deref-link-items.result.now ≡ loading_order (length c.args.net.now.net.links) (routes_of c.args.routes.now) =
     c.deref-link-items.ensures.value ∙ c.in_ok-order.ensures ∙ ap (λ (n : ℕ). loading_order n (routes_of c.args.routes.now)) c.link_count.ensures in
-    loads_last passes_Q c.args.net.now.net (routes_of c.args.routes.now) c.args.horizon c.deref-link-items.result.now order (seen_so_far c.loop-link.so_far) c.loop-link.link-index c.loop-link.invariant c.loop-link-test.false
+    loads_last passes_Q c.args.kept c.args.net.now.net (routes_of c.args.routes.now) c.args.horizon c.deref-link-items.result.now order (seen_so_far c.loop-link.so_far) c.loop-link.link-index c.loop-link.invariant c.loop-link-test.false
+
+pub returns-in_err-keep-clause-list : goal.returns-in_err-keep-clause-list
+returns-in_err-keep-clause-list c =
+    let p = err_from_is_err_and c.from_residual-in_err-keep.result c.from_residual-in_err-keep.ensures.1 in
+    rw (p.1, p.2) tt
+
+pub returns-in_err-keep-clause-complete : goal.returns-in_err-keep-clause-complete
+returns-in_err-keep-clause-complete c =
+    let p = err_from_is_err_and c.from_residual-in_err-keep.result c.from_residual-in_err-keep.ensures.1 in
+    rw p.1 tt

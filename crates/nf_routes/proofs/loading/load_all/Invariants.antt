@@ -5,4 +5,4 @@ use Rattle.nf_routes.proofs.All.{Loads}
 use Rattle.nf_routes.proofs.loading.load_all.Given as goal
 
 abbrev pub invariant-loop-link : goal.invariant-loop-link
-invariant-loop-link l = Loads passes_Q l.net.net (routes_of l.routes) l.horizon l.link-items (seen_so_far l.so_far) l.link-index
+invariant-loop-link l = Loads passes_Q l.kept l.net.net (routes_of l.routes) l.horizon l.link-items (seen_so_far l.so_far) l.link-index

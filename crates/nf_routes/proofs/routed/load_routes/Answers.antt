@@ -1,74 +1,26 @@
-use Rattle.std.proofs.Common.{◌≡◌, List, map, sym, ap, subst, ◌∙◌}
-use Rattle.std.specs.Prelude.{Ok}
-use Rattle.std.proofs.lemmas.Result.{err_from_is_err_and}
+use Rattle.std.proofs.Common.{subst, ap}
+use Rattle.std.specs.Prelude.{Result}
+use Rattle.nf_rational.specs.Rational.{ℚ}
 use Rattle.nf_frac_def.specs.declared.Part.TheVariants.{Load}
+use Rattle.nf_frac_def.specs.declared.PassedAt.{PassedAt}
 use Rattle.nf_frac_def.specs.Passing.{passes_Q}
-use Rattle.nf_frac_def.specs.Checked.{at_part, each}
-use Rattle.nf_check_def.specs.Curves.{departures}
-use Rattle.nf_curve.proofs.Exits.{stops_on, was_ok}
-use Rattle.nf_curve.specs.Points.{Grown}
-use Rattle.nf_load.specs.Loadings.{loaded_of}
-use Rattle.nf_load.specs.declared.loading.Loaded.{Loaded}
-use Rattle.nf_routes_def.specs.Routes.{Route, AreRoutes, HoldCircle}
-use Rattle.nf_routes_def.specs.RoutesFile.{NamedRoute, routes_of}
-use Rattle.nf_routes_def.specs.RoutesList.{loaded_or, routes_list}
-use Rattle.nf_routes_laws.proofs.Arriving.{arrive}
-use Rattle.nf_routes_laws.proofs.Routed.{routes_list-is}
-use Rattle.nf_routes_laws.proofs.FileKept.{are_routes}
-use Rattle.nf_routes.specs.Beginning.{all_loaded}
-use Rattle.nf_routes.specs.Standing.{seen_so_far}
-use Rattle.nf_routes.specs.Travels.{HaveExits, GoOverAll, travel_along}
-use Rattle.nf_routes.proofs.Travelling.{complete_exits, complete_over}
-use Rattle.nf_routes.proofs.Whole.{load_stops, travel_stops, list_comes, same_parts}
+use Rattle.nf_frac_def.specs.Checked.{Gives, at_part}
+use Rattle.nf_routes_def.specs.Meanings.{IsRouted, RoutesArrive}
+use Rattle.nf_routes_def.specs.RoutesFile.{routes_of}
+use Rattle.nf_routes_def.specs.RoutesList.{Routed, routes_list}
+use Rattle.nf_routes.specs.Routed.{routed_of}
+use Rattle.nf_routes.proofs.Sharing.{gives_ok}
+use Rattle.nf_routes.proofs.Whole.{all_of}
 use Rattle.nf_routes.proofs.routed.load_routes.Goals as goal
 
-pub load_all-requires-clause-routes : goal.load_all-requires-clause-routes
-load_all-requires-clause-routes c =
-    subst (λ (l : List NamedRoute). AreRoutes c.args.net.now.net (routes_of l)) (sym c.as_slice-list.ensures.value) (are_routes c.args.net.now.net c.args.routes.now c.as_slice-list.ensures.kept.form c.requires.walks)
-
-pub load_all-requires-clause-straight : goal.load_all-requires-clause-straight
-load_all-requires-clause-straight c = subst (λ (l : List NamedRoute). HoldCircle (routes_of l) → ⊥) (sym c.as_slice-list.ensures.value) c.as_slice-list.ensures.kept.straight
-
-pub returns-in_err-so_far-clause-list : goal.returns-in_err-so_far-clause-list
-returns-in_err-so_far-clause-list c =
-    let p = err_from_is_err_and c.from_residual.result c.from_residual.ensures.1 in
-    let same : c.as_slice-list.result.now ≡ c.args.routes.now = c.as_slice-list.ensures.value in
-    rw (p.1, p.2) (stops_on c.in_err-so_far.field-0.0 (at_part Load (all_loaded passes_Q c.args.net.now.net (routes_of c.as_slice-list.result.now) c.args.horizon)) (at_part Load (routes_list passes_Q c.args.net.now.net (routes_of c.args.routes.now) c.args.horizon))
-    (λ q k. ap (λ (l : List NamedRoute). at_part Load (routes_list passes_Q c.args.net.now.net (routes_of l) c.args.horizon)) (sym same) ∙ load_stops passes_Q c.args.net.now.net (routes_of c.as_slice-list.result.now) c.args.horizon q k) c.in_err-so_far.ensures.list)
-
-pub travels-requires-clause-exits : goal.travels-requires-clause-exits
-travels-requires-clause-exits c =
-    let links : map loaded_of c.deref.result.now ≡ map (loaded_or passes_Q) c.in_ok-so_far.so_far.links.items = ap (λ (l : List Loaded). map loaded_of l) c.deref.ensures.value ∙ c.in_ok-ends.ensures.loaded in
-    subst HaveExits (sym links) (complete_exits passes_Q c.args.net.now.net (routes_of c.as_slice-list.result.now) (seen_so_far c.in_ok-so_far.so_far) c.in_ok-so_far.ensures.complete)
-
-pub travels-requires-clause-over : goal.travels-requires-clause-over
-travels-requires-clause-over c =
-    let same : c.as_slice-list.result.now ≡ c.args.routes.now = c.as_slice-list.ensures.value in
-    let links : map loaded_of c.deref.result.now ≡ map (loaded_or passes_Q) c.in_ok-so_far.so_far.links.items = ap (λ (l : List Loaded). map loaded_of l) c.deref.ensures.value ∙ c.in_ok-ends.ensures.loaded in
-    let are : AreRoutes c.args.net.now.net (routes_of c.as_slice-list.result.now) = subst (λ (l : List NamedRoute). AreRoutes c.args.net.now.net (routes_of l)) (sym same) (are_routes c.args.net.now.net c.args.routes.now c.as_slice-list.ensures.kept.form c.requires.walks) in
-    subst (λ (l : List _). GoOverAll l (routes_of c.as_slice-list.result.now)) (sym links) (complete_over passes_Q c.args.net.now.net (routes_of c.as_slice-list.result.now) (seen_so_far c.in_ok-so_far.so_far) c.in_ok-so_far.ensures.complete are)
-
-pub returns-in_err-travels-clause-list : goal.returns-in_err-travels-clause-list
-returns-in_err-travels-clause-list c =
-    let p = err_from_is_err_and c.from_residual-in_err-travels.result c.from_residual-in_err-travels.ensures.1 in
-    let same : c.as_slice-list.result.now ≡ c.args.routes.now = c.as_slice-list.ensures.value in
-    let links : map loaded_of c.deref.result.now ≡ map (loaded_or passes_Q) c.in_ok-so_far.so_far.links.items = ap (λ (l : List Loaded). map loaded_of l) c.deref.ensures.value ∙ c.in_ok-ends.ensures.loaded in
-    rw (p.1, p.2) (stops_on c.in_err-travels.field-0.0 (at_part Load (each (λ (route : Route). travel_along passes_Q c.args.horizon (map loaded_of c.deref.result.now) route.links (departures c.args.horizon)) (routes_of c.as_slice-list.result.now))) (at_part Load (routes_list passes_Q c.args.net.now.net (routes_of c.args.routes.now) c.args.horizon))
-    (λ q k. ap (λ (l : List NamedRoute). at_part Load (routes_list passes_Q c.args.net.now.net (routes_of l) c.args.horizon)) (sym same) ∙ travel_stops passes_Q c.args.net.now.net (routes_of c.as_slice-list.result.now) c.args.horizon (seen_so_far c.in_ok-so_far.so_far) c.in_ok-so_far.ensures.list (map loaded_of c.deref.result.now) links q k) c.in_err-travels.ensures)
-
 pub returns-clause-list : goal.returns-clause-list
-returns-clause-list c =
-    let same : c.as_slice-list.result.now ≡ c.args.routes.now = c.as_slice-list.ensures.value in
-    let links : map loaded_of c.deref.result.now ≡ map (loaded_or passes_Q) c.in_ok-so_far.so_far.links.items = ap (λ (l : List Loaded). map loaded_of l) c.deref.ensures.value ∙ c.in_ok-ends.ensures.loaded in
-    ap (λ (l : List NamedRoute). at_part Load (routes_list passes_Q c.args.net.now.net (routes_of l) c.args.horizon)) (sym same)
-    ∙ list_comes passes_Q c.args.net.now.net (routes_of c.as_slice-list.result.now) c.args.horizon (seen_so_far c.in_ok-so_far.so_far) c.in_ok-so_far.ensures.list (map loaded_of c.deref.result.now) links (map (λ (g : Grown). g.points) c.in_ok-travels.travels.items) c.in_ok-travels.ensures
-    ∙ ap Ok (same_parts (sym c.in_ok-ends.ensures.ends) (sym c.in_ok-ends.ensures.loaded) (sym c.in_ok-entries.ensures.entries) (sym c.in_ok-entries.ensures.arrivals))
+returns-clause-list c = subst (λ (r : Result Routed (PassedAt ℚ)). Gives routed_of (λ (q : ℚ). q) c.load_kept.result r)
+    (ap (at_part Load) (all_of (routes_list passes_Q c.args.net.now.net (routes_of c.args.routes.now) c.args.horizon))) c.load_kept.ensures.list
 
 pub returns-clause-routed : goal.returns-clause-routed
-returns-clause-routed c =
-    routes_list-is passes_Q c.args.net.now.net (routes_of c.args.routes.now) c.args.horizon _ c.recall.ensures.network (are_routes c.args.net.now.net c.args.routes.now c.as_slice-list.ensures.kept.form c.requires.walks) c.as_slice-list.ensures.kept.straight c.requires.horizon
-    (was_ok Load (routes_list passes_Q c.args.net.now.net (routes_of c.args.routes.now) c.args.horizon) _ (returns-clause-list c))
+returns-clause-routed c = gives_ok routed_of c.load_kept.result (routes_list passes_Q c.args.net.now.net (routes_of c.args.routes.now) c.args.horizon)
+    (IsRouted c.args.net.now.net (routes_of c.args.routes.now) c.args.horizon) (returns-clause-list c) c.load_kept.ensures.routed
 
 pub returns-clause-arrives : goal.returns-clause-arrives
-returns-clause-arrives c =
-    arrive c.args.net.now.net (routes_of c.args.routes.now) c.args.horizon _ c.recall.ensures.network (are_routes c.args.net.now.net c.args.routes.now c.as_slice-list.ensures.kept.form c.requires.walks) c.requires.horizon (returns-clause-routed c)
+returns-clause-arrives c = gives_ok routed_of c.load_kept.result (routes_list passes_Q c.args.net.now.net (routes_of c.args.routes.now) c.args.horizon)
+    (RoutesArrive c.args.net.now.net (routes_of c.args.routes.now) c.args.horizon) (returns-clause-list c) c.load_kept.ensures.arrives

@@ -3,7 +3,7 @@ use Rattle.std.specs.Prelude.{OnOk}
 use Rattle.std.proofs.lemmas.List.{map-append}
 use Rattle.nf_model.specs.Curve.{Point}
 use Rattle.nf_curve.specs.Points.{Grown}
-use Rattle.nf_routes.specs.Carrying.{last_alone}
+use Rattle.nf_routes.specs.Keeping.{last_alone}
 use Rattle.nf_routes.proofs.Alone.{alone_push}
 use Rattle.nf_routes.proofs.stages.Stages.keep_last.Goals as goal
 

@@ -4,7 +4,7 @@ use Rattle.std.proofs.lemmas.Option.{slice_get-get_or}
 use Rattle.std.proofs.lemmas.Result.{err_from_is_err_and}
 use Rattle.nf_model.specs.Curve.{Point}
 use Rattle.nf_routes.proofs.Alone.{turned_next, turned_all}
-use Rattle.nf_routes.proofs.carrying.keep_last_all.Goals as goal
+use Rattle.nf_routes.proofs.keeping.keep_last_all.Goals as goal
 
 pub bounds-entries-i : goal.bounds-entries-i
 bounds-entries-i c = let kept = c.loop-i.invariant.1 in omega arith
