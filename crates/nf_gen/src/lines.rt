@@ -4,8 +4,24 @@ ghost use Rattle.nf_frac_words.specs.Digits.{digits_of};
 ghost use Rattle.nf_text_def.specs.Words.{line_of_words};
 
 use nf_frac_words::{TextBuf, write_count};
-use nf_net::{push_bytes, push_word};
 use std::alloc::AllocError;
+
+/// Appends the bytes. Fails only if an allocation fails.
+pub fn push_bytes(out: &mut Vec<u8>, bytes: &[u8]) -> Result<(), AllocError>
+    ensures { OnOk result (out.new.items ≡ out.old.items ++ bytes.now) }
+{
+    out.extend_from_slice(bytes)?;
+    Ok(())
+}
+
+// Appends a space and a word.
+fn push_word(out: &mut Vec<u8>, word: &[u8]) -> Result<(), AllocError>
+    ensures { OnOk result (out.new.items ≡ out.old.items ++ 32 ∷ word.now) }
+{
+    push_bytes(out, b" ")?;
+    push_bytes(out, word)?;
+    Ok(())
+}
 
 // Appends a space and the digits of a count.
 fn push_count(out: &mut Vec<u8>, count: u64) -> Result<(), AllocError>
