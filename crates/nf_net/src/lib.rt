@@ -15,5 +15,5 @@ pub use network::Network;
 pub use nf_graph::{Hop, LinkId, NodeId};
 pub use nf_net_def::NetRule;
 pub use nf_net_file::{LONGEST_FILE, LONGEST_NAME, Link, MOST_NODES, NetFault, Piece};
-pub use printing::{push_bytes, push_word, text};
+pub use printing::text;
 pub use reading::parse;

@@ -17,16 +17,15 @@ use nf_graph::{LinkId, NodeId};
 use nf_net_file::{NamedLink, Piece};
 use std::alloc::{AllocError, Global};
 
-/// Appends the bytes. Fails only if an allocation fails.
-pub fn push_bytes(out: &mut Vec<u8>, bytes: &[u8]) -> Result<(), AllocError>
+fn push_bytes(out: &mut Vec<u8>, bytes: &[u8]) -> Result<(), AllocError>
     ensures { OnOk result (out.new.items ≡ out.old.items ++ bytes.now) }
 {
     out.extend_from_slice(bytes)?;
     Ok(())
 }
 
-/// Appends a space and a word. Fails only if an allocation fails.
-pub fn push_word(out: &mut Vec<u8>, word: &[u8]) -> Result<(), AllocError>
+// Appends a space and a word.
+fn push_word(out: &mut Vec<u8>, word: &[u8]) -> Result<(), AllocError>
     ensures { OnOk result (out.new.items ≡ out.old.items ++ 32 ∷ word.now) }
 {
     push_bytes(out, b" ")?;
