@@ -35,8 +35,8 @@ unwrap-requires c =
     (subst (λ (steps : List Step). IsResidualWalk c.args.net.now.net c.args.flows.now steps c.args.net.now.net.source c.args.net.now.net.sink) (sym along) (c.requires.walk c.in-Some.way c.in-Some.is))
     (ok_of_part _ c.in_ok-room-in-Some.room (sym c.in_ok-room-in-Some.ensures))
 
-pub returns-in-Some : goal.returns-in-Some
-returns-in-Some c =
+pub returns-in_ok-room-in-Some : goal.returns-in_ok-room-in-Some
+returns-in_ok-room-in-Some c =
     ap (λ (r : Reach). Ok (Some (walk_of r c.unwrap.result))) c.way.view_is
     ∙ room_found passes_Q c.args.net.now.net c.args.flows.now c.args.way c.in-Some.way c.deref.result.now c.in-Some.is
     (c.deref.ensures.value ∙ ap (λ (r : Reach). r.steps) c.way.view_is) c.in_ok-room-in-Some.room c.in_ok-room-in-Some.ensures c.unwrap.result c.unwrap.ensures
