@@ -108,10 +108,22 @@ impl Question {
         base: &Pattern,
         unbounded: &[bool],
     ) -> Result<Question, AllocError>
-        requires { IsQuestion (record { nodes = graph.nodes; source = graph.source; hops = graph.hops.now;
-            sets = sets.now; unbounded = unbounded.now; base = base.now }) }
-        ensures { IfOk result (λ question. question ≡ record { nodes = graph.nodes; source = graph.source; hops = graph.hops.now;
-            sets = sets.now; unbounded = unbounded.now; base = base.now }) }
+        requires { IsQuestion (record {
+          nodes = graph.nodes;
+          source = graph.source;
+          hops = graph.hops.now;
+          sets = sets.now;
+          unbounded = unbounded.now;
+          base = base.now;
+        }) }
+        ensures { IfOk result (λ question. question ≡ record {
+          nodes = graph.nodes;
+          source = graph.source;
+          hops = graph.hops.now;
+          sets = sets.now;
+          unbounded = unbounded.now;
+          base = base.now;
+        }) }
     {
         let flags = copied_flags(alloc, sets, graph.hops.len())?;
         let hops = graph.hops.to_vec(alloc)?;
