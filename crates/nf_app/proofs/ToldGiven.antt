@@ -7,7 +7,6 @@ use Rattle.nf_frac_def.specs.declared.PassedAt.{PassedAt}
 use Rattle.nf_model.specs.Network.{Network}
 use Rattle.nf_net_def.specs.Named.{Named}
 use Rattle.nf_net_def.specs.Report.{Report}
-use Rattle.nf_report_def.specs.LoadsFile.{loads_in}
 use Rattle.nf_report_def.specs.ReportFile.{ReportBroken, report_in}
 use Rattle.nf_quick_def.specs.Quick.{Quick as QuickFlow}
 use Rattle.nf_quick_def.specs.Quick as quick

@@ -1,5 +1,5 @@
 -- Why a command that has its network gives no full answer. `text` is the bytes of its second file.
-use Rattle.std.specs.Prelude.{◌≡◌, ◌⊎◌, ℕ, List, Result, Ok, Err}
+use Rattle.std.specs.Prelude.{◌≡◌, ◌⊎◌, ℕ, List, Ok, Err}
 use Rattle.nf_rational.specs.Rational.{ℚ}
 use Rattle.nf_rational.specs.Operations.{0ℚ}
 use Rattle.nf_rational.specs.Order.{◌≤ℚ◌, ◌<ℚ◌}
@@ -11,14 +11,13 @@ use Rattle.nf_net_def.specs.Named.{Named}
 use Rattle.nf_net_def.specs.Report.{Report}
 use Rattle.nf_check_def.specs.declared.Answer.{Answer as Verdict}
 use Rattle.nf_check_def.specs.CheckList.{check_list}
-use Rattle.nf_report_def.specs.LoadsFile.{LoadsBroken, loads_in}
-use Rattle.nf_report_def.specs.ReportFile.{ReportBroken}
+use Rattle.nf_report_def.specs.LoadsFile.{loads_in}
 use Rattle.nf_quick_def.specs.Steps.{IsUnboundedWalk}
 use Rattle.nf_quick_def.specs.Quick.{Augment, Quick, FoundQuick, Budget}
 use Rattle.nf_quick_def.specs.InOrder.{EndsAtBudget}
 use Rattle.nf_quick.specs.Answered.{HasNoWay}
-use Rattle.nf_complete_def.specs.FlowsFile.{FlowsBroken, GivenFlows, flows_in}
-use Rattle.nf_routes_def.specs.RoutesFile.{RoutesBroken, NamedRoute, ReadsRoutes}
+use Rattle.nf_complete_def.specs.FlowsFile.{GivenFlows, flows_in}
+use Rattle.nf_routes_def.specs.RoutesFile.{NamedRoute, ReadsRoutes}
 use Rattle.nf_resume_def.specs.Resuming.{resume_list}
 use Rattle.nf_resume.specs.Faults.{IsRefusedReport}
 use Rattle.nf_app_answers.specs.Answers.{ProgramAnswer, Checked, TooManyWalks, MalformedLoads, MalformedFlows, MalformedRoutes, MalformedReport, Passes, Unbounded, NotThin, Earlier}

@@ -1,5 +1,5 @@
 // Answering the words: an outcome, or why there is none.
-ghost use Rattle.std.specs.Prelude.{◌≡◌, ◌≤◌, ℕ, List, length, Some, Ok, Err, IfOk, MatchResult};
+ghost use Rattle.std.specs.Prelude.{◌≡◌, ◌≤◌, ℕ, List, length, Some, Ok, Err};
 ghost use Rattle.nf_rational.specs.Operations.{0ℚ};
 ghost use Rattle.nf_rational.specs.Order.{◌≤ℚ◌};
 ghost use Rattle.nf_edge.specs.Names.{texts};
@@ -10,9 +10,7 @@ ghost use Rattle.nf_quick.specs.declared.fault.QuickFault.TheVariants as QuickFa
 ghost use Rattle.nf_quick_def.specs.Answers.{IsQuickFlow};
 ghost use Rattle.nf_rational.specs.Rational.{ℚ};
 ghost use Rattle.nf_net_def.specs.Named.{Named};
-ghost use Rattle.nf_net_def.specs.Report.{Report as SeenReport, IsWellFormed};
-ghost use Rattle.nf_report_def.specs.ReportFile.{report_in};
-ghost use Rattle.nf_report_read.specs.Files.{IfBroken, report_of};
+ghost use Rattle.nf_net_def.specs.Report.{Report as SeenReport};
 ghost use Rattle.nf_resume.specs.Faults.{IsResumeFault};
 ghost use Rattle.nf_app_files.specs.Files.{visit, report_limit};
 ghost use Rattle.nf_app_words.specs.Requests.{Solve, SolveForever, Show, Load, Check, Gen, Settle, Resume, Routes, CanBeAsked, request_of};
@@ -37,7 +35,7 @@ use nf_load::parse_loads;
 use nf_net::{Network, text};
 use nf_phase::{Budgets, solve};
 use nf_quick::{Augment, Quick, QuickFault, departure, quickest};
-use nf_report::{Report, ReportFault, parse_report};
+use nf_report::parse_report;
 use nf_resume::{ResumeFault, resume};
 use nf_routes::carry_routes;
 use nf_routes_read::parse_routes;
@@ -109,24 +107,15 @@ fn load_to(alloc: Global, net: &Network, loads: &[u8], horizon: Q) -> Result<Com
     Ok(Computed::Loaded { horizon, links })
 }
 
-// Parses a report. The text, which may be long, is dropped.
-fn parse_whole(alloc: Global, net: &Network, text: Vec<u8>) -> Result<Report, ReportFault>
-    requires { length text.items ≤ report_limit }
-    ensures reads { MatchResult result (λ report. report_in net.now text.items ≡ Ok (report_of report))
-        (λ fault. IfBroken fault (λ broken. report_in net.now text.items ≡ Err broken)) }
-    ensures formed { IfOk result (λ report. IsWellFormed net.now.net (report_of report)) }
-{
-    parse_report(alloc, net, &text)
-}
-
-// Parses a report and checks its flow.
+// Parses a report and checks its flow. The text, which may be long, is dropped before.
 fn check_report(alloc: Global, net: &Network, text: Vec<u8>) -> Result<Computed, Refusal>
     requires { length text.items ≤ report_limit }
     ensures { (file name : List ℕ) → IsGiving net.now text.items (Check file name) result }
 {
     // Proof: the network is that of an accepted file.
     net.recall();
-    let report = parse_whole(alloc, net, text)?;
+    let report = parse_report(alloc, net, &text)?;
+    drop(text);
     let verdict = check(alloc, net, &report.flow)?;
     Ok(Computed::Checked { verdict })
 }
@@ -156,7 +145,7 @@ fn refuse_resume(fault: ResumeFault) -> Result<Computed, Refusal>
     }
 }
 
-// Parses a report and resumes it to a horizon.
+// Parses a report and resumes it to a horizon. The text, which may be long, is dropped before.
 fn resume_to(
     alloc: Global,
     net: &Network,
@@ -170,7 +159,8 @@ fn resume_to(
     // Proof: the network is that of an accepted file, and the parts of the horizon are within the bound.
     net.recall();
     horizon.recall();
-    let report = parse_whole(alloc, net, text)?;
+    let report = parse_report(alloc, net, &text)?;
+    drop(text);
     match resume(alloc, net, &report, horizon, budgets) {
         Ok(solution) => Ok(Computed::Solved { horizon, solution }),
         Err(fault) => refuse_resume(fault),

@@ -23,12 +23,11 @@ pub(crate) struct Question {
     stated: StatedLinks,
 }
 
-// The links of a listing, between `nodes` nodes, and the number of the source.
+// The nodes of a listing: how many there are, and which of them is the source.
 #[derive(Clone, Copy)]
-pub(crate) struct Graph<'a> {
-    pub(crate) nodes: u32,
+pub(crate) struct Nodes {
+    pub(crate) count: u32,
     pub(crate) source: NodeId,
-    pub(crate) hops: &'a [Hop],
 }
 
 // The progress of a listing: before the first listed pattern, at a listed pattern, or after the last.
@@ -103,24 +102,37 @@ impl Question {
     // Returns the question of these values, copied. Fails if an allocation fails.
     pub(crate) fn new(
         alloc: Global,
-        graph: Graph,
+        nodes: Nodes,
+        hops: &[Hop],
         sets: &LinkSets,
         base: &Pattern,
         unbounded: &[bool],
     ) -> Result<Question, AllocError>
-        requires { IsQuestion (record { nodes = graph.nodes; source = graph.source; hops = graph.hops.now;
-            sets = sets.now; unbounded = unbounded.now; base = base.now }) }
-        ensures { IfOk result (λ question. question ≡ record { nodes = graph.nodes; source = graph.source; hops = graph.hops.now;
-            sets = sets.now; unbounded = unbounded.now; base = base.now }) }
+        requires { IsQuestion (record {
+          nodes = nodes.count;
+          source = nodes.source;
+          hops = hops.now;
+          sets = sets.now;
+          unbounded = unbounded.now;
+          base = base.now;
+        }) }
+        ensures { IfOk result (λ question. question ≡ record {
+          nodes = nodes.count;
+          source = nodes.source;
+          hops = hops.now;
+          sets = sets.now;
+          unbounded = unbounded.now;
+          base = base.now;
+        }) }
     {
-        let flags = copied_flags(alloc, sets, graph.hops.len())?;
-        let hops = graph.hops.to_vec(alloc)?;
+        let flags = copied_flags(alloc, sets, hops.len())?;
+        let hops = hops.to_vec(alloc)?;
         let unbounded = unbounded.to_vec(alloc)?;
         let base = base.copy(alloc)?;
         let stated = StatedLinks::new(alloc, base.states())?;
         Ok(Question {
-            nodes: graph.nodes,
-            source: graph.source,
+            nodes: nodes.count,
+            source: nodes.source,
             hops,
             active: flags.0,
             resetting: flags.1,

@@ -3,7 +3,7 @@ ghost use Rattle.std.specs.Prelude.{◌≡◌, [], ◌∷◌, Some, None, codes}
 ghost use Rattle.std.specs.Option.{option_copied};
 ghost use Rattle.nf_frac_words.specs.Digits.{digits_of};
 ghost use Rattle.nf_frac_words.specs.Printed.{printed};
-ghost use Rattle.nf_net_def.specs.Causes.{part_word, op_word, cause_words, passed_words};
+ghost use Rattle.nf_net_def.specs.Causes.{part_word, op_word, count_word, cause_words, passed_words};
 ghost use Rattle.nf_net_def.specs.Report.{state_word, state_line};
 ghost use Rattle.nf_report.specs.Written.{WroteLines};
 ghost use Rattle.nf_report.specs.Pages.{GatheredLines};
@@ -50,6 +50,19 @@ fn state_text(state: State) -> &'static [u8]
         State::Tight => b"tight",
         State::Full => b"full",
         State::Zero => b"zero",
+    }
+}
+
+// Returns the digits of a count, which are written to `text`, or `-` without a count.
+fn count_text<'t>(count: Option<u64>, text: &'t mut TextBuf) -> &'t [u8]
+    ensures { result.now ≡ count_word count }
+{
+    match count {
+        None => b"-",
+        Some(count) => {
+            write_count(count, text);
+            text.text()
+        }
     }
 }
 
@@ -101,72 +114,42 @@ fn put_patterns<O: Sink>(
     put_line(out, page, key, &[b"patterns", first.text(), second.text()])
 }
 
-// Puts an operation that passes: the words for its phase, part, place and operation, and its operands.
-fn put_operation<'w, O: Sink>(
+// Puts an operation that passes, with its phase and its place if there are any.
+fn put_passed<O: Sink>(
     out: &mut O,
     page: &mut Page,
     key: &[u8],
-    phase: &'w [u8],
-    part: &'w [u8],
-    place: &'w [u8],
-    op: &'w [u8],
+    phase: Option<u64>,
+    place: Option<u64>,
     at: &PassedAt<Q>,
 ) -> Result<(), SinkFault>
     ensures { GatheredLines (O.took out.old) (O.took out.new) (O.faults out.old) (O.faults out.new) page.old page.new
-        ((key.now ∷ codes "passed" ∷ phase.now ∷ part.now ∷ place.now ∷ op.now
-        ∷ printed at.now.left ∷ printed at.now.right ∷ []) ∷ []) result }
+        ((key.now ∷ passed_words phase place at.now) ∷ []) result }
 {
+    let mut phase_text = TextBuf::new();
+    let mut place_text = TextBuf::new();
     let mut left = TextBuf::new();
     let mut right = TextBuf::new();
+    let phase_word = count_text(phase, &mut phase_text);
+    let place_word = count_text(place, &mut place_text);
+    let part = part_text(at.part);
+    let op = op_text(at.op);
     at.left.write(&mut left);
     at.right.write(&mut right);
     put_line(
         out,
         page,
         key,
-        &[b"passed", phase, part, place, op, left.text(), right.text()],
+        &[
+            b"passed",
+            phase_word,
+            part,
+            place_word,
+            op,
+            left.text(),
+            right.text(),
+        ],
     )
-}
-
-fn put_passed<O: Sink>(
-    out: &mut O,
-    page: &mut Page,
-    key: &[u8],
-    phase: u64,
-    place: Option<u64>,
-    at: &PassedAt<Q>,
-) -> Result<(), SinkFault>
-    ensures { GatheredLines (O.took out.old) (O.took out.new) (O.faults out.old) (O.faults out.new) page.old page.new
-        ((key.now ∷ passed_words (Some phase) place at.now) ∷ []) result }
-{
-    let mut phase_word = TextBuf::new();
-    write_count(phase, &mut phase_word);
-    match place {
-        None => put_operation(
-            out,
-            page,
-            key,
-            phase_word.text(),
-            part_text(at.part),
-            b"-",
-            op_text(at.op),
-            at,
-        ),
-        Some(place) => {
-            let mut place_word = TextBuf::new();
-            write_count(place, &mut place_word);
-            put_operation(
-                out,
-                page,
-                key,
-                phase_word.text(),
-                part_text(at.part),
-                place_word.text(),
-                op_text(at.op),
-                at,
-            )
-        }
-    }
 }
 
 /// Writes a line: this word, and the operation that passes in a command without phases. Allocates nothing.
@@ -181,9 +164,7 @@ pub fn write_passed_call<O: Sink>(
         ((key.now ∷ passed_words None None at.now) ∷ []) result }
 {
     let mut page = Page::new();
-    let part = part_text(at.part);
-    let op = op_text(at.op);
-    put_operation(out, &mut page, key, b"-", part, b"-", op, at)?;
+    put_passed(out, &mut page, key, None, None, at)?;
     write_text(out, page.as_slice())
 }
 
@@ -195,7 +176,7 @@ fn put_stop<O: Sink>(out: &mut O, page: &mut Page, key: &[u8], stop: &Stop) -> R
     match stop {
         Stop::Phases { made } => put_counted(out, page, key, b"phases", *made),
         Stop::Patterns { phase, tried } => put_patterns(out, page, key, *phase, *tried),
-        Stop::Passed { phase, place, at } => put_passed(out, page, key, *phase, *place, at),
+        Stop::Passed { phase, place, at } => put_passed(out, page, key, Some(*phase), *place, at),
         Stop::NoPattern { phase } => put_counted(out, page, key, b"nopattern", *phase),
     }
 }

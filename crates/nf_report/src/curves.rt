@@ -1,6 +1,5 @@
 // The lines of a curve: one for each of its points.
 ghost use Rattle.std.specs.Prelude.{◌≡◌, [], ◌∷◌, ◌++◌, slice_get, codes};
-ghost use Rattle.nf_frac_words.specs.Printed.{printed};
 ghost use Rattle.nf_net_def.specs.Report.{point_lines, trace_lines};
 ghost use Rattle.nf_report.specs.Written.{WroteLines, point_line, trace_line};
 ghost use Rattle.nf_report.specs.Pages.{GatheredLines};

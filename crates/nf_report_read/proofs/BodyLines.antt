@@ -13,7 +13,8 @@ use Rattle.nf_report_def.specs.ReportCauses.{or_rule, printed_number}
 use Rattle.nf_report_def.specs.ReportLines.{Kind, LineKind, ReportDraft, Opened, key_word, opened, comes_after, rate_word, with_rate, with_point, are_alike, begins_with, point_line, trace_line, line_kind, line_of_kind, body_line, has_all, with_current, state_in, state_of_link, state_line, capacity_at}
 use Rattle.nf_text.specs.Within.{word_at}
 use Rattle.nf_report_read.specs.declared.body.LineKind as code
-use Rattle.nf_report_read.specs.Lines.{IsLinkNamed, seen_line_kind, state_read}
+use Rattle.nf_side.specs.NameAt.{IsNameAt}
+use Rattle.nf_report_read.specs.Lines.{seen_line_kind, state_read}
 use Rattle.nf_report_read.proofs.WordCounts.{first_word}
 
 -- ---- a line by its first word
@@ -118,7 +119,7 @@ state_count n draft (key ∷ a ∷ []) lt ne = refl
 state_count n draft (key ∷ a ∷ b ∷ []) lt ne = absurd (ne refl)
 state_count n draft (key ∷ a ∷ b ∷ c ∷ words) lt ne = refl
 
-module _ (n : Named) (draft : ReportDraft) (words : List (List ℕ)) (name word : List ℕ) (is : drop 1 words ≡ name ∷ word ∷ []) (link : ℕ) (named : IsLinkNamed n.link_names name link) (late : draft.next_state ≤ link) where
+module _ (n : Named) (draft : ReportDraft) (words : List (List ℕ)) (name word : List ℕ) (is : drop 1 words ≡ name ∷ word ∷ []) (link : ℕ) (named : IsNameAt n.link_names name link) (late : draft.next_state ≤ link) where
   abbrev put : ℕ → State → Result ReportDraft ReportRule
   put e state = if has_all draft.keys
       then Ok (record draft { done = with_current draft.done draft.current; current = None; next_state = suc e; states = set draft.states e (Some state) })
@@ -130,7 +131,7 @@ module _ (n : Named) (draft : ReportDraft) (words : List (List ℕ)) (name word 
   pub state_wrong : (rule : ReportRule) → state_read (capacity_at n.net.links link) word ≡ Err rule → state_line n draft (drop 1 words) ≡ Err rule
   state_wrong rule e =
       ap (state_line n draft) is
-      ∙ (λ i. by_link (named.there i) (named.place i) (nat_lt (named.place i) draft.next_state))
+      ∙ (λ i. by_link (named.there i) (named.is_place i) (nat_lt (named.is_place i) draft.next_state))
       ∙ ap (by_link true link) (le-ltb link draft.next_state late)
       ∙ goes_wrong (or_rule P9 (state_in word)) (state_of_link (capacity_at n.net.links link)) (put link) rule e
 
@@ -138,7 +139,7 @@ module _ (n : Named) (draft : ReportDraft) (words : List (List ℕ)) (name word 
       → state_line n draft (drop 1 words) ≡ (if b then Ok (record draft { done = with_current draft.done draft.current; current = None; next_state = suc link; states = set draft.states link (Some state) }) else Err P13)
   state_out state b e eb =
       ap (state_line n draft) is
-      ∙ (λ i. by_link (named.there i) (named.place i) (nat_lt (named.place i) draft.next_state))
+      ∙ (λ i. by_link (named.there i) (named.is_place i) (nat_lt (named.is_place i) draft.next_state))
       ∙ ap (by_link true link) (le-ltb link draft.next_state late)
       ∙ goes_on (or_rule P9 (state_in word)) (state_of_link (capacity_at n.net.links link)) (put link) state e
       ∙ ap (λ (b : Bool). if b then Ok (record draft { done = with_current draft.done draft.current; current = None; next_state = suc link; states = set draft.states link (Some state) }) else Err P13) eb

@@ -1,6 +1,5 @@
 pub mod KeyNumbers
 pub mod WordCounts
-pub mod LinkNames
 pub mod DraftSteps
 pub mod LastPoints
 pub mod LineByLine

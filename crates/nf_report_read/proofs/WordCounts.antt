@@ -2,6 +2,7 @@
 use Rattle.std.proofs.Common.{◌≡◌, ℕ, ◌<◌, Bool, true, false, cond, List, [], ◌∷◌, length, drop, Option, Some, None, refl, sym, ◌∙◌, ap, arith, bytes_eq, codes, Err}
 use Rattle.nf_frac_def.specs.Checked.{◌>>=◌}
 use Rattle.nf_text.specs.Within.{word_at}
+use Rattle.nf_side.proofs.WordCounts.{one_word, two_words, three_words, four_words}
 use Rattle.nf_report_def.specs.declared.ReportRule.TheVariants.{P9}
 use Rattle.nf_report_def.specs.ReportCauses.{or_rule, CauseKind, IsDone, IsPhases, IsPatterns, IsPassed, IsNoPattern, cause_kind, cause_of_kind, cause_in}
 
@@ -9,10 +10,6 @@ abbrev pub Words : Type 0
 Words = List (List ℕ)
 
 -- the words, one by one
-pub no_words : (words : Words) → length words ≡ 0 → words ≡ []
-no_words [] e = refl
-no_words (w ∷ ws) e = absurd (omega arith)
-
 pub first_word : (words : Words) → 0 < length words → words ≡ word_at words 0 ∷ drop 1 words
 first_word [] lt = absurd (omega arith)
 first_word (w ∷ ws) lt = refl
@@ -24,27 +21,7 @@ second_word (a ∷ b ∷ ws) lt = refl
 
 pub one_behind : (words : Words) → length words ≡ 2 → drop 1 words ≡ word_at words 1 ∷ []
 one_behind [] e = absurd (omega arith)
-one_behind (a ∷ ws) e = at ws (omega arith)
-  where
-    at : (ws : Words) → length ws ≡ 1 → ws ≡ word_at ws 0 ∷ []
-    at [] e = absurd (omega arith)
-    at (w ∷ rest) e = ap (λ (l : Words). w ∷ l) (no_words rest (omega arith))
-
-one_word : (words : Words) → length words ≡ 1 → words ≡ word_at words 0 ∷ []
-one_word [] e = absurd (omega arith)
-one_word (w ∷ ws) e = ap (λ (l : Words). w ∷ l) (no_words ws (omega arith))
-
-two_words : (words : Words) → length words ≡ 2 → words ≡ word_at words 0 ∷ word_at words 1 ∷ []
-two_words [] e = absurd (omega arith)
-two_words (w ∷ ws) e = ap (λ (l : Words). w ∷ l) (one_word ws (omega arith))
-
-three_words : (words : Words) → length words ≡ 3 → words ≡ word_at words 0 ∷ word_at words 1 ∷ word_at words 2 ∷ []
-three_words [] e = absurd (omega arith)
-three_words (w ∷ ws) e = ap (λ (l : Words). w ∷ l) (two_words ws (omega arith))
-
-four_words : (words : Words) → length words ≡ 4 → words ≡ word_at words 0 ∷ word_at words 1 ∷ word_at words 2 ∷ word_at words 3 ∷ []
-four_words [] e = absurd (omega arith)
-four_words (w ∷ ws) e = ap (λ (l : Words). w ∷ l) (three_words ws (omega arith))
+one_behind (w ∷ ws) e = one_word ws (omega arith)
 
 six_words : (words : Words) → length words ≡ 6 → words ≡ word_at words 0 ∷ word_at words 1 ∷ word_at words 2 ∷ word_at words 3 ∷ word_at words 4 ∷ word_at words 5 ∷ []
 six_words [] e = absurd (omega arith)

@@ -1,19 +1,13 @@
 -- Lines of a report, and their effects.
-use Rattle.std.specs.Prelude.{◌≡◌, suc, ◌<◌, true, List, [], ◌∷◌, ◌++◌, length, set, Option, Some, None, IsSome, Result, Ok, Err}
+use Rattle.std.specs.Prelude.{◌≡◌, suc, ◌<◌, true, List, [], ◌∷◌, ◌++◌, length, set, Option, Some, None, IsSome}
 use Rattle.std.specs.List.{last_or}
 use Rattle.nf_net_def.specs.Named.{Named}
-use Rattle.nf_report_def.specs.declared.ReportRule.{ReportRule}
 use Rattle.nf_report_def.specs.ReportLines as lines
 use Rattle.nf_report_def.specs.ReportLines.{CurveKey, ReadCurve, ReportDraft, Opened, key_of, with_current, with_point, with_rate, comes_after}
 use Rattle.nf_report_read.specs.declared.entry.Opening.{Opening}
 use Rattle.nf_report_read.specs.declared.entry.Opening.TheVariants.{GoesOn, Begins}
 use Rattle.nf_report_read.specs.declared.entry.Entry.{Entry}
 use Rattle.nf_report_read.specs.declared.entry.Entry.TheVariants.{Version, Horizon, Reached, Cause, OfCurve, Never, OfLink, End}
-
--- applies f to the meaning of a line, and returns a broken rule unchanged
-abbrev pub said_by : {A B : Type 0} → (A → B) → Result A ReportRule → Result B ReportRule
-said_by f (Ok x) = Ok (f x)
-said_by f (Err rule) = Err rule
 
 -- ---- the curve that a line extends
 -- the next curve, without points, after the complete ones

@@ -1,9 +1,8 @@
 -- Kinds of lines of a report.
-use Rattle.std.specs.Prelude.{◌≡◌, ℕ, ◌<◌, true, List, length, Option, Some, None, Result}
+use Rattle.std.specs.Prelude.{ℕ, List, Option, Some, None, Result}
 use Rattle.nf_rational.specs.Rational.{ℚ}
 use Rattle.nf_frac_def.specs.Checked.{◌>>=◌}
 use Rattle.nf_text_def.specs.Words.{ReadLine}
-use Rattle.nf_net_def.specs.Names.{Name, has_name, place_of}
 use Rattle.nf_model.specs.declared.State.{State}
 use Rattle.nf_report_def.specs.declared.ReportRule.{ReportRule}
 use Rattle.nf_report_def.specs.declared.ReportRule.TheVariants.{P9}
@@ -28,9 +27,3 @@ words_behind (Some line) = Some line.words
 -- reads the state of a link with this capacity
 abbrev pub state_read : Option ℚ → List ℕ → Result State ReportRule
 state_read capacity word = or_rule P9 (lines.state_in word) >>= lines.state_of_link capacity
-
--- the list contains the name, and its index is `link`
-pub record IsLinkNamed (names : List Name) (name : Name) (link : ℕ) : Type 0 where
-  pub there : has_name names name ≡ true
-  pub place : place_of names name ≡ link
-  pub within : link < length names

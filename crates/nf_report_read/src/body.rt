@@ -1,12 +1,12 @@
 // The lines of a report after its head.
-ghost use Rattle.std.specs.Prelude.{◌≡◌, ◌<◌, false, length, drop, option_map, IfOk, MatchOption};
+ghost use Rattle.std.specs.Prelude.{◌≡◌, ◌<◌, length, drop, option_map, IfOk};
 ghost use Rattle.std.specs.Option.{option_copied};
-ghost use Rattle.nf_net_def.specs.Names.{has_name};
 ghost use Rattle.nf_report_def.specs.ReportLines.{key_word, begins_with, point_line, trace_line, never_line, state_in, capacity_at, state_line, end_line, line_kind, body_line, are_alike as are_alike_by};
 ghost use Rattle.nf_report_read.specs.Keys.{seen_kind};
-ghost use Rattle.nf_report_read.specs.Lines.{seen_line_kind, words_behind, state_read, IsLinkNamed};
+ghost use Rattle.nf_report_read.specs.Lines.{seen_line_kind, words_behind, state_read};
 ghost use Rattle.nf_report_read.specs.Drafts.{seen_draft, IsWithin};
-ghost use Rattle.nf_report_read.specs.Entries.{said_by, drafted, Fits};
+ghost use Rattle.nf_report_read.specs.Entries.{drafted, Fits};
+ghost use Rattle.nf_side.specs.Said.{said_by};
 
 use crate::draft::Draft;
 use crate::entry::{Entry, RatedPoint};
@@ -15,6 +15,7 @@ use crate::numbers::{read_number, read_rate};
 use nf_model::State;
 use nf_net::{LinkId, Network};
 use nf_report_def::ReportRule;
+use nf_side::link_of;
 use nf_text::{ReadLine, is_word};
 
 /// The kind of a line after the head.
@@ -66,19 +67,6 @@ fn state_named(word: &[u8]) -> Option<State>
     }
 }
 
-// Returns the link that a word names.
-#[tactic(auto, using(crate::proofs::LinkNames::is_there, crate::proofs::LinkNames::no_text))]
-fn link_of(net: &Network, word: &[u8]) -> Option<LinkId>
-    ensures { MatchOption result (has_name net.now.link_names word.now ≡ false) (λ link. IsLinkNamed net.now.link_names word.now link) }
-{
-    // Proof: the names of links differ.
-    net.recall();
-    match std::str::from_utf8(word) {
-        Ok(name) => net.link_named(name),
-        Err(_) => None,
-    }
-}
-
 // Reads the state of a link. Fails with P9 if the word is unknown, or if an unbounded link is full.
 fn read_state(net: &Network, link: LinkId, word: &[u8]) -> Result<State, ReportRule>
     requires { link < length net.now.net.links }
@@ -124,7 +112,7 @@ impl Draft {
         let opening = self.opened(net, kind, line.at(1))?;
         let time = read_number(line.at(2))?;
         let value = read_number(line.at(3))?;
-        if !self.comes_after(net, opening, time) {
+        if !self.comes_after(opening, time) {
             return Err(ReportRule::P11);
         }
         Ok(Entry::OfCurve(
@@ -163,7 +151,7 @@ impl Draft {
             Ok(rate) => rate,
             Err(rule) => return Err(rule),
         };
-        if !self.comes_after(net, opening, time) {
+        if !self.comes_after(opening, time) {
             return Err(ReportRule::P11);
         }
         if are_alike(rate.is_none(), goes_on(next, kind, name)) {

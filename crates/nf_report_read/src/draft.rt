@@ -1,5 +1,5 @@
 // The parser state of a report.
-ghost use Rattle.std.specs.Prelude.{◌≡◌, true, ◌+◌, ◌<◌, ◌≤◌, [], ◌∷◌, ◌++◌, length, IfOk, OnOk, IsSome, IfSome};
+ghost use Rattle.std.specs.Prelude.{◌≡◌, true, ◌+◌, ◌<◌, [], ◌∷◌, ◌++◌, length, IfOk, OnOk, IsSome, IfSome};
 ghost use Rattle.std.specs.List.{last_or};
 ghost use Rattle.nf_net_def.specs.Named.{Named};
 ghost use Rattle.nf_report_def.specs.ReportLines.{empty_report, curve_keys, with_rate, comes_after, has_all as has_all_by};
@@ -175,28 +175,6 @@ impl Draft {
         }
     }
 
-    // Appends a point to the current curve, or begins the next curve with it.
-    fn add_point(
-        &mut self,
-        alloc: Global,
-        net: &Network,
-        opening: Opening,
-        point: &RatedPoint,
-    ) -> Result<(), AllocError>
-        requires within { IsWithin net.now self.old }
-        requires fits { Fits net.now (seen_draft net.now self.old) (OfCurve opening point.now) }
-        ensures draft { OnOk result
-            (seen_draft net.now self.new ≡ drafted net.now (seen_draft net.now self.old) (OfCurve opening point.now)) }
-        ensures within { OnOk result (IsWithin net.now self.new) }
-    {
-        // Proof: the clauses refer to the network's curves.
-        let _ = net;
-        match opening {
-            Opening::Begins => self.begin(alloc, point),
-            Opening::GoesOn => self.go_on(point),
-        }
-    }
-
     // Completes the current curve, and adds an idle node, which has no curve.
     fn add_never(&mut self) -> Result<(), AllocError>
         ensures draft { (n : Named) → IsWithin n self.old → Fits n (seen_draft n self.old) Never
@@ -254,7 +232,8 @@ impl Draft {
                 self.stop = *stop;
                 self.stage = Stage::Body;
             }
-            Entry::OfCurve(opening, point) => return self.add_point(alloc, net, *opening, point),
+            Entry::OfCurve(Opening::Begins, point) => return self.begin(alloc, point),
+            Entry::OfCurve(Opening::GoesOn, point) => return self.go_on(point),
             Entry::Never => return self.add_never(),
             Entry::OfLink(link, state) => return self.add_state(net, *link, *state),
             Entry::End => return self.add_end(),

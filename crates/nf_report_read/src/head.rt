@@ -6,7 +6,7 @@ ghost use Rattle.nf_net_def.specs.Named.{Named};
 ghost use Rattle.nf_report_def.specs.ReportLines as lines;
 ghost use Rattle.nf_report_def.specs.ReportLines.{ReportDraft, is_version as is_version_by, number_alone, horizon_line, reached_line, cause_line};
 ghost use Rattle.nf_report_read.specs.Drafts.{seen_draft};
-ghost use Rattle.nf_report_read.specs.Entries.{said_by};
+ghost use Rattle.nf_side.specs.Said.{said_by};
 
 use crate::causes::read_cause;
 use crate::draft::Draft;

@@ -6,7 +6,8 @@ ghost use Rattle.nf_report_def.specs.ReportLines.{ReportDraft, version_line, not
 ghost use Rattle.nf_report_def.specs.ReportFile.{in_report_line};
 ghost use Rattle.nf_report_read.specs.Lines.{words_behind};
 ghost use Rattle.nf_report_read.specs.Drafts.{seen_draft, IsWithin};
-ghost use Rattle.nf_report_read.specs.Entries.{said_by, drafted, Fits};
+ghost use Rattle.nf_report_read.specs.Entries.{drafted, Fits};
+ghost use Rattle.nf_side.specs.Said.{said_by};
 ghost use Rattle.nf_report_read.specs.Files.{IfBroken};
 
 use crate::draft::{Draft, Stage};

@@ -1,11 +1,13 @@
 // The curve that a line extends.
 ghost use Rattle.std.specs.Prelude.{◌≡◌, IfOk};
 ghost use Rattle.std.specs.List.{last_or};
+ghost use Rattle.nf_net_def.specs.Named.{Named};
 ghost use Rattle.nf_report_def.specs.ReportLines as lines;
 ghost use Rattle.nf_report_def.specs.ReportLines.{opened as opened_for, comes_after as comes_after_by};
 ghost use Rattle.nf_report_read.specs.Keys.{seen_kind, key_of_number, is_some_key};
 ghost use Rattle.nf_report_read.specs.Drafts.{seen_draft, IsWithin, begun_count};
-ghost use Rattle.nf_report_read.specs.Entries.{said_by, opened_by, CanOpen};
+ghost use Rattle.nf_report_read.specs.Entries.{opened_by, CanOpen};
+ghost use Rattle.nf_side.specs.Said.{said_by};
 
 use crate::draft::Draft;
 use crate::entry::Opening;
@@ -49,12 +51,9 @@ impl Draft {
     }
 
     /// Returns whether a time may follow in a curve: it is later than the times of the curve's points, or 0 for the first point.
-    pub fn comes_after(&self, net: &Network, opening: Opening, time: Q) -> bool
-        requires { CanOpen (seen_draft net.now self.now) opening }
-        ensures { result ≡ comes_after_by (last_or None (opened_by (seen_draft net.now self.now) opening).curve.points) time }
+    pub fn comes_after(&self, opening: Opening, time: Q) -> bool
+        ensures { (n : Named) → result ≡ comes_after_by (last_or None (opened_by (seen_draft n self.now) opening).curve.points) time }
     {
-        // Proof: the clauses refer to the network's curves.
-        let _ = net;
         match (opening, &self.current) {
             (Opening::GoesOn, Some(trace)) => is_later(&trace.curve, time),
             _ => time.is_same(Q::zero()),

@@ -1,11 +1,15 @@
-use Rattle.std.proofs.Common.{sym, ◌∙◌}
-use Rattle.std.specs.Prelude.{map}
+use Rattle.std.proofs.Common.{◌≡◌, ℕ, List, length, sym, ap, subst, ◌∙◌, arith}
+use Rattle.std.specs.Prelude.{map, Err}
 use Rattle.std.proofs.lemmas.List.{length-map}
 use Rattle.std.proofs.lemmas.Result.{err_from_is_err_and}
 use Rattle.nf_curve.specs.Flows.{trace_of}
-use Rattle.nf_report_read.specs.Files.{report_of}
+use Rattle.nf_report_def.specs.ReportFile.{report_in}
+use Rattle.nf_report_read.specs.Files.{IfBroken, report_of}
 use Rattle.nf_app.proofs.CheckGiven.{report_refused, checking_stopped, verdict_given}
 use Rattle.nf_app.proofs.answering.check_report.Goals as goal
+
+pub parse_report-requires : goal.parse_report-requires
+parse_report-requires c = omega (arith, c.requires, ap (λ (l : List ℕ). length l) c.deref.ensures.value)
 
 pub check-requires-clause-labels : goal.check-requires-clause-labels
 check-requires-clause-labels c =
@@ -37,16 +41,18 @@ check-requires-clause-reached c = c.in_ok-report.ensures.formed.reached
 pub returns-in_err-report : goal.returns-in_err-report
 returns-in_err-report c file name =
     let p = err_from_is_err_and c.from_residual.result c.from_residual.ensures.1 in
-    rw (p.1, p.2) (report_refused c.args.net.now c.recall.ensures file name c.args.text.items c.in_err-report.field-0.0 c.in_err-report.ensures.reads)
+    rw (p.1, p.2) (report_refused c.args.net.now c.recall.ensures file name c.args.text.items c.in_err-report.field-0.0
+    (subst (λ (l : List ℕ). IfBroken c.in_err-report.field-0.0 (λ broken. report_in c.args.net.now l ≡ Err broken)) c.deref.ensures.value c.in_err-report.ensures.reads))
 
 pub returns-in_err-verdict : goal.returns-in_err-verdict
 returns-in_err-verdict c file name =
     let p = err_from_is_err_and c.from_residual-in_err-verdict.result c.from_residual-in_err-verdict.ensures.1 in
-    rw (p.1, p.2) (checking_stopped c.args.net.now c.recall.ensures file name c.args.text.items (report_of c.in_ok-report.report) c.in_ok-report.ensures.reads c.in_err-verdict.field-0.0 c.in_err-verdict.ensures.list)
+    rw (p.1, p.2) (checking_stopped c.args.net.now c.recall.ensures file name c.args.text.items (report_of c.in_ok-report.report)
+    (ap (report_in c.args.net.now) (sym c.deref.ensures.value) ∙ c.in_ok-report.ensures.reads) c.in_err-verdict.field-0.0 c.in_err-verdict.ensures.list)
 
 pub returns : goal.returns
 returns c file name = (
-  verdict_given c.args.net.now c.recall.ensures file name c.args.text.items (report_of c.in_ok-report.report) c.in_ok-report.ensures.reads
-      c.in_ok-verdict.verdict c.in_ok-verdict.ensures.list c.in_ok-verdict.ensures.rules c.in_ok-verdict.ensures.exact,
+  verdict_given c.args.net.now c.recall.ensures file name c.args.text.items (report_of c.in_ok-report.report)
+      (ap (report_in c.args.net.now) (sym c.deref.ensures.value) ∙ c.in_ok-report.ensures.reads) c.in_ok-verdict.verdict c.in_ok-verdict.ensures.list c.in_ok-verdict.ensures.rules c.in_ok-verdict.ensures.exact,
   tt,
 )

@@ -1,21 +1,13 @@
-use Rattle.std.proofs.Common.{[], ◌∷◌, ap}
+use Rattle.std.proofs.Common.{[], ◌∷◌}
 use Rattle.std.specs.Prelude.{codes}
-use Rattle.nf_frac_words.specs.Digits.{digits_of}
-use Rattle.nf_frac_words.specs.Printed.{printed}
-use Rattle.nf_net_def.specs.Causes.{part_word, op_word, count_word}
+use Rattle.nf_net_def.specs.Causes.{passed_words}
 use Rattle.nf_report.proofs.Gathering.{same_gathered}
 use Rattle.nf_report.proofs.causes.put_passed.Goals as goal
 
-pub returns-in-None : goal.returns-in-None
-returns-in-None g c =
-    same_gathered ((c.args.key.now ∷ codes "passed" ∷ c.text.result.now ∷ c.part_text.result.now ∷ codes "-" ∷ c.op_text.result.now
-    ∷ printed c.args.at.now.left ∷ printed c.args.at.now.right ∷ []) ∷ [])
-    ((c.args.key.now ∷ codes "passed" ∷ digits_of c.args.phase ∷ part_word c.args.at.now.part ∷ count_word c.args.place ∷ op_word c.args.at.now.op
-    ∷ printed c.args.at.now.left ∷ printed c.args.at.now.right ∷ []) ∷ []) (cc (ap count_word c.in-None.is)) c.put_operation.ensures
-
-pub returns-in-Some : goal.returns-in-Some
-returns-in-Some g c =
-    same_gathered ((c.args.key.now ∷ codes "passed" ∷ c.text-in-Some.result.now ∷ c.part_text-in-Some.result.now ∷ c.text-in-Some-2.result.now ∷ c.op_text-in-Some.result.now
-    ∷ printed c.args.at.now.left ∷ printed c.args.at.now.right ∷ []) ∷ [])
-    ((c.args.key.now ∷ codes "passed" ∷ digits_of c.args.phase ∷ part_word c.args.at.now.part ∷ count_word c.args.place ∷ op_word c.args.at.now.op
-    ∷ printed c.args.at.now.left ∷ printed c.args.at.now.right ∷ []) ∷ []) (cc (ap count_word c.in-Some.is)) c.put_operation-in-Some.ensures
+pub returns : goal.returns
+returns g c =
+    same_gathered ((c.args.key.now ∷ codes "passed" ∷ c.count_text-phase_word.result.now ∷ c.part_text-part.result.now ∷ c.count_text-place_word.result.now
+    ∷ c.op_text-op.result.now ∷ c.text.result.now ∷ c.text-2.result.now ∷ []) ∷ [])
+    ((c.args.key.now ∷ passed_words c.args.phase c.args.place c.args.at.now) ∷ [])
+    (cc (c.count_text-phase_word.ensures, c.part_text-part.ensures, c.count_text-place_word.ensures, c.op_text-op.ensures, c.write.ensures.text, c.write-2.ensures.text))
+    c.put_line.ensures

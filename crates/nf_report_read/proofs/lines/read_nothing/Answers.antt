@@ -2,7 +2,8 @@ use Rattle.std.proofs.Common.{ap, Result}
 use Rattle.nf_report_def.specs.declared.ReportRule.{ReportRule}
 use Rattle.nf_report_def.specs.ReportLines.{nothing_more}
 use Rattle.nf_report_read.specs.declared.entry.Entry.{Entry}
-use Rattle.nf_report_read.specs.Entries.{said_by, drafted}
+use Rattle.nf_side.specs.Said.{said_by}
+use Rattle.nf_report_read.specs.Entries.{drafted}
 use Rattle.nf_report_read.proofs.lines.read_nothing.Goals as goal
 
 pub returns-in-Ok-clause-says : goal.returns-in-Ok-clause-says

@@ -17,9 +17,11 @@ returns-then-not-is_tight c = λ closes. c.if-not-is_tight.ensures closes.0
 
 pub returns-then-eq : goal.returns-then-eq
 returns-then-eq c =
-    let here : IsHop c.args.hops.now c.args.link c.index-hops-index.result = hop_there c.args.hops.now c.args.link c.index.result c.index-hops-index.result c.requires.link c.index.ensures c.index-hops-index.is in
-    (c.if-not-is_tight.ensures, ends_joined c.args.hops.now c.args.states.now c.args.link c.index-hops-index.result here c.hop.inside.tail c.hop.inside.head (ap (λ (h : Hop). h.tail) c.hop.view_is) (ap (λ (h : Hop). h.head) c.hop.view_is)
-    ([], sym (same_from_test c.hop.inside.tail c.hop.inside.head (sym c.if-eq.true ∙ c.eq.ensures))))
+    let here : IsHop c.args.hops.now c.args.link c.index-hops-index.result = hop_there c.args.hops.now c.args.link c.index.result c.index-hops-index.result c.requires.link c.index.ensures c.index-hops-index.is in (
+      c.if-not-is_tight.ensures,
+      ends_joined c.args.hops.now c.args.states.now c.args.link c.index-hops-index.result here c.hop.inside.tail c.hop.inside.head (ap (λ (h : Hop). h.tail) c.hop.view_is) (ap (λ (h : Hop). h.head) c.hop.view_is)
+          ([], sym (same_from_test c.hop.inside.tail c.hop.inside.head (sym c.if-eq.true ∙ c.eq.ensures))),
+    )
 
 pub index-requires-3 : goal.index-requires-3
 index-requires-3 c =
@@ -51,11 +53,13 @@ step-requires-in-Some-clause-placed c = (c.args.states.now, c.args.link, c.requi
 
 pub returns-then-eq-2 : goal.returns-then-eq-2
 returns-then-eq-2 c =
-    let here : IsHop c.args.hops.now c.args.link c.index-hops-index.result = hop_there c.args.hops.now c.args.link c.index.result c.index-hops-index.result c.requires.link c.index.ensures c.index-hops-index.is in
-    (c.if-not-is_tight.ensures, ends_joined c.args.hops.now c.args.states.now c.args.link c.index-hops-index.result here c.hop.inside.tail c.hop.inside.head (ap (λ (h : Hop). h.tail) c.hop.view_is) (ap (λ (h : Hop). h.head) c.hop.view_is)
-    (joined_turned c.args.hops.now (TightBefore c.args.states.now c.args.link) c.hop.inside.tail c.hop.inside.head
-    (subst (λ (h : ℕ). AreJoined c.args.hops.now (TightBefore c.args.states.now c.args.link) c.hop.inside.tail h) (same_from_test c.in-Some.next.node c.hop.inside.head (sym c.if-eq-2.true ∙ c.eq-in-Some.ensures))
-    (next_joined c.args.hops.now c.args.states.now c.args.link c.hop.inside.tail c.hop.inside.head (length c.args.self.now.last.items) c.loop-next.near.node c.loop-next.near.link c.loop-next.invariant.near c.in-Some.next (c.in-Some.ensures.goes c.args.states.now c.args.link c.requires.holds c.loop-next.invariant.near.place)))))
+    let here : IsHop c.args.hops.now c.args.link c.index-hops-index.result = hop_there c.args.hops.now c.args.link c.index.result c.index-hops-index.result c.requires.link c.index.ensures c.index-hops-index.is in (
+      c.if-not-is_tight.ensures,
+      ends_joined c.args.hops.now c.args.states.now c.args.link c.index-hops-index.result here c.hop.inside.tail c.hop.inside.head (ap (λ (h : Hop). h.tail) c.hop.view_is) (ap (λ (h : Hop). h.head) c.hop.view_is)
+          (joined_turned c.args.hops.now (TightBefore c.args.states.now c.args.link) c.hop.inside.tail c.hop.inside.head
+          (subst (λ (h : ℕ). AreJoined c.args.hops.now (TightBefore c.args.states.now c.args.link) c.hop.inside.tail h) (same_from_test c.in-Some.next.node c.hop.inside.head (sym c.if-eq-2.true ∙ c.eq-in-Some.ensures))
+          (next_joined c.args.hops.now c.args.states.now c.args.link c.hop.inside.tail c.hop.inside.head (length c.args.self.now.last.items) c.loop-next.near.node c.loop-next.near.link c.loop-next.invariant.near c.in-Some.next (c.in-Some.ensures.goes c.args.states.now c.args.link c.requires.holds c.loop-next.invariant.near.place)))),
+    )
 
 pub returns-in_default-step : goal.returns-in_default-step
 returns-in_default-step c = λ closes.
@@ -65,10 +69,12 @@ returns-in_default-step c = λ closes.
 
 pub returns-then-eq-3 : goal.returns-then-eq-3
 returns-then-eq-3 c =
-    let here : IsHop c.args.hops.now c.args.link c.index-hops-index.result = hop_there c.args.hops.now c.args.link c.index.result c.index-hops-index.result c.requires.link c.index.ensures c.index-hops-index.is in
-    (c.if-not-is_tight.ensures, ends_joined c.args.hops.now c.args.states.now c.args.link c.index-hops-index.result here c.hop.inside.tail c.hop.inside.head (ap (λ (h : Hop). h.tail) c.hop.view_is) (ap (λ (h : Hop). h.head) c.hop.view_is)
-    (subst (λ (h : ℕ). AreJoined c.args.hops.now (TightBefore c.args.states.now c.args.link) c.hop.inside.head h) (same_from_test c.in-Some-step.other.node c.hop.inside.tail (sym c.if-eq-3.true ∙ c.eq-in-Some-2.ensures))
-    (next_joined c.args.hops.now c.args.states.now c.args.link c.hop.inside.head c.hop.inside.tail (length c.args.self.now.last.items) c.loop-next.far.node c.loop-next.far.link c.loop-next.invariant.far c.in-Some-step.other (c.in-Some-step.ensures.goes c.args.states.now c.args.link c.requires.holds c.loop-next.invariant.far.place))))
+    let here : IsHop c.args.hops.now c.args.link c.index-hops-index.result = hop_there c.args.hops.now c.args.link c.index.result c.index-hops-index.result c.requires.link c.index.ensures c.index-hops-index.is in (
+      c.if-not-is_tight.ensures,
+      ends_joined c.args.hops.now c.args.states.now c.args.link c.index-hops-index.result here c.hop.inside.tail c.hop.inside.head (ap (λ (h : Hop). h.tail) c.hop.view_is) (ap (λ (h : Hop). h.head) c.hop.view_is)
+          (subst (λ (h : ℕ). AreJoined c.args.hops.now (TightBefore c.args.states.now c.args.link) c.hop.inside.head h) (same_from_test c.in-Some-step.other.node c.hop.inside.tail (sym c.if-eq-3.true ∙ c.eq-in-Some-2.ensures))
+          (next_joined c.args.hops.now c.args.states.now c.args.link c.hop.inside.head c.hop.inside.tail (length c.args.self.now.last.items) c.loop-next.far.node c.loop-next.far.link c.loop-next.invariant.far c.in-Some-step.other (c.in-Some-step.ensures.goes c.args.states.now c.args.link c.requires.holds c.loop-next.invariant.far.place))),
+    )
 
 pub loop-next-smaller : goal.loop-next-smaller
 loop-next-smaller c = fewer_left c.args.hops.now c.args.states.now c.args.link c.hop.inside.tail c.hop.inside.head (length c.args.self.now.last.items) c.loop-next.near.node c.loop-next.near.link c.loop-next.invariant.near c.in-Some.next (c.in-Some.ensures.goes c.args.states.now c.args.link c.requires.holds c.loop-next.invariant.near.place)

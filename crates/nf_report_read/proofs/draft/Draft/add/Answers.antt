@@ -5,23 +5,11 @@ use Rattle.nf_report_read.specs.Drafts.{seen_draft}
 use Rattle.nf_report_read.specs.Entries.{drafted, Fits}
 use Rattle.nf_report_read.proofs.draft.Draft.add.Goals as goal
 
-pub add_point-requires-clause-within : goal.add_point-requires-clause-within
-add_point-requires-clause-within c = c.requires.within
-
-pub add_point-requires-clause-fits : goal.add_point-requires-clause-fits
-add_point-requires-clause-fits c = subst (Fits c.args.net.now (seen_draft c.args.net.now c.args.self.now)) c.in-OfCurve.is c.requires.fits
-
 pub add_state-requires-clause-within : goal.add_state-requires-clause-within
 add_state-requires-clause-within c = c.requires.within
 
 pub add_state-requires-clause-fits : goal.add_state-requires-clause-fits
 add_state-requires-clause-fits c = subst (Fits c.args.net.now (seen_draft c.args.net.now c.args.self.now)) c.in-OfLink.is c.requires.fits
-
-pub returns-in-OfCurve-clause-draft : goal.returns-in-OfCurve-clause-draft
-returns-in-OfCurve-clause-draft c = subst (λ (e : Entry). OnOk c.add_point.result (seen_draft c.args.net.now c.add_point.new.self ≡ drafted c.args.net.now (seen_draft c.args.net.now c.args.self.now) e)) (sym c.in-OfCurve.is) c.add_point.ensures.draft
-
-pub returns-in-OfCurve-clause-within : goal.returns-in-OfCurve-clause-within
-returns-in-OfCurve-clause-within c = c.add_point.ensures.within
 
 pub returns-in-Never-clause-draft : goal.returns-in-Never-clause-draft
 returns-in-Never-clause-draft c = subst (λ (e : Entry). OnOk c.add_never.result (seen_draft c.args.net.now c.add_never.new.self ≡ drafted c.args.net.now (seen_draft c.args.net.now c.args.self.now) e)) (sym c.in-Never.is)

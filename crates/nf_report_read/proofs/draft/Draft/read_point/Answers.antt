@@ -24,9 +24,6 @@ at-requires-3 c = omega (arith, c.len.ensures, c.if-len-ne4.false)
 pub opened-requires : goal.opened-requires
 opened-requires c = c.requires.within
 
-pub comes_after-requires : goal.comes_after-requires
-comes_after-requires c = c.in_ok-opening.ensures.can
-
 pub returns-in_err-opening-clause-says : goal.returns-in_err-opening-clause-says
 returns-in_err-opening-clause-says c =
     let p = err_from_is_err_and c.from_residual.result c.from_residual.ensures.1 in
@@ -55,14 +52,14 @@ returns-then-not-comes_after-clause-says c =
     point_out (seen_draft c.args.net.now c.args.self.now) (seen_kind c.args.kind) c.args.line.now.words c.at.result.now c.at-2.result.now c.at-3.result.now
     (three_behind c.args.line.now.words (sym c.len.ensures ∙ c.if-len-ne4.false) ∙ (λ i. sym c.at.ensures i ∷ sym c.at-2.ensures i ∷ sym c.at-3.ensures i ∷ []))
     (opened_by (seen_draft c.args.net.now c.args.self.now) c.in_ok-opening.opening) c.in_ok-opening.ensures.says
-    c.in_ok-time.time c.in_ok-value.value (sym c.in_ok-time.ensures) (sym c.in_ok-value.ensures) false (sym c.if-not-comes_after.ensures)
+    c.in_ok-time.time c.in_ok-value.value (sym c.in_ok-time.ensures) (sym c.in_ok-value.ensures) false (sym (c.if-not-comes_after.ensures c.args.net.now))
 
 pub returns-clause-says : goal.returns-clause-says
 returns-clause-says c =
     point_out (seen_draft c.args.net.now c.args.self.now) (seen_kind c.args.kind) c.args.line.now.words c.at.result.now c.at-2.result.now c.at-3.result.now
     (three_behind c.args.line.now.words (sym c.len.ensures ∙ c.if-len-ne4.false) ∙ (λ i. sym c.at.ensures i ∷ sym c.at-2.ensures i ∷ sym c.at-3.ensures i ∷ []))
     (opened_by (seen_draft c.args.net.now c.args.self.now) c.in_ok-opening.opening) c.in_ok-opening.ensures.says
-    c.in_ok-time.time c.in_ok-value.value (sym c.in_ok-time.ensures) (sym c.in_ok-value.ensures) true (sym c.if-not-comes_after.ensures)
+    c.in_ok-time.time c.in_ok-value.value (sym c.in_ok-time.ensures) (sym c.in_ok-value.ensures) true (sym (c.if-not-comes_after.ensures c.args.net.now))
 
 pub returns-clause-fits : goal.returns-clause-fits
-returns-clause-fits c = (c.in_ok-opening.ensures.can, sym c.if-not-comes_after.ensures)
+returns-clause-fits c = (c.in_ok-opening.ensures.can, sym (c.if-not-comes_after.ensures c.args.net.now))

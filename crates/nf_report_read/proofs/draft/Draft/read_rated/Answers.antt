@@ -30,9 +30,6 @@ at-requires-3 c = omega (arith, c.len.ensures, c.if-len-ne5.false)
 pub opened-requires : goal.opened-requires
 opened-requires c = c.requires.within
 
-pub comes_after-requires : goal.comes_after-requires
-comes_after-requires c = c.in_ok-opening.ensures.can
-
 pub returns-in_err-opening-clause-says : goal.returns-in_err-opening-clause-says
 returns-in_err-opening-clause-says c =
     let p = err_from_is_err_and c.from_residual.result c.from_residual.ensures.1 in
@@ -73,7 +70,7 @@ returns-then-not-comes_after-clause-says c =
     (four_behind c.args.line.now.words (sym c.len.ensures ∙ c.if-len-ne5.false) ∙ (λ i. sym c.at-name.ensures i ∷ sym c.at.ensures i ∷ sym c.at-2.ensures i ∷ sym c.at-3.ensures i ∷ []))
     (opened_by (seen_draft c.args.net.now c.args.self.now) c.in_ok-opening.opening) c.in_ok-opening.ensures.says
     c.in_ok-time.time c.in_ok-value.value (sym c.in_ok-time.ensures) (sym c.in_ok-value.ensures)
-    c.in-Ok.rate false _ (sym c.in-Ok.ensures) (sym c.if-not-comes_after.ensures) refl
+    c.in-Ok.rate false _ (sym c.in-Ok.ensures) (sym (c.if-not-comes_after.ensures c.args.net.now)) refl
 
 pub returns-then-are_alike-clause-says : goal.returns-then-are_alike-clause-says
 returns-then-are_alike-clause-says c =
@@ -82,7 +79,7 @@ returns-then-are_alike-clause-says c =
     (four_behind c.args.line.now.words (sym c.len.ensures ∙ c.if-len-ne5.false) ∙ (λ i. sym c.at-name.ensures i ∷ sym c.at.ensures i ∷ sym c.at-2.ensures i ∷ sym c.at-3.ensures i ∷ []))
     (opened_by (seen_draft c.args.net.now c.args.self.now) c.in_ok-opening.opening) c.in_ok-opening.ensures.says
     c.in_ok-time.time c.in_ok-value.value (sym c.in_ok-time.ensures) (sym c.in_ok-value.ensures)
-    c.in-Ok.rate true true (sym c.in-Ok.ensures) (sym c.if-not-comes_after.ensures)
+    c.in-Ok.rate true true (sym c.in-Ok.ensures) (sym (c.if-not-comes_after.ensures c.args.net.now))
     ((λ i. are_alike (none_is c.in-Ok.rate c.is_none.result c.is_none.ensures i) (sym c.goes_on.ensures i)) ∙ sym c.if-are_alike.ensures)
 
 pub returns-clause-says : goal.returns-clause-says
@@ -92,8 +89,8 @@ returns-clause-says c =
     (four_behind c.args.line.now.words (sym c.len.ensures ∙ c.if-len-ne5.false) ∙ (λ i. sym c.at-name.ensures i ∷ sym c.at.ensures i ∷ sym c.at-2.ensures i ∷ sym c.at-3.ensures i ∷ []))
     (opened_by (seen_draft c.args.net.now c.args.self.now) c.in_ok-opening.opening) c.in_ok-opening.ensures.says
     c.in_ok-time.time c.in_ok-value.value (sym c.in_ok-time.ensures) (sym c.in_ok-value.ensures)
-    c.in-Ok.rate true false (sym c.in-Ok.ensures) (sym c.if-not-comes_after.ensures)
+    c.in-Ok.rate true false (sym c.in-Ok.ensures) (sym (c.if-not-comes_after.ensures c.args.net.now))
     ((λ i. are_alike (none_is c.in-Ok.rate c.is_none.result c.is_none.ensures i) (sym c.goes_on.ensures i)) ∙ sym c.if-are_alike.ensures)
 
 pub returns-clause-fits : goal.returns-clause-fits
-returns-clause-fits c = (c.in_ok-opening.ensures.can, sym c.if-not-comes_after.ensures)
+returns-clause-fits c = (c.in_ok-opening.ensures.can, sym (c.if-not-comes_after.ensures c.args.net.now))
