@@ -29,8 +29,8 @@ fn do_differ(sides: &Difference) -> bool
 fn two() -> Q
     ensures { result ≡ whole (pos 2) }
 {
-    let one = Small::one();
-    one.sum(one)
+    let unit = Small::one();
+    unit.sum(unit)
 }
 
 // Returns the departure in the middle of an interval.
