@@ -1,10 +1,7 @@
 // Rule C3: the labels are the least exits.
-ghost use Rattle.std.specs.Prelude.{◌≡◌, ◌<◌, IfOk, OnOk};
-ghost use Rattle.nf_rational.specs.Operations.{0ℚ};
-ghost use Rattle.nf_rational.specs.Order.{◌≤ℚ◌};
+ghost use Rattle.std.specs.Prelude.{◌<◌, OnOk};
 ghost use Rattle.nf_frac_def.specs.Checked.{each};
 ghost use Rattle.nf_check_def.specs.Rules.{nodes_but};
-ghost use Rattle.nf_check_def.specs.Curves.{departures as departures_by};
 ghost use Rattle.nf_check_def.specs.CheckList.{arrivals};
 ghost use Rattle.nf_check_rules.specs.Exits.{AreKept};
 ghost use Rattle.nf_check_rules.specs.Views.{network_in, in_view};
@@ -14,21 +11,8 @@ ghost use Rattle.nf_check_rules.specs.Trials.{Tries, done};
 use nf_check_def::CheckRule;
 use nf_check_rules::{Ended, Exits, Subject, Worked, compare, label_at, least_exits};
 use nf_curve::Curve;
-use nf_frac::Q;
 use nf_graph::NodeId;
-use std::alloc::{AllocError, Global};
-
-// Returns the identity on times up to `last`: each departure at itself.
-fn departures(alloc: Global, last: Q) -> Result<Curve, AllocError>
-    requires { 0ℚ ≤ℚ last }
-    ensures { IfOk result (λ c. c.points ≡ departures_by last) }
-{
-    let mut line = Curve::start(alloc, Q::zero())?;
-    if !last.is_zero() {
-        line.push(last, last)?;
-    }
-    Ok(line)
-}
+use std::alloc::Global;
 
 // Tests C3 for the label of a node. Stores the exits it computes.
 fn check_arrival(
@@ -81,7 +65,7 @@ pub(crate) fn check_arrivals(alloc: Global, worked: &Worked, exits: &mut Exits) 
     ensures kept { OnOk result (AreKept worked.now exits.new) }
 {
     let source = worked.net.source();
-    let line = departures(alloc, worked.flow.reached)?;
+    let line = Curve::identity(alloc, worked.flow.reached)?;
     let label = label_at(worked, source);
     compare(
         CheckRule::C3,

@@ -1,12 +1,11 @@
 // Rule C1 for labels: no label is negative up to the departure reached.
-ghost use Rattle.std.specs.Prelude.{◌≡◌, ◌<◌, length, option_map, IsTrue, Ok};
+ghost use Rattle.std.specs.Prelude.{◌≡◌, ◌<◌, length, option_map, IsTrue};
 ghost use Rattle.nf_rational.specs.Operations.{0ℚ};
 ghost use Rattle.nf_rational.specs.Order.{◌≤ℚ◌};
 ghost use Rattle.nf_frac_def.specs.Passing.{passes_Q};
 ghost use Rattle.nf_frac_def.specs.Checked.{each};
 ghost use Rattle.nf_model.specs.Equilibrium.{points_at};
 ghost use Rattle.nf_model.specs.Network.{Network as SeenNetwork};
-ghost use Rattle.nf_curve_def.specs.Values.{checked_cut};
 ghost use Rattle.nf_check_def.specs.PointRules.{negative_point as negative_by};
 ghost use Rattle.nf_check_def.specs.Rules.{all_nodes};
 ghost use Rattle.nf_check_def.specs.CheckList.{label_cut};
@@ -18,7 +17,7 @@ ghost use Rattle.nf_check_rules.specs.Trials.{Tries};
 
 use nf_check_def::CheckRule;
 use nf_check_rules::{Ended, Subject, curve_at, unless};
-use nf_curve::{Curve, Difference, Flow};
+use nf_curve::{Curve, Difference, Flow, ends_at};
 use nf_frac::{Part, Q};
 use nf_graph::NodeId;
 use nf_net::Network;
@@ -41,24 +40,13 @@ fn negative_point(curve: &Curve) -> Option<Difference>
     None
 }
 
-// Returns whether the last point of a curve is at the time `last`. Then the curve is its own cut there.
-fn is_whole(curve: &Curve, last: Q) -> bool
-    requires { 0ℚ ≤ℚ last }
-    ensures { IsTrue result → checked_cut passes_Q curve.now.points last ≡ Ok curve.now.points }
-{
-    // Proof: there is a point.
-    curve.recall();
-    let (time, _) = curve.last();
-    time.is_same(last)
-}
-
 /// Returns whether each of the labels ends at the time `last`. Then each label is its own cut there.
 pub(crate) fn are_whole(labels: &[Curve], last: Q) -> bool
     requires { 0ℚ ≤ℚ last }
     ensures { IsTrue result → AreWhole labels.now last }
 {
     for label in labels {
-        if !is_whole(label, last) {
+        if !ends_at(label.as_points(), last) {
             return false;
         }
     }

@@ -14,10 +14,7 @@ use Rattle.nf_model.specs.Network.{Network}
 use Rattle.nf_model.specs.Equilibrium.{Flow, Trace, points_at, points_of}
 use Rattle.nf_curve_def.specs.Lines.{Sides}
 use Rattle.nf_curve_def.specs.Values.{checked_cut}
-use Rattle.nf_rational.specs.Signs.{is_same}
-use Rattle.nf_curve_laws.proofs.Operations.{same_of}
 use Rattle.nf_curve_laws.proofs.Values.{checked_cut-exact}
-use Rattle.nf_curve.proofs.Whole.{whole_cut}
 use Rattle.nf_check_def.specs.declared.CheckRule.{CheckRule}
 use Rattle.nf_check_def.specs.declared.CheckRule.TheVariants.{C1}
 use Rattle.nf_check_def.specs.declared.Subject.{Subject}
@@ -144,14 +141,6 @@ never_negative (p ∷ rest) k t h = value_from_all 0ℚ p rest t k.curve.1 k.non
 
 pub labels_in_number : (passes : Passing) (net : Network) (flow : Flow) → CanBeChecked net flow → (labels : List Grown) → each (label_cut passes net flow) (all_nodes net) ≡ Ok (curves_of labels) → length labels ≡ net.nodes
 labels_in_number passes net flow given labels e = sym (length-map labels (λ (c : Grown). c.points)) ∙ labels_many passes net flow given (curves_of labels) e
-
--- a curve whose last point is at a time is its own cut there
-pub cut_at_end : (passes : Passing) (points : List Point) (last : ℚ) (p : Point) → IsCurve points → 0 < length points → slice_get points (length points - 1) ≡ Some p → is_same p.0 last ≡ true → 0ℚ ≤ℚ last
-    → checked_cut passes points last ≡ Ok points
-cut_at_end passes points last p c some is same h =
-    let all : length points ≡ suc (length points - 1) = omega (arith, some) in
-    let at : p.0 ≡ last = same_of p.0 last same in
-    subst (λ (t : ℚ). checked_cut passes points t ≡ Ok points) at (whole_cut passes points (length points - 1) p c all is (subst (λ (t : ℚ). 0ℚ ≤ℚ t) (sym at) h))
 
 -- such a label is cut without an operation, and C1 is tested for it
 pub label_cut_whole : (passes : Passing) (net : Network) (flow : Flow) (v : ℕ) (label : List Point) → label ≡ points_at flow.labels v → checked_cut passes label flow.reached ≡ Ok label

@@ -5,8 +5,6 @@ use Rattle.std.specs.List.{AllByRecursion}
 use Rattle.nf_rational.specs.Rational.{ℚ}
 use Rattle.nf_rational.specs.Operations.{0ℚ}
 use Rattle.nf_rational.specs.Order.{◌≤ℚ◌, ◌<ℚ◌, lt_ℚ, max_ℚ}
-use Rattle.nf_rational_laws.proofs.Order.{≤ℚ_antisymm}
-use Rattle.nf_rational_laws.proofs.Tests.{lt_ℚ_cases}
 use Rattle.nf_frac_def.specs.Passing.{Passing}
 use Rattle.nf_frac_def.specs.Checked.{at_part, ◌>>=◌}
 use Rattle.nf_frac_def.specs.declared.Part.TheVariants.{Check}
@@ -148,10 +146,3 @@ pub all_from_0 : (points : List Point) (k : ℕ) (p : Point) → slice_get point
 all_from_0 [] k p e a = absurd (cc)
 all_from_0 (x ∷ rest) zero p e a = let same : x ≡ p = cc in subst (λ (q : Point). 0ℚ ≤ℚ q.1) same a.0
 all_from_0 (x ∷ rest) (suc k) p e a = all_from_0 rest k p e a.1
-
--- what is at least 0 and isn't 0 is above it
-pub positive : (x : ℚ) → 0ℚ ≤ℚ x → ¬ (x ≡ 0ℚ) → 0ℚ <ℚ x
-positive x h n = ⊎_elim
-    (λ (w : (lt_ℚ 0ℚ x ≡ true) × (0ℚ <ℚ x)). w.1)
-    (λ (w : (lt_ℚ 0ℚ x ≡ false) × (x ≤ℚ 0ℚ)). absurd (n (≤ℚ_antisymm x 0ℚ w.1 h)))
-    (lt_ℚ_cases 0ℚ x)

@@ -1,15 +1,12 @@
 -- Stretches of departures, one after the other.
 use Rattle.std.proofs.Common.{◌≡◌, ℕ, zero, suc, ◌+◌, ◌-◌, ◌<◌, ◌≤◌, List, [], ◌∷◌, length, drop, Bool, true, false, Option, Some, None, slice_get, refl, sym, ap, subst, ◌∙◌, arith}
-use Rattle.std.specs.Prelude.{Result, Ok, Err, pos, nat_abs, SomeIff, unwrap_or, OnOk}
-use Rattle.nf_rational.specs.Gcd.{gcd}
-use Rattle.nf_rational.specs.Rational.{ℚ, ratio}
-use Rattle.nf_rational.specs.Operations.{0ℚ, whole, ◌+ℚ◌, ◌*ℚ◌, ◌/ℚ◌}
+use Rattle.std.specs.Prelude.{Result, Ok, Err, pos, OnOk}
+use Rattle.nf_rational.specs.Rational.{ℚ}
+use Rattle.nf_rational.specs.Operations.{0ℚ, 1ℚ, whole, ◌+ℚ◌, ◌*ℚ◌, ◌/ℚ◌}
 use Rattle.nf_rational.specs.Order.{◌≤ℚ◌, lt_ℚ}
 use Rattle.nf_rational_laws.proofs.Polynomial.{reading_of}
 use Rattle.nf_rational_laws.proofs.Linear.{le, eq, linear_le, linear_eq, linear_false}
 use Rattle.nf_rational_laws.proofs.Quotient.{/ℚ-times}
-use Rattle.nf_frac.specs.Parts.{IsWithin, IsMade}
-use Rattle.nf_frac_def.specs.Passing.{bound_of}
 use Rattle.nf_curve_laws.proofs.Operations.{checked-is, then_ok}
 use Rattle.nf_frac_def.specs.Passing.{Passing, passes_Q}
 use Rattle.nf_frac_def.specs.Checked.{Checked, checked, at_part, ◌>>=◌}
@@ -142,26 +139,8 @@ two_apart e = linear_false [] (eq e ∷ []) (search reading_of depth 12) tt
 pub apart_by_two : (two : ℚ) → two ≡ whole (pos 2) → two ≡ 0ℚ → ⊥
 apart_by_two two is e = two_apart (sym is ∙ e)
 
-one_apart : whole (pos 1) ≡ 0ℚ → ⊥
-one_apart e = linear_false [] (eq e ∷ []) (search reading_of depth 12) tt
-
-two_by_one : whole (pos 2) /ℚ whole (pos 1) ≡ whole (pos 2)
-two_by_one = times_one (whole (pos 2) /ℚ whole (pos 1)) (/ℚ-times (whole (pos 2)) (whole (pos 1)) one_apart)
-  where
-    times_one : (q : ℚ) → q *ℚ whole (pos 1) ≡ whole (pos 2) → q ≡ whole (pos 2)
-    times_one q e = linear_eq (q ∷ []) (eq e ∷ []) (search reading_of depth 12) tt tt
-
-two_within : IsWithin (bound_of 127) (whole (pos 2))
-unfolding whole ratio gcd
-two_within =
-    let n : nat_abs (whole (pos 2)).num ≡ 2 = refl in
-    let d : (whole (pos 2)).den ≡ 1 = refl in
-    let b : bound_of 127 ≡ 170141183460469231731687303715884105727 = refl in
-    record { small = omega (arith, n, b); small_den = omega (arith, d, b) }
-
-pub two_made : (o : Option ℚ) (one : ℚ) → SomeIff o (IsMade (bound_of 127) (pos 2) (pos 1)) (whole (pos 2) /ℚ whole (pos 1)) → unwrap_or o one ≡ whole (pos 2)
-two_made None one w = absurd (w (record { some = λ e. absurd (cc); fits = subst (λ (q : ℚ). IsWithin (bound_of 127) q) (sym two_by_one) two_within }))
-two_made (Some q) one w = w.1 ∙ two_by_one
+pub one_and_one : (one two : ℚ) → one ≡ 1ℚ → two ≡ one +ℚ one → two ≡ whole (pos 2)
+one_and_one one two e f = linear_eq (one ∷ two ∷ []) (eq e ∷ eq f ∷ []) (search reading_of depth 12) tt tt
 
 pub middle_from : (passes : Passing) (first next time : ℚ) → 0ℚ ≤ℚ first → 0ℚ ≤ℚ next → at_part Check (checked_middle passes first next) ≡ Ok time → 0ℚ ≤ℚ time
 unfolding checked_middle

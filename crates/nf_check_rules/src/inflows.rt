@@ -2,6 +2,7 @@
 ghost use Rattle.std.specs.Prelude.{◌≡◌, ◌<◌, length, option_map};
 ghost use Rattle.nf_frac_def.specs.Passing.{passes_Q};
 ghost use Rattle.nf_frac_def.specs.Checked.{each};
+ghost use Rattle.nf_model.specs.Network.{Network as SeenNetwork};
 ghost use Rattle.nf_check_def.specs.PointRules.{inflow_fault as fault_by};
 ghost use Rattle.nf_check_def.specs.Rules.{all_links};
 ghost use Rattle.nf_check_def.specs.CheckList.{inflow_rule};
@@ -56,9 +57,9 @@ fn inflow_fault(curve: &Curve) -> Option<Difference>
 }
 
 // Tests C1 for the inflow of a link.
-fn check_inflow(net: &Network, flow: &Flow, link: LinkId) -> Result<(), Ended>
+fn check_inflow(flow: &Flow, link: LinkId) -> Result<(), Ended>
     requires { link < length flow.now.inflows.items }
-    ensures { Tries (λ _. tt) result (inflow_rule passes_Q net.now.net (flow_of flow.now) link) }
+    ensures { (net : SeenNetwork) → Tries (λ _. tt) result (inflow_rule passes_Q net (flow_of flow.now) link) }
 {
     let inflow = trace_at(&flow.inflows, link);
     unless(
@@ -74,7 +75,7 @@ pub fn check_inflows(net: &Network, flow: &Flow) -> Result<(), Ended>
     ensures { Tries (λ _. tt) result (done (each (inflow_rule passes_Q net.now.net (flow_of flow.now)) (all_links net.now.net))) }
 {
     for number in 0..net.link_count() {
-        check_inflow(net, flow, LinkId(number))?;
+        check_inflow(flow, LinkId(number))?;
     }
     Ok(())
 }

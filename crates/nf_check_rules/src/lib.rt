@@ -10,7 +10,6 @@ mod exits;
 mod inflows;
 mod link_curves;
 mod loads;
-mod places;
 mod rates;
 mod routes;
 mod sent;

@@ -2,6 +2,7 @@
 ghost use Rattle.std.specs.Prelude.{◌≡◌, ◌<◌, suc, length, option_map};
 ghost use Rattle.nf_frac_def.specs.Passing.{passes_Q};
 ghost use Rattle.nf_frac_def.specs.Checked.{each};
+ghost use Rattle.nf_model.specs.Network.{Network as SeenNetwork};
 ghost use Rattle.nf_net_def.specs.Report.{HaveRates};
 ghost use Rattle.nf_check_def.specs.declared.Subject.TheVariants.{Link as OfLink};
 ghost use Rattle.nf_check_def.specs.PointRules.{if_other, rates_list};
@@ -56,12 +57,12 @@ fn check_trace(link: LinkId, trace: &Trace) -> Result<(), Ended>
 }
 
 // Tests C2 for a link's inflow, and then for its outflow.
-fn check_link_rates(net: &Network, flow: &Flow, link: LinkId) -> Result<(), Ended>
+fn check_link_rates(flow: &Flow, link: LinkId) -> Result<(), Ended>
     requires inflow { link < length flow.now.inflows.items }
     requires outflow { link < length flow.now.outflows.items }
     requires inflow_rates { HaveRates (flow_of flow.now).inflows }
     requires outflow_rates { HaveRates (flow_of flow.now).outflows }
-    ensures { Tries (λ _. tt) result (link_rates passes_Q net.now.net (flow_of flow.now) link) }
+    ensures { (net : SeenNetwork) → Tries (λ _. tt) result (link_rates passes_Q net (flow_of flow.now) link) }
 {
     check_trace(link, trace_at(&flow.inflows, link))?;
     check_trace(link, trace_at(&flow.outflows, link))
@@ -76,7 +77,7 @@ pub fn check_rates(net: &Network, flow: &Flow) -> Result<(), Ended>
     ensures { Tries (λ _. tt) result (done (each (link_rates passes_Q net.now.net (flow_of flow.now)) (all_links net.now.net))) }
 {
     for number in 0..net.link_count() {
-        check_link_rates(net, flow, LinkId(number))?;
+        check_link_rates(flow, LinkId(number))?;
     }
     Ok(())
 }

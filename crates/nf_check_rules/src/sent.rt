@@ -11,9 +11,8 @@ ghost use Rattle.nf_curve.specs.Differences.{difference_of};
 ghost use Rattle.nf_check_rules.specs.Sent.{AreCurves, ArePlaces, AreWithin, points_in, sent_by, known_by, exits_of};
 
 use crate::link_curves::LinkCurves;
-use crate::places::{place_near, value_at};
 use crate::times::{merged, times_of};
-use nf_curve::{Curve, Difference};
+use nf_curve::{Curve, Difference, place_near, value_at};
 use nf_frac::{Halt, Part, PassedAt, Q};
 use std::alloc::{AllocError, Global};
 
@@ -106,9 +105,9 @@ impl Sent {
         ensures within { AreWithin self.now result }
     {
         Places {
-            taken: place_near(&self.taken, from.taken, time),
-            exits: place_near(&self.exits, from.exits, time),
-            labels: place_near(&self.labels, from.labels, time),
+            taken: place_near(self.taken.as_points(), from.taken, time),
+            exits: place_near(self.exits.as_points(), from.exits, time),
+            labels: place_near(self.labels.as_points(), from.labels, time),
         }
     }
 
@@ -119,8 +118,8 @@ impl Sent {
         ensures { seen_at difference_of (λ q. q) result
             ≡ at_part Check (sides_by passes_Q self.now.exits.points self.now.labels.points time) }
     {
-        let left = value_at(&self.exits, places.exits, time)?;
-        let right = value_at(&self.labels, places.labels, time)?;
+        let left = value_at(self.exits.as_points(), places.exits, time, Part::Check)?;
+        let right = value_at(self.labels.as_points(), places.labels, time, Part::Check)?;
         Ok(Difference { time, left, right })
     }
 }

@@ -14,10 +14,9 @@ ghost use Rattle.nf_curve.specs.Differences.{difference_of};
 ghost use Rattle.nf_check_rules.specs.Departures.{IsDeparture};
 ghost use Rattle.nf_check_rules.specs.Sent.{AreWithin};
 
-use crate::places::value_at;
 use crate::sent::{Places, Sent};
-use nf_curve::Difference;
-use nf_frac::{Part, PassedAt, Q, at};
+use nf_curve::{Difference, value_at};
+use nf_frac::{Part, PassedAt, Q, Scalar, Small, at};
 
 // Returns whether the two values differ.
 fn do_differ(sides: &Difference) -> bool
@@ -30,7 +29,8 @@ fn do_differ(sides: &Difference) -> bool
 fn two() -> Q
     ensures { result ≡ whole (pos 2) }
 {
-    Q::make(2, 1).unwrap_or(Q::one())
+    let unit = Small::one();
+    unit.sum(unit)
 }
 
 // Returns the departure in the middle of an interval.
@@ -61,7 +61,7 @@ fn departure_at(sent: &Sent, near: &Places, time: Q) -> Result<Departure, Passed
     ensures time { IfOk result (λ d. d.time ≡ time) }
 {
     let places = sent.places_near(near, time);
-    let taken = value_at(&sent.taken, places.taken, time)?;
+    let taken = value_at(sent.taken.as_points(), places.taken, time, Part::Check)?;
     Ok(Departure {
         time,
         places,

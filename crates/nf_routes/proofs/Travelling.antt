@@ -6,7 +6,6 @@ use Rattle.std.proofs.lemmas.Option.{slice_get_within}
 use Rattle.nf_rational.specs.Rational.{ℚ}
 use Rattle.nf_rational.specs.Operations.{0ℚ}
 use Rattle.nf_rational.specs.Order.{◌≤ℚ◌, ◌<ℚ◌}
-use Rattle.nf_rational_laws.proofs.Order.{≤ℚ_antisymm, lt_or_le_ℚ}
 use Rattle.nf_rational_laws.proofs.Chains.{≤ℚ_refl, ≤ℚ_trans}
 use Rattle.nf_frac_def.specs.declared.Halt.{Halt}
 use Rattle.nf_frac_def.specs.declared.Part.TheVariants.{Load}
@@ -23,6 +22,7 @@ use Rattle.nf_curve_def.specs.Meanings.{IsComposedOf}
 use Rattle.nf_load_def.specs.Loading.{Loaded}
 use Rattle.nf_check_def.specs.Curves.{loaded_at, departures}
 use Rattle.nf_curve.proofs.Exits.{after_err, was_ok, stops_on}
+use Rattle.nf_curve.proofs.Points.{positive}
 use Rattle.nf_routes_def.specs.Routes.{Route, AreRoutes}
 use Rattle.nf_routes_def.specs.RoutesList.{LoadedLink, SoFar, exit_of, loaded_or, travel_on}
 use Rattle.nf_routes_laws.proofs.Arriving.{walk-links}
@@ -76,9 +76,6 @@ complete_over passes net routes so_far c are = record {
         let m = c.count in omega arith;
   };
 }
-
-pub positive : (x : ℚ) → 0ℚ ≤ℚ x → (x ≡ 0ℚ → ⊥) → 0ℚ <ℚ x
-positive x h n = ⊎_elim (λ (l : 0ℚ <ℚ x). l) (λ (l : x ≤ℚ 0ℚ). absurd (n (≤ℚ_antisymm x 0ℚ l h))) (lt_or_le_ℚ 0ℚ x)
 
 -- ---- no time of a travel is negative
 pub record NoneNegative (horizon : ℚ) (travel : List Point) : Type 0 where

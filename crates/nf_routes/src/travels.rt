@@ -18,18 +18,6 @@ use nf_net::LinkId;
 use nf_routes_read::Route;
 use std::alloc::{AllocError, Global};
 
-// Returns the identity on times up to the horizon: each departure at itself.
-fn departures(alloc: Global, horizon: Q) -> Result<Curve, AllocError>
-    requires { 0ℚ ≤ℚ horizon }
-    ensures { IfOk result (λ c. c.points ≡ departures_by horizon) }
-{
-    let mut line = Curve::start(alloc, Q::zero())?;
-    if !horizon.is_zero() {
-        line.push(horizon, horizon)?;
-    }
-    Ok(line)
-}
-
 // Composes the exits of the links of a route, in order. Returns the arrival time of each departure, in short form.
 fn travel(alloc: Global, links: &[Loaded], route: &Route, horizon: Q) -> Result<Curve, Halt<Q>>
     requires horizon { 0ℚ ≤ℚ horizon }
@@ -38,7 +26,7 @@ fn travel(alloc: Global, links: &[Loaded], route: &Route, horizon: Q) -> Result<
     ensures { Gives (λ c. c.points) (λ q. q) result
         (at_part Load (travel_along passes_Q horizon (map loaded_of links.now) route.now.route.links (departures_by horizon))) }
 {
-    let mut travel = departures(alloc, horizon)?;
+    let mut travel = Curve::identity(alloc, horizon)?;
     for link in route.links() {
         let exit = &links[link.index()].exit;
         travel = Curve::compose(alloc, exit, &travel, horizon, Part::Load)?;

@@ -26,8 +26,8 @@ returns-clause-tries c =
     ∙ goes_on (compared_by passes_Q C3 (Node c.source-source.result) c.label_at-label.result.now.points c.in_ok-line.line.points c.args.worked.now.flow.now.reached) _ tt c.in_ok-compare.ensures)
     c.check_arrivals_at.ensures.tries
 
-pub departures-requires : goal.departures-requires
-departures-requires c = c.args.worked.now.known.reached
+pub identity-requires : goal.identity-requires
+identity-requires c = c.args.worked.now.known.reached
 
 pub label_at-label-requires : goal.label_at-label-requires
 label_at-label-requires c = c.source-source.ensures.node

@@ -11,6 +11,6 @@ returns-clause-there c = record {
   from_zero = c.requires.time;
   places = c.places_near-places.ensures.places;
   within = c.places_near-places.ensures.within;
-  taken = was_ok Check (checked_value passes_Q c.args.sent.now.taken.points c.args.time) c.in_ok-taken.taken (sym c.in_ok-taken.ensures);
+  taken = was_ok Check (checked_value passes_Q c.args.sent.now.taken.points c.args.time) c.in_ok-taken.taken (sym (rw c.as_points.ensures.points at c.in_ok-taken.ensures));
   sides = λ sides e. no_sides sides e;
 }

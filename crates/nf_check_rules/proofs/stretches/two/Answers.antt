@@ -1,6 +1,5 @@
-use Rattle.std.proofs.Common.{◌∙◌}
-use Rattle.nf_check_rules.proofs.Stretching.{two_made}
+use Rattle.nf_check_rules.proofs.Stretching.{one_and_one}
 use Rattle.nf_check_rules.proofs.stretches.two.Goals as goal
 
 pub returns : goal.returns
-returns c = c.unwrap_or.ensures ∙ two_made c.make.result c.one.result c.make.ensures
+returns c = one_and_one c.one-unit.result c.sum.result c.one-unit.ensures c.sum.ensures
