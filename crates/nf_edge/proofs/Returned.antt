@@ -4,7 +4,7 @@ use Rattle.std.specs.Result.{IsErrAnd}
 use Rattle.std.specs.declared.vec.Vec.{Vec}
 use Rattle.std.specs.declared.alloc.Global.{Global}
 use Rattle.std.specs.Io.KnownBytes.{Consumes}
-use Rattle.std.proofs.Common.{arith, ap, subst, append-nil, inl}
+use Rattle.std.proofs.Common.{arith, sym, ap, subst, append-nil, inl}
 use Rattle.std.proofs.KnownBytes.{Consumes-trans}
 use borrow.Author.Tests.{ltb-false}
 use Rattle.nf_edge.specs.Memory.{told_under, is_among, within_limit, found, Answers}
@@ -69,6 +69,9 @@ none-not_above limit more = omega arith
 
 pub fits-within : (count limit : ℕ) → count ≤ limit → count ≤ limit + 1
 fits-within count limit fits = omega arith
+
+pub items-fit : (now before : List ℕ) (limit : ℕ) → now ≡ before → length before ≤ limit → length now ≤ limit
+items-fit now before limit same fits = subst (λ (l : List ℕ). length l ≤ limit) (sym same) fits
 
 pub fits-not_above : (count limit : ℕ) → count ≤ limit → limit < count → ⊥
 fits-not_above count limit fits more = omega arith

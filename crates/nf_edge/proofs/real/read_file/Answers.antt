@@ -1,5 +1,6 @@
-use Rattle.std.proofs.Common.{◌≡◌, List, ℕ, ◌+◌, ◌≤◌, length, refl, sym, subst, arith, rules}
-use Rattle.nf_edge.proofs.Returned.{is_memory, memory-has_no_value, memory-not_too_long, failed-not_too_long, value-is_no_fault, fits-within, fits-not_above, is-within, read_none}
+use Rattle.std.proofs.Common.{◌≡◌, ◌+◌, ◌≤◌, length, refl, arith, rules}
+use Rattle.std.specs.Io.KnownBytes.{Consumes, IsAtEnd}
+use Rattle.nf_edge.proofs.Returned.{is_memory, items-fit, memory-has_no_value, memory-not_too_long, failed-not_too_long, value-is_no_fault, fits-within, fits-not_above, is-within, read_none}
 use Rattle.nf_edge.proofs.real.read_file.Goals as goal
 
 pub returns-in_default : goal.returns-in_default
@@ -30,14 +31,15 @@ pub returns-in_err-extend_from_slice : goal.returns-in_err-extend_from_slice
 returns-in_err-extend_from_slice g c =
     let memory = is_memory {T = Unit {0}} c.from_residual.result c.from_residual.ensures.1 in
     let before : length c.loop-turn.bytes.items ≤ c.args.limit = omega (arith, c.loop-turn.bytes.ok.0) in
-    let fits = subst (λ (l : List ℕ). length l ≤ c.args.limit) (sym c.in_err-extend_from_slice.ensures.items) before in
+    let fits = items-fit c.extend_from_slice.new.self.items c.loop-turn.bytes.items c.args.limit c.in_err-extend_from_slice.ensures.items before in
     record {
       at_most = fits-within _ _ fits;
-      within = memory-has_no_value c.from_residual.result _ memory;
+      within = memory-has_no_value c.from_residual.result (λ _. length c.extend_from_slice.new.self.items ≤ c.args.limit) memory;
       too_long = λ e. absurd (memory-not_too_long c.from_residual.result memory e);
       long = λ more. absurd (fits-not_above _ _ fits more);
-      read = memory-has_no_value c.from_residual.result _ memory;
-      all = memory-has_no_value c.from_residual.result _ memory;
+      read = memory-has_no_value c.from_residual.result
+          (λ _. Consumes (g.F.Read.remaining c.args.file.now) (g.F.Read.remaining c.read.new.self) c.extend_from_slice.new.self.items) memory;
+      all = memory-has_no_value c.from_residual.result (λ _. IsAtEnd (g.F.Read.remaining c.read.new.self)) memory;
     }
 
 pub returns : goal.returns
