@@ -25,7 +25,7 @@ use Rattle.nf_complete_laws.proofs.OneCycle.{weaker}
 use Rattle.nf_complete_laws.proofs.Settled.{settles-end, IsListedIn-settled, IsSolution-settled}
 use Rattle.nf_complete.specs.Cycles.{IsFirstCycle, Closes}
 use Rattle.nf_complete.specs.NextCycles.{AreForestBelow, ClosesNext}
-use Rattle.nf_complete.specs.Settling.{ComesTo}
+use Rattle.nf_complete.specs.Settling.{IsThinWithFulls, ComesTo}
 use Rattle.nf_complete.specs.InteriorFlags.{interior_flags}
 use Rattle.nf_complete.proofs.Cycling.{forest-weaker}
 use Rattle.nf_complete.proofs.Interiors.{set_count, fewer_set, flags_are}
@@ -167,15 +167,21 @@ module _ (passes : Passing) (net : Network) (sets : Sets) (slopes flows : List �
 pub fulls_read : (passes : Passing) (net : Network) (sets : Sets) (slopes : List ℚ) (read seen : List (Option ℚ)) → at_part Verdict (fulls_list passes net sets slopes) ≡ Ok read → seen ≡ read → fulls_list passes net sets slopes ≡ Ok seen
 fulls_read passes net sets slopes read seen worked same = value_of (fulls_list passes net sets slopes) read (sym worked) ∙ ap (λ (f : List (Option ℚ)). Ok f) (sym same)
 
+pub with_fulls : (passes : Passing) (net : Network) (sets : Sets) (rate : ℚ) (flows slopes : List ℚ) → IsThinFlow net sets rate flows slopes → (read seen : List (Option ℚ))
+    → at_part Verdict (fulls_list passes net sets slopes) ≡ Ok read → seen ≡ read → IsThinWithFulls passes net sets slopes seen flows
+with_fulls passes net sets rate flows slopes thin read seen worked same = record { rate = rate; thin = thin; fulls = fulls_read passes net sets slopes read seen worked same }
+
 pub record IsSettled (passes : Passing) (net : Network) (sets : Sets) (rate : ℚ) (flows slopes new : List ℚ) : Type 0 where
   pub settles_it : Settles passes net sets slopes flows (Ok new)
   pub thin : IsThinFlow net sets rate new slopes
   pub forest : IsForest (hops net) (IsInterior net sets slopes new)
 
 pub settled_by : (passes : Passing) (net : Network) (sets : Sets) (rate : ℚ) (flows slopes : List ℚ) → AreGoodSets net sets → IsThinFlow net sets rate flows slopes → (read seen : List (Option ℚ))
-    → at_part Verdict (fulls_list passes net sets slopes) ≡ Ok read → seen ≡ read → (new : List ℚ) → Cancels passes net sets slopes seen flows (Ok new) → IsSettled passes net sets rate flows slopes new
-settled_by passes net sets rate flows slopes good thin read seen worked same new c =
-    let it : Settles passes net sets slopes flows (Ok new) = settles seen (Ok new) (fulls_read passes net sets slopes read seen worked same) c in
+    → at_part Verdict (fulls_list passes net sets slopes) ≡ Ok read → seen ≡ read → (new : List ℚ)
+    → ((slopes : List ℚ) → IsThinWithFulls passes net sets slopes seen flows → Cancels passes net sets slopes seen flows (Ok new)) → IsSettled passes net sets rate flows slopes new
+settled_by passes net sets rate flows slopes good thin read seen worked same new cancelled =
+    let t = with_fulls passes net sets rate flows slopes thin read seen worked same in
+    let it : Settles passes net sets slopes flows (Ok new) = settles seen (Ok new) t.fulls (cancelled slopes t) in
     let end = settles-end passes net sets rate flows slopes new (Ok new) good refl thin it in
     record { settles_it = it; thin = end.0; forest = end.1 }
 

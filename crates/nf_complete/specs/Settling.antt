@@ -1,5 +1,5 @@
 -- Results of testing and settling thin flows.
-use Rattle.std.specs.Prelude.{◌≡◌, Bool, List, Result, Ok, Err, IsOk}
+use Rattle.std.specs.Prelude.{◌≡◌, Bool, List, Option, Result, Ok, Err, IsOk}
 use Rattle.nf_rational.specs.Rational.{ℚ}
 use Rattle.nf_frac_def.specs.Passing.{Passing}
 use Rattle.nf_frac_def.specs.Checked.{Checked, at_part, placed}
@@ -8,10 +8,16 @@ use Rattle.nf_frac_def.specs.declared.PassedAt.{PassedAt}
 use Rattle.nf_frac_def.specs.declared.Halt.{Halt}
 use Rattle.nf_frac_def.specs.declared.Part.TheVariants.{Verdict}
 use Rattle.nf_model.specs.Network.{Network}
-use Rattle.nf_model.specs.ThinFlow.{Sets}
-use Rattle.nf_complete_def.specs.Cancelling.{Settles}
+use Rattle.nf_model.specs.ThinFlow.{Sets, IsThinFlow}
+use Rattle.nf_complete_def.specs.Cancelling.{fulls_list, Settles}
 use Rattle.nf_complete_def.specs.ThinList.{thin_list}
 use Rattle.nf_complete.specs.declared.settled.Settled.{Settled}
+
+-- the flows are a thin flow with these slopes, and `fulls` holds for each link the flow that fills it
+pub record IsThinWithFulls (passes : Passing) (net : Network) (sets : Sets) (slopes : List ℚ) (fulls : List (Option ℚ)) (flows : List ℚ) : Type 0 where
+  pub rate : ℚ
+  pub thin : IsThinFlow net sets rate flows slopes
+  pub fulls : fulls_list passes net sets slopes ≡ Ok fulls
 
 -- no operation of the sequence passes, or the error is the first one that passes
 abbrev pub Passes : Passing → Network → Sets → ℚ → List ℚ → List ℚ → Result Bool (PassedAt ℚ) → Type 0

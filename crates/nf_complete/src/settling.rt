@@ -1,5 +1,5 @@
 // Settling of a thin flow. Cycles are cancelled until the interior links hold none.
-ghost use Rattle.std.specs.Prelude.{◌≡◌, ◌<◌, length, Ok, IfOk, MatchOption};
+ghost use Rattle.std.specs.Prelude.{◌≡◌, ◌<◌, ◌^◌, List, length, IfOk, MatchOption};
 ghost use Rattle.nf_rational.specs.Rational.{ℚ};
 ghost use Rattle.nf_rational.specs.Operations.{0ℚ};
 ghost use Rattle.nf_rational.specs.Order.{◌≤ℚ◌};
@@ -8,11 +8,11 @@ ghost use Rattle.nf_model.specs.Entries.{Has};
 ghost use Rattle.nf_model.specs.Network.{hops as hops_of};
 ghost use Rattle.nf_model.specs.ThinFlow.{IsThinFlow};
 ghost use Rattle.nf_model.specs.Pattern.{IsForest, IsListedIn, IsSolution};
-ghost use Rattle.nf_complete_def.specs.Cancelling.{fulls_list, Cancels};
+ghost use Rattle.nf_complete_def.specs.Cancelling.{Cancels};
 ghost use Rattle.nf_complete_def.specs.SettledPattern.{IsSettledPattern};
 ghost use Rattle.nf_complete_laws.specs.SettleLaws.{AreGoodSets};
 ghost use Rattle.nf_complete.specs.FitSets.{AreFitSets};
-ghost use Rattle.nf_complete.specs.Settling.{ComesTo, SettlesTo};
+ghost use Rattle.nf_complete.specs.Settling.{IsThinWithFulls, ComesTo, SettlesTo};
 ghost use Rattle.nf_complete.specs.Cycles.{Closes};
 ghost use Rattle.nf_complete.specs.InteriorFlags.{interior_flags};
 
@@ -54,16 +54,13 @@ fn cancelled(
     sets: &LinkSets,
     fulls: &[Option<Q>],
     flows: &[Q],
-    slopes: &[Q],
 ) -> Result<Vec<Q>, Halt<Q>>
     requires sets { AreGoodSets net.now.net sets.now }
-    requires thin { (rate : ℚ) × IsThinFlow net.now.net sets.now rate flows.now slopes.now }
-    requires fulls { fulls_list passes_Q net.now.net sets.now slopes.now ≡ Ok fulls.now }
-    ensures { ComesTo (Cancels passes_Q net.now.net sets.now slopes.now fulls.now flows.now) (λ new. new.items) result }
+    requires thin { (slopes : List ℚ) × IsThinWithFulls passes_Q net.now.net sets.now slopes fulls.now flows.now }
+    requires fewer { length fulls.now < 2 ^ 32 }
+    ensures { (slopes : List ℚ) → IsThinWithFulls passes_Q net.now.net sets.now slopes fulls.now flows.now
+        → ComesTo (Cancels passes_Q net.now.net sets.now slopes fulls.now flows.now) (λ new. new.items) result }
 {
-    // Proof: there are fewer than 2^32 links, and the slopes determine the flows that fill them.
-    let _ = net.link_count();
-    let _ = slopes;
     let mut new = flows.to_vec(alloc)?;
     let mut known = 0;
     while let Some(cycle) = next_cycle(alloc, net, sets, fulls, &new, known)? {
@@ -104,7 +101,7 @@ pub fn settle(
     // Proof: every network is well formed.
     net.recall();
     let fulls = fulls(alloc, net, sets, slopes)?;
-    let flows = cancelled(alloc, net, sets, &fulls, flows, slopes)?;
+    let flows = cancelled(alloc, net, sets, &fulls, flows)?;
     let pattern = settled_pattern(alloc, net, sets, &fulls, &flows, slopes)?;
     Ok(Settled { flows, pattern })
 }

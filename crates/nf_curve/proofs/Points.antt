@@ -1,5 +1,5 @@
 -- A point after the last one.
-use Rattle.std.proofs.Common.{◌≡◌, ℕ, zero, suc, ◌+◌, ◌-◌, ◌<◌, true, List, [], ◌∷◌, ◌++◌, length, sym, ap, subst, ◌∙◌, arith}
+use Rattle.std.proofs.Common.{◌≡◌, ℕ, zero, suc, ◌+◌, ◌-◌, ◌<◌, true, List, [], ◌∷◌, ◌++◌, length, ⊎_elim, sym, ap, subst, ◌∙◌, arith}
 use Rattle.std.specs.Prelude.{Some, slice_get}
 use Rattle.std.proofs.lemmas.Option.{none-some, same_Some}
 use Rattle.std.specs.Ordering.{MatchOrdering, is_lt}
@@ -7,7 +7,9 @@ use Rattle.std.specs.declared.cmp.Ordering.{Ordering}
 use Rattle.std.specs.declared.cmp.Ordering.TheVariants.{Less, Equal, Greater}
 use Rattle.nf_frac.specs.Total.{ranks_ℚ}
 use Rattle.nf_rational.specs.Rational.{ℚ}
-use Rattle.nf_rational.specs.Order.{◌<ℚ◌, cmp_ℚ}
+use Rattle.nf_rational.specs.Operations.{0ℚ}
+use Rattle.nf_rational.specs.Order.{◌≤ℚ◌, ◌<ℚ◌, cmp_ℚ}
+use Rattle.nf_rational_laws.proofs.Order.{≤ℚ_antisymm, lt_or_le_ℚ}
 use Rattle.nf_model.specs.Curve.{TimesRise, IsCurve}
 use Rattle.nf_curve.specs.Points.{Grown, last_time}
 
@@ -53,3 +55,7 @@ curve_seen inside spare seen curve v = subst (λ (g : Grown). IsCurve g.points) 
 
 pub curve_read : (points inside : List (ℚ × ℚ)) → points ≡ inside → IsCurve inside → IsCurve points
 curve_read points inside e curve = subst IsCurve (sym e) curve
+
+-- a number that is at least 0 and isn't 0 is above 0
+pub positive : (x : ℚ) → 0ℚ ≤ℚ x → (x ≡ 0ℚ → ⊥) → 0ℚ <ℚ x
+positive x h n = ⊎_elim (λ (l : 0ℚ <ℚ x). l) (λ (l : x ≤ℚ 0ℚ). absurd (n (≤ℚ_antisymm x 0ℚ l h))) (lt_or_le_ℚ 0ℚ x)

@@ -1,5 +1,5 @@
 // The composition of two curves.
-ghost use Rattle.std.specs.Prelude.{◌≡◌, ◌≢◌, ℕ, [], ◌∷◌, ◌++◌, reverse, slice_get, Some, Ok, IfOk, IsTrue};
+ghost use Rattle.std.specs.Prelude.{◌≡◌, ◌≢◌, ℕ, [], ◌∷◌, ◌++◌, reverse, slice_get, Some, IfOk};
 ghost use Rattle.std.specs.List.{filter};
 ghost use Rattle.nf_rational.specs.Rational.{ℚ};
 ghost use Rattle.nf_rational.specs.Operations.{0ℚ};
@@ -7,14 +7,13 @@ ghost use Rattle.nf_rational.specs.Order.{◌≤ℚ◌, ◌<ℚ◌, lt_ℚ};
 ghost use Rattle.nf_frac_def.specs.Passing.{passes_Q};
 ghost use Rattle.nf_frac_def.specs.Checked.{at_part, each, Gives};
 ghost use Rattle.nf_model.specs.Curve.{IsCurve, Within, value};
-ghost use Rattle.nf_curve_def.specs.Values.{checked_cut};
 ghost use Rattle.nf_curve_def.specs.Composed.{corner_at as corner_by, points_along, composed_piece, composed_all, checked_composed};
 ghost use Rattle.nf_curve.specs.Places.{place_of};
 ghost use Rattle.nf_curve.specs.Steps.{behind};
 
-use crate::cut::cut_points;
+use crate::cut::{cut_points, ends_at};
 use crate::lines::{Point, inverse};
-use crate::places::{place_down, place_up, value_at};
+use crate::places::{place_near, place_up, value_at};
 use nf_frac::{Halt, Part, PassedAt, Q};
 use std::alloc::Global;
 
@@ -120,19 +119,6 @@ fn add_corners(
     }
 }
 
-// Returns the number of outer points at or before the value `to`, given this number for the value `from`.
-fn place_from(outer: &[Point], place: usize, from: Q, to: Q) -> usize
-    requires outer { IsCurve outer.now }
-    requires place { place ≡ place_of from outer.now }
-    ensures { result ≡ place_of to outer.now }
-{
-    if from.is_below(to) {
-        place_up(outer, place, to)
-    } else {
-        place_down(outer, place, to)
-    }
-}
-
 // Appends the points of a piece: its beginning, and where it reaches outer points. Returns the outer point count up to its last value.
 fn add_piece(
     composed: &mut Vec<Point>,
@@ -152,7 +138,7 @@ fn add_piece(
 {
     let value = value_at(outer, place, p.1, part)?;
     composed.push((p.0, value))?;
-    let next = place_from(outer, place, p.1, q.1);
+    let next = place_near(outer, place, q.1);
     add_corners(composed, outer, (place, next), p, q, part)?;
     Ok(next)
 }
@@ -180,36 +166,7 @@ fn composed_points(
     Ok(composed)
 }
 
-// Returns whether the last point of a curve is at the time `last`. Then the curve is its own cut there.
-fn ends_at(points: &[Point], last: Q) -> bool
-    requires curve { IsCurve points.now }
-    requires last { 0ℚ ≤ℚ last }
-    ensures { IsTrue result → checked_cut passes_Q points.now last ≡ Ok points.now }
-{
-    points[points.len() - 1].0.is_same(last)
-}
-
-// Returns the points of the composition for times from 0 to `last`, where `inner` is its own cut: that cut isn't made, for speed.
-fn composed_whole(
-    alloc: Global,
-    outer: &[Point],
-    inner: &[Point],
-    last: Q,
-    part: Part,
-) -> Result<Vec<Point>, Halt<Q>>
-    requires outer { IsCurve outer.now }
-    requires inner { IsCurve inner.now }
-    requires last { 0ℚ ≤ℚ last }
-    requires values { (time : ℚ) → Within 0ℚ last time → 0ℚ ≤ℚ value inner.now time }
-    requires whole { checked_cut passes_Q inner.now last ≡ Ok inner.now }
-    ensures { Gives (λ points. points.items) (λ q. q) result (at_part part (checked_composed passes_Q outer.now inner.now last)) }
-{
-    // Proof: the cut performs no operation that passes.
-    let _ = last;
-    composed_points(alloc, outer, inner, part)
-}
-
-/// Returns the points of the composition of `outer` and `inner`, for times from 0 to `last`.
+/// Returns the points of the composition of `outer` and `inner`, for times from 0 to `last`. Does not cut `inner` if `inner` ends at `last`.
 #[tactic(auto, unfolding(nf_curve_def::specs::Composed::checked_composed))]
 pub(crate) fn composed_until(
     alloc: Global,
@@ -225,7 +182,7 @@ pub(crate) fn composed_until(
     ensures { Gives (λ points. points.items) (λ q. q) result (at_part part (checked_composed passes_Q outer.now inner.now last)) }
 {
     if ends_at(inner, last) {
-        return composed_whole(alloc, outer, inner, last, part);
+        return composed_points(alloc, outer, inner, part);
     }
     let cut = cut_points(alloc, inner, last, part)?;
     composed_points(alloc, outer, &cut, part)

@@ -1,8 +1,9 @@
 // Curves: points whose times increase strictly from 0.
-ghost use Rattle.std.specs.Prelude.{◌≡◌, ℕ, ◌+◌, ◌-◌, ◌<◌, ◌≤◌, [], ◌∷◌, ◌++◌, length, IfOk, OnOk, OnErr, IsOk, slice_get, Some, option_map};
+ghost use Rattle.std.specs.Prelude.{◌≡◌, ℕ, ◌+◌, ◌-◌, ◌<◌, ◌≤◌, [], ◌∷◌, ◌++◌, length, if◌then◌else◌, IfOk, OnOk, OnErr, IsOk, slice_get, Some, option_map};
 ghost use Rattle.nf_rational.specs.Rational.{ℚ};
 ghost use Rattle.nf_rational.specs.Operations.{0ℚ};
 ghost use Rattle.nf_rational.specs.Order.{◌≤ℚ◌, ◌<ℚ◌};
+ghost use Rattle.nf_rational.specs.Signs.{is_zero};
 ghost use Rattle.nf_frac_def.specs.Passing.{passes_Q};
 ghost use Rattle.nf_frac_def.specs.Checked.{at_part, seen_at, Gives};
 ghost use Rattle.nf_model.specs.Curve.{IsCurve, Within, value as value_of};
@@ -71,6 +72,18 @@ impl Curve {
         ensures { result.points ≡ points.items }
     {
         Curve { points }
+    }
+
+    /// Returns the identity for times from 0 to `last`, constant after it. `last` must be at least 0. Fails only if an allocation fails.
+    pub fn identity(alloc: Global, last: Q) -> Result<Curve, AllocError>
+        requires { 0ℚ ≤ℚ last }
+        ensures { IfOk result (λ c. c.points ≡ (if is_zero last then (0ℚ, 0ℚ) ∷ [] else (0ℚ, 0ℚ) ∷ (last, last) ∷ [])) }
+    {
+        let mut line = Curve::start(alloc, Q::zero())?;
+        if !last.is_zero() {
+            line.push(last, last)?;
+        }
+        Ok(line)
     }
 
     /// Allocates room, so that the next `more` pushes cannot fail. The points stay the same, even if the allocation fails.

@@ -1,11 +1,13 @@
 // A curve up to a last time.
-ghost use Rattle.std.specs.Prelude.{◌≡◌, ◌++◌, OnOk};
+ghost use Rattle.std.specs.Prelude.{◌≡◌, ◌++◌, Ok, OnOk, IsTrue};
 ghost use Rattle.nf_rational.specs.Operations.{0ℚ};
 ghost use Rattle.nf_rational.specs.Order.{◌≤ℚ◌};
+ghost use Rattle.nf_rational.specs.Signs.{is_same as is_same_by};
 ghost use Rattle.nf_frac_def.specs.Passing.{passes_Q};
 ghost use Rattle.nf_frac_def.specs.Checked.{at_part, Gives};
 ghost use Rattle.nf_model.specs.Curve.{IsCurve};
 ghost use Rattle.nf_curve_def.specs.Values.{points_before, checked_cut};
+ghost use Rattle.nf_curve.specs.Points.{last_time};
 
 use crate::lines::Point;
 use crate::places::{place_up, value_at};
@@ -42,4 +44,15 @@ pub(crate) fn cut_points(
     add_before(&mut cut, points, last)?;
     cut.push((last, value))?;
     Ok(cut)
+}
+
+/// Returns whether the last point of a curve is at the time `last`, which must be at least 0. Then the curve is its own cut there. Never
+/// fails, and does not allocate.
+pub fn ends_at(points: &[Point], last: Q) -> bool
+    requires curve { IsCurve points.now }
+    requires last { 0ℚ ≤ℚ last }
+    ensures end { result ≡ is_same_by (last_time points.now) last }
+    ensures whole { IsTrue result → checked_cut passes_Q points.now last ≡ Ok points.now }
+{
+    points[points.len() - 1].0.is_same(last)
 }

@@ -16,6 +16,8 @@ mod sums;
 mod walk;
 
 pub use curve::{Curve, Difference};
+pub use cut::ends_at;
 pub use flow::{Flow, Stop, Trace};
 pub use lines::{Point, Sides, line, slope};
+pub use places::{place_near, value_at};
 pub use walk::{Moment, first_moment, next_moment, sides_at};

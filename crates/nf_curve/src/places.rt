@@ -24,12 +24,11 @@ pub(crate) fn place_up(points: &[Point], from: usize, time: Q) -> usize
     place
 }
 
-/// Returns the number of points at or before `time`. Counts down from `from`, which must be at least this number.
-pub(crate) fn place_down(points: &[Point], from: usize, time: Q) -> usize
+// Counts down from `from` until the count is at most the number of points at or before `time`.
+fn place_down(points: &[Point], from: usize, time: Q) -> usize
     requires rise { TimesRise points.now }
-    requires from { place_of time points.now ≤ from }
-    requires within { from ≤ length points.now }
-    ensures { result ≡ place_of time points.now }
+    requires from { from ≤ length points.now }
+    ensures { result ≤ place_of time points.now }
 {
     let mut place = from;
     while place > 0 && time.is_below(points[place - 1].0) {
@@ -38,13 +37,20 @@ pub(crate) fn place_down(points: &[Point], from: usize, time: Q) -> usize
     place
 }
 
-/// Returns the value at a time, given the number of points at or before it.
-pub(crate) fn value_at(
-    points: &[Point],
-    place: usize,
-    time: Q,
-    part: Part,
-) -> Result<Q, PassedAt<Q>>
+/// Returns the number of points at or before `time`. Counts up or down from `from`, so the call reads few points if `from` is near. Never
+/// fails, and does not allocate.
+pub fn place_near(points: &[Point], from: usize, time: Q) -> usize
+    requires curve { IsCurve points.now }
+    requires from { from ≤ length points.now }
+    ensures { result ≡ place_of time points.now }
+{
+    let down = place_down(points, from, time);
+    place_up(points, down, time)
+}
+
+/// Returns the value at `time`, which must be at least 0. `place` must be the number of points at or before `time`. Returns `PassedAt`
+/// exactly if an operation of `checked_value` passes: the first one, with `part`. Does not allocate.
+pub fn value_at(points: &[Point], place: usize, time: Q, part: Part) -> Result<Q, PassedAt<Q>>
     requires curve { IsCurve points.now }
     requires time { 0ℚ ≤ℚ time }
     requires place { place ≡ place_of time points.now }

@@ -277,14 +277,14 @@ pub fn network_of(draft: Draft, parts: Parts) -> Network
         nodes,
         tables,
     } = parts;
-    Network::kept(
-        draft.version,
-        tables.node_names,
-        tables.link_names,
-        tables.links,
-        tables.hops,
-        draft.pieces,
-        nodes.idle,
-        links.idle,
-    )
+    Network {
+        version: draft.version,
+        node_names: tables.node_names,
+        link_names: tables.link_names,
+        links: tables.links,
+        hops: tables.hops,
+        pieces: draft.pieces,
+        idle_nodes: nodes.idle,
+        idle_links: links.idle,
+    }
 }

@@ -5,7 +5,6 @@ ghost use Rattle.std.specs.Str.{bytes_eq};
 ghost use Rattle.nf_model.specs.Network.{IsLink, hops as hops_of, rate_at as rate_of_net, next_change as change_of_net};
 ghost use Rattle.nf_net_def.specs.Names.{has_name, is_name, name_at};
 ghost use Rattle.nf_net_def.specs.WellNamed.{IsNamed};
-ghost use Rattle.nf_net.specs.Kept.{with_parts, IsKept};
 ghost use Rattle.nf_net_def.specs.Limits.{most_links};
 
 use nf_frac::Q;
@@ -18,14 +17,14 @@ use std::marker::Model;
 /// nodes, which no walk from the source reaches, and idle links out of these nodes. Idle nodes and links have no numbers here.
 #[derive(Drop)]
 pub struct Network {
-    version: u32,
-    node_names: Vec<Name>,
-    link_names: Vec<Name>,
-    links: Vec<Link>,
-    hops: Vec<Hop>,
-    pieces: Vec<Piece>,
-    idle_nodes: Vec<Name>,
-    idle_links: Vec<NamedLink>,
+    pub(crate) version: u32,
+    pub(crate) node_names: Vec<Name>,
+    pub(crate) link_names: Vec<Name>,
+    pub(crate) links: Vec<Link>,
+    pub(crate) hops: Vec<Hop>,
+    pub(crate) pieces: Vec<Piece>,
+    pub(crate) idle_nodes: Vec<Name>,
+    pub(crate) idle_links: Vec<NamedLink>,
 }
 
 impl Model for Network {
@@ -69,33 +68,6 @@ fn found(names: &[Name], text: &str) -> Option<u32>
 
 #[tactic(auto, using(crate::proofs::Limits::few_nodes, crate::proofs::Limits::few_links, crate::proofs::Limits::few_idle_nodes, crate::proofs::Limits::as_many_names, crate::proofs::Limits::some_nodes, crate::proofs::Limits::named_nodes, crate::proofs::Limits::named_links, crate::proofs::Limits::few_link_names))]
 impl Network {
-    // Makes the network of these parts.
-    pub(crate) fn kept(
-        version: u32,
-        node_names: Vec<Name>,
-        link_names: Vec<Name>,
-        links: Vec<Link>,
-        hops: Vec<Hop>,
-        pieces: Vec<Piece>,
-        idle_nodes: Vec<Name>,
-        idle_links: Vec<NamedLink>,
-    ) -> Network
-        requires { IsKept (with_parts version node_names.items link_names.items links.items pieces.items idle_nodes.items idle_links.items)
-            hops.items }
-        ensures { result ≡ with_parts version node_names.items link_names.items links.items pieces.items idle_nodes.items idle_links.items }
-    {
-        Network {
-            version,
-            node_names,
-            link_names,
-            links,
-            hops,
-            pieces,
-            idle_nodes,
-            idle_links,
-        }
-    }
-
     /// Returns the version of the file's format: 1 or 2.
     pub fn version(&self) -> u32
         ensures value { result ≡ self.now.version }

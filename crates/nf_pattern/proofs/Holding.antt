@@ -1,6 +1,6 @@
 -- The stack of Tight links: of no link, of one more link, and of patterns with the same first states.
 use Rattle.std.proofs.Common.{◌≡◌, ◌≢◌, ℕ, zero, suc, ◌<◌, ◌≤◌, ⊎_elim, true, false, ◌&&◌, List, length, replicate, take, Option, Some, None, slice_get, slice_set, refl, sym, ap, subst, ◌∙◌, arith}
-use Rattle.std.specs.Prelude.{if◌then◌else◌, MatchBool, Bool}
+use Rattle.std.specs.Prelude.{if◌then◌else◌}
 use Rattle.std.proofs.Math.ListN.{length-set}
 use Rattle.std.proofs.lemmas.List.{length-replicate}
 use Rattle.std.proofs.lemmas.Option.{slice_get_within}
@@ -119,20 +119,19 @@ module _ (hops : List Hop) (p : Pattern) (n : ℕ) where
       (λ (other : e ≢ n). clear e (omega arith) closes)
       (tell e n)
 
-  -- The link's ends are joined, or not.
-  pub leads_between : (hop : Hop) → IsHop hops n hop → (from to : ℕ) → from ≡ hop.head → to ≡ hop.tail → (m : ℕ) → m ≡ n → (b : Bool)
-      → MatchBool b (AreJoined hops (TightBefore p m) from to) (AreJoined hops (TightBefore p m) from to → ⊥) → MatchBool b (LeadsBack hops p n) (LeadsBack hops p n → ⊥)
-  leads_between hop is from to head tail m at true joined = record {
-    hop = hop;
-    is_hop = is;
-    joined = subst (λ (k : ℕ). AreJoined hops (TightBefore p n) k hop.tail) head (subst (λ (k : ℕ). AreJoined hops (TightBefore p n) from k) tail (subst (λ (k : ℕ). AreJoined hops (TightBefore p k) from to) at joined));
-  }
-  leads_between hop is from to head tail m at false apart = λ back. apart
-      (subst (λ (k : ℕ). AreJoined hops (TightBefore p k) from to) (sym at)
-      (subst (λ (k : ℕ). AreJoined hops (TightBefore p n) from k) (sym tail) (subst (λ (k : ℕ). AreJoined hops (TightBefore p n) k hop.tail) (sym head)
-      (subst (λ (h : Hop). AreJoined hops (TightBefore p n) h.head h.tail) (IsHop-unique hops n back.hop hop back.is_hop is) back.joined))))
+  -- The link's ends are joined exactly if Tight links before it lead back.
+  module _ (hop : Hop) (is : IsHop hops n hop) (from to : ℕ) (at_from : from ≡ hop.tail) (at_to : to ≡ hop.head) where
+    pub ends_joined : AreJoined hops (TightBefore p n) to from → LeadsBack hops p n
+    ends_joined joined = record {
+      hop = hop;
+      is_hop = is;
+      joined = subst (λ (k : ℕ). AreJoined hops (TightBefore p n) k hop.tail) at_to (subst (λ (k : ℕ). AreJoined hops (TightBefore p n) to k) at_from joined);
+    }
 
--- ---- patterns that are the same up to a link
+    pub ends_led : LeadsBack hops p n → AreJoined hops (TightBefore p n) to from
+    ends_led back = subst (λ (k : ℕ). AreJoined hops (TightBefore p n) to k) (sym at_from) (subst (λ (k : ℕ). AreJoined hops (TightBefore p n) k hop.tail) (sym at_to)
+        (subst (λ (h : Hop). AreJoined hops (TightBefore p n) h.head h.tail) (IsHop-unique hops n back.hop hop back.is_hop is) back.joined))
+
 module _ (hops : List Hop) (p r : Pattern) (n : ℕ) (same : take n r ≡ take n p) where
   last_same : (m v : ℕ) → m ≤ n → last_at (ends_at hops p) m v ≡ last_at (ends_at hops r) m v
   last_same zero v few = refl

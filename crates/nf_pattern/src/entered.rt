@@ -1,5 +1,5 @@
 // Nodes entered by a Tight, Full or resetting link.
-ghost use Rattle.std.specs.Prelude.{◌≡◌, ◌≢◌, ◌^◌, ◌<◌, suc, length, List, Bool, Some, None, slice_get, MatchBool, IfOk};
+ghost use Rattle.std.specs.Prelude.{◌≡◌, ◌≢◌, ◌^◌, ◌<◌, ℕ, suc, length, List, Bool, Some, None, slice_get, MatchBool, IfOk};
 ghost use Rattle.nf_model.specs.Walk.{Hop as SeenHop, IsHop};
 ghost use Rattle.nf_graph.specs.Graph.{AreBelow};
 ghost use Rattle.nf_pattern.specs.Entered.{MayCarry, CanCarry, LeadsTo, EnteredBefore, IsLastInto, AreLastInto, AreChained, AreEndsBefore, AreEnds, IsLost};
@@ -33,24 +33,21 @@ pub(crate) fn is_end(ends: &[usize], node: NodeId, link: LinkId) -> bool
     ends[node.index()] == link.index() + 1
 }
 
-// Returns whether a resetting, Tight or Full link before `link` enters `node`, the head of `link`. Follows the chain of links into `node`
+// Returns whether a resetting, Tight or Full link before `link` enters the head of `link`. Follows the chain of links into that head
 // backward from `link`.
 pub(crate) fn is_entered_before(
-    hops: &[Hop],
     states: &[Option<State>],
     resetting: &[bool],
     link: LinkId,
-    node: NodeId,
     chain: &[Option<LinkId>],
 ) -> bool
-    requires states { length states.now ≡ length hops.now }
-    requires resetting { length resetting.now ≡ length hops.now }
-    requires chain { AreChained hops.now chain.now }
-    requires count { length chain.now ≡ length hops.now }
-    requires link { link < length hops.now }
-    requires leads { LeadsTo hops.now link node }
-    ensures { MatchBool result (EnteredBefore hops.now resetting.now states.now link node)
-        (EnteredBefore hops.now resetting.now states.now link node → ⊥) }
+    requires states { length states.now ≡ length chain.now }
+    requires resetting { length resetting.now ≡ length chain.now }
+    requires link { link < length chain.now }
+    requires chained { (hops : List SeenHop) × (head : ℕ) × AreChained hops chain.now × LeadsTo hops link head }
+    ensures { (hops : List SeenHop) (head : ℕ) → AreChained hops chain.now → LeadsTo hops link head
+        → MatchBool result (EnteredBefore hops resetting.now states.now link head)
+        (EnteredBefore hops resetting.now states.now link head → ⊥) }
 {
     let mut at = chain[link.index()];
     while let Some(before) = at {

@@ -1,7 +1,7 @@
 // The listed patterns of a phase, in order.
 use crate::assignments::Quiet;
 use crate::pattern::Pattern;
-use crate::question::{Question, Stand};
+use crate::question::{Nodes, Question, Stand};
 use crate::trail::Trail;
 use nf_graph::{Hop, LinkSets, NodeId};
 use std::alloc::{AllocError, Global};
@@ -74,7 +74,11 @@ impl Patterns {
               place = 0;
             }) }
     {
-        let question = Question::new(alloc, nodes, source, hops, sets, base, unbounded)?;
+        let ends = Nodes {
+            count: nodes,
+            source,
+        };
+        let question = Question::new(alloc, ends, hops, sets, base, unbounded)?;
         let current = base.copy(alloc)?;
         let trail = question.trail(alloc)?;
         let quiet = Quiet {

@@ -23,6 +23,13 @@ pub(crate) struct Question {
     stated: StatedLinks,
 }
 
+// The nodes of a listing: how many there are, and which of them is the source.
+#[derive(Clone, Copy)]
+pub(crate) struct Nodes {
+    pub(crate) count: u32,
+    pub(crate) source: NodeId,
+}
+
 // The progress of a listing: before the first listed pattern, at a listed pattern, or after the last.
 #[derive(Clone, Copy)]
 pub(crate) enum Stand {
@@ -95,17 +102,28 @@ impl Question {
     // Returns the question of these values, copied. Fails if an allocation fails.
     pub(crate) fn new(
         alloc: Global,
-        nodes: u32,
-        source: NodeId,
+        nodes: Nodes,
         hops: &[Hop],
         sets: &LinkSets,
         base: &Pattern,
         unbounded: &[bool],
     ) -> Result<Question, AllocError>
-        requires { IsQuestion
-            (record { nodes = nodes; source = source; hops = hops.now; sets = sets.now; unbounded = unbounded.now; base = base.now }) }
-        ensures { IfOk result (λ question. question
-            ≡ record { nodes = nodes; source = source; hops = hops.now; sets = sets.now; unbounded = unbounded.now; base = base.now }) }
+        requires { IsQuestion (record {
+          nodes = nodes.count;
+          source = nodes.source;
+          hops = hops.now;
+          sets = sets.now;
+          unbounded = unbounded.now;
+          base = base.now;
+        }) }
+        ensures { IfOk result (λ question. question ≡ record {
+          nodes = nodes.count;
+          source = nodes.source;
+          hops = hops.now;
+          sets = sets.now;
+          unbounded = unbounded.now;
+          base = base.now;
+        }) }
     {
         let flags = copied_flags(alloc, sets, hops.len())?;
         let hops = hops.to_vec(alloc)?;
@@ -113,8 +131,8 @@ impl Question {
         let base = base.copy(alloc)?;
         let stated = StatedLinks::new(alloc, base.states())?;
         Ok(Question {
-            nodes,
-            source,
+            nodes: nodes.count,
+            source: nodes.source,
             hops,
             active: flags.0,
             resetting: flags.1,

@@ -107,7 +107,7 @@ impl Trail {
         if !is_end(&self.ends, head, link) {
             return false;
         }
-        !is_entered_before(hops, states, resetting, link, head, &self.chain)
+        !is_entered_before(states, resetting, link, &self.chain)
     }
 
     // Examines the next link. Returns false, and keeps the depth, if the link closes a cycle or strands a node.

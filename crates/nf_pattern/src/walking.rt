@@ -42,7 +42,7 @@ impl TightLinks {
     ghost use Rattle.nf_model.specs.declared.State.TheVariants.{Tight};
     ghost use Rattle.nf_model.specs.Pattern.{Pattern, HasState};
     ghost use Rattle.nf_graph.specs.Graph.{AreBelow};
-    ghost use Rattle.nf_pattern.specs.Forest.{AreJoined, TightBefore, LeadsBack, Closes, NoneCloses};
+    ghost use Rattle.nf_pattern.specs.Forest.{Closes, NoneCloses};
     ghost use Rattle.nf_pattern.specs.Firm.{AreCalm};
     ghost use Rattle.nf_pattern.specs.Walking.{last_at, ends_at, other_end, Holds, IsPlace, Goes};
 
@@ -59,24 +59,14 @@ impl TightLinks {
     }
 
     // Crosses a link from a node. Returns the node at its other end, with the Tight link before this one there.
-    fn cross(
-        &self,
-        hops: &[Hop],
-        states: &[Option<State>],
-        depth: usize,
-        node: NodeId,
-        link: LinkId,
-    ) -> Place
-        requires holds { Holds hops.now states.now depth self.now }
-        requires before { link < depth }
-        requires tight { HasState states.now link Tight }
+    fn cross(&self, hops: &[Hop], node: NodeId, link: LinkId) -> Place
         requires link { link < length hops.now }
+        requires tails { length self.now.tails.items ≡ length hops.now }
+        requires heads { length self.now.heads.items ≡ length hops.now }
         ensures node { result.node ≡ other_end hops.now link node }
-        ensures link { result.link ≡ last_at (ends_at hops.now states.now) link (other_end hops.now link node) }
+        ensures link { (states : Pattern) (depth : ℕ) → Holds hops.now states depth self.now → link < depth → HasState states link Tight
+            → result.link ≡ last_at (ends_at hops.now states) link (other_end hops.now link node) }
     {
-        // Proof: the contract reads `states` and `depth`.
-        let _ = states;
-        let _ = depth;
         let hop = &hops[link.index()];
         if hop.tail == node {
             Place {
@@ -92,23 +82,18 @@ impl TightLinks {
     }
 
     // Makes one step of a traversal. Returns `None` at its end: at the start node, after all its links.
-    fn step(
-        &self,
-        hops: &[Hop],
-        states: &[Option<State>],
-        depth: usize,
-        start: NodeId,
-        place: Place,
-    ) -> Option<Place>
-        requires holds { Holds hops.now states.now depth self.now }
-        requires place { IsPlace hops.now states.now depth place.node place.link }
+    fn step(&self, hops: &[Hop], start: NodeId, place: Place) -> Option<Place>
+        requires placed { (states : Pattern) × (depth : ℕ) × Holds hops.now states depth self.now
+            × IsPlace hops.now states depth place.node place.link }
         requires within { place.node < length self.now.last.items }
-        ensures goes { Goes hops.now states.now depth start place result }
-        ensures place { IfSome result (λ after. IsPlace hops.now states.now depth after.node after.link
-            × (after.node < length self.now.last.items)) }
+        ensures goes { (states : Pattern) (depth : ℕ) → Holds hops.now states depth self.now
+            → IsPlace hops.now states depth place.node place.link → Goes hops.now states depth start place result }
+        ensures place { IfSome result (λ after. (states : Pattern) (depth : ℕ) → Holds hops.now states depth self.now
+            → IsPlace hops.now states depth place.node place.link → IsPlace hops.now states depth after.node after.link) }
+        ensures within { IfSome result (λ after. after.node < length self.now.last.items) }
     {
         match place.link {
-            Some(link) => Some(self.cross(hops, states, depth, place.node, link)),
+            Some(link) => Some(self.cross(hops, place.node, link)),
             None => {
                 if place.node == start {
                     return None;
@@ -121,23 +106,20 @@ impl TightLinks {
         }
     }
 
-    // Returns whether the examined Tight links join two nodes. Two traversals alternate, one from each node, until one ends or reaches the
-    // start of the other.
-    fn join(
-        &self,
-        hops: &[Hop],
-        states: &[Option<State>],
-        depth: usize,
-        tail: NodeId,
-        head: NodeId,
-    ) -> bool
-        requires holds { Holds hops.now states.now depth self.now }
-        requires clear { NoneCloses hops.now states.now depth }
-        requires tail { tail < length self.now.last.items }
-        requires head { head < length self.now.last.items }
-        ensures { MatchBool result (AreJoined hops.now (TightBefore states.now depth) head tail)
-            (AreJoined hops.now (TightBefore states.now depth) head tail → ⊥) }
+    // Returns whether the link is Tight and closes a cycle with the Tight links before it. Two traversals alternate, one from each end of
+    // the link, until one ends or reaches the start of the other.
+    fn closes(&self, hops: &[Hop], states: &[Option<State>], link: LinkId) -> bool
+        requires link { link < length hops.now }
+        requires stated { link < length states.now }
+        requires holds { Holds hops.now states.now link self.now }
+        requires clear { NoneCloses hops.now states.now link }
+        ensures { MatchBool result (Closes hops.now states.now link) (Closes hops.now states.now link → ⊥) }
     {
+        if !is_tight(states, link) {
+            return false;
+        }
+        let hop = &hops[link.index()];
+        let (tail, head) = (hop.tail, hop.head);
         if tail == head {
             return true;
         }
@@ -149,12 +131,12 @@ impl TightLinks {
             node: head,
             link: self.last[head.index()],
         };
-        while let Some(next) = self.step(hops, states, depth, tail, near) {
+        while let Some(next) = self.step(hops, tail, near) {
             if next.node == head {
                 return true;
             }
             near = next;
-            let Some(other) = self.step(hops, states, depth, head, far) else {
+            let Some(other) = self.step(hops, head, far) else {
                 return false;
             };
             if other.node == tail {
@@ -166,32 +148,21 @@ impl TightLinks {
     }
 
     // Pushes a Tight link. It becomes the last link at both its ends, and stores the previous last links.
-    fn put(&mut self, hops: &[Hop], states: &[Option<State>], link: LinkId)
-        requires holds { Holds hops.now states.now link self.old }
+    fn put(&mut self, hops: &[Hop], link: LinkId)
         requires link { link < length hops.now }
-        requires tight { HasState states.now link Tight }
-        ensures holds { Holds hops.now states.now (suc link) self.new }
+        requires tails { length self.old.tails.items ≡ length hops.now }
+        requires heads { length self.old.heads.items ≡ length hops.now }
+        requires below { AreBelow (length self.old.last.items) hops.now }
+        ensures holds { (pattern : Pattern) → Holds hops.now pattern link self.old → HasState pattern link Tight
+            → Holds hops.now pattern (suc link) self.new }
         ensures nodes { length self.new.last.items ≡ length self.old.last.items }
     {
-        // Proof: the contract reads `states`.
-        let _ = states;
         let hop = &hops[link.index()];
         let (tail, head) = (hop.tail, hop.head);
         self.tails[link.index()] = self.last[tail.index()];
         self.heads[link.index()] = self.last[head.index()];
         self.last[tail.index()] = Some(link);
         self.last[head.index()] = Some(link);
-    }
-
-    // Returns whether the Tight links before `link` join its ends.
-    fn joins(&self, hops: &[Hop], states: &[Option<State>], link: LinkId) -> bool
-        requires link { link < length hops.now }
-        requires holds { Holds hops.now states.now link self.now }
-        requires clear { NoneCloses hops.now states.now link }
-        ensures { MatchBool result (LeadsBack hops.now states.now link) (LeadsBack hops.now states.now link → ⊥) }
-    {
-        let hop = &hops[link.index()];
-        self.join(hops, states, link.index(), hop.tail, hop.head)
     }
 
     // Pushes `link` if it is Tight. Returns false, and changes nothing, if it is Tight and closes a cycle with Tight links before it.
@@ -211,10 +182,10 @@ impl TightLinks {
         if !is_tight(states, link) {
             return true;
         }
-        if self.joins(hops, states, link) {
+        if self.closes(hops, states, link) {
             return false;
         }
-        self.put(hops, states, link);
+        self.put(hops, link);
         true
     }
 
@@ -238,14 +209,14 @@ impl TightLinks {
         ensures nodes { length self.new.last.items ≡ length self.old.last.items }
     {
         if firm.covers(link) {
-            self.put(hops, states, link);
+            self.put(hops, link);
             return true;
         }
-        if self.joins(hops, states, link) {
+        if self.closes(hops, states, link) {
             return false;
         }
         firm.note(link);
-        self.put(hops, states, link);
+        self.put(hops, link);
         true
     }
 

@@ -119,7 +119,7 @@ fn next_change(net: &Network, time: Q) -> Option<Q>
     ensures pieces { ArePieces net.now.net.pieces }
 {
     // Proof: the network is that of an accepted file, so its pieces are in order.
-    let _ = net.pieces();
+    net.recall();
     net.next_change(time)
 }
 

@@ -1,11 +1,11 @@
 -- The answer of `quickest`, from the pushes and the computations after them.
-use Rattle.std.proofs.Common.{◌≡◌, ℕ, ◌≤◌, Bool, true, false, inl, inr, List, unwrap_or, sym, ap, ◌∙◌}
-use Rattle.std.specs.Prelude.{Result, Ok, Err, IfOk}
+use Rattle.std.proofs.Common.{◌≡◌, ℕ, ◌≤◌, Bool, true, false, inl, inr, List, unwrap_or, refl, sym, ap, ◌∙◌}
+use Rattle.std.specs.Prelude.{Result, Ok, Err, IfOk, is_some}
 use Rattle.nf_rational.specs.Rational.{ℚ}
 use Rattle.nf_rational.specs.Operations.{0ℚ}
-use Rattle.nf_rational.specs.Order.{◌≤ℚ◌, le_ℚ}
+use Rattle.nf_rational.specs.Order.{◌≤ℚ◌, ◌<ℚ◌, le_ℚ}
 use Rattle.nf_rational_laws.proofs.Order.{≤ℚ_antisymm}
-use Rattle.nf_rational_laws.proofs.Tests.{le_of_test}
+use Rattle.nf_rational_laws.proofs.Tests.{le_of_test, lt_of_test}
 use Rattle.nf_frac_def.specs.Passing.{Passing}
 use Rattle.nf_frac_def.specs.declared.Halt.{Halt}
 use Rattle.nf_frac_def.specs.declared.Part.TheVariants as Part
@@ -14,6 +14,8 @@ use Rattle.nf_model.specs.Network.{Network, IsNetwork}
 use Rattle.nf_quick_def.specs.Steps.{IsLimited}
 use Rattle.nf_quick_def.specs.Quick.{Quick, QuickStanding, Pushed, Done, OverBudget, QuickAnswer, FoundQuick, Budget, start_of, nothing, push_up_to, finish_list, answer_list, quickest_of, quickest_list}
 use Rattle.nf_quick_def.specs.Answers.{IsQuickFlow}
+use Rattle.nf_quick_laws.proofs.Start.{IsSound-zeros, value_of-zeros, cost_of-zeros}
+use Rattle.nf_quick_laws.proofs.Joined.{IsReached, EndsWell, EndsWell-list}
 use Rattle.nf_quick_laws.proofs.Nothing.{IsQuickFlow-list, IsMade-list, EndsAtBudget-list}
 use Rattle.nf_residual.proofs.Stopping.{ok_of_part, stopped, goes_on}
 use Rattle.nf_quick.specs.declared.fault.QuickFault.{QuickFault}
@@ -48,6 +50,16 @@ module _ (passes : Passing) (net : Network) (amount : ℚ) (augments : ℕ) wher
     pushes_stop (QuickFault.Unbounded links) e = absurd e
     pushes_stop (QuickFault.Passed at) e = (inr limited, ap (at_part Part.Quick) opened ∙ stopped pushes answer at e)
     pushes_stop QuickFault.Memory e = tt
+
+    -- There is a time after the pushes: a walk leads from source to sink, so at least one walk was pushed.
+    pub has_time : IsNetwork net → (s : QuickStanding) → at_part Part.Quick pushes ≡ Ok (Done s) → is_some s.time ≡ true
+    has_time good s came =
+        let above : 0ℚ <ℚ amount = lt_of_test amount 0ℚ some in
+        let start : IsReached passes net amount good limited above (start_of net) =
+        record { sound = IsSound-zeros net good; rate = sym (value_of-zeros net good); cost = sym (cost_of-zeros net good); time = (refl, refl, refl) } in
+        let ends : EndsWell passes net amount good limited above augments (start_of net) (Done s) =
+        EndsWell-list passes net amount good limited above augments (start_of net) (Done s) start (ok_of_part pushes (Done s) came) in
+        ap is_some ends.0.time_is
 
     -- The state after the pushes is completed to an answer.
     module _ (s : QuickStanding) (came : at_part Part.Quick pushes ≡ Ok (Done s)) (flows : List ℚ) (time : ℚ) (flows_are : flows ≡ s.flows) (time_is : time ≡ unwrap_or s.time 0ℚ) where

@@ -1,5 +1,5 @@
 -- The decomposition of a flow, walk by walk.
-use Rattle.std.proofs.Common.{◌≡◌, ℕ, suc, ◌+◌, ◌-◌, ◌<◌, ◌≤◌, ◌==◌, List, [], ◌∷◌, ◌++◌, length, drop, take, get_or, Bool, true, false, ⊎_elim, eqb, ◌≢◌, Option, Some, None, slice_get, unwrap_or, option_map, refl, sym, ap, subst, ◌∙◌, append_assoc, append-nil, add-one, arith}
+use Rattle.std.proofs.Common.{◌≡◌, ℕ, suc, ◌+◌, ◌-◌, ◌<◌, ◌≤◌, ◌==◌, List, [], ◌∷◌, ◌++◌, length, drop, take, get_or, Bool, true, false, ⊎_elim, eqb, ◌≢◌, Option, Some, None, slice_get, unwrap_or, option_map, refl, sym, ap, subst, ◌∙◌, append_assoc, append-nil, take_all, add-one, arith}
 use Rattle.std.specs.Prelude.{Ok, Err, if◌then◌else◌}
 use Rattle.std.specs.List.{AllByRecursion}
 use Rattle.std.proofs.lemmas.List.{drop_more, take_more}
@@ -48,6 +48,14 @@ module _ (links : List Link) (v : ℕ) (flows : List ℚ) where
         same = ap (λ (i : ℕ). first_out i (drop (k + 1) links) v flows) (add-one k)
             ∙ sym (here ∙ ap (λ (b : Bool). if b then Some k else first_out (suc k) (drop (k + 1) links) v flows) f);
       }
+
+-- ---- the links after the first one
+abbrev pub rest_of : List ℕ → List ℕ
+rest_of way = take (length way - 1) (drop 1 way)
+
+pub rest_is : (way : List ℕ) (first : ℕ) → 1 ≤ length way → first ≡ get_or way 0 first → way ≡ first ∷ rest_of way
+rest_is [] first h e = absurd (omega arith)
+rest_is (link ∷ way) first h e = ap (λ (l : ℕ). l ∷ way) (sym e) ∙ ap (λ (l : List ℕ). first ∷ l) (sym (take_all (length (link ∷ way) - 1) way (omega arith)))
 
 -- ---- a path from the source: the links so far and the later ones make the whole path
 pub record LeadsOut (net : Network) (flows : List ℚ) (way : List ℕ) (node k : ℕ) : Type 0 where

@@ -1,10 +1,11 @@
 // The least departure by which the supply reaches an amount.
 ghost use Rattle.std.specs.Prelude.{◌≡◌, IfOk, slice_get, option_map};
+ghost use Rattle.nf_rational.specs.Rational.{ℚ};
 ghost use Rattle.nf_rational.specs.Operations.{0ℚ};
 ghost use Rattle.nf_rational.specs.Order.{◌≤ℚ◌, ◌<ℚ◌, lt_ℚ};
 ghost use Rattle.nf_frac_def.specs.declared.Part.TheVariants.{Quick};
 ghost use Rattle.nf_frac_def.specs.Passing.{passes_Q};
-ghost use Rattle.nf_frac_def.specs.Checked.{at_part};
+ghost use Rattle.nf_frac_def.specs.Checked.{Checked, at_part};
 ghost use Rattle.nf_net.specs.Supply.{with_piece as with_piece_by, checked_supply};
 ghost use Rattle.nf_quick_def.specs.Departures.{within_piece, last_piece, departs as departs_by, departure_list, IsDeparture};
 
@@ -12,9 +13,9 @@ use nf_frac::{Part, PassedAt, Q};
 use nf_net::{Network, Piece};
 
 // Returns the departure in a piece of rate above 0, where `known` is the amount supplied before its start.
-fn within(net: &Network, amount: Q, known: Q, piece: &Piece) -> Result<Option<Q>, PassedAt<Q>>
+fn within(amount: Q, known: Q, piece: &Piece) -> Result<Option<Q>, PassedAt<Q>>
     requires { 0ℚ <ℚ piece.now.rate }
-    ensures { result ≡ at_part Quick (within_piece passes_Q (checked_supply passes_Q net.now.net) amount known piece.now) }
+    ensures { (supply_at : ℚ → Checked ℚ) → result ≡ at_part Quick (within_piece passes_Q supply_at amount known piece.now) }
 {
     let wanted = nf_frac::at!(Part::Quick, amount.difference(known));
     let length = nf_frac::at!(Part::Quick, wanted.quotient(piece.rate));
@@ -23,14 +24,14 @@ fn within(net: &Network, amount: Q, known: Q, piece: &Piece) -> Result<Option<Q>
 }
 
 // Returns the departure in the last piece, or None if its rate is 0 or less.
-fn in_last(net: &Network, amount: Q, known: Q, piece: &Piece) -> Result<Option<Q>, PassedAt<Q>>
-    ensures { result
-        ≡ at_part Quick (last_piece passes_Q (checked_supply passes_Q net.now.net) amount (lt_ℚ 0ℚ piece.now.rate) known piece.now) }
+fn in_last(amount: Q, known: Q, piece: &Piece) -> Result<Option<Q>, PassedAt<Q>>
+    ensures { (supply_at : ℚ → Checked ℚ)
+        → result ≡ at_part Quick (last_piece passes_Q supply_at amount (lt_ℚ 0ℚ piece.now.rate) known piece.now) }
 {
     if !Q::zero().is_below(piece.rate) {
         return Ok(None);
     }
-    within(net, amount, known, piece)
+    within(amount, known, piece)
 }
 
 // Returns the start of a piece, a time, or None if there is no piece of this index.
@@ -64,11 +65,11 @@ fn departs(net: &Network, amount: Q) -> Result<Option<Q>, PassedAt<Q>>
     let mut known = Q::zero();
     for (index, piece) in pieces.iter().enumerate() {
         let Some(next) = start_at(pieces, index + 1) else {
-            return in_last(net, amount, known, piece);
+            return in_last(amount, known, piece);
         };
         let by_next = with_piece(known, piece, next)?;
         if amount.is_at_most(by_next) {
-            return within(net, amount, known, piece);
+            return within(amount, known, piece);
         }
         known = by_next;
     }

@@ -12,7 +12,7 @@ use crate::rated::Rated;
 use nf_frac::{Halt, Part, PassedAt, Q};
 use nf_graph::NodeId;
 use nf_net::{Link, LinkId, Network};
-use nf_residual::{flow_at, lesser, put_flow};
+use nf_residual::{flow_at, put_flow};
 use std::alloc::{AllocError, Global};
 
 // Returns whether the link leaves the node and has flow left.
@@ -113,11 +113,14 @@ fn least_along(flows: &[Q], way: &[LinkId]) -> Q
     requires { AllByRecursion (λ e. e < length flows.now) way.now }
     ensures { result ≡ least_along_by flows.now None way.now }
 {
-    let mut least = None;
-    for link in way {
-        least = Some(lesser(least, flow_at(flows, *link)));
+    let [first, rest @ ..] = way else {
+        return Q::zero();
+    };
+    let mut least = flow_at(flows, *first);
+    for link in rest {
+        least = least.lesser(flow_at(flows, *link));
     }
-    least.unwrap_or(Q::zero())
+    least
 }
 
 // Subtracts a rate from the flow of each of these links. Refuses at the first operation that exceeds its bound.

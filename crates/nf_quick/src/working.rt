@@ -6,6 +6,7 @@ ghost use Rattle.nf_rational.specs.Order.{◌≤ℚ◌, ◌<ℚ◌};
 ghost use Rattle.nf_frac_def.specs.declared.Part.TheVariants as Part;
 ghost use Rattle.nf_frac_def.specs.Passing.{passes_Q};
 ghost use Rattle.nf_frac_def.specs.Checked.{at_part, Gives};
+ghost use Rattle.nf_model.specs.Network.{IsNetwork};
 ghost use Rattle.nf_quick_def.specs.Steps.{IsLimited};
 ghost use Rattle.nf_quick_def.specs.Flows.{IsSound};
 ghost use Rattle.nf_quick_def.specs.Quick.{nothing as nothing_in, finish_list};
@@ -69,9 +70,11 @@ fn finish(alloc: Global, net: &Network, flow: &Residual, time: Q) -> Result<Quic
     })
 }
 
-// Returns the result of `quickest_list`, after testing whether a walk of unbounded links delivers any amount at once.
+// Returns the result of `quickest_list`, after testing whether a walk of unbounded links delivers any amount at once. The pushes have a
+// time, since a walk leads from source to sink and is pushed.
 fn work_out(alloc: Global, net: &Network, amount: Q, augments: u64) -> Result<Quick, QuickFault>
-    requires { 0ℚ ≤ℚ amount }
+    requires network { IsNetwork net.now.net }
+    requires amount { 0ℚ ≤ℚ amount }
     ensures { IsAnswered passes_Q net.now.net amount augments result }
 {
     if amount.is_at_most(Q::zero()) {
@@ -81,7 +84,7 @@ fn work_out(alloc: Global, net: &Network, amount: Q, augments: u64) -> Result<Qu
         return Err(QuickFault::Unbounded { links });
     }
     let standing = push_up_to(alloc, net, amount, augments)?;
-    let time = standing.time.unwrap_or(Q::zero());
+    let time = standing.time.unwrap();
     let quick = finish(alloc, net, &standing.flow, time)?;
     Ok(quick)
 }

@@ -1,25 +1,40 @@
 -- The shortest walk and the least lengths, from the result of the rounds.
-use Rattle.std.proofs.Common.{◌≡◌, ℕ, ◌<◌, List, length, map, option_map, Option, Some, refl, sym, ap, subst, ◌∙◌}
-use Rattle.std.specs.Prelude.{Ok, Err}
+use Rattle.std.proofs.Common.{◌≡◌, ℕ, ◌<◌, true, List, length, map, option_map, Option, Some, None, refl, sym, ap, subst, ◌∙◌}
+use Rattle.std.specs.Prelude.{Ok, Err, is_some}
 use Rattle.std.specs.List.{AllByRecursion}
 use Rattle.nf_rational.specs.Rational.{ℚ}
 use Rattle.nf_frac_def.specs.Passing.{Passing}
 use Rattle.nf_frac_def.specs.declared.Halt.{Halt}
 use Rattle.nf_frac_def.specs.declared.Part.TheVariants as Part
 use Rattle.nf_frac_def.specs.declared.PassedAt.{PassedAt}
-use Rattle.nf_frac_def.specs.Checked.{Checked, Stops, at_part, ◌>>=◌}
+use Rattle.nf_frac_def.specs.Checked.{Checked, Stops, at_part, fold_checked, ◌>>=◌}
 use Rattle.nf_model.specs.Network.{Network, IsNetwork}
-use Rattle.nf_quick_def.specs.Steps.{Step, IsLimited}
+use Rattle.nf_quick_def.specs.Steps.{Step, IsResidualWalk, IsLimited}
 use Rattle.nf_quick_def.specs.Order.{Reach}
 use Rattle.nf_quick_def.specs.Flows.{IsSound}
-use Rattle.nf_quick_def.specs.Rounds.{Known, Walk, known_at, reaches_list, with_room, shortest_list, distances_list}
+use Rattle.nf_quick_def.specs.Rounds.{Known, Walk, known_at, room_after, reaches_list, with_room, shortest_list, distances_list}
 use Rattle.nf_quick_def.specs.Answers.{IsShortest, AreLeastLengths}
 use Rattle.nf_quick_laws.specs.ResidualLaws.{IsFoundAt}
 use Rattle.nf_quick_laws.proofs.Found.{IsFoundAt-list}
 use Rattle.nf_quick_laws.proofs.Lists.{IsShortest-list, AreLeastLengths-list}
+use Rattle.nf_quick_laws.proofs.PushList.{RoomFound, RoomFound-fold, can_go_each, unbounded_walk}
 use Rattle.nf_quick_laws.proofs.Pushes.{links_within}
 use Rattle.nf_residual.proofs.Fits.{all_of}
 use Rattle.nf_residual.proofs.Stopping.{ok_of_part, stops, goes_on, stops_as}
+
+-- The steps of a residual walk are along links.
+pub steps_within : (net : Network) (flows : List ℚ) (walk : List Step) → IsResidualWalk net flows walk net.source net.sink → AllByRecursion (λ (step : Step). step.link < length net.links) walk
+steps_within net flows walk p = all_of (length net.links) walk (links_within net flows (length net.links) walk net.source net.sink refl p)
+
+-- A residual walk from source to sink has a room, since one of its links has a capacity.
+pub has_room : (passes : Passing) (net : Network) (flows : List ℚ) (walk : List Step) (room : Option ℚ) → IsLimited net → IsResidualWalk net flows walk net.source net.sink
+    → fold_checked (room_after passes net flows) None walk ≡ Ok room → is_some room ≡ true
+has_room passes net flows walk room limited p e =
+    by_room room (RoomFound-fold passes net flows walk None room tt (can_go_each net flows walk net.source net.sink p) e)
+  where
+    by_room : (room : Option ℚ) → RoomFound passes net flows walk None room → is_some room ≡ true
+    by_room None r = let u = unbounded_walk net flows walk net.source net.sink p r.1 in absurd (limited u.0 u.1)
+    by_room (Some least) r = refl
 
 -- `seen` are the borrowed flows.
 module _ (passes : Passing) (net : Network) (flows seen : List ℚ) (lent : seen ≡ flows) where
@@ -58,13 +73,12 @@ module _ (passes : Passing) (net : Network) (flows seen : List ℚ) (lent : seen
       pub walk_first : IsNetwork net → IsSound net flows → IsLimited net → (walk : Option Walk) → Ok walk ≡ at_part Part.Quick (with_room passes net seen way) → IsShortest net flows walk
       walk_first good sound limited walk e = IsShortest-list passes net flows good sound.closed limited walk (ok_of_part (shortest_list passes net flows) walk (walk_listed walk e))
 
-      -- The steps of the walk are along links.
-      pub steps_within : IsNetwork net → IsSound net flows → (reach : Reach) → way ≡ Some reach → AllByRecursion (λ (step : Step). step.link < length net.links) reach.steps
-      steps_within good sound reach e =
+      pub walk_there : IsNetwork net → IsSound net flows → (reach : Reach) → way ≡ Some reach → IsResidualWalk net seen reach.steps net.source net.sink
+      walk_there good sound reach e =
           let all : IsFoundAt net flows net.source net.sink (known_at known net.sink) =
           IsFoundAt-list net flows net.source good good.source sound.closed passes known (same_reaches ∙ ok_of_part (reaches_list passes net seen source) known came) net.sink in
           let here : IsFoundAt net flows net.source net.sink (Some reach) = subst (λ (o : Option Reach). IsFoundAt net flows net.source net.sink o) (sym there ∙ e) all in
-          all_of (length net.links) reach.steps (links_within net flows (length net.links) reach.steps net.source net.sink refl here.0.is_walk)
+          subst (λ (l : List ℚ). IsResidualWalk net l reach.steps net.source net.sink) (sym lent) here.0.is_walk
 
   -- ---- least lengths
   abbrev lengths : Known → List (Option ℚ)

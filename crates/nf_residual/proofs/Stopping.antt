@@ -11,7 +11,7 @@ use Rattle.nf_frac_def.specs.Checked.{Checked, Stops, at_part, fold_checked, see
 use Rattle.nf_model.specs.Network.{Network}
 use Rattle.nf_quick_def.specs.Steps.{Step}
 use Rattle.nf_quick_def.specs.Order.{Reach}
-use Rattle.nf_quick_def.specs.Rounds.{room_after, with_room}
+use Rattle.nf_quick_def.specs.Rounds.{Walk, room_after, with_room}
 
 pub ok_of_part : {A : Type 0} (r : Checked A) (x : A) → at_part Part.Quick r ≡ Ok x → r ≡ Ok x
 ok_of_part (Ok a) x e = let h = e in cc
@@ -44,3 +44,17 @@ room_stops passes net flows way reach steps is along p e =
     sym (ap (λ (o : Option Reach). at_part Part.Quick (with_room passes net flows o)) is
     ∙ stopped (room reach.steps) (λ room. Ok (Some (record { steps = reach.steps; length = reach.distance; room = unwrap_or room 0ℚ }))) p
     (ap (λ (l : List Step). at_part Part.Quick (room l)) (sym along) ∙ sym e))
+
+-- The walk of a path, with its room.
+abbrev pub walk_of : Reach → ℚ → Walk
+walk_of reach room = record { steps = reach.steps; length = reach.distance; room = room }
+
+pub room_found : (passes : Passing) (net : Network) (flows : List ℚ) (way : Option Reach) (reach : Reach) (steps : List Step) → way ≡ Some reach → steps ≡ reach.steps → (room : Option ℚ)
+    → Ok room ≡ at_part Part.Quick (fold_checked (room_after passes net flows) None steps) → (least : ℚ) → room ≡ Some least
+    → Ok (Some (walk_of reach least)) ≡ at_part Part.Quick (with_room passes net flows way)
+room_found passes net flows way reach steps is along room e least some =
+    let room_along : List Step → Checked (Option ℚ) = λ steps. fold_checked (room_after passes net flows) None steps in
+    sym (ap (λ (o : Option Reach). at_part Part.Quick (with_room passes net flows o)) is
+    ∙ ap (at_part Part.Quick) (goes_on (room_along reach.steps) (λ (o : Option ℚ). Ok (Some (walk_of reach (unwrap_or o 0ℚ)))) room
+    (ap (λ (l : List Step). at_part Part.Quick (room_along l)) (sym along) ∙ sym e))
+    ∙ ap (λ (o : Option ℚ). Ok (Some (walk_of reach (unwrap_or o 0ℚ)))) some)

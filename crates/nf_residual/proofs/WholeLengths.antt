@@ -1,7 +1,7 @@
 -- Lengths held as whole numbers: their operations don't exceed the bound, and their order is that of the numbers.
 use Rattle.std.proofs.Common.{◌≡◌, ℕ, ◌<◌, ◌≤◌, Bool, true, false, ℤ, pos, ◌+ℤ◌, ◌-ℤ◌, ◌*ℤ◌, neg_ℤ, nat_abs, [], ◌∷◌, Option, Some, None, refl, sym, ap, subst, ◌∙◌, arith}
 use mathlib.Core.Path.{ap₂}
-use Rattle.std.specs.Prelude.{Ok, SomeIff, unwrap_or}
+use Rattle.std.specs.Prelude.{Ok, SomeIff}
 use Rattle.std.specs.Ordering.{int_cmp}
 use Rattle.nf_rational.specs.Gcd.{gcd}
 use Rattle.nf_rational.specs.Rational.{ℚ, same_parts}
@@ -98,9 +98,9 @@ over_one n = sym (/ℚ-unique (whole n) (whole (pos 1)) (whole n) (whole_apart (
     one_some : pos 1 ≡ pos 0 → ⊥
     one_some e = cc
 
-pub made_is : (o : Option ℚ) (number n d : ℤ) (zero r : ℚ) → nat_abs number ≤ most → n ≡ number → d ≡ pos 1 → SomeIff o (IsMade (bound_of 127) n d) (whole n /ℚ whole d) → r ≡ unwrap_or o zero → r ≡ whole number
-made_is (Some x) number n d zero r h e f made is = is ∙ made.1 ∙ ap₂ (λ (a b : ℤ). whole a /ℚ whole b) e f ∙ over_one number
-made_is None number n d zero r h e f made is = absurd (made (record {
+pub made_is : (o : Option ℚ) (number n d : ℤ) → nat_abs number ≤ most → n ≡ number → d ≡ pos 1 → SomeIff o (IsMade (bound_of 127) n d) (whole n /ℚ whole d) → o ≡ Some (whole number)
+made_is (Some x) number n d h e f made = ap (λ (q : ℚ). Some q) (made.1 ∙ ap₂ (λ (a b : ℤ). whole a /ℚ whole b) e f ∙ over_one number)
+made_is None number n d h e f made = absurd (made (record {
   some = λ z. apart (sym f ∙ z);
   fits = subst (λ (q : ℚ). IsWithin (bound_of 127) q) (sym (ap₂ (λ (a b : ℤ). whole a /ℚ whole b) e f ∙ over_one number)) (record {
     small = subst (λ (z : ℤ). nat_abs z ≤ bound_of 127) (sym (num_whole number)) (omega arith);

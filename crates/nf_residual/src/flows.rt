@@ -23,7 +23,7 @@ pub fn put_flow(flows: &mut Vec<Q>, link: LinkId, flow: Q)
 }
 
 /// Returns the lesser of `rate` and the least rate so far, or `rate` if there is none so far.
-pub fn lesser(least: Option<Q>, rate: Q) -> Q
+pub(crate) fn lesser(least: Option<Q>, rate: Q) -> Q
     ensures { result ≡ lesser_by least rate }
 {
     match least {

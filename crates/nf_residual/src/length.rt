@@ -84,7 +84,7 @@ fn fraction(number: i64) -> Q
     requires { nat_abs number ≤ most }
     ensures { result ≡ whole number }
 {
-    Q::make(number as i128, 1).unwrap_or(Q::zero())
+    Q::make(number as i128, 1).unwrap()
 }
 
 impl Length {

@@ -12,6 +12,6 @@ mod rounds;
 mod step;
 mod ways;
 
-pub use flows::{flow_at, lesser, put_flow};
+pub use flows::{flow_at, put_flow};
 pub use residual::Residual;
 pub use step::{Step, Walk};

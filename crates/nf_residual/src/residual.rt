@@ -11,7 +11,7 @@ ghost use Rattle.nf_quick_def.specs.Order.{Reach as SeenReach};
 ghost use Rattle.nf_quick_def.specs.Rounds.{with_room as with_room_by, shortest_list, distances_list};
 ghost use Rattle.nf_quick_def.specs.Pushes.{push_step, push_list};
 ghost use Rattle.nf_quick_def.specs.Flows.{IsSound};
-ghost use Rattle.nf_quick_def.specs.Steps.{IsLimited};
+ghost use Rattle.nf_quick_def.specs.Steps.{IsResidualWalk, IsLimited};
 ghost use Rattle.nf_quick_def.specs.Answers.{IsShortestWalk, IsShortest, AreLeastLengths};
 
 use crate::flows::put_flow;
@@ -69,9 +69,11 @@ fn move_along(flows: &mut Vec<Q>, steps: &[Step], amount: Q) -> Result<(), Passe
     Ok(())
 }
 
-// Returns the walk along a path with its room, or None if there is no path.
+// Returns the walk along a path from source to sink with its room, or None if there is no path. A link of the path has a capacity.
 fn with_room(net: &Network, flows: &[Q], way: Option<Reach>) -> Result<Option<Walk>, PassedAt<Q>>
-    requires steps { (reach : SeenReach) → way ≡ Some reach → AllByRecursion (λ step. step.link < length net.now.net.links) reach.steps }
+    requires walk { (reach : SeenReach) → way ≡ Some reach
+        → IsResidualWalk net.now.net flows.now reach.steps net.now.net.source net.now.net.sink }
+    requires limited { IsLimited net.now.net }
     requires flows { length flows.now ≡ length net.now.net.links }
     ensures { result ≡ at_part Quick (with_room_by passes_Q net.now.net flows.now way) }
 {
@@ -82,7 +84,7 @@ fn with_room(net: &Network, flows: &[Q], way: Option<Reach>) -> Result<Option<Wa
             Ok(Some(Walk {
                 steps: way.steps,
                 length: way.distance,
-                room: room.unwrap_or(Q::zero()),
+                room: room.unwrap(),
             }))
         }
     }

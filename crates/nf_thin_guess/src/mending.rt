@@ -1,10 +1,12 @@
 // A pattern near a base whose Tight links close no cycle, and which enters each node, if changes of single links can bring that about.
 // Nothing depends on how near it is, and whether it is listed is tested by the caller.
 ghost use Rattle.std.specs.Prelude.{◌≡◌, ◌<◌, length, IfOk};
+ghost use Rattle.nf_model.specs.ThinFlow.{Sets};
 ghost use Rattle.nf_thin_equation_laws.specs.Equations.{IsPatternIn};
 
 use crate::forest::Forest;
-use crate::repairs::change;
+use crate::repairs::{change, set_state};
+use nf_frac::Q;
 use nf_graph::{LinkId, LinkSets, NodeId};
 use nf_model::State;
 use nf_net::Network;
@@ -12,17 +14,24 @@ use nf_pattern::Pattern;
 use nf_thin_one::may_carry;
 use std::alloc::{AllocError, Global};
 
+// Returns the state to which a Tight link that closes a cycle changes: Full, or Zero if it is unbounded.
+fn loose_state(capacity: Option<Q>) -> State {
+    match capacity {
+        Some(_) => State::Full,
+        None => State::Zero,
+    }
+}
+
 // Adds a Tight link to the forest. If it closes a cycle there, changes it to Full, or to Zero if it is unbounded.
 fn keep_or_loosen(
     net: &Network,
-    sets: &LinkSets,
     link: LinkId,
     forest: &mut Forest,
     pattern: &mut Pattern,
 ) -> Result<(), AllocError>
-    requires pattern { IsPatternIn net.now.net sets.now pattern.old }
+    requires pattern { (sets : Sets) × IsPatternIn net.now.net sets pattern.old }
     requires link { link < length net.now.net.links }
-    ensures { IsPatternIn net.now.net sets.now pattern.new }
+    ensures { (sets : Sets) → IsPatternIn net.now.net sets pattern.old → IsPatternIn net.now.net sets pattern.new }
 {
     match pattern.state(link) {
         Some(State::Tight) => {}
@@ -32,26 +41,18 @@ fn keep_or_loosen(
     if forest.grow(here.tail, here.head)? {
         return Ok(());
     }
-    if !change(net, sets, pattern, link, State::Full) {
-        // Each link with a state may be Zero, so the result is true.
-        let _ = change(net, sets, pattern, link, State::Zero);
-    }
+    set_state(net, pattern, link, loose_state(here.capacity));
     Ok(())
 }
 
 // Changes each Tight link that closes a cycle with earlier ones. Returns the forest of those that stay.
-fn cut_cycles(
-    alloc: Global,
-    net: &Network,
-    sets: &LinkSets,
-    pattern: &mut Pattern,
-) -> Result<Forest, AllocError>
-    requires { IsPatternIn net.now.net sets.now pattern.old }
-    ensures { IsPatternIn net.now.net sets.now pattern.new }
+fn cut_cycles(alloc: Global, net: &Network, pattern: &mut Pattern) -> Result<Forest, AllocError>
+    requires { (sets : Sets) × IsPatternIn net.now.net sets pattern.old }
+    ensures { (sets : Sets) → IsPatternIn net.now.net sets pattern.old → IsPatternIn net.now.net sets pattern.new }
 {
     let mut forest = Forest::new(alloc, net.node_count())?;
     for e in 0..net.link_count() {
-        keep_or_loosen(net, sets, LinkId(e), &mut forest, pattern)?;
+        keep_or_loosen(net, LinkId(e), &mut forest, pattern)?;
     }
     Ok(forest)
 }
@@ -90,40 +91,38 @@ fn entered_nodes(
 // Changes a link with a state so that it enters its head: to Tight, or to Full if it would close a cycle. Returns whether it did.
 fn enter_by(
     net: &Network,
-    sets: &LinkSets,
     link: LinkId,
     forest: &mut Forest,
     pattern: &mut Pattern,
 ) -> Result<bool, AllocError>
-    requires pattern { IsPatternIn net.now.net sets.now pattern.old }
+    requires pattern { (sets : Sets) × IsPatternIn net.now.net sets pattern.old }
     requires link { link < length net.now.net.links }
-    ensures { IsPatternIn net.now.net sets.now pattern.new }
+    ensures { (sets : Sets) → IsPatternIn net.now.net sets pattern.old → IsPatternIn net.now.net sets pattern.new }
 {
     if pattern.state(link).is_none() {
         return Ok(false);
     }
     let here = net.link(link);
     if forest.grow(here.tail, here.head)? {
-        return Ok(change(net, sets, pattern, link, State::Tight));
+        return Ok(change(net, pattern, link, State::Tight));
     }
-    Ok(change(net, sets, pattern, link, State::Full))
+    Ok(change(net, pattern, link, State::Full))
 }
 
 // Changes a link into each node that is not entered, if it has one with a state.
 fn enter_nodes(
     net: &Network,
-    sets: &LinkSets,
     entered: &mut [bool],
     forest: &mut Forest,
     pattern: &mut Pattern,
 ) -> Result<(), AllocError>
-    requires { IsPatternIn net.now.net sets.now pattern.old }
-    ensures { IsPatternIn net.now.net sets.now pattern.new }
+    requires { (sets : Sets) × IsPatternIn net.now.net sets pattern.old }
+    ensures { (sets : Sets) → IsPatternIn net.now.net sets pattern.old → IsPatternIn net.now.net sets pattern.new }
 {
     for e in 0..net.link_count() {
         let head = net.link(LinkId(e)).head;
         if !is_noted(entered, head) {
-            if enter_by(net, sets, LinkId(e), forest, pattern)? {
+            if enter_by(net, LinkId(e), forest, pattern)? {
                 note(entered, head);
             }
         }
@@ -143,8 +142,8 @@ pub fn mended(
     ensures { IfOk result (λ near. IsPatternIn net.now.net sets.now near) }
 {
     let mut near = base.copy(alloc)?;
-    let mut forest = cut_cycles(alloc, net, sets, &mut near)?;
+    let mut forest = cut_cycles(alloc, net, &mut near)?;
     let mut entered = entered_nodes(alloc, net, sets, &near)?;
-    enter_nodes(net, sets, &mut entered, &mut forest, &mut near)?;
+    enter_nodes(net, &mut entered, &mut forest, &mut near)?;
     Ok(near)
 }

@@ -162,15 +162,13 @@ fn set_link(table: &mut Table<Q>, size: u32, sums: &Coefficients, link: FullLink
 // Sets the right side of a row: what leaves the component and is not known by a slope.
 fn set_right(
     table: &mut Table<Q>,
-    size: u32,
     sums: &Coefficients,
     row: u32,
     sink_part: u32,
     rate: Q,
 ) -> Result<(), Halt<Q>>
-    requires size { length table.old ≡ size }
-    requires row { row < size }
-    ensures { length table.new ≡ size }
+    requires { row < length table.old }
+    ensures { length table.new ≡ length table.old }
 {
     let part = part_of_row(row, sink_part);
     let surplus = if part == 0 { rate } else { Q::zero() };
@@ -191,7 +189,7 @@ fn set_rights(
     ensures { length table.new ≡ size }
 {
     for row in 0..size {
-        set_right(table, size, sums, row, sink_part, rate)?;
+        set_right(table, sums, row, sink_part, rate)?;
     }
     Ok(())
 }

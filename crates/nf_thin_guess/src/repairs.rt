@@ -1,7 +1,8 @@
 // Repairs of a pattern: links that violate their inequalities change their states. No contract depends on repairs, since a guess is judged
 // like any other pattern.
-ghost use Rattle.std.specs.Prelude.{◌≡◌, ◌<◌, length, IsTrue, IsSome};
+ghost use Rattle.std.specs.Prelude.{◌≡◌, ◌<◌, length, set, Some, IsTrue, IsSome};
 ghost use Rattle.nf_model.specs.declared.State.TheVariants.{Full};
+ghost use Rattle.nf_model.specs.ThinFlow.{Sets};
 ghost use Rattle.nf_thin_equation_laws.specs.Equations.{IsPatternIn};
 ghost use Rattle.nf_thin_guess.specs.Values.{AreComplete};
 
@@ -35,27 +36,42 @@ fn fits(capacity: Option<Q>, state: State) -> bool
     }
 }
 
-/// Sets the state of a link that has a state, if the link may have the new one. Returns whether it sets the state.
-pub(crate) fn change(
-    net: &Network,
-    sets: &LinkSets,
-    pattern: &mut Pattern,
-    link: LinkId,
-    state: State,
-) -> bool
-    requires pattern { IsPatternIn net.now.net sets.now pattern.old }
+// Returns whether a link has a state, and may have this one.
+fn may_have(net: &Network, pattern: &Pattern, link: LinkId, state: State) -> bool
+    requires states { length pattern.now ≡ length net.now.net.links }
     requires link { link < length net.now.net.links }
-    ensures { IsPatternIn net.now.net sets.now pattern.new }
+    ensures { IsTrue result → (sets : Sets) → IsPatternIn net.now.net sets pattern.now
+        → IsPatternIn net.now.net sets (set pattern.now link (Some state)) }
 {
     if pattern.state(link).is_none() {
         return false;
     }
     let capacity = net.link(link).capacity;
-    if !fits(capacity, state) {
+    fits(capacity, state)
+}
+
+/// Sets the state of a link that has a state, if the link may have the new one. Returns whether it sets the state.
+pub(crate) fn change(net: &Network, pattern: &mut Pattern, link: LinkId, state: State) -> bool
+    requires states { length pattern.old ≡ length net.now.net.links }
+    requires link { link < length net.now.net.links }
+    ensures { (sets : Sets) → IsPatternIn net.now.net sets pattern.old → IsPatternIn net.now.net sets pattern.new }
+{
+    if !may_have(net, pattern, link, state) {
         return false;
     }
     pattern.set(link, Some(state));
     true
+}
+
+/// Sets the state of a link that has a state, if the link may have the new one.
+pub(crate) fn set_state(net: &Network, pattern: &mut Pattern, link: LinkId, state: State)
+    requires states { length pattern.old ≡ length net.now.net.links }
+    requires link { link < length net.now.net.links }
+    ensures { (sets : Sets) → IsPatternIn net.now.net sets pattern.old → IsPatternIn net.now.net sets pattern.new }
+{
+    if may_have(net, pattern, link, state) {
+        pattern.set(link, Some(state));
+    }
 }
 
 // Returns whether another Tight, Full or resetting link leads to the head of this link.
@@ -109,13 +125,13 @@ impl<'a> Repairs<'a> {
             if !is_spare(self.net, self.sets, pattern, link) {
                 return false;
             }
-            return change(self.net, self.sets, pattern, link, State::Zero);
+            return change(self.net, pattern, link, State::Zero);
         }
         let here = self.net.link(link);
         if !overfills(here.capacity, flow, self.values.slope(here.head)) {
             return false;
         }
-        change(self.net, self.sets, pattern, link, State::Full)
+        change(self.net, pattern, link, State::Full)
     }
 
     // Repairs each Tight link that violates its inequalities. Returns whether a state changes.
@@ -153,7 +169,7 @@ impl<'a> Repairs<'a> {
         if !forest.grow(here.tail, here.head)? {
             return Ok(false);
         }
-        let changes = change(self.net, self.sets, pattern, link, State::Tight);
+        let changes = change(self.net, pattern, link, State::Tight);
         Ok(changes)
     }
 

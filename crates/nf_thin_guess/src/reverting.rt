@@ -8,7 +8,7 @@ ghost use Rattle.nf_thin_guess.specs.Values.{AreComplete};
 use crate::by_parts::part_values;
 use crate::forest::Forest;
 use crate::node_parts::tight_forest;
-use crate::repairs::{Repairs, change};
+use crate::repairs::{Repairs, set_state};
 use crate::values::Values;
 use nf_frac::Q;
 use nf_graph::{LinkId, LinkSets};
@@ -60,8 +60,7 @@ impl<'a> Reverting<'a> {
             _ => return,
         };
         if self.suits(link, state) {
-            // The link may have its first state, so the result is true.
-            let _ = change(self.net, self.sets, pattern, link, state);
+            set_state(self.net, pattern, link, state);
         }
     }
 
@@ -95,8 +94,7 @@ impl<'a> Reverting<'a> {
         }
         let here = self.net.link(link);
         if forest.grow(here.tail, here.head)? {
-            // Each link with a state may be Tight, so the result is true.
-            let _ = change(self.net, self.sets, pattern, link, State::Tight);
+            set_state(self.net, pattern, link, State::Tight);
         }
         Ok(())
     }

@@ -1,6 +1,6 @@
 -- The numbers of the equations of a pattern, which a table has to hold.
 use Rattle.std.proofs.Common.{◌≡◌, ℕ, ◌+◌, ◌<◌, ◌≤◌, length, Bool, true, false, IsTrue, if◌then◌else◌, slice_get, ⊎_elim, refl, sym, ap, subst, ◌∙◌, arith}
-use Rattle.std.specs.Prelude.{unwrap_or}
+use Rattle.std.specs.Prelude.{Option, Some, None, unwrap_or}
 use Rattle.std.proofs.lemmas.Option.{same_Some, slice_get_within}
 use Rattle.nf_rational.specs.Rational.{ℚ}
 use Rattle.nf_rational.specs.Operations.{0ℚ, neg_ℚ, ◌-ℚ◌}
@@ -10,9 +10,9 @@ use Rattle.nf_frac.specs.Parts.{IsWithin}
 use Rattle.nf_frac.specs.Short.{short}
 use Rattle.nf_frac.proofs.Turned.{neg_within}
 use Rattle.nf_rational_laws.proofs.Naturals.{before_or_at}
-use Rattle.nf_linear.specs.Holding.{HoldsUnits, takes_small, small_held}
+use Rattle.nf_linear.specs.Holding.{HoldsUnits, takes_small, small_held, small_units}
 use Rattle.nf_thin_one.specs.Filling.{HoldsCapacity, HoldsNumbers}
-use Rattle.nf_thin_one.proofs.LinkEntries.{unit_same, unit_leaves, unit_enters}
+use Rattle.nf_thin_one.proofs.LinkEntries.{minus_zero, unit_same, unit_leaves, unit_enters}
 
 -- what is a number that is held is one
 pub held_as : (takes : ℚ → Bool) (p q : ℚ) → q ≡ p → IsTrue (takes p) → IsTrue (takes q)
@@ -40,8 +40,11 @@ all_held net rate = record { supply = refl; capacities = λ e link at. refl }
 -- ---- small numbers
 
 -- the capacity of a link, with the other sign
-pub capacity_held : (link : Link) (capacity : ℚ) → capacity ≡ unwrap_or link.capacity 0ℚ → IsWithin short capacity → HoldsCapacity takes_small link
-capacity_held link capacity e w = subst (λ (q : ℚ). IsTrue (takes_small (neg_ℚ q))) e (small_held (neg_ℚ capacity) (neg_within short capacity w))
+pub capacity_held : (link : Link) (capacity : ℚ) → link.capacity ≡ Some capacity → IsWithin short capacity → HoldsCapacity takes_small link
+capacity_held link capacity e w = subst (λ (o : Option ℚ). IsTrue (takes_small (neg_ℚ (unwrap_or o 0ℚ)))) (sym e) (small_held (neg_ℚ capacity) (neg_within short capacity w))
+
+pub no_capacity_held : (link : Link) → link.capacity ≡ None → HoldsCapacity takes_small link
+no_capacity_held link e = subst (λ (o : Option ℚ). IsTrue (takes_small (neg_ℚ (unwrap_or o 0ℚ)))) (sym e) (held_as takes_small 0ℚ (neg_ℚ 0ℚ) (sym minus_zero) small_units.zero)
 
 -- the capacities of the links before number e
 abbrev pub HoldToLink : Network → ℕ → Type 0

@@ -13,11 +13,11 @@ apart true e = absurd (cc)
 apart false e = refl
 
 module _ (old once twice : List Row) (i : ℕ) (link : Link) where
-  pub full_changes : (j : ℕ) (capacity x y : ℚ) → i < length old → once ≡ set old i (set (row_at old i) j x) → twice ≡ set once i (set (row_at once i) i y)
-      → x ≡ neg_ℚ capacity → y ≡ 1ℚ → capacity ≡ unwrap_or link.capacity 0ℚ → j ≡ link.head → ChangesRow old twice i (with_entries (row_at old i) (full_entries i link))
-  full_changes j capacity x y h a b negative one is head =
+  pub full_changes : (j : ℕ) (x y : ℚ) → i < length old → once ≡ set old i (set (row_at old i) j x) → twice ≡ set once i (set (row_at once i) i y)
+      → x ≡ neg_ℚ (unwrap_or link.capacity 0ℚ) → y ≡ 1ℚ → j ≡ link.head → ChangesRow old twice i (with_entries (row_at old i) (full_entries i link))
+  full_changes j x y h a b negative one head =
       two_changes old once twice i link.head i (neg_ℚ (unwrap_or link.capacity 0ℚ)) 1ℚ h
-      (a ∙ (λ k. set old i (set (row_at old i) (head k) ((negative ∙ ap neg_ℚ is) k)))) (b ∙ (λ k. set once i (set (row_at once i) i (one k))))
+      (a ∙ (λ k. set old i (set (row_at old i) (head k) (negative k)))) (b ∙ (λ k. set once i (set (row_at once i) i (one k))))
 
   pub tight_changes : (j k : ℕ) (x y : ℚ) → i < length old → not (eqb link.head link.tail) ≡ true → j ≡ link.head → k ≡ link.tail → x ≡ 1ℚ → y ≡ neg_ℚ 1ℚ
       → once ≡ set old i (set (row_at old i) j x) → twice ≡ set once i (set (row_at once i) k y)

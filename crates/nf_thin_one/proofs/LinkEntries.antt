@@ -35,6 +35,9 @@ first_alone = linear_eq [] [] (search reading_of depth 12) tt tt
 second_alone : neg_ℚ 1ℚ ≡ 0ℚ -ℚ 1ℚ
 second_alone = linear_eq [] [] (search reading_of depth 12) tt tt
 
+pub minus_zero : 0ℚ ≡ neg_ℚ 0ℚ
+minus_zero = linear_eq [] [] (search reading_of depth 12) tt tt
+
 no_step : (b : Bool) → 0ℚ ≡ one_if b -ℚ one_if b
 no_step true = both
 no_step false = neither

@@ -1,7 +1,7 @@
 // The table of the equations of a pattern.
-ghost use Rattle.std.specs.Prelude.{◌≡◌, ◌<◌, ◌≤◌, length, set, Some, IfOk, if◌then◌else◌, ◌==◌, IsTrue};
+ghost use Rattle.std.specs.Prelude.{◌≡◌, ◌<◌, ◌≤◌, length, set, Some, unwrap_or, IfOk, if◌then◌else◌, ◌==◌, IsTrue};
 ghost use Rattle.nf_rational.specs.Rational.{ℚ};
-ghost use Rattle.nf_rational.specs.Operations.{0ℚ, ◌-ℚ◌};
+ghost use Rattle.nf_rational.specs.Operations.{0ℚ, neg_ℚ, ◌-ℚ◌};
 ghost use Rattle.nf_model.specs.Entries.{number_at};
 ghost use Rattle.nf_model.specs.Pattern.{Pattern as SeenPattern};
 ghost use Rattle.nf_net_def.specs.WellNamed.{IsNamed};
@@ -139,6 +139,16 @@ fn fill_tight<T: System>(table: &mut T, row: u32, link: Link)
     }
 }
 
+// The number of a Full link's row in the column of its head's slope: the capacity, with the other sign. Without a capacity it is 0.
+fn full_factor(link: Link) -> Q
+    ensures { result ≡ neg_ℚ (unwrap_or link.capacity 0ℚ) }
+{
+    match link.capacity {
+        Some(capacity) => capacity.negated(),
+        None => Q::zero(),
+    }
+}
+
 // The flow fills the capacity.
 fn fill_full<T: System>(table: &mut T, row: u32, link: Link)
     requires row { row < length (T.rows_of table.old) }
@@ -147,8 +157,7 @@ fn fill_full<T: System>(table: &mut T, row: u32, link: Link)
     ensures { ChangesRow (T.rows_of table.old) (T.rows_of table.new) row
         (with_entries (row_at (T.rows_of table.old) row) (full_entries row link)) }
 {
-    let capacity = link.capacity.unwrap_or(Q::zero());
-    table.set(row, link.head.0, capacity.negated());
+    table.set(row, link.head.0, full_factor(link));
     table.set(row, row, Q::one());
 }
 

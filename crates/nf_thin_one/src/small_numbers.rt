@@ -20,7 +20,10 @@ fn is_small(number: Q) -> bool
 fn has_small_capacity(link: Link) -> bool
     ensures { IsTrue result → HoldsCapacity takes_small link }
 {
-    is_small(link.capacity.unwrap_or(Q::zero()))
+    match link.capacity {
+        Some(capacity) => is_small(capacity),
+        None => true,
+    }
 }
 
 /// Whether a rate of supply and the capacities of all links are small: then a table of small numbers can hold the equations of each

@@ -82,20 +82,14 @@ fn flows_of(
 }
 
 // Flows and slopes of a pattern are judged.
-fn judge(
-    net: &Network,
-    sets: &LinkSets,
-    pattern: &Pattern,
-    flows: &[Q],
-    slopes: &[Q],
-) -> Result<Tried, PassedAt<Q>>
-    requires pattern { IsPatternIn net.now.net sets.now pattern.now }
+fn judge(net: &Network, pattern: &Pattern, flows: &[Q], slopes: &[Q]) -> Result<Tried, PassedAt<Q>>
+    requires states { length pattern.now ≡ length net.now.net.links }
     requires flows { length flows.now ≡ length net.now.net.links }
     requires slopes { length slopes.now ≡ net.now.net.nodes }
     ensures { JudgesFlows net.now.net pattern.now flows.now slopes.now
         (at_part Part.Verdict (verdict_list passes_Q net.now.net pattern.now slopes.now)) result }
 {
-    match verdict(net, sets, pattern, flows, slopes)? {
+    match verdict(net, pattern, flows, slopes)? {
         Judged::Meets => Ok(Tried::Accepted),
         Judged::FailsNode(_) => Ok(Tried::NotSolvable),
         Judged::FailsLink(_) => Ok(Tried::NotSolvable),
@@ -122,7 +116,7 @@ fn judge_into(
 {
     spread_flows(net, sets, values, flows);
     slopes.copy_from_slice(&values[..net.node_count() as usize]);
-    judge(net, sets, pattern, flows, slopes)
+    judge(net, pattern, flows, slopes)
 }
 
 /// The values that solve the table of a pattern, judged.
@@ -142,7 +136,7 @@ pub fn judge_values(
     let flows = flows_of(alloc, net, sets, &values)?;
     let mut slopes = values;
     slopes.truncate(net.node_count() as usize);
-    match verdict(net, sets, pattern, &flows, &slopes)? {
+    match verdict(net, pattern, &flows, &slopes)? {
         Judged::Meets => Ok(Outcome::Accepted { flows, slopes }),
         Judged::FailsNode(_) => Ok(Outcome::Refused),
         Judged::FailsLink(_) => Ok(Outcome::Refused),

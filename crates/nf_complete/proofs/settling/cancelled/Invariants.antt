@@ -1,14 +1,17 @@
+use Rattle.std.proofs.Common.{List}
 use Rattle.nf_rational.specs.Rational.{ℚ}
 use Rattle.nf_frac_def.specs.Passing.{passes_Q}
 use Rattle.nf_complete.specs.NextCycles.{AreForestBelow}
 use Rattle.nf_complete.specs.InteriorFlags.{interior_flags}
+use Rattle.nf_complete.specs.Settling.{IsThinWithFulls}
 use Rattle.nf_complete.proofs.Interiors.{set_count}
 use Rattle.nf_complete.proofs.CancelsOn.{CancelsOn}
 use Rattle.nf_complete.proofs.settling.cancelled.Given as goal
 
 -- the first flows have the results of the flows so far, and the interior links before `known` are a forest
 abbrev pub invariant-loop-new : goal.invariant-loop-new
-invariant-loop-new l = (rate : ℚ) × CancelsOn passes_Q l.net.net l.sets rate l.slopes l.fulls l.flows l.new.items × AreForestBelow l.net.net l.sets l.slopes l.new.items l.known
+invariant-loop-new l = (slopes : List ℚ) (t : IsThinWithFulls passes_Q l.net.net l.sets slopes l.fulls l.flows)
+    → CancelsOn passes_Q l.net.net l.sets t.rate slopes l.fulls l.flows l.new.items × AreForestBelow l.net.net l.sets slopes l.new.items l.known
 
 -- each cycle leaves fewer interior links
 abbrev pub decreases-loop-new : goal.decreases-loop-new

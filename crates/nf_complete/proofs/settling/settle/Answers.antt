@@ -1,12 +1,14 @@
-use Rattle.std.proofs.Common.{◌∙◌, List, length, Vec, Global, ap, subst}
+use Rattle.std.proofs.Common.{◌∙◌, List, length, Vec, Global, ap, subst, arith}
 use Rattle.std.proofs.lemmas.Result.{IfOk-from_err, err_from_is_err_and}
 use Rattle.nf_rational.specs.Rational.{ℚ}
 use Rattle.nf_frac_def.specs.Passing.{passes_Q}
 use Rattle.nf_complete_def.specs.Cancelling.{fulls_list, Settles}
 use Rattle.nf_complete_def.specs.SettledPattern.{IsSettledPattern}
 use Rattle.nf_complete.specs.declared.settled.Settled.{Settled}
+use Rattle.nf_net.proofs.Limits.{few_links}
 use Rattle.nf_complete.proofs.GoodSets.{good_sets}
-use Rattle.nf_complete.proofs.CancelsOn.{halts_of, settles_stop, settles_on, fulls_read, settled_by, settled_listed, settled_solution}
+use Rattle.nf_complete.proofs.Filling.{fulls_count}
+use Rattle.nf_complete.proofs.CancelsOn.{halts_of, settles_stop, settles_on, fulls_read, with_fulls, settled_by, settled_listed, settled_solution}
 use Rattle.nf_complete.proofs.settling.settle.Goals as goal
 
 pub fulls-requires-clause-sets : goal.fulls-requires-clause-sets
@@ -19,7 +21,10 @@ pub cancelled-requires-clause-sets : goal.cancelled-requires-clause-sets
 cancelled-requires-clause-sets c = good_sets c.args.net.now c.args.sets.now c.recall.ensures c.requires.sets
 
 pub cancelled-requires-clause-thin : goal.cancelled-requires-clause-thin
-cancelled-requires-clause-thin c = (c.args.rate, c.requires.thin)
+cancelled-requires-clause-thin c = (
+  c.args.slopes.now,
+  with_fulls passes_Q c.args.net.now.net c.args.sets.now c.args.rate c.args.flows.now c.args.slopes.now c.requires.thin c.in_ok-fulls.fulls.items c.deref.result.now c.in_ok-fulls.ensures c.deref.ensures.value,
+)
 
 pub settled_pattern-requires-clause-sets : goal.settled_pattern-requires-clause-sets
 settled_pattern-requires-clause-sets c = c.requires.sets.sets_are.count
@@ -79,11 +84,13 @@ returns-in_err-flows-clause-list c =
     let p = err_from_is_err_and c.from_residual-in_err-flows.result c.from_residual-in_err-flows.ensures.1 in
     rw (p.1, p.2) (settles_on passes_Q c.args.net.now.net c.args.sets.now c.args.slopes.now c.args.flows.now (λ (v : Vec ℚ Global). v.items) c.deref.result.now
     (fulls_read passes_Q c.args.net.now.net c.args.sets.now c.args.slopes.now c.in_ok-fulls.fulls.items c.deref.result.now c.in_ok-fulls.ensures c.deref.ensures.value)
-    c.in_err-flows.field-0.0 c.in_err-flows.ensures (λ (s : Settled). s.flows.items))
+    c.in_err-flows.field-0.0 (c.in_err-flows.ensures c.args.slopes.now (with_fulls passes_Q c.args.net.now.net c.args.sets.now c.args.rate c.args.flows.now c.args.slopes.now c.requires.thin c.in_ok-fulls.fulls.items c.deref.result.now
+    c.in_ok-fulls.ensures c.deref.ensures.value)) (λ (s : Settled). s.flows.items))
 
-pub cancelled-requires-clause-fulls : goal.cancelled-requires-clause-fulls
-cancelled-requires-clause-fulls c =
-    fulls_read passes_Q c.args.net.now.net c.args.sets.now c.args.slopes.now c.in_ok-fulls.fulls.items c.deref.result.now c.in_ok-fulls.ensures c.deref.ensures.value
+pub cancelled-requires-clause-fewer : goal.cancelled-requires-clause-fewer
+cancelled-requires-clause-fewer c =
+    let read = fulls_read passes_Q c.args.net.now.net c.args.sets.now c.args.slopes.now c.in_ok-fulls.fulls.items c.deref.result.now c.in_ok-fulls.ensures c.deref.ensures.value in
+    omega (arith, fulls_count passes_Q c.args.net.now.net c.args.sets.now c.args.slopes.now c.deref.result.now read, few_links c.args.net.now c.recall.ensures)
 
 pub settled_pattern-requires-clause-flows : goal.settled_pattern-requires-clause-flows
 settled_pattern-requires-clause-flows c =

@@ -1,4 +1,4 @@
-use Rattle.std.proofs.Common.{List, sym, ◌∙◌}
+use Rattle.std.proofs.Common.{List, sym, ◌∙◌, arith}
 use Rattle.std.proofs.lemmas.Result.{err_from_is_err_and}
 use Rattle.nf_rational.specs.Rational.{ℚ}
 use Rattle.nf_rational.specs.Order.{lt_ℚ}
@@ -8,6 +8,7 @@ use Rattle.nf_curve_def.specs.Values.{checked_value}
 use Rattle.nf_curve_def.specs.Composed.{corner_at, points_along, composed_piece}
 use Rattle.nf_curve.proofs.Composing.{piece_begun}
 use Rattle.nf_curve.proofs.Exits.{after_err}
+use Rattle.nf_curve.proofs.Placing.{place_within}
 use Rattle.nf_curve.proofs.composed.add_piece.Goals as goal
 
 pub returns-in_err-value-clause-points : goal.returns-in_err-value-clause-points
@@ -34,7 +35,7 @@ returns-clause-points c =
     ∙ c.in_ok-add_corners.ensures
 
 pub returns-clause-place : goal.returns-clause-place
-returns-clause-place c = c.place_from-next.ensures
+returns-clause-place c = c.place_near-next.ensures
 
 pub add_corners-requires-clause-outer : goal.add_corners-requires-clause-outer
 add_corners-requires-clause-outer c = c.requires.outer
@@ -46,4 +47,7 @@ pub add_corners-requires-clause-first : goal.add_corners-requires-clause-first
 add_corners-requires-clause-first c = c.requires.place
 
 pub add_corners-requires-clause-last : goal.add_corners-requires-clause-last
-add_corners-requires-clause-last c = c.place_from-next.ensures
+add_corners-requires-clause-last c = c.place_near-next.ensures
+
+pub place_near-next-requires-clause-from : goal.place_near-next-requires-clause-from
+place_near-next-requires-clause-from c = let h = place_within c.args.p.now.1 c.args.outer.now in omega (arith, c.requires.place)

@@ -2,8 +2,11 @@ use Rattle.nf_frac_def.specs.Passing.{passes_Q}
 use Rattle.nf_quick.proofs.Answering.{answered_is_quick, answered_in_order}
 use Rattle.nf_quick.proofs.working.quickest.Goals as goal
 
-pub work_out-requires : goal.work_out-requires
-work_out-requires c = c.requires.amount
+pub work_out-requires-clause-network : goal.work_out-requires-clause-network
+work_out-requires-clause-network c = c.recall.ensures.network
+
+pub work_out-requires-clause-amount : goal.work_out-requires-clause-amount
+work_out-requires-clause-amount c = c.requires.amount
 
 pub returns-clause-answered : goal.returns-clause-answered
 returns-clause-answered c = c.work_out.ensures

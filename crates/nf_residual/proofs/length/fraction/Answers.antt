@@ -1,6 +1,13 @@
-use Rattle.std.proofs.Common.{refl}
+use Rattle.std.proofs.Common.{◌≡◌, Option, Some, unwrap_or, refl, sym, ap, ◌∙◌}
+use Rattle.std.specs.Prelude.{is_some}
+use Rattle.nf_rational.specs.Rational.{ℚ}
 use Rattle.nf_residual.proofs.WholeLengths.{made_is, widened}
 use Rattle.nf_residual.proofs.length.fraction.Goals as goal
 
+pub unwrap-requires : goal.unwrap-requires
+unwrap-requires c = ap is_some (made_is c.make.result c.args.number _ _ c.requires (widened c.args.number c.ranges.number c.requires) refl c.make.ensures)
+
 pub returns : goal.returns
-returns c = made_is c.make.result c.args.number _ _ c.zero.result c.unwrap_or.result c.requires (widened c.args.number c.ranges.number c.requires) refl c.make.ensures c.unwrap_or.ensures
+returns c =
+    ap (λ (o : Option ℚ). unwrap_or o c.unwrap.result)
+    (sym c.unwrap.ensures ∙ made_is c.make.result c.args.number _ _ c.requires (widened c.args.number c.ranges.number c.requires) refl c.make.ensures)

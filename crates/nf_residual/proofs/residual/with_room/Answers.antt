@@ -1,12 +1,14 @@
-use Rattle.std.proofs.Common.{◌<◌, List, length, refl, ap, sym, subst, ◌∙◌}
+use Rattle.std.proofs.Common.{◌<◌, List, Some, length, refl, ap, sym, subst, ◌∙◌}
+use Rattle.std.specs.Prelude.{Ok}
 use Rattle.std.specs.List.{AllByRecursion}
 use Rattle.std.proofs.lemmas.Result.{err_from_is_err_and}
 use Rattle.nf_rational.specs.Rational.{ℚ}
 use Rattle.nf_frac_def.specs.Passing.{passes_Q}
 use Rattle.nf_frac_def.specs.Checked.{seen_passed_at}
-use Rattle.nf_quick_def.specs.Steps.{Step}
+use Rattle.nf_quick_def.specs.Steps.{Step, IsResidualWalk}
 use Rattle.nf_quick_def.specs.Order.{Reach}
-use Rattle.nf_residual.proofs.Stopping.{room_stops}
+use Rattle.nf_residual.proofs.Stopping.{ok_of_part, room_stops, walk_of, room_found}
+use Rattle.nf_residual.proofs.Finishing.{steps_within, has_room}
 use Rattle.nf_residual.proofs.residual.with_room.Goals as goal
 
 pub returns-in-None : goal.returns-in-None
@@ -15,7 +17,8 @@ returns-in-None c = rw c.in-None.is refl
 pub room_of-requires : goal.room_of-requires
 room_of-requires c = record {
   steps = subst (λ (steps : List Step). AllByRecursion (λ (step : Step). step.link < length c.args.net.now.net.links) steps)
-      (sym (c.deref.ensures.value ∙ ap (λ (r : Reach). r.steps) c.way.view_is)) (c.requires.steps c.in-Some.way c.in-Some.is);
+      (sym (c.deref.ensures.value ∙ ap (λ (r : Reach). r.steps) c.way.view_is))
+      (steps_within c.args.net.now.net c.args.flows.now c.in-Some.way.steps (c.requires.walk c.in-Some.way c.in-Some.is));
   flows = c.requires.flows;
 }
 
@@ -24,3 +27,16 @@ returns-in_err-room-in-Some c =
     let p = err_from_is_err_and c.from_residual.result c.from_residual.ensures.1 in
     rw (p.1, p.2) (room_stops passes_Q c.args.net.now.net c.args.flows.now c.args.way c.in-Some.way c.deref.result.now c.in-Some.is
     (c.deref.ensures.value ∙ ap (λ (r : Reach). r.steps) c.way.view_is) (seen_passed_at (λ (q : ℚ). q) c.in_err-room-in-Some.field-0.0) c.in_err-room-in-Some.ensures)
+
+pub unwrap-requires : goal.unwrap-requires
+unwrap-requires c =
+    let along = c.deref.ensures.value ∙ ap (λ (r : Reach). r.steps) c.way.view_is in
+    has_room passes_Q c.args.net.now.net c.args.flows.now c.deref.result.now c.in_ok-room-in-Some.room c.requires.limited
+    (subst (λ (steps : List Step). IsResidualWalk c.args.net.now.net c.args.flows.now steps c.args.net.now.net.source c.args.net.now.net.sink) (sym along) (c.requires.walk c.in-Some.way c.in-Some.is))
+    (ok_of_part _ c.in_ok-room-in-Some.room (sym c.in_ok-room-in-Some.ensures))
+
+pub returns-in-Some : goal.returns-in-Some
+returns-in-Some c =
+    ap (λ (r : Reach). Ok (Some (walk_of r c.unwrap.result))) c.way.view_is
+    ∙ room_found passes_Q c.args.net.now.net c.args.flows.now c.args.way c.in-Some.way c.deref.result.now c.in-Some.is
+    (c.deref.ensures.value ∙ ap (λ (r : Reach). r.steps) c.way.view_is) c.in_ok-room-in-Some.room c.in_ok-room-in-Some.ensures c.unwrap.result c.unwrap.ensures

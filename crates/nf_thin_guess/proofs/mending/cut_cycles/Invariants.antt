@@ -1,6 +1,7 @@
+use Rattle.nf_model.specs.ThinFlow.{Sets}
 use Rattle.nf_thin_equation_laws.specs.Equations.{IsPatternIn}
 use Rattle.nf_thin_guess.proofs.mending.cut_cycles.Given as goal
 
--- The pattern is still a pattern.
+-- The pattern is still one of each of its sets.
 abbrev pub invariant-loop-e : goal.invariant-loop-e
-invariant-loop-e l = IsPatternIn l.net.net l.sets l.pattern
+invariant-loop-e l = (sets : Sets) → IsPatternIn l.net.net sets l.fn.pattern → IsPatternIn l.net.net sets l.pattern

@@ -14,11 +14,11 @@ set-requires-2-clause-column g c =
 
 pub returns : goal.returns
 returns g c =
-    full_changes (g.T.System.rows_of c.args.table.now) (g.T.System.rows_of c.set.new.self) (g.T.System.rows_of c.set-2.new.self) c.args.row c.args.link _ c.unwrap_or-capacity.result _ _ c.requires.row
-    c.set.ensures c.set-2.ensures (assumption) c.one.ensures (search rules) (search rules)
+    full_changes (g.T.System.rows_of c.args.table.now) (g.T.System.rows_of c.set.new.self) (g.T.System.rows_of c.set-2.new.self) c.args.row c.args.link _ _ _ c.requires.row
+    c.set.ensures c.set-2.ensures c.full_factor.ensures c.one.ensures (search rules)
 
 pub set-requires-clause-takes : goal.set-requires-clause-takes
-set-requires-clause-takes g c = held_as g.T.System.takes _ _ (search rules) c.requires.capacity
+set-requires-clause-takes g c = held_as g.T.System.takes _ _ c.full_factor.ensures c.requires.capacity
 
 pub set-requires-2-clause-takes : goal.set-requires-2-clause-takes
 set-requires-2-clause-takes g c = held_as g.T.System.takes _ _ c.one.ensures g.met.T.System.takes_units.one

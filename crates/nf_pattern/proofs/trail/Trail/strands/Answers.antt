@@ -21,10 +21,10 @@ returns-then-not-is_end c =
     later_keeps c.args.hops.now c.args.resetting.now c.args.states.now c.args.source c.args.self.now.ends.items c.args.link c.index-hops-index.result here c.hop.inside.head
     (ap (λ (h : Hop). h.head) c.hop.view_is) (subst (λ (es : List ℕ). slice_get es c.hop.inside.head ≡ Some (suc c.args.link) → ⊥) c.deref.ensures.value c.if-not-is_end.ensures)
 
-pub is_entered_before-requires-clause-leads : goal.is_entered_before-requires-clause-leads
-is_entered_before-requires-clause-leads c =
+pub is_entered_before-requires-clause-chained : goal.is_entered_before-requires-clause-chained
+is_entered_before-requires-clause-chained c =
     let here : IsHop c.args.hops.now c.args.link c.index-hops-index.result = hop_there c.args.hops.now c.args.link c.index.result c.index-hops-index.result c.requires.link c.index.ensures c.index-hops-index.is in
-    head_led c.args.hops.now c.args.resetting.now c.args.states.now c.args.source c.args.self.now.ends.items c.args.link c.index-hops-index.result here c.hop.inside.head (ap (λ (h : Hop). h.head) c.hop.view_is)
+    (c.args.hops.now, c.hop.inside.head, (subst (AreChained c.args.hops.now) (sym c.deref-2.ensures.value) c.requires.chain), (head_led c.args.hops.now c.args.resetting.now c.args.states.now c.args.source c.args.self.now.ends.items c.args.link c.index-hops-index.result here c.hop.inside.head (ap (λ (h : Hop). h.head) c.hop.view_is)))
 
 pub returns : goal.returns
 returns c =
@@ -32,7 +32,7 @@ returns c =
     strands_told c.args.hops.now c.args.resetting.now c.args.states.now c.args.source c.args.self.now.ends.items c.args.link c.index-hops-index.result here c.hop.inside.head
     (ap (λ (h : Hop). h.head) c.hop.view_is) (apart_from_test c.hop.inside.head c.args.source (sym c.if-eq.false ∙ c.eq.ensures)) c.if-may_carry.ensures
     (subst (λ (es : List ℕ). slice_get es c.hop.inside.head ≡ Some (suc c.args.link)) c.deref.ensures.value c.if-not-is_end.ensures)
-    c.is_entered_before.result c.is_entered_before.ensures
+    c.is_entered_before.result (c.is_entered_before.ensures c.args.hops.now c.hop.inside.head (subst (AreChained c.args.hops.now) (sym c.deref-2.ensures.value) c.requires.chain) (head_led c.args.hops.now c.args.resetting.now c.args.states.now c.args.source c.args.self.now.ends.items c.args.link c.index-hops-index.result here c.hop.inside.head (ap (λ (h : Hop). h.head) c.hop.view_is)))
 
 pub is_end-requires : goal.is_end-requires
 is_end-requires c =
@@ -40,17 +40,11 @@ is_end-requires c =
     subst (λ (es : List ℕ). c.hop.inside.head < length es) (sym c.deref.ensures.value)
     (subst (λ (n : ℕ). n < length c.args.self.now.ends.items) (sym (ap (λ (h : Hop). h.head) c.hop.view_is)) (c.requires.below.heads c.args.link c.index-hops-index.result here))
 
-pub is_entered_before-requires-clause-count : goal.is_entered_before-requires-clause-count
-is_entered_before-requires-clause-count c = ap (λ (os : List (Option ℕ)). length os) c.deref-2.ensures.value ∙ c.requires.count
-
 pub is_entered_before-requires-clause-resetting : goal.is_entered_before-requires-clause-resetting
-is_entered_before-requires-clause-resetting c = c.requires.resetting
+is_entered_before-requires-clause-resetting c = c.requires.resetting ∙ sym (ap (λ (os : List (Option ℕ)). length os) c.deref-2.ensures.value ∙ c.requires.count)
 
 pub is_entered_before-requires-clause-states : goal.is_entered_before-requires-clause-states
-is_entered_before-requires-clause-states c = c.requires.states
+is_entered_before-requires-clause-states c = c.requires.states ∙ sym (ap (λ (os : List (Option ℕ)). length os) c.deref-2.ensures.value ∙ c.requires.count)
 
 pub is_entered_before-requires-clause-link : goal.is_entered_before-requires-clause-link
-is_entered_before-requires-clause-link c = c.requires.link
-
-pub is_entered_before-requires-clause-chain : goal.is_entered_before-requires-clause-chain
-is_entered_before-requires-clause-chain c = subst (AreChained c.args.hops.now) (sym c.deref-2.ensures.value) c.requires.chain
+is_entered_before-requires-clause-link c = subst (λ (n : ℕ). c.args.link < n) (sym (ap (λ (os : List (Option ℕ)). length os) c.deref-2.ensures.value ∙ c.requires.count)) c.requires.link

@@ -2,7 +2,7 @@ use Rattle.std.proofs.Common.{length, ap, ◌∙◌}
 use Rattle.nf_rational.specs.Rational.{ℚ}
 use Rattle.std.proofs.lemmas.Result.{err_from_is_err_and}
 use Rattle.nf_frac_def.specs.Passing.{passes_Q}
-use Rattle.nf_residual.proofs.Finishing.{shortest_stops, room_passes, walk_listed, walk_first, steps_within}
+use Rattle.nf_residual.proofs.Finishing.{shortest_stops, room_passes, walk_listed, walk_first, walk_there}
 use Rattle.nf_residual.proofs.residual.Residual.shortest.Goals as goal
 
 pub returns-in_err-known-clause-list : goal.returns-in_err-known-clause-list
@@ -11,8 +11,8 @@ returns-in_err-known-clause-list c =
     rw (p.1, p.2) (shortest_stops passes_Q c.args.net.now.net c.args.self.now c.as_slice-flows.result.now (c.as_slice-flows.ensures.value ∙ c.self.view_is) c.source.result c.source.ensures.value
     c.in_err-known.field-0.0 c.in_err-known.ensures.list)
 
-pub with_room-requires-clause-steps : goal.with_room-requires-clause-steps
-with_room-requires-clause-steps c = steps_within passes_Q c.args.net.now.net c.args.self.now c.as_slice-flows.result.now (c.as_slice-flows.ensures.value ∙ c.self.view_is) c.source.result c.source.ensures.value
+pub with_room-requires-clause-walk : goal.with_room-requires-clause-walk
+with_room-requires-clause-walk c = walk_there passes_Q c.args.net.now.net c.args.self.now c.as_slice-flows.result.now (c.as_slice-flows.ensures.value ∙ c.self.view_is) c.source.result c.source.ensures.value
     c.in_ok-known.known c.in_ok-known.ensures.list c.in_ok-way.way c.sink.result c.sink.ensures.value c.in_ok-way.ensures c.recall.ensures.network c.requires.sound
 
 pub returns-in_err-walk-clause-list : goal.returns-in_err-walk-clause-list
@@ -29,6 +29,9 @@ pub returns-clause-first : goal.returns-clause-first
 returns-clause-first c = walk_first passes_Q c.args.net.now.net c.args.self.now c.as_slice-flows.result.now (c.as_slice-flows.ensures.value ∙ c.self.view_is) c.source.result c.source.ensures.value
     c.in_ok-known.known c.in_ok-known.ensures.list c.in_ok-way.way c.sink.result c.sink.ensures.value c.in_ok-way.ensures c.recall.ensures.network c.requires.sound c.requires.limited
     c.in_ok-walk.walk c.in_ok-walk.ensures
+
+pub with_room-requires-clause-limited : goal.with_room-requires-clause-limited
+with_room-requires-clause-limited c = c.requires.limited
 
 pub with_room-requires-clause-flows : goal.with_room-requires-clause-flows
 with_room-requires-clause-flows c = ap (length {A = ℚ}) (c.as_slice-flows.ensures.value ∙ c.self.view_is) ∙ c.requires.sound.flow.count

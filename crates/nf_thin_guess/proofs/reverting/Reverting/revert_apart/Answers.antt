@@ -1,4 +1,11 @@
+use Rattle.std.proofs.Common.{◌∙◌}
 use Rattle.nf_thin_guess.proofs.reverting.Reverting.revert_apart.Goals as goal
 
-pub change-requires-clause-link : goal.change-requires-clause-link
-change-requires-clause-link c = c.requires.link
+pub set_state-requires-clause-link : goal.set_state-requires-clause-link
+set_state-requires-clause-link c = c.requires.link
+
+pub set_state-requires-clause-states : goal.set_state-requires-clause-states
+set_state-requires-clause-states c = c.requires.pattern.pattern_is.count ∙ c.requires.pattern.sets_are.count
+
+pub returns-then-suits : goal.returns-then-suits
+returns-then-suits c = c.set_state.ensures c.args.self.now.sets.now c.requires.pattern

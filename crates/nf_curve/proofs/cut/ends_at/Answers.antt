@@ -6,11 +6,13 @@ use Rattle.nf_rational.specs.Operations.{0ℚ}
 use Rattle.nf_rational.specs.Order.{◌≤ℚ◌}
 use Rattle.nf_frac_def.specs.Passing.{passes_Q}
 use Rattle.nf_curve_def.specs.Values.{checked_cut}
+use Rattle.nf_rational.specs.Signs.{is_same}
 use Rattle.nf_curve_laws.proofs.Operations.{same_of}
-use Rattle.nf_curve.proofs.Points.{points_there}
+use Rattle.nf_curve.specs.Points.{last_time}
+use Rattle.nf_curve.proofs.Points.{points_there, last_time-last}
 use Rattle.nf_curve.proofs.Placing.{last_there}
 use Rattle.nf_curve.proofs.Whole.{whole_cut}
-use Rattle.nf_curve.proofs.composed.ends_at.Goals as goal
+use Rattle.nf_curve.proofs.cut.ends_at.Goals as goal
 
 pub overflow_sub-points : goal.overflow_sub-points
 overflow_sub-points c = let some = points_there c.args.points.now c.requires.curve in omega arith
@@ -18,8 +20,19 @@ overflow_sub-points c = let some = points_there c.args.points.now c.requires.cur
 pub bounds-points-points : goal.bounds-points-points
 bounds-points-points c = let some = points_there c.args.points.now c.requires.curve in omega arith
 
-pub returns : goal.returns
-returns c = λ yes.
+pub returns-clause-end : goal.returns-clause-end
+returns-clause-end c =
+    let points = c.args.points.now in
+    let p = c.index-points-points.result in
+    let a : 0 < length points = points_there points c.requires.curve in
+    let b : length points - 1 < length points = last_there _ a in
+    let g = slice_get_read points _ (length points - 1) p refl b c.index-points-points.is in
+    let last : last_time points ≡ p.0 = last_time-last points (length points - 1) p g (omega (arith, a)) in
+    let read : p ≡ get_or points (length points - 1) p = c.index-points-points.is in
+    c.is_same.ensures ∙ ap (λ (t : ℚ). is_same t c.args.last) (sym (last ∙ ap (λ (x : ℚ × ℚ). x.0) read))
+
+pub returns-clause-whole : goal.returns-clause-whole
+returns-clause-whole c = λ yes.
     let points = c.args.points.now in
     let p = c.index-points-points.result in
     let a : 0 < length points = points_there points c.requires.curve in
