@@ -2,4 +2,4 @@ pub mod Within
 pub mod Conserving
 pub mod Balances
 pub mod Closing
-pub mod Ruling
+pub mod Solutions

@@ -3,7 +3,7 @@ use Rattle.std.proofs.lemmas.Bool.{true≢false}
 use Rattle.std.proofs.lemmas.Option.{none-some}
 use Rattle.nf_thin_balance.specs.declared.ranges.Range.{Range}
 use Rattle.nf_thin_balance.specs.Conserving.{AreWithin, scaled_flow}
-use Rattle.nf_thin_balance.proofs.Ruling.{can_flow, conserved}
+use Rattle.nf_thin_balance.proofs.Solutions.{can_flow, conserved}
 use Rattle.nf_thin_balance.proofs.ruling.ruled_out_at.Goals as goal
 
 pub fails_at-requires : goal.fails_at-requires
