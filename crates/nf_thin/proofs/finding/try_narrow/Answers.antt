@@ -8,7 +8,7 @@ use Rattle.nf_model.specs.Pattern.{Pattern, IsListedIn}
 use Rattle.nf_pattern.specs.Given.{Given, Gives}
 use Rattle.nf_thin_narrow.specs.Asking.{StandsWithin}
 use Rattle.nf_thin_rank.specs.declared.standing.Standing.{Standing}
-use Rattle.nf_thin.specs.Posing.{question_in}
+use Rattle.nf_thin_rank.specs.Posing.{question_in}
 use Rattle.nf_thin.specs.Sifting.{SiftsNext}
 use Rattle.nf_thin_rank.specs.Keeping.{Tells, IsInStep, StaysBehind}
 use Rattle.nf_thin.proofs.Narrowing.{none_yet, whole_listed, part_count, whole_count, next_later, next_kept, narrow_found, narrow_beyond, narrow_failed, narrow_on}
