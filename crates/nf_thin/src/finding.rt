@@ -89,8 +89,8 @@ fn go_narrow(alloc: Global, problem: &Problem, narrow: &Narrow) -> Result<Option
     requires forcing { IsForcing problem.now.ranking.sets.now (unbounded_of problem.now.ranking.net.now.net) narrow.now.forced.now }
     ensures { NarrowFindsFor problem.now narrow.now.forced.now result }
 {
-    let mut patterns = narrowed(alloc, &problem.ranking, narrow.forced)?;
     let mut whole = problem.ranking.base.copy(alloc)?;
+    let mut patterns = narrowed(alloc, &problem.ranking, narrow.forced)?;
     let mut pace = Pace::start();
     try_narrow(alloc, problem, narrow, &mut patterns, &mut pace, &mut whole)
 }
