@@ -17,7 +17,7 @@ awk '{
 for crate in $(sed -n 's/^\([a-z_]*\):.*/\1/p' "$work/repo/crates.txt"); do
     cp -r "$here/../crates/$crate" "$work/repo/crates/"
 done
-echo 'bench_phases: nf_rational nf_frac_def nf_model nf_net_def nf_thin_def nf_edge nf_frac nf_graph nf_net_file nf_net nf_pattern nf_sets nf_thin_guess nf_thin' >>"$work/repo/crates.txt"
+echo 'bench_phases: nf_rational nf_frac_def nf_model nf_net_def nf_thin_def nf_edge nf_frac nf_graph nf_net_file nf_net nf_pattern nf_sets nf_thin_guess nf_thin_rank nf_thin' >>"$work/repo/crates.txt"
 cp "$here/phases/main.txt" "$bench/src/main.rt"
 cp "$here/phases/phases.txt" "$bench/src/phases.rt"
 cp -r "$here/phases/proofs" "$bench/proofs/phases"

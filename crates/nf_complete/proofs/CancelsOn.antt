@@ -169,7 +169,7 @@ fulls_read passes net sets slopes read seen worked same = value_of (fulls_list p
 
 pub with_fulls : (passes : Passing) (net : Network) (sets : Sets) (rate : ℚ) (flows slopes : List ℚ) → IsThinFlow net sets rate flows slopes → (read seen : List (Option ℚ))
     → at_part Verdict (fulls_list passes net sets slopes) ≡ Ok read → seen ≡ read → IsThinWithFulls passes net sets slopes seen flows
-with_fulls passes net sets rate flows slopes thin read seen worked same = record { rate = rate; thin = thin; fulls = fulls_read passes net sets slopes read seen worked same }
+with_fulls passes net sets rate flows slopes thin read seen worked same = record { rate = rate; thin = thin; filled = fulls_read passes net sets slopes read seen worked same }
 
 pub record IsSettled (passes : Passing) (net : Network) (sets : Sets) (rate : ℚ) (flows slopes new : List ℚ) : Type 0 where
   pub settles_it : Settles passes net sets slopes flows (Ok new)
@@ -181,7 +181,7 @@ pub settled_by : (passes : Passing) (net : Network) (sets : Sets) (rate : ℚ) (
     → ((slopes : List ℚ) → IsThinWithFulls passes net sets slopes seen flows → Cancels passes net sets slopes seen flows (Ok new)) → IsSettled passes net sets rate flows slopes new
 settled_by passes net sets rate flows slopes good thin read seen worked same new cancelled =
     let t = with_fulls passes net sets rate flows slopes thin read seen worked same in
-    let it : Settles passes net sets slopes flows (Ok new) = settles seen (Ok new) t.fulls (cancelled slopes t) in
+    let it : Settles passes net sets slopes flows (Ok new) = settles seen (Ok new) t.filled (cancelled slopes t) in
     let end = settles-end passes net sets rate flows slopes new (Ok new) good refl thin it in
     record { settles_it = it; thin = end.0; forest = end.1 }
 

@@ -17,7 +17,7 @@ use Rattle.nf_complete.specs.declared.settled.Settled.{Settled}
 pub record IsThinWithFulls (passes : Passing) (net : Network) (sets : Sets) (slopes : List ℚ) (fulls : List (Option ℚ)) (flows : List ℚ) : Type 0 where
   pub rate : ℚ
   pub thin : IsThinFlow net sets rate flows slopes
-  pub fulls : fulls_list passes net sets slopes ≡ Ok fulls
+  pub filled : fulls_list passes net sets slopes ≡ Ok fulls
 
 -- no operation of the sequence passes, or the error is the first one that passes
 abbrev pub Passes : Passing → Network → Sets → ℚ → List ℚ → List ℚ → Result Bool (PassedAt ℚ) → Type 0

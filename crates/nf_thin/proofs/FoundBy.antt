@@ -20,7 +20,8 @@ use Rattle.nf_thin.specs.Slopes.{AreThinSlopes}
 use Rattle.nf_thin_narrow.specs.Asking.{question_left}
 use Rattle.nf_thin.specs.declared.thin.Thin.{Thin}
 use Rattle.nf_thin.specs.declared.fault.SearchFault.{SearchFault}
-use Rattle.nf_thin.specs.Searching.{Searches, AreSetsOf, question_of}
+use Rattle.nf_thin_rank.specs.Questions.{AreSetsOf, question_of}
+use Rattle.nf_thin.specs.Searching.{Searches}
 use Rattle.nf_thin.specs.Finding.{NarrowFinds, Finds, flow_of}
 
 module _ (passes : Passing) (net : Network) (sets : Sets) (rate : ℚ) (base forced : Pattern) (budget : ℕ) (forcing : IsForcing sets (unbounded net) forced)

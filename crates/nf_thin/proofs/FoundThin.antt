@@ -16,7 +16,8 @@ use Rattle.nf_thin.specs.declared.fault.SearchFault.{SearchFault}
 use Rattle.nf_thin.specs.declared.known.Known.{Known}
 use Rattle.nf_thin.specs.declared.vain.Vain.{Vain}
 use Rattle.nf_thin.specs.Knowing.{IsKnown, IsThinAt}
-use Rattle.nf_thin.specs.Searching.{Searches, SlopesAreOnly, AreSetsOf, IsFound}
+use Rattle.nf_thin_rank.specs.Questions.{AreSetsOf}
+use Rattle.nf_thin.specs.Searching.{Searches, SlopesAreOnly, IsFound}
 use Rattle.nf_thin.specs.Finding.{Finds}
 
 module _ (passes : Passing) (net : Network) (sets : Sets) (rate : ℚ) (base : Pattern) (budget : ℕ) (good : IsNetwork net) (sets_are : AreSetsOf net sets) where

@@ -14,10 +14,11 @@ use Rattle.nf_thin.specs.declared.thin.Thin.{Thin}
 use Rattle.nf_thin.specs.declared.vain.Vain.{Vain}
 use Rattle.nf_thin.specs.declared.fault.SearchFault.{SearchFault}
 use Rattle.nf_thin.specs.FirstPassing.{fault_of}
-use Rattle.nf_thin.specs.Searching.{Searches, TriesNext, AreSetsOf, AsksOf}
+use Rattle.nf_thin_rank.specs.Questions.{AreSetsOf, AsksOf}
+use Rattle.nf_thin.specs.Searching.{Searches, TriesNext}
 use Rattle.nf_pattern.specs.Front.{IsListingOf}
 use Rattle.nf_thin.proofs.Searched.{Vainly, none_tried, over_budget, found, vainly_more, search_ends, all_searched}
-use Rattle.nf_thin.proofs.Asking.{listed_in}
+use Rattle.nf_thin_rank.proofs.Asking.{listed_in}
 
 -- The listing advances, and its first patterns are rejected.
 abbrev pub InLoop : Passing → Network → Sets → ℚ → Question → ℕ → Given → Vain → Type 0
@@ -28,7 +29,8 @@ InLoop passes net sets rate q budget given vain = (given.question ≡ q) × (vai
 pub fewer_left : (budget before after : ℕ) → before < budget → after ≡ suc before → budget - after < budget - before
 fewer_left budget before after less more = omega arith
 
-module _ (passes : Passing) (net : Network) (sets : Sets) (rate : ℚ) (first : Given) (budget : ℕ) (good : IsNetwork net) (sets_are : AreSetsOf net sets) (asks : AsksOf net sets first) where
+module _ (passes : Passing) (net : Network) (sets : Sets) (rate : ℚ) (first : Given) (budget : ℕ) (good : IsNetwork net) (sets_are : AreSetsOf net sets) (asks : AsksOf net sets first)
+    (base : Pattern) (based : first.question.base ≡ base) where
   abbrev q : Question
   q = first.question
 
@@ -39,10 +41,11 @@ module _ (passes : Passing) (net : Network) (sets : Sets) (rate : ℚ) (first : 
   is = (has_listing q asks.is_question).1
 
   abbrev Finds : Result Thin SearchFault → Type 0
-  Finds result = Searches (IsSearch passes net sets rate q.base budget) budget result
+  Finds result = Searches (IsSearch passes net sets rate base budget) budget result
 
   done : (result : Result Thin SearchFault) → Searches (Answers passes net sets rate listing budget) budget result → Finds result
-  done result a = all_searched passes net sets rate q asks.asked listing is budget result a
+  done result a = subst (λ (b : Pattern). Searches (IsSearch passes net sets rate b budget) budget result) based
+      (all_searched passes net sets rate q asks.asked listing is budget result a)
 
   pub loop_starts : (given : Given) (vain : Vain) → given ≡ first → vain.tried ≡ 0 → vain.passed ≡ None → InLoop passes net sets rate q budget given vain
   loop_starts given vain same none_tried_yet none_passed = (

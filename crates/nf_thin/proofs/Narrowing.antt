@@ -19,11 +19,11 @@ use Rattle.nf_thin_narrow.proofs.Places.{given_next}
 use Rattle.nf_thin.specs.declared.thin.Thin.{Thin}
 use Rattle.nf_thin.specs.declared.fault.SearchFault.{SearchFault}
 use Rattle.nf_thin.specs.declared.vain.Vain.{Vain}
-use Rattle.nf_thin.specs.Searching.{AreSetsOf, question_of}
+use Rattle.nf_thin_rank.specs.Questions.{AreSetsOf, question_of}
 use Rattle.nf_thin.specs.Sifting.{SiftsNext}
 use Rattle.nf_thin.specs.Finding.{NarrowFinds}
-use Rattle.nf_thin.specs.declared.pace.Pace.{Pace}
-use Rattle.nf_thin.specs.Keeping.{StaysBehind, IsInStep}
+use Rattle.nf_thin_rank.specs.declared.pace.Pace.{Pace}
+use Rattle.nf_thin_rank.specs.Keeping.{StaysBehind, IsInStep, walk_of}
 
 -- The first patterns left are enumerated, and none of them is accepted.
 abbrev pub NarrowVainly : Passing → Network → Sets → ℚ → Pattern → Pattern → ℕ → Last → Type 0
@@ -41,7 +41,7 @@ pub record IsWhole (net : Network) (sets : Sets) (base forced : Pattern) (last :
   pub stands : StandsAt (question_of net sets base) all (filled forced part)
 
 abbrev pub KeepsUp : Network → Sets → Pattern → Pattern → Last → Pace → Type 0
-KeepsUp net sets base forced last pace = (all : Given) → pace.walk ≡ Some all → IsWhole net sets base forced last all
+KeepsUp net sets base forced last pace = (all : Given) → walk_of pace ≡ Some all → IsWhole net sets base forced last all
 
 module _ (passes : Passing) (net : Network) (sets : Sets) (rate : ℚ) (base forced : Pattern) (sets_are : AreSetsOf net sets) (forcing : IsForcing sets (unbounded net) forced)
     (given : Given) (same : given.question ≡ question_left forced (question_of net sets base)) (p : Pattern) (after : Given) (gives : Gives given (Some p) after) where

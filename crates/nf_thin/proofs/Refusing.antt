@@ -9,8 +9,8 @@ use Rattle.nf_model.specs.Pattern.{Pattern, IsListedIn, IsSolvable}
 use Rattle.nf_thin_laws.specs.ActiveLinks.{AreSets, HoldNoCycle}
 use Rattle.nf_thin_laws.proofs.States.{slopes-same}
 use Rattle.nf_thin.specs.Slopes.{AreThinSlopes, AreSlopesOfListed}
-use Rattle.nf_thin.specs.Conserving.{AreFull, CanFlow}
-use Rattle.nf_thin.specs.declared.ranges.Range.{Range}
+use Rattle.nf_thin_balance.specs.declared.scaled.Scaled.{Scaled}
+use Rattle.nf_thin_balance.specs.Scaled.{IsScaled}
 use Rattle.nf_thin.specs.declared.thin.Thin.{Thin}
 use Rattle.nf_thin.specs.declared.vain.Vain.{Vain}
 use Rattle.nf_thin.specs.declared.fault.SearchFault.{SearchFault}
@@ -24,15 +24,10 @@ slopes_of_listed net sets rate slopes good are acyclic thin pattern flows other 
     slopes-same net sets rate thin.0 slopes pattern good are acyclic thin.1 listed flows other solves meets
 
 module _ (net : Network) (sets : Sets) (rate : ℚ) (pattern : Pattern) (listed : IsListedIn net sets pattern) (solvable : IsSolvable net sets rate pattern) where
-  -- The flows of its solution are possible ones.
-  pub can_flow : (scale : ℕ) (slopes : List ℚ) (full : List Range) → AreSlopesOfListed net sets rate slopes → AreFull scale net slopes full
-      → CanFlow scale net sets rate pattern full solvable.flows
-  can_flow scale slopes full only are = record {
-    slopes = solvable.slopes;
-    full_are = subst (λ (s : List ℚ). AreFull scale net s full) (sym (only pattern solvable.flows solvable.slopes listed solvable.solution.solves solvable.solution.meets)) are;
-    solves = solvable.solution.solves;
-    meets = solvable.solution.meets;
-  }
+  -- The ranges are right at the slopes of its solution.
+  pub scaled_at : (here : Scaled) (slopes : List ℚ) → AreSlopesOfListed net sets rate slopes → IsScaled net rate slopes here → IsScaled net rate solvable.slopes here
+  scaled_at here slopes only is =
+      subst (λ (s : List ℚ). IsScaled net rate s here) (sym (only pattern solvable.flows solvable.slopes listed solvable.solution.solves solvable.solution.meets)) is
 
 -- A tried pattern is counted.
 pub tried_counts : (passes : Passing) (net : Network) (sets : Sets) (rate : ℚ) (budget : ℕ) (pattern : Pattern) (before after : Vain) (result : Result (Option Thin) SearchFault)

@@ -16,7 +16,8 @@ use Rattle.nf_thin.specs.declared.thin.Thin.{Thin}
 use Rattle.nf_thin.specs.declared.vain.Vain.{Vain}
 use Rattle.nf_thin.specs.declared.fault.SearchFault.{SearchFault}
 use Rattle.nf_thin.specs.FirstPassing.{or_first, fault_of}
-use Rattle.nf_thin.specs.Searching.{Searches, Noted, InVain, IsFound, question_of}
+use Rattle.nf_thin_rank.specs.Questions.{question_of}
+use Rattle.nf_thin.specs.Searching.{Searches, Noted, InVain, IsFound}
 use Rattle.nf_pattern.specs.Front.{IsListingOf}
 use Rattle.nf_thin_narrow.specs.Asking.{GivenUpTo}
 use Rattle.nf_thin_narrow.proofs.Places.{given_next, given_all}

@@ -2,11 +2,6 @@ pub mod FirstPassing
 pub mod Searching
 pub mod Posing
 pub mod Slopes
-pub mod Ranges
-pub mod Conserving
 pub mod Knowing
 pub mod Sifting
-pub mod Keeping
 pub mod Finding
-pub mod Firming
-pub mod Families

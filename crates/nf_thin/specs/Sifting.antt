@@ -1,5 +1,5 @@
 -- One step of the search by slopes of a thin flow.
-use Rattle.std.specs.Prelude.{◌≡◌, ℕ, suc, length, Option, Result}
+use Rattle.std.specs.Prelude.{◌≡◌, ℕ, suc, Option, Result}
 use Rattle.nf_rational.specs.Rational.{ℚ}
 use Rattle.nf_frac_def.specs.Passing.{Passing}
 use Rattle.nf_model.specs.Network.{Network}
@@ -12,8 +12,7 @@ use Rattle.nf_thin.specs.declared.vain.Vain.{Vain}
 use Rattle.nf_thin.specs.declared.fault.SearchFault.{SearchFault}
 use Rattle.nf_thin.specs.declared.sifting.Guide.{Guide}
 use Rattle.nf_thin.specs.Slopes.{AreThinSlopes, AreSlopesOfListed}
-use Rattle.nf_thin.specs.Ranges.{IsWithin, scaled}
-use Rattle.nf_thin.specs.Conserving.{AreFull}
+use Rattle.nf_thin_balance.specs.Scaled.{IsScaled}
 use Rattle.nf_thin.specs.Knowing.{IsKnown}
 use Rattle.nf_thin.specs.Searching.{IsFound, Steps}
 
@@ -24,9 +23,7 @@ pub record Guides (passes : Passing) (net : Network) (sets : Sets) (rate : ℚ) 
   pub acyclic : HoldNoCycle net sets
   pub thin : AreThinSlopes net sets rate guide.known.slopes.items
   pub slopes : AreSlopesOfListed net sets rate guide.known.slopes.items
-  pub supply : IsWithin guide.supply (scaled guide.scale rate)
-  pub count : length guide.full.items ≡ length net.links
-  pub full : AreFull guide.scale net guide.known.slopes.items guide.full.items
+  pub scaled : IsScaled net rate guide.known.slopes.items guide.scaled
 
 -- The pattern is counted, and it is not accepted.
 pub record IsCounted (passes : Passing) (net : Network) (sets : Sets) (rate : ℚ) (pattern : Pattern) (before after : Vain) : Type 0 where

@@ -1,17 +1,15 @@
 // The narrow search, by known slopes of a thin flow. It tries only listed patterns with the states that the slopes force.
 ghost use Rattle.std.specs.Prelude.{◌≡◌, IfOk, IfSome, None};
-ghost use Rattle.nf_frac_def.specs.Passing.{passes_Q};
 ghost use Rattle.nf_model.specs.Network.{unbounded as unbounded_of};
 ghost use Rattle.nf_thin_laws.specs.Forcing.{IsForcing};
 ghost use Rattle.nf_pattern.specs.Given.{AtStart};
 ghost use Rattle.nf_thin_narrow.specs.Asking.{question_left};
-ghost use Rattle.nf_thin.specs.Posing.{IsPosed, IsAnswerTo, question_in, GuidesFor};
-ghost use Rattle.nf_thin.specs.Finding.{NarrowFinds, FindsBy};
+ghost use Rattle.nf_thin_rank.specs.Keeping.{walk_of};
+ghost use Rattle.nf_thin_rank.specs.Posing.{IsPosed, question_in};
+ghost use Rattle.nf_thin.specs.Posing.{IsAnswerTo, GuidesFor, NarrowFindsFor};
+ghost use Rattle.nf_thin.specs.Finding.{FindsBy};
 
 use crate::fault::SearchFault;
-use crate::listings::unbounded_flags;
-use crate::near::near_listed;
-use crate::pace::Pace;
 use crate::problem::Problem;
 use crate::sifting::{Guide, guide_of, sift_next};
 use crate::thin::{Thin, ThinFlow};
@@ -19,47 +17,51 @@ use crate::vain::Vain;
 use nf_graph::NodeId;
 use nf_pattern::{Pattern, Patterns};
 use nf_thin_narrow::{fill, forced_by, narrow_listing};
+use nf_thin_rank::{Pace, Ranking, near_listed, unbounded_flags};
 use std::alloc::{AllocError, Global};
 
+/// A borrowed view of what a narrow search goes by: a guide, and the states that its slopes force.
+#[derive(Clone, Copy)]
+struct Narrow<'a> {
+    guide: &'a Guide,
+    forced: &'a Pattern,
+}
+
 // Tries the patterns left without the forced links, with the forced states put in, until one is accepted or its rank in the whole listing
-// is beyond the budget. The place in the result is that among the patterns left. The caller lends `whole`, a copy of the base, for the
-// current pattern with its forced states.
+// is beyond the budget. The place in the result is that among the patterns left. The caller lends `pace` and `whole`, a copy of the base,
+// for the current pattern with its forced states.
 fn try_narrow(
     alloc: Global,
     problem: &Problem,
-    guide: &Guide,
-    forced: &Pattern,
+    narrow: &Narrow,
     patterns: &mut Patterns,
+    pace: &mut Pace,
     whole: &mut Pattern,
 ) -> Result<Option<Thin>, SearchFault>
-    requires problem { IsPosed problem.now }
-    requires guide { GuidesFor problem.now guide.now }
-    requires forcing { IsForcing problem.now.sets.now (unbounded_of problem.now.net.now.net) forced.now }
-    requires question { patterns.old.question ≡ question_left forced.now (question_in problem.now) }
+    requires problem { IsPosed problem.now.ranking }
+    requires guide { GuidesFor problem.now narrow.now.guide.now }
+    requires forcing { IsForcing problem.now.ranking.sets.now (unbounded_of problem.now.ranking.net.now.net) narrow.now.forced.now }
+    requires question { patterns.old.question ≡ question_left narrow.now.forced.now (question_in problem.now.ranking) }
     requires start { patterns.old.last ≡ AtStart }
-    requires whole { whole.old ≡ problem.now.base.now }
-    ensures { NarrowFinds passes_Q problem.now.net.now.net problem.now.sets.now problem.now.rate problem.now.base.now forced.now
-        problem.now.budget result }
+    requires pace { walk_of pace.old ≡ None }
+    requires whole { whole.old ≡ problem.now.ranking.base.now }
+    ensures { NarrowFindsFor problem.now narrow.now.forced.now result }
 {
-    let budget = problem.budget;
-    let mut pace = Pace {
-        asked: 0,
-        walk: None,
-    };
+    let budget = problem.ranking.budget;
     let mut vain = Vain {
         tried: 0,
         passed: None,
         node: NodeId(0),
     };
     while let Some(part) = patterns.next() {
-        fill(whole, forced, part, problem.net.link_count());
-        let standing = pace.keep_up(alloc, problem, whole, vain.tried)?;
+        fill(whole, narrow.forced, part, problem.ranking.net.link_count());
+        let standing = pace.keep_up(alloc, &problem.ranking, whole, vain.tried)?;
         if standing.is_beyond() {
             return Err(SearchFault::Budget { tried: budget });
         }
-        let found = sift_next(alloc, problem, guide, whole, &mut vain)?;
+        let found = sift_next(alloc, problem, narrow.guide, whole, &mut vain)?;
         if let Some(thin) = found {
-            if standing.is_within(alloc, problem, whole)? {
+            if standing.is_within(alloc, &problem.ranking, whole)? {
                 return Ok(Some(thin));
             }
             return Err(SearchFault::Budget { tried: budget });
@@ -69,27 +71,47 @@ fn try_narrow(
 }
 
 // Returns the listing of the patterns left without the links that have forced states. Fails if an allocation fails.
-fn narrowed(alloc: Global, problem: &Problem, forced: &Pattern) -> Result<Patterns, AllocError>
-    requires problem { IsPosed problem.now }
-    requires forcing { IsForcing problem.now.sets.now (unbounded_of problem.now.net.now.net) forced.now }
+fn narrowed(alloc: Global, ranking: &Ranking, forced: &Pattern) -> Result<Patterns, AllocError>
+    requires ranking { IsPosed ranking.now }
+    requires forcing { IsForcing ranking.now.sets.now (unbounded_of ranking.now.net.now.net) forced.now }
     ensures { IfOk result (λ patterns. patterns
-        ≡ record { question = question_left forced.now (question_in problem.now); last = AtStart; place = 0 }) }
+        ≡ record { question = question_left forced.now (question_in ranking.now); last = AtStart; place = 0 }) }
 {
-    let net = problem.net;
+    let net = ranking.net;
     let unbounded = unbounded_flags(alloc, net)?;
-    narrow_listing(alloc, net, problem.sets, problem.base, &unbounded, forced)
+    narrow_listing(alloc, net, ranking.sets, ranking.base, &unbounded, forced)
+}
+
+// Runs `try_narrow` from the start.
+fn go_narrow(alloc: Global, problem: &Problem, narrow: &Narrow) -> Result<Option<Thin>, SearchFault>
+    requires problem { IsPosed problem.now.ranking }
+    requires guide { GuidesFor problem.now narrow.now.guide.now }
+    requires forcing { IsForcing problem.now.ranking.sets.now (unbounded_of problem.now.ranking.net.now.net) narrow.now.forced.now }
+    ensures { NarrowFindsFor problem.now narrow.now.forced.now result }
+{
+    let mut patterns = narrowed(alloc, &problem.ranking, narrow.forced)?;
+    let mut whole = problem.ranking.base.copy(alloc)?;
+    let mut pace = Pace::start();
+    try_narrow(alloc, problem, narrow, &mut patterns, &mut pace, &mut whole)
 }
 
 // Searches by a guide among the listed patterns with the states that its slopes force. Returns `None` if none of them is accepted.
 fn find_by(alloc: Global, problem: &Problem, guide: &Guide) -> Result<Option<ThinFlow>, SearchFault>
-    requires problem { IsPosed problem.now }
+    requires problem { IsPosed problem.now.ranking }
     requires guide { GuidesFor problem.now guide.now }
-    ensures { FindsBy (IsAnswerTo problem.now) problem.now.budget result }
+    ensures { FindsBy (IsAnswerTo problem.now) problem.now.ranking.budget result }
 {
-    let forced = forced_by(alloc, problem.net, &guide.known.slopes, problem.base)?;
-    let mut patterns = narrowed(alloc, problem, &forced)?;
-    let mut whole = problem.base.copy(alloc)?;
-    let found = try_narrow(alloc, problem, guide, &forced, &mut patterns, &mut whole)?;
+    let forced = forced_by(
+        alloc,
+        problem.ranking.net,
+        &guide.known.slopes,
+        problem.ranking.base,
+    )?;
+    let narrow = Narrow {
+        guide,
+        forced: &forced,
+    };
+    let found = go_narrow(alloc, problem, &narrow)?;
     let Some(thin) = found else {
         return Ok(None);
     };
@@ -98,10 +120,10 @@ fn find_by(alloc: Global, problem: &Problem, guide: &Guide) -> Result<Option<Thi
 
 // Returns a guide guessed from a listed pattern near the base, or `None`. Fails if an allocation fails.
 fn guide_from_base(alloc: Global, problem: &Problem) -> Result<Option<Guide>, AllocError>
-    requires { IsPosed problem.now }
+    requires { IsPosed problem.now.ranking }
     ensures { IfOk result (λ found. IfSome found (λ guide. GuidesFor problem.now guide)) }
 {
-    let Some(near) = near_listed(alloc, problem, problem.base)? else {
+    let Some(near) = near_listed(alloc, &problem.ranking, problem.ranking.base)? else {
         return Ok(None);
     };
     guide_of(alloc, problem, &near)
@@ -113,8 +135,8 @@ pub(crate) fn find_by_slopes(
     alloc: Global,
     problem: &Problem,
 ) -> Result<Option<ThinFlow>, SearchFault>
-    requires { IsPosed problem.now }
-    ensures { FindsBy (IsAnswerTo problem.now) problem.now.budget result }
+    requires { IsPosed problem.now.ranking }
+    ensures { FindsBy (IsAnswerTo problem.now) problem.now.ranking.budget result }
 {
     match guide_from_base(alloc, problem)? {
         Some(guide) => find_by(alloc, problem, &guide),

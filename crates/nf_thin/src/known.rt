@@ -28,17 +28,23 @@ pub(crate) fn known_by(
     problem: &Problem,
     last: SolvedPattern,
 ) -> Result<Option<Known>, AllocError>
-    requires { IsSolved passes_Q problem.now.net.now.net problem.now.sets.now problem.now.rate last }
-    ensures known { IfOk result
-        (λ found. IfSome found (λ known. IsKnown passes_Q problem.now.net.now.net problem.now.sets.now problem.now.rate known)) }
-    ensures thin { IfOk result
-        (λ found. IfSome found (λ known. AreThinSlopes problem.now.net.now.net problem.now.sets.now problem.now.rate known.slopes.items)) }
+    requires { IsSolved passes_Q problem.now.ranking.net.now.net problem.now.ranking.sets.now problem.now.rate last }
+    ensures known { IfOk result (λ found. IfSome found
+        (λ known. IsKnown passes_Q problem.now.ranking.net.now.net problem.now.ranking.sets.now problem.now.rate known)) }
+    ensures thin { IfOk result (λ found. IfSome found
+        (λ known. AreThinSlopes problem.now.ranking.net.now.net problem.now.ranking.sets.now problem.now.rate known.slopes.items)) }
 {
     let SolvedPattern { pattern, values } = last;
-    if !each_is_led(problem.net, problem.sets, &pattern) {
+    if !each_is_led(problem.ranking.net, problem.ranking.sets, &pattern) {
         return Ok(None);
     }
-    match judge_values(alloc, problem.net, problem.sets, &pattern, values) {
+    match judge_values(
+        alloc,
+        problem.ranking.net,
+        problem.ranking.sets,
+        &pattern,
+        values,
+    ) {
         Ok(Outcome::Accepted { flows, slopes }) => Ok(Some(Known {
             pattern,
             flows,

@@ -2,22 +2,12 @@
 #![tactic(auto)]
 
 mod cycles;
-mod families;
 mod fault;
 mod finding;
-mod firming;
 mod known;
-mod leaves;
-mod listings;
-mod near;
-mod node_test;
-mod pace;
 mod problem;
-mod ranges;
-mod scaling;
 mod searches;
 mod sifting;
-mod standing;
 mod thin;
 mod trying_next;
 mod vain;

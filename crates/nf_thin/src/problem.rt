@@ -1,16 +1,10 @@
 // What a search is asked.
 use nf_frac::Q;
-use nf_graph::LinkSets;
-use nf_net::Network;
-use nf_pattern::Pattern;
+use nf_thin_rank::Ranking;
 
-/// A borrowed view of what a search is asked. `sets` are the active and resetting links. `rate` is the supply, an amount per unit of time.
-/// The listed patterns are tried in their order by changes from `base`, and at most `budget` of them.
+/// What a search is asked: the listing of the patterns that it tries, with the budget, and the supply `rate`, an amount per unit of time.
 #[derive(Clone, Copy)]
 pub(crate) struct Problem<'a> {
-    pub(crate) net: &'a Network,
-    pub(crate) sets: &'a LinkSets,
+    pub(crate) ranking: Ranking<'a>,
     pub(crate) rate: Q,
-    pub(crate) base: &'a Pattern,
-    pub(crate) budget: u64,
 }

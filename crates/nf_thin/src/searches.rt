@@ -1,17 +1,18 @@
 // The search for a thin flow, by the first accepted pattern of the listing.
-ghost use Rattle.std.specs.Prelude.{IfOk};
+ghost use Rattle.std.specs.Prelude.{◌≡◌, IfOk};
 ghost use Rattle.nf_frac_def.specs.Passing.{passes_Q};
 ghost use Rattle.nf_model.specs.Network.{unbounded as unbounded_of};
 ghost use Rattle.nf_model.specs.ThinFlow.{IsThinFlow};
 ghost use Rattle.nf_model.specs.Pattern.{IsPattern};
 ghost use Rattle.nf_thin_def.specs.Search.{IsSearch};
-ghost use Rattle.nf_thin.specs.Searching.{Searches, SlopesAreOnly, AreSetsOf, AsksOf};
-ghost use Rattle.nf_thin.specs.Posing.{IsPosed, IsAnswerTo};
+ghost use Rattle.nf_thin_rank.specs.Questions.{AreSetsOf, AsksOf};
+ghost use Rattle.nf_thin_rank.specs.Posing.{IsPosed};
+ghost use Rattle.nf_thin.specs.Searching.{Searches, SlopesAreOnly};
+ghost use Rattle.nf_thin.specs.Posing.{IsAnswerTo};
 ghost use Rattle.nf_thin.specs.Finding.{Finds};
 
 use crate::fault::SearchFault;
 use crate::finding::find_by_slopes;
-use crate::listings::listing;
 use crate::problem::Problem;
 use crate::thin::{Thin, ThinFlow};
 use crate::trying_next::try_next;
@@ -20,6 +21,7 @@ use nf_frac::Q;
 use nf_graph::{LinkSets, NodeId};
 use nf_net::Network;
 use nf_pattern::{Pattern, Patterns};
+use nf_thin_rank::{Ranking, listing};
 use std::alloc::Global;
 
 // Tries the patterns of a listing from its start, until one is accepted.
@@ -28,10 +30,10 @@ fn go_through(
     problem: &Problem,
     patterns: &mut Patterns,
 ) -> Result<Thin, SearchFault>
-    requires problem { IsPosed problem.now }
-    requires question { AsksOf problem.now.net.now.net problem.now.sets.now patterns.old }
-    ensures { Searches (IsSearch passes_Q problem.now.net.now.net problem.now.sets.now problem.now.rate patterns.old.question.base
-        problem.now.budget) problem.now.budget result }
+    requires problem { IsPosed problem.now.ranking }
+    requires question { AsksOf problem.now.ranking.net.now.net problem.now.ranking.sets.now patterns.old }
+    requires base { patterns.old.question.base ≡ problem.now.ranking.base.now }
+    ensures { Searches (IsAnswerTo problem.now) problem.now.ranking.budget result }
 {
     let mut vain = Vain {
         tried: 0,
@@ -49,10 +51,10 @@ fn go_through(
 
 // Searches by the whole listing.
 fn search_all(alloc: Global, problem: &Problem) -> Result<Thin, SearchFault>
-    requires { IsPosed problem.now }
-    ensures { Searches (IsAnswerTo problem.now) problem.now.budget result }
+    requires { IsPosed problem.now.ranking }
+    ensures { Searches (IsAnswerTo problem.now) problem.now.ranking.budget result }
 {
-    let mut patterns = listing(alloc, problem, problem.base)?;
+    let mut patterns = listing(alloc, &problem.ranking, problem.ranking.base)?;
     go_through(alloc, problem, &mut patterns)
 }
 
@@ -84,19 +86,21 @@ pub fn search(
     // Proof: the network is well formed.
     net.recall();
     let problem = Problem {
-        net,
-        sets,
+        ranking: Ranking {
+            net,
+            sets,
+            base,
+            budget,
+        },
         rate,
-        base,
-        budget,
     };
     search_all(alloc, &problem)
 }
 
 // Searches by the slopes of a thin flow, and by the whole listing if that finds no answer.
 fn find_or_search(alloc: Global, problem: &Problem) -> Result<ThinFlow, SearchFault>
-    requires { IsPosed problem.now }
-    ensures { Finds (IsAnswerTo problem.now) problem.now.budget result }
+    requires { IsPosed problem.now.ranking }
+    ensures { Finds (IsAnswerTo problem.now) problem.now.ranking.budget result }
 {
     if let Some(found) = find_by_slopes(alloc, problem)? {
         return Ok(found);
@@ -124,11 +128,13 @@ pub fn find_thin(
     // Proof: the network is well formed.
     net.recall();
     let problem = Problem {
-        net,
-        sets,
+        ranking: Ranking {
+            net,
+            sets,
+            base,
+            budget,
+        },
         rate,
-        base,
-        budget,
     };
     find_or_search(alloc, &problem)
 }

@@ -1,8 +1,7 @@
 // One step of the search, within the budget.
 ghost use Rattle.std.specs.Prelude.{◌≤◌};
-ghost use Rattle.nf_frac_def.specs.Passing.{passes_Q};
 ghost use Rattle.nf_thin_equation_laws.specs.Equations.{IsPatternIn};
-ghost use Rattle.nf_thin.specs.Searching.{TriesNext};
+ghost use Rattle.nf_thin.specs.Posing.{TriesFor};
 
 use crate::fault::SearchFault;
 use crate::problem::Problem;
@@ -20,17 +19,22 @@ pub(crate) fn try_next(
     pattern: &Pattern,
     vain: &mut Vain,
 ) -> Result<Option<Thin>, SearchFault>
-    requires pattern { IsPatternIn problem.now.net.now.net problem.now.sets.now pattern.now }
-    requires within { vain.old.tried ≤ problem.now.budget }
-    ensures { TriesNext passes_Q problem.now.net.now.net problem.now.sets.now problem.now.rate problem.now.budget pattern.now
-        vain.old vain.new result }
+    requires pattern { IsPatternIn problem.now.ranking.net.now.net problem.now.ranking.sets.now pattern.now }
+    requires within { vain.old.tried ≤ problem.now.ranking.budget }
+    ensures { TriesFor problem.now pattern.now vain.old vain.new result }
 {
-    let budget = problem.budget;
+    let budget = problem.ranking.budget;
     if vain.tried == budget {
         return Err(SearchFault::Budget { tried: budget });
     }
     vain.tried += 1;
-    match try_one(alloc, problem.net, problem.sets, problem.rate, pattern) {
+    match try_one(
+        alloc,
+        problem.ranking.net,
+        problem.ranking.sets,
+        problem.rate,
+        pattern,
+    ) {
         Ok(Outcome::Accepted { flows, slopes }) => {
             let pattern = pattern.copy(alloc)?;
             Ok(Some(Thin {

@@ -6,7 +6,7 @@ ghost use Rattle.nf_model.specs.Network.{unbounded as unbounded_of};
 ghost use Rattle.nf_model.specs.ThinFlow.{IsThinFlow};
 ghost use Rattle.nf_model.specs.Pattern.{IsPattern};
 ghost use Rattle.nf_thin_laws.specs.ActiveLinks.{HoldNoCycle};
-ghost use Rattle.nf_thin.specs.Searching.{AreSetsOf};
+ghost use Rattle.nf_thin_rank.specs.Questions.{AreSetsOf};
 
 use nf_frac::Q;
 use nf_graph::{LinkSets, NodeId};

@@ -1,10 +1,10 @@
 use Rattle.std.proofs.Common.{subst}
 use Rattle.std.specs.Prelude.{Option, IfSome}
 use Rattle.nf_model.specs.Pattern.{Pattern, IsListedIn}
-use Rattle.nf_thin.proofs.Posed.{posed_pattern}
+use Rattle.nf_thin_rank.proofs.Posed.{posed_pattern}
 use Rattle.nf_thin.proofs.finding.guide_from_base.Goals as goal
 
 pub guide_of-requires-clause-first : goal.guide_of-requires-clause-first
 guide_of-requires-clause-first c =
-    let listed : IsListedIn c.args.problem.now.net.now.net c.args.problem.now.sets.now c.in-Some.near = subst (λ (found : Option Pattern). IfSome found (λ near. IsListedIn c.args.problem.now.net.now.net c.args.problem.now.sets.now near)) c.in-Some.is c.in_ok-near.ensures in
-    posed_pattern c.args.problem.now c.requires c.in-Some.near listed.states
+    let listed : IsListedIn c.args.problem.now.ranking.net.now.net c.args.problem.now.ranking.sets.now c.in-Some.near = subst (λ (found : Option Pattern). IfSome found (λ near. IsListedIn c.args.problem.now.ranking.net.now.net c.args.problem.now.ranking.sets.now near)) c.in-Some.is c.in_ok-near.ensures in
+    posed_pattern c.args.problem.now.ranking c.requires c.in-Some.near listed.states

@@ -1,8 +1,0 @@
-use Rattle.std.proofs.Common.{sym, ap, ◌∙◌}
-use Rattle.std.specs.Prelude.{Option, Some}
-use Rattle.nf_model.specs.declared.State.{State}
-use Rattle.nf_thin.proofs.Keepers.{some_state}
-use Rattle.nf_thin.proofs.families.has_state.Goals as goal
-
-pub returns : goal.returns
-returns c told = let w = some_state c.state.result (sym c.is_some.ensures ∙ told) in (w.0, c.state.ensures ∙ ap (λ (o : Option State). Some o) w.1)

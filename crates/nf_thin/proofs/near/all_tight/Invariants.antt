@@ -1,7 +1,0 @@
-use Rattle.nf_model.specs.Network.{unbounded}
-use Rattle.nf_model.specs.Pattern.{IsPattern}
-use Rattle.nf_thin.proofs.near.all_tight.Given as goal
-
--- The pattern is still a pattern.
-abbrev pub invariant-loop-e : goal.invariant-loop-e
-invariant-loop-e l = IsPattern l.problem.sets.now (unbounded l.problem.net.now.net) l.tight

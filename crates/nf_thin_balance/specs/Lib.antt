@@ -1,0 +1,4 @@
+pub mod Ranges
+pub mod Conserving
+pub mod Stating
+pub mod Scaled

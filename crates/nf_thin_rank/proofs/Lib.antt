@@ -1,0 +1,7 @@
+pub mod Hops
+pub mod Posed
+pub mod Asking
+pub mod Early
+pub mod Keepers
+pub mod Members
+pub mod Covers

@@ -1,0 +1,5 @@
+pub mod Questions
+pub mod Firming
+pub mod Posing
+pub mod Families
+pub mod Keeping
