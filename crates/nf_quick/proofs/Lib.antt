@@ -1,10 +1,3 @@
-pub mod WalkByWalk
-pub mod SpentLinks
-pub mod NodeByNode
-pub mod OnePush
-pub mod SupplyOn
-pub mod PieceByPiece
-pub mod GrowingWays
 pub mod PushByPush
 pub mod Answering
 pub mod Finishing

@@ -1,5 +1,2 @@
 pub mod Codes
-pub mod Spent
-pub mod Refused
-pub mod Ways
 pub mod Answered

@@ -3,9 +3,9 @@ ghost use Rattle.std.specs.Prelude.{◌≡◌};
 ghost use Rattle.nf_quick.specs.Answered.{of_halt};
 ghost use Rattle.nf_quick.specs.declared.fault.QuickFault.TheVariants as QuickFault;
 
-use crate::rated::Augment;
 use nf_frac::{Halt, PassedAt, Q};
 use nf_graph::LinkId;
+use nf_quick_walks::Augment;
 use std::alloc::AllocError;
 
 /// Why `quickest` returns no flow.

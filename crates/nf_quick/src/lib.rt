@@ -2,19 +2,13 @@
 //! departure by which the supply reaches an amount.
 #![tactic(auto)]
 
-mod cut;
-mod departing;
 mod fault;
-mod pushes;
 mod pushing;
 mod quick;
-mod rated;
-mod unbounded;
-mod walks;
 mod working;
 
-pub use departing::departure;
 pub use fault::QuickFault;
+pub use nf_quick_times::departure;
+pub use nf_quick_walks::{Augment, Rated};
 pub use quick::Quick;
-pub use rated::{Augment, Rated};
 pub use working::quickest;

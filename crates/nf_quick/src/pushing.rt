@@ -6,9 +6,9 @@ ghost use Rattle.nf_quick_def.specs.Flows.{IsSound};
 ghost use Rattle.nf_quick.specs.Answered.{IsPushed};
 
 use crate::fault::QuickFault;
-use crate::pushes::QuickStanding;
 use nf_frac::Q;
 use nf_net::Network;
+use nf_quick_walks::QuickStanding;
 use std::alloc::Global;
 
 /// Pushes shortest walks until none is left that is shorter than the time. Refuses with Budget exactly if `augments` walks were pushed and

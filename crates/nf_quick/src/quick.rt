@@ -1,6 +1,6 @@
 // A quickest flow as a value.
-use crate::rated::Rated;
 use nf_frac::Q;
+use nf_quick_walks::Rated;
 use std::marker::Model;
 
 /// A quickest flow. The walks are fed at their rates from time 0 until `time` minus their transit sums. `cut` has the time of each node in

@@ -13,14 +13,13 @@ ghost use Rattle.nf_quick_def.specs.Quick.{nothing as nothing_in, finish_list};
 ghost use Rattle.nf_quick_def.specs.Answers.{IsQuickFlow};
 ghost use Rattle.nf_quick.specs.Answered.{IsAnswered, IsInOrder};
 
-use crate::cut::{node_times, value_of};
 use crate::fault::QuickFault;
 use crate::pushing::push_up_to;
 use crate::quick::Quick;
-use crate::unbounded::unbounded_walk;
-use crate::walks::walks_off;
 use nf_frac::{Halt, Q};
 use nf_net::{LinkId, Network};
+use nf_quick_times::{node_times, value_of};
+use nf_quick_walks::{unbounded_walk, walks_off};
 use nf_residual::Residual;
 use std::alloc::{AllocError, Global};
 

@@ -1,5 +1,5 @@
 use Rattle.std.proofs.Common.{ℕ, ◌<◌, ◌≤◌, length, sym, subst, ◌∙◌, take_all, arith}
-use Rattle.nf_quick.proofs.WalkByWalk.{flow_more}
+use Rattle.nf_quick_walks.proofs.WalkByWalk.{flow_more}
 use Rattle.nf_quick.proofs.working.flows_of.Goals as goal
 
 pub loop-number-preserved : goal.loop-number-preserved

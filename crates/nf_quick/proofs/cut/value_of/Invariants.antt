@@ -1,6 +1,0 @@
-use Rattle.nf_frac_def.specs.Passing.{passes_Q}
-use Rattle.nf_quick.proofs.NodeByNode.{ValuesOn}
-use Rattle.nf_quick.proofs.cut.value_of.Given as goal
-
-abbrev pub invariant-loop-number : goal.invariant-loop-number
-invariant-loop-number l = ValuesOn passes_Q l.net.net.links l.cut l.value l.number

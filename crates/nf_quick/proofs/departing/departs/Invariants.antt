@@ -1,6 +1,0 @@
-use Rattle.nf_frac_def.specs.Passing.{passes_Q}
-use Rattle.nf_quick.proofs.PieceByPiece.{Comes}
-use Rattle.nf_quick.proofs.departing.departs.Given as goal
-
-abbrev pub invariant-loop-index : goal.invariant-loop-index
-invariant-loop-index l = Comes passes_Q l.net.net l.amount l.known l.index

@@ -1,5 +1,0 @@
-use Rattle.nf_quick.proofs.WalkByWalk.{LooksOn}
-use Rattle.nf_quick.proofs.walks.first_out.Given as goal
-
-abbrev pub invariant-loop-number : goal.invariant-loop-number
-invariant-loop-number l = LooksOn l.net.net.links l.node l.flows l.number

@@ -1,0 +1,3 @@
+pub mod NodeByNode
+pub mod SupplyOn
+pub mod PieceByPiece

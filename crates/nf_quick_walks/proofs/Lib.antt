@@ -1,0 +1,4 @@
+pub mod WalkByWalk
+pub mod SpentLinks
+pub mod OnePush
+pub mod GrowingWays

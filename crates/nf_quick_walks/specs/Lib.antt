@@ -1,0 +1,4 @@
+pub mod Codes
+pub mod Spent
+pub mod Refused
+pub mod Ways
