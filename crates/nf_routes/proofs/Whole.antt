@@ -13,13 +13,14 @@ use Rattle.nf_check_def.specs.Curves.{departures}
 use Rattle.nf_curve.proofs.Exits.{after_err, after_ok}
 use Rattle.nf_routes_def.specs.Routes.{Route}
 use Rattle.nf_routes_def.specs.RoutesList.{SoFar, Routed, end_or, loaded_or, but_last, last_entry, travel_on, routes_list}
-use Rattle.nf_routes.specs.Beginning.{all_loaded}
-use Rattle.nf_routes.specs.Keeping.{last_alone, kept_after, kept_result}
-use Rattle.nf_routes.specs.declared.keeping.Kept.{Kept}
-use Rattle.nf_routes.specs.declared.keeping.Kept.TheVariants.{Every, Last}
-use Rattle.nf_routes.specs.Travels.{travel_along}
-use Rattle.nf_routes.proofs.Alone.{last_of_all}
-use Rattle.nf_routes.proofs.Travelling.{travel_on-is, each_same}
+use Rattle.nf_routes_links.specs.Beginning.{all_loaded}
+use Rattle.nf_routes_links.specs.Keeping.{last_alone, kept_after}
+use Rattle.nf_routes_links.specs.declared.keeping.Kept.{Kept}
+use Rattle.nf_routes_links.specs.declared.keeping.Kept.TheVariants.{Every, Last}
+use Rattle.nf_routes_links.specs.Travels.{travel_along}
+use Rattle.nf_routes_links.proofs.Alone.{last_of_all}
+use Rattle.nf_routes_links.proofs.Travelling.{travel_on-is, each_same}
+use Rattle.nf_routes.specs.KeptList.{kept_result}
 
 module _ (passes : Passing) (net : Network) (routes : List Route) (horizon : ℚ) where
   abbrev pub ended_as : SoFar → List (List Point) → Routed

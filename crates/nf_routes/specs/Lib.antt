@@ -1,9 +1,3 @@
-pub mod Amounts
-pub mod Points
-pub mod Codes
-pub mod Beginning
-pub mod Standing
-pub mod Travels
+pub mod KeptList
 pub mod Routed
-pub mod Keeping
 pub mod Carried

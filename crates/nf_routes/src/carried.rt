@@ -11,12 +11,12 @@ ghost use Rattle.nf_routes_def.specs.Meanings.{IsRouted, RoutesArrive};
 ghost use Rattle.nf_routes_def.specs.RoutesFile.{routes_of};
 ghost use Rattle.nf_routes.specs.Carried.{carried_of};
 
-use crate::keeping::Kept;
 use crate::routed::load_kept;
 use nf_curve::Curve;
 use nf_frac::{Halt, Q};
 use nf_load::Loaded;
 use nf_net::Network;
+use nf_routes_links::Kept;
 use nf_routes_read::Routes;
 use std::alloc::Global;
 

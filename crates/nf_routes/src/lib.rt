@@ -3,16 +3,7 @@
 #![tactic(auto)]
 
 mod carried;
-mod ends;
-mod entries;
-mod keeping;
-mod loading;
-mod next;
-mod points;
 mod routed;
-mod so_far;
-mod stages;
-mod travels;
 
 pub use carried::{Carried, carry_routes};
 pub use nf_routes_read::{Routes, RoutesFault, RoutesRule, parse_routes};

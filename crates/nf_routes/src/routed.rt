@@ -11,19 +11,15 @@ ghost use Rattle.nf_routes_def.specs.RoutesList.{end_or, loaded_or, but_last, la
 ghost use Rattle.nf_routes_def.specs.Meanings.{IsRouted, RoutesArrive};
 ghost use Rattle.nf_routes_def.specs.RoutesFile.{routes_of};
 ghost use Rattle.nf_load.specs.Loadings.{loaded_of};
-ghost use Rattle.nf_routes.specs.Keeping.{kept_list};
-ghost use Rattle.nf_routes.specs.Standing.{AreLoaded, HaveSent};
+ghost use Rattle.nf_routes_links.specs.Standing.{AreLoaded, HaveSent};
+ghost use Rattle.nf_routes.specs.KeptList.{kept_list};
 ghost use Rattle.nf_routes.specs.Routed.{routed_of};
 
-use crate::keeping::Kept;
-use crate::loading::load_all;
-use crate::so_far::LoadedLink;
-use crate::stages::Stages;
-use crate::travels::travels;
 use nf_curve::Curve;
 use nf_frac::{Halt, Q};
 use nf_load::Loaded;
 use nf_net::Network;
+use nf_routes_links::{Kept, LoadedLink, Stages, load_all, travels};
 use nf_routes_read::Routes;
 use std::alloc::{AllocError, Global};
 

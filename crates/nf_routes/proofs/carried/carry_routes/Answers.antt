@@ -7,8 +7,8 @@ use Rattle.nf_frac_def.specs.Checked.{at_part}
 use Rattle.nf_curve.proofs.Exits.{stops_on, was_ok, err_before, ok_before}
 use Rattle.nf_routes_def.specs.RoutesFile.{routes_of}
 use Rattle.nf_routes_def.specs.RoutesList.{routes_list}
-use Rattle.nf_routes.specs.Keeping.{kept_result, kept_list}
-use Rattle.nf_routes.specs.declared.keeping.Kept.TheVariants.{Last}
+use Rattle.nf_routes_links.specs.declared.keeping.Kept.TheVariants.{Last}
+use Rattle.nf_routes.specs.KeptList.{kept_result, kept_list}
 use Rattle.nf_routes.specs.Carried.{entries_or}
 use Rattle.nf_routes.specs.Routed.{routed_of}
 use Rattle.nf_routes.proofs.Whole.{entries_in, with_all}

@@ -8,7 +8,7 @@ use Rattle.nf_rational.specs.Rational.{ℚ}
 use Rattle.nf_frac_def.specs.Passing.{passes_Q}
 use Rattle.nf_load.specs.Loadings.{loaded_of}
 use Rattle.nf_routes_def.specs.RoutesList.{LoadedLink, end_or, loaded_or}
-use Rattle.nf_routes.proofs.Lists.{same_pushed}
+use Rattle.nf_routes_links.proofs.Lists.{same_pushed}
 use Rattle.nf_routes.proofs.routed.ended.Goals as goal
 
 pub loop-link-init : goal.loop-link-init

@@ -15,11 +15,12 @@ use Rattle.nf_routes_def.specs.RoutesList.{SoFar, loaded_or, routes_list}
 use Rattle.nf_routes_laws.proofs.Arriving.{arrive}
 use Rattle.nf_routes_laws.proofs.Routed.{routes_list-is}
 use Rattle.nf_routes_laws.proofs.FileKept.{are_routes}
-use Rattle.nf_routes.specs.Keeping.{kept_result, all_kept}
-use Rattle.nf_routes.specs.Standing.{seen_so_far}
-use Rattle.nf_routes.specs.Travels.{HaveExits, GoOverAll, travel_along}
-use Rattle.nf_routes.proofs.Travelling.{complete_exits, complete_over}
-use Rattle.nf_routes.proofs.All.{kept_stops, whole_of}
+use Rattle.nf_routes_links.specs.Keeping.{all_kept}
+use Rattle.nf_routes_links.specs.Standing.{seen_so_far}
+use Rattle.nf_routes_links.specs.Travels.{HaveExits, GoOverAll, travel_along}
+use Rattle.nf_routes_links.proofs.Travelling.{complete_exits, complete_over}
+use Rattle.nf_routes_links.proofs.All.{kept_stops, whole_of}
+use Rattle.nf_routes.specs.KeptList.{kept_result}
 use Rattle.nf_routes.proofs.Whole.{ended_as, load_stops, travel_stops, list_comes, same_parts, kept_ended, kept_links}
 use Rattle.nf_routes.proofs.routed.load_kept.Goals as goal
 

@@ -9,7 +9,7 @@ use Rattle.nf_routes_def.specs.Meanings.{IsRouted, RoutesArrive}
 use Rattle.nf_routes_def.specs.RoutesFile.{routes_of}
 use Rattle.nf_routes_def.specs.RoutesList.{Routed, routes_list}
 use Rattle.nf_routes.specs.Routed.{routed_of}
-use Rattle.nf_routes.proofs.Sharing.{gives_ok}
+use Rattle.nf_routes_links.proofs.Sharing.{gives_ok}
 use Rattle.nf_routes.proofs.Whole.{all_of}
 use Rattle.nf_routes.proofs.routed.load_routes.Goals as goal
 

@@ -1,8 +1,0 @@
-use Rattle.nf_frac_def.specs.Passing.{passes_Q}
-use Rattle.nf_routes_def.specs.RoutesList.{begins_with, begin_if}
-use Rattle.nf_routes_def.specs.RoutesFile.{routes_of}
-use Rattle.nf_routes.proofs.Folds.{Steps}
-use Rattle.nf_routes.proofs.entries.begin_all.Given as goal
-
-abbrev pub invariant-loop-i : goal.invariant-loop-i
-invariant-loop-i l = Steps (λ route sent. begin_if passes_Q (begins_with route.links l.link) l.horizon route sent) (routes_of l.routes) l.fn.entries l.entries l.i

@@ -1,9 +1,0 @@
-use Rattle.std.proofs.Common.{[], ◌∷◌}
-use Rattle.nf_rational.specs.Operations.{0ℚ}
-use Rattle.nf_frac_def.specs.Passing.{passes_Q}
-use Rattle.nf_routes_def.specs.RoutesFile.{routes_of}
-use Rattle.nf_routes.proofs.Folds.{Sums}
-use Rattle.nf_routes.proofs.entries.inflow_of.Given as goal
-
-abbrev pub invariant-loop-i : goal.invariant-loop-i
-invariant-loop-i l = Sums passes_Q l.link ((0ℚ, 0ℚ) ∷ []) (routes_of l.routes) l.entries l.total.points l.i

@@ -1,5 +1,0 @@
-use Rattle.std.proofs.Common.{rules}
-use Rattle.nf_routes.proofs.entries.with_entry.Goals as goal
-
-pub returns-then-goes_over : goal.returns-then-goes_over
-returns-then-goes_over c = search rules

@@ -1,6 +1,0 @@
-use Rattle.std.proofs.Common.{◌≡◌, ◌++◌, length, map, take, drop}
-use Rattle.nf_routes.specs.Keeping.{last_alone}
-use Rattle.nf_routes.proofs.keeping.keep_last_all.Given as goal
-
-abbrev pub invariant-loop-i : goal.invariant-loop-i
-invariant-loop-i l = (l.entries ≡ map last_alone (take l.i l.fn.entries) ++ drop l.i l.fn.entries) × (length l.entries ≡ length l.fn.entries)

@@ -1,8 +1,0 @@
-use Rattle.nf_frac_def.specs.Passing.{passes_Q}
-use Rattle.nf_routes_def.specs.RoutesFile.{routes_of}
-use Rattle.nf_routes.specs.Standing.{seen_so_far}
-use Rattle.nf_routes.proofs.All.{Loads}
-use Rattle.nf_routes.proofs.loading.load_all.Given as goal
-
-abbrev pub invariant-loop-link : goal.invariant-loop-link
-invariant-loop-link l = Loads passes_Q l.kept l.net.net (routes_of l.routes) l.horizon l.link-items (seen_so_far l.so_far) l.link-index

@@ -1,9 +1,0 @@
-use Rattle.std.proofs.Common.{sym, ap}
-use Rattle.nf_frac_def.specs.declared.Part.TheVariants.{Load}
-use Rattle.nf_frac_def.specs.Checked.{at_part}
-use Rattle.nf_curve.specs.Sides.{sides_of}
-use Rattle.nf_routes.proofs.Knowing.{sides_there}
-use Rattle.nf_routes.proofs.next.sides_near.Goals as goal
-
-pub returns-in-Some : goal.returns-in-Some
-returns-in-Some c = sym (ap (at_part Load) (sides_there c.args.left.now c.args.right.now c.args.known.now c.args.moment.now.time (sides_of c.in-Some.sides) c.requires.left c.requires.known c.in-Some.ensures))

@@ -1,6 +1,0 @@
-use Rattle.std.proofs.Common.{◌≡◌, take}
-use Rattle.nf_routes.specs.Beginning.{nothing_loaded}
-use Rattle.nf_routes.proofs.so_far.no_links.Given as goal
-
-abbrev pub invariant-loop : goal.invariant-loop
-invariant-loop l = l.links.items ≡ nothing_loaded (take l.counter l.net.net.links)

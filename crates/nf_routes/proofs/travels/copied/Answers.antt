@@ -1,6 +1,0 @@
-use Rattle.std.proofs.Common.{List, sym, subst}
-use Rattle.nf_model.specs.Curve.{Point, IsCurve}
-use Rattle.nf_routes.proofs.travels.copied.Goals as goal
-
-pub of_points-requires : goal.of_points-requires
-of_points-requires c = subst (λ (l : List Point). IsCurve l) (sym c.in_ok-points.ensures) c.as_points.ensures.curve

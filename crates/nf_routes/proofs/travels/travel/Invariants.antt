@@ -1,8 +1,0 @@
-use Rattle.std.proofs.Common.{map}
-use Rattle.nf_frac_def.specs.Passing.{passes_Q}
-use Rattle.nf_load.specs.Loadings.{loaded_of}
-use Rattle.nf_routes.proofs.Travelling.{Travels}
-use Rattle.nf_routes.proofs.travels.travel.Given as goal
-
-abbrev pub invariant-loop-link : goal.invariant-loop-link
-invariant-loop-link l = Travels passes_Q l.horizon (map loaded_of l.links) l.route.route.links l.travel.points l.link-index

@@ -1,7 +1,0 @@
-use Rattle.std.proofs.Common.{map}
-use Rattle.nf_load.specs.Loadings.{loaded_of}
-use Rattle.nf_routes.proofs.Repeating.{AllTravels}
-use Rattle.nf_routes.proofs.travels.travels.Given as goal
-
-abbrev pub invariant-loop : goal.invariant-loop
-invariant-loop l = AllTravels l.horizon (map loaded_of l.links) l.routes (map (λ c. c.points) l.travels.items) l.counter

@@ -1,0 +1,99 @@
+-- Values that are those of points are known.
+use Rattle.std.proofs.Common.{◌≡◌, ◌≢◌, ⊎_elim, ℕ, zero, suc, List, [], ◌∷◌, map, Bool, true, false, refl, sym, ap, subst, ◌∙◌}
+use Rattle.std.specs.Prelude.{Some, Ok, slice_get, if◌then◌else◌}
+use Rattle.nf_rational.specs.Rational.{ℚ}
+use Rattle.nf_rational.specs.Order.{◌≤ℚ◌, ◌<ℚ◌, lt_ℚ}
+use Rattle.nf_rational.specs.Signs.{is_same}
+use Rattle.nf_rational_laws.proofs.Chains.{≤ℚ_trans}
+use Rattle.nf_rational_laws.proofs.Order.{≤ℚ_of_lt, ≤ℚ_of_same, <ℚ_irrefl, not_both_ℚ}
+use Rattle.nf_rational_laws.proofs.Results.{same_Ok}
+use Rattle.nf_rational_laws.proofs.Tests.{lt_ℚ_cases}
+use Rattle.nf_frac_def.specs.Passing.{Passing, passes_Q}
+use Rattle.nf_frac_def.specs.Checked.{Checked, each, ◌>>=◌}
+use Rattle.nf_model.specs.Curve.{Point, TimesRise, IsCurve}
+use Rattle.nf_model_laws.proofs.Affine.{<_≤_trans}
+use Rattle.nf_curve_def.specs.Lines.{Sides, checked_line}
+use Rattle.nf_curve_def.specs.Sums.{sides_at}
+use Rattle.nf_curve_def.specs.Times.{both_times}
+use Rattle.nf_curve_def.specs.Values.{value_from, checked_value}
+use Rattle.nf_curve_laws.proofs.Operations.{then_ok, is_same_cases}
+use Rattle.nf_routes_links.specs.Points.{AreKnown, AreThere, right_point}
+
+-- ---- the value at the time of a point
+from_first : (p : Point) (rest : List Point) (i : ℕ) (q : Point) → TimesRise (p ∷ rest) → slice_get (p ∷ rest) i ≡ Some q → p.0 ≤ℚ q.0
+from_first p rest zero q r h = let same : p ≡ q = cc in ≤ℚ_of_same p.0 q.0 (ap (λ (x : Point). x.0) same)
+from_first p [] (suc i) q r h = absurd (cc)
+from_first p (s ∷ rest) (suc i) q r h = ≤ℚ_trans _ _ _ (≤ℚ_of_lt _ _ r.0) (from_first s rest i q r.1 h)
+
+same_test : (x : ℚ) → is_same x x ≡ true
+same_test x = ⊎_elim (λ (w : (is_same x x ≡ true) × (x ≡ x)). w.0) (λ (w : (is_same x x ≡ false) × (x ≢ x)). absurd (w.1 refl)) (is_same_cases x x)
+
+later_test : (x y : ℚ) → y <ℚ x → is_same x y ≡ false
+later_test x y h = ⊎_elim
+    (λ (w : (is_same x y ≡ true) × (x ≡ y)). absurd (<ℚ_irrefl y (subst (λ (z : ℚ). y <ℚ z) w.1 h)))
+    (λ (w : (is_same x y ≡ false) × (x ≢ y)). w.0)
+    (is_same_cases x y)
+
+past_test : (x y : ℚ) → y ≤ℚ x → lt_ℚ x y ≡ false
+past_test x y h = ⊎_elim
+    (λ (w : (lt_ℚ x y ≡ true) × (x <ℚ y)). absurd (not_both_ℚ x y w.1 h))
+    (λ (w : (lt_ℚ x y ≡ false) × (y ≤ℚ x)). w.0)
+    (lt_ℚ_cases x y)
+
+module _ (passes : Passing) where
+  at_first : (p : Point) (rest : List Point) → value_from passes p rest p.0 ≡ Ok p.1
+  at_first p [] = refl
+  at_first p (s ∷ rest) = ap (λ (b : Bool). if b then Ok p.1 else (if lt_ℚ p.0 s.0 then checked_line passes p s p.0 else value_from passes s rest p.0)) (same_test p.0)
+
+  at_later : (p : Point) (rest : List Point) (i : ℕ) (q : Point) → TimesRise (p ∷ rest) → slice_get (p ∷ rest) i ≡ Some q → value_from passes p rest q.0 ≡ Ok q.1
+  at_later p rest zero q r h = let same : p ≡ q = cc in subst (λ (x : Point). value_from passes p rest x.0 ≡ Ok x.1) same (at_first p rest)
+  at_later p [] (suc i) q r h = absurd (cc)
+  at_later p (s ∷ rest) (suc i) q r h =
+      let from : s.0 ≤ℚ q.0 = from_first s rest i q r.1 h in
+      ap (λ (b : Bool). if b then Ok p.1 else (if lt_ℚ q.0 s.0 then checked_line passes p s q.0 else value_from passes s rest q.0)) (later_test q.0 p.0 (<_≤_trans _ _ _ r.0 from))
+      ∙ ap (λ (b : Bool). if b then checked_line passes p s q.0 else value_from passes s rest q.0) (past_test q.0 s.0 from)
+      ∙ at_later s rest i q r.1 h
+
+  pub value_at-point : (points : List Point) (i : ℕ) (q : Point) → IsCurve points → slice_get points i ≡ Some q → checked_value passes points q.0 ≡ Ok q.1
+  unfolding checked_value
+  value_at-point [] i q c h = absurd c
+  value_at-point (p ∷ rest) i q c h = at_later p rest i q c.1 h
+
+  -- ---- both values, by each of them
+  pub sides_of-values : (left right : List Point) (time l r : ℚ) → checked_value passes left time ≡ Ok l → checked_value passes right time ≡ Ok r
+      → sides_at passes left right time ≡ Ok (record { time = time; left = l; right = r })
+  sides_of-values left right time l r h k =
+      ap (λ (v : Checked ℚ). v >>= λ l. checked_value passes right time >>= λ r. Ok (record { time = time; left = l; right = r })) h
+      ∙ ap (λ (v : Checked ℚ). v >>= λ r. Ok (record { time = time; left = l; right = r })) k
+
+pub sides_there : (left right known : List Point) (time : ℚ) (sides : Sides) → IsCurve left → AreKnown right known → AreThere left known time sides → sides_at passes_Q left right time ≡ Ok sides
+sides_there left right known time sides c are there =
+    sides_of-values passes_Q left right time sides.left sides.right (value_at-point passes_Q left there.left_is.place (time, sides.left) c there.left_is.is)
+    (are.each there.right_is.place (time, sides.right) there.right_is.is)
+    ∙ ap (λ (t : ℚ). Ok (record { time = t; left = sides.left; right = sides.right })) (sym there.time_is)
+
+-- ---- exits that were computed are known
+pub known_first : (exit known : List Point) → IsCurve exit → known ≡ exit → AreKnown exit known
+known_first exit known c e = subst (λ (l : List Point). AreKnown exit l) (sym e) (record { each = λ i p h. value_at-point passes_Q exit i p c h })
+
+one_known : (exit : List Point) (time l r : ℚ) (sides : List Sides) → checked_value passes_Q exit time ≡ Ok r → AreKnown exit (map right_point sides)
+    → AreKnown exit (map right_point (record { time = time; left = l; right = r } ∷ sides))
+one_known exit time l r sides h c = record { each = λ i p k. at i p k }
+  where
+    at : (i : ℕ) (p : Point) → slice_get ((time, r) ∷ map right_point sides) i ≡ Some p → checked_value passes_Q exit p.0 ≡ Ok p.1
+    at zero p k = let same : ◌≡◌ {A = Point} (time, r) p = cc in subst (λ (x : Point). checked_value passes_Q exit x.0 ≡ Ok x.1) same h
+    at (suc i) p k = c.each i p k
+
+known_all : (entry exit : List Point) (times : List ℚ) (sides : List Sides) → each (sides_at passes_Q entry exit) times ≡ Ok sides → AreKnown exit (map right_point sides)
+known_all entry exit [] sides e = subst (λ (l : List Sides). AreKnown exit (map right_point l)) (same_Ok _ _ e) (record { each = λ i p k. absurd (cc) })
+known_all entry exit (time ∷ times) sides e =
+    let s = then_ok (sides_at passes_Q entry exit time) _ sides e in
+    let more = then_ok (each (sides_at passes_Q entry exit) times) _ sides s.next in
+    let l = then_ok (checked_value passes_Q entry time) _ s.between s.first in
+    let r = then_ok (checked_value passes_Q exit time) _ s.between l.next in
+    subst (λ (z : List Sides). AreKnown exit (map right_point z)) (same_Ok _ _ more.next)
+    (subst (λ (z : Sides). AreKnown exit (map right_point (z ∷ more.between))) (same_Ok _ _ r.next)
+    (one_known exit time l.between r.between more.between r.first (known_all entry exit times more.between more.first)))
+
+pub known_next : (entry exit : List Point) (sides : List Sides) → each (sides_at passes_Q entry exit) (both_times entry exit) ≡ Ok sides → AreKnown exit (map right_point sides)
+known_next entry exit sides e = known_all entry exit (both_times entry exit) sides e

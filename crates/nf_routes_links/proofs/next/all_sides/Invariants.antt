@@ -1,0 +1,19 @@
+use Rattle.std.proofs.Common.{◌≡◌, length, map}
+use Rattle.nf_frac_def.specs.Passing.{passes_Q}
+use Rattle.nf_frac_def.specs.Checked.{each}
+use Rattle.nf_frac_def.proofs.Each.{with_front}
+use Rattle.nf_curve_def.specs.Times.{both_times}
+use Rattle.nf_curve_def.specs.Sums.{sides_at}
+use Rattle.nf_curve.specs.Sides.{sides_of}
+use Rattle.nf_curve.specs.Moments.{IsThere, times_left}
+use Rattle.nf_routes_links.proofs.next.all_sides.Given as goal
+
+-- the sides so far, and those at the times to come
+abbrev pub invariant-loop-now : goal.invariant-loop-now
+invariant-loop-now l = record {
+  there : IsThere l.left l.right l.now;
+  so_far : with_front (map sides_of l.all.items) (each (sides_at passes_Q l.left l.right) (times_left l.left l.right l.now)) ≡ each (sides_at passes_Q l.left l.right) (both_times l.left l.right);
+}
+
+abbrev pub decreases-loop-now : goal.decreases-loop-now
+decreases-loop-now l = length (times_left l.left l.right l.now)
