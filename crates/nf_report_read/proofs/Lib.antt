@@ -1,10 +1,3 @@
-pub mod KeyNumbers
-pub mod WordCounts
-pub mod DraftSteps
-pub mod LastPoints
 pub mod LineByLine
 pub mod Accepted
 pub mod Sorting
-pub mod BodyLines
-pub mod PlainNumbers
-pub mod HeadLines

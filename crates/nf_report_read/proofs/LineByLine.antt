@@ -12,9 +12,9 @@ use Rattle.nf_report_def.specs.ReportLines.{ReportDraft, report_line, empty_repo
 use Rattle.nf_report_def.specs.ReportFile.{ReportBroken, next_words, in_report_line, report_lines_from, report_draft, if_at_end, as_report_rule, report_by_bytes, report_in}
 use Rattle.nf_report_read.specs.declared.fault.ReportFault.{ReportFault}
 use Rattle.nf_report_read.specs.declared.report.Report.{Report}
-use Rattle.nf_report_read.specs.declared.draft.Draft.{Draft}
-use Rattle.nf_report_read.specs.Drafts.{seen_draft, seen_stage}
-use Rattle.nf_report_read.specs.Lines.{words_behind}
+use Rattle.nf_report_lines.specs.declared.draft.Draft.{Draft}
+use Rattle.nf_report_lines.specs.Drafts.{seen_draft, seen_stage}
+use Rattle.nf_report_lines.specs.Lines.{words_behind}
 use Rattle.nf_report_read.specs.Files.{IfBroken, closed_by}
 
 -- of a rule that is broken, what follows

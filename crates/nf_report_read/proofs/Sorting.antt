@@ -12,13 +12,13 @@ use Rattle.nf_net.proofs.Limits.{few_nodes, few_idle_nodes, few_link_names}
 use Rattle.nf_report_def.specs.ReportLines as lines
 use Rattle.nf_report_def.specs.ReportLines.{CurveKey, ReadCurve, key_of, key_word, curve_keys, OfNever}
 use Rattle.nf_report_def.specs.ReportFile.{curves_of}
-use Rattle.nf_report_read.specs.Keys.{key_at, key_of_number, seen_key, seen_kind}
-use Rattle.nf_report_read.specs.declared.keys.Key.{Key}
-use Rattle.nf_report_read.specs.Drafts.{seen_curve, seen_done}
+use Rattle.nf_report_lines.specs.Keys.{key_at, key_of_number, seen_key, seen_kind}
+use Rattle.nf_report_lines.specs.declared.keys.Key.{Key}
+use Rattle.nf_report_lines.specs.Drafts.{seen_curve, seen_done}
 use Rattle.nf_report_read.specs.declared.report.Sorted.{Sorted}
 use Rattle.nf_report_read.specs.Sorted.{AreSorted}
-use Rattle.nf_report_read.proofs.KeyNumbers.{length_curve_keys}
-use Rattle.nf_report_read.proofs.DraftSteps.{pushed}
+use Rattle.nf_report_lines.proofs.KeyNumbers.{length_curve_keys}
+use Rattle.nf_report_lines.proofs.DraftSteps.{pushed}
 
 -- the key of a number that has one
 module _ (n : Named) (index : ℕ) (key : Key) (is : option_map seen_key (Some key) ≡ key_of_number n index) where

@@ -2,17 +2,7 @@
 //! exact fractions. The file format is this project's own.
 #![tactic(auto)]
 
-mod body;
-mod causes;
-mod draft;
-mod entry;
 mod fault;
-mod head;
-mod keys;
-mod lines;
-mod numbers;
-mod opening;
-mod plain_numbers;
 mod reading;
 mod report;
 

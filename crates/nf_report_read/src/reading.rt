@@ -1,18 +1,21 @@
 // Parsing a report.
 ghost use Rattle.std.specs.Prelude.{◌≡◌, ◌≤◌, [], ◌∷◌, map, length, option_map, IfOk, IfErr, OnOk, MatchOption, MatchResult, Result};
+ghost use Rattle.std.specs.Option.{option_copied};
 ghost use Rattle.nf_text_def.specs.Words.{read_line};
 ghost use Rattle.nf_text_def.specs.Faults.{first_fault_of, longest_text};
 ghost use Rattle.nf_net_def.specs.Report.{Report as SeenReport, IsWellFormed, report_text};
-ghost use Rattle.nf_report_def.specs.ReportFile.{ReportBroken, as_report_rule, report_by_bytes, report_lines_from, if_at_end, report_in};
+ghost use Rattle.nf_report_def.specs.ReportLines.{report_line};
+ghost use Rattle.nf_report_def.specs.ReportFile.{ReportBroken, as_report_rule, in_report_line, report_by_bytes, report_lines_from, if_at_end, report_in};
 ghost use Rattle.nf_report_laws.specs.Readable.{IsReadable};
-ghost use Rattle.nf_report_read.specs.Drafts.{seen_draft, seen_stage, IsWithin};
+ghost use Rattle.nf_report_lines.specs.Lines.{words_behind};
+ghost use Rattle.nf_report_lines.specs.Drafts.{seen_draft, seen_stage, IsWithin};
 ghost use Rattle.nf_report_read.specs.Files.{IfBroken, report_of, closed_by, Shows};
 
-use crate::draft::Draft;
 use crate::fault::ReportFault;
-use crate::report::Report;
+use crate::report::{Report, report_at_end};
 use nf_net::Network;
 use nf_report_def::ReportRule;
+use nf_report_lines::Draft;
 use nf_text::{Cursor, ReadLine, TextFault};
 use std::alloc::Global;
 
@@ -66,6 +69,33 @@ fn first_broken(alloc: Global, cursor: &mut Cursor, fault: ReportFault) -> Repor
     }
 }
 
+// Applies a line to the state. Fails with the first of P3 to P14 that the line breaks, and the line's number, or if an allocation fails.
+// `next` is the line after it.
+fn add_line(
+    alloc: Global,
+    net: &Network,
+    draft: &mut Draft,
+    line: &ReadLine,
+    next: Option<&ReadLine>,
+) -> Result<(), ReportFault>
+    requires { IsWithin net.now draft.old }
+    ensures adds { let read = in_report_line line.now.number
+        (report_line net.now (seen_draft net.now draft.old) line.now.plain (words_behind (option_copied next.entry)) line.now.words) in
+        MatchResult result (λ _. read ≡ Ok (seen_draft net.now draft.new)) (λ fault. IfBroken fault (λ broken. read ≡ Err broken)) }
+    ensures within { OnOk result (IsWithin net.now draft.new) }
+{
+    match draft.read_entry(net, line, next) {
+        Ok(entry) => {
+            draft.add(alloc, net, &entry)?;
+            Ok(())
+        }
+        Err(rule) => Err(ReportFault::Broken {
+            rule,
+            line: line.number(),
+        }),
+    }
+}
+
 // Applies this line and all further lines to the state. Each line is read together with the line after it.
 fn add_lines(
     alloc: Global,
@@ -89,7 +119,7 @@ fn add_lines(
             Ok(next) => next,
             Err(fault) => return Err(fault),
         };
-        match draft.add_line(alloc, net, &current, next.as_ref()) {
+        match add_line(alloc, net, draft, &current, next.as_ref()) {
             Ok(()) => {}
             Err(fault) => return Err(first_broken(alloc, cursor, fault)),
         }
@@ -130,7 +160,7 @@ fn read_report(alloc: Global, net: &Network, text: &[u8]) -> Result<Report, Repo
         (λ fault. IfBroken fault (λ broken. report_in net.now text.now ≡ Err broken)) }
 {
     match read_draft(alloc, net, text) {
-        Ok(draft) => draft.report(alloc, net),
+        Ok(draft) => report_at_end(alloc, net, draft),
         Err(fault) => Err(fault),
     }
 }

@@ -2,19 +2,18 @@
 ghost use Rattle.std.specs.Prelude.{◌≡◌, ◌≤◌, List, [], ◌∷◌, ◌++◌, length, None, IfOk, OnOk, MatchResult};
 ghost use Rattle.nf_report_def.specs.ReportLines.{CurveKey, ReadCurve, OfNever, curve_keys};
 ghost use Rattle.nf_report_def.specs.ReportFile.{if_at_end};
-ghost use Rattle.nf_report_read.specs.Keys.{seen_kind};
-ghost use Rattle.nf_report_read.specs.Drafts.{seen_draft, seen_curve, seen_done, LacksIdleOnly, IsWithin};
+ghost use Rattle.nf_report_lines.specs.Keys.{seen_kind};
+ghost use Rattle.nf_report_lines.specs.Drafts.{seen_draft, seen_curve, seen_done, LacksIdleOnly, IsWithin};
 ghost use Rattle.nf_report_read.specs.Files.{IfBroken, report_of};
 ghost use Rattle.nf_report_read.specs.Sorted.{AreSorted};
 
-use crate::draft::{Draft, Stage};
 use crate::fault::ReportFault;
-use crate::keys::{Kind, key_at};
 use nf_curve::{Curve, Flow, Stop, Trace};
 use nf_frac::Q;
 use nf_net::Network;
 use nf_pattern::Pattern;
 use nf_report_def::ReportRule;
+use nf_report_lines::{Draft, Kind, Stage, key_at};
 use std::alloc::{AllocError, Global};
 
 /// A report of a run. `stopped` is the cause of a stop before the horizon, and `last` holds the states of the links in the last phase.
@@ -92,32 +91,34 @@ fn by_kind(alloc: Global, net: &Network, curves: Vec<Option<Trace>>) -> Result<S
     Ok(sorted)
 }
 
-impl Draft {
-    /// Returns the report. Fails with P14 if no `end` line was read, or if an allocation fails.
-    pub fn report(self, alloc: Global, net: &Network) -> Result<Report, ReportFault>
-        requires { IsWithin net.now self }
-        ensures { let draft = seen_draft net.now self in
-            MatchResult result (λ report. if_at_end draft.stage draft ≡ Ok (report_of report))
-            (λ fault. IfBroken fault (λ broken. if_at_end draft.stage draft ≡ Err broken)) }
-    {
-        if !matches!(self.stage, Stage::End) {
-            return Err(ReportFault::Broken {
-                rule: ReportRule::P14,
-                line: 0,
-            });
-        }
-        let sorted = by_kind(alloc, net, self.done)?;
-        Ok(Report {
-            horizon: self.horizon,
-            flow: Flow {
-                reached: self.reached,
-                labels: sorted.labels,
-                inflows: sorted.inflows,
-                outflows: sorted.outflows,
-                queues: sorted.queues,
-            },
-            stopped: self.stop,
-            last: self.states,
-        })
+/// Returns the report of the parser state at the end of the text. Fails with P14 if no `end` line was read, or if an allocation fails.
+pub(crate) fn report_at_end(
+    alloc: Global,
+    net: &Network,
+    draft: Draft,
+) -> Result<Report, ReportFault>
+    requires { IsWithin net.now draft }
+    ensures { let read = seen_draft net.now draft in
+        MatchResult result (λ report. if_at_end read.stage read ≡ Ok (report_of report))
+        (λ fault. IfBroken fault (λ broken. if_at_end read.stage read ≡ Err broken)) }
+{
+    if !matches!(draft.stage, Stage::End) {
+        return Err(ReportFault::Broken {
+            rule: ReportRule::P14,
+            line: 0,
+        });
     }
+    let sorted = by_kind(alloc, net, draft.done)?;
+    Ok(Report {
+        horizon: draft.horizon,
+        flow: Flow {
+            reached: draft.reached,
+            labels: sorted.labels,
+            inflows: sorted.inflows,
+            outflows: sorted.outflows,
+            queues: sorted.queues,
+        },
+        stopped: draft.stop,
+        last: draft.states,
+    })
 }

@@ -2,8 +2,8 @@ use Rattle.std.proofs.Common.{◌≡◌, ◌<◌, suc, ◌∷◌, length, map, O
 use Rattle.nf_text_def.specs.Words.{ReadLine, read_line}
 use Rattle.nf_text_def.specs.Faults.{LineFault, first_fault_of}
 use Rattle.nf_report_def.specs.ReportFile.{as_report_rule, report_by_bytes, report_lines_from}
-use Rattle.nf_report_read.specs.Lines.{words_behind}
-use Rattle.nf_report_read.specs.Drafts.{seen_draft}
+use Rattle.nf_report_lines.specs.Lines.{words_behind}
+use Rattle.nf_report_lines.specs.Drafts.{seen_draft}
 use Rattle.nf_report_read.specs.Files.{closed_by}
 use Rattle.nf_report_read.proofs.LineByLine.{from_line, count_from, broken_more, next_lines, next_faults, next_ends, next_behind, next_count, line_adds, line_breaks, fault_breaks, loop_ends}
 use Rattle.nf_report_read.proofs.reading.add_lines.Goals as goal
@@ -47,7 +47,7 @@ loop-line-preserved c =
     let n = c.args.net.now in
     let whole = report_lines_from n (seen_draft n c.args.draft.now) (c.args.first ∷ map read_line c.args.cursor.now) in
     let draft = seen_draft n c.loop-line.draft in
-    let next = seen_draft n c.add_line.new.self in
+    let next = seen_draft n c.add_line.new.draft in
     let so : report_lines_from n draft (c.in-Some.current ∷ map read_line c.loop-line.cursor) ≡ whole =
     subst (λ (o : Option ReadLine). report_lines_from n draft (from_line o c.loop-line.cursor) ≡ whole) c.in-Some.is c.loop-line.invariant.0 in
     let same = ap words_behind c.as_ref.ensures.value ∙ next_behind c.loop-line.cursor c.next_line.new.cursor c.in-Ok.next c.in-Ok.ensures.line in (

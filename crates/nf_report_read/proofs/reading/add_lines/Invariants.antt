@@ -2,7 +2,7 @@ use Rattle.std.proofs.Common.{◌≡◌, ◌∷◌, map}
 use Rattle.nf_text_def.specs.Words.{read_line}
 use Rattle.nf_text_def.specs.Faults.{first_fault_of}
 use Rattle.nf_report_def.specs.ReportFile.{report_lines_from}
-use Rattle.nf_report_read.specs.Drafts.{seen_draft, IsWithin}
+use Rattle.nf_report_lines.specs.Drafts.{seen_draft, IsWithin}
 use Rattle.nf_report_read.proofs.LineByLine.{from_line, count_from, EndsThere}
 use Rattle.nf_report_read.proofs.reading.add_lines.Given as goal
 

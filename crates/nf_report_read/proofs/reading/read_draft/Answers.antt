@@ -2,7 +2,7 @@ use Rattle.std.proofs.Common.{List, option_map, sym, ap, ◌∙◌}
 use Rattle.nf_text_def.specs.Lines.{TextLine}
 use Rattle.nf_text_def.specs.Faults.{first_fault_of}
 use Rattle.nf_report_def.specs.ReportFile.{as_report_rule}
-use Rattle.nf_report_read.specs.Drafts.{seen_draft}
+use Rattle.nf_report_lines.specs.Drafts.{seen_draft}
 use Rattle.nf_report_read.proofs.LineByLine.{broken_more, fault_of_text, no_line, draft_read, fault_read}
 use Rattle.nf_report_read.proofs.reading.read_draft.Goals as goal
 

@@ -3,8 +3,8 @@ use Rattle.std.proofs.lemmas.Iterator.Adapters.{YieldsList-from_vec}
 use Rattle.std.proofs.lemmas.Iterator.Consumers.{YieldsList-turn}
 use Rattle.std.proofs.lemmas.Option.{slice_get_read}
 use Rattle.nf_report_def.specs.ReportLines.{curve_keys}
-use Rattle.nf_report_read.specs.Keys.{key_at}
-use Rattle.nf_report_read.specs.Drafts.{seen_done}
+use Rattle.nf_report_lines.specs.Keys.{key_at}
+use Rattle.nf_report_lines.specs.Drafts.{seen_done}
 use Rattle.nf_report_read.proofs.Sorting.{kind_here, few_here, key_there, one_more_sorted}
 use Rattle.nf_report_read.proofs.report.by_kind.Goals as goal
 

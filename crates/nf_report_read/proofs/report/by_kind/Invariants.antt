@@ -1,5 +1,5 @@
 use Rattle.std.proofs.Common.{◌≡◌, length}
-use Rattle.nf_report_read.specs.Drafts.{seen_done}
+use Rattle.nf_report_lines.specs.Drafts.{seen_done}
 use Rattle.nf_report_read.specs.Sorted.{AreSorted}
 use Rattle.nf_report_read.proofs.report.by_kind.Given as goal
 

@@ -1,7 +1,7 @@
 use Rattle.std.proofs.Common.{[], ◌∷◌, ◌++◌, Option, sym, ap, subst, ◌∙◌}
 use Rattle.nf_curve.specs.declared.flow.Trace.{Trace}
-use Rattle.nf_report_read.specs.Keys.{seen_kind}
-use Rattle.nf_report_read.specs.Drafts.{seen_curve}
+use Rattle.nf_report_lines.specs.Keys.{seen_kind}
+use Rattle.nf_report_lines.specs.Drafts.{seen_curve}
 use Rattle.nf_report_read.specs.Sorted.{AreSorted}
 use Rattle.nf_report_read.proofs.Sorting.{label_put, inflow_put, outflow_put, queue_put}
 use Rattle.nf_report_read.proofs.report.Sorted.put.Goals as goal

@@ -1,0 +1,65 @@
+use Rattle.std.proofs.Common.{[], ◌∷◌, Ok, Err, true, false, refl, sym, ◌∙◌, arith}
+use Rattle.std.proofs.lemmas.Result.{err_from_is_err_and}
+use Rattle.nf_text.specs.Within.{word_at}
+use Rattle.nf_report_lines.specs.Keys.{seen_kind}
+use Rattle.nf_report_lines.specs.Drafts.{seen_draft}
+use Rattle.nf_report_lines.specs.Entries.{opened_by}
+use Rattle.nf_report_lines.proofs.WordCounts.{three_behind}
+use Rattle.nf_report_lines.proofs.BodyLines.{point_count, point_by, point_out}
+use Rattle.nf_report_lines.proofs.draft.Draft.read_point.Goals as goal
+
+pub returns-then-len-ne4-clause-says : goal.returns-then-len-ne4-clause-says
+returns-then-len-ne4-clause-says c =
+    point_count (seen_draft c.args.net.now c.args.self.now) (seen_kind c.args.kind) c.args.line.now.words c.requires.words (λ e. c.if-len-ne4.true (c.len.ensures ∙ e))
+
+pub at-requires : goal.at-requires
+at-requires c = omega (arith, c.len.ensures, c.if-len-ne4.false)
+
+pub at-requires-2 : goal.at-requires-2
+at-requires-2 c = omega (arith, c.len.ensures, c.if-len-ne4.false)
+
+pub at-requires-3 : goal.at-requires-3
+at-requires-3 c = omega (arith, c.len.ensures, c.if-len-ne4.false)
+
+pub opened-requires : goal.opened-requires
+opened-requires c = c.requires.within
+
+pub returns-in_err-opening-clause-says : goal.returns-in_err-opening-clause-says
+returns-in_err-opening-clause-says c =
+    let p = err_from_is_err_and c.from_residual.result c.from_residual.ensures.1 in
+    let words = c.args.line.now.words in
+    rw (p.1, p.2) (point_by (seen_draft c.args.net.now c.args.self.now) (seen_kind c.args.kind) words c.at.result.now (word_at words 2) (word_at words 3)
+    (three_behind words (sym c.len.ensures ∙ c.if-len-ne4.false) ∙ (λ i. sym c.at.ensures i ∷ word_at words 2 ∷ word_at words 3 ∷ []))
+    (Err c.in_err-opening.field-0.0) c.in_err-opening.ensures.says _ _ refl refl)
+
+pub returns-in_err-time-clause-says : goal.returns-in_err-time-clause-says
+returns-in_err-time-clause-says c =
+    let p = err_from_is_err_and c.from_residual-in_err-time.result c.from_residual-in_err-time.ensures.1 in
+    let words = c.args.line.now.words in
+    rw (p.1, p.2) (point_by (seen_draft c.args.net.now c.args.self.now) (seen_kind c.args.kind) words c.at.result.now c.at-2.result.now (word_at words 3)
+    (three_behind words (sym c.len.ensures ∙ c.if-len-ne4.false) ∙ (λ i. sym c.at.ensures i ∷ sym c.at-2.ensures i ∷ word_at words 3 ∷ []))
+    (Ok (opened_by (seen_draft c.args.net.now c.args.self.now) c.in_ok-opening.opening)) c.in_ok-opening.ensures.says (Err c.in_err-time.field-0.0) _ (sym c.in_err-time.ensures) refl)
+
+pub returns-in_err-value-clause-says : goal.returns-in_err-value-clause-says
+returns-in_err-value-clause-says c =
+    let p = err_from_is_err_and c.from_residual-in_err-value.result c.from_residual-in_err-value.ensures.1 in
+    rw (p.1, p.2) (point_by (seen_draft c.args.net.now c.args.self.now) (seen_kind c.args.kind) c.args.line.now.words c.at.result.now c.at-2.result.now c.at-3.result.now
+    (three_behind c.args.line.now.words (sym c.len.ensures ∙ c.if-len-ne4.false) ∙ (λ i. sym c.at.ensures i ∷ sym c.at-2.ensures i ∷ sym c.at-3.ensures i ∷ []))
+    (Ok (opened_by (seen_draft c.args.net.now c.args.self.now) c.in_ok-opening.opening)) c.in_ok-opening.ensures.says (Ok c.in_ok-time.time) (Err c.in_err-value.field-0.0) (sym c.in_ok-time.ensures) (sym c.in_err-value.ensures))
+
+pub returns-then-not-comes_after-clause-says : goal.returns-then-not-comes_after-clause-says
+returns-then-not-comes_after-clause-says c =
+    point_out (seen_draft c.args.net.now c.args.self.now) (seen_kind c.args.kind) c.args.line.now.words c.at.result.now c.at-2.result.now c.at-3.result.now
+    (three_behind c.args.line.now.words (sym c.len.ensures ∙ c.if-len-ne4.false) ∙ (λ i. sym c.at.ensures i ∷ sym c.at-2.ensures i ∷ sym c.at-3.ensures i ∷ []))
+    (opened_by (seen_draft c.args.net.now c.args.self.now) c.in_ok-opening.opening) c.in_ok-opening.ensures.says
+    c.in_ok-time.time c.in_ok-value.value (sym c.in_ok-time.ensures) (sym c.in_ok-value.ensures) false (sym (c.if-not-comes_after.ensures c.args.net.now))
+
+pub returns-clause-says : goal.returns-clause-says
+returns-clause-says c =
+    point_out (seen_draft c.args.net.now c.args.self.now) (seen_kind c.args.kind) c.args.line.now.words c.at.result.now c.at-2.result.now c.at-3.result.now
+    (three_behind c.args.line.now.words (sym c.len.ensures ∙ c.if-len-ne4.false) ∙ (λ i. sym c.at.ensures i ∷ sym c.at-2.ensures i ∷ sym c.at-3.ensures i ∷ []))
+    (opened_by (seen_draft c.args.net.now c.args.self.now) c.in_ok-opening.opening) c.in_ok-opening.ensures.says
+    c.in_ok-time.time c.in_ok-value.value (sym c.in_ok-time.ensures) (sym c.in_ok-value.ensures) true (sym (c.if-not-comes_after.ensures c.args.net.now))
+
+pub returns-clause-fits : goal.returns-clause-fits
+returns-clause-fits c = (c.in_ok-opening.ensures.can, sym (c.if-not-comes_after.ensures c.args.net.now))

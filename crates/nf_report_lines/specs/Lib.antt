@@ -1,0 +1,4 @@
+pub mod Keys
+pub mod Drafts
+pub mod Entries
+pub mod Lines

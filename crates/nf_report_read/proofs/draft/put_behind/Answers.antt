@@ -1,6 +1,0 @@
-use Rattle.nf_report_read.proofs.LastPoints.{time_is_later}
-use Rattle.nf_report_read.proofs.draft.put_behind.Goals as goal
-
-pub push-requires : goal.push-requires
-push-requires c =
-    time_is_later c.args.trace.now.curve.points c.args.point.now.time c.recall.ensures.some c.requires
