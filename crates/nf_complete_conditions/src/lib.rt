@@ -2,8 +2,8 @@
 //! links are interior and which states they have.
 #![tactic(auto)]
 
-mod fulls;
-mod interior;
+mod filling;
+mod interior_flags;
 mod leading;
 mod node_sums;
 mod numbers;
@@ -12,8 +12,8 @@ mod slopes;
 mod states;
 mod taken;
 
-pub use fulls::fulls;
-pub use interior::interior;
+pub use filling::fulls;
+pub use interior_flags::interior;
 pub use node_sums::balances;
 pub use numbers::both;
 pub use proper::is_proper;

@@ -2,7 +2,7 @@ use Rattle.std.proofs.Common.{arith}
 use Rattle.nf_pattern.proofs.Each.{take_pushed}
 use Rattle.nf_complete_conditions.specs.InteriorFlags.{interior_flags}
 use Rattle.nf_complete_conditions.proofs.Interiors.{test_at, flags_whole}
-use Rattle.nf_complete_conditions.proofs.interior.interior.Goals as goal
+use Rattle.nf_complete_conditions.proofs.interior_flags.interior.Goals as goal
 
 pub loop-e-preserved : goal.loop-e-preserved
 loop-e-preserved c = take_pushed (interior_flags c.args.sets.now c.args.fulls.now c.args.flows.now) c.loop-e.flags.items c.push.new.self.items c.loop-e.e c.is_interior.result
