@@ -23,13 +23,13 @@ use Rattle.nf_complete_laws.specs.SettleLaws.{AreGoodSets}
 use Rattle.nf_complete_laws.proofs.Cancelled.{IsThinFlow-cancelled, interior-before, Ended, one-ended}
 use Rattle.nf_complete_laws.proofs.OneCycle.{weaker}
 use Rattle.nf_complete_laws.proofs.Settled.{settles-end, IsListedIn-settled, IsSolution-settled}
-use Rattle.nf_complete.specs.Cycles.{IsFirstCycle, Closes}
+use Rattle.nf_complete_cycles.specs.Cycles.{IsFirstCycle, Closes}
+use Rattle.nf_complete_cycles.proofs.Cycling.{forest-weaker}
+use Rattle.nf_complete_conditions.specs.InteriorFlags.{interior_flags}
+use Rattle.nf_complete_conditions.proofs.Interiors.{set_count, fewer_set, flags_are}
+use Rattle.nf_complete_conditions.proofs.Telling.{value_of}
 use Rattle.nf_complete.specs.NextCycles.{AreForestBelow, ClosesNext}
 use Rattle.nf_complete.specs.Settling.{IsThinWithFulls, ComesTo}
-use Rattle.nf_complete.specs.InteriorFlags.{interior_flags}
-use Rattle.nf_complete.proofs.Cycling.{forest-weaker}
-use Rattle.nf_complete.proofs.Interiors.{set_count, fewer_set, flags_are}
-use Rattle.nf_complete.proofs.Telling.{value_of}
 
 -- ---- the first cycle of the flagged links is the next cycle, if the flags are those of interior links
 module _ (net : Network) (sets : Sets) (slopes flows : List ℚ) (flags : List Bool) (are : (e : ℕ) → Has flags e ↔ IsInterior net sets slopes flows e) where

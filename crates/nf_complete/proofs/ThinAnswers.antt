@@ -13,11 +13,11 @@ use Rattle.nf_thin_laws.specs.ActiveLinks.{NoneEntersSource}
 use Rattle.nf_complete_def.specs.Cancelling.{fulls_list}
 use Rattle.nf_complete_def.specs.ThinList.{Sums, sums_at, thin_list}
 use Rattle.nf_complete_laws.specs.SettleLaws.{AreGoodSets}
-use Rattle.nf_complete.specs.Testing.{Tells}
-use Rattle.nf_complete.specs.ThinParts.{IsProper}
-use Rattle.nf_complete.proofs.Deciding.{says_like, says_both}
-use Rattle.nf_complete.proofs.Telling.{first_passes}
-use Rattle.nf_complete.proofs.ThinFlows.{Balanced, Kept, IsThinFlow-made, balanced-thin, kept-thin, proper-thin}
+use Rattle.nf_complete_conditions.specs.Testing.{Tells}
+use Rattle.nf_complete_conditions.specs.ThinParts.{IsProper}
+use Rattle.nf_complete_conditions.proofs.Deciding.{says_like, says_both}
+use Rattle.nf_complete_conditions.proofs.Telling.{first_passes}
+use Rattle.nf_complete_conditions.proofs.ThinFlows.{Balanced, Kept, IsThinFlow-made, balanced-thin, kept-thin, proper-thin}
 
 module _ (passes : Passing) (net : Network) (sets : Sets) (rate : ℚ) (flows slopes : List ℚ) where
   abbrev sums : Checked (List Sums)

@@ -2,22 +2,9 @@
 //! flow, cancels cycles of its links, and settles it into a listed pattern. Flows and slopes are exact fractions.
 #![tactic(auto)]
 
-mod cancelling;
-mod cycle;
-mod fulls;
-mod interior;
-mod leading;
-mod node_sums;
-mod numbers;
-mod proper;
 mod settled;
 mod settling;
-mod slopes;
-mod states;
-mod step;
-mod taken;
 mod thin;
-mod way;
 
 pub use nf_complete_read::{Flows, FlowsFault, FlowsRule, parse_flows};
 pub use settled::Settled;

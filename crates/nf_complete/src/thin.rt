@@ -6,10 +6,7 @@ ghost use Rattle.nf_thin_laws.specs.ActiveLinks.{NoneEntersSource};
 ghost use Rattle.nf_complete.specs.FitSets.{AreFitSets};
 ghost use Rattle.nf_complete.specs.Settling.{Passes};
 
-use crate::node_sums::balances;
-use crate::numbers::both;
-use crate::proper::is_proper;
-use crate::slopes::keep_slopes;
+use nf_complete_conditions::{balances, both, is_proper, keep_slopes};
 use nf_frac::{PassedAt, Q};
 use nf_graph::LinkSets;
 use nf_net::Network;

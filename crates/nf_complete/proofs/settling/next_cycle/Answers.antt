@@ -4,9 +4,9 @@ use Rattle.nf_model.specs.Entries.{Has}
 use Rattle.nf_model.specs.Walk.{Hop}
 use Rattle.nf_model.specs.Network.{hops}
 use Rattle.nf_model.specs.Pattern.{IsForest}
-use Rattle.nf_complete.specs.Cycles.{Closes}
+use Rattle.nf_complete_cycles.specs.Cycles.{Closes}
+use Rattle.nf_complete_conditions.proofs.Interiors.{flags_by_flows}
 use Rattle.nf_complete.proofs.Hops.{hops_count, hops_below, few_hops}
-use Rattle.nf_complete.proofs.Interiors.{flags_by_flows}
 use Rattle.nf_complete.proofs.settling.next_cycle.Goals as goal
 
 pub interior-requires-clause-fulls : goal.interior-requires-clause-fulls

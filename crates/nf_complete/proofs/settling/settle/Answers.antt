@@ -6,8 +6,8 @@ use Rattle.nf_complete_def.specs.Cancelling.{fulls_list, Settles}
 use Rattle.nf_complete_def.specs.SettledPattern.{IsSettledPattern}
 use Rattle.nf_complete.specs.declared.settled.Settled.{Settled}
 use Rattle.nf_net.proofs.Limits.{few_links}
+use Rattle.nf_complete_conditions.proofs.Filling.{fulls_count}
 use Rattle.nf_complete.proofs.GoodSets.{good_sets}
-use Rattle.nf_complete.proofs.Filling.{fulls_count}
 use Rattle.nf_complete.proofs.CancelsOn.{halts_of, settles_stop, settles_on, fulls_read, with_fulls, settled_by, settled_listed, settled_solution}
 use Rattle.nf_complete.proofs.settling.settle.Goals as goal
 

@@ -1,5 +1,0 @@
-use Rattle.std.proofs.Common.{rules}
-use Rattle.nf_complete.proofs.cancelling.lesser.Goals as goal
-
-pub returns-in-Some-rest : goal.returns-in-Some-rest
-returns-in-Some-rest c = search rules

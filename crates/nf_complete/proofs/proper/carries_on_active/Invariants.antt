@@ -1,6 +1,0 @@
-use Rattle.std.proofs.Common.{ℕ, ◌<◌}
-use Rattle.nf_complete.specs.ThinParts.{CarriesIfActive}
-use Rattle.nf_complete.proofs.proper.carries_on_active.Given as goal
-
-abbrev pub invariant-loop-e : goal.invariant-loop-e
-invariant-loop-e l = (k : ℕ) → k < l.e → CarriesIfActive l.sets l.flows k

@@ -1,0 +1,8 @@
+use Rattle.nf_frac_def.specs.Passing.{passes_Q}
+use Rattle.nf_complete_def.specs.Cancelling.{full_at}
+use Rattle.nf_thin_laws.proofs.Numbered.{SoFar}
+use Rattle.nf_complete_conditions.proofs.filling.fulls.Given as goal
+
+-- the flows that fill the links so far precede those of the other links
+abbrev pub invariant-loop-e : goal.invariant-loop-e
+invariant-loop-e l = SoFar (full_at passes_Q l.sets l.slopes) l.net.net.links l.fulls.items l.e
