@@ -1,0 +1,15 @@
+pub mod Results
+pub mod Reports
+pub mod Gives
+pub mod LinkLoads
+pub mod LoadGiven
+pub mod CheckGiven
+pub mod QuickTold
+pub mod Starting
+pub mod SettleCalls
+pub mod SettleGiven
+pub mod ForeverGiven
+pub mod RoutesGiven
+pub mod ResumeGiven
+pub mod ToldGiven
+pub mod GivenOnce
