@@ -2,7 +2,7 @@
 //! links are interior and which states they have.
 #![tactic(auto)]
 
-mod filling;
+mod filled;
 mod interior_flags;
 mod leading;
 mod node_sums;
@@ -12,7 +12,7 @@ mod slopes;
 mod states;
 mod taken;
 
-pub use filling::fulls;
+pub use filled::fulls;
 pub use interior_flags::interior;
 pub use node_sums::balances;
 pub use numbers::both;

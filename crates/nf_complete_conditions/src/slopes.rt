@@ -6,7 +6,7 @@ ghost use Rattle.nf_complete_def.specs.Cancelling.{full_at as full_at_by, fulls_
 ghost use Rattle.nf_complete_conditions.specs.Testing.{Tells};
 ghost use Rattle.nf_complete_conditions.specs.ThinParts.{keeps_test, KeepsAt};
 
-use crate::filling::full_at;
+use crate::filled::full_at;
 use crate::numbers::{both, flow_of, slope_of};
 use nf_frac::{PassedAt, Q};
 use nf_graph::{LinkId, LinkSets};

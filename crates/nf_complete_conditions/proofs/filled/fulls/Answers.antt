@@ -5,7 +5,7 @@ use Rattle.nf_frac_def.specs.declared.Part.TheVariants.{Verdict}
 use Rattle.nf_rational_laws.proofs.Entries.{entry}
 use Rattle.nf_complete_def.specs.Cancelling.{full_at, fulls_list}
 use Rattle.nf_thin_laws.proofs.Numbered.{one_more, one_passes, all_done}
-use Rattle.nf_complete_conditions.proofs.filling.fulls.Goals as goal
+use Rattle.nf_complete_conditions.proofs.filled.fulls.Goals as goal
 
 pub returns-in_err-full : goal.returns-in_err-full
 unfolding fulls_list

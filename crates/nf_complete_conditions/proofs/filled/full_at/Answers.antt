@@ -1,6 +1,6 @@
 use Rattle.std.proofs.Common.{◌≡◌, ◌<◌, ap, ◌∙◌, arith}
 use Rattle.nf_model.specs.Network.{Link}
-use Rattle.nf_complete_conditions.proofs.filling.full_at.Goals as goal
+use Rattle.nf_complete_conditions.proofs.filled.full_at.Goals as goal
 
 pub link-here-requires : goal.link-here-requires
 link-here-requires c = c.requires.link
