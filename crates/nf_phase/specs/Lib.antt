@@ -1,6 +1,1 @@
-pub mod StandingCode
-pub mod Faults
-pub mod Stepping
-pub mod Finding
-pub mod Restarting
 pub mod Solution
