@@ -5,8 +5,8 @@ use Rattle.std.specs.List.{enumerate_from}
 use Rattle.std.proofs.lemmas.List.FromFn.{length-enumerate_from}
 use Rattle.nf_text_def.specs.Words.{line_of_words}
 use Rattle.nf_thin_laws.proofs.Ending.{enumerated}
-use Rattle.nf_report.specs.Written.{after_words}
-use Rattle.nf_report.proofs.Parts.{line_joined, next_part, all_parts}
+use Rattle.nf_report_pages.specs.Written.{after_words}
+use Rattle.nf_report_pages.proofs.Parts.{line_joined, next_part, all_parts}
 
 -- a line, in pieces
 pub line_put : (o o1 o2 o3 o4 key number : List ℕ) (words : List (List ℕ)) → o1 ≡ o ++ key → o2 ≡ o1 ++ 32 ∷ number → o3 ≡ o2 ++ after_words words → o4 ≡ o3 ++ 10 ∷ []

@@ -5,7 +5,7 @@ ghost use Rattle.nf_frac_words.specs.Printed.{printed};
 ghost use Rattle.nf_net_def.specs.Names.{name_at};
 ghost use Rattle.nf_edge.specs.Taken.{Wrote};
 ghost use Rattle.nf_report_def.specs.Texts.{loaded_lines, load_text};
-ghost use Rattle.nf_report.specs.Written.{WroteLines};
+ghost use Rattle.nf_report_pages.specs.Written.{WroteLines};
 ghost use Rattle.nf_load.specs.Loadings.{loaded_of};
 
 use nf_edge::{Sink, SinkFault};

@@ -5,7 +5,7 @@ ghost use Rattle.nf_frac_words.specs.Printed.{printed};
 ghost use Rattle.nf_text_def.specs.Words.{line_of_words};
 ghost use Rattle.nf_net_def.specs.Names.{name_at};
 ghost use Rattle.nf_edge.specs.Taken.{Wrote};
-ghost use Rattle.nf_report.specs.Written.{after_words};
+ghost use Rattle.nf_report_pages.specs.Written.{after_words};
 ghost use Rattle.nf_app_answers.specs.QuickText.{walk_line, cut_line, flow_text, arrival_text};
 
 use crate::arrival::Arrival;

@@ -2,7 +2,7 @@
 ghost use Rattle.std.specs.Prelude.{◌≡◌, [], ◌∷◌, ◌++◌, length, codes};
 ghost use Rattle.nf_net_def.specs.Report.{for_each, point_lines};
 ghost use Rattle.nf_edge.specs.Taken.{Wrote};
-ghost use Rattle.nf_report.specs.Written.{WroteLines};
+ghost use Rattle.nf_report_pages.specs.Written.{WroteLines};
 ghost use Rattle.nf_routes_def.specs.RoutesText.{route_lines, routed_text};
 ghost use Rattle.nf_routes.specs.Carried.{with_entries};
 

@@ -4,7 +4,7 @@ ghost use Rattle.nf_frac_words.specs.Printed.{printed};
 ghost use Rattle.nf_net_def.specs.Names.{name_at};
 ghost use Rattle.nf_net_def.specs.Report.{for_each};
 ghost use Rattle.nf_edge.specs.Taken.{Wrote};
-ghost use Rattle.nf_report.specs.Pages.{GatheredLines};
+ghost use Rattle.nf_report_pages.specs.Pages.{GatheredLines};
 ghost use Rattle.nf_complete_def.specs.SettleText.{flow_line, settled_lines, settled_text};
 
 use nf_complete::Settled;

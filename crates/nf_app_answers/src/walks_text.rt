@@ -1,6 +1,6 @@
 // The text of pushed walks.
 ghost use Rattle.std.specs.Prelude.{◌≡◌, [], ◌∷◌, ◌++◌, flat_map, map, OnOk, IfOk};
-ghost use Rattle.nf_report.specs.Written.{after_words};
+ghost use Rattle.nf_report_pages.specs.Written.{after_words};
 ghost use Rattle.nf_app_answers.specs.QuickText.{step_word, augment_line, augments_text};
 
 use crate::words::{link_word, put_bytes, put_number};

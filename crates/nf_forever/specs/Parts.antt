@@ -6,7 +6,7 @@ use Rattle.nf_net_def.specs.declared.Cause.{Cause}
 use Rattle.nf_net_def.specs.Causes.{cause_words}
 use Rattle.nf_net_def.specs.Named.{Named}
 use Rattle.nf_net_def.specs.Report.{for_each, state_lines}
-use Rattle.nf_report.specs.Written.{Line}
+use Rattle.nf_report_pages.specs.Written.{Line}
 use Rattle.nf_forever_def.specs.ForeverRun.{Forever}
 use Rattle.nf_forever_def.specs.ForeverText.{tail_lines}
 

@@ -3,7 +3,7 @@ ghost use Rattle.std.specs.Prelude.{◌≡◌, ◌<◌, [], ◌∷◌, ◌++◌,
 ghost use Rattle.nf_model.specs.Entries.{number_at};
 ghost use Rattle.nf_frac_words.specs.Printed.{printed};
 ghost use Rattle.nf_net_def.specs.Report.{for_each};
-ghost use Rattle.nf_report.specs.Pages.{GatheredLines};
+ghost use Rattle.nf_report_pages.specs.Pages.{GatheredLines};
 ghost use Rattle.nf_forever_def.specs.ForeverText.{slope_line, flow_line};
 ghost use Rattle.nf_forever.specs.Seen.{tail_in};
 

@@ -2,7 +2,7 @@
 ghost use Rattle.std.specs.Prelude.{◌≡◌, [], ◌∷◌, ◌++◌, length, codes, IfSome};
 ghost use Rattle.std.specs.Option.{option_copied};
 ghost use Rattle.nf_edge.specs.Taken.{Wrote};
-ghost use Rattle.nf_report.specs.Pages.{GatheredLines};
+ghost use Rattle.nf_report_pages.specs.Pages.{GatheredLines};
 ghost use Rattle.nf_forever_def.specs.ForeverText.{HasForm, tail_lines, forever_lines, forever_text};
 ghost use Rattle.nf_forever.specs.Seen.{forever_in};
 ghost use Rattle.nf_forever.specs.Parts.{head_lines, end_lines};

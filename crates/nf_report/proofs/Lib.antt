@@ -1,4 +1,1 @@
-pub mod Parts
-pub mod Written
-pub mod Gathering
-pub mod Entries
+pub mod Whole

@@ -3,7 +3,7 @@ use Rattle.std.specs.Prelude.{codes}
 use Rattle.std.specs.Option.{option_copied}
 use Rattle.nf_frac_words.specs.Printed.{printed}
 use Rattle.nf_net_def.specs.Causes.{cause_words}
-use Rattle.nf_report.proofs.Written.{wrote_next}
+use Rattle.nf_report_pages.proofs.Written.{wrote_next}
 use Rattle.nf_app_answers.specs.GenText.{end_lines}
 use Rattle.nf_app_answers.proofs.gen_text.write_end.Goals as goal
 

@@ -2,7 +2,7 @@ use Rattle.std.proofs.Common.{[], ◌∷◌, refl}
 use Rattle.std.specs.Prelude.{codes}
 use Rattle.nf_frac_words.specs.Digits.{digits_of}
 use Rattle.nf_frac_words.specs.Printed.{printed}
-use Rattle.nf_report.proofs.Written.{wrote_next, wrote_failed}
+use Rattle.nf_report_pages.proofs.Written.{wrote_next, wrote_failed}
 use Rattle.nf_app_answers.specs.GenText.{run_lines}
 use Rattle.nf_app_answers.proofs.gen_text.write_run.Goals as goal
 

@@ -6,8 +6,8 @@ use Rattle.std.proofs.lemmas.Option.{slice_get_read}
 use Rattle.nf_load_def.specs.Loading as lists
 use Rattle.nf_report_def.specs.Texts.{loaded_lines}
 use Rattle.nf_load.specs.Loadings.{loaded_of}
-use Rattle.nf_report.proofs.Parts.{next_part, parts_left, all_parts}
-use Rattle.nf_report.proofs.Written.{wrote_next, wrote_then_failed, same_lines}
+use Rattle.nf_report_pages.proofs.Parts.{next_part, parts_left, all_parts}
+use Rattle.nf_report_pages.proofs.Written.{wrote_next, wrote_then_failed, same_lines}
 use Rattle.nf_app_answers.proofs.LoadLines.{numbered_there, numbered_length}
 use Rattle.nf_app_answers.proofs.load_text.write_links.Goals as goal
 

@@ -6,8 +6,8 @@ use Rattle.nf_net_def.specs.Report.{for_each}
 use Rattle.nf_load.specs.Loadings.{loaded_of}
 use Rattle.nf_routes_def.specs.RoutesText.{link_curve_lines, route_lines, routed_lines}
 use Rattle.nf_routes.specs.Carried.{with_entries}
-use Rattle.nf_report.specs.Written.{Line}
-use Rattle.nf_report.proofs.Written.{wrote_next, wrote_failed, wrote_then_failed, same_lines}
+use Rattle.nf_report_pages.specs.Written.{Line}
+use Rattle.nf_report_pages.proofs.Written.{wrote_next, wrote_failed, wrote_then_failed, same_lines}
 use Rattle.nf_app_answers.proofs.RouteLines.{links_told}
 use Rattle.nf_app_answers.proofs.routes_text.write_routed.Goals as goal
 

@@ -9,8 +9,8 @@ use Rattle.nf_routes_def.specs.RoutesList.{Routed}
 use Rattle.nf_routes_def.specs.Meanings.{arrival_at, travel_at}
 use Rattle.nf_routes_def.specs.RoutesText.{route_lines}
 use Rattle.nf_routes.specs.Carried.{with_entries}
-use Rattle.nf_report.proofs.Parts.{each_next, each_left, each_all, points_there}
-use Rattle.nf_report.proofs.Written.{wrote_next, wrote_then_failed, same_lines}
+use Rattle.nf_report_pages.proofs.Parts.{each_next, each_left, each_all, points_there}
+use Rattle.nf_report_pages.proofs.Written.{wrote_next, wrote_then_failed, same_lines}
 use Rattle.nf_app_answers.proofs.routes_text.write_routes.Goals as goal
 
 same_route : (routes : List NamedRoute) (routed : Routed) (i : ℕ) (name : Name) (arrival travel : List Point) → name ≡ name_at (route_names routes) i → arrival ≡ arrival_at routed i → travel ≡ travel_at routed i

@@ -3,7 +3,7 @@ use Rattle.std.specs.Prelude.{Ok, flat_map}
 use Rattle.std.specs.List.{range_with_len}
 use Rattle.nf_edge.specs.declared.SinkFault.{SinkFault}
 use Rattle.nf_routes_def.specs.RoutesText.{route_lines}
-use Rattle.nf_report.specs.Written.{WroteLines}
+use Rattle.nf_report_pages.specs.Written.{WroteLines}
 use Rattle.nf_routes.specs.Carried.{with_entries}
 use Rattle.nf_app_answers.proofs.routes_text.write_routes.Given as goal
 

@@ -9,8 +9,8 @@ use Rattle.nf_net_def.specs.Names.{name_at}
 use Rattle.nf_net_def.specs.Named.{Named}
 use Rattle.nf_net_def.specs.Report.{for_each}
 use Rattle.nf_complete_def.specs.SettleText.{flow_line}
-use Rattle.nf_report.proofs.Parts.{each_next, each_left, each_all}
-use Rattle.nf_report.proofs.Gathering.{gathered_nil, gathered_next, gathered_then_failed, same_gathered}
+use Rattle.nf_report_pages.proofs.Parts.{each_next, each_left, each_all}
+use Rattle.nf_report_pages.proofs.Gathering.{gathered_nil, gathered_next, gathered_then_failed, same_gathered}
 use Rattle.nf_app_answers.proofs.settle_text.put_flows.Goals as goal
 
 line_is : (n : Named) (flows : List ℚ) (e : ℕ) (x : ℚ) → slice_get flows e ≡ Some x → (codes "flow" ∷ name_at n.link_names e ∷ printed x ∷ []) ∷ [] ≡ flow_line n flows e

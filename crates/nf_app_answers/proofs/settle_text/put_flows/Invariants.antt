@@ -3,7 +3,7 @@ use Rattle.std.specs.Prelude.{Ok, flat_map}
 use Rattle.std.specs.List.{range_with_len}
 use Rattle.nf_edge.specs.declared.SinkFault.{SinkFault}
 use Rattle.nf_complete_def.specs.SettleText.{flow_line}
-use Rattle.nf_report.specs.Pages.{GatheredLines}
+use Rattle.nf_report_pages.specs.Pages.{GatheredLines}
 use Rattle.nf_app_answers.proofs.settle_text.put_flows.Given as goal
 
 abbrev pub invariant-loop-link : goal.invariant-loop-link

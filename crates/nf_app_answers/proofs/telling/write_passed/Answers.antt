@@ -2,7 +2,7 @@ use Rattle.std.proofs.Common.{[], ◌∷◌}
 use Rattle.std.specs.Prelude.{codes, flat_map, None}
 use Rattle.nf_text_def.specs.Words.{line_of_words}
 use Rattle.nf_net_def.specs.Causes.{passed_words}
-use Rattle.nf_report.proofs.Written.{wrote_both, wrote_front}
+use Rattle.nf_report_pages.proofs.Written.{wrote_both, wrote_front}
 use Rattle.nf_app_answers.proofs.ErrorTexts.{stopped_pieces}
 use Rattle.nf_app_answers.proofs.telling.write_passed.Goals as goal
 

@@ -1,8 +1,8 @@
 use Rattle.std.proofs.Common.{drop, suc, refl}
 use Rattle.std.specs.Prelude.{flat_map}
 use Rattle.std.proofs.lemmas.Option.{slice_get-get_or}
-use Rattle.nf_report.proofs.Parts.{next_part, parts_left}
-use Rattle.nf_report.proofs.Written.{wrote_both, wrote_front}
+use Rattle.nf_report_pages.proofs.Parts.{next_part, parts_left}
+use Rattle.nf_report_pages.proofs.Written.{wrote_both, wrote_front}
 use Rattle.nf_app_answers.proofs.telling.write_texts.Goals as goal
 
 pub loop-text-preserved : goal.loop-text-preserved

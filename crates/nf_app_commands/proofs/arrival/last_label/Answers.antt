@@ -3,7 +3,7 @@ use Rattle.std.specs.Prelude.{Some, slice_get}
 use Rattle.nf_model.specs.Curve.{Point}
 use Rattle.nf_model.specs.Equilibrium.{points_at}
 use Rattle.nf_curve.specs.Flows.{flow_of}
-use Rattle.nf_report.proofs.Parts.{points_there}
+use Rattle.nf_report_pages.proofs.Parts.{points_there}
 use Rattle.nf_app_commands.proofs.arrival.last_label.Goals as goal
 
 pub returns : goal.returns

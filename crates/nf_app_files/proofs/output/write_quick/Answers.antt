@@ -1,5 +1,5 @@
 use Rattle.std.proofs.Common.{refl}
-use Rattle.nf_report.proofs.Written.{wrote_both, wrote_front}
+use Rattle.nf_report_pages.proofs.Written.{wrote_both, wrote_front}
 use Rattle.nf_app_answers.specs.QuickText.{arrival_text}
 use Rattle.nf_app_files.proofs.output.write_quick.Goals as goal
 

@@ -5,7 +5,7 @@ use Rattle.nf_rational.specs.Rational.{ℚ}
 use Rattle.nf_frac_words.specs.Printed.{printed}
 use Rattle.nf_model.specs.Entries.{number_at}
 use Rattle.nf_net_def.specs.Names.{name_at}
-use Rattle.nf_report.proofs.Gathering.{same_gathered}
+use Rattle.nf_report_pages.proofs.Gathering.{same_gathered}
 use Rattle.nf_forever_def.specs.ForeverText.{slope_line}
 use Rattle.nf_forever.specs.Seen.{tail_in}
 use Rattle.nf_forever.proofs.tail_lines.put_slope.Goals as goal

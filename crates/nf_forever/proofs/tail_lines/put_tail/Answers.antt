@@ -1,6 +1,6 @@
 use Rattle.std.proofs.Common.{◌++◌, length, refl}
 use Rattle.nf_net_def.specs.Report.{for_each}
-use Rattle.nf_report.proofs.Gathering.{gathered_next, gathered_failed}
+use Rattle.nf_report_pages.proofs.Gathering.{gathered_next, gathered_failed}
 use Rattle.nf_forever_def.specs.ForeverText.{slope_line, flow_line}
 use Rattle.nf_forever.specs.Seen.{tail_in}
 use Rattle.nf_forever.proofs.tail_lines.put_tail.Goals as goal

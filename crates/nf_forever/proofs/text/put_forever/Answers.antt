@@ -2,8 +2,8 @@ use Rattle.std.proofs.Common.{◌≡◌, List, [], ◌∷◌, ◌++◌, length, 
 use Rattle.std.specs.Prelude.{codes}
 use Rattle.std.specs.Option.{option_copied}
 use Rattle.nf_net_def.specs.Named.{Named}
-use Rattle.nf_report.specs.Written.{Line, flow_lines}
-use Rattle.nf_report.proofs.Gathering.{gathered_next, gathered_failed, gathered_then_failed, same_gathered, right_first}
+use Rattle.nf_report_pages.specs.Written.{Line, flow_lines}
+use Rattle.nf_report_pages.proofs.Gathering.{gathered_next, gathered_failed, gathered_then_failed, same_gathered, right_first}
 use Rattle.nf_forever_def.specs.ForeverRun.{Forever}
 use Rattle.nf_forever_def.specs.ForeverText.{tail_lines, forever_lines}
 use Rattle.nf_net_def.specs.Report.{for_each, state_lines}

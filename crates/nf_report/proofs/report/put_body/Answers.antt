@@ -2,8 +2,8 @@ use Rattle.std.proofs.Common.{List, [], ◌∷◌, ◌++◌, length, refl}
 use Rattle.std.specs.Prelude.{codes}
 use Rattle.nf_net_def.specs.Report.{for_each, state_lines}
 use Rattle.nf_curve.specs.Flows.{flow_of}
-use Rattle.nf_report.specs.Written.{Line, flow_lines}
-use Rattle.nf_report.proofs.Gathering.{gathered_next, gathered_failed, gathered_then_failed, right_first}
+use Rattle.nf_report_pages.specs.Written.{Line, flow_lines}
+use Rattle.nf_report_pages.proofs.Gathering.{gathered_next, gathered_failed, gathered_then_failed, right_first}
 use Rattle.nf_report.proofs.report.put_body.Goals as goal
 
 abbrev end : List Line

@@ -2,7 +2,7 @@ use Rattle.std.proofs.Common.{◌≡◌, ℕ, ◌<◌, List, length, IfOk, subst
 use Rattle.nf_model.specs.Curve.{Point, value}
 use Rattle.nf_model.specs.Equilibrium.{label}
 use Rattle.nf_curve.specs.Flows.{flow_of}
-use Rattle.nf_report.proofs.Parts.{points_there}
+use Rattle.nf_report_pages.proofs.Parts.{points_there}
 use Rattle.run_callers.proofs.phase.sink_label.Goals as goal
 
 pub returns : goal.returns

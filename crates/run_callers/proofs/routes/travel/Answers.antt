@@ -1,6 +1,6 @@
 use Rattle.std.proofs.Common.{◌≡◌, List, IfOk, subst}
 use Rattle.nf_model.specs.Curve.{Point, value}
-use Rattle.nf_report.proofs.Parts.{points_there}
+use Rattle.nf_report_pages.proofs.Parts.{points_there}
 use Rattle.run_callers.proofs.routes.travel.Goals as goal
 
 pub returns : goal.returns

@@ -1,6 +1,0 @@
-use Rattle.std.proofs.Common.{take}
-use Rattle.nf_report_laws.specs.Readable.{AreFractionPoints}
-use Rattle.nf_report.proofs.known.know_points.Given as goal
-
-abbrev pub invariant-loop-index : goal.invariant-loop-index
-invariant-loop-index l = AreFractionPoints (take l.index l.curve.points)

@@ -1,7 +1,0 @@
-use Rattle.std.proofs.Common.{take}
-use Rattle.std.specs.List.{AllByRecursion}
-use Rattle.nf_net_def.specs.WellNamed.{IsFraction}
-use Rattle.nf_report.proofs.known.know_rates.Given as goal
-
-abbrev pub invariant-loop-rate : goal.invariant-loop-rate
-invariant-loop-rate l = AllByRecursion IsFraction (take l.rate-index l.rates)

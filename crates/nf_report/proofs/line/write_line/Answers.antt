@@ -1,8 +1,0 @@
-use Rattle.nf_report.proofs.Gathering.{gathered_written, gathered_refused}
-use Rattle.nf_report.proofs.line.write_line.Goals as goal
-
-pub returns-in_err-put_line : goal.returns-in_err-put_line
-returns-in_err-put_line g c = gathered_refused _ _ _ _ c.new-page.ensures c.from_residual.ensures.0 c.in_err-put_line.ensures
-
-pub returns : goal.returns
-returns g c = gathered_written _ _ _ _ c.new-page.ensures c.as_slice.ensures.value c.in_ok-put_line.ensures c.write_text.ensures

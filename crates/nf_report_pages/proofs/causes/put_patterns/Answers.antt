@@ -1,0 +1,10 @@
+use Rattle.std.proofs.Common.{[], ◌∷◌}
+use Rattle.std.specs.Prelude.{codes}
+use Rattle.nf_frac_words.specs.Digits.{digits_of}
+use Rattle.nf_report_pages.proofs.Gathering.{same_gathered}
+use Rattle.nf_report_pages.proofs.causes.put_patterns.Goals as goal
+
+pub returns : goal.returns
+returns g c =
+    same_gathered ((c.args.key.now ∷ codes "patterns" ∷ c.text.result.now ∷ c.text-2.result.now ∷ []) ∷ [])
+    ((c.args.key.now ∷ codes "patterns" ∷ digits_of c.args.phase ∷ digits_of c.args.tried ∷ []) ∷ []) (cc) c.put_line.ensures

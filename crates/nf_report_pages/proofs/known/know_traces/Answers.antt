@@ -1,0 +1,17 @@
+use Rattle.nf_curve.specs.Flows.{trace_of}
+use Rattle.nf_curve.specs.declared.flow.Trace.{Trace}
+use Rattle.nf_report_laws.specs.Readable.{IsFractionTrace}
+use Rattle.nf_report_pages.proofs.Entries.{one_read, up_to_end, all_image}
+use Rattle.nf_report_pages.proofs.known.know_traces.Goals as goal
+
+abbrev HasFractions : Trace → Type 0
+HasFractions trace = IsFractionTrace (trace_of trace)
+
+pub loop-trace-preserved : goal.loop-trace-preserved
+loop-trace-preserved c =
+    one_read HasFractions c.args.traces.now c.loop-trace.trace-index c.trace-item.result c.loop-trace-test.true c.trace-item.is c.know_trace.ensures c.loop-trace.invariant
+
+pub returns : goal.returns
+returns c =
+    all_image IsFractionTrace HasFractions trace_of (λ trace h. h) c.args.traces.now
+    (up_to_end HasFractions c.args.traces.now c.loop-trace.trace-index c.loop-trace-test.false c.loop-trace.invariant)

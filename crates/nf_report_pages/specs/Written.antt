@@ -1,0 +1,44 @@
+-- What a sink took of the lines of a report.
+use Rattle.std.specs.Prelude.{ℕ, List, [], ◌∷◌, flat_map, map, Option, Some, None, Result, codes, ◌++◌, length}
+use Rattle.nf_rational.specs.Rational.{ℚ}
+use Rattle.nf_model.specs.Equilibrium.{Flow}
+use Rattle.nf_frac_words.specs.Printed.{printed}
+use Rattle.nf_edge.specs.Taken.{Wrote}
+use Rattle.nf_text_def.specs.Words.{line_of_words}
+use Rattle.nf_net_def.specs.Names.{Name}
+use Rattle.nf_net_def.specs.Named.{Named}
+use Rattle.nf_net_def.specs.Report.{for_each, label_lines, link_lines}
+
+-- the words of a line
+abbrev pub Line : Type 0
+Line = List (List ℕ)
+
+-- the words after the first of their line, with a space before each
+abbrev pub after_words : Line → List ℕ
+after_words words = flat_map (λ word. 32 ∷ word) words
+
+-- lines were written to a sink: all of them without a fault, or a proper prefix of their text with one fault
+abbrev pub WroteLines : {E : Type 0} → Option (List ℕ) → Option (List ℕ) → ℕ → ℕ → List Line → Result (Unit {0}) E → Type 0
+WroteLines took_before took_now faults_before faults_now lines result =
+    Wrote took_before took_now faults_before faults_now (flat_map line_of_words lines) result
+
+-- ---- a line of a curve
+abbrev pub point_line : List ℕ → Name → ℚ × ℚ → Line
+point_line key name p = key ∷ name ∷ printed p.0 ∷ printed p.1 ∷ []
+
+-- the rate from a point on, or `-` if there is none
+abbrev pub rate_word : Option ℚ → List ℕ
+rate_word None = codes "-"
+rate_word (Some rate) = printed rate
+
+abbrev pub trace_line : List ℕ → Name → ℚ × ℚ → Option ℚ → Line
+trace_line key name p rate = key ∷ name ∷ printed p.0 ∷ printed p.1 ∷ rate_word rate ∷ []
+
+-- ---- the unreached nodes of a report, and its flow
+abbrev pub never_lines : List Name → List Line
+never_lines names = map (λ name. codes "never" ∷ name ∷ []) names
+
+-- the labels of the nodes, the unreached nodes, and the curves of the links
+abbrev pub flow_lines : Named → Flow → List Line
+flow_lines n flow = for_each n.net.nodes (label_lines n flow) ++ never_lines n.idle_nodes
+    ++ for_each (length n.net.links) (link_lines n flow)
