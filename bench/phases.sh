@@ -11,7 +11,7 @@ cp "$here/../HANDLES" "$work/repo/"
 # The crates above the search are left out.
 awk '{
     above = 0
-    for (i = 1; i <= NF; i++) { name = $i; sub(":", "", name); if (name ~ /^(nf_phase_run|nf_phase|nf_forever|nf_resume|nf_app_answers|nf_app|nfot)$/) above = 1 }
+    for (i = 1; i <= NF; i++) { name = $i; sub(":", "", name); if (name ~ /^(nf_phase|nf_forever|nf_resume|nf_app_answers|nf_app|nfot)$/) above = 1 }
     if (!above) print
 }' "$here/../crates.txt" >"$work/repo/crates.txt"
 for crate in $(sed -n 's/^\([a-z_]*\):.*/\1/p' "$work/repo/crates.txt"); do
