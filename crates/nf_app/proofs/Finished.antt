@@ -7,10 +7,10 @@ use Rattle.nf_net_def.specs.Report.{Report}
 use Rattle.nf_thin_def.specs.PhaseRun.{Standing, Bounds}
 use Rattle.nf_unstopped_laws.specs.Stops.{NeverNoPattern}
 use Rattle.nf_unstopped_laws.proofs.Stops.{never_on}
-use Rattle.nf_phase_run.specs.declared.solution.Solution.{Solution}
-use Rattle.nf_phase_run.specs.Finished.{IsFinished, report_in}
-use Rattle.nf_phase_run.specs.Stepping.{Reaches}
-use Rattle.nf_phase_run.proofs.Reached.{Stands-reached}
+use Rattle.nf_phase.specs.declared.solution.Solution.{Solution}
+use Rattle.nf_phase.specs.Solution.{IsFinished, report_in}
+use Rattle.nf_phase.specs.Stepping.{Reaches}
+use Rattle.nf_phase.proofs.Reached.{Stands-reached}
 
 pub never_finished : (net : Network) (bounds : Bounds) → IsNetwork net → (first : Standing) → Reaches passes_Q net first → {E : Type 0} (result : Result Solution E)
     → IfOk result (λ s. IsFinished net bounds first s.phases (report_in bounds.horizon s)) → IfOk result (λ s. NeverNoPattern s.stopped)

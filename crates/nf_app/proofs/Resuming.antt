@@ -11,7 +11,7 @@ use Rattle.nf_phase_laws.proofs.Run.{report_equilibrium}
 use Rattle.nf_report_def.specs.ReportFile.{report_in}
 use Rattle.nf_resume_def.specs.Meanings.{IsResumedReport}
 use Rattle.nf_resume_run_laws.proofs.Ends.{resumed-solved}
-use Rattle.nf_phase_run.specs.Finished.{bounds_of}
+use Rattle.nf_phase.specs.Solution.{bounds_of}
 use Rattle.nf_app_words.specs.Requests.{Request, Solve, SolveForever, Show, Load, Check, Quick, Gen, Settle, Resume, Routes}
 use Rattle.nf_app_answers.specs.declared.status.Status.{Status}
 use Rattle.nf_app_answers.specs.Answers.{ProgramAnswer, Solved, Checked, Passes, Earlier, MalformedReport, status_of, out_text}

@@ -9,7 +9,7 @@ use Rattle.nf_net_def.specs.declared.Cause.{Cause}
 use Rattle.nf_net_def.specs.Named.{Named}
 use Rattle.nf_check_def.specs.declared.Answer.{Answer as Verdict}
 use Rattle.nf_check_def.specs.declared.Answer.TheVariants.{Yes, No}
-use Rattle.nf_phase_run.specs.Finished.{bounds_of}
+use Rattle.nf_phase.specs.Solution.{bounds_of}
 use Rattle.nf_unstopped_laws.specs.Stops.{NeverNoPattern}
 use Rattle.nf_unstopped_laws.proofs.Stops.{never_report, never_resumed, never_forever}
 use Rattle.nf_app_answers.specs.declared.arrival.Arrival.{Arrival}

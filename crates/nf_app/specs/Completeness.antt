@@ -11,8 +11,8 @@ use Rattle.nf_net_def.specs.Report.{Report}
 use Rattle.nf_thin_def.specs.PhaseRun.{Bounds, IsRunReport}
 use Rattle.nf_report_def.specs.LoadsFile.{loads_in}
 use Rattle.nf_report_def.specs.ReportFile.{report_in}
-use Rattle.nf_phase_run.specs.declared.solution.Budgets.{Budgets}
-use Rattle.nf_phase_run.specs.Finished.{bounds_of}
+use Rattle.nf_phase.specs.declared.solution.Budgets.{Budgets}
+use Rattle.nf_phase.specs.Solution.{bounds_of}
 use Rattle.nf_complete_def.specs.FlowsFile.{flows_in}
 use Rattle.nf_forever_def.specs.ForeverRun.{Forever, IsForever}
 use Rattle.nf_resume_def.specs.Meanings.{IsResumedReport}

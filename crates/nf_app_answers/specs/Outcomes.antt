@@ -7,7 +7,7 @@ use Rattle.nf_net_def.specs.NetText.{canonical}
 use Rattle.nf_net_def.specs.Report.{IsWellFormed, report_text}
 use Rattle.nf_report_def.specs.Texts.{load_text, answer_text}
 use Rattle.nf_load.specs.Loadings.{loaded_of}
-use Rattle.nf_phase_run.specs.Finished.{report_in}
+use Rattle.nf_phase.specs.Solution.{report_in}
 use Rattle.nf_complete_def.specs.SettleText.{settled_text}
 use Rattle.nf_forever_def.specs.ForeverText.{HasForm, forever_text}
 use Rattle.nf_routes_def.specs.RoutesFile.{routes_of}

@@ -6,7 +6,7 @@ ghost use Rattle.nf_frac_words.specs.Digits.{digits_of};
 ghost use Rattle.nf_frac_words.specs.Printed.{printed};
 ghost use Rattle.nf_edge.specs.Taken.{Wrote};
 ghost use Rattle.nf_net_def.specs.Causes.{cause_words};
-ghost use Rattle.nf_phase_run.specs.Finished.{report_in};
+ghost use Rattle.nf_phase.specs.Solution.{report_in};
 ghost use Rattle.nf_report_pages.specs.Written.{WroteLines};
 ghost use Rattle.nf_app_answers.specs.GenText.{ladder_lines, size_lines, run_lines, end_lines, last_arrival, gen_text};
 

@@ -27,7 +27,7 @@ use Rattle.nf_report_laws.proofs.ReportKept.{report_kept}
 use Rattle.nf_quick_def.specs.Quick.{Quick as QuickFlow, FoundQuick, Budget}
 use Rattle.nf_quick_def.specs.Quick as quick
 use Rattle.nf_quick.specs.Answered.{HasNoWay}
-use Rattle.nf_phase_run.specs.Finished.{bounds_of}
+use Rattle.nf_phase.specs.Solution.{bounds_of}
 use Rattle.nf_complete_def.specs.Cancelling.{Settles}
 use Rattle.nf_complete_def.specs.ThinList.{thin_list}
 use Rattle.nf_complete_def.specs.FlowsFile.{FlowsBroken, GivenFlows, flows_in}

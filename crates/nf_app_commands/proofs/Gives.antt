@@ -17,7 +17,7 @@ use Rattle.nf_report_def.specs.ReportFile.{ReportBroken, report_in}
 use Rattle.nf_quick_def.specs.Quick.{Quick as QuickFlow, FoundQuick, Budget}
 use Rattle.nf_quick_def.specs.Quick as quick
 use Rattle.nf_quick.specs.Answered.{HasNoWay}
-use Rattle.nf_phase_run.specs.Finished.{bounds_of}
+use Rattle.nf_phase.specs.Solution.{bounds_of}
 use Rattle.nf_complete_def.specs.FlowsFile.{FlowsBroken, GivenFlows, flows_in}
 use Rattle.nf_forever_def.specs.ForeverRun.{Forever, IsForever}
 use Rattle.nf_routes_def.specs.RoutesFile.{RoutesBroken, NamedRoute, routes_in}

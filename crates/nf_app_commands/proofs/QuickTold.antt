@@ -22,8 +22,7 @@ use Rattle.nf_thin_def.specs.Ends.{end_of}
 use Rattle.nf_thin_def.specs.ReportCurves.{GrowingCurve}
 use Rattle.nf_thin_def.specs.PhaseRun.{Bounds, Standing, report_of}
 use Rattle.nf_thin_laws.proofs.Ending.{run_ends}
-use Rattle.nf_phase_run.specs.Finished.{bounds_of}
-use Rattle.nf_phase.specs.Solution.{IsSolution}
+use Rattle.nf_phase.specs.Solution.{bounds_of, IsSolution}
 use Rattle.nf_app_answers.specs.declared.arrival.Arrival.{Arrival}
 use Rattle.nf_quick_def.specs.Quick.{Quick as QuickFlow}
 use Rattle.nf_quick_def.specs.Answers.{IsQuickFlow}

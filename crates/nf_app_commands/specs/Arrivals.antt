@@ -8,8 +8,7 @@ use Rattle.nf_model.specs.Equilibrium.{inflow, label}
 use Rattle.nf_model.specs.Quickest as times
 use Rattle.nf_net_def.specs.declared.Cause.{Cause}
 use Rattle.nf_net_def.specs.Report.{Report}
-use Rattle.nf_phase_run.specs.Finished.{bounds_of}
-use Rattle.nf_phase.specs.Solution.{IsSolution}
+use Rattle.nf_phase.specs.Solution.{bounds_of, IsSolution}
 use Rattle.nf_app_answers.specs.declared.arrival.Arrival.{Arrival}
 use Rattle.nf_app_commands.specs.Requests.{usual_budgets}
 

@@ -4,8 +4,8 @@ use Rattle.nf_rational.specs.Rational.{ℚ}
 use Rattle.nf_net_def.specs.Named.{Named}
 use Rattle.nf_thin_def.specs.PhaseRun.{Bounds}
 use Rattle.nf_gen.specs.Ladder.{ladder}
-use Rattle.nf_phase_run.specs.declared.solution.Budgets.{Budgets}
-use Rattle.nf_phase_run.specs.Finished.{bounds_of}
+use Rattle.nf_phase.specs.declared.solution.Budgets.{Budgets}
+use Rattle.nf_phase.specs.Solution.{bounds_of}
 use Rattle.nf_app_words.specs.Numbers.{usual_phases, usual_patterns}
 use Rattle.nf_app_words.specs.Requests.{Request, Solve, SolveForever, Show, Load, Check, Quick, Gen, Settle, Resume, Routes}
 use Rattle.nf_app_files.specs.Files.{Wanted, Visit, input_file, report_file}

@@ -7,9 +7,9 @@ use Rattle.nf_model.specs.Network.{Network}
 use Rattle.nf_net_def.specs.declared.Cause.{Cause}
 use Rattle.nf_thin_def.specs.PhaseRun.{Standing, IsStart}
 use Rattle.nf_thin.specs.declared.thin.ThinFlow.{ThinFlow}
-use Rattle.nf_phase_run.specs.declared.fault.StepFault.{StepFault}
-use Rattle.nf_phase_run.specs.Stepping.{Reaches, starts, IsCauseOn, tail_of}
-use Rattle.nf_phase_run.proofs.Stopping.{stands_stop}
+use Rattle.nf_phase.specs.declared.fault.StepFault.{StepFault}
+use Rattle.nf_phase.specs.Stepping.{Reaches, starts, IsCauseOn, tail_of}
+use Rattle.nf_phase.proofs.Stopping.{stands_stop}
 use Rattle.nf_forever_def.specs.ForeverRun.{GoesToEnd, GoesForever, FailsOn, End, Stops, NeverEnds, RunsForever, at_phases, fails, never_ends, goes, IsForeverRun}
 use Rattle.nf_forever.specs.declared.solving.End.{End as Told}
 use Rattle.nf_forever.specs.Ends.{end_in, IsStopBy}

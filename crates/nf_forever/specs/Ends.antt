@@ -1,8 +1,8 @@
 -- The end of a run without a horizon, as the definitions state it.
 use Rattle.std.specs.Prelude.{◌≡◌, ℕ, Some}
-use Rattle.nf_phase_run.specs.declared.fault.StepFault.{StepFault}
-use Rattle.nf_phase_run.specs.Finished.{cause_of}
-use Rattle.nf_phase_run.specs.Stepping.{tail_of}
+use Rattle.nf_phase.specs.declared.fault.StepFault.{StepFault}
+use Rattle.nf_phase.specs.Solution.{cause_of}
+use Rattle.nf_phase.specs.Stepping.{tail_of}
 use Rattle.nf_forever_def.specs.ForeverRun.{End, Stops, NeverEnds}
 use Rattle.nf_forever.specs.declared.solving.End.{End as Told}
 use Rattle.nf_forever.specs.declared.solving.End.TheVariants as told

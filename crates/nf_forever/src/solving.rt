@@ -7,7 +7,7 @@ ghost use Rattle.nf_frac_def.specs.Passing.{passes_Q};
 ghost use Rattle.nf_model.specs.Equilibrium.{Equilibrium};
 ghost use Rattle.nf_thin_def.specs.PhaseRun.{IsStart};
 ghost use Rattle.nf_curve.specs.Flows.{flow_of};
-ghost use Rattle.nf_phase_run.specs.Stepping.{tail_of};
+ghost use Rattle.nf_phase.specs.Stepping.{tail_of};
 ghost use Rattle.nf_forever_def.specs.ForeverRun.{Stops, NeverEnds, IsForeverRun, forever_of, IsForever};
 ghost use Rattle.nf_forever_def.specs.Extended.{flow_until};
 ghost use Rattle.nf_forever_def.specs.ForeverText.{HasForm};

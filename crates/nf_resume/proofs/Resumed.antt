@@ -24,7 +24,7 @@ use Rattle.nf_resume_def.specs.Restoring.{restore_list}
 use Rattle.nf_resume_def.specs.Resuming.{Stands, cut_flow, restart_list, after_check, resume_list}
 use Rattle.nf_resume_def.specs.Meanings.{GoesOnFrom, IsResumedReport}
 use Rattle.nf_resume_laws.proofs.Stepping.{resumed-goes_on}
-use Rattle.nf_phase_run.specs.Finished.{IsFinished}
+use Rattle.nf_phase.specs.Solution.{IsFinished}
 use Rattle.nf_resume.specs.declared.fault.ResumeFault.{ResumeFault}
 use Rattle.nf_resume.specs.Faults.{of_halt, IsRefusedReport, IsCause, IsResumeFault}
 

@@ -4,7 +4,7 @@ ghost use Rattle.nf_rational.specs.Operations.{0ℚ};
 ghost use Rattle.nf_rational.specs.Order.{◌≤ℚ◌};
 ghost use Rattle.nf_model.specs.Equilibrium.{label};
 ghost use Rattle.nf_curve.specs.Flows.{flow_of};
-ghost use Rattle.nf_phase_run.specs.Finished.{bounds_of};
+ghost use Rattle.nf_phase.specs.Solution.{bounds_of};
 ghost use Rattle.run_callers.specs.Arrivals.{ArrivesAt, StopsBefore};
 
 use nf_curve::Flow;

@@ -6,7 +6,7 @@ ghost use Rattle.nf_model.specs.Curve.{Within};
 ghost use Rattle.nf_model.specs.Equilibrium.{Equilibrium, label};
 ghost use Rattle.nf_net_def.specs.Report.{IsWellFormed};
 ghost use Rattle.nf_report_read.specs.Files.{report_of};
-ghost use Rattle.nf_phase_run.specs.Finished.{report_in};
+ghost use Rattle.nf_phase.specs.Solution.{report_in};
 
 use nf_frac::Q;
 use nf_net::Network;

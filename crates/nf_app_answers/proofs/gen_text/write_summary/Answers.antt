@@ -8,7 +8,7 @@ use Rattle.nf_net_def.specs.Named.{Named}
 use Rattle.nf_net_def.specs.Report.{Report}
 use Rattle.nf_report_pages.specs.Written.{WroteLines}
 use Rattle.nf_report_pages.proofs.Written.{wrote_next, wrote_failed, wrote_then_failed, same_lines}
-use Rattle.nf_phase_run.specs.Finished.{report_in}
+use Rattle.nf_phase.specs.Solution.{report_in}
 use Rattle.nf_app_answers.specs.GenText.{ladder_lines, size_lines, run_lines, end_lines, last_arrival, gen_text}
 use Rattle.nf_app_answers.proofs.gen_text.write_summary.Goals as goal
 

@@ -1,9 +1,8 @@
 use Rattle.std.proofs.Common.{◌≡◌, ℕ, ◌<◌, ap, sym, subst, ◌∙◌}
 use Rattle.std.specs.Prelude.{Some, None}
 use Rattle.std.specs.Option.{option_copied}
-use Rattle.nf_phase_run.specs.Finished.{bounds_of, report_in}
-use Rattle.nf_phase.specs.Solution.{IsSolution}
-use Rattle.nf_phase_run.specs.declared.solution.Budgets.{Budgets}
+use Rattle.nf_phase.specs.Solution.{bounds_of, report_in, IsSolution}
+use Rattle.nf_phase.specs.declared.solution.Budgets.{Budgets}
 use Rattle.nf_app_commands.proofs.QuickTold.{sink_in, at_sink, stopped_arrives, reached_arrives}
 use Rattle.nf_app_commands.proofs.arrival.arrival_at.Goals as goal
 

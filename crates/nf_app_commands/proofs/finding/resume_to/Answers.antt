@@ -4,7 +4,7 @@ use Rattle.std.proofs.lemmas.Result.{err_from_is_err_and}
 use Rattle.nf_resume_run_laws.proofs.Reading.{resumed_reads_back}
 use Rattle.nf_report_def.specs.ReportFile as reports
 use Rattle.nf_report_read.specs.Files.{IfBroken, report_of}
-use Rattle.nf_phase_run.specs.Finished.{bounds_of, report_in}
+use Rattle.nf_phase.specs.Solution.{bounds_of, report_in}
 use Rattle.nf_app_commands.proofs.Reports.{a_report}
 use Rattle.nf_app_commands.proofs.ResumeGiven.{old_refused, gone_on_given}
 use Rattle.nf_app_commands.proofs.finding.resume_to.Goals as goal

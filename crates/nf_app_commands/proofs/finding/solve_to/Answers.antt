@@ -1,5 +1,5 @@
 use Rattle.std.proofs.Common.{refl, arith}
-use Rattle.nf_phase_run.specs.Finished.{bounds_of, report_in}
+use Rattle.nf_phase.specs.Solution.{bounds_of, report_in}
 use Rattle.nf_report_run_laws.proofs.ReadingBack.{reads_back}
 use Rattle.nf_app_commands.proofs.finding.solve_to.Goals as goal
 

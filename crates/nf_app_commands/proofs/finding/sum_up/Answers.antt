@@ -1,5 +1,5 @@
 use Rattle.std.proofs.Common.{ℕ, ◌<◌, refl, sym, subst}
-use Rattle.nf_phase_run.specs.Finished.{bounds_of, report_in}
+use Rattle.nf_phase.specs.Solution.{bounds_of, report_in}
 use Rattle.nf_app_commands.proofs.QuickTold.{sink_in, at_sink, last_is_label}
 use Rattle.nf_app_commands.proofs.finding.sum_up.Goals as goal
 

@@ -3,7 +3,7 @@ use Rattle.std.specs.Prelude.{map}
 use Rattle.std.specs.Option.{option_copied}
 use Rattle.nf_net_def.specs.Report.{Report, report_text}
 use Rattle.nf_curve.specs.Flows.{flow_of}
-use Rattle.nf_phase_run.specs.Finished.{report_in}
+use Rattle.nf_phase.specs.Solution.{report_in}
 use Rattle.nf_report_def.specs.Texts.{load_text}
 use Rattle.nf_load.specs.declared.loading.Loaded as code
 use Rattle.nf_load.specs.Loadings.{loaded_of}

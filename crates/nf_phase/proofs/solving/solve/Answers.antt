@@ -1,5 +1,5 @@
-use Rattle.nf_phase_run.specs.Finished.{bounds_of}
-use Rattle.nf_phase.proofs.Solved.{solved}
+use Rattle.nf_phase.specs.Solution.{bounds_of}
+use Rattle.nf_phase.proofs.Ended.{solved}
 use Rattle.nf_phase.proofs.solving.solve.Goals as goal
 
 pub returns : goal.returns

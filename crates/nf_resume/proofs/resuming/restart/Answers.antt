@@ -15,8 +15,8 @@ use Rattle.nf_resume_def.specs.Resuming.{cut_flow}
 use Rattle.nf_resume_laws.proofs.CutFlow.{cut_flow-is}
 use Rattle.nf_resume_laws.proofs.Restarted.{Equilibrium-cut_flow, IsShortFlow-cut_flow}
 use Rattle.nf_report_read.specs.Files.{report_of}
-use Rattle.nf_phase_run.specs.Restarting.{NoneFull}
-use Rattle.nf_phase_run.proofs.Restarting.{EndsAtItsLabels-cut}
+use Rattle.nf_phase.specs.Restarting.{NoneFull}
+use Rattle.nf_phase.proofs.Restarting.{EndsAtItsLabels-cut}
 use Rattle.nf_resume.proofs.Resumed.{cut_stops, restored}
 use Rattle.nf_resume.proofs.resuming.restart.Goals as goal
 

@@ -4,7 +4,7 @@ use Rattle.nf_rational.specs.Order.{◌≤ℚ◌}
 use Rattle.std.proofs.lemmas.Result.{err_from_is_err_and}
 use Rattle.nf_frac_def.specs.Passing.{passes_Q}
 use Rattle.nf_report_read.specs.Files.{report_of}
-use Rattle.nf_phase_run.specs.Finished.{bounds_of, report_in}
+use Rattle.nf_phase.specs.Solution.{bounds_of, report_in}
 use Rattle.nf_resume.specs.Faults.{of_halt}
 use Rattle.nf_resume.proofs.Resumed.{in_time, restart_stops, is_resumed, went_on}
 use Rattle.nf_resume.proofs.resuming.resume.Goals as goal

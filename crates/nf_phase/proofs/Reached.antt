@@ -1,0 +1,106 @@
+-- Facts on every reachable run state, and the preconditions of the search for the next phase.
+use Rattle.std.proofs.Common.{◌≡◌, ℕ, List, length, true, sym, ap, subst, refl, ◌∙◌}
+use Rattle.std.specs.Prelude.{Option, Some, None, is_none}
+use Rattle.std.proofs.lemmas.List.{length-map, length-replicate}
+use Rattle.nf_rational.specs.Rational.{ℚ}
+use Rattle.nf_rational.specs.Operations.{0ℚ}
+use Rattle.nf_rational.specs.Order.{lt_ℚ}
+use Rattle.nf_rational_laws.proofs.Order.{not_both_ℚ}
+use Rattle.nf_frac_def.specs.Passing.{Passing}
+use Rattle.nf_model.specs.declared.State.TheVariants.{Full}
+use Rattle.nf_model.specs.Entries.{Has}
+use Rattle.nf_model.specs.Network.{Link, Network, IsNetwork, IsLink, hop_of, hops, unbounded}
+use Rattle.nf_model.specs.ThinFlow.{slack, slacks_of, sets_at}
+use Rattle.nf_model.specs.Pattern.{Pattern, HasState, IsPattern, IsListedIn, IsBase}
+use Rattle.nf_model_laws.proofs.Slacks.{slack_of_resetting}
+use Rattle.nf_thin_def.specs.PhaseRun.{Standing, IsStart, Goes}
+use Rattle.nf_thin_laws.proofs.Ending.{from_map}
+use Rattle.nf_pattern.proofs.FirstPatterns.{base_is_pattern, none_full}
+use Rattle.nf_thin_rank.specs.Questions.{NoneResetsUnbounded, AreSetsOf}
+use Rattle.nf_thin_laws.proofs.ActiveLinks.{AreSets-sets_at}
+use Rattle.nf_phase_laws.proofs.WellRun.{WellRun, WellRun-start}
+use Rattle.nf_phase_laws.proofs.Run.{WellRun-goes}
+use Rattle.nf_phase_laws.proofs.Standing.{unbounded_slack_at}
+use Rattle.nf_resume_def.specs.Open.{with_last}
+use Rattle.nf_resume_laws.proofs.Stepping.{WellRun-last}
+use Rattle.nf_phase.specs.Restarting.{IsRestored}
+use Rattle.nf_phase.specs.Stepping.{Reaches, starts, restored, goes_on, keeps_on}
+use Rattle.nf_phase.proofs.Restarting.{well_restored, last_restored}
+
+-- The curves are those of a run, and the last pattern is a pattern of the network's links.
+pub record Stands (net : Network) (s : Standing) : Type 0 where
+  pub well : WellRun net s
+  pub last_count : length s.last ≡ length net.links
+  pub no_full : (e : ℕ) → Has (unbounded net) e → HasState s.last e Full → ⊥
+
+Stands-start : (net : Network) (good : IsNetwork net) (s : Standing) → IsStart net s → Stands net s
+Stands-start net good s h = record {
+  well = WellRun-start net good s h;
+  last_count = ap length h.last ∙ length-replicate (length net.links) None;
+  no_full = λ e u full. none_full (length net.links) e (subst (λ (p : Pattern). HasState p e Full) h.last full);
+}
+
+none_of : (capacity : Option ℚ) → is_none capacity ≡ true → capacity ≡ None
+none_of None h = refl
+none_of (Some x) h = absurd (cc)
+
+-- An unbounded link by its number.
+unbounded_link : (net : Network) (e : ℕ) → Has (unbounded net) e → (link : Link) × IsLink net e link × (link.capacity ≡ None)
+unbounded_link net e u = let l = from_map (λ (link : Link). is_none link.capacity) net.links e true u in (l.0, l.1, none_of l.0.capacity l.2)
+
+Stands-restored : (passes : Passing) (net : Network) (good : IsNetwork net) (s : Standing) → IsRestored passes net s → Stands net s
+Stands-restored passes net good s r = record {
+  well = well_restored passes net good s r;
+  last_count = ap length (last_restored passes net good s r) ∙ r.states;
+  no_full = λ e u full. (let l = unbounded_link net e u in r.no_full e l.0 l.1 l.2 (subst (λ (p : Pattern). HasState p e Full) (last_restored passes net good s r) full));
+}
+
+pub active_count : (net : Network) (labels : List ℚ) → length (sets_at net labels).active ≡ length net.links
+active_count net labels = (AreSets-sets_at net labels).count
+
+pub slacks_count : (net : Network) (labels : List ℚ) → length (slacks_of (hops net) labels) ≡ length net.links
+slacks_count net labels = length-map (hops net) (slack labels) ∙ length-map net.links hop_of
+
+module _ (passes : Passing) (net : Network) (good : IsNetwork net) where
+  Stands-goes : (horizon : ℚ) (patterns : ℕ) (s t : Standing) → Goes passes net horizon patterns s t → Stands net s → Stands net t
+  Stands-goes horizon patterns s t g stands =
+      let first = g.finds.search.is_search.answers in
+      let listed : IsListedIn net (sets_at net s.labels) g.pattern = g.finds.search.is_search.is_listing.listed g.place g.pattern first.has_place in
+      record {
+        well = WellRun-goes passes net good (record { horizon = horizon; phases = 0; patterns = patterns }) s t g stands.well;
+        last_count = ap (λ (n : Standing). length n.last) g.new_is ∙ listed.states.count ∙ active_count net s.labels;
+        no_full = λ e u full. listed.states.no_full e u (subst (λ (n : Standing). HasState n.last e Full) g.new_is full);
+      }
+
+  -- The last pattern may be that of an earlier phase.
+  Stands-last : (horizon : ℚ) (patterns : ℕ) (s t : Standing) → Stands net s → Stands net t → Stands net (with_last s.last t)
+  Stands-last horizon patterns s t before after = record {
+    well = WellRun-last passes net good (record { horizon = horizon; phases = 0; patterns = patterns }) s.last t after.well;
+    last_count = before.last_count;
+    no_full = before.no_full;
+  }
+
+  pub Stands-reached : (s : Standing) → Reaches passes net s → Stands net s
+  Stands-reached s (starts h) = Stands-start net good s h
+  Stands-reached s (restored r) = Stands-restored passes net good s r
+  Stands-reached s (goes_on horizon patterns {s = before} earlier g) = Stands-goes horizon patterns before s g (Stands-reached before earlier)
+  Stands-reached _ (keeps_on horizon patterns {s = before} {new = t} earlier c g) =
+      let there : Stands net before = Stands-reached before earlier in
+      Stands-last horizon patterns before t there (Stands-goes horizon patterns before t g there)
+
+-- ---- the preconditions of the search
+module _ (net : Network) (good : IsNetwork net) (s : Standing) (stands : Stands net s) where
+  pub none_resets : NoneResetsUnbounded net (sets_at net s.labels)
+  none_resets e u r =
+      let l = unbounded_link net e u in
+      not_both_ℚ 0ℚ (slack s.labels (hop_of l.0)) (slack_of_resetting net s.labels e l.0 l.1 r) (unbounded_slack_at net good s stands.well e l.0 l.1 l.2)
+
+  pub sets_fit : AreSetsOf net (sets_at net s.labels)
+  sets_fit = record {
+    sets_are = AreSets-sets_at net s.labels;
+    count = length-map (slacks_of (hops net) s.labels) (lt_ℚ 0ℚ) ∙ slacks_count net s.labels;
+    bounded = none_resets;
+  }
+
+  pub base_fits : (base : Pattern) → IsBase (hops net) (sets_at net s.labels) s.last base → IsPattern (sets_at net s.labels) (unbounded net) base
+  base_fits base is = base_is_pattern (hops net) (sets_at net s.labels) (unbounded net) s.last base is (stands.last_count ∙ sym (active_count net s.labels)) stands.no_full

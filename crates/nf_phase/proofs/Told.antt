@@ -1,0 +1,39 @@
+-- The contracts on the flow of a run, and on a run restored from it. (`short_reached` states that its curves are in short form.)
+use Rattle.std.proofs.Common.{◌≡◌, ℕ, ◌<◌, ap, ◌∙◌, arith}
+use Rattle.std.specs.Prelude.{Some, slice_get}
+use Rattle.std.proofs.lemmas.Option.{slice_get_within}
+use Rattle.nf_frac_def.specs.Passing.{Passing}
+use Rattle.nf_model.specs.Entries.{number_at}
+use Rattle.nf_model.specs.Network.{Link, Network, IsNetwork, IsLink}
+use Rattle.nf_model.specs.Equilibrium.{label}
+use Rattle.nf_thin_def.specs.ReportCurves.{LinkCurves}
+use Rattle.nf_thin_def.specs.PhaseRun.{Standing, flow_of}
+use Rattle.nf_thin_def.specs.Ends.{end_of, EndsAtLabels}
+use Rattle.nf_phase_laws.proofs.WellRun.{label_points, inflow_points, outflow_points, queue_points}
+use Rattle.nf_rational_laws.proofs.Entries.{entry}
+use Rattle.nf_phase.specs.Restarting.{EndsAtItsLabels}
+use Rattle.nf_phase.specs.Stepping.{Reaches}
+use Rattle.nf_phase.proofs.Reached.{Stands, Stands-reached}
+use Rattle.nf_phase.proofs.Stepped.{ends_reached}
+use Rattle.nf_phase.proofs.ShortReached.{keeps_reached}
+
+module _ (passes : Passing) (net : Network) (good : IsNetwork net) (s : Standing) (reaches : Reaches passes net s) where
+  stands : Stands net s
+  stands = Stands-reached passes net good s reaches
+
+  ends : EndsAtLabels net s
+  ends = ends_reached passes net good s reaches
+
+  kept : (v : ℕ) → v < net.nodes → number_at s.labels v ≡ label (flow_of s) v s.time
+  kept = (keeps_reached passes net good s reaches).values
+
+  curves_at : (e : ℕ) (link : Link) → IsLink net e link → (c : LinkCurves) × (slice_get s.link_curves e ≡ Some c)
+  curves_at e link p = entry s.link_curves e (let b = slice_get_within net.links e link p in let n = stands.well.link_count in omega arith)
+
+  pub ends_told : EndsAtItsLabels net (flow_of s)
+  ends_told = record {
+    labels = λ v h. (let c = entry s.label_curves v (let n = stands.well.label_count in omega arith) in ap end_of (label_points s v c.0 c.1) ∙ ends.labels v c.0 c.1);
+    inflows = λ e link p. (let c = curves_at e link p in ap end_of (inflow_points s e c.0 c.1) ∙ ends.inflows e link c.0 p c.1 ∙ kept link.tail (good.tails e link p));
+    outflows = λ e link p. (let c = curves_at e link p in ap end_of (outflow_points s e c.0 c.1) ∙ ends.outflows e link c.0 p c.1 ∙ kept link.head (good.heads e link p));
+    queues = λ e link p. (let c = curves_at e link p in ap end_of (queue_points s e c.0 c.1) ∙ ends.queues e link c.0 p c.1 ∙ kept link.tail (good.tails e link p));
+  }

@@ -1,0 +1,115 @@
+use Rattle.std.proofs.Common.{List, length, map, refl, sym, ap, subst, ◌∙◌}
+use Rattle.std.specs.Prelude.{Ok}
+use Rattle.std.proofs.lemmas.Result.{err_from_is_err_and, IfOk-from_err}
+use Rattle.nf_frac_def.specs.declared.Part.TheVariants.{Curve}
+use Rattle.nf_frac_def.specs.Passing.{passes_Q}
+use Rattle.nf_frac_def.specs.Checked.{each, at_part}
+use Rattle.nf_model.specs.Equilibrium.{HasSlopes}
+use Rattle.nf_thin_def.specs.PhaseRun.{Standing}
+use Rattle.nf_resume_def.specs.Restoring.{value_at_end, growing, restore_list}
+use Rattle.nf_curve.specs.Points.{Grown}
+use Rattle.nf_curve.specs.Flows.{trace_of, flow_of as flow_in}
+use Rattle.nf_curve.specs.declared.flow.Trace as code
+use Rattle.nf_curve.proofs.Exits.{was_ok, stops_on}
+use Rattle.nf_phase_curves.specs.Growing.{all_grown}
+use Rattle.nf_phase_curves.specs.Restoring.{of_links}
+use Rattle.nf_phase.specs.Stepping.{restored}
+use Rattle.nf_phase.proofs.Restarting.{flow_restored}
+use Rattle.nf_phase.proofs.RestoreList.{labels_pass, links_pass, list_made, ends_same, flow_counts}
+use Rattle.nf_phase.proofs.ShortReached.{keeps_reached}
+use Rattle.nf_phase.proofs.Standings.{same_parts}
+use Rattle.nf_phase.proofs.Stepped.{ends_reached}
+use Rattle.nf_phase.proofs.run.Run.restore.Goals as goal
+
+pub restore_links-requires-clause-outflows : goal.restore_links-requires-clause-outflows
+restore_links-requires-clause-outflows c =
+    ap (λ (l : List code.Trace). length l) c.deref-4.ensures.value ∙ (flow_counts c.args.net.now.net c.args.flow c.requires.equilibrium).0 ∙ sym (ap (λ (l : List code.Trace). length l) c.deref-3.ensures.value)
+
+pub restore_links-requires-clause-queues : goal.restore_links-requires-clause-queues
+restore_links-requires-clause-queues c =
+    ap (λ (l : List Grown). length l) c.deref-5.ensures.value ∙ (flow_counts c.args.net.now.net c.args.flow c.requires.equilibrium).1 ∙ sym (ap (λ (l : List code.Trace). length l) c.deref-3.ensures.value)
+
+pub restore_links-requires-clause-inflow_rates : goal.restore_links-requires-clause-inflow_rates
+restore_links-requires-clause-inflow_rates c =
+    subst (λ (l : List code.Trace). HasSlopes (map trace_of l)) (sym c.deref-3.ensures.value) c.requires.equilibrium.inflow_rates
+
+pub restore_links-requires-clause-outflow_rates : goal.restore_links-requires-clause-outflow_rates
+restore_links-requires-clause-outflow_rates c =
+    subst (λ (l : List code.Trace). HasSlopes (map trace_of l)) (sym c.deref-4.ensures.value) c.requires.equilibrium.outflow_rates
+
+pub returns-in_err-label_curves-clause-list : goal.returns-in_err-label_curves-clause-list
+returns-in_err-label_curves-clause-list c =
+    let p = err_from_is_err_and c.from_residual-in_err-label_curves.result c.from_residual-in_err-label_curves.ensures.1 in
+    rw (p.1, p.2) (stops_on c.in_err-label_curves.field-0.0 (at_part Curve (each (growing passes_Q) (map (λ (g : Grown). g.points) c.deref-2.result.now))) (at_part Curve (restore_list passes_Q (flow_in c.args.flow) c.args.last))
+    (λ at e. labels_pass passes_Q (flow_in c.args.flow) c.args.last at (ap (λ (l : List Grown). at_part Curve (each (growing passes_Q) (map (λ (g : Grown). g.points) l))) (sym c.deref-2.ensures.value) ∙ e)) c.in_err-label_curves.ensures)
+
+pub returns-in_err-link_curves-clause-list : goal.returns-in_err-link_curves-clause-list
+returns-in_err-link_curves-clause-list c =
+    let p = err_from_is_err_and c.from_residual-in_err-link_curves.result c.from_residual-in_err-link_curves.ensures.1 in
+    rw (p.1, p.2) (stops_on c.in_err-link_curves.field-0.0 (at_part Curve (of_links passes_Q (map trace_of c.deref-3.result.now) (map trace_of c.deref-4.result.now) (map (λ (g : Grown). g.points) c.deref-5.result.now)))
+    (at_part Curve (restore_list passes_Q (flow_in c.args.flow) c.args.last))
+    (λ at e. links_pass passes_Q (flow_in c.args.flow) c.args.last (all_grown c.in_ok-label_curves.label_curves.items)
+    (ap (λ (l : List Grown). at_part Curve (each (growing passes_Q) (map (λ (g : Grown). g.points) l))) (sym c.deref-2.ensures.value) ∙ c.in_ok-label_curves.ensures) at
+    (rw (sym c.deref-3.ensures.value, sym c.deref-4.ensures.value, sym c.deref-5.ensures.value) e)) c.in_err-link_curves.ensures)
+
+pub returns-clause-list : goal.returns-clause-list
+returns-clause-list c =
+    list_made passes_Q (flow_in c.args.flow) c.args.last (all_grown c.in_ok-label_curves.label_curves.items)
+    (ap (λ (l : List Grown). at_part Curve (each (growing passes_Q) (map (λ (g : Grown). g.points) l))) (sym c.deref-2.ensures.value) ∙ c.in_ok-label_curves.ensures) (all_grown c.in_ok-link_curves.link_curves.items)
+    (rw (sym c.deref-3.ensures.value, sym c.deref-4.ensures.value, sym c.deref-5.ensures.value) c.in_ok-link_curves.ensures)
+    ∙ ap (λ (s : Standing). Ok s) (same_parts c.args.flow.reached _ _ (all_grown c.in_ok-label_curves.label_curves.items) (all_grown c.in_ok-link_curves.link_curves.items) c.args.last
+    (ends_same c.args.flow.labels.items ∙ sym (c.in_ok-labels.ensures ∙ ap (map (λ (g : Grown). value_at_end g.points)) c.deref.ensures.value)))
+
+pub returns-clause-reaches : goal.returns-clause-reaches
+returns-clause-reaches c = restored (record {
+  flow = (flow_in c.args.flow);
+  last = c.args.last;
+  equilibrium = c.requires.equilibrium;
+  ends = c.requires.ends;
+  short = c.requires.short;
+  states = c.requires.states;
+  no_full = c.requires.no_full;
+  stands = was_ok Curve (restore_list passes_Q (flow_in c.args.flow) c.args.last) _ (returns-clause-list c);
+})
+
+pub returns-clause-ends : goal.returns-clause-ends
+returns-clause-ends c = ends_reached passes_Q c.args.net.now.net c.recall.ensures.network _ (returns-clause-reaches c)
+
+pub returns-clause-labels : goal.returns-clause-labels
+returns-clause-labels c = keeps_reached passes_Q c.args.net.now.net c.recall.ensures.network _ (returns-clause-reaches c)
+
+pub returns-clause-flow : goal.returns-clause-flow
+returns-clause-flow c = flow_restored passes_Q c.args.net.now.net c.recall.ensures.network _ (record {
+  flow = (flow_in c.args.flow);
+  last = c.args.last;
+  equilibrium = c.requires.equilibrium;
+  ends = c.requires.ends;
+  short = c.requires.short;
+  states = c.requires.states;
+  no_full = c.requires.no_full;
+  stands = was_ok Curve (restore_list passes_Q (flow_in c.args.flow) c.args.last) _ (returns-clause-list c);
+})
+
+pub same-last : goal.same-last
+same-last c = refl
+
+pub returns-clause-last : goal.returns-clause-last
+returns-clause-last c = refl
+
+pub returns-in_err-labels-clause-ends : goal.returns-in_err-labels-clause-ends
+returns-in_err-labels-clause-ends c = IfOk-from_err c.from_residual.result _ c.from_residual.ensures.0
+
+pub returns-in_err-labels-clause-labels : goal.returns-in_err-labels-clause-labels
+returns-in_err-labels-clause-labels c = IfOk-from_err c.from_residual.result _ c.from_residual.ensures.0
+
+pub returns-in_err-label_curves-clause-ends : goal.returns-in_err-label_curves-clause-ends
+returns-in_err-label_curves-clause-ends c = IfOk-from_err c.from_residual-in_err-label_curves.result _ c.from_residual-in_err-label_curves.ensures.0
+
+pub returns-in_err-label_curves-clause-labels : goal.returns-in_err-label_curves-clause-labels
+returns-in_err-label_curves-clause-labels c = IfOk-from_err c.from_residual-in_err-label_curves.result _ c.from_residual-in_err-label_curves.ensures.0
+
+pub returns-in_err-link_curves-clause-ends : goal.returns-in_err-link_curves-clause-ends
+returns-in_err-link_curves-clause-ends c = IfOk-from_err c.from_residual-in_err-link_curves.result _ c.from_residual-in_err-link_curves.ensures.0
+
+pub returns-in_err-link_curves-clause-labels : goal.returns-in_err-link_curves-clause-labels
+returns-in_err-link_curves-clause-labels c = IfOk-from_err c.from_residual-in_err-link_curves.result _ c.from_residual-in_err-link_curves.ensures.0

@@ -1,0 +1,37 @@
+use Rattle.std.proofs.Common.{◌≡◌, suc, ap, ◌∙◌}
+use Rattle.nf_frac_def.specs.Passing.{passes_Q}
+use Rattle.nf_thin_def.specs.PhaseRun.{Standing}
+use Rattle.nf_phase_laws.proofs.Standing.{label_count_at}
+use Rattle.nf_thin_rank.proofs.Hops.{below_nodes}
+use Rattle.nf_phase.specs.Faults.{of_halt}
+use Rattle.nf_phase.specs.Stepping.{StandsFor}
+use Rattle.nf_phase.specs.Finding.{FindsNone}
+use Rattle.nf_phase.proofs.Reached.{Stands-reached}
+use Rattle.nf_phase.proofs.Found.{by_fault, slacks_cause, slacks_made}
+use Rattle.nf_phase.proofs.run.Run.slacks.Goals as goal
+
+pub slacks-requires : goal.slacks-requires
+slacks-requires c =
+    let good = c.hops.ensures.named.network in
+    let stands = Stands-reached passes_Q c.args.net.now.net good c.args.self.now c.requires.reaches in
+    let labels : c.deref.result.now ≡ c.args.self.now.labels = c.deref.ensures.value ∙ ap (λ (s : Standing). s.labels) c.self.view_is in
+    rw (labels, c.hops.ensures.value, label_count_at c.args.net.now.net good c.args.self.now stands.well) (below_nodes c.args.net.now.net good)
+
+pub returns-in_err-slacks-clause-cause : goal.returns-in_err-slacks-clause-cause
+returns-in_err-slacks-clause-cause c = λ patterns.
+    by_fault c.from_residual.result (of_halt c.in_err-slacks.field-0.0) (StandsFor (FindsNone passes_Q c.args.net.now.net patterns c.args.self.now) (suc c.args.self.now.made)) c.from_residual.ensures.1
+    (slacks_cause passes_Q c.args.net.now.net patterns c.args.self.now c.hops.result.now c.deref.result.now c.hops.ensures.value
+    (c.deref.ensures.value ∙ ap (λ (s : Standing). s.labels) c.self.view_is) c.in_err-slacks.field-0.0 c.in_err-slacks.ensures.list)
+
+pub returns-clause-slacks : goal.returns-clause-slacks
+returns-clause-slacks c =
+    (slacks_made passes_Q c.args.net.now.net 0 c.args.self.now c.hops.result.now c.deref.result.now c.in_ok-slacks.slacks.items c.hops.ensures.value
+    (c.deref.ensures.value ∙ ap (λ (s : Standing). s.labels) c.self.view_is) c.in_ok-slacks.ensures.list).0
+
+pub returns-clause-list : goal.returns-clause-list
+returns-clause-list c =
+    (slacks_made passes_Q c.args.net.now.net 0 c.args.self.now c.hops.result.now c.deref.result.now c.in_ok-slacks.slacks.items c.hops.ensures.value
+    (c.deref.ensures.value ∙ ap (λ (s : Standing). s.labels) c.self.view_is) c.in_ok-slacks.ensures.list).1
+
+pub returns-clause-cause : goal.returns-clause-cause
+returns-clause-cause c = λ patterns. tt

@@ -1,0 +1,215 @@
+use Rattle.std.proofs.Common.{refl, sym, ap, subst, ◌∙◌}
+use Rattle.std.specs.Prelude.{Option, Ok}
+use Rattle.std.proofs.lemmas.Bool.{false≢true}
+use Rattle.std.proofs.lemmas.Option.{MatchOption-at_some}
+use Rattle.std.proofs.lemmas.Result.{IfOk-from_err}
+use Rattle.nf_rational.specs.Rational.{ℚ}
+use Rattle.nf_rational.specs.Order.{◌<ℚ◌}
+use Rattle.nf_frac_def.specs.Passing.{passes_Q}
+use Rattle.nf_thin_def.specs.PhaseRun.{Standing}
+use Rattle.nf_forever_def.specs.ForeverRun.{GoesToEnd}
+use Rattle.nf_phase_curves.proofs.Places.{holds_anyway}
+use Rattle.nf_phase.specs.Stepping.{Reaches, goes_on}
+use Rattle.nf_phase.specs.declared.fault.StepFault.{StepFault}
+use Rattle.nf_phase.proofs.Found.{by_fault}
+use Rattle.nf_phase.proofs.PhaseFound.{slack_count, thin_slope_count}
+use Rattle.nf_phase.proofs.ShortReached.{short_reached, keeps_reached}
+use Rattle.nf_phase.proofs.Stepped.{equilibrium_reached, ends_reached}
+use Rattle.nf_phase.proofs.ToEnd.{found_none_on, end_passes, goes_forever, lists_pass, goes_to_end}
+use Rattle.nf_phase.proofs.run.Run.step_to_end.Goals as goal
+
+pub returns-in_err-found-clause-cause : goal.returns-in_err-found-clause-cause
+returns-in_err-found-clause-cause c =
+    found_none_on passes_Q c.args.net.now.net c.args.patterns c.args.self.now c.from_residual.result c.in_err-found.field-0.0 c.from_residual.ensures.1 c.in_err-found.ensures.cause
+
+pub end_of-requires-clause-slacks : goal.end_of-requires-clause-slacks
+end_of-requires-clause-slacks c = slack_count passes_Q c.args.net.now.net c.args.patterns c.args.self.now c.in_ok-found.found c.in_ok-found.ensures.found c.deref.result.now c.deref.ensures.value
+
+pub end_of-requires-clause-slopes : goal.end_of-requires-clause-slopes
+end_of-requires-clause-slopes c = thin_slope_count passes_Q c.args.net.now.net c.args.patterns c.args.self.now c.in_ok-found.found c.in_ok-found.ensures.found c.deref-2.result.now c.deref-2.ensures.value
+
+pub returns-in_err-end-clause-cause : goal.returns-in_err-end-clause-cause
+returns-in_err-end-clause-cause c =
+    end_passes passes_Q c.args.net.now.net c.args.patterns c.args.self.now c.in_ok-found.found c.in_ok-found.ensures.found c.deref.result.now c.deref-2.result.now c.self.inside.reached
+    c.deref.ensures.value c.deref-2.ensures.value (ap (λ (s : Standing). s.time) c.self.view_is)
+    c.in_err-end.field-0.0 c.in_err-end.ensures.list c.from_residual-in_err-end.result c.from_residual-in_err-end.ensures.1
+
+pub returns-in_default-clause-phase : goal.returns-in_default-clause-phase
+returns-in_default-clause-phase c =
+    goes_forever passes_Q c.args.net.now.net c.args.patterns c.args.self.now c.in_ok-found.found c.in_ok-found.ensures.found c.deref.result.now c.deref-2.result.now c.self.inside.reached
+    c.deref.ensures.value c.deref-2.ensures.value (ap (λ (s : Standing). s.time) c.self.view_is)
+    (ap (λ (o : Option ℚ). Ok o) (sym c.in_default.is) ∙ c.in_ok-end.ensures.list)
+
+pub returns-in_err-phase-clause-cause : goal.returns-in_err-phase-clause-cause
+returns-in_err-phase-clause-cause c =
+    lists_pass passes_Q c.args.net.now.net c.args.patterns c.args.self.now c.in_ok-found.found c.in_ok-found.ensures.found c.deref.result.now c.deref-2.result.now c.self.inside.reached
+    c.deref.ensures.value c.deref-2.ensures.value (ap (λ (s : Standing). s.time) c.self.view_is)
+    c.in-Some.end (ap (λ (o : Option ℚ). Ok o) (sym c.in-Some.is) ∙ c.in_ok-end.ensures.list)
+    c.from_residual-in_err-phase.result c.in_err-phase.field-0.0 c.from_residual-in_err-phase.ensures.1 c.in_err-phase.ensures.cause
+
+pub returns-in_err-extend_by-clause-cause : goal.returns-in_err-extend_by-clause-cause
+returns-in_err-extend_by-clause-cause c = by_fault c.from_residual-in_err-extend_by.result StepFault.Memory _ c.from_residual-in_err-extend_by.ensures.1 tt
+
+pub returns-clause-phase : goal.returns-clause-phase
+returns-clause-phase c =
+    goes_to_end passes_Q c.args.net.now.net c.args.patterns c.args.self.now c.in_ok-found.found c.in_ok-found.ensures.found c.deref.result.now c.deref-2.result.now c.self.inside.reached
+    c.deref.ensures.value c.deref-2.ensures.value (ap (λ (s : Standing). s.time) c.self.view_is)
+    c.in-Some.end (ap (λ (o : Option ℚ). Ok o) (sym c.in-Some.is) ∙ c.in_ok-end.ensures.list)
+    c.in_ok-phase.phase (c.in_ok-phase.ensures.leads c.args.patterns c.in_ok-found.ensures.found) c.in_ok-phase.ensures.slopes c.extend_by.new.self c.in_ok-extend_by.ensures.made
+
+pub returns-clause-reaches : goal.returns-clause-reaches
+returns-clause-reaches c =
+    let g : GoesToEnd passes_Q c.args.net.now.net c.args.patterns c.args.self.now c.extend_by.new.self = returns-clause-phase c in
+    goes_on g.end c.args.patterns c.requires.reaches g.goes
+
+pub phase_by-requires-clause-reaches : goal.phase_by-requires-clause-reaches
+phase_by-requires-clause-reaches c = c.requires.reaches
+
+pub phase_by-requires-clause-named : goal.phase_by-requires-clause-named
+phase_by-requires-clause-named c = c.in_ok-found.ensures.named
+
+pub phase_by-requires-clause-found : goal.phase_by-requires-clause-found
+phase_by-requires-clause-found c = (c.args.patterns, c.in_ok-found.ensures.found)
+
+pub phase_by-requires-clause-below : goal.phase_by-requires-clause-below
+phase_by-requires-clause-below c =
+    subst (λ (s : Standing). s.time <ℚ c.in-Some.end) c.self.view_is (MatchOption-at_some _ (λ (end : ℚ). c.self.inside.reached <ℚ end) c.in-Some.end c.in-Some.is c.in_ok-end.ensures.later)
+
+pub extend_by-requires-clause-reaches : goal.extend_by-requires-clause-reaches
+extend_by-requires-clause-reaches c = c.requires.reaches
+
+pub extend_by-requires-clause-named : goal.extend_by-requires-clause-named
+extend_by-requires-clause-named c = c.in_ok-found.ensures.named
+
+pub extend_by-requires-clause-more : goal.extend_by-requires-clause-more
+extend_by-requires-clause-more c = c.requires.more
+
+pub extend_by-requires-clause-leads : goal.extend_by-requires-clause-leads
+extend_by-requires-clause-leads c = (c.in-Some.end, c.args.patterns, c.in_ok-phase.ensures.leads c.args.patterns c.in_ok-found.ensures.found)
+
+pub returns-in_err-end-clause-reaches : goal.returns-in_err-end-clause-reaches
+returns-in_err-end-clause-reaches c = c.requires.reaches
+
+pub returns-in_err-end-clause-kept : goal.returns-in_err-end-clause-kept
+returns-in_err-end-clause-kept c = holds_anyway c.from_residual-in_err-end.result _ refl
+
+pub returns-in_err-phase-clause-reaches : goal.returns-in_err-phase-clause-reaches
+returns-in_err-phase-clause-reaches c = c.requires.reaches
+
+pub returns-in_err-phase-clause-kept : goal.returns-in_err-phase-clause-kept
+returns-in_err-phase-clause-kept c = holds_anyway c.from_residual-in_err-phase.result _ refl
+
+pub returns-in_default-clause-reaches : goal.returns-in_default-clause-reaches
+returns-in_default-clause-reaches c = c.requires.reaches
+
+pub returns-in_default-clause-stays : goal.returns-in_default-clause-stays
+returns-in_default-clause-stays c = λ some. refl
+
+pub returns-in_err-extend_by-clause-reaches : goal.returns-in_err-extend_by-clause-reaches
+returns-in_err-extend_by-clause-reaches c = subst (λ (s : Standing). Reaches passes_Q c.args.net.now.net s) (sym c.in_err-extend_by.ensures.kept) c.requires.reaches
+
+pub returns-in_err-extend_by-clause-kept : goal.returns-in_err-extend_by-clause-kept
+returns-in_err-extend_by-clause-kept c = holds_anyway c.from_residual-in_err-extend_by.result _ c.in_err-extend_by.ensures.kept
+
+pub returns-clause-stays : goal.returns-clause-stays
+returns-clause-stays c = λ some. absurd (false≢true some)
+
+pub returns-in_err-end-clause-phase : goal.returns-in_err-end-clause-phase
+returns-in_err-end-clause-phase c = IfOk-from_err c.from_residual-in_err-end.result _ c.from_residual-in_err-end.ensures.0
+
+pub returns-in_err-end-clause-stays : goal.returns-in_err-end-clause-stays
+returns-in_err-end-clause-stays c = IfOk-from_err c.from_residual-in_err-end.result _ c.from_residual-in_err-end.ensures.0
+
+pub returns-in_err-phase-clause-phase : goal.returns-in_err-phase-clause-phase
+returns-in_err-phase-clause-phase c = IfOk-from_err c.from_residual-in_err-phase.result _ c.from_residual-in_err-phase.ensures.0
+
+pub returns-in_err-phase-clause-stays : goal.returns-in_err-phase-clause-stays
+returns-in_err-phase-clause-stays c = IfOk-from_err c.from_residual-in_err-phase.result _ c.from_residual-in_err-phase.ensures.0
+
+pub returns-in_err-extend_by-clause-phase : goal.returns-in_err-extend_by-clause-phase
+returns-in_err-extend_by-clause-phase c = IfOk-from_err c.from_residual-in_err-extend_by.result _ c.from_residual-in_err-extend_by.ensures.0
+
+pub returns-in_err-extend_by-clause-stays : goal.returns-in_err-extend_by-clause-stays
+returns-in_err-extend_by-clause-stays c = IfOk-from_err c.from_residual-in_err-extend_by.result _ c.from_residual-in_err-extend_by.ensures.0
+
+pub same-self-in_err-end : goal.same-self-in_err-end
+same-self-in_err-end c = refl
+
+pub same-self-in_default : goal.same-self-in_default
+same-self-in_default c = refl
+
+pub same-self-2 : goal.same-self-2
+same-self-2 c = refl
+
+-- ---- facts on every reachable run state; without a phase the run state is unchanged
+pub returns-clause-equilibrium : goal.returns-clause-equilibrium
+returns-clause-equilibrium c = equilibrium_reached passes_Q c.args.net.now.net c.find.ensures.named.network _ (returns-clause-reaches c)
+
+pub returns-clause-ends : goal.returns-clause-ends
+returns-clause-ends c = ends_reached passes_Q c.args.net.now.net c.find.ensures.named.network _ (returns-clause-reaches c)
+
+pub returns-clause-labels : goal.returns-clause-labels
+returns-clause-labels c = keeps_reached passes_Q c.args.net.now.net c.find.ensures.named.network _ (returns-clause-reaches c)
+
+pub returns-clause-short : goal.returns-clause-short
+returns-clause-short c = short_reached passes_Q c.args.net.now.net c.find.ensures.named.network _ (returns-clause-reaches c)
+
+pub returns-in_default-clause-equilibrium : goal.returns-in_default-clause-equilibrium
+returns-in_default-clause-equilibrium c = equilibrium_reached passes_Q c.args.net.now.net c.find.ensures.named.network _ c.requires.reaches
+
+pub returns-in_default-clause-ends : goal.returns-in_default-clause-ends
+returns-in_default-clause-ends c = ends_reached passes_Q c.args.net.now.net c.find.ensures.named.network _ c.requires.reaches
+
+pub returns-in_default-clause-labels : goal.returns-in_default-clause-labels
+returns-in_default-clause-labels c = keeps_reached passes_Q c.args.net.now.net c.find.ensures.named.network _ c.requires.reaches
+
+pub returns-in_default-clause-short : goal.returns-in_default-clause-short
+returns-in_default-clause-short c = short_reached passes_Q c.args.net.now.net c.find.ensures.named.network _ c.requires.reaches
+
+pub returns-in_err-found-clause-equilibrium : goal.returns-in_err-found-clause-equilibrium
+returns-in_err-found-clause-equilibrium c = equilibrium_reached passes_Q c.args.net.now.net c.find.ensures.named.network _ c.requires.reaches
+
+pub returns-in_err-found-clause-ends : goal.returns-in_err-found-clause-ends
+returns-in_err-found-clause-ends c = ends_reached passes_Q c.args.net.now.net c.find.ensures.named.network _ c.requires.reaches
+
+pub returns-in_err-found-clause-labels : goal.returns-in_err-found-clause-labels
+returns-in_err-found-clause-labels c = keeps_reached passes_Q c.args.net.now.net c.find.ensures.named.network _ c.requires.reaches
+
+pub returns-in_err-found-clause-short : goal.returns-in_err-found-clause-short
+returns-in_err-found-clause-short c = short_reached passes_Q c.args.net.now.net c.find.ensures.named.network _ c.requires.reaches
+
+pub returns-in_err-end-clause-equilibrium : goal.returns-in_err-end-clause-equilibrium
+returns-in_err-end-clause-equilibrium c = equilibrium_reached passes_Q c.args.net.now.net c.find.ensures.named.network _ c.requires.reaches
+
+pub returns-in_err-end-clause-ends : goal.returns-in_err-end-clause-ends
+returns-in_err-end-clause-ends c = ends_reached passes_Q c.args.net.now.net c.find.ensures.named.network _ c.requires.reaches
+
+pub returns-in_err-end-clause-labels : goal.returns-in_err-end-clause-labels
+returns-in_err-end-clause-labels c = keeps_reached passes_Q c.args.net.now.net c.find.ensures.named.network _ c.requires.reaches
+
+pub returns-in_err-end-clause-short : goal.returns-in_err-end-clause-short
+returns-in_err-end-clause-short c = short_reached passes_Q c.args.net.now.net c.find.ensures.named.network _ c.requires.reaches
+
+pub returns-in_err-phase-clause-equilibrium : goal.returns-in_err-phase-clause-equilibrium
+returns-in_err-phase-clause-equilibrium c = equilibrium_reached passes_Q c.args.net.now.net c.find.ensures.named.network _ c.requires.reaches
+
+pub returns-in_err-phase-clause-ends : goal.returns-in_err-phase-clause-ends
+returns-in_err-phase-clause-ends c = ends_reached passes_Q c.args.net.now.net c.find.ensures.named.network _ c.requires.reaches
+
+pub returns-in_err-phase-clause-labels : goal.returns-in_err-phase-clause-labels
+returns-in_err-phase-clause-labels c = keeps_reached passes_Q c.args.net.now.net c.find.ensures.named.network _ c.requires.reaches
+
+pub returns-in_err-phase-clause-short : goal.returns-in_err-phase-clause-short
+returns-in_err-phase-clause-short c = short_reached passes_Q c.args.net.now.net c.find.ensures.named.network _ c.requires.reaches
+
+pub returns-in_err-extend_by-clause-equilibrium : goal.returns-in_err-extend_by-clause-equilibrium
+returns-in_err-extend_by-clause-equilibrium c = equilibrium_reached passes_Q c.args.net.now.net c.find.ensures.named.network _ (returns-in_err-extend_by-clause-reaches c)
+
+pub returns-in_err-extend_by-clause-ends : goal.returns-in_err-extend_by-clause-ends
+returns-in_err-extend_by-clause-ends c = ends_reached passes_Q c.args.net.now.net c.find.ensures.named.network _ (returns-in_err-extend_by-clause-reaches c)
+
+pub returns-in_err-extend_by-clause-labels : goal.returns-in_err-extend_by-clause-labels
+returns-in_err-extend_by-clause-labels c = keeps_reached passes_Q c.args.net.now.net c.find.ensures.named.network _ (returns-in_err-extend_by-clause-reaches c)
+
+pub returns-in_err-extend_by-clause-short : goal.returns-in_err-extend_by-clause-short
+returns-in_err-extend_by-clause-short c = short_reached passes_Q c.args.net.now.net c.find.ensures.named.network _ (returns-in_err-extend_by-clause-reaches c)

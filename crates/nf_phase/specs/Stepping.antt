@@ -1,0 +1,51 @@
+-- The reachable run states, and the reasons why no further phase is computed.
+use Rattle.std.specs.Prelude.{◌≡◌, ℕ, suc, List, Some, None}
+use Rattle.nf_rational.specs.Rational.{ℚ}
+use Rattle.nf_frac_def.specs.Passing.{Passing}
+use Rattle.nf_model.specs.Network.{Network}
+use Rattle.nf_model.specs.Phases.{IsPhase}
+use Rattle.nf_net_def.specs.declared.Cause.{Cause}
+use Rattle.nf_thin_def.specs.PhaseRun.{Standing, IsStart, Goes, Fails}
+use Rattle.nf_resume_def.specs.Open.{Continues, with_last}
+use Rattle.nf_forever_def.specs.Tails.{Tail}
+use Rattle.nf_forever_def.specs.ForeverRun.{FailsOn}
+use Rattle.nf_thin.specs.declared.fault.SearchFault.TheVariants as SearchFault
+use Rattle.nf_thin.specs.declared.thin.ThinFlow.{ThinFlow}
+use Rattle.nf_phase.specs.declared.fault.StepFault.{StepFault}
+use Rattle.nf_phase.specs.Restarting.{IsRestored}
+
+-- A run begins at departure 0, or is restored from a flow. It is extended phase by phase, each phase with its own horizon and budget of
+-- patterns. A phase that is the remainder of an interrupted one may keep the last pattern.
+pub data Reaches (passes : Passing) (net : Network) : Standing → Type 0 where
+  starts : {s : Standing} → IsStart net s → Reaches passes net s
+  restored : {s : Standing} → IsRestored passes net s → Reaches passes net s
+  goes_on : (horizon : ℚ) (patterns : ℕ) {s new : Standing} → Reaches passes net s → Goes passes net horizon patterns s new
+      → Reaches passes net new
+  keeps_on : (horizon : ℚ) (patterns : ℕ) {s new : Standing} → Reaches passes net s → Continues net s
+      → Goes passes net horizon patterns s new → Reaches passes net (with_last s.last new)
+
+-- The fault at phase number `phase` represents one of these causes. An allocation failure implies nothing, and is never the payload of
+-- `Search`.
+abbrev pub StandsFor : (Cause ℚ → Type 0) → ℕ → StepFault → Type 0
+StandsFor Causes phase (StepFault.Search (SearchFault.Budget tried)) = Causes (Cause.Patterns phase tried)
+StandsFor Causes phase (StepFault.Search (SearchFault.Passed place at)) = Causes (Cause.Passed phase (Some place) at)
+StandsFor Causes phase (StepFault.Search SearchFault.NoPattern) = Causes (Cause.NoPattern phase)
+StandsFor Causes phase (StepFault.Search SearchFault.Memory) = ⊥
+StandsFor Causes phase (StepFault.Passed at) = Causes (Cause.Passed phase None at)
+StandsFor Causes phase StepFault.Memory = Unit {0}
+
+-- Why the next phase is not computed, to a horizon or with unlimited length.
+abbrev pub IsCause : Passing → Network → ℚ → ℕ → Standing → StepFault → Type 0
+IsCause passes net horizon patterns s = StandsFor (Fails passes net horizon patterns s) (suc s.made)
+
+abbrev pub IsCauseOn : Passing → Network → ℕ → Standing → StepFault → Type 0
+IsCauseOn passes net patterns s = StandsFor (FailsOn passes net patterns s) (suc s.made)
+
+-- The slopes and flows of a thin flow by which the run continues forever.
+abbrev pub tail_of : ThinFlow → Tail
+tail_of thin = record { slopes = thin.slopes.items; flows = thin.flows.items }
+
+-- One phase leads from the old departure and labels to the new ones, and to no others.
+pub record LeadsOnlyTo (net : Network) (horizon : ℚ) (old new : ℚ × List ℚ) : Type 0 where
+  pub is_phase : IsPhase net horizon old new
+  pub only : (other : ℚ × List ℚ) → IsPhase net horizon old other → other ≡ new

@@ -1,6 +1,0 @@
-use Rattle.std.proofs.Common.{ℕ, ◌<◌}
-use Rattle.nf_phase_run.specs.Restarting.{ApartAt}
-use Rattle.nf_phase_run.proofs.open_runs.are_apart.Given as goal
-
-abbrev pub invariant-loop-e : goal.invariant-loop-e
-invariant-loop-e l = (k : ℕ) → k < l.e → ApartAt l.slacks l.last k

@@ -1,6 +1,0 @@
-pub mod StandingCode
-pub mod Faults
-pub mod Stepping
-pub mod Finding
-pub mod Restarting
-pub mod Finished
