@@ -23,11 +23,11 @@ use Rattle.nf_unique_laws.proofs.Exits.{SameInAll-equilibrium}
 use Rattle.nf_app_words.specs.Requests.{Request, Solve, SolveForever, Show, Load, Check, Quick, Gen, Settle, Resume, Routes}
 use Rattle.nf_app_answers.specs.declared.arrival.Arrival.{Arrival}
 use Rattle.nf_app_answers.specs.Answers.{ProgramAnswer, Solved, SolvedForever, Shown, Loaded, Checked, Quickest, TooManyWalks, Generated, Settled, Distributed, MalformedLoads, MalformedFlows, MalformedRoutes, MalformedReport, Passes, Unbounded, NotThin, Earlier}
-use Rattle.nf_app_commands.specs.Arrivals.{arrival_of, ArrivesIn, IsArrival}
-use Rattle.nf_app_commands.specs.Given.{IsGiven}
+use Rattle.nf_app.specs.Arrivals.{arrival_of, ArrivesIn, IsArrival}
+use Rattle.nf_app.specs.Given.{IsGiven}
 use Rattle.nf_app.specs.Runs.{Run}
 use Rattle.nf_app.specs.Uniqueness.{SameForever, SameIfYes, SameArrival, IsSameInAll, AnswerIsSameInAll}
-use Rattle.nf_app_commands.proofs.Results.{same_ok}
+use Rattle.nf_app.proofs.Results.{same_ok}
 
 -- ---- a run without a horizon
 each_some : {A : Type 0} (P Q : A → Type 0) (o : Option A) → ((x : A) → P x → Q x) → IfSome o P → IfSome o Q

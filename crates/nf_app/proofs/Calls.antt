@@ -19,12 +19,11 @@ use Rattle.nf_app_files.specs.Sinks.{Took, TookAll, TookText}
 use Rattle.nf_app_files.specs.Shown.{IsShown}
 use Rattle.nf_app_files.proofs.Networks.{all_reached}
 use Rattle.nf_app_words.specs.Requests.{Request, request_of}
-use Rattle.nf_app_commands.specs.Requests.{files_of, generated_by, OtherIsText}
-use Rattle.nf_app_commands.specs.Given.{IsGiven}
+use Rattle.nf_app.specs.Requests.{files_of, generated_by, OtherIsText}
+use Rattle.nf_app.specs.Given.{IsGiven}
 use Rattle.nf_app.specs.Runs.{Call, Reached, Read, IsRefusedCall, IsAnswer}
 use Rattle.nf_app.specs.Gathered.{IsGathered}
-use Rattle.nf_app_commands.specs.Outcomes.{IsGiving}
-use Rattle.nf_app.specs.Outcomes.{IsAnswered, with_net}
+use Rattle.nf_app.specs.Outcomes.{IsGiving, IsAnswered, with_net}
 
 -- ---- a request with its files
 module _ (words : List (List ℕ)) (shelf : Visit) (request : Request) (asks : request_of words ≡ Some request) (file : Wanted) (others : List Wanted)

@@ -25,9 +25,9 @@ use Rattle.nf_app_files.specs.Fetching.{NetworkReads}
 use Rattle.nf_app_files.specs.Sinks.{TookAll}
 use Rattle.nf_app_files.specs.Shown.{IsShown, IsShownWhole}
 use Rattle.nf_app_words.specs.Requests.{Request, Solve, Check, Resume, request_of}
-use Rattle.nf_app_commands.specs.Requests.{files_of, generated_by, budgets_of, bounds_to}
-use Rattle.nf_app_commands.specs.Answered.{SolveAnswer}
-use Rattle.nf_app_commands.specs.Given.{IsGiven}
+use Rattle.nf_app.specs.Requests.{files_of, generated_by, budgets_of, bounds_to}
+use Rattle.nf_app.specs.Answered.{SolveAnswer}
+use Rattle.nf_app.specs.Given.{IsGiven}
 use Rattle.nf_app.specs.Runs.{Call, Run, IsRefusedCall, IsComputed, IsAnswer, Ran, NoFault, IsOneOf}
 use Rattle.nf_app.specs.Completeness.{ToldRequest}
 use Rattle.nf_app.specs.Resumption.{AsksToResumeRun}
@@ -37,7 +37,7 @@ use Rattle.nf_app.proofs.ToldRequests.{Answers, told_answers}
 use Rattle.nf_app.proofs.Solving.{no_stop}
 use Rattle.nf_app.proofs.Resuming.{writes_report_of_one_run}
 use Rattle.nf_app.proofs.Only.{whole}
-use Rattle.nf_app_commands.proofs.Results.{same_ok, ok_err}
+use Rattle.nf_app.proofs.Results.{same_ok, ok_err}
 
 is_ok_so : {A E : Type 0} (r : Result A E) (x : A) → r ≡ Ok x → IsOk r
 is_ok_so r x e = ap is_ok e

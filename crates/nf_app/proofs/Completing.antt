@@ -28,13 +28,13 @@ use Rattle.nf_app_words.specs.Requests.{Request, Solve, SolveForever, Show, Load
 use Rattle.nf_app_answers.specs.declared.status.Status.{Status}
 use Rattle.nf_app_answers.specs.Answers.{ProgramAnswer, status_of, status_of_stop, status_of_forever, status_of_verdict}
 use Rattle.nf_app_files.specs.Shown.{IsShownWhole}
-use Rattle.nf_app_commands.specs.Requests.{bounds_to}
-use Rattle.nf_app_commands.specs.Given.{IsGiven}
+use Rattle.nf_app.specs.Requests.{bounds_to}
+use Rattle.nf_app.specs.Given.{IsGiven}
 use Rattle.nf_app.specs.Runs.{Run, Ran, NoFault, IsOneOf}
 use Rattle.nf_app.specs.Completeness.{ends_of, best_ends_of, SecondReads, IsUnhindered, ToldRequest, EndsWell, IsComplete}
 use Rattle.nf_app.proofs.Only.{whole}
 use Rattle.nf_app.proofs.ToldRequests.{Answers, told_answers}
-use Rattle.nf_app_commands.proofs.Results.{same_ok, ok_err, ok_not_err}
+use Rattle.nf_app.proofs.Results.{same_ok, ok_err, ok_not_err}
 
 -- ---- by the stop of a run, or the verdict
 abbrev RunEnds : List Status → List Status

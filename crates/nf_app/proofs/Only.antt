@@ -14,7 +14,7 @@ use Rattle.nf_app_files.specs.Files.{Wanted, Visit, Fits, FetchedAll, FetchedTo,
 use Rattle.nf_app_files.specs.Sinks.{Took}
 use Rattle.nf_app_files.specs.Shown.{IsShown, IsShownWhole}
 use Rattle.nf_app_words.specs.Requests.{Request, request_of}
-use Rattle.nf_app_commands.specs.Requests.{files_of, first_of, other_of, generated_by}
+use Rattle.nf_app.specs.Requests.{files_of, first_of, other_of, generated_by}
 use Rattle.nf_app.specs.Runs.{Call, Run, IsRefusedCall, IsComputed, IsAnswer, Ran}
 use Rattle.nf_app.specs.Told.{TellsText, TellsAll, BothFit, TextsGive, too_long, malformed, answered, WordsGive, IsToldAnswer}
 use Rattle.nf_app.specs.Only.{Shows, the_answer, no_memory, shelf_failed, ShowsOnlyThat}

@@ -17,14 +17,14 @@ use Rattle.nf_app_answers.specs.declared.status.Status.{Status}
 use Rattle.nf_app_answers.specs.Answers.{ProgramAnswer, Solved, Checked, Passes, Earlier, MalformedReport, status_of, out_text}
 use Rattle.nf_app_files.specs.Sinks.{TookAll}
 use Rattle.nf_app_files.specs.Shown.{IsShown}
-use Rattle.nf_app_commands.specs.Requests.{bounds_to}
-use Rattle.nf_app_commands.specs.Given.{IsGiven}
-use Rattle.nf_app_commands.specs.Answered.{ResumeAnswer}
+use Rattle.nf_app.specs.Requests.{bounds_to}
+use Rattle.nf_app.specs.Given.{IsGiven}
+use Rattle.nf_app.specs.Answered.{ResumeAnswer}
 use Rattle.nf_app.specs.Runs.{Run, Ran}
 use Rattle.nf_app.specs.Resumption.{AsksToResumeRun, WritesReportOfOneRun, ReportIsOfOneRun, AnswerIsOfOneRun, ComputesReportOfOneRun}
 use Rattle.nf_app.proofs.ToldRequests.{Answers, told_answers}
 use Rattle.nf_app.proofs.Solving.{no_stop}
-use Rattle.nf_app_commands.proofs.Results.{same_ok}
+use Rattle.nf_app.proofs.Results.{same_ok}
 
 -- ---- the report that was read in this call
 module _ (n : Named) (text : List ℕ) (horizon : ℚ) (phases patterns : ℕ) (good : IsNetwork n.net) where

@@ -11,8 +11,8 @@ use Rattle.nf_app_answers.specs.declared.status.Status.{Status}
 use Rattle.nf_app_answers.specs.Answers.{ProgramAnswer, status_of, status_of_stop, out_text}
 use Rattle.nf_app_files.specs.Sinks.{TookAll}
 use Rattle.nf_app_files.specs.Shown.{IsShown, IsShownWhole}
-use Rattle.nf_app_commands.specs.Requests.{bounds_to}
-use Rattle.nf_app_commands.specs.Answered.{SolveAnswer}
+use Rattle.nf_app.specs.Requests.{bounds_to}
+use Rattle.nf_app.specs.Answered.{SolveAnswer}
 use Rattle.nf_app.specs.Runs.{Call, Run, Ran}
 use Rattle.nf_app.specs.Completeness.{ToldRequest}
 use Rattle.nf_app.specs.Solves.{AsksToSolve, HasAnswered, IsSolved, SolvesTold}

@@ -10,8 +10,8 @@ use Rattle.nf_app_files.specs.Files.{Wanted, Visit, input_file, report_file}
 use Rattle.nf_app_files.specs.Fetching.{IsLastText, NetworkReads}
 use Rattle.nf_app_words.specs.Requests.{Request, Solve, SolveForever, Show, Load, Check, Quick, Gen, Settle, Resume, Routes}
 use Rattle.nf_app_answers.specs.Answers.{ProgramAnswer}
-use Rattle.nf_app_commands.specs.Requests.{files_of, first_of, other_of, generated_by}
-use Rattle.nf_app_commands.specs.Given.{IsGiven}
+use Rattle.nf_app.specs.Requests.{files_of, first_of, other_of, generated_by}
+use Rattle.nf_app.specs.Given.{IsGiven}
 use Rattle.nf_app.specs.Told.{TellsText, BothFit, NetworkIs}
 use Rattle.nf_app.proofs.Fetched.{bytes_are, reads_told}
 

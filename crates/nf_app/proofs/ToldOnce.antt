@@ -1,21 +1,200 @@
 -- Words have at most one answer with the known bytes of their files.
-use Rattle.std.proofs.Common.{◌≡◌, ℕ, List, refl, sym, ap, subst, ◌∙◌}
-use Rattle.std.specs.Prelude.{Option, Some, None, IfSome, Result, Ok, Err}
+use Rattle.std.proofs.Common.{◌≡◌, ℕ, ◌<◌, List, length, replicate, refl, sym, ap, subst, ◌∙◌, inl, inr}
+use Rattle.std.specs.Prelude.{Option, Some, None, IfSome, Result, Ok, Err, map}
 use Rattle.std.proofs.lemmas.Option.{none-some}
+use Rattle.nf_rational.specs.Rational.{ℚ}
+use Rattle.nf_rational.specs.Operations.{0ℚ}
+use Rattle.nf_rational.specs.Order.{◌<ℚ◌}
+use Rattle.nf_rational_laws.proofs.Order.{<ℚ_irrefl, not_both_ℚ}
+use Rattle.nf_frac_def.specs.Passing.{passes_Q}
+use Rattle.nf_frac_def.specs.Checked.{placed}
+use Rattle.nf_frac_def.specs.declared.Part.TheVariants.{Slack, Verdict}
+use Rattle.nf_frac_def.specs.declared.Passed.{Passed}
+use Rattle.nf_frac_def.specs.declared.PassedAt.{PassedAt}
+use Rattle.nf_model.specs.Network.{Network, IsNetwork, hops, rate_at}
+use Rattle.nf_model.specs.Equilibrium.{label}
+use Rattle.nf_model.specs.ThinFlow.{sets_at}
+use Rattle.nf_model.specs.Pattern.{Pattern}
+use Rattle.nf_model.specs.Phases.{AreStartLabels}
 use Rattle.nf_net_def.specs.Named.{Named}
 use Rattle.nf_net_def.specs.NetLines.{Broken}
+use Rattle.nf_net_def.specs.Report.{Report}
 use Rattle.nf_net_def.specs.WellNamed.{IsNamed}
 use Rattle.nf_net_laws.proofs.Once.{reads_at_most_once}
 use Rattle.nf_net_laws.proofs.AcceptedNamed.{accepted_named}
+use Rattle.nf_thin_def.specs.Slack.{slack_list}
+use Rattle.nf_thin_def.specs.ReportCurves.{first_label_curve, first_curves}
+use Rattle.nf_thin_def.specs.PhaseRun.{Standing, Bounds}
+use Rattle.nf_thin_laws.proofs.OneRun.{one_start, one_run, one_report}
+use Rattle.nf_report_def.specs.ReportFile.{ReportBroken, report_in}
+use Rattle.nf_report_laws.proofs.ReportKept.{report_kept}
+use Rattle.nf_quick_def.specs.Quick.{Quick as QuickFlow, FoundQuick, Budget}
+use Rattle.nf_quick_def.specs.Quick as quick
+use Rattle.nf_quick.specs.Answered.{HasNoWay}
+use Rattle.nf_phase.specs.Solution.{bounds_of}
+use Rattle.nf_complete_def.specs.Cancelling.{Settles}
+use Rattle.nf_complete_def.specs.ThinList.{thin_list}
+use Rattle.nf_complete_def.specs.FlowsFile.{FlowsBroken, GivenFlows, flows_in}
+use Rattle.nf_complete_laws.proofs.OneSettling.{one_settling}
+use Rattle.nf_complete_laws.proofs.OnePattern.{one_pattern}
+use Rattle.nf_forever_laws.proofs.OneForever.{one_forever}
+use Rattle.nf_resume_def.specs.Resuming.{Refused, Stands, resume_list}
+use Rattle.nf_resume_def.specs.Resuming as resuming
+use Rattle.nf_resume_run_laws.proofs.OneResumed.{one_resumed}
 use Rattle.nf_app_files.specs.Files.{Wanted}
-use Rattle.nf_app_words.specs.Requests.{Request, request_of}
-use Rattle.nf_app_answers.specs.Answers.{ProgramAnswer, Malformed}
-use Rattle.nf_app_commands.specs.Requests.{first_of, other_of, generated_by}
-use Rattle.nf_app_commands.specs.Given.{IsGiven}
+use Rattle.nf_app_words.specs.Requests.{Request, Solve, SolveForever, Show, Load, Check, Quick, Gen, Settle, Resume, Routes, request_of}
+use Rattle.nf_app_answers.specs.declared.arrival.Arrival.{Arrival}
+use Rattle.nf_app_answers.specs.Answers.{ProgramAnswer, Solved, SolvedForever, Quickest, Generated, Settled, Passes, Malformed}
+use Rattle.nf_app.specs.Requests.{first_of, other_of, generated_by, bounds_to, usual_budgets}
+use Rattle.nf_app.specs.Lists.{flow_list, departs_list}
+use Rattle.nf_app.specs.Arrivals.{arrival_of}
+use Rattle.nf_app.specs.Refused.{IsUnbounded}
+use Rattle.nf_app.specs.Settling.{AreSettled, AreNotThin, PassesFirst, at_slack, at_test, at_settling}
+use Rattle.nf_app.specs.Given.{IsGiven}
 use Rattle.nf_app.specs.Told.{Telling, TellsText, NetworkIs, TextsGive, too_long, malformed, answered, WordsGive, IsToldAnswer}
+use Rattle.nf_app.proofs.Gives.{Arrives, DepartsGive, FlowGives, QuickGives, StartGives, SettleGives, RestGives, ResumeGives, Gives}
 use Rattle.nf_app.proofs.Texts.{given_there, network_there, fit_there}
-use Rattle.nf_app_commands.proofs.GivenOnce.{one_given}
-use Rattle.nf_app_commands.proofs.Results.{same_some, same_ok, same_err, ok_err}
+use Rattle.nf_app.proofs.ToldGiven.{given_so}
+use Rattle.nf_app.proofs.Starting.{start_sets_good}
+use Rattle.nf_app.proofs.Results.{same_some, same_ok, same_err, ok_err, ok_not_err}
+
+-- ---- the arrival beside a quickest flow
+one_arrival : (net : Network) (departs : Option ℚ) (arrival other : Arrival) → Arrives net departs arrival → Arrives net departs other → arrival ≡ other
+one_arrival net None arrival other h k = h ∙ sym k
+one_arrival net (Some departs) arrival other h k =
+    h.2 ∙ ap (λ (r : Report). arrival_of r.stop (label r.flow net.sink departs)) (one_report passes_Q net (bounds_of departs usual_budgets) h.0 k.0 h.1 k.1) ∙ sym k.2
+
+one_departing : (n : Named) (flow : QuickFlow) (r : Result (Option ℚ) (PassedAt ℚ)) (a b : ProgramAnswer) → DepartsGive n flow r a → DepartsGive n flow r b → a ≡ b
+one_departing n flow (Ok departs) a b g h = g.2 ∙ ap (Quickest n flow) (one_arrival n.net departs g.0 h.0 g.1 h.1) ∙ sym h.2
+one_departing n flow (Err at) a b g h = g ∙ sym h
+
+one_flow : (n : Named) (amount : ℚ) (augments : ℕ) (r : Result quick.QuickAnswer (PassedAt ℚ)) (a b : ProgramAnswer) → FlowGives n amount augments r a → FlowGives n amount augments r b → a ≡ b
+one_flow n amount augments (Ok (FoundQuick flow)) a b g h = one_departing n flow (departs_list n.net amount) a b g h
+one_flow n amount augments (Ok (Budget walks)) a b g h = g ∙ sym h
+one_flow n amount augments (Err at) a b g h = g ∙ sym h
+
+unbounded_or_not : (net : Network) (amount : ℚ) → IsUnbounded net amount → HasNoWay net amount → ⊥
+unbounded_or_not net amount unbounded (inl zero) = <ℚ_irrefl 0ℚ (subst (λ (q : ℚ). 0ℚ <ℚ q) zero unbounded.0)
+unbounded_or_not net amount unbounded (inr limited) = limited unbounded.1.0 unbounded.1.1
+
+one_quick : (n : Named) (amount : ℚ) (augments : ℕ) (a b : ProgramAnswer) → QuickGives n amount augments a → QuickGives n amount augments b → a ≡ b
+one_quick n amount augments a b (inl g) (inl h) = g.1 ∙ sym h.1
+one_quick n amount augments a b (inl g) (inr h) = absurd (unbounded_or_not n.net amount g.0 h.0)
+one_quick n amount augments a b (inr g) (inl h) = absurd (unbounded_or_not n.net amount h.0 g.0)
+one_quick n amount augments a b (inr g) (inr h) = one_flow n amount augments (flow_list n.net amount augments) a b g.1 h.1
+
+-- ---- settled flows
+module _ (net : Network) where
+  -- a run that begins with these labels
+  abbrev beginning : List ℚ → Standing
+  beginning labels = record {
+    time = 0ℚ;
+    labels = labels;
+    label_curves = map first_label_curve labels;
+    link_curves = map (first_curves labels) net.links;
+    made = 0;
+    last = replicate (length net.links) None;
+  }
+
+  one_start_label : (labels others : List ℚ) → AreStartLabels net labels → AreStartLabels net others → labels ≡ others
+  one_start_label labels others h k = ap (λ (s : Standing). s.labels) (one_start net (beginning labels) (beginning others)
+      (record { time = refl; labels = h; label_curves = refl; link_curves = refl; made = refl; last = refl })
+      (record { time = refl; labels = k; label_curves = refl; link_curves = refl; made = refl; last = refl }))
+
+  module _ (labels : List ℚ) (given : GivenFlows) (good : IsNetwork net) where
+    one_settled : (r s : Result (List ℚ) (Passed ℚ)) → Settles passes_Q net (sets_at net labels) given.slopes given.flows r → Settles passes_Q net (sets_at net labels) given.slopes given.flows s → r ≡ s
+    one_settled r s h k = one_settling passes_Q net (sets_at net labels) given.slopes given.flows r s good h k
+
+    settled_or_passes : (pattern : Pattern) (flows : List ℚ) (at : PassedAt ℚ) → AreSettled net labels given pattern flows → PassesFirst net labels given at → ⊥
+    settled_or_passes pattern flows _ s (at_slack p e) = ok_not_err (slack_list passes_Q (hops net) labels) p s.slacks e
+    settled_or_passes pattern flows _ s (at_test p fit e) = ok_not_err (thin_list passes_Q net (sets_at net labels) (rate_at net 0ℚ) given.flows given.slopes) p s.test e
+    settled_or_passes pattern flows _ s (at_settling p slacks test thin k) = ok_err (Ok flows) flows p refl (one_settled (Ok flows) (Err p) s.computed k)
+
+    not_thin_or_passes : (at : PassedAt ℚ) → AreNotThin net labels given → PassesFirst net labels given at → ⊥
+    not_thin_or_passes _ s (at_slack p e) = ok_not_err (slack_list passes_Q (hops net) labels) p s.slacks e
+    not_thin_or_passes _ s (at_test p fit e) = ok_not_err (thin_list passes_Q net (sets_at net labels) (rate_at net 0ℚ) given.flows given.slopes) p s.test e
+    not_thin_or_passes _ s (at_settling p slacks test thin k) = s.not_thin thin
+
+    one_passing : (at other : PassedAt ℚ) → PassesFirst net labels given at → PassesFirst net labels given other → at ≡ other
+    one_passing _ _ (at_slack p e) (at_slack q f) = ap (λ (x : Passed ℚ). placed Slack x) (same_err (slack_list passes_Q (hops net) labels) p q e f)
+    one_passing _ _ (at_slack p e) (at_test q fit f) = absurd (ok_not_err (slack_list passes_Q (hops net) labels) p fit e)
+    one_passing _ _ (at_slack p e) (at_settling q fit test thin k) = absurd (ok_not_err (slack_list passes_Q (hops net) labels) p fit e)
+    one_passing _ _ (at_test p fit e) (at_slack q f) = absurd (ok_not_err (slack_list passes_Q (hops net) labels) q fit f)
+    one_passing _ _ (at_test p fit e) (at_test q fit' f) =
+        ap (λ (x : Passed ℚ). placed Verdict x) (same_err (thin_list passes_Q net (sets_at net labels) (rate_at net 0ℚ) given.flows given.slopes) p q e f)
+    one_passing _ _ (at_test p fit e) (at_settling q fit' test thin k) =
+        absurd (ok_not_err (thin_list passes_Q net (sets_at net labels) (rate_at net 0ℚ) given.flows given.slopes) p test e)
+    one_passing _ _ (at_settling p fit test thin k) (at_slack q f) = absurd (ok_not_err (slack_list passes_Q (hops net) labels) q fit f)
+    one_passing _ _ (at_settling p fit test thin k) (at_test q fit' f) =
+        absurd (ok_not_err (thin_list passes_Q net (sets_at net labels) (rate_at net 0ℚ) given.flows given.slopes) q test f)
+    one_passing _ _ (at_settling p fit test thin k) (at_settling q fit' test' thin' l) = ap (λ (x : Passed ℚ). placed Verdict x) (same_err (Err p) p q refl (one_settled (Err p) (Err q) k l))
+
+    module _ (are : AreStartLabels net labels) where
+      one_flows : (pattern other : Pattern) (flows more : List ℚ) → AreSettled net labels given pattern flows → AreSettled net labels given other more → flows ≡ more
+      one_flows pattern other flows more s t = same_ok (Ok flows) flows more refl (one_settled (Ok flows) (Ok more) s.computed t.computed)
+
+      one_settled_pattern : (pattern other : Pattern) (flows : List ℚ) → AreSettled net labels given pattern flows → AreSettled net labels given other flows → pattern ≡ other
+      one_settled_pattern pattern other flows s t =
+          one_pattern net (sets_at net labels) (rate_at net 0ℚ) flows given.slopes (start_sets_good net good labels are) s.still_thin pattern other s.pattern_is t.pattern_is
+
+one_at_start : (n : Named) (labels : List ℚ) (given : GivenFlows) → IsNetwork n.net → AreStartLabels n.net labels → (a b : ProgramAnswer) → StartGives n labels given a → StartGives n labels given b → a ≡ b
+one_at_start n labels given good are a b (inl g) (inl h) =
+    let flows : g.1 ≡ h.1 = one_flows n.net labels given good are g.0 h.0 g.1 h.1 g.3 h.3 in
+    let pattern : g.0 ≡ h.0 = one_settled_pattern n.net labels given good are g.0 h.0 h.1 (subst (λ (f : List ℚ). AreSettled n.net labels given g.0 f) flows g.3) h.3 in
+    g.2 ∙ ap (λ (p : Pattern). Settled n p g.1) pattern ∙ ap (Settled n h.0) flows ∙ sym h.2
+one_at_start n labels given good are a b (inl g) (inr (inl h)) = absurd (h.1.not_thin g.3.thin)
+one_at_start n labels given good are a b (inl g) (inr (inr h)) = absurd (settled_or_passes n.net labels given good g.0 g.1 h.0 g.3 h.2)
+one_at_start n labels given good are a b (inr (inl g)) (inl h) = absurd (g.1.not_thin h.3.thin)
+one_at_start n labels given good are a b (inr (inl g)) (inr (inl h)) = g.0 ∙ sym h.0
+one_at_start n labels given good are a b (inr (inl g)) (inr (inr h)) = absurd (not_thin_or_passes n.net labels given good h.0 g.1 h.2)
+one_at_start n labels given good are a b (inr (inr g)) (inl h) = absurd (settled_or_passes n.net labels given good h.0 h.1 g.0 h.3 g.2)
+one_at_start n labels given good are a b (inr (inr g)) (inr (inl h)) = absurd (not_thin_or_passes n.net labels given good g.0 h.1 g.2)
+one_at_start n labels given good are a b (inr (inr g)) (inr (inr h)) =
+    g.1 ∙ ap (λ (at : PassedAt ℚ). Passes at) (one_passing n.net labels given good g.0 h.0 g.2 h.2) ∙ sym h.1
+
+one_settle : (n : Named) → IsNetwork n.net → (r : Result GivenFlows FlowsBroken) (a b : ProgramAnswer) → SettleGives n r a → SettleGives n r b → a ≡ b
+one_settle n good (Ok given) a b g h =
+    let labels : g.0 ≡ h.0 = one_start_label n.net g.0 h.0 g.1 h.1 in
+    one_at_start n h.0 given good h.1 a b (subst (λ (l : List ℚ). StartGives n l given a) labels g.2) h.2
+one_settle n good (Err broken) a b g h = g ∙ sym h
+
+-- ---- a report that is gone on from
+one_rest : (n : Named) (bounds : Bounds) (old : Report) → length old.last ≡ length n.net.links → (r : Result resuming.Outcome (PassedAt ℚ)) (a b : ProgramAnswer) → RestGives n bounds old r a
+    → RestGives n bounds old r b → a ≡ b
+one_rest n bounds old states (Ok (Stands first)) a b g h = g.3 ∙ ap (Solved n) (one_resumed passes_Q n.net bounds old g.0 h.0 g.1 h.1 states g.2 h.2).1 ∙ sym h.3
+one_rest n bounds old states (Ok (Refused verdict)) a b g h = g ∙ sym h
+one_rest n bounds old states (Err at) a b g h = g ∙ sym h
+
+one_resume : (n : Named) (bounds : Bounds) (text : List ℕ) → IsNamed n → (r : Result Report ReportBroken) → report_in n text ≡ r → (a b : ProgramAnswer) → ResumeGives n bounds r a
+    → ResumeGives n bounds r b → a ≡ b
+one_resume n bounds text named (Ok old) e a b (inl g) (inl h) = g.1 ∙ sym h.1
+one_resume n bounds text named (Ok old) e a b (inl g) (inr h) = absurd (not_both_ℚ _ _ g.0 h.0)
+one_resume n bounds text named (Ok old) e a b (inr g) (inl h) = absurd (not_both_ℚ _ _ h.0 g.0)
+one_resume n bounds text named (Ok old) e a b (inr g) (inr h) =
+    one_rest n bounds old (report_kept n text old named e).0.states (resume_list passes_Q n.net old) a b g.1 h.1
+one_resume n bounds text named (Err broken) e a b g h = g ∙ sym h
+
+-- ---- what a request gives with its network
+one_gives : (n : Named) (text : List ℕ) (request : Request) → (generated_by request ≡ None → IsNamed n) → (a b : ProgramAnswer) → Gives n text request a → Gives n text request b → a ≡ b
+one_gives n text (Solve file horizon phases patterns) named a b g h =
+    g.2 ∙ ap (Solved n) (one_report passes_Q n.net (bounds_to horizon phases patterns) g.0 h.0 g.1 h.1) ∙ sym h.2
+one_gives n text (SolveForever file phases patterns) named a b g h = g.2 ∙ ap (SolvedForever n) (one_forever passes_Q n.net phases patterns g.0 h.0 g.1 h.1) ∙ sym h.2
+one_gives n text (Show file) named a b g h = g ∙ sym h
+one_gives n text (Load file loads horizon) named a b g h = g ∙ sym h
+one_gives n text (Check file report) named a b g h = g ∙ sym h
+one_gives n text (Quick file amount augments) named a b g h = one_quick n amount augments a b g h
+one_gives n text (Gen number rungs horizon phases patterns) named a b g h =
+    let bounds = bounds_to horizon phases patterns in
+    g.2 ∙ ap (λ (s : Standing). Generated number rungs n s.made g.0) (one_run passes_Q n.net bounds g.1.last h.1.last g.1.stop h.1.stop g.1.run h.1.run).0
+    ∙ ap (Generated number rungs n h.1.last.made) (one_report passes_Q n.net bounds g.0 h.0 g.1 h.1) ∙ sym h.2
+one_gives n text (Settle file flows) named a b g h = one_settle n (named refl).network (flows_in n text) a b g h
+one_gives n text (Resume file report horizon phases patterns) named a b g h =
+    one_resume n (bounds_to horizon phases patterns) text (named refl) (report_in n text) refl a b g h
+one_gives n text (Routes file routes horizon) named a b g h = g ∙ sym h
+
+-- ---- with the texts of its files
+one_given : (n : Named) (text : List ℕ) (request : Request) → (generated_by request ≡ None → IsNamed n) → (a b : ProgramAnswer) → IsGiven n text request a → IsGiven n text request b → a ≡ b
+one_given n text request named a b g h = one_gives n text request named a b (given_so n text a request g) (given_so n text b request h)
 
 pub one_network : (made : Option Named) (text : List ℕ) (r s : Result Named Broken) → NetworkIs made text r → NetworkIs made text s → r ≡ s
 one_network (Some n) text r s h k = h ∙ sym k

@@ -12,13 +12,13 @@ use Rattle.nf_app_answers.specs.Answers.{ProgramAnswer, Solved, SolvedForever, S
 use Rattle.nf_app_files.specs.Files.{Wanted, FetchedTo, HasTooMany}
 use Rattle.nf_app_files.specs.Fetching.{NetworkReads}
 use Rattle.nf_app_words.specs.Requests.{Request, request_of}
-use Rattle.nf_app_commands.specs.Requests.{files_of, other_of, generated_by, OtherIsText}
-use Rattle.nf_app_commands.specs.Given.{IsGiven}
+use Rattle.nf_app.specs.Requests.{files_of, other_of, generated_by, OtherIsText}
+use Rattle.nf_app.specs.Given.{IsGiven}
 use Rattle.nf_app.specs.Runs.{Call, Asks, Reached, Read, IsRefusedCall, IsComputed, IsAnswer}
 use Rattle.nf_app.specs.Completeness.{ToldRequest}
 use Rattle.nf_app.proofs.Texts.{Holds, all_held, network_so, same_second, given_there, in_the_middle}
 use Rattle.nf_app.proofs.ToldOnce.{one_network}
-use Rattle.nf_app_commands.proofs.Results.{same_ok, ok_err}
+use Rattle.nf_app.proofs.Results.{same_ok, ok_err}
 
 some_none : {A : Type 0} (o : Option A) (x : A) → o ≡ Some x → o ≡ None → ⊥
 some_none o x h k = cc

@@ -17,9 +17,9 @@ use Rattle.nf_app_answers.specs.declared.status.Status.{Status}
 use Rattle.nf_app_answers.specs.Answers.{ProgramAnswer, Solved, SolvedForever, Shown, Loaded, Checked, Quickest, TooManyWalks, Generated, Settled, Distributed, NoMemory, NoRequest, ShelfFailed, ShelfTooLong, Malformed, MalformedLoads, MalformedFlows, MalformedRoutes, MalformedReport, Passes, Unbounded, NotThin, Earlier, status_of, status_of_stop, status_of_forever, status_of_verdict}
 use Rattle.nf_app_files.specs.Shown.{IsShown}
 use Rattle.nf_app_words.specs.Requests.{Request, Solve, SolveForever, Show, Load, Check, Quick, Gen, Settle, Resume, Routes}
-use Rattle.nf_app_commands.specs.Requests.{usual_budgets, bounds_to}
-use Rattle.nf_app_commands.specs.Arrivals.{arrival_of, IsArrival}
-use Rattle.nf_app_commands.specs.Given.{IsGiven}
+use Rattle.nf_app.specs.Requests.{usual_budgets, bounds_to}
+use Rattle.nf_app.specs.Arrivals.{arrival_of, IsArrival}
+use Rattle.nf_app.specs.Given.{IsGiven}
 use Rattle.nf_app.specs.Runs.{Call, Run, IsRefusedCall, IsAnswer, Ran}
 use Rattle.nf_app.specs.Stops.{stop_of_arrival, stop_in, AlwaysHasPattern}
 

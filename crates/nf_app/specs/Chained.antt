@@ -12,7 +12,7 @@ use Rattle.nf_app_answers.specs.declared.status.Status.{Status}
 use Rattle.nf_app_files.specs.Files.{Visit, input_limit, report_limit}
 use Rattle.nf_app_files.specs.Sinks.{TookAll}
 use Rattle.nf_app_words.specs.Requests.{Solve, Check, Resume}
-use Rattle.nf_app_commands.specs.Requests.{bounds_to}
+use Rattle.nf_app.specs.Requests.{bounds_to}
 use Rattle.nf_app.specs.Runs.{Call, Run, Asks, Ran, NoFault, IsOneOf}
 
 -- A call of `solve` wrote a report. Its shelf has the same known bytes of the network's file. Its output, whose bytes are known, took this

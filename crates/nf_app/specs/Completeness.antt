@@ -19,8 +19,8 @@ use Rattle.nf_resume_def.specs.Meanings.{IsResumedReport}
 use Rattle.nf_routes_def.specs.RoutesFile.{NamedRoute, ReadsRoutes}
 use Rattle.nf_app_answers.specs.declared.status.Status.{Status}
 use Rattle.nf_app_words.specs.Requests.{Request, Solve, SolveForever, Show, Load, Check, Quick, Gen, Settle, Resume, Routes}
-use Rattle.nf_app_commands.specs.Requests.{first_of, other_of, generated_by, budgets_of, bounds_to}
-use Rattle.nf_app_commands.specs.Refused.{LoadPasses, CheckPasses, RoutesPasses, PassesQuick, SettlePasses, ResumePasses}
+use Rattle.nf_app.specs.Requests.{first_of, other_of, generated_by, budgets_of, bounds_to}
+use Rattle.nf_app.specs.Refused.{LoadPasses, CheckPasses, RoutesPasses, PassesQuick, SettlePasses, ResumePasses}
 use Rattle.nf_app.specs.Told.{TellsText, BothFit, NetworkIs}
 use Rattle.nf_app.specs.Runs.{Call, Run, Asks, NoFault, IsOneOf}
 

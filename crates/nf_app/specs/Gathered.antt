@@ -4,7 +4,7 @@ use Rattle.nf_net_def.specs.Named.{Named}
 use Rattle.nf_app_answers.specs.declared.refusal.Refusal.{Refusal}
 use Rattle.nf_app_answers.specs.Refusals.{answer_of}
 use Rattle.nf_app_words.specs.Requests.{Request}
-use Rattle.nf_app_commands.specs.Requests.{OtherIsText}
+use Rattle.nf_app.specs.Requests.{OtherIsText}
 use Rattle.nf_app.specs.Runs.{Call, Read, IsAnswer}
 
 -- the network and the bytes, once all files are there; or a refusal, where that comes

@@ -1,3 +1,11 @@
+pub mod Requests
+pub mod Lists
+pub mod Reports
+pub mod Arrivals
+pub mod Settling
+pub mod Answered
+pub mod Refused
+pub mod Given
 pub mod Runs
 pub mod Gathered
 pub mod Outcomes

@@ -12,7 +12,7 @@ use Rattle.nf_app_words.specs.Requests.{Request, Resume}
 use Rattle.nf_app_answers.specs.declared.status.Status.{Status}
 use Rattle.nf_app_answers.specs.Answers.{ProgramAnswer, Solved}
 use Rattle.nf_app_files.specs.Sinks.{TookAll}
-use Rattle.nf_app_commands.specs.Requests.{bounds_to}
+use Rattle.nf_app.specs.Requests.{bounds_to}
 use Rattle.nf_app.specs.Runs.{Call, Run, IsComputed}
 use Rattle.nf_app.specs.Completeness.{ReachesHorizon, ToldRequest}
 

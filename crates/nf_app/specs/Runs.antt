@@ -15,8 +15,8 @@ use Rattle.nf_app_files.specs.Fetching.{NetworkReads}
 use Rattle.nf_app_files.specs.Sinks.{Took, took_of}
 use Rattle.nf_app_files.specs.Shown.{IsShown}
 use Rattle.nf_app_words.specs.Requests.{Request, request_of}
-use Rattle.nf_app_commands.specs.Requests.{files_of, generated_by, OtherIsText}
-use Rattle.nf_app_commands.specs.Given.{IsGiven}
+use Rattle.nf_app.specs.Requests.{files_of, generated_by, OtherIsText}
+use Rattle.nf_app.specs.Given.{IsGiven}
 
 -- the words of a call, and what it did with its shelf
 pub record Call : Type 0 where

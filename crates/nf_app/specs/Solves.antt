@@ -13,7 +13,7 @@ use Rattle.nf_app_answers.specs.Answers.{status_of_stop}
 use Rattle.nf_app_files.specs.Files.{input_limit}
 use Rattle.nf_app_files.specs.Sinks.{TookAll}
 use Rattle.nf_app_words.specs.Requests.{Solve}
-use Rattle.nf_app_commands.specs.Requests.{bounds_to}
+use Rattle.nf_app.specs.Requests.{bounds_to}
 use Rattle.nf_app.specs.Runs.{Call, Run, Asks}
 
 -- the words ask `solve`, and the bytes of the file are known, within the limit, and those of this network

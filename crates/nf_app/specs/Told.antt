@@ -7,8 +7,8 @@ use Rattle.nf_net_def.specs.NetFile.{Reads}
 use Rattle.nf_app_files.specs.Files.{Wanted}
 use Rattle.nf_app_words.specs.Requests.{Request, request_of}
 use Rattle.nf_app_answers.specs.Answers.{ProgramAnswer, NoRequest, ShelfTooLong, Malformed}
-use Rattle.nf_app_commands.specs.Requests.{files_of, first_of, other_of, generated_by}
-use Rattle.nf_app_commands.specs.Given.{IsGiven}
+use Rattle.nf_app.specs.Requests.{files_of, first_of, other_of, generated_by}
+use Rattle.nf_app.specs.Given.{IsGiven}
 
 -- ---- the known bytes of files, by their names
 abbrev pub Telling : Type 0

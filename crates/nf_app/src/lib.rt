@@ -2,8 +2,11 @@
 #![tactic(auto)]
 
 mod answering;
+mod arrival;
 mod gathering;
+mod loading;
 mod running;
+mod settling;
 
 pub use nf_app_answers::Status;
 pub use nf_gen::generated;

@@ -1,0 +1,49 @@
+-- What a request to check a report gives, from what was read of its report and what the checker answers.
+use Rattle.std.proofs.Common.{◌≡◌, ◌⊎◌, ℕ, List, refl, inl, inr}
+use Rattle.std.specs.Prelude.{Ok, Err}
+use Rattle.nf_rational.specs.Rational.{ℚ}
+use Rattle.nf_frac_def.specs.declared.Halt.{Halt}
+use Rattle.nf_frac_def.specs.Passing.{passes_Q}
+use Rattle.nf_frac_def.specs.Checked.{Stops}
+use Rattle.nf_net_def.specs.Named.{Named}
+use Rattle.nf_net_def.specs.WellNamed.{IsNamed}
+use Rattle.nf_net_def.specs.Report.{Report}
+use Rattle.nf_check_def.specs.declared.Answer.{Answer as Verdict}
+use Rattle.nf_check_def.specs.Rules.{Checks}
+use Rattle.nf_check_def.specs.CheckList.{check_list}
+use Rattle.nf_check.specs.Answers.{IsExact}
+use Rattle.nf_report_def.specs.ReportFile.{report_in}
+use Rattle.nf_report_read.specs.declared.fault.ReportFault.{ReportFault}
+use Rattle.nf_report_read.specs.Files.{IfBroken}
+use Rattle.nf_app_answers.specs.declared.refusal.Refusal.{Refusal}
+use Rattle.nf_app_words.specs.Requests.{Check}
+use Rattle.nf_app_answers.specs.Answers.{Checked}
+use Rattle.nf_app_answers.specs.Refusals.{answer_of, refusal_of_report, refusal_of_halt}
+use Rattle.nf_app.specs.Given.{IsGiven}
+use Rattle.nf_app.proofs.Reports.{a_report, no_report}
+
+module _ (n : Named) (named : IsNamed n) (file name text : List ℕ) where
+  abbrev Answers : Refusal → Type 0
+  Answers refusal = (refusal ≡ Refusal.NoMemory) ⊎ IsGiven n text (Check file name) (answer_of refusal)
+
+  pub report_refused : (fault : ReportFault) → IfBroken fault (λ broken. report_in n text ≡ Err broken) → Answers (refusal_of_report fault)
+  report_refused (ReportFault.Broken rule line) e =
+      inr (inr (inl (record { rule = rule; line = line }, refl, no_report n named text (record { rule = rule; line = line }) e)))
+  report_refused ReportFault.Memory e = inl refl
+
+  module _ (report : Report) (read : report_in n text ≡ Ok report) where
+    pub checking_stopped : (halt : Halt ℚ) → Stops (λ (q : ℚ). q) halt (check_list passes_Q n.net report.flow) → Answers (refusal_of_halt halt)
+    checking_stopped (Halt.Passed at) e = inr (inr (inr (at, refl, record { report = report; read = a_report n named text report read; passes = e })))
+    checking_stopped Halt.Memory e = inl refl
+
+    pub verdict_given : (verdict : Verdict ℕ ℕ ℚ) → check_list passes_Q n.net report.flow ≡ Ok verdict → Checks n.net report.flow verdict → IsExact n.net report.flow verdict
+        → IsGiven n text (Check file name) (Checked n verdict)
+    verdict_given verdict e checks exact = inl (record {
+      report = report;
+      read = a_report n named text report read;
+      verdict = verdict;
+      is = refl;
+      exact = exact;
+      first_broken = checks;
+      computed = e;
+    })

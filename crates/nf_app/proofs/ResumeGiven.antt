@@ -1,0 +1,69 @@
+-- What a request to resume a report gives, from what was read of its report and what resuming answers.
+use Rattle.std.proofs.Common.{◌≡◌, ◌⊎◌, ℕ, List, refl, inl, inr}
+use Rattle.std.specs.Prelude.{Err}
+use Rattle.nf_rational.specs.Rational.{ℚ}
+use Rattle.nf_rational.specs.Order.{◌≤ℚ◌, ◌<ℚ◌}
+use Rattle.nf_frac_def.specs.Passing.{passes_Q}
+use Rattle.nf_frac_def.specs.declared.PassedAt.{PassedAt}
+use Rattle.nf_model.specs.Equilibrium.{Equilibrium}
+use Rattle.nf_net_def.specs.Named.{Named}
+use Rattle.nf_net_def.specs.WellNamed.{IsNamed}
+use Rattle.nf_net_def.specs.Report.{Report, IsWellFormed}
+use Rattle.nf_check_def.specs.declared.Answer.{Answer as Verdict}
+use Rattle.nf_report_def.specs.ReportFile.{report_in}
+use Rattle.nf_report_read.specs.declared.fault.ReportFault.{ReportFault}
+use Rattle.nf_report_read.specs.Files.{IfBroken}
+use Rattle.nf_thin_def.specs.PhaseRun.{IsShortFlow}
+use Rattle.nf_report_run_laws.specs.ReadableLaws.{ReadsBack}
+use Rattle.nf_phase.specs.Restarting.{EndsAtItsLabels}
+use Rattle.nf_resume_def.specs.Resuming.{resume_list}
+use Rattle.nf_resume_def.specs.Meanings.{IsResumedReport, GoesOnFrom}
+use Rattle.nf_resume.specs.Faults.{IsRefusedReport}
+use Rattle.nf_app_answers.specs.declared.refusal.Refusal.{Refusal}
+use Rattle.nf_app_words.specs.Requests.{Resume}
+use Rattle.nf_app.specs.Requests.{bounds_to}
+use Rattle.nf_app_answers.specs.Answers.{Solved, Checked, Passes, Earlier}
+use Rattle.nf_app_answers.specs.Refusals.{answer_of, refusal_of_report}
+use Rattle.nf_app.specs.Reports.{IsReportText}
+use Rattle.nf_app.specs.Given.{IsGiven}
+use Rattle.nf_app.proofs.Reports.{no_report}
+
+module _ (n : Named) (file name text : List ℕ) (horizon : ℚ) (phases patterns : ℕ) where
+  abbrev Answers : Refusal → Type 0
+  Answers refusal = (refusal ≡ Refusal.NoMemory) ⊎ IsGiven n text (Resume file name horizon phases patterns) (answer_of refusal)
+
+  pub old_refused : (named : IsNamed n) (fault : ReportFault) → IfBroken fault (λ broken. report_in n text ≡ Err broken) → Answers (refusal_of_report fault)
+  old_refused named (ReportFault.Broken rule line) e =
+      inr (inr (inl (record { rule = rule; line = line }, refl, no_report n named text (record { rule = rule; line = line }) e)))
+  old_refused named ReportFault.Memory e = inl refl
+
+  module _ (old : Report) (read : IsReportText n text old) where
+    pub gone_on_given : (new : Report) (made : ℕ) → old.flow.reached ≤ℚ horizon → IsResumedReport passes_Q n.net (bounds_to horizon phases patterns) old made new → IsWellFormed n.net new
+        → Equilibrium n.net new.flow → GoesOnFrom n.net old.flow new.flow → IsShortFlow n.net new.flow → EndsAtItsLabels n.net new.flow → ReadsBack n new
+        → IsGiven n text (Resume file name horizon phases patterns) (Solved n new)
+    gone_on_given new made later resumed formed equilibrium on short ends back = inl (record {
+      old = old;
+      read = read;
+      not_earlier = later;
+      new = new;
+      is = refl;
+      well_formed = formed;
+      equilibrium = equilibrium;
+      goes_on = on;
+      made = made;
+      resumed = resumed;
+      short = short;
+      ends = ends;
+      reads_back = back;
+    })
+
+    pub no_start_given : (verdict : Verdict ℕ ℕ ℚ) → old.flow.reached ≤ℚ horizon → IsRefusedReport passes_Q n.net old verdict
+        → IsGiven n text (Resume file name horizon phases patterns) (Checked n verdict)
+    no_start_given verdict later refused = inr (inr (inr (inr (verdict, refl, record { old = old; read = read; not_earlier = later; refused = refused }))))
+
+    pub passes_given : (at : PassedAt ℚ) → old.flow.reached ≤ℚ horizon → resume_list passes_Q n.net old ≡ Err at
+        → IsGiven n text (Resume file name horizon phases patterns) (Passes at)
+    passes_given at later passes = inr (inr (inl (at, refl, record { old = old; read = read; not_earlier = later; passes = passes })))
+
+    pub earlier_given : horizon <ℚ old.flow.reached → IsGiven n text (Resume file name horizon phases patterns) Earlier
+    earlier_given earlier = inr (inr (inr (inl (refl, record { old = old; read = read; earlier = earlier }))))

@@ -1,0 +1,51 @@
+-- What a request to load a network by route gives, from what was read of its routes file and what its list computes.
+use Rattle.std.proofs.Common.{◌≡◌, ◌⊎◌, ℕ, List, length, refl, sym, ◌∙◌, inl, inr}
+use Rattle.std.specs.Prelude.{Ok, Err}
+use Rattle.std.proofs.lemmas.List.{length-map}
+use Rattle.nf_rational.specs.Rational.{ℚ}
+use Rattle.nf_frac_def.specs.declared.Halt.{Halt}
+use Rattle.nf_frac_def.specs.Checked.{Stops}
+use Rattle.nf_model.specs.Network.{Network}
+use Rattle.nf_net_def.specs.Named.{Named}
+use Rattle.nf_load.specs.Loadings.{loaded_of}
+use Rattle.nf_routes_def.specs.RoutesFile.{NamedRoute, routes_of, ReadsRoutes}
+use Rattle.nf_routes_def.specs.RoutesList.{Routed}
+use Rattle.nf_routes_def.specs.Meanings.{IsRouted, RoutesArrive}
+use Rattle.nf_routes.specs.declared.carried.Carried.{Carried}
+use Rattle.nf_routes.specs.Carried.{carried_of}
+use Rattle.nf_side.specs.declared.fault.SideFault.{SideFault}
+use Rattle.nf_side.specs.Faults.{IfBroken}
+use Rattle.nf_routes_def.specs.declared.RoutesRule.{RoutesRule}
+use Rattle.nf_app_answers.specs.declared.refusal.Refusal.{Refusal}
+use Rattle.nf_app_words.specs.Requests.{Routes}
+use Rattle.nf_app_answers.specs.Answers.{Distributed}
+use Rattle.nf_app_answers.specs.Refusals.{answer_of, refusal_of_routes, refusal_of_halt}
+use Rattle.nf_app.specs.Lists.{by_route_list}
+use Rattle.nf_app.specs.Given.{IsGiven}
+
+module _ (n : Named) (file name : List ℕ) (horizon : ℚ) (text : List ℕ) where
+  abbrev Answers : Refusal → Type 0
+  Answers refusal = (refusal ≡ Refusal.NoMemory) ⊎ IsGiven n text (Routes file name horizon) (answer_of refusal)
+
+  pub routes_refused : (fault : SideFault RoutesRule) → IfBroken fault (λ broken. ReadsRoutes n text (Err broken)) → Answers (refusal_of_routes fault)
+  routes_refused (SideFault.Broken rule line) e = inr (inr (inl (record { rule = rule; line = line }, refl, e)))
+  routes_refused SideFault.Memory e = inl refl
+
+  module _ (routes : List NamedRoute) (read : ReadsRoutes n text (Ok routes)) where
+    pub distributing_stopped : (halt : Halt ℚ) → Stops (λ (q : ℚ). q) halt (by_route_list n routes horizon) → Answers (refusal_of_halt halt)
+    distributing_stopped (Halt.Passed at) e = inr (inr (inr (at, refl, record { routes = routes; read = read; passes = e })))
+    distributing_stopped Halt.Memory e = inl refl
+
+    pub distributed_given : (routed : Routed) → by_route_list n routes horizon ≡ Ok routed → IsRouted n.net (routes_of routes) horizon routed → RoutesArrive n.net (routes_of routes) horizon routed
+        → IsGiven n text (Routes file name horizon) (Distributed n routes horizon routed)
+    distributed_given routed e is arrives =
+        inl (record { routes = routes; read = read; routed = routed; is = refl; loadings = is; arrives = arrives; computed = e })
+
+-- there are curves for each link and each route
+pub routed_counts : (net : Network) (routes : List NamedRoute) (horizon : ℚ) (r : Carried) → IsRouted net (routes_of routes) horizon (carried_of net (routes_of routes) horizon r)
+    → (length r.links.items ≡ length net.links) × (length r.arrivals.items ≡ length routes) × (length r.travels.items ≡ length routes)
+routed_counts net routes horizon r h = (
+  sym (length-map r.links.items loaded_of) ∙ h.link_count,
+  sym (length-map r.arrivals.items (λ c. c.points)) ∙ h.arrival_count ∙ length-map routes (λ s. s.route),
+  sym (length-map r.travels.items (λ c. c.points)) ∙ h.travel_count ∙ length-map routes (λ s. s.route),
+)
