@@ -1,10 +1,12 @@
 -- Lines of a text built in memory.
-use Rattle.std.proofs.Common.{◌≡◌, ℕ, ◌+◌, List, [], ◌∷◌, ◌++◌, length, take, refl, sym, ap, ◌∙◌, append_assoc, append-nil, zero-add}
+use Rattle.std.proofs.Common.{◌≡◌, ℕ, suc, ◌+◌, ◌≤◌, List, [], ◌∷◌, ◌++◌, length, take, drop, map, refl, sym, ap, ◌∙◌, append_assoc, append-nil, zero-add, add-one}
 use Rattle.std.specs.Prelude.{Some, slice_get, flat_map, codes}
 use Rattle.std.specs.List.{enumerate_from}
+use Rattle.std.proofs.lemmas.List.{drop_all}
 use Rattle.std.proofs.lemmas.List.FromFn.{length-enumerate_from}
 use Rattle.nf_text_def.specs.Words.{line_of_words}
 use Rattle.nf_thin_laws.proofs.Ending.{enumerated}
+use Rattle.nf_thin_laws.proofs.Numbered.{drop_at}
 use Rattle.nf_report_pages.specs.Written.{after_words}
 use Rattle.nf_report_pages.proofs.Parts.{line_joined, next_part, all_parts}
 
@@ -34,3 +36,28 @@ module _ {A : Type 0} (f : ℕ × A → List ℕ) (xs : List A) (old : List ℕ)
 
   pub numbered_all : (i : ℕ) (now : List ℕ) → i ≡ length xs → now ≡ old ++ flat_map f (take i (enumerate_from 0 xs)) → now ≡ old ++ flat_map f (enumerate_from 0 xs)
   numbered_all i now end h = h ∙ ap (λ (l : List ℕ). old ++ l) (all_parts f (enumerate_from 0 xs) i (end ∙ sym (length-enumerate_from 0 xs)))
+
+-- ---- a text for each element of a list, and what is left of it
+module _ {A : Type 0} (f : A → List ℕ) (xs : List A) where
+  part_suc : (i : ℕ) (x : A) (now next all : List ℕ) → slice_get xs i ≡ Some x → now ++ flat_map f (drop i xs) ≡ all → next ≡ now ++ f x → next ++ flat_map f (drop (suc i) xs) ≡ all
+  part_suc i x now next all at h k =
+      ap (λ (l : List ℕ). l ++ flat_map f (drop (suc i) xs)) k ∙ append_assoc now (f x) (flat_map f (drop (suc i) xs)) ∙ ap (λ (l : List A). now ++ flat_map f l) (sym (drop_at xs i x at)) ∙ h
+
+  pub part_more : (i : ℕ) (x : A) (now next all : List ℕ) → slice_get xs i ≡ Some x → now ++ flat_map f (drop i xs) ≡ all → next ≡ now ++ f x → next ++ flat_map f (drop (i + 1) xs) ≡ all
+  part_more i x now next all at h k = ap (λ (n : ℕ). next ++ flat_map f (drop n xs)) (add-one i) ∙ part_suc i x now next all at h k
+
+  pub part_ends : (i : ℕ) (now all : List ℕ) → length xs ≤ i → now ++ flat_map f (drop i xs) ≡ all → now ≡ all
+  part_ends i now all end h = sym (append-nil now) ∙ ap (λ (l : List A). now ++ flat_map f l) (sym (drop_all i xs end)) ∙ h
+
+  word_suc : (i : ℕ) (x : A) (now next all : List ℕ) → slice_get xs i ≡ Some x → now ++ after_words (map f (drop i xs)) ≡ all → next ≡ now ++ 32 ∷ f x
+      → next ++ after_words (map f (drop (suc i) xs)) ≡ all
+  word_suc i x now next all at h k =
+      ap (λ (l : List ℕ). l ++ after_words (map f (drop (suc i) xs))) k ∙ append_assoc now (32 ∷ f x) (after_words (map f (drop (suc i) xs)))
+      ∙ ap (λ (l : List A). now ++ after_words (map f l)) (sym (drop_at xs i x at)) ∙ h
+
+  pub word_more : (i : ℕ) (x : A) (now next all : List ℕ) → slice_get xs i ≡ Some x → now ++ after_words (map f (drop i xs)) ≡ all → next ≡ now ++ 32 ∷ f x
+      → next ++ after_words (map f (drop (i + 1) xs)) ≡ all
+  word_more i x now next all at h k = ap (λ (n : ℕ). next ++ after_words (map f (drop n xs))) (add-one i) ∙ word_suc i x now next all at h k
+
+  pub word_ends : (i : ℕ) (now all : List ℕ) → length xs ≤ i → now ++ after_words (map f (drop i xs)) ≡ all → now ≡ all
+  word_ends i now all end h = sym (append-nil now) ∙ ap (λ (l : List A). now ++ after_words (map f l)) (sym (drop_all i xs end)) ∙ h

@@ -1,6 +1,7 @@
 use Rattle.std.proofs.Common.{◌≡◌, length, refl, arith}
 use Rattle.std.specs.Prelude.{Some, slice_get}
 use Rattle.std.proofs.lemmas.Option.{slice_get_read}
+use Rattle.std.proofs.lemmas.Result.{IfOk-from_err}
 use Rattle.nf_app_answers.specs.QuickText.{cut_line}
 use Rattle.nf_app_answers.proofs.QuickLines.{numbered_more, numbered_all}
 use Rattle.nf_app_answers.proofs.quick_text.put_cut.Goals as goal
@@ -11,6 +12,9 @@ loop-node-preserved c =
     slice_get_read c.args.cut.now (length c.args.cut.now) c.loop-node.node c.index-cut-node.result refl (omega arith) c.index-cut-node.is in
     numbered_more (cut_line c.args.net.now.node_names) c.args.cut.now c.args.text.now.items c.loop-node.node c.index-cut-node.result c.loop-node.text.items c.put_time.new.text.items
     there c.loop-node.invariant c.in_ok-put_time.ensures
+
+pub returns-in_err-put_time : goal.returns-in_err-put_time
+returns-in_err-put_time c = IfOk-from_err c.from_residual.result _ c.from_residual.ensures.0
 
 pub returns : goal.returns
 returns c =

@@ -1,5 +1,6 @@
 use Rattle.std.proofs.Common.{ℕ, List, ◌∷◌, ◌++◌, map, ap, ◌∙◌}
 use Rattle.std.specs.Prelude.{codes}
+use Rattle.std.proofs.lemmas.Result.{IfOk-from_err}
 use Rattle.nf_text_def.specs.Words.{line_of_words}
 use Rattle.nf_frac_words.specs.Printed.{printed}
 use Rattle.nf_model.specs.Quickest.{Fed}
@@ -7,6 +8,18 @@ use Rattle.nf_net_def.specs.Names.{name_at}
 use Rattle.nf_app_answers.specs.QuickText.{walk_line}
 use Rattle.nf_app_answers.proofs.QuickLines.{line_put}
 use Rattle.nf_app_answers.proofs.quick_text.put_walk.Goals as goal
+
+pub returns-in_err-put_bytes : goal.returns-in_err-put_bytes
+returns-in_err-put_bytes c = IfOk-from_err c.from_residual.result _ c.from_residual.ensures.0
+
+pub returns-in_err-put_number : goal.returns-in_err-put_number
+returns-in_err-put_number c = IfOk-from_err c.from_residual-in_err-put_number.result _ c.from_residual-in_err-put_number.ensures.0
+
+pub returns-in_err-put_links : goal.returns-in_err-put_links
+returns-in_err-put_links c = IfOk-from_err c.from_residual-in_err-put_links.result _ c.from_residual-in_err-put_links.ensures.0
+
+pub returns-in_err-put_bytes-2 : goal.returns-in_err-put_bytes-2
+returns-in_err-put_bytes-2 c = IfOk-from_err c.from_residual-in_err-put_bytes-2.result _ c.from_residual-in_err-put_bytes-2.ensures.0
 
 pub returns : goal.returns
 returns c =

@@ -11,6 +11,15 @@ use Rattle.nf_report_pages.proofs.Written.{wrote_next, wrote_failed, wrote_then_
 use Rattle.nf_app_answers.proofs.RouteLines.{links_told}
 use Rattle.nf_app_answers.proofs.routes_text.write_routed.Goals as goal
 
+pub write_links-requires : goal.write_links-requires
+write_links-requires g c = ap length c.deref.ensures.value ∙ c.requires.links
+
+pub write_routes-requires-clause-arrivals : goal.write_routes-requires-clause-arrivals
+write_routes-requires-clause-arrivals g c = c.requires.arrivals
+
+pub write_routes-requires-clause-travels : goal.write_routes-requires-clause-travels
+write_routes-requires-clause-travels g c = c.requires.travels
+
 pub returns-in_err-write_head : goal.returns-in_err-write_head
 returns-in_err-write_head g c =
     let head = (codes "routed" ∷ codes "1" ∷ []) ∷ (codes "horizon" ∷ printed c.args.horizon ∷ []) ∷ [] in

@@ -1,8 +1,9 @@
-use Rattle.std.proofs.Common.{drop, suc, refl}
+use Rattle.std.proofs.Common.{◌≡◌, drop, suc, length, refl, arith}
 use Rattle.std.specs.Prelude.{flat_map}
 use Rattle.std.proofs.lemmas.Option.{slice_get-get_or}
-use Rattle.nf_report_pages.proofs.Parts.{next_part, parts_left}
+use Rattle.nf_report_pages.proofs.Parts.{next_part, parts_left, all_parts}
 use Rattle.nf_report_pages.proofs.Written.{wrote_both, wrote_front}
+use Rattle.nf_app_answers.proofs.ErrorTexts.{same_text}
 use Rattle.nf_app_answers.proofs.telling.write_texts.Goals as goal
 
 pub loop-text-preserved : goal.loop-text-preserved
@@ -16,3 +17,8 @@ returns-in_err-write_text g c =
     (parts_left (λ t. t.now) c.args.texts.now c.loop-text.text-index _ (slice_get-get_or c.args.texts.now c.loop-text.text-index _ c.loop-text-test.true))
     c.from_residual.ensures.0
     (wrote_both _ refl c.loop-text.invariant c.in_err-write_text.ensures)
+
+pub returns : goal.returns
+returns g c =
+    let end : c.loop-text.text-index ≡ length c.args.texts.now = omega arith in
+    same_text _ _ (all_parts (λ t. t.now) c.args.texts.now c.loop-text.text-index end) c.loop-text.invariant

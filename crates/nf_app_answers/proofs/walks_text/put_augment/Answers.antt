@@ -1,10 +1,23 @@
 use Rattle.std.proofs.Common.{◌++◌, map, ap, ◌∙◌}
 use Rattle.std.specs.Prelude.{codes}
+use Rattle.std.proofs.lemmas.Result.{IfOk-from_err}
 use Rattle.nf_frac_words.specs.Printed.{printed}
 use Rattle.nf_quick_def.specs.Quick.{Augment}
 use Rattle.nf_app_answers.specs.QuickText.{step_word, augment_line}
 use Rattle.nf_app_answers.proofs.QuickLines.{line_put}
 use Rattle.nf_app_answers.proofs.walks_text.put_augment.Goals as goal
+
+pub returns-in_err-put_bytes : goal.returns-in_err-put_bytes
+returns-in_err-put_bytes c = IfOk-from_err c.from_residual.result _ c.from_residual.ensures.0
+
+pub returns-in_err-put_number : goal.returns-in_err-put_number
+returns-in_err-put_number c = IfOk-from_err c.from_residual-in_err-put_number.result _ c.from_residual-in_err-put_number.ensures.0
+
+pub returns-in_err-put_walk : goal.returns-in_err-put_walk
+returns-in_err-put_walk c = IfOk-from_err c.from_residual-in_err-put_walk.result _ c.from_residual-in_err-put_walk.ensures.0
+
+pub returns-in_err-put_bytes-2 : goal.returns-in_err-put_bytes-2
+returns-in_err-put_bytes-2 c = IfOk-from_err c.from_residual-in_err-put_bytes-2.result _ c.from_residual-in_err-put_bytes-2.ensures.0
 
 pub returns : goal.returns
 returns c =
