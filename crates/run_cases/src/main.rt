@@ -1,9 +1,10 @@
-//! This program runs `nf_app` over files and sinks in memory, and answers questions about libraries. It reads its input line by line:
+//! This program runs `nf_app` over files and sinks in memory, and answers questions about what no command shows. It reads its input line
+//! by line:
 //!
 //!     == NAME        begins the file NAME, which replaces an earlier one of that name
 //!     ++ COUNT       appends COUNT bytes `#` to the file
 //!     LINE           any other line belongs to the file
-//!     ?? SUBJECT     answers questions of the last file: `numbers`, `ladders` or `edges`, one a line; or `lines`, the whole file
+//!     ?? SUBJECT     answers questions of the last file: `numbers`, one a line; or `disk`, the whole file, which is written to disk
 //!     !! out CALL    in the next run each write to `out` accepts one byte, and the write with number CALL fails
 //!     !! err CALL    the same for `err`
 //!     !! fetch CALL  in the next run the fetch with number CALL fails
@@ -15,16 +16,14 @@
 //! do not end with LF, `\` and LF follow. For each question it prints the name of the file, and the answers.
 #![tactic(auto)]
 
-mod edges;
+mod disk;
 mod faults;
 mod files;
-mod ladders;
 mod line;
 mod numbers;
 mod running;
 mod shown;
 mod subjects;
-mod text;
 
 use faults::Faults;
 use files::File;
