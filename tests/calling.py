@@ -13,7 +13,7 @@ import re
 import sys
 
 ROOT = pathlib.Path(__file__).resolve().parent.parent
-CALLERS = ("crates/library_callers/src/", "crates/run_callers/src/", "crates/nfot/src/")
+CALLERS = ("crates/library_callers/src/", "crates/nfot/src/")
 TABLE = "docs/CRATES.md"
 QUOTED = re.compile(r"crates/\w+/(?:src|specs)/[\w/]+\.(?:rt|antt)")
 OPENING = ("```rust", "```antt")

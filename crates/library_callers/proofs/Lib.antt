@@ -10,3 +10,6 @@ pub mod Shares
 pub mod Labels
 pub mod Tallest
 pub mod BothQueues
+pub mod Arriving
+pub mod Deciding
+pub mod Writing

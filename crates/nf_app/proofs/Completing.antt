@@ -22,8 +22,8 @@ use Rattle.nf_forever_laws.proofs.OneForever.{one_forever}
 use Rattle.nf_resume_def.specs.Meanings.{IsResumedReport}
 use Rattle.nf_routes_def.specs.RoutesFile.{RoutesBroken, NamedRoute, ReadsRoutes, routes_in}
 use Rattle.nf_routes_laws.proofs.FileReading.{only_reading}
-use Rattle.nf_unstopped_laws.specs.Stops.{NeverNoPattern}
-use Rattle.nf_unstopped_laws.proofs.Stops.{never_report, never_resumed, never_forever}
+use Rattle.nf_phase_run_laws.specs.Stops.{NeverNoPattern}
+use Rattle.nf_phase_run_laws.proofs.Stops.{never_report, never_resumed, never_forever}
 use Rattle.nf_app_words.specs.Requests.{Request, Solve, SolveForever, Show, Load, Check, Quick, Gen, Settle, Resume, Routes}
 use Rattle.nf_app_answers.specs.declared.status.Status.{Status}
 use Rattle.nf_app_answers.specs.Answers.{ProgramAnswer, status_of, status_of_stop, status_of_forever, status_of_verdict}

@@ -5,8 +5,8 @@ use Rattle.nf_frac_def.specs.Passing.{passes_Q}
 use Rattle.nf_model.specs.Network.{Network, IsNetwork}
 use Rattle.nf_net_def.specs.Report.{Report}
 use Rattle.nf_thin_def.specs.PhaseRun.{Standing, Bounds}
-use Rattle.nf_unstopped_laws.specs.Stops.{NeverNoPattern}
-use Rattle.nf_unstopped_laws.proofs.Stops.{never_on}
+use Rattle.nf_phase_run_laws.specs.Stops.{NeverNoPattern}
+use Rattle.nf_phase_run_laws.proofs.Stops.{never_on}
 use Rattle.nf_phase.specs.declared.solution.Solution.{Solution}
 use Rattle.nf_phase.specs.Solution.{IsFinished, report_in}
 use Rattle.nf_phase.specs.Stepping.{Reaches}

@@ -14,7 +14,7 @@ use Rattle.nf_report_def.specs.ReportFile.{report_in}
 use Rattle.nf_report_read.specs.declared.fault.ReportFault.{ReportFault}
 use Rattle.nf_report_read.specs.Files.{IfBroken}
 use Rattle.nf_thin_def.specs.PhaseRun.{IsShortFlow}
-use Rattle.nf_report_run_laws.specs.ReadableLaws.{ReadsBack}
+use Rattle.nf_phase_run_laws.specs.ReadableLaws.{ReadsBack}
 use Rattle.nf_phase.specs.Restarting.{EndsAtItsLabels}
 use Rattle.nf_resume_def.specs.Resuming.{resume_list}
 use Rattle.nf_resume_def.specs.Meanings.{IsResumedReport, GoesOnFrom}

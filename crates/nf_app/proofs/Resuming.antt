@@ -10,7 +10,7 @@ use Rattle.nf_net_def.specs.Report.{Report, report_text}
 use Rattle.nf_phase_laws.proofs.Run.{report_equilibrium}
 use Rattle.nf_report_def.specs.ReportFile.{report_in}
 use Rattle.nf_resume_def.specs.Meanings.{IsResumedReport}
-use Rattle.nf_resume_run_laws.proofs.Ends.{resumed-solved}
+use Rattle.nf_phase_run_laws.proofs.Ends.{resumed-solved}
 use Rattle.nf_phase.specs.Solution.{bounds_of}
 use Rattle.nf_app_words.specs.Requests.{Request, Solve, SolveForever, Show, Load, Check, Quick, Gen, Settle, Resume, Routes}
 use Rattle.nf_app_answers.specs.declared.status.Status.{Status}

@@ -40,7 +40,7 @@ use Rattle.nf_complete_laws.proofs.OnePattern.{one_pattern}
 use Rattle.nf_forever_laws.proofs.OneForever.{one_forever}
 use Rattle.nf_resume_def.specs.Resuming.{Refused, Stands, resume_list}
 use Rattle.nf_resume_def.specs.Resuming as resuming
-use Rattle.nf_resume_run_laws.proofs.OneResumed.{one_resumed}
+use Rattle.nf_phase_run_laws.proofs.OneResumed.{one_resumed}
 use Rattle.nf_app_files.specs.Files.{Wanted}
 use Rattle.nf_app_words.specs.Requests.{Request, Solve, SolveForever, Show, Load, Check, Quick, Gen, Settle, Resume, Routes, request_of}
 use Rattle.nf_app_answers.specs.declared.arrival.Arrival.{Arrival}

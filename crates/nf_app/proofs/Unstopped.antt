@@ -10,8 +10,8 @@ use Rattle.nf_net_def.specs.Named.{Named}
 use Rattle.nf_check_def.specs.declared.Answer.{Answer as Verdict}
 use Rattle.nf_check_def.specs.declared.Answer.TheVariants.{Yes, No}
 use Rattle.nf_phase.specs.Solution.{bounds_of}
-use Rattle.nf_unstopped_laws.specs.Stops.{NeverNoPattern}
-use Rattle.nf_unstopped_laws.proofs.Stops.{never_report, never_resumed, never_forever}
+use Rattle.nf_phase_run_laws.specs.Stops.{NeverNoPattern}
+use Rattle.nf_phase_run_laws.proofs.Stops.{never_report, never_resumed, never_forever}
 use Rattle.nf_app_answers.specs.declared.arrival.Arrival.{Arrival}
 use Rattle.nf_app_answers.specs.declared.status.Status.{Status}
 use Rattle.nf_app_answers.specs.Answers.{ProgramAnswer, Solved, SolvedForever, Shown, Loaded, Checked, Quickest, TooManyWalks, Generated, Settled, Distributed, NoMemory, NoRequest, ShelfFailed, ShelfTooLong, Malformed, MalformedLoads, MalformedFlows, MalformedRoutes, MalformedReport, Passes, Unbounded, NotThin, Earlier, status_of, status_of_stop, status_of_forever, status_of_verdict}

@@ -21,7 +21,7 @@ use Rattle.nf_check_def.specs.Rules.{Checks}
 use Rattle.nf_check_def.specs.CheckList.{check_list}
 use Rattle.nf_check.specs.Answers.{IsExact}
 use Rattle.nf_report_def.specs.LoadsFile.{loads_in}
-use Rattle.nf_report_run_laws.specs.ReadableLaws.{ReadsBack}
+use Rattle.nf_phase_run_laws.specs.ReadableLaws.{ReadsBack}
 use Rattle.nf_quick_def.specs.Quick.{Quick as QuickFlow, FoundQuick}
 use Rattle.nf_quick_def.specs.Answers.{IsQuickFlow}
 use Rattle.nf_quick_def.specs.InOrder.{ComesOfPushes}

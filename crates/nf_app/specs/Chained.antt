@@ -7,7 +7,7 @@ use Rattle.nf_net_def.specs.Named.{Named}
 use Rattle.nf_net_def.specs.NetFile.{Reads}
 use Rattle.nf_net_def.specs.Report.{Report}
 use Rattle.nf_thin_def.specs.PhaseRun.{IsRunReport}
-use Rattle.nf_resume_run_laws.specs.ResumedLaws.{RestFits}
+use Rattle.nf_phase_run_laws.specs.ResumedLaws.{RestFits}
 use Rattle.nf_app_answers.specs.declared.status.Status.{Status}
 use Rattle.nf_app_files.specs.Files.{Visit, input_limit, report_limit}
 use Rattle.nf_app_files.specs.Sinks.{TookAll}

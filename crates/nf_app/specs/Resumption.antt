@@ -6,7 +6,7 @@ use Rattle.nf_net_def.specs.Named.{Named}
 use Rattle.nf_net_def.specs.Report.{Report, report_text}
 use Rattle.nf_thin_def.specs.PhaseRun.{Bounds, IsRunReport}
 use Rattle.nf_report_def.specs.ReportFile.{report_in}
-use Rattle.nf_resume_run_laws.specs.ResumedLaws.{RestFits}
+use Rattle.nf_phase_run_laws.specs.ResumedLaws.{RestFits}
 use Rattle.nf_phase.specs.declared.solution.Budgets.{Budgets}
 use Rattle.nf_app_words.specs.Requests.{Request, Resume}
 use Rattle.nf_app_answers.specs.declared.status.Status.{Status}

@@ -7,7 +7,7 @@ use Rattle.nf_net_def.specs.Named.{Named}
 use Rattle.nf_net_def.specs.NetFile.{Reads}
 use Rattle.nf_net_def.specs.Report.{Report, IsWellFormed, report_text}
 use Rattle.nf_thin_def.specs.PhaseRun.{Bounds, IsRunReport}
-use Rattle.nf_report_run_laws.specs.ReadableLaws.{ReadsBack}
+use Rattle.nf_phase_run_laws.specs.ReadableLaws.{ReadsBack}
 use Rattle.nf_app_answers.specs.declared.status.Status.{Status}
 use Rattle.nf_app_answers.specs.Answers.{status_of_stop}
 use Rattle.nf_app_files.specs.Files.{input_limit}

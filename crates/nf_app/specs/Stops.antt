@@ -2,7 +2,7 @@
 use Rattle.std.specs.Prelude.{◌≡◌, Option, Some, None}
 use Rattle.nf_rational.specs.Rational.{ℚ}
 use Rattle.nf_net_def.specs.declared.Cause.{Cause}
-use Rattle.nf_unstopped_laws.specs.Stops.{NeverNoPattern}
+use Rattle.nf_phase_run_laws.specs.Stops.{NeverNoPattern}
 use Rattle.nf_app_answers.specs.declared.arrival.Arrival.{Arrival}
 use Rattle.nf_app_answers.specs.declared.status.Status.{Status}
 use Rattle.nf_app_answers.specs.Answers.{ProgramAnswer, Solved, SolvedForever, Quickest, Generated}

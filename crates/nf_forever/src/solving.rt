@@ -109,7 +109,7 @@ fn outcome(alloc: Global, run: &Run, end: End) -> Result<Forever, AllocError>
 /// 2017).
 ///
 /// A phase fails only if an operation exceeds its bound, or if more patterns than allowed are needed: each phase has a thin flow, by the
-/// theorem `no_run_stops_for_no_pattern` of `nf_unstopped_laws`. Returns `AllocError` only if an allocation fails.
+/// theorem `no_run_stops_for_no_pattern` of `nf_phase_run_laws`. Returns `AllocError` only if an allocation fails.
 pub fn solve_forever(alloc: Global, net: &Network, budgets: Budgets) -> Result<Forever, AllocError>
     ensures run { IfOk result (λ f. IsForever passes_Q net.now.net budgets.phases budgets.patterns (forever_in f)) }
     ensures form { IfOk result (λ f. HasForm net.now.net (forever_in f)) }

@@ -5,3 +5,5 @@ pub mod LoadedCurves
 pub mod LoadingSteps
 pub mod ExitsInTurn
 pub mod OverPieces
+pub mod LoadsRead
+pub mod Pushed

@@ -1,3 +1,5 @@
 pub mod Codes
 pub mod Loadings
 pub mod InSteps
+pub mod Entries
+pub mod Kept

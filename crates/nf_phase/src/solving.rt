@@ -90,7 +90,7 @@ impl Run {
     /// Extends a run phase by phase, each phase by its first accepted pattern. The run ends at the horizon, after as many phases as
     /// allowed, or if no phase can be computed. No phase may have been added since departure 0 or since the run was restored. The horizon
     /// is a time, not before the departure reached. The resulting flow is an equilibrium. A phase fails only if an operation exceeds its
-    /// bound or more patterns than allowed are needed: each phase has a thin flow (`nf_unstopped_laws`). Refuses only if memory can't be
+    /// bound or more patterns than allowed are needed: each phase has a thin flow (`nf_phase_run_laws`). Refuses only if memory can't be
     /// allocated.
     pub fn finish(
         self,
@@ -115,7 +115,7 @@ impl Run {
 /// Solves a network phase by phase from departure 0, each phase by its first accepted pattern. The run ends at the horizon, after as many
 /// phases as allowed, or if no phase can be computed. The resulting flow is an equilibrium (a Nash flow over time: Koch and Skutella 2011).
 /// A phase fails only if an operation exceeds its bound or more patterns than allowed are needed: each phase has a thin flow, by the
-/// theorem `no_run_stops_for_no_pattern` of `nf_unstopped_laws`. The horizon is a time of at least 0. Refuses only if memory can't be
+/// theorem `no_run_stops_for_no_pattern` of `nf_phase_run_laws`. The horizon is a time of at least 0. Refuses only if memory can't be
 /// allocated.
 pub fn solve(
     alloc: Global,

@@ -78,7 +78,7 @@ fn restart(alloc: Global, net: &Network, report: &Report) -> Result<Run, Halt<Q>
 /// Resumes a report to a horizon, phase by phase from the departure that its flow has reached. The run ends at the horizon, after as many
 /// phases as allowed, or if no phase can be computed. The resulting flow is an equilibrium (a Nash flow over time: Koch and Skutella 2011),
 /// and has the report's values up to where the report's flow ends. A phase fails only if an operation exceeds its bound or more patterns
-/// than allowed are needed: each phase has a thin flow, by the theorem `no_run_stops_for_no_pattern` of `nf_unstopped_laws`. If the run
+/// than allowed are needed: each phase has a thin flow, by the theorem `no_run_stops_for_no_pattern` of `nf_phase_run_laws`. If the run
 /// that wrote the report stopped within a phase, the first phase is the remainder of that phase. The report must be a well-formed one of
 /// the network.
 ///

@@ -1,7 +1,7 @@
 use Rattle.std.proofs.Common.{◌≡◌, ℕ, List, length, sym, ap, subst, ◌∙◌, arith}
 use Rattle.std.specs.Prelude.{Err}
 use Rattle.std.proofs.lemmas.Result.{err_from_is_err_and}
-use Rattle.nf_resume_run_laws.proofs.Reading.{resumed_reads_back}
+use Rattle.nf_phase_run_laws.proofs.Reading.{resumed_reads_back}
 use Rattle.nf_report_def.specs.ReportFile as reports
 use Rattle.nf_report_read.specs.Files.{IfBroken, report_of}
 use Rattle.nf_phase.specs.Solution.{bounds_of, report_in}

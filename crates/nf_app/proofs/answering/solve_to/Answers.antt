@@ -1,6 +1,6 @@
 use Rattle.std.proofs.Common.{refl, arith}
 use Rattle.nf_phase.specs.Solution.{bounds_of, report_in}
-use Rattle.nf_report_run_laws.proofs.ReadingBack.{reads_back}
+use Rattle.nf_phase_run_laws.proofs.ReadingBack.{reads_back}
 use Rattle.nf_app.proofs.answering.solve_to.Goals as goal
 
 pub returns : goal.returns

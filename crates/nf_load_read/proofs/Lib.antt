@@ -1,2 +1,0 @@
-pub mod LoadsRead
-pub mod Pushed

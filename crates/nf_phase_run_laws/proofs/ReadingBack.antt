@@ -1,0 +1,26 @@
+-- A readable report reads back, and so that of a run.
+use Rattle.std.proofs.Common.{sym, ap, ◌∙◌}
+use Rattle.nf_frac_def.specs.Passing.{passes_Q}
+use Rattle.nf_net_def.specs.Named.{Named}
+use Rattle.nf_net_def.specs.WellNamed.{IsNamed}
+use Rattle.nf_net_def.specs.Report.{Report, IsWellFormed}
+use Rattle.nf_thin_def.specs.PhaseRun.{Bounds, IsRunReport}
+use Rattle.nf_report_def.specs.ReportFile.{report_in}
+use Rattle.nf_report_laws.specs.Readable.{IsReadable}
+use Rattle.nf_report_laws.proofs.ReportBack.{report_back}
+use Rattle.nf_report_laws.proofs.ReportFit.{fit}
+use Rattle.nf_rational_laws.proofs.Results.{same_Ok}
+use Rattle.nf_phase_run_laws.specs.ReadableLaws.{AreReadable, ReadsBack}
+use Rattle.nf_phase_run_laws.proofs.Running.{report_readable}
+
+-- a readable report is read back from its text
+pub readable_reads_back : (n : Named) (report : Report) → IsNamed n → IsWellFormed n.net report → IsReadable report → ReadsBack n report
+readable_reads_back n report named formed readable =
+    let reads = report_back n report named (fit n report named formed readable) in
+    record {
+      reads = reads;
+      only = λ other other_formed can same. same_Ok report other (sym reads ∙ ap (report_in n) same ∙ report_back n other named (fit n other named other_formed can));
+    }
+
+pub reads_back : (n : Named) (bounds : Bounds) (report : Report) → IsNamed n → AreReadable bounds → IsWellFormed n.net report → IsRunReport passes_Q n.net bounds report → ReadsBack n report
+reads_back n bounds report named within formed run = readable_reads_back n report named formed (report_readable n named bounds within report run)

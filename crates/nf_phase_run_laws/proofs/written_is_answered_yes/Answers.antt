@@ -1,0 +1,18 @@
+use Rattle.std.proofs.Common.{sym, ap, ◌∙◌}
+use Rattle.std.specs.Prelude.{◌≡◌}
+use Rattle.nf_frac_def.specs.Passing.{passes_Q}
+use Rattle.nf_net_def.specs.Report.{Report}
+use Rattle.nf_check_def.specs.CheckList.{check_list}
+use Rattle.nf_rational_laws.proofs.Results.{same_Ok}
+use Rattle.nf_phase_laws.proofs.Run.{report_equilibrium}
+use Rattle.nf_report_laws.proofs.ReportBack.{report_back}
+use Rattle.nf_report_laws.proofs.ReportFit.{fit}
+use Rattle.nf_phase_run_laws.proofs.Running.{report_readable}
+use Rattle.nf_phase_run_laws.proofs.Verdicts.{answered_yes}
+use Rattle.nf_phase_run_laws.proofs.written_is_answered_yes.Goals as goal
+
+pub returns : goal.returns
+returns c = λ n bounds report read answer named within formed run reads e.
+    let same : report ≡ read = same_Ok report read (sym (report_back n report named (fit n report named formed (report_readable n named bounds within report run))) ∙ reads) in
+    answered_yes passes_Q n.net report.flow answer named.network (report_equilibrium passes_Q n.net named.network bounds report run)
+    (ap (λ (r : Report). check_list passes_Q n.net r.flow) same ∙ e)

@@ -1,2 +1,0 @@
-pub mod ReadableLaws
-pub mod VerdictLaws

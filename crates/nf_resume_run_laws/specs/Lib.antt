@@ -1,2 +1,0 @@
-pub mod ResumedLaws
-pub mod ReportLaws

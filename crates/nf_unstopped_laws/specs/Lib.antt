@@ -1,3 +1,0 @@
-pub mod ThinFlows
-pub mod Stops
-pub mod Sequences

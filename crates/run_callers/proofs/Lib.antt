@@ -1,3 +1,0 @@
-pub mod Arriving
-pub mod Deciding
-pub mod Writing

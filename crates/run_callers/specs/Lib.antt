@@ -1,4 +1,0 @@
-pub mod Arrivals
-pub mod Deadlines
-pub mod RouteArrivals
-pub mod Supplies
