@@ -1,20 +1,17 @@
 -- The labels at departure 0, and the sets of their slacks.
-use Rattle.std.proofs.Common.{◌≡◌, ℕ, ◌<◌, List, length, map, replicate, None, refl, sym, subst}
+use Rattle.std.proofs.Common.{◌≡◌, ℕ, List, length, map, replicate, None, refl, sym, subst}
 use Rattle.nf_rational.specs.Rational.{ℚ}
 use Rattle.nf_rational.specs.Operations.{0ℚ}
 use Rattle.nf_rational.specs.Order.{◌≤ℚ◌}
 use Rattle.nf_rational_laws.proofs.Chains.{≤ℚ_refl}
 use Rattle.nf_model.specs.Curve.{Within}
-use Rattle.nf_model.specs.Walk.{Hop}
-use Rattle.nf_model.specs.Network.{Link, Network, IsNetwork, IsLink, hop_of, hops, rate_at}
+use Rattle.nf_model.specs.Network.{Link, Network, IsNetwork, IsLink, rate_at}
 use Rattle.nf_model.specs.ThinFlow.{sets_at}
 use Rattle.nf_model.specs.Phases.{AreStartLabels}
 use Rattle.nf_model_laws.proofs.Slacks.{active_of_slack}
 use Rattle.nf_model_laws.proofs.Supply.{rate_from-not_negative}
 use Rattle.nf_thin_def.specs.ReportCurves.{first_label_curve, first_curves}
 use Rattle.nf_thin_def.specs.PhaseRun.{Standing, flow_of}
-use Rattle.nf_thin_laws.proofs.Ending.{from_map}
-use Rattle.nf_graph.specs.Graph.{AreBelow}
 use Rattle.nf_phase_laws.specs.Invariant.{link_slack}
 use Rattle.nf_phase_laws.specs.CurveSteps.{at}
 use Rattle.nf_phase_laws.specs.CurveRun.{Curves, curves_of}
@@ -71,13 +68,6 @@ module _ (net : Network) (good : IsNetwork net) (labels : List ℚ) (are : AreSt
   -- and none enters the source
   pub start_source : NoneEntersSource net (sets_at net labels)
   start_source = NoneEntersSource-acyclic net (sets_at net labels) good (HoldNoCycle-sets_at net labels good) entered
-
--- links lead from nodes to nodes
-pub hops_inside : (net : Network) → IsNetwork net → AreBelow net.nodes (hops net)
-hops_inside net good = record {
-  tails = λ e hop h. (let l = from_map hop_of net.links e hop h in subst (λ (x : Hop). x.tail < net.nodes) l.2 (good.tails e l.0 l.1));
-  heads = λ e hop h. (let l = from_map hop_of net.links e hop h in subst (λ (x : Hop). x.head < net.nodes) l.2 (good.heads e l.0 l.1));
-}
 
 pub start_rate : (net : Network) → IsNetwork net → 0ℚ ≤ℚ rate_at net 0ℚ
 start_rate net good = rate_from-not_negative net.pieces 0ℚ good.pieces

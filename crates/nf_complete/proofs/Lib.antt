@@ -1,4 +1,3 @@
 pub mod ThinAnswers
 pub mod CancelsOn
-pub mod Hops
 pub mod GoodSets

@@ -6,3 +6,4 @@ pub mod Orders
 pub mod ZeroLinks
 pub mod Offering
 pub mod Settling
+pub mod NetworkHops

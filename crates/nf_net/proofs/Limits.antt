@@ -1,15 +1,16 @@
 -- How many nodes, links and names a network has.
-use Rattle.std.proofs.Common.{◌≡◌, ℕ, ◌+◌, ◌<◌, ◌≤◌, suc, List, [], ◌∷◌, length, ◌++◌, refl, sym, ◌∙◌, ap, arith, ◌&&◌, ◌||◌, Bool, true, false, not, cond, nat_lt, is_some, None, Some, slice_get, get_or, length-append}
+use Rattle.std.proofs.Common.{◌≡◌, ℕ, ◌+◌, ◌^◌, ◌<◌, ◌≤◌, suc, List, [], ◌∷◌, length, ◌++◌, refl, sym, ◌∙◌, ap, arith, ◌&&◌, ◌||◌, Bool, true, false, not, cond, nat_lt, is_some, None, Some, slice_get, get_or, length-append}
 use Rattle.std.specs.List.{list_all, position, position_or_len}
 use Rattle.std.specs.Str.{bytes_eq}
 use Rattle.std.proofs.lemmas.List.Quantifiers.{position-Some}
 use Rattle.std.proofs.lemmas.Bool.{lt-ltb}
 use Rattle.std.proofs.lemmas.Option.{slice_get-get_or}
 use Rattle.nf_net_laws.proofs.NameFacts.{same_names}
-use Rattle.nf_model.specs.Network.{Link}
+use Rattle.nf_model.specs.Network.{Link, hops}
 use Rattle.nf_net_def.specs.Names.{Name, is_name, has_name}
 use Rattle.nf_net_def.specs.Named.{Named, links_by_name, active_links, names_of}
 use Rattle.nf_net_def.specs.WellNamed.{IsNamed}
+use Rattle.nf_graph.proofs.NetworkHops.{hops_length}
 
 pub few_nodes : (n : Named) → IsNamed n → length n.node_names ≤ 64
 few_nodes n h = omega (arith, h.limits.nodes, length-append n.node_names n.idle_nodes)
@@ -25,6 +26,9 @@ length-links_by_name nodes (name ∷ names) (l ∷ links) e = ap (λ (n : ℕ). 
 
 pub few_links : (n : Named) → IsNamed n → length n.net.links ≤ 200
 few_links n h = omega (arith, h.limits.links, length-append (active_links n) n.idle_links, length-links_by_name n.node_names n.link_names n.net.links h.numbered.links)
+
+pub few_hops : (n : Named) → IsNamed n → length (hops n.net) < 2 ^ 32
+few_hops n h = let f = few_links n h in let c = hops_length n.net in omega arith
 
 pub as_many_names : (n : Named) → IsNamed n → length n.link_names ≡ length n.net.links
 as_many_names n h = h.numbered.links

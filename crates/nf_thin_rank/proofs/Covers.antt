@@ -19,7 +19,7 @@ use Rattle.nf_thin_narrow.specs.Firming.{states_of_firm, firm_choices}
 use Rattle.nf_thin_rank.specs.Firming.{MayKeep, AreKeepers, AreFirmBy}
 use Rattle.nf_thin_rank.specs.Families.{CountsOther, IsByOther, CountsBefore}
 use Rattle.nf_thin_rank.specs.Questions.{question_of}
-use Rattle.nf_thin_rank.proofs.Hops.{hops_length}
+use Rattle.nf_graph.proofs.NetworkHops.{hops_length}
 use Rattle.nf_thin_rank.proofs.Members.{members, members_sum, members_few, in_family, told_in, members_before}
 
 -- ---- the states of one link

@@ -13,7 +13,7 @@ use Rattle.nf_thin_laws.proofs.Choosing.{listed_in}
 use Rattle.nf_pattern.specs.Front.{IsListingOf}
 use Rattle.nf_thin_narrow.specs.Rows.{most}
 use Rattle.nf_thin_rank.specs.Questions.{AreSetsOf, question_of}
-use Rattle.nf_thin_rank.proofs.Hops.{hops_length, unbounded_length, below_nodes}
+use Rattle.nf_graph.proofs.NetworkHops.{hops_length, unbounded_length, below_nodes}
 
 pub from_test : (x y : ℕ) → nat_lt x y ≡ true → x < y
 from_test x y told = ⊎_elim

@@ -22,7 +22,7 @@ use Rattle.nf_thin_guess.proofs.Changing.{still_pattern}
 use Rattle.nf_thin_narrow.specs.declared.firm.Firm.{Firm}
 use Rattle.nf_thin_rank.specs.Firming.{HaveFirm, MayKeep, AreKeepers, IsFirmOf, AreFirmBy}
 use Rattle.nf_thin_rank.specs.Questions.{AreSetsOf}
-use Rattle.nf_thin_rank.proofs.Hops.{hops_length}
+use Rattle.nf_graph.proofs.NetworkHops.{hops_length}
 
 -- a vector that was written to as a whole
 pub refilled : {A : Type 0} (n : ℕ) (xs ws : List A) → n ≡ length xs → length ws ≡ length xs → take n (ws ++ drop (length ws) xs) ≡ ws

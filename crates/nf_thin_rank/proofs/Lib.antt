@@ -1,4 +1,3 @@
-pub mod Hops
 pub mod Posed
 pub mod Asking
 pub mod Early

@@ -1,10 +1,10 @@
 use Rattle.std.proofs.lemmas.Result.{err_from_is_err_and}
-use Rattle.nf_app.proofs.Starting.{hops_inside}
+use Rattle.nf_graph.proofs.NetworkHops.{below_nodes}
 use Rattle.nf_app.proofs.SettleCalls.{slacks_stopped, sets_there}
 use Rattle.nf_app.proofs.settling.start_sets.Goals as goal
 
 pub slacks-requires : goal.slacks-requires
-slacks-requires c = rw (c.deref.ensures.value, c.hops.ensures.value, c.in_ok-labels.ensures.count) (hops_inside c.args.net.now.net c.hops.ensures.named.network)
+slacks-requires c = rw (c.deref.ensures.value, c.hops.ensures.value, c.in_ok-labels.ensures.count) (below_nodes c.args.net.now.net c.hops.ensures.named.network)
 
 pub returns-in_err-labels : goal.returns-in_err-labels
 returns-in_err-labels c =

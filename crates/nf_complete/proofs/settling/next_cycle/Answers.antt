@@ -6,19 +6,20 @@ use Rattle.nf_model.specs.Network.{hops}
 use Rattle.nf_model.specs.Pattern.{IsForest}
 use Rattle.nf_complete_cycles.specs.Cycles.{Closes}
 use Rattle.nf_complete_conditions.proofs.Interiors.{flags_by_flows}
-use Rattle.nf_complete.proofs.Hops.{hops_count, hops_below, few_hops}
+use Rattle.nf_graph.proofs.NetworkHops.{hops_length, below_nodes}
+use Rattle.nf_net.proofs.Limits.{few_hops}
 use Rattle.nf_complete.proofs.settling.next_cycle.Goals as goal
 
 pub interior-requires-clause-fulls : goal.interior-requires-clause-fulls
 interior-requires-clause-fulls c = c.requires.fulls ∙ sym c.link_count.ensures
 
 pub first_cycle-requires-clause-ends : goal.first_cycle-requires-clause-ends
-first_cycle-requires-clause-ends c = rw (c.node_count.ensures, c.hops.ensures.value) (hops_below c.args.net.now.net c.hops.ensures.named.network)
+first_cycle-requires-clause-ends c = rw (c.node_count.ensures, c.hops.ensures.value) (below_nodes c.args.net.now.net c.hops.ensures.named.network)
 
 pub first_cycle-requires-clause-count : goal.first_cycle-requires-clause-count
 first_cycle-requires-clause-count c =
     ap length (c.deref.ensures.value ∙ c.in_ok-interior.ensures) ∙ flags_by_flows c.args.sets.now c.args.fulls.now c.args.flows.now ∙ c.requires.flows
-    ∙ sym (ap length c.hops.ensures.value ∙ hops_count c.args.net.now.net)
+    ∙ sym (ap length c.hops.ensures.value ∙ hops_length c.args.net.now.net)
 
 pub first_cycle-requires-clause-fewer : goal.first_cycle-requires-clause-fewer
 first_cycle-requires-clause-fewer c = rw (c.hops.ensures.value) (few_hops c.args.net.now c.hops.ensures.named)

@@ -5,7 +5,8 @@ use Rattle.nf_thin_narrow.specs.declared.firm.Firm.{Firm}
 use Rattle.nf_thin_rank.specs.declared.families.Spare.{Spare}
 use Rattle.nf_thin_rank.specs.Firming.{AreKeepers, AreFirmBy}
 use Rattle.nf_thin_rank.specs.Families.{IsSpare, IsByOther}
-use Rattle.nf_thin_rank.proofs.Hops.{few_hops, hops_length}
+use Rattle.nf_graph.proofs.NetworkHops.{hops_length}
+use Rattle.nf_net.proofs.Limits.{few_hops}
 use Rattle.nf_thin_rank.proofs.Covers.{other_keeps}
 use Rattle.nf_thin_rank.proofs.families.ways_by_other.Goals as goal
 

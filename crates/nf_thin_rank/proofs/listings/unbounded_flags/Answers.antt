@@ -6,7 +6,7 @@ use Rattle.std.proofs.lemmas.Option.{slice_get-map}
 use Rattle.nf_model.specs.Network.{Link, unbounded}
 use Rattle.nf_pattern.proofs.Each.{take_pushed}
 use Rattle.nf_thin_guess.proofs.Flags.{none_flag}
-use Rattle.nf_thin_rank.proofs.Hops.{unbounded_length}
+use Rattle.nf_graph.proofs.NetworkHops.{unbounded_length}
 use Rattle.nf_thin_rank.proofs.listings.unbounded_flags.Goals as goal
 
 pub loop-e-preserved : goal.loop-e-preserved

@@ -2,7 +2,8 @@ use Rattle.std.proofs.Common.{ℕ, List, Bool, length, sym, ap, subst, ◌∙◌
 use Rattle.nf_model.specs.Walk.{Hop}
 use Rattle.nf_model.specs.Network.{hops}
 use Rattle.nf_thin_laws.specs.Ways.{AreSole}
-use Rattle.nf_thin_rank.proofs.Hops.{hops_length, few_hops}
+use Rattle.nf_graph.proofs.NetworkHops.{hops_length}
+use Rattle.nf_net.proofs.Limits.{few_hops}
 use Rattle.nf_thin_rank.proofs.Early.{early, from_test}
 use Rattle.nf_thin_rank.proofs.standing.is_early.Goals as goal
 

@@ -2,7 +2,7 @@ use Rattle.std.proofs.Common.{◌≡◌, suc, ap, ◌∙◌}
 use Rattle.nf_frac_def.specs.Passing.{passes_Q}
 use Rattle.nf_thin_def.specs.PhaseRun.{Standing}
 use Rattle.nf_phase_laws.proofs.Standing.{label_count_at}
-use Rattle.nf_thin_rank.proofs.Hops.{below_nodes}
+use Rattle.nf_graph.proofs.NetworkHops.{below_nodes}
 use Rattle.nf_phase.specs.Faults.{of_halt}
 use Rattle.nf_phase.specs.Stepping.{StandsFor}
 use Rattle.nf_phase.specs.Finding.{FindsNone}

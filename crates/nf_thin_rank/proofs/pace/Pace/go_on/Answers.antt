@@ -3,7 +3,7 @@ use Rattle.std.proofs.lemmas.Option.{same_Some}
 use Rattle.nf_pattern.specs.Given.{Question, IsQuestion, IsListedBy, Given}
 use Rattle.nf_thin_narrow.specs.Asking.{StandsWithin, IsBehind, StandsAt}
 use Rattle.nf_thin_rank.specs.Posing.{question_in}
-use Rattle.nf_thin_rank.proofs.Hops.{hops_length}
+use Rattle.nf_graph.proofs.NetworkHops.{hops_length}
 use Rattle.nf_thin_rank.proofs.Posed.{posed_question}
 use Rattle.nf_thin_rank.proofs.pace.Pace.go_on.Goals as goal
 
