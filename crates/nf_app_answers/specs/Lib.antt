@@ -4,3 +4,5 @@ pub mod GenText
 pub mod Answers
 pub mod Refusals
 pub mod Outcomes
+pub use Rattle.nf_phase.specs.Solution
+pub use Rattle.nf_routes.specs.Carried

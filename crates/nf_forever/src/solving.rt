@@ -18,8 +18,7 @@ ghost use Rattle.nf_forever.specs.Ends.{end_in, IsStopBy};
 use crate::forever::{Forever, Tail};
 use nf_curve::Stop;
 use nf_net::Network;
-use nf_phase::{Budgets, Run, StepFault, stop_by};
-use nf_thin::ThinFlow;
+use nf_phase::{Budgets, Run, StepFault, ThinFlow, stop_by};
 use std::alloc::{AllocError, Global};
 
 // The end of a run: a stop, or a phase that never ends, with its thin flow.

@@ -16,7 +16,7 @@ use Rattle.nf_model_laws.proofs.Slacks.{slack_of_resetting}
 use Rattle.nf_thin_def.specs.PhaseRun.{Standing, IsStart, Goes}
 use Rattle.nf_thin_laws.proofs.Ending.{from_map}
 use Rattle.nf_pattern.proofs.FirstPatterns.{base_is_pattern, none_full}
-use Rattle.nf_thin_rank.specs.Questions.{NoneResetsUnbounded, AreSetsOf}
+use Rattle.nf_thin.specs.Questions.{NoneResetsUnbounded, AreSetsOf}
 use Rattle.nf_thin_laws.proofs.ActiveLinks.{AreSets-sets_at}
 use Rattle.nf_phase_laws.proofs.WellRun.{WellRun, WellRun-start}
 use Rattle.nf_phase_laws.proofs.Run.{WellRun-goes}

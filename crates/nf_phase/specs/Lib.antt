@@ -4,3 +4,4 @@ pub mod Stepping
 pub mod Finding
 pub mod Restarting
 pub mod Solution
+pub use Rattle.nf_thin.specs.declared.thin.ThinFlow

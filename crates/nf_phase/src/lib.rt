@@ -15,6 +15,7 @@ mod stops;
 
 pub use fault::StepFault;
 pub use nf_phase_length::extension;
+pub use nf_thin::ThinFlow;
 pub use run::Run;
 pub use solution::{Budgets, Solution};
 pub use solving::solve;

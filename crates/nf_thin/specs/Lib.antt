@@ -5,3 +5,4 @@ pub mod Slopes
 pub mod Knowing
 pub mod Sifting
 pub mod Finding
+pub use Rattle.nf_thin_rank.specs.Questions

@@ -3,7 +3,7 @@ use Rattle.std.specs.Prelude.{map}
 use Rattle.std.specs.Option.{option_copied}
 use Rattle.nf_net_def.specs.Report.{Report, report_text}
 use Rattle.nf_curve.specs.Flows.{flow_of}
-use Rattle.nf_phase.specs.Solution.{report_in}
+use Rattle.nf_app_answers.specs.Solution.{report_in}
 use Rattle.nf_report_def.specs.Texts.{load_text}
 use Rattle.nf_load.specs.declared.loading.Loaded as code
 use Rattle.nf_load.specs.Loadings.{loaded_of}
@@ -11,7 +11,7 @@ use Rattle.nf_complete_def.specs.SettleText.{settled_text}
 use Rattle.nf_forever_def.specs.ForeverText.{forever_text}
 use Rattle.nf_forever.specs.Seen.{forever_in}
 use Rattle.nf_routes_def.specs.RoutesText.{routed_text}
-use Rattle.nf_routes.specs.Carried.{with_entries}
+use Rattle.nf_app_answers.specs.Carried.{with_entries}
 use Rattle.nf_app_answers.specs.declared.outcome.Computed.{Computed}
 use Rattle.nf_app_answers.specs.QuickText.{arrival_text}
 use Rattle.nf_app_answers.specs.GenText.{gen_text}

@@ -5,7 +5,7 @@ use Rattle.nf_model.specs.Network.{hops as hops_of, unbounded}
 use Rattle.nf_model.specs.ThinFlow.{Sets, sets_at}
 use Rattle.nf_model.specs.Pattern.{Pattern, IsPattern, IsBase}
 use Rattle.nf_thin_def.specs.PhaseRun.{Standing}
-use Rattle.nf_thin_rank.specs.Questions.{AreSetsOf}
+use Rattle.nf_thin.specs.Questions.{AreSetsOf}
 use Rattle.nf_graph.proofs.NetworkHops.{hops_length}
 use Rattle.nf_net.proofs.Limits.{few_hops}
 use Rattle.nf_phase.proofs.Reached.{Stands-reached, active_count, sets_fit, base_fits}
