@@ -4,7 +4,8 @@
     python3 bench/gate.py
 
 To measure it from nothing, first move away what the kit keeps of earlier runs (the folder rattle-kept beside it). The script reads processor seconds
-from /proc four times a second. Other work on the machine makes them grow, so the time of a fixed loop is printed before and after.
+from /proc four times a second. Other work on the machine makes them grow, so the time of a fixed loop is printed: before, after, and the
+mean of short ones, one a minute in between.
 
 Statuses: 0 however the gate ends, whose last words are printed; 1 `rt` isn't on the path; 2 wrong arguments.
 """
@@ -20,19 +21,20 @@ import tempfile
 import time
 
 TICKS = os.sysconf("SC_CLK_TCK")
+ROUNDS, SHORT = 120, 12
 Seen = collections.namedtuple("Seen", "seconds words folder edit")
 LIBRARY, PROGRAM, ALONE, SEED, OVER, LAST = "libraries", "programs", "edits alone", "first proofs for several edits", "edits over these", "last proofs for several edits"
 
 
-def loop_seconds():
-    """Returns the processor seconds of a fixed loop, as a measure of the machine's pace."""
-    begun = time.process_time()
+def loop_seconds(rounds=ROUNDS):
+    """Returns the processor seconds of a fixed loop, as a measure of the machine's pace. Fewer rounds are counted for as many as ROUNDS."""
     table = {key: key * 3 for key in range(200_000)}
+    begun = time.process_time()
     total = 0
-    for _ in range(120):
+    for _ in range(rounds):
         for key in range(0, 200_000, 3):
             total += table[key]
-    return time.process_time() - begun
+    return (time.process_time() - begun) * ROUNDS / rounds
 
 
 def stat_of(pid):
@@ -158,17 +160,21 @@ def main():
     root = os.path.dirname(os.path.dirname(os.path.realpath(__file__)))
     programs = {it for it in os.listdir(f"{root}/crates") if os.path.isfile(f"{root}/crates/{it}/src/main.rt")}
     print(f"a fixed loop: {loop_seconds():.2f} seconds", flush=True)
-    seen, begun = {}, time.time()
+    seen, begun, paces = {}, time.time(), []
     with tempfile.TemporaryFile("w+", errors="replace") as out:
         with subprocess.Popen(["rt", "ci"], cwd=root, stdout=out) as gate:
             while gate.poll() is None:
                 sample(gate.pid, root, seen)
+                if time.time() - begun >= 60 * (len(paces) + 1):
+                    paces.append(loop_seconds(SHORT))
                 time.sleep(0.25)
         out.seek(0)
         said = out.read()
     lines = [it for it in said.splitlines() if re.search(r"NOT |FAILED|only because|passed, ", it)]
     print("\n".join(lines))
     print(f"{(time.time() - begun) / 60:.0f} minutes; a fixed loop: {loop_seconds():.2f} seconds")
+    if paces:
+        print(f"the loop in between, {len(paces)} times: {sum(paces) / len(paces):.2f} seconds in the mean")
     told(seen, programs)
 
 
