@@ -27,7 +27,7 @@ LIBRARY, PROGRAM, ALONE, SEED, OVER, LAST = "libraries", "programs", "edits alon
 
 
 def loop_seconds(rounds=ROUNDS):
-    """Returns the processor seconds of a fixed loop, as a measure of the machine's pace. Fewer rounds are counted for as many as ROUNDS."""
+    """Returns the processor seconds of a fixed loop, as a measure of the machine's pace. The seconds of fewer rounds are scaled up to ROUNDS."""
     table = {key: key * 3 for key in range(200_000)}
     begun = time.process_time()
     total = 0
