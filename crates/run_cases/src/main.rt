@@ -4,7 +4,7 @@
 //!     == NAME        begins the file NAME, which replaces an earlier one of that name
 //!     ++ COUNT       appends COUNT bytes `#` to the file
 //!     LINE           any other line belongs to the file
-//!     ?? SUBJECT     answers questions of the last file: `numbers`, one a line; or `disk`, the whole file, which is written to disk
+//!     ?? SUBJECT     answers questions of the last file: `numbers` or `ladders`, one a line; or `lines` or `disk`, the whole file
 //!     !! out CALL    in the next run each write to `out` accepts one byte, and the write with number CALL fails
 //!     !! err CALL    the same for `err`
 //!     !! fetch CALL  in the next run the fetch with number CALL fails
@@ -19,11 +19,13 @@
 mod disk;
 mod faults;
 mod files;
+mod ladders;
 mod line;
 mod numbers;
 mod running;
 mod shown;
 mod subjects;
+mod text;
 
 use faults::Faults;
 use files::File;

@@ -63,19 +63,11 @@ fn answer(rt: &HostRuntime, question: &str, word: &[u8]) -> io::Result<()> {
     }
 }
 
-// Prints a line, and answers it.
-fn tell_line(rt: &HostRuntime, line: &str) -> io::Result<()> {
+/// Prints a line, and answers it.
+pub fn tell(rt: &HostRuntime, line: &str) -> io::Result<()> {
     print!(rt; "{line}: ")?;
     match line.split_once(' ') {
         Some((question, word)) => answer(rt, question, word.as_bytes()),
         None => println!(rt; "no question"),
     }
-}
-
-/// Answers each line of a text.
-pub fn tell(rt: &HostRuntime, text: &[u8]) -> io::Result<()> {
-    for line in as_text(text).lines() {
-        tell_line(rt, line)?;
-    }
-    Ok(())
 }
