@@ -1,11 +1,11 @@
 #!/usr/bin/env python3
 """Measures what the gate costs: runs `rt ci`, and prints processor minutes by kind of process, the most expensive crates and edits.
 
-    python3 bench/gate.py
+    python3 bench/gate.py [TREE]
 
-To measure it from nothing, first move away what the kit keeps of earlier runs (the folder rattle-kept beside it). The script reads processor seconds
-from /proc four times a second. Other work on the machine makes them grow, so the time of a fixed loop is printed: before, after, and the
-mean of short ones, one a minute in between.
+TREE is a checkout of the repository; without it, the script's own is measured. To measure it from nothing, first move away what the kit keeps
+of earlier runs (the folder rattle-kept beside it). The script reads processor seconds from /proc four times a second. Other work on the
+machine makes them grow, so the time of a fixed loop is printed: before, after, and the mean of short ones, one a minute in between.
 
 Statuses: 0 however the gate ends, whose last words are printed; 1 `rt` isn't on the path; 2 wrong arguments.
 """
@@ -22,6 +22,7 @@ import time
 
 TICKS = os.sysconf("SC_CLK_TCK")
 ROUNDS, SHORT = 120, 12
+OWN = os.path.dirname(os.path.dirname(os.path.realpath(__file__)))
 Seen = collections.namedtuple("Seen", "seconds words folder edit")
 LIBRARY, PROGRAM, ALONE, SEED, OVER, LAST = "libraries", "programs", "edits alone", "first proofs for several edits", "edits over these", "last proofs for several edits"
 
@@ -154,10 +155,13 @@ def told(seen, programs):
 
 
 def main():
-    argparse.ArgumentParser(description=__doc__, formatter_class=argparse.RawDescriptionHelpFormatter).parse_args()
+    arguments = argparse.ArgumentParser(description=__doc__, formatter_class=argparse.RawDescriptionHelpFormatter)
+    arguments.add_argument("tree", metavar="TREE", nargs="?", default=OWN, help="a checkout of the repository; without it, the script's own")
+    root = os.path.realpath(arguments.parse_args().tree)
+    if not os.path.isdir(f"{root}/crates"):
+        arguments.error(f"{root} has no folder crates")
     if not shutil.which("rt"):
         sys.exit("gate: there is no program rt")
-    root = os.path.dirname(os.path.dirname(os.path.realpath(__file__)))
     programs = {it for it in os.listdir(f"{root}/crates") if os.path.isfile(f"{root}/crates/{it}/src/main.rt")}
     print(f"a fixed loop: {loop_seconds():.2f} seconds", flush=True)
     seen, begun, paces = {}, time.time(), []
