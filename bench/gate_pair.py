@@ -1,12 +1,12 @@
 #!/usr/bin/env python3
 """Measures the gates of two trees from nothing, in turns, so that a change of the machine's pace falls on both alike.
 
-    python3 bench/gate_pair.py BEFORE NOW [--share SHARE]
+    python3 bench/gate_pair.py BEFORE NOW [--share SHARE] [--keep FOLDER]
 
 While one gate runs, all processes of the other are stopped. A turn of BEFORE lasts a minute, and a turn of NOW lasts SHARE of a minute. If
-SHARE is near the quotient of the gates' times, both gates end together. Each gate has an empty folder of its own for what the kit keeps.
-Prints what bench/gate.py prints of each tree, the minutes of its turns, and the quotient of the processor minutes. The minutes by the clock
-that bench/gate.py prints include those in which the gate was stopped.
+SHARE is near the quotient of the gates' times, both gates end together. Each gate has an empty folder of its own for what the kit keeps;
+that of NOW stays if it is FOLDER. Prints what bench/gate.py prints of each tree, the minutes of its turns, and the quotient of the processor
+minutes. The minutes by the clock that bench/gate.py prints include those in which the gate was stopped.
 
 The script needs Linux, and `unshare` with the right to mount. Statuses: 0 however the gates end, whose last words are printed; 1 `rt` or
 `unshare` isn't on the path, or a gate printed no figure; 2 wrong arguments.
@@ -98,29 +98,34 @@ def take_turns(gates):
 
 
 def arguments():
-    """Returns the two trees and the share, from the command line."""
+    """Returns what the command line gives: the two trees, the share, and the folder that stays or None."""
     parser = argparse.ArgumentParser(description=__doc__, formatter_class=argparse.RawDescriptionHelpFormatter)
     parser.add_argument("before", metavar="BEFORE", help="a checkout of the repository")
     parser.add_argument("now", metavar="NOW", help="another checkout")
     parser.add_argument("--share", type=float, default=1.0, help="a turn of NOW as a part of a turn of BEFORE (default 1)")
+    parser.add_argument("--keep", metavar="FOLDER", help="an empty or new folder for what the kit keeps of NOW (default: it is deleted)")
     given = parser.parse_args()
     if not 0 < given.share <= 1:
         parser.error("SHARE must be above 0 and at most 1")
     for tree in (given.before, given.now):
         if not os.path.isdir(f"{tree}/crates"):
             parser.error(f"{tree} has no folder crates")
-    return os.path.realpath(given.before), os.path.realpath(given.now), given.share
+    if given.keep:
+        os.makedirs(given.keep, exist_ok=True)
+        if os.listdir(given.keep):
+            parser.error(f"{given.keep} must be empty")
+    return os.path.realpath(given.before), os.path.realpath(given.now), given.share, given.keep and os.path.realpath(given.keep)
 
 
 def main():
-    before, now, share = arguments()
+    before, now, share, keep = arguments()
     for program in ("rt", "unshare"):
         if not shutil.which(program):
             sys.exit(f"gate_pair: there is no program {program}")
     kit = os.path.dirname(os.path.dirname(os.path.realpath(shutil.which("rt"))))
     kept = os.path.join(os.path.dirname(kit), "rattle-kept")
     with tempfile.TemporaryDirectory() as first, tempfile.TemporaryDirectory() as second:
-        gates = [Turns(before, MINUTE, kept, first), Turns(now, MINUTE * share, kept, second)]
+        gates = [Turns(before, MINUTE, kept, first), Turns(now, MINUTE * share, kept, keep or second)]
         take_turns(gates)
         figures = [it.minutes() for it in gates]
     if None in figures:
