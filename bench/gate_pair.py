@@ -4,9 +4,9 @@
     python3 bench/gate_pair.py BEFORE NOW [--share SHARE] [--keep FOLDER]
 
 While one gate runs, all processes of the other are stopped. A turn of BEFORE lasts a minute, and a turn of NOW lasts SHARE of a minute. If
-SHARE is near the quotient of the gates' times, both gates end together. Each gate has an empty folder of its own for what the kit keeps;
-that of NOW stays if it is FOLDER. Prints what bench/gate.py prints of each tree, the minutes of its turns, and the quotient of the processor
-minutes. The minutes by the clock that bench/gate.py prints include those in which the gate was stopped.
+SHARE is near the quotient of the gates' times, both gates end together. Each gate begins with an empty folder for the results that the kit
+keeps. With --keep the results of NOW are left in FOLDER. The script prints what bench/gate.py prints of each tree, the minutes of its turns,
+and the quotient of the processor minutes. The minutes by the clock in the output of bench/gate.py include those in which a gate was stopped.
 
 The script needs Linux, and `unshare` with the right to mount. Statuses: 0 however the gates end, whose last words are printed; 1 `rt` or
 `unshare` isn't on the path, or a gate printed no figure; 2 wrong arguments.
@@ -61,8 +61,8 @@ class Turns:
             self.process.wait(self.seconds)
         self.spent += time.monotonic() - begun
 
-    def minutes(self):
-        """Prints the gate's output, and returns its processor minutes, or None if it printed none."""
+    def report(self):
+        """Prints the gate's output. Returns its processor minutes, or None if the output has none."""
         self.out.seek(0)
         said = self.out.read()
         print(f"{self.tree}: {self.spent / MINUTE:.1f} minutes of turns\n{said}", flush=True)
@@ -103,7 +103,7 @@ def arguments():
     parser.add_argument("before", metavar="BEFORE", help="a checkout of the repository")
     parser.add_argument("now", metavar="NOW", help="another checkout")
     parser.add_argument("--share", type=float, default=1.0, help="a turn of NOW as a part of a turn of BEFORE (default 1)")
-    parser.add_argument("--keep", metavar="FOLDER", help="an empty or new folder for what the kit keeps of NOW (default: it is deleted)")
+    parser.add_argument("--keep", metavar="FOLDER", help="an empty or new folder for the results of NOW that the kit keeps (default: they are deleted)")
     given = parser.parse_args()
     if not 0 < given.share <= 1:
         parser.error("SHARE must be above 0 and at most 1")
@@ -127,7 +127,7 @@ def main():
     with tempfile.TemporaryDirectory() as first, tempfile.TemporaryDirectory() as second:
         gates = [Turns(before, MINUTE, kept, first), Turns(now, MINUTE * share, kept, keep or second)]
         take_turns(gates)
-        figures = [it.minutes() for it in gates]
+        figures = [it.report() for it in gates]
     if None in figures:
         sys.exit("gate_pair: a gate printed no figure")
     print(f"quotient of processor minutes: {figures[1] / figures[0]:.3f}")
