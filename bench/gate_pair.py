@@ -3,10 +3,11 @@
 
     python3 bench/gate_pair.py BEFORE NOW [--share SHARE] [--keep FOLDER]
 
-While one gate runs, all processes of the other are stopped. A turn of BEFORE lasts a minute, and a turn of NOW lasts SHARE of a minute. If
-SHARE is near the quotient of the gates' times, both gates end together. Each gate begins with an empty folder for the results that the kit
-keeps. With --keep the results of NOW are left in FOLDER. The script prints what bench/gate.py prints of each tree, the minutes of its turns,
-and the quotient of the processor minutes. The minutes by the clock in the output of bench/gate.py include those in which a gate was stopped.
+While one gate runs, all processes of the other are stopped. A turn of BEFORE lasts a minute, and a turn of NOW lasts SHARE of
+a minute. If SHARE is near the quotient of the gates' times, both gates end together. Each gate begins with an empty folder for
+the results that the kit keeps. With --keep the results of NOW are left in FOLDER. The script prints what bench/gate.py prints
+of each tree, the minutes of its turns, and the quotient of the processor minutes. The minutes by the clock in the output of
+bench/gate.py include those in which a gate was stopped.
 
 The script needs Linux, and `unshare` with the right to mount. Statuses: 0 however the gates end, whose last words are printed; 1 `rt` or
 `unshare` isn't on the path, or a gate printed no figure; 2 wrong arguments.
@@ -103,7 +104,8 @@ def arguments():
     parser.add_argument("before", metavar="BEFORE", help="a checkout of the repository")
     parser.add_argument("now", metavar="NOW", help="another checkout")
     parser.add_argument("--share", type=float, default=1.0, help="a turn of NOW as a part of a turn of BEFORE (default 1)")
-    parser.add_argument("--keep", metavar="FOLDER", help="an empty or new folder for the results of NOW that the kit keeps (default: they are deleted)")
+    kept = "an empty or new folder for the results of NOW that the kit keeps (default: they are deleted)"
+    parser.add_argument("--keep", metavar="FOLDER", help=kept)
     given = parser.parse_args()
     if not 0 < given.share <= 1:
         parser.error("SHARE must be above 0 and at most 1")
@@ -118,6 +120,7 @@ def arguments():
 
 
 def main():
+    signal.signal(signal.SIGTERM, lambda *_: sys.exit(143))
     before, now, share, keep = arguments()
     for program in ("rt", "unshare"):
         if not shutil.which(program):
