@@ -3,14 +3,16 @@
 
     python3 bench/gate.py [TREE]
 
-TREE is a checkout of the repository; without it, the script's own is measured. To measure it from nothing, first move away what the kit keeps
-of earlier runs (the folder rattle-kept beside it). The script reads processor seconds from /proc four times a second. Other work on the
-machine makes them grow, so the time of a fixed loop is printed: before, after, and the mean of short ones, one a minute in between.
+TREE is a checkout of the repository; without it, the script's own is measured. To measure it from nothing, first move away what
+the kit keeps of earlier runs (the folder rattle-kept beside it). The script reads processor seconds from /proc four times a
+second. Other work on the machine makes them grow, so the time of a fixed loop is printed: before, after, and the mean of short
+ones, one a minute in between.
 
 Statuses: 0 however the gate ends, whose last words are printed; 1 `rt` isn't on the path; 2 wrong arguments.
 """
 import argparse
 import collections
+import contextlib
 import glob
 import os
 import re
@@ -24,11 +26,12 @@ TICKS = os.sysconf("SC_CLK_TCK")
 ROUNDS, SHORT = 120, 12
 OWN = os.path.dirname(os.path.dirname(os.path.realpath(__file__)))
 Seen = collections.namedtuple("Seen", "seconds words folder edit")
-LIBRARY, PROGRAM, ALONE, SEED, OVER, LAST = "libraries", "programs", "edits alone", "first proofs for several edits", "edits over these", "last proofs for several edits"
+LIBRARY, PROGRAM, ALONE = "libraries", "programs", "edits alone"
+SEED, OVER, LAST = "first proofs for several edits", "edits over these", "last proofs for several edits"
 
 
 def loop_seconds(rounds=ROUNDS):
-    """Returns the processor seconds of a fixed loop, as a measure of the machine's pace. The seconds of fewer rounds are scaled up to ROUNDS."""
+    """Returns the processor seconds of a fixed loop, as a measure of the machine's pace. Those of fewer rounds are scaled up to ROUNDS."""
     table = {key: key * 3 for key in range(200_000)}
     begun = time.process_time()
     total = 0
@@ -70,21 +73,24 @@ def edit_of(root, crate, folder):
     return ""
 
 
-def sample(above, root, seen):
-    """Notes what each process below the process `above` has taken so far."""
-    found = {}
+def with_all_below(above):
+    """Returns the start and the processor seconds of the process `above` and of all below it, by their numbers, each after its parent."""
+    stats, children = {}, collections.defaultdict(list)
     for name in os.listdir("/proc"):
         if name.isdigit():
-            try:
-                found[int(name)] = stat_of(name)
-            except (OSError, ValueError):
-                pass
-    for pid, (_, start, seconds) in found.items():
-        parent = pid
-        while parent in found and parent != above:
-            parent = found[parent][0]
-        if parent == above:
-            note(seen, (pid, start), seconds, root)
+            with contextlib.suppress(OSError, ValueError):
+                parent, *stats[int(name)] = stat_of(name)
+                children[parent].append(int(name))
+    below = [above]
+    for pid in below:
+        below.extend(children[pid])
+    return {pid: stats[pid] for pid in below if pid in stats}
+
+
+def sample(above, root, seen):
+    """Notes what the process `above` and each process below it has taken so far."""
+    for pid, (start, seconds) in with_all_below(above).items():
+        note(seen, (pid, start), seconds, root)
 
 
 def crate_of(words):
@@ -138,7 +144,8 @@ def most(counter, number):
 
 def told(seen, programs):
     """Prints a table of the kinds, the most expensive crates of each, and the most expensive edits."""
-    kinds, crates, count, edits = collections.Counter(), collections.defaultdict(collections.Counter), collections.Counter(), collections.Counter()
+    kinds, count, edits = collections.Counter(), collections.Counter(), collections.Counter()
+    crates = collections.defaultdict(collections.Counter)
     processes = [process for _, process in sorted(seen.items(), key=lambda it: (it[0][1], it[0][0]))]
     last = {kept_of(process): process for process in processes}
     for process in processes:
@@ -155,11 +162,11 @@ def told(seen, programs):
 
 
 def main():
-    arguments = argparse.ArgumentParser(description=__doc__, formatter_class=argparse.RawDescriptionHelpFormatter)
-    arguments.add_argument("tree", metavar="TREE", nargs="?", default=OWN, help="a checkout of the repository; without it, the script's own")
-    root = os.path.realpath(arguments.parse_args().tree)
+    parser = argparse.ArgumentParser(description=__doc__, formatter_class=argparse.RawDescriptionHelpFormatter)
+    parser.add_argument("tree", metavar="TREE", nargs="?", default=OWN, help="a checkout (default: the one of this script)")
+    root = os.path.realpath(parser.parse_args().tree)
     if not os.path.isdir(f"{root}/crates"):
-        arguments.error(f"{root} has no folder crates")
+        parser.error(f"{root} has no folder crates")
     if not shutil.which("rt"):
         sys.exit("gate: there is no program rt")
     programs = {it for it in os.listdir(f"{root}/crates") if os.path.isfile(f"{root}/crates/{it}/src/main.rt")}

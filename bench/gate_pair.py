@@ -9,11 +9,10 @@ the results that the kit keeps. With --keep the results of NOW are left in FOLDE
 of each tree, the minutes of its turns, and the quotient of the processor minutes. The minutes by the clock in the output of
 bench/gate.py include those in which a gate was stopped.
 
-The script needs Linux, and `unshare` with the right to mount. Statuses: 0 however the gates end, whose last words are printed; 1 `rt` or
-`unshare` isn't on the path, or a gate printed no figure; 2 wrong arguments.
+The script needs Linux, and `unshare` with the right to mount. Statuses: 0 however the gates end, whose last words are printed;
+1 `rt` or `unshare` isn't on the path, or a gate printed no figure; 2 wrong arguments; 143 stopped by SIGTERM.
 """
 import argparse
-import collections
 import contextlib
 import os
 import re
@@ -27,10 +26,10 @@ import time
 import gate
 
 MINUTE = 60
-ALONE = 'mkdir -p "$1" && mount --bind "$2" "$1" && shift 2 && exec "$@"'
+WITH_OWN_FOLDER = 'mkdir -p "$1" && mount --bind "$2" "$1" && shift 2 && exec "$@"'
 
 
-class Turns:
+class GateInTurns:
     """A gate that runs in turns: its tree, the seconds of a turn, the seconds of its turns so far, its output and its process."""
 
     def __init__(self, tree, seconds, kept, empty):
@@ -38,7 +37,7 @@ class Turns:
         self.out = tempfile.TemporaryFile("w+", errors="replace")
         unshare = ["unshare", "--mount"] + ([] if os.geteuid() == 0 else ["--map-root-user"])
         measure = [sys.executable, os.path.join(gate.OWN, "bench", "gate.py"), tree]
-        self.process = subprocess.Popen([*unshare, "sh", "-c", ALONE, "sh", kept, empty, *measure], stdout=self.out)
+        self.process = subprocess.Popen([*unshare, "sh", "-c", WITH_OWN_FOLDER, "sh", kept, empty, *measure], stdout=self.out)
         self.send(signal.SIGSTOP)
 
     def ended(self):
@@ -47,12 +46,12 @@ class Turns:
 
     def send(self, number):
         """Sends a signal to the gate's processes, until there are no new ones."""
-        told = set()
-        while new := [pid for pid in with_all_below(self.process.pid) if pid not in told]:
+        sent = set()
+        while new := [pid for pid in gate.with_all_below(self.process.pid) if pid not in sent]:
             for pid in new:
                 with contextlib.suppress(ProcessLookupError):
                     os.kill(pid, number)
-            told.update(new)
+            sent.update(new)
 
     def turn(self):
         """Lets the gate run for a turn, or until it ends."""
@@ -69,19 +68,6 @@ class Turns:
         print(f"{self.tree}: {self.spent / MINUTE:.1f} minutes of turns\n{said}", flush=True)
         found = re.search(r"^all: ([\d.]+) processor minutes", said, re.MULTILINE)
         return float(found[1]) if found else None
-
-
-def with_all_below(above):
-    """Returns a process and all below it, each after its parent."""
-    children = collections.defaultdict(list)
-    for name in os.listdir("/proc"):
-        if name.isdigit():
-            with contextlib.suppress(OSError, ValueError):
-                children[gate.stat_of(name)[0]].append(int(name))
-    found = [above]
-    for pid in found:
-        found.extend(children[pid])
-    return found
 
 
 def take_turns(gates):
@@ -116,7 +102,8 @@ def arguments():
         os.makedirs(given.keep, exist_ok=True)
         if os.listdir(given.keep):
             parser.error(f"{given.keep} must be empty")
-    return os.path.realpath(given.before), os.path.realpath(given.now), given.share, given.keep and os.path.realpath(given.keep)
+    keep = os.path.realpath(given.keep) if given.keep else None
+    return os.path.realpath(given.before), os.path.realpath(given.now), given.share, keep
 
 
 def main():
@@ -128,7 +115,7 @@ def main():
     kit = os.path.dirname(os.path.dirname(os.path.realpath(shutil.which("rt"))))
     kept = os.path.join(os.path.dirname(kit), "rattle-kept")
     with tempfile.TemporaryDirectory() as first, tempfile.TemporaryDirectory() as second:
-        gates = [Turns(before, MINUTE, kept, first), Turns(now, MINUTE * share, kept, keep or second)]
+        gates = [GateInTurns(before, MINUTE, kept, first), GateInTurns(now, MINUTE * share, kept, keep or second)]
         take_turns(gates)
         figures = [it.report() for it in gates]
     if None in figures:
