@@ -19,3 +19,4 @@ pub mod Phases
 pub mod Runs
 pub mod Converse
 pub mod OneLink
+pub mod Linear
