@@ -11,7 +11,4 @@ pub mod Endless
 pub mod Growth
 pub mod Least
 pub mod LeastCut
-pub mod LastRate
 pub mod Labels
-pub mod Travel
-pub mod Tail

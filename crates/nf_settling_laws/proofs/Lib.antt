@@ -16,7 +16,9 @@ pub mod Intervals
 pub mod Settles
 pub mod Falls
 pub mod Phases
-pub mod Runs
 pub mod Converse
 pub mod OneLink
 pub mod Linear
+pub mod Travel
+pub mod Tail
+pub mod Runs
