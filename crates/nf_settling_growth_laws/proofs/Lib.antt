@@ -1,5 +1,3 @@
-pub mod Bears
-pub mod Heaped
 pub mod Raised
 pub mod Store
 pub mod Reserve

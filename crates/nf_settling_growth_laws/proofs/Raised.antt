@@ -11,7 +11,7 @@ use Rattle.nf_rational_laws.proofs.Extremes.{max_left, max_right}
 use Rattle.nf_rational_laws.proofs.Linear.{le, eq, le_times, eq_times, linear_le}
 use Rattle.nf_model_laws.proofs.Affine.{le_from_times}
 use Rattle.nf_settling_laws.proofs.Filling.{Kind}
-use Rattle.nf_settling_growth_laws.proofs.Bears.{Bears}
+use Rattle.nf_settling_laws.proofs.Levels.{Bears}
 
 -- n is the filled amount, x the flow and c the capacity.
 abbrev pub raised : ℚ → ℚ → ℚ → ℚ → ℚ → ℚ

@@ -23,11 +23,11 @@ use Rattle.nf_thin_laws.proofs.LinkLaws.{BoundedLaw, LinkLaw}
 use Rattle.nf_complete_laws.proofs.Numbers.{numbers, length-numbers, number_at-numbers, number_at-past}
 use Rattle.nf_settling_laws.specs.Excess.{link_sum}
 use Rattle.nf_settling_laws.proofs.Terms.{link_sum-le, link_sum-line, rise}
+use Rattle.nf_settling_laws.proofs.Levels.{IsBorne}
+use Rattle.nf_settling_laws.proofs.Heaped.{heaped-le, heaped-lt}
 use Rattle.nf_settling_laws.proofs.Filling.{capacity_or_0, filled_amount, filled, law_at, kind_at, carried_up}
 use Rattle.nf_settling_laws.proofs.Bounded.{waits}
 use Rattle.nf_settling_graded_laws.specs.Grading.{IsGraded}
-use Rattle.nf_settling_growth_laws.proofs.Bears.{Bears}
-use Rattle.nf_settling_growth_laws.proofs.Heaped.{heaped-le, heaped-lt}
 use Rattle.nf_settling_growth_laws.proofs.Raised.{raised, steepness, Raises, raises}
 
 -- A number at a node over the level of the node.
@@ -168,8 +168,15 @@ module _ (net : Network) (good : IsNetwork net) (rate : ℚ) (flows levels : ℕ
         at_most up = let w : (c : ℚ) × (link.capacity ≡ Some c) × (c *ℚ levels link.head ≤ℚ flows e) = capacity_up e link p up in
             subst (λ (k : ℚ). x e ≤ℚ k *ℚ slope link.head) (sym (capacity_is link.capacity w.0 w.1)) (thin_most e link w.0 p w.1)
 
-    bears : (e : ℕ) (link : Link) → IsLink net e link → Bears (amount e link) (x e) (pace link.tail) (pace link.head)
-    bears e link p = (each e link p).bears
+    borne : IsBorne net rate x amount paces
+    borne = record {
+      rate_not_negative = nn;
+      count = length-numbers net.nodes (over levels slope);
+      not_negative = pace_nn;
+      starts = starts;
+      carried = λ w. carried_up net sets rate thin_flows slopes w good thin;
+      bears = λ e link p. (each e link p).bears;
+    }
 
     abbrev heap : ℚ
     heap = link_sum net.links (λ e link. amount e link *ℚ rise pace link)
@@ -193,14 +200,14 @@ module _ (net : Network) (good : IsNetwork net) (rate : ℚ) (flows levels : ℕ
 
     pub drift-le : drift net sets rate levels slopes ≤ℚ 0ℚ
     drift-le = below filling heap (taken net levels slope) _ _ filling-le
-        (heaped-le net good rate nn x amount paces (length-numbers net.nodes (over levels slope)) pace_nn (λ w. carried_up net sets rate thin_flows slopes w good thin) starts bears) ends
+        (heaped-le net good rate x amount paces borne) ends
       where
         below : (f h t r q : ℚ) → f ≤ℚ h +ℚ 1ℚ *ℚ t → h ≤ℚ r → r ≡ q → (f -ℚ t) -ℚ q ≤ℚ 0ℚ
         below f h t r q i j e = linear_le (f ∷ h ∷ t ∷ r ∷ q ∷ []) (le i ∷ le j ∷ eq e ∷ []) (search reading_of depth 12) tt
 
     pub drift-lt : 0ℚ <ℚ rate → (slope net.sink ≡ levels net.sink → ⊥) → drift net sets rate levels slopes <ℚ 0ℚ
     drift-lt more apart = below filling heap (taken net levels slope) _ _ filling-le
-        (heaped-lt net good rate nn x amount paces (length-numbers net.nodes (over levels slope)) pace_nn (λ w. carried_up net sets rate thin_flows slopes w good thin) starts bears more
+        (heaped-lt net good rate x amount paces borne more
         (λ one. apart (level_of (slope net.sink) (levels net.sink) (pace net.sink) (slope-is net.sink good.sink) one))) ends
       where
         below : (f h t r q : ℚ) → f ≤ℚ h +ℚ 1ℚ *ℚ t → h <ℚ r → r ≡ q → (f -ℚ t) -ℚ q <ℚ 0ℚ

@@ -3,6 +3,7 @@ pub mod Carried
 pub mod Filling
 pub mod Levels
 pub mod Tops
+pub mod Heaped
 pub mod Falling
 pub mod Flags
 pub mod Bounded

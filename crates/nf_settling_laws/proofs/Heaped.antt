@@ -1,6 +1,6 @@
 -- Numbers at the nodes, and a flow and an amount for each link that bears it. The sum of the amounts, each times the rise of the numbers along
--- its link, is at most what the flow carries up the numbers. It is less if the numbers of source and sink differ. It is a sum over levels.
-use Rattle.std.proofs.Common.{◌≡◌, ℕ, ◌<◌, List, [], ◌∷◌, length, ⊎_elim, Bool, true, false, if◌then◌else◌, sym, ap, subst, ◌∙◌}
+-- its link, is at most what the flow carries up the numbers. Both are sums over levels. If one of the levels is strict, so is their sum.
+use Rattle.std.proofs.Common.{◌≡◌, ℕ, ◌<◌, List, [], ◌∷◌, ⊎_elim, Bool, true, false, if◌then◌else◌, sym, ap, subst, ◌∙◌}
 use Rattle.nf_rational.specs.Rational.{ℚ}
 use Rattle.nf_rational.specs.Operations.{0ℚ, 1ℚ, ◌+ℚ◌, ◌-ℚ◌, ◌*ℚ◌}
 use Rattle.nf_rational.specs.Order.{◌≤ℚ◌, ◌<ℚ◌, lt_ℚ, min_ℚ}
@@ -18,8 +18,7 @@ use Rattle.nf_unique_laws.proofs.Stretches.{NoneBetween, along_times}
 use Rattle.nf_settling_laws.specs.Excess.{link_sum}
 use Rattle.nf_settling_laws.proofs.Terms.{link_sum-line, link_sum-none, link_sum-same, rise}
 use Rattle.nf_settling_laws.proofs.Tops.{top, top-bound, one-entry}
-use Rattle.nf_settling_laws.proofs.Levels.{above}
-use Rattle.nf_settling_growth_laws.proofs.Bears.{Bears, high_level, high_strict, low_level, low_strict}
+use Rattle.nf_settling_laws.proofs.Levels.{IsBorne, above, high_level, high_by_sink, low_level, low_by_sink}
 
 -- ---- over plain numbers
 lines_less : (a b c d e f k : ℚ) → e ≡ a +ℚ k *ℚ b → f ≡ c +ℚ k *ℚ d → e -ℚ f ≡ (a -ℚ c) +ℚ k *ℚ (b -ℚ d)
@@ -64,11 +63,21 @@ capped_low m n d a b e f = linear_eq (m ∷ n ∷ d ∷ a ∷ b ∷ []) (eq e �
 capped_high : (m n d a b : ℚ) → m ≡ b → n ≡ a → d ≡ 1ℚ → m ≡ n +ℚ (b -ℚ a) *ℚ d
 capped_high m n d a b e f g = linear_eq (m ∷ n ∷ d ∷ a ∷ b ∷ []) (eq e ∷ eq f ∷ eq_times (b -ℚ a) g ∷ []) (search reading_of depth 12) tt tt
 
-module _ (net : Network) (good : IsNetwork net) (rate : ℚ) (nn : 0ℚ ≤ℚ rate) (x : ℕ → ℚ) (n : ℕ → Link → ℚ) (values : List ℚ) (count : length values ≡ net.nodes)
-    (values_nn : (v : ℕ) → 0ℚ ≤ℚ number_at values v)
-    (carried_up : (w : ℕ → ℚ) → link_sum net.links (λ e link. x e *ℚ rise w link) ≡ rate *ℚ (w net.sink -ℚ w net.source))
-    (starts : number_at values net.source ≡ 1ℚ)
-    (bears : (e : ℕ) (link : Link) → IsLink net e link → Bears (n e link) (x e) (number_at values link.tail) (number_at values link.head)) where
+-- No number is strictly between a and b, so a number above a is at least b.
+pub jump : (net : Network) (rate : ℚ) (x : ℕ → ℚ) (n : ℕ → Link → ℚ) (values : List ℚ) (a b : ℚ) → IsBorne net rate x n values → NoneBetween values a b
+    → (v : ℕ) → v < net.nodes → a <ℚ number_at values v → b ≤ℚ number_at values v
+jump net rate x n values a b borne none v h k = ⊎_elim
+    (λ (l : number_at values v <ℚ b). absurd (none (number_at values v) (one-entry values v (subst (λ (m : ℕ). v < m) (sym borne.count) h)) k l))
+    (λ (l : b ≤ℚ number_at values v). l)
+    (lt_or_le_ℚ (number_at values v) b)
+
+-- It is at most 1 or at least 1 as a is.
+pub up_to_1 : (net : Network) (rate : ℚ) (x : ℕ → ℚ) (n : ℕ → Link → ℚ) (values : List ℚ) (a b : ℚ) → IsNetwork net → IsBorne net rate x n values
+    → NoneBetween values a b → a <ℚ 1ℚ → b ≤ℚ 1ℚ
+up_to_1 net rate x n values a b good borne none h =
+    subst (λ (z : ℚ). b ≤ℚ z) borne.starts (jump net rate x n values a b borne none net.source good.source (subst (λ (z : ℚ). a <ℚ z) (sym borne.starts) h))
+
+module _ (net : Network) (good : IsNetwork net) (rate : ℚ) (x : ℕ → ℚ) (n : ℕ → Link → ℚ) (values : List ℚ) (borne : IsBorne net rate x n values) where
   abbrev at : ℕ → ℚ
   at = number_at values
 
@@ -100,10 +109,7 @@ module _ (net : Network) (good : IsNetwork net) (rate : ℚ) (nn : 0ℚ ≤ℚ r
       next s t h = linear_lt (s ∷ t ∷ []) (le h ∷ []) (search reading_of depth 12) tt
 
   is_one : (v : ℕ) → v < net.nodes → IsOne (at v) values
-  is_one v h = one-entry values v (subst (λ (k : ℕ). v < k) (sym count) h)
-
-  one_is_one : IsOne 1ℚ values
-  one_is_one = subst (λ (z : ℚ). IsOne z values) starts (is_one net.source good.source)
+  is_one v h = one-entry values v (subst (λ (k : ℕ). v < k) (sym borne.count) h)
 
   gain_0 : gain (capped 0ℚ) ≡ 0ℚ
   gain_0 = none_less _ _ (link_sum-none net.links (λ e link. n e link *ℚ rise (capped 0ℚ) link) (λ e link _. flat (n e link) link))
@@ -116,7 +122,7 @@ module _ (net : Network) (good : IsNetwork net) (rate : ℚ) (nn : 0ℚ ≤ℚ r
       flat_by n s t e f = linear_eq (n ∷ s ∷ t ∷ []) (eq_times n e ∷ eq_times n f ∷ []) (search reading_of depth 12) tt tt
 
       flat : (n : ℚ) (link : Link) → n *ℚ rise (capped 0ℚ) link ≡ 0ℚ
-      flat n link = flat_by n (capped 0ℚ link.tail) (capped 0ℚ link.head) (min_is_right _ _ (values_nn link.tail)) (min_is_right _ _ (values_nn link.head))
+      flat n link = flat_by n (capped 0ℚ link.tail) (capped 0ℚ link.head) (min_is_right _ _ (borne.not_negative link.tail)) (min_is_right _ _ (borne.not_negative link.head))
 
   gain_last : gain (capped last) ≡ gain at
   gain_last = both_same _ _ _ _
@@ -134,28 +140,17 @@ module _ (net : Network) (good : IsNetwork net) (rate : ℚ) (nn : 0ℚ ≤ℚ r
 
   -- ---- one level
   module _ (a b : ℚ) (first : 0ℚ ≤ℚ a) (o : a <ℚ b) (none : NoneBetween values a b) where
-    jump : (v : ℕ) → v < net.nodes → a <ℚ at v → b ≤ℚ at v
-    jump v h k = ⊎_elim (λ (l : at v <ℚ b). absurd (none (at v) (is_one v h) k l)) (λ (l : b ≤ℚ at v). l) (lt_or_le_ℚ (at v) b)
-
-    up_to_1 : a <ℚ 1ℚ → b ≤ℚ 1ℚ
-    up_to_1 h = ⊎_elim (λ (l : 1ℚ <ℚ b). absurd (none 1ℚ one_is_one h l)) (λ (l : b ≤ℚ 1ℚ). l) (lt_or_le_ℚ 1ℚ b)
-
     level_le : gain (above a values) ≤ℚ 0ℚ
     level_le = less_of_le _ _ (⊎_elim
-        (λ (h : a <ℚ 1ℚ). low_level net good rate nn x n values carried_up starts bears a b first o jump (up_to_1 h))
-        (λ (h : 1ℚ ≤ℚ a). high_level net good rate nn x n values carried_up starts bears a b first o jump h)
+        (λ (h : a <ℚ 1ℚ). low_level net good rate x n values borne a b first o (jump net rate x n values a b borne none)
+        (up_to_1 net rate x n values a b good borne none h))
+        (λ (h : 1ℚ ≤ℚ a). high_level net good rate x n values borne a b first o (jump net rate x n values a b borne none) h)
         (lt_or_le_ℚ a 1ℚ))
-
-    level_up : 0ℚ <ℚ rate → 1ℚ ≤ℚ a → a <ℚ at net.sink → gain (above a values) <ℚ 0ℚ
-    level_up more high inside = less_of_lt _ _ (high_strict net good rate nn x n values carried_up starts bears a b first o jump high more inside)
-
-    level_down : 0ℚ <ℚ rate → a <ℚ 1ℚ → at net.sink ≤ℚ a → gain (above a values) <ℚ 0ℚ
-    level_down more low outside = less_of_lt _ _ (low_strict net good rate nn x n values carried_up starts bears a b first o jump (up_to_1 low) more outside)
 
     capped_step : (v : ℕ) → v < net.nodes → capped b v ≡ capped a v +ℚ (b -ℚ a) *ℚ above a values v
     capped_step v h = ⊎_elim
         (λ (w : (lt_ℚ a (at v) ≡ true) × (a <ℚ at v)).
-        capped_high (capped b v) (capped a v) (above a values v) a b (min_is_right _ _ (jump v h w.1)) (min_is_right _ _ (≤ℚ_of_lt _ _ w.1)) (ap (λ (k : Bool). if k then 1ℚ else 0ℚ) w.0))
+        capped_high (capped b v) (capped a v) (above a values v) a b (min_is_right _ _ (jump net rate x n values a b borne none v h w.1)) (min_is_right _ _ (≤ℚ_of_lt _ _ w.1)) (ap (λ (k : Bool). if k then 1ℚ else 0ℚ) w.0))
         (λ (w : (lt_ℚ a (at v) ≡ false) × (at v ≤ℚ a)).
         capped_low (capped b v) (capped a v) (above a values v) a b (min_is_left _ _ (≤ℚ_trans _ _ _ w.1 (≤ℚ_of_lt _ _ o)) ∙ sym (min_is_left _ _ w.1)) (ap (λ (k : Bool). if k then 1ℚ else 0ℚ) w.0))
         (lt_ℚ_cases a (at v))
@@ -168,7 +163,7 @@ module _ (net : Network) (good : IsNetwork net) (rate : ℚ) (nn : 0ℚ ≤ℚ r
   NotAbove y = gain (capped y) ≤ℚ 0ℚ
 
   last_nn : 0ℚ ≤ℚ last
-  last_nn = ≤ℚ_trans _ _ _ (values_nn net.source) (≤ℚ_of_lt _ _ (below_last net.source))
+  last_nn = ≤ℚ_trans _ _ _ (borne.not_negative net.source) (≤ℚ_of_lt _ _ (below_last net.source))
 
   gain-le : gain at ≤ℚ 0ℚ
   gain-le = subst (λ (z : ℚ). z ≤ℚ 0ℚ) gain_last
@@ -176,44 +171,57 @@ module _ (net : Network) (good : IsNetwork net) (rate : ℚ) (nn : 0ℚ ≤ℚ r
       (λ a b first o _ none g. step_le a b _ _ _ o g (level_le a b first o none) (gain_step a b first o none))
       values 0ℚ last (≤ℚ_refl 0ℚ) last_nn (≤ℚ_refl last) (λ t w _ _. w) (≤ℚ_of_same _ _ gain_0))
 
-  pub heaped-le : link_sum net.links (λ e link. n e link *ℚ rise at link) ≤ℚ rate *ℚ (at net.sink -ℚ at net.source)
-  heaped-le = le_of_less _ _ _ gain-le (carried_up at)
+  abbrev heap : ℚ
+  heap = link_sum net.links (λ e link. n e link *ℚ rise at link)
 
-  -- If the level above some number adds less than 0, the whole sum is below 0.
-  module _ (from : ℚ) (is_value : IsOne from values) (under : from <ℚ last) (from_nn : 0ℚ ≤ℚ from)
-      (strict : (b : ℚ) → (o : from <ℚ b) → NoneBetween values from b → gain (above from values) <ℚ 0ℚ) where
-    abbrev Falls : ℚ → Type 0
-    Falls y = NotAbove y × (from <ℚ y → gain (capped y) <ℚ 0ℚ)
+  pub heaped-le : heap ≤ℚ rate *ℚ (at net.sink -ℚ at net.source)
+  heaped-le = le_of_less _ _ _ gain-le (borne.carried at)
 
-    falls_on : (a b : ℚ) → 0ℚ ≤ℚ a → a <ℚ b → b ≤ℚ last → NoneBetween values a b → Falls a → Falls b
-    falls_on a b first o _ none g = (
-      step_le a b _ _ _ o g.0 (level_le a b first o none) (gain_step a b first o none),
-      λ past. ⊎_elim
-          (λ (k : from <ℚ a). kept_lt a b _ _ _ o (g.1 k) (level_le a b first o none) (gain_step a b first o none))
-          (λ (k : a ≤ℚ from). ⊎_elim
-          (λ (l : a <ℚ from). absurd (none from is_value l past))
-          (λ (l : from ≤ℚ a).
-          let same : from ≡ a = ≤ℚ_antisymm _ _ l k in
-          new_lt a b _ _ _ o g.0 (subst (λ (z : ℚ). gain (above z values) <ℚ 0ℚ) same
-          (strict b past (subst (λ (z : ℚ). NoneBetween values z b) (sym same) none))) (gain_step a b first o none))
-          (lt_or_le_ℚ a from))
-          (lt_or_le_ℚ from a),
-    )
+  -- It is less if the level above the number of some node is strict.
+  module _ (u : ℕ) (low : u < net.nodes) where
+    abbrev from : ℚ
+    from = at u
 
-    falls_last : gain (capped last) <ℚ 0ℚ
-    falls_last = (along_times Falls last values falls_on values 0ℚ last (≤ℚ_refl 0ℚ) last_nn (≤ℚ_refl last) (λ t w _ _. w)
-        (≤ℚ_of_same _ _ gain_0, λ below. absurd (not_both_ℚ _ _ below from_nn))).1 under
+    abbrev Strict : Type 0
+    Strict = (b : ℚ) → from <ℚ b → NoneBetween values from b → link_sum net.links (λ e link. n e link *ℚ rise (above from values) link)
+        <ℚ link_sum net.links (λ e link. x e *ℚ rise (above from values) link)
 
-  gain-lt : 0ℚ <ℚ rate → (at net.sink ≡ 1ℚ → ⊥) → gain at <ℚ 0ℚ
-  gain-lt more apart = subst (λ (z : ℚ). z <ℚ 0ℚ) gain_last (⊎_elim
-      (λ (low : at net.sink <ℚ 1ℚ). falls_last (at net.sink) (is_one net.sink good.sink) (below_last net.sink) (values_nn net.sink)
-      (λ b o none. level_down (at net.sink) b (values_nn net.sink) o none more low (≤ℚ_refl (at net.sink))))
+    module _ (strict : Strict) where
+      abbrev Falls : ℚ → Type 0
+      Falls y = NotAbove y × (from <ℚ y → gain (capped y) <ℚ 0ℚ)
+
+      falls_on : (a b : ℚ) → 0ℚ ≤ℚ a → a <ℚ b → b ≤ℚ last → NoneBetween values a b → Falls a → Falls b
+      falls_on a b first o _ none g = (
+        step_le a b _ _ _ o g.0 (level_le a b first o none) (gain_step a b first o none),
+        λ past. ⊎_elim
+            (λ (k : from <ℚ a). kept_lt a b _ _ _ o (g.1 k) (level_le a b first o none) (gain_step a b first o none))
+            (λ (k : a ≤ℚ from). ⊎_elim
+            (λ (l : a <ℚ from). absurd (none from (is_one u low) l past))
+            (λ (l : from ≤ℚ a).
+            let same : from ≡ a = ≤ℚ_antisymm _ _ l k in
+            new_lt a b _ _ _ o g.0 (subst (λ (z : ℚ). gain (above z values) <ℚ 0ℚ) same
+            (less_of_lt _ _ (strict b past (subst (λ (z : ℚ). NoneBetween values z b) (sym same) none)))) (gain_step a b first o none))
+            (lt_or_le_ℚ a from))
+            (lt_or_le_ℚ from a),
+      )
+
+      gain-lt : gain at <ℚ 0ℚ
+      gain-lt = subst (λ (z : ℚ). z <ℚ 0ℚ) gain_last ((along_times Falls last values falls_on values 0ℚ last (≤ℚ_refl 0ℚ) last_nn (≤ℚ_refl last) (λ t w _ _. w)
+          (≤ℚ_of_same _ _ gain_0, λ below. absurd (not_both_ℚ _ _ below (borne.not_negative u)))).1 (below_last u))
+
+      pub heaped-strict : heap <ℚ rate *ℚ (at net.sink -ℚ at net.source)
+      heaped-strict = lt_of_less _ _ _ gain-lt (borne.carried at)
+
+  -- It is less if there is flow, and the numbers of source and sink differ.
+  pub heaped-lt : 0ℚ <ℚ rate → (at net.sink ≡ 1ℚ → ⊥) → heap <ℚ rate *ℚ (at net.sink -ℚ at net.source)
+  heaped-lt more apart = ⊎_elim
+      (λ (low : at net.sink <ℚ 1ℚ). heaped-strict net.sink good.sink (λ b o none. low_by_sink net good rate x n values borne (at net.sink) b
+      (borne.not_negative net.sink) o (jump net rate x n values (at net.sink) b borne none)
+      (up_to_1 net rate x n values (at net.sink) b good borne none low) more (≤ℚ_refl (at net.sink))))
       (λ (k : 1ℚ ≤ℚ at net.sink). ⊎_elim
-      (λ (high : 1ℚ <ℚ at net.sink). falls_last 1ℚ one_is_one (subst (λ (z : ℚ). z <ℚ last) starts (below_last net.source)) (linear_le [] [] (search reading_of depth 12) tt)
-      (λ b o none. level_up 1ℚ b (linear_le [] [] (search reading_of depth 12) tt) o none more (≤ℚ_refl 1ℚ) high))
+      (λ (high : 1ℚ <ℚ at net.sink). heaped-strict net.source good.source (λ b o none. high_by_sink net good rate x n values borne (at net.source) b
+      (borne.not_negative net.source) o (jump net rate x n values (at net.source) b borne none) (≤ℚ_of_same _ _ (sym borne.starts)) more
+      (subst (λ (z : ℚ). z <ℚ at net.sink) (sym borne.starts) high)))
       (λ (l : at net.sink ≤ℚ 1ℚ). absurd (apart (≤ℚ_antisymm _ _ l k)))
       (lt_or_le_ℚ 1ℚ (at net.sink)))
-      (lt_or_le_ℚ (at net.sink) 1ℚ))
-
-  pub heaped-lt : 0ℚ <ℚ rate → (at net.sink ≡ 1ℚ → ⊥) → link_sum net.links (λ e link. n e link *ℚ rise at link) <ℚ rate *ℚ (at net.sink -ℚ at net.source)
-  heaped-lt more apart = lt_of_less _ _ _ (gain-lt more apart) (carried_up at)
+      (lt_or_le_ℚ (at net.sink) 1ℚ)
