@@ -23,17 +23,17 @@ use Rattle.nf_forever_laws.proofs.Cuts.{cut_capacity-positive}
 use Rattle.nf_settling_laws.specs.Settling.{IsLastSupply, CutsAreWide, Settles}
 use Rattle.nf_settling_laws.specs.Excess.{link_sum}
 use Rattle.nf_settling_laws.proofs.Filling.{capacity_or_0}
-use Rattle.nf_settling_laws.proofs.Steep.{AreLabelSets, bound_of_rate}
+use Rattle.nf_settling_laws.proofs.Rates.{AreLabelSets, HoldsForAll, bound_of_all}
+use Rattle.nf_settling_laws.proofs.Steep.{bound_of_rate}
 use Rattle.nf_settling_laws.proofs.Along.{labels_at, active_count, resetting_count, AreLabelSets-at}
 use Rattle.nf_settling_laws.proofs.Starts.{last_start, last_start-not_negative, IsLastSupply-from, last_rate-not_negative, label_bound, label_bound-not_negative, label-bounded}
 use Rattle.nf_settling_laws.proofs.Settles.{equilibria-settle}
+use Rattle.nf_settling_laws.proofs.Intervals.{IsInterval, over_intervals}
 use Rattle.nf_settling_graded_laws.specs.Grading.{IsGraded}
 use Rattle.nf_settling_growth_laws.specs.Growth.{GrowsAt, GradedFlowDecides}
 use Rattle.nf_settling_growth_laws.proofs.Store.{store, drift, drift-le, drift-lt}
 use Rattle.nf_settling_growth_laws.proofs.Reserve.{in_transit, store-low, store-high, store-step}
 use Rattle.nf_settling_growth_laws.proofs.Growing.{IsGrowth-level, level-cut, level-one}
-use Rattle.nf_settling_growth_laws.proofs.Rates.{BoundsAll, bound_of_all}
-use Rattle.nf_settling_growth_laws.proofs.Stretches.{IsStretch, over_stretches}
 
 -- The last start is at most each departure after which no piece starts.
 pub last_start-least : (pieces : List Piece) (time : ℚ) → 0ℚ ≤ℚ time → ((i : ℕ) (piece : Piece) → IsPiece pieces i piece → piece.start ≤ℚ time) → last_start pieces ≤ℚ time
@@ -148,7 +148,7 @@ module _ (net : Network) (good : IsNetwork net) (flows levels : ℕ → ℚ) (gr
         (drift-lt net good (last_rate net) flows levels graded nn sets label_sets.are label_sets.acyclic thin_flows slopes thin more apart))
         (same_or_not (number_at slopes net.sink) (levels net.sink))
 
-    some_pace : (m : ℚ) × BoundsAll net good (last_rate net) nn Holds holds-grow holds-some m
+    some_pace : (m : ℚ) × HoldsForAll net (last_rate net) Holds m
     some_pace = bound_of_all net good (last_rate net) nn Holds holds-grow holds-some
 
     pub pace : ℚ
@@ -177,7 +177,7 @@ module _ (net : Network) (good : IsNetwork net) (flows levels : ℕ → ℚ) (gr
         abbrev pub Follows : ℚ → Type 0
         Follows t = Near (levels net.sink) pace from (label flow net.sink from) (stored from) t (label flow net.sink t) (stored t)
 
-        one_stretch : (c d : ℚ) → IsStretch net flow c d → Follows c → Follows d
+        one_stretch : (c d : ℚ) → IsInterval net flow c d → Follows c → Follows d
         unfolding pace Holds
         one_stretch c d i n = near-on (levels net.sink) pace from (label flow net.sink from) (stored from) c (label flow net.sink c) (stored c) d (label flow net.sink d) (stored d)
             (number_at i.slopes net.sink) (drift net (sets_at net (labels_at net flow c)) (last_rate net) levels i.slopes) i.order (i.moved net.sink good.sink)
@@ -191,7 +191,7 @@ module _ (net : Network) (good : IsNetwork net) (flows levels : ℕ → ℚ) (gr
                 (some_pace.1 (sets_at net (labels_at net flow c)) (active_count net good flow is c) (resetting_count net good flow is c) label_sets i.flows i.slopes i.thin)
 
         pub follows : (t : ℚ) → from ≤ℚ t → t ≤ℚ flow.reached → Follows t
-        follows t h l = over_stretches net good flow is Follows one_stretch from from_nn started t h l (near-first (levels net.sink) pace from (label flow net.sink from) (stored from))
+        follows t h l = over_intervals net good flow is Follows one_stretch from from_nn started t h l (near-first (levels net.sink) pace from (label flow net.sink from) (stored from))
 
       pub stored_low : (t : ℚ) → 0ℚ ≤ℚ t → t ≤ℚ flow.reached → 0ℚ -ℚ in_transit net good (last_rate net) flows levels graded ≤ℚ stored t
       stored_low t n l = store-low net good (last_rate net) flows levels graded (at t) (λ e link p none. (HoldsUpTo-equilibrium net flow good is).unbounded e link t p none (n, l))
@@ -270,13 +270,13 @@ module _ (net : Network) (good : IsNetwork net) (flows levels : ℕ → ℚ) (gr
       abbrev Slow : ℚ → Type 0
       Slow t = label flow net.sink t ≤ℚ latest +ℚ steepest *ℚ (t -ℚ start)
 
-      pub slope_le : (c d : ℚ) → (i : IsStretch net flow c d) → number_at i.slopes net.sink ≤ℚ steepest
+      pub slope_le : (c d : ℚ) → (i : IsInterval net flow c d) → number_at i.slopes net.sink ≤ℚ steepest
       unfolding steepest
       slope_le c d i = ≤ℚ_trans _ _ _ (((bound_of_rate net good (last_rate net) nn).1 (sets_at net (labels_at net flow c)) (active_count net good flow is c) (resetting_count net good flow is c)
           (AreLabelSets-at net good flow is c (i.not_negative, ≤ℚ_trans _ _ _ (≤ℚ_of_lt _ _ i.order) i.within)) i.flows i.slopes i.thin).slopes_below net.sink)
           (max_right 0ℚ (bound_of_rate net good (last_rate net) nn).0)
 
-      slow_on : (c d : ℚ) → IsStretch net flow c d → Slow c → Slow d
+      slow_on : (c d : ℚ) → IsInterval net flow c d → Slow c → Slow d
       slow_on c d i k = onward (label flow net.sink c) (label flow net.sink d) latest steepest (number_at i.slopes net.sink) c d start i.order k (i.moved net.sink good.sink) (slope_le c d i)
         where
           onward : (x y b g s c d f : ℚ) → c <ℚ d → x ≤ℚ b +ℚ g *ℚ (c -ℚ f) → y ≡ x +ℚ s *ℚ (d -ℚ c) → s ≤ℚ g → y ≤ℚ b +ℚ g *ℚ (d -ℚ f)
@@ -286,7 +286,7 @@ module _ (net : Network) (good : IsNetwork net) (flows levels : ℕ → ℚ) (gr
 
       slow : (t : ℚ) → start ≤ℚ t → t ≤ℚ flow.reached → Slow t
       unfolding latest
-      slow t h l = over_stretches net good flow is Slow slow_on start first_nn (IsLastSupply-from net start (≤ℚ_refl _)) t h l (at_start _ _ steepest start first_high)
+      slow t h l = over_intervals net good flow is Slow slow_on start first_nn (IsLastSupply-from net start (≤ℚ_refl _)) t h l (at_start _ _ steepest start first_high)
         where
           at_start : (x b g f : ℚ) → x ≤ℚ b → x ≤ℚ b +ℚ g *ℚ (f -ℚ f)
           at_start x b g f h = linear_le (x ∷ b ∷ g ∷ f ∷ []) (le h ∷ []) (search reading_of depth 12) tt

@@ -2,8 +2,6 @@ pub mod Raised
 pub mod Store
 pub mod Reserve
 pub mod Growing
-pub mod Rates
-pub mod Stretches
 pub mod Decides
 pub mod Growth
 pub mod Sways

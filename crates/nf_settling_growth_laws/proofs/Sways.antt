@@ -16,11 +16,11 @@ use Rattle.nf_model.specs.Equilibrium.{Flow, label, Equilibrium}
 use Rattle.nf_forever_laws.specs.TailGrowth.{last_rate}
 use Rattle.nf_settling_laws.specs.Settling.{IsLastSupply}
 use Rattle.nf_settling_laws.proofs.Starts.{last_start, last_rate-not_negative}
+use Rattle.nf_settling_laws.proofs.Intervals.{IsInterval, over_intervals}
 use Rattle.nf_settling_graded_laws.specs.Grading.{IsGraded}
 use Rattle.nf_settling_growth_laws.specs.Growth.{sway, AreInOrder, SwaysAtMost, BottleneckSteadies}
 use Rattle.nf_settling_growth_laws.proofs.Reserve.{in_transit}
 use Rattle.nf_settling_growth_laws.proofs.Growing.{IsGrowth-level}
-use Rattle.nf_settling_growth_laws.proofs.Stretches.{IsStretch, over_stretches}
 use Rattle.nf_settling_graded_laws.proofs.Exists.{graded_flow-exists}
 use Rattle.nf_settling_growth_laws.proofs.Decides.{near-is, last_start-least, first_nn, pace, pace_nn, most, stored, follows, stored_low, first_started, stored_high, growth_one, settles, steepest, steepest_nn, slope_le}
 
@@ -103,7 +103,7 @@ module _ (net : Network) (good : IsNetwork net) (flows levels : ℕ → ℚ) (gr
       Slow c t = Changes c t (most_steep *ℚ (t -ℚ c))
 
       slow : (c : ℚ) → 0ℚ ≤ℚ c → IsLastSupply net c → (t : ℚ) → c ≤ℚ t → t ≤ℚ flow.reached → Slow c t
-      slow c n started t h l = over_stretches net good flow is (Slow c) onward c n started t h l (same _ c most_steep, same _ c most_steep)
+      slow c n started t h l = over_intervals net good flow is (Slow c) onward c n started t h l (same _ c most_steep, same _ c most_steep)
         where
           same : (x c m : ℚ) → x -ℚ x ≤ℚ m *ℚ (c -ℚ c)
           same x c m = linear_le (x ∷ c ∷ m ∷ []) [] (search reading_of depth 12) tt
@@ -118,7 +118,7 @@ module _ (net : Network) (good : IsNetwork net) (flows levels : ℕ → ℚ) (gr
               let gap : 0ℚ ≤ℚ d -ℚ c = less_nn c d (≤ℚ_of_lt _ _ o) in
               linear_le (x ∷ y ∷ z ∷ g ∷ b ∷ s ∷ a ∷ c ∷ d ∷ []) (eq e ∷ eq_times c f ∷ eq_times d f ∷ le_times gap h ∷ le_times gap i ∷ le k ∷ le gap ∷ []) (search reading_of depth 16) tt
 
-          onward : (a d : ℚ) → IsStretch net flow a d → Slow c a → Slow c d
+          onward : (a d : ℚ) → IsInterval net flow a d → Slow c a → Slow c d
           onward a d i w = (
             up (label flow net.sink a) (label flow net.sink d) (off flow c) (levels net.sink) (steepest net good flows levels graded nothing) (number_at i.slopes net.sink) c a d i.order (i.moved net.sink good.sink)
                 (growth_one net good flows levels graded nothing) (slope_le net good flows levels graded nothing flow is a d i) w.0,

@@ -7,6 +7,7 @@ pub mod Heaped
 pub mod Falling
 pub mod Flags
 pub mod Bounded
+pub mod Rates
 pub mod Steep
 pub mod Along
 pub mod Queues
