@@ -46,11 +46,13 @@ idle_fits capacity x s t positive e n h = record {
   upper = inl h;
 }
 
-module _ (net : Network) (cap : Link → Option ℚ) (rate : ℚ) (good : IsNetwork net) (positive : (e : ℕ) (link : Link) → IsLink net e link → IsPositive (cap link)) where
+module _ (net : Network) (cap : Link → Option ℚ) (rate : ℚ) (good : IsNetwork net)
+    (positive : (e : ℕ) (link : Link) → IsLink net e link → IsPositive (cap link)) where
   -- ---- without excess
   module _ (flows levels : ℕ → ℚ) (over : IsSupply net cap rate flows levels) (none : (v : ℕ) → v < net.nodes → HasSpare net rate flows v → ⊥) where
     balance : (v : ℕ) → v < net.nodes → v ≢ net.source → out_less_in net.links flows v ≡ 0ℚ -ℚ demand net rate v
-    balance v h other = no_spare (sum_in net.links flows v) (sum_out net.links flows v) (demand net rate v) (spare_of_enough _ _ _ (over.enough v h other)) (⊎_elim
+    balance v h other = no_spare (sum_in net.links flows v) (sum_out net.links flows v) (demand net rate v)
+        (spare_of_enough _ _ _ (over.enough v h other)) (⊎_elim
         (λ (k : 0ℚ <ℚ spare net rate flows v). absurd (none v h (other, k)))
         (λ (k : spare net rate flows v ≤ℚ 0ℚ). k)
         (lt_or_le_ℚ 0ℚ (spare net rate flows v)))
@@ -74,7 +76,8 @@ module _ (net : Network) (cap : Link → Option ℚ) (rate : ℚ) (good : IsNetw
         nothing y d e f = linear_eq (y ∷ d ∷ []) (eq e ∷ eq f ∷ []) (search reading_of depth 12) tt tt
 
     source : out_less_in net.links flows net.source ≡ rate
-    source = gives _ _ _ (two_cancel net.nodes net.source net.sink (out_less_in net.links flows) good.source good.sink good.apart inner (all_zero net.nodes net.links flows (EndsBelow-net net good)))
+    source = gives _ _ _ (two_cancel net.nodes net.source net.sink (out_less_in net.links flows) good.source good.sink good.apart inner
+        (all_zero net.nodes net.links flows (EndsBelow-net net good)))
         (balance net.sink good.sink (λ e. good.apart (sym e))) demand_sink
       where
         gives : (y z d : ℚ) → y +ℚ z ≡ 0ℚ → z ≡ 0ℚ -ℚ d → d ≡ rate → y ≡ rate
@@ -85,7 +88,8 @@ module _ (net : Network) (cap : Link → Option ℚ) (rate : ℚ) (good : IsNetw
     shut_down e link p n = ⊎_elim
         (λ (k : link.head ≡ link.tail). ≤ℚ_of_same _ _ (ap levels k))
         (λ (k : link.head ≢ link.tail). ⊎_elim
-        (λ (m : link.head ≡ net.source). subst (λ (z : ℚ). z ≤ℚ levels link.tail) (sym (ap levels m ∙ over.starts)) (over.keeps_up link.tail (good.tails e link p)))
+        (λ (m : link.head ≡ net.source). subst (λ (z : ℚ). z ≤ℚ levels link.tail)
+        (sym (ap levels m ∙ over.starts)) (over.keeps_up link.tail (good.tails e link p)))
         (λ (m : link.head ≢ net.source). absurd (n (k, m)))
         (same_node link.head net.source))
         (same_node link.head link.tail)
@@ -132,7 +136,8 @@ module _ (net : Network) (cap : Link → Option ℚ) (rate : ℚ) (good : IsNetw
             (taken (spare net rate flows link.head) _ a (spare-head net rate flows e link p d is_open.0) (≤ℚ_of_lt _ _ part.1.less)))
             (λ (k : v ≢ link.head). ⊎_elim
             (λ (m : v ≡ link.tail). subst (λ (j : ℕ). 0ℚ ≤ℚ spare net rate new j) (sym m)
-            (given (spare net rate flows link.tail) _ a (spare-tail net rate flows e link p d is_open.0) (spare_nn link.tail (good.tails e link p) (λ t. other (m ∙ t))) part.1.above))
+            (given (spare net rate flows link.tail) _ a (spare-tail net rate flows e link p d is_open.0)
+            (spare_nn link.tail (good.tails e link p) (λ t. other (m ∙ t))) part.1.above))
             (λ (m : v ≢ link.tail). subst (λ (z : ℚ). 0ℚ ≤ℚ z) (sym (spare-else net rate flows e link p d v k m)) (spare_nn v l other))
             (same_node v link.tail))
             (same_node v link.head)
@@ -168,7 +173,8 @@ module _ (net : Network) (cap : Link → Option ℚ) (rate : ℚ) (good : IsNetw
 
             no_more : (v : ℕ) → sum_in net.links new v ≤ℚ sum_in net.links flows v
             no_more v = ⊎_elim
-                (λ (k : link.head ≡ v). ≤ℚ_of_lt _ _ (less (sum_in net.links flows v) _ _ a (subst (λ (j : ℕ). only_at link.head 1ℚ j ≡ 1ℚ) k (only_at-here link.head 1ℚ)) (in-pushed net rate flows e link p d v) part.1.above))
+                (λ (k : link.head ≡ v). ≤ℚ_of_lt _ _ (less (sum_in net.links flows v) _ _ a
+                (subst (λ (j : ℕ). only_at link.head 1ℚ j ≡ 1ℚ) k (only_at-here link.head 1ℚ)) (in-pushed net rate flows e link p d v) part.1.above))
                 (λ (k : link.head ≢ v). same (sum_in net.links flows v) _ _ a (only_at-else link.head 1ℚ v k) (in-pushed net rate flows e link p d v))
                 (same_node link.head v)
 
@@ -189,7 +195,8 @@ module _ (net : Network) (cap : Link → Option ℚ) (rate : ℚ) (good : IsNetw
     graded_at_least : (flows levels : ℕ → ℚ) → IsLeast net cap rate flows levels → Grown net cap rate levels good positive → SomeGraded
     graded_at_least flows levels least g = ⊎_elim
         (λ (w : (v : ℕ) × (v < net.nodes) × HasSpare net rate g.0 v).
-        let l : (new_flows : ℕ → ℚ) × (new_levels : ℕ → ℚ) × IsSupply net cap rate new_flows new_levels × (sum_to net.nodes new_levels <ℚ sum_to net.nodes levels)
+        let l : (new_flows : ℕ → ℚ) × (new_levels : ℕ → ℚ) × IsSupply net cap rate new_flows new_levels ×
+        (sum_to net.nodes new_levels <ℚ sum_to net.nodes levels)
         = lower net cap rate g.0 levels good positive g.1.over g.1.lifted g.2 w.0 w.1 w.2 in
         absurd (not_both_ℚ _ _ l.3 (least.levels_least l.0 l.1 l.2)))
         (λ (none : (v : ℕ) → v < net.nodes → HasSpare net rate g.0 v → ⊥). (g.0, levels, IsGradedBy-balanced g.0 levels g.1.over none))

@@ -41,7 +41,8 @@ module _ (net : Network) (good : IsNetwork net) (rate : ℚ) (nn : 0ℚ ≤ℚ r
 
   demand-is : (w : ℕ) → demand net rate w ≡ only_at net.sink rate w
   demand-is w = ⊎_elim
-      (λ (s : (eqb w net.sink ≡ true) × (w ≡ net.sink)). ap (λ (b : Bool). if b then rate else 0ℚ) s.0 ∙ sym (subst (λ (k : ℕ). only_at net.sink rate k ≡ rate) (sym s.1) (only_at-here net.sink rate)))
+      (λ (s : (eqb w net.sink ≡ true) × (w ≡ net.sink)). ap (λ (b : Bool). if b then rate else 0ℚ) s.0
+      ∙ sym (subst (λ (k : ℕ). only_at net.sink rate k ≡ rate) (sym s.1) (only_at-here net.sink rate)))
       (λ (s : (eqb w net.sink ≡ false) × (w ≢ net.sink)). ap (λ (b : Bool). if b then rate else 0ℚ) s.0 ∙ sym (only_at-else net.sink rate w (λ k. s.1 (sym k))))
       (eqb_tells w net.sink)
 
@@ -90,11 +91,14 @@ module _ (net : Network) (good : IsNetwork net) (rate : ℚ) (nn : 0ℚ ≤ℚ r
           (pushed-cases net rate flows e link p rate k);
       enough = λ w other. ⊎_elim
           (λ (k : w ≡ link.head). subst (λ (j : ℕ). 0ℚ ≤ℚ spare net rate new j +ℚ only_at link.tail rate j) (sym k)
-          (at_head _ _ _ _ (spare-head net rate flows e link p rate is_open.0) (only_at-here link.head rate) (r.enough link.head (λ m. other (k ∙ m))) (only-nn link.tail link.head)))
+          (at_head _ _ _ _ (spare-head net rate flows e link p rate is_open.0) (only_at-here link.head rate)
+          (r.enough link.head (λ m. other (k ∙ m))) (only-nn link.tail link.head)))
           (λ (k : w ≢ link.head). ⊎_elim
           (λ (m : w ≡ link.tail). subst (λ (j : ℕ). 0ℚ ≤ℚ spare net rate new j +ℚ only_at link.tail rate j) (sym m)
-          (at_tail _ _ _ _ (spare-tail net rate flows e link p rate is_open.0) (only_at-else link.head rate link.tail is_open.0) (only_at-here link.tail rate) (r.enough link.tail (λ j. other (m ∙ j)))))
-          (λ (m : w ≢ link.tail). elsewhere _ _ _ _ (spare-else net rate flows e link p rate w k m) (only_at-else link.head rate w (λ j. k (sym j))) (r.enough w other) (only-nn link.tail w))
+          (at_tail _ _ _ _ (spare-tail net rate flows e link p rate is_open.0) (only_at-else link.head rate link.tail is_open.0)
+          (only_at-here link.tail rate) (r.enough link.tail (λ j. other (m ∙ j)))))
+          (λ (m : w ≢ link.tail). elsewhere _ _ _ _ (spare-else net rate flows e link p rate w k m) (only_at-else link.head rate w (λ j. k (sym j)))
+          (r.enough w other) (only-nn link.tail w))
           (same_node w link.tail))
           (same_node w link.head);
     }
@@ -123,7 +127,8 @@ module _ (net : Network) (good : IsNetwork net) (rate : ℚ) (nn : 0ℚ ≤ℚ r
       (all.0, subst (λ (k : ℕ). IsRoute net rate k all.0) first.tail all.1)
 
   -- ---- the supply: `size` gives the capacity of each link
-  module _ (size : Link → ℚ) (size_ps : (e : ℕ) (link : Link) → IsLink net e link → 0ℚ <ℚ size link) (flows : ℕ → ℚ) (r : IsRoute net rate net.source flows) where
+  module _ (size : Link → ℚ) (size_ps : (e : ℕ) (link : Link) → IsLink net e link → 0ℚ <ℚ size link) (flows : ℕ → ℚ)
+      (r : IsRoute net rate net.source flows) where
     abbrev height : ℚ
     height = 1ℚ +ℚ link_sum net.links (λ e link. flows e /ℚ size link)
 
@@ -205,7 +210,8 @@ module _ (net : Network) (good : IsNetwork net) (rate : ℚ) (nn : 0ℚ ≤ℚ r
       started-is = ap (λ (o : Option Link). started_by o (flows e)) p
 
       started-ge : flows e ≤ℚ started e
-      started-ge = subst (λ (z : ℚ). flows e ≤ℚ z) (sym started-is) (filled_by-ge (open_or_not net link) (eqb link.tail net.source) (size link *ℚ height) (flows e) (fits_in e link p))
+      started-ge = subst (λ (z : ℚ). flows e ≤ℚ z) (sym started-is)
+          (filled_by-ge (open_or_not net link) (eqb link.tail net.source) (size link *ℚ height) (flows e) (fits_in e link p))
 
       started-shut : (IsOpen net link → ⊥) → started e ≡ 0ℚ
       started-shut n = started-is ∙ filled_by-not (open_or_not net link) (eqb link.tail net.source) (size link *ℚ height) (flows e) n ∙ r.shut e link p n
@@ -214,13 +220,15 @@ module _ (net : Network) (good : IsNetwork net) (rate : ℚ) (nn : 0ℚ ≤ℚ r
       started-else other = ⊎_elim
           (λ (w : (eqb link.tail net.source ≡ true) × (link.tail ≡ net.source)). absurd (other w.1))
           (λ (w : (eqb link.tail net.source ≡ false) × (link.tail ≢ net.source)).
-          started-is ∙ ap (λ (b : Bool). filled_by (open_or_not net link) b (size link *ℚ height) (flows e)) w.0 ∙ filled_by-else (open_or_not net link) (size link *ℚ height) (flows e))
+          started-is ∙ ap (λ (b : Bool). filled_by (open_or_not net link) b (size link *ℚ height) (flows e)) w.0
+          ∙ filled_by-else (open_or_not net link) (size link *ℚ height) (flows e))
           (eqb_tells link.tail net.source)
 
       started-full : link.tail ≡ net.source → IsOpen net link → started e ≡ size link *ℚ height
       started-full at o = ⊎_elim
           (λ (w : (eqb link.tail net.source ≡ true) × (link.tail ≡ net.source)).
-          started-is ∙ ap (λ (b : Bool). filled_by (open_or_not net link) b (size link *ℚ height) (flows e)) w.0 ∙ filled_by-full (open_or_not net link) (size link *ℚ height) (flows e) o)
+          started-is ∙ ap (λ (b : Bool). filled_by (open_or_not net link) b (size link *ℚ height) (flows e)) w.0
+          ∙ filled_by-full (open_or_not net link) (size link *ℚ height) (flows e) o)
           (λ (w : (eqb link.tail net.source ≡ false) × (link.tail ≢ net.source)). absurd (w.1 at))
           (eqb_tells link.tail net.source)
 

@@ -93,7 +93,8 @@ module _ (net : Network) (good : IsNetwork net) (rate : ℚ) (nn : 0ℚ ≤ℚ r
       -- No link with flow leads down.
       carries_up : (e : ℕ) (link : Link) → IsLink net e link → 0ℚ ≤ℚ flows e *ℚ rise side link
       carries_up e link p = ⊎_elim
-          (λ (some : 0ℚ <ℚ flows e). nn_times _ _ (≤ℚ_of_lt _ _ some) (rises (fits_used (cap link) (flows e) (levels link.tail) (levels link.head) (graded.fits e link p) some)))
+          (λ (some : 0ℚ <ℚ flows e). nn_times _ _ (≤ℚ_of_lt _ _ some)
+          (rises (fits_used (cap link) (flows e) (levels link.tail) (levels link.head) (graded.fits e link p) some)))
           (λ (none : flows e ≤ℚ 0ℚ). empty (flows e) _ none (graded.fits e link p).no_negative)
           (lt_or_le_ℚ 0ℚ (flows e))
         where
@@ -111,11 +112,13 @@ module _ (net : Network) (good : IsNetwork net) (rate : ℚ) (nn : 0ℚ ≤ℚ r
 
       crosses : (e : ℕ) (link : Link) → IsLink net e link → levels link.tail ≤ℚ a → a <ℚ levels link.head → flows e ≤ℚ rate
       crosses e link p h k = joined (flows e) (side link.tail) (side link.head) (side net.source) (side net.sink) (low_side link.tail h) (high_side link.head k)
-          (≤ℚ_trans _ _ _ (link_sum-one net.links (λ e link. flows e *ℚ rise side link) carries_up e link p) (≤ℚ_of_same _ _ (value_carried net good rate flows graded.source graded.inner side)))
+          (≤ℚ_trans _ _ _ (link_sum-one net.links (λ e link. flows e *ℚ rise side link) carries_up e link p)
+          (≤ℚ_of_same _ _ (value_carried net good rate flows graded.source graded.inner side)))
           (side_nn net.source) (side_le net.sink)
         where
           joined : (x s t a b : ℚ) → s ≡ 0ℚ → t ≡ 1ℚ → x *ℚ (t -ℚ s) ≤ℚ rate *ℚ (b -ℚ a) → 0ℚ ≤ℚ a → b ≤ℚ 1ℚ → x ≤ℚ rate
-          joined x s t a b e f h k l = linear_le (x ∷ s ∷ t ∷ a ∷ b ∷ rate ∷ []) (eq_times x e ∷ eq_times x f ∷ le h ∷ le_times nn k ∷ le_times nn l ∷ []) (search reading_of depth 14) tt
+          joined x s t a b e f h k l = linear_le (x ∷ s ∷ t ∷ a ∷ b ∷ rate ∷ []) (eq_times x e ∷ eq_times x f ∷ le h ∷ le_times nn k ∷ le_times nn l ∷ [])
+              (search reading_of depth 14) tt
 
     never_up : (e : ℕ) (link : Link) → IsLink net e link → link.capacity ≡ None → levels link.head ≤ℚ levels link.tail
     unfolding cap size_of
@@ -123,7 +126,8 @@ module _ (net : Network) (good : IsNetwork net) (rate : ℚ) (nn : 0ℚ ≤ℚ r
         (λ (up : levels link.tail <ℚ levels link.head). ⊎_elim
         (λ (k : levels link.head ≤ℚ levels link.tail). k)
         (λ (w : (c : ℚ) × (Some (size_by rate link.capacity) ≡ Some c) × (c *ℚ levels link.head ≤ℚ flows e)).
-        absurd (too_much (flows e) w.0 (levels link.head) (sym (same_Some _ w.0 w.1) ∙ ap (size_by rate) none) w.2 (graded.keeps_up link.head (good.heads e link p))
+        absurd (too_much (flows e) w.0 (levels link.head) (sym (same_Some _ w.0 w.1)
+        ∙ ap (size_by rate) none) w.2 (graded.keeps_up link.head (good.heads e link p))
         (crosses (levels link.tail) e link p (≤ℚ_refl _) up)))
         (graded.fits e link p).upper)
         (λ (k : levels link.head ≤ℚ levels link.tail). k)

@@ -57,7 +57,8 @@ fits_described e capacity tail head = Described-as (λ x. (N x × M x) × (U x �
     (Described-both N M (Described-le (λ x. 0ℚ) (λ x. flows_of x e) (Affine-constant 0ℚ) (flow e)) (most_described e capacity head))
     (Described-both U V
     (Described-either (λ x. flows_of x e ≤ℚ 0ℚ) (λ x. slopes_of x tail ≤ℚ slopes_of x head)
-    (Described-le (λ x. flows_of x e) (λ x. 0ℚ) (flow e) (Affine-constant 0ℚ)) (Described-le (λ x. slopes_of x tail) (λ x. slopes_of x head) (slope tail) (slope head)))
+    (Described-le (λ x. flows_of x e) (λ x. 0ℚ) (flow e) (Affine-constant 0ℚ))
+    (Described-le (λ x. slopes_of x tail) (λ x. slopes_of x head) (slope tail) (slope head)))
     (Described-either (λ x. slopes_of x head ≤ℚ slopes_of x tail) (FilledAt e capacity head)
     (Described-le (λ x. slopes_of x head) (λ x. slopes_of x tail) (slope head) (slope tail)) (filled_described e capacity head))))
   where
@@ -76,8 +77,10 @@ fits_described e capacity tail head = Described-as (λ x. (N x × M x) × (U x �
 -- No supply has a smaller sum of levels, and none with an equally small sum has a smaller sum of inflows.
 pub record IsLeast (net : Network) (cap : Link → Option ℚ) (rate : ℚ) (flows levels : ℕ → ℚ) : Type 0 where
   pub over : IsSupply net cap rate flows levels
-  pub levels_least : (other_flows other_levels : ℕ → ℚ) → IsSupply net cap rate other_flows other_levels → sum_to net.nodes levels ≤ℚ sum_to net.nodes other_levels
-  pub flows_least : (other_flows other_levels : ℕ → ℚ) → IsSupply net cap rate other_flows other_levels → sum_to net.nodes other_levels ≤ℚ sum_to net.nodes levels
+  pub levels_least : (other_flows other_levels : ℕ → ℚ) → IsSupply net cap rate other_flows other_levels
+      → sum_to net.nodes levels ≤ℚ sum_to net.nodes other_levels
+  pub flows_least : (other_flows other_levels : ℕ → ℚ) → IsSupply net cap rate other_flows other_levels
+      → sum_to net.nodes other_levels ≤ℚ sum_to net.nodes levels
       → sum_to net.nodes (sum_in net.links flows) ≤ℚ sum_to net.nodes (sum_in net.links other_flows)
 
 sum_to-not_negative : (n : ℕ) (f : ℕ → ℚ) → ((k : ℕ) → k < n → 0ℚ ≤ℚ f k) → 0ℚ ≤ℚ sum_to n f
@@ -108,9 +111,11 @@ module _ (net : Network) (cap : Link → Option ℚ) (rate : ℚ) where
   keeps_up_described = Described-to net.nodes (λ v x. 1ℚ ≤ℚ slopes_of x v) (λ v _. Described-le (λ x. 1ℚ) (λ x. slopes_of x v) (Affine-constant 1ℚ) (slope v))
 
   enough_described : Described Enough
-  enough_described = Described-to net.nodes (λ v x. v ≢ net.source → EnoughAt v x) (λ v _. Described-when (v ≢ net.source) (EnoughAt v) (not_so (same_node v net.source))
+  enough_described = Described-to net.nodes (λ v x. v ≢ net.source → EnoughAt v x)
+      (λ v _. Described-when (v ≢ net.source) (EnoughAt v) (not_so (same_node v net.source))
       (λ _. Described-le (λ x. sum_out net.links (flows_of x) v +ℚ demand net rate v) (λ x. sum_in net.links (flows_of x) v)
-      (Affine-plus (λ x. sum_out net.links (flows_of x) v) (λ x. demand net rate v) (Affine-sum_out net.links (λ e x. flows_of x e) v flow) (Affine-constant (demand net rate v)))
+      (Affine-plus (λ x. sum_out net.links (flows_of x) v) (λ x. demand net rate v) (Affine-sum_out net.links (λ e x. flows_of x e) v flow)
+      (Affine-constant (demand net rate v)))
       (Affine-sum_in net.links (λ e x. flows_of x e) v flow)))
 
   -- ---- conditions on the links
@@ -164,7 +169,8 @@ module _ (net : Network) (cap : Link → Option ℚ) (rate : ℚ) where
         (λ v l. sum_in-not_negative net.links (flows_of x) v (flow_nn net cap rate (flows_of x) (slopes_of x) good positive (supply_described.out x h))))
 
     least_at : (flows slopes : ℕ → ℚ) → IsSupply net cap rate flows slopes → LeastOfTwo supply_described.systems slope_sum.form inflow_sum.form
-    least_at flows slopes o = least_of_two supply_described.systems slope_sum.form inflow_sum.form (joined flows slopes) (0ℚ -ℚ slope_sum.rest) (0ℚ -ℚ inflow_sum.rest)
+    least_at flows slopes o = least_of_two supply_described.systems slope_sum.form inflow_sum.form (joined flows slopes)
+        (0ℚ -ℚ slope_sum.rest) (0ℚ -ℚ inflow_sum.rest)
         (supply_described.into (joined flows slopes) (assigned flows slopes o)) slope_floor inflow_floor
 
     is_least : LeastOfTwo supply_described.systems slope_sum.form inflow_sum.form → (flows : ℕ → ℚ) × (slopes : ℕ → ℚ) × IsLeast net cap rate flows slopes
@@ -174,9 +180,12 @@ module _ (net : Network) (cap : Link → Option ℚ) (rate : ℚ) where
       record {
         over = supply_described.out b.0 b.1;
         levels_least = λ f s o. subst (λ (t : ℕ → ℚ). sum_to net.nodes (slopes_of b.0) ≤ℚ sum_to net.nodes t) (slopes_of-joined f s)
-            (Affine-value (λ x. sum_to net.nodes (slopes_of x)) slope_sum b.0 (joined f s) (b.2 (joined f s) (supply_described.into (joined f s) (assigned f s o))));
-        flows_least = λ f s o h. subst (λ (g : ℕ → ℚ). sum_to net.nodes (sum_in net.links (flows_of b.0)) ≤ℚ sum_to net.nodes (sum_in net.links g)) (flows_of-joined f s)
-            (Affine-value (λ x. sum_to net.nodes (sum_in net.links (flows_of x))) inflow_sum b.0 (joined f s) (b.3 (joined f s) (supply_described.into (joined f s) (assigned f s o))
+            (Affine-value (λ x. sum_to net.nodes (slopes_of x)) slope_sum b.0 (joined f s)
+            (b.2 (joined f s) (supply_described.into (joined f s) (assigned f s o))));
+        flows_least = λ f s o h. subst (λ (g : ℕ → ℚ). sum_to net.nodes (sum_in net.links (flows_of b.0)) ≤ℚ sum_to net.nodes (sum_in net.links g))
+            (flows_of-joined f s)
+            (Affine-value (λ x. sum_to net.nodes (sum_in net.links (flows_of x))) inflow_sum b.0 (joined f s)
+            (b.3 (joined f s) (supply_described.into (joined f s) (assigned f s o))
             (Affine-form (λ x. sum_to net.nodes (slopes_of x)) slope_sum (joined f s) b.0
             (subst (λ (t : ℕ → ℚ). sum_to net.nodes t ≤ℚ sum_to net.nodes (slopes_of b.0)) (sym (slopes_of-joined f s)) h))));
       },

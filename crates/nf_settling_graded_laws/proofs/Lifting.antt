@@ -52,7 +52,8 @@ pub record IsLifted (net : Network) (cap : Link → Option ℚ) (rate : ℚ) (le
 -- The nodes with excess are closed: if levels are equal, an open link with room from such a node leads to such a node, and an open link with
 -- flow into such a node comes from such a node.
 pub record IsClosed (net : Network) (cap : Link → Option ℚ) (rate : ℚ) (flows levels : ℕ → ℚ) : Type 0 where
-  pub forth : (e : ℕ) (link : Link) → IsLink net e link → IsOpen net link → levels link.head ≡ levels link.tail → HasRoom (cap link) (flows e) (levels link.head)
+  pub forth : (e : ℕ) (link : Link) → IsLink net e link → IsOpen net link → levels link.head ≡ levels link.tail
+      → HasRoom (cap link) (flows e) (levels link.head)
       → HasSpare net rate flows link.tail → HasSpare net rate flows link.head
   pub back : (e : ℕ) (link : Link) → IsLink net e link → IsOpen net link → levels link.head ≡ levels link.tail → 0ℚ <ℚ flows e
       → HasSpare net rate flows link.head → HasSpare net rate flows link.tail
@@ -67,7 +68,8 @@ pub record Grows (net : Network) (cap : Link → Option ℚ) (rate : ℚ) (level
   pub had_none : HasSpare net rate flows node → ⊥
   pub has_some : HasSpare net rate new node
 
-module _ (net : Network) (cap : Link → Option ℚ) (rate : ℚ) (levels : ℕ → ℚ) (good : IsNetwork net) (positive : (e : ℕ) (link : Link) → IsLink net e link → IsPositive (cap link)) where
+module _ (net : Network) (cap : Link → Option ℚ) (rate : ℚ) (levels : ℕ → ℚ) (good : IsNetwork net)
+    (positive : (e : ℕ) (link : Link) → IsLink net e link → IsPositive (cap link)) where
   module _ (flows : ℕ → ℚ) (f : IsLifted net cap rate levels flows) where
     spare-not_negative : (v : ℕ) → v < net.nodes → v ≢ net.source → 0ℚ ≤ℚ spare net rate flows v
     spare-not_negative v l other = spare_of_enough _ _ _ (f.over.enough v l other)
@@ -78,8 +80,10 @@ module _ (net : Network) (cap : Link → Option ℚ) (rate : ℚ) (levels : ℕ 
 
       -- ---- a push of the amount a from one node to another
       module _ (d : ℚ) (giver gainer : ℕ) (a : ℚ) (above : 0ℚ <ℚ a) (nn : 0ℚ ≤ℚ flows e +ℚ d) (most : IsAtMost (cap link) (flows e +ℚ d) (levels link.head))
-          (gives : spare net rate (pushed net rate flows e link p d) giver ≡ spare net rate flows giver -ℚ a) (has : HasSpare net rate flows giver) (less : a <ℚ spare net rate flows giver)
-          (gains : spare net rate (pushed net rate flows e link p d) gainer ≡ spare net rate flows gainer +ℚ a) (is_node : gainer < net.nodes) (not_source : gainer ≢ net.source)
+          (gives : spare net rate (pushed net rate flows e link p d) giver ≡ spare net rate flows giver -ℚ a) (has : HasSpare net rate flows giver)
+          (less : a <ℚ spare net rate flows giver)
+          (gains : spare net rate (pushed net rate flows e link p d) gainer ≡ spare net rate flows gainer +ℚ a) (is_node : gainer < net.nodes)
+          (not_source : gainer ≢ net.source)
           (had_none : HasSpare net rate flows gainer → ⊥)
           (others : (v : ℕ) → v ≢ giver → v ≢ gainer → spare net rate (pushed net rate flows e link p d) v ≡ spare net rate flows v)
           (one_level : levels gainer ≡ levels giver) where
@@ -122,7 +126,8 @@ module _ (net : Network) (cap : Link → Option ℚ) (rate : ℚ) (levels : ℕ 
           has_some = (not_source, at_gainer);
         }
 
-      pub push_forth : HasRoom (cap link) (flows e) (levels link.head) → HasSpare net rate flows link.tail → (HasSpare net rate flows link.head → ⊥) → Grows net cap rate levels flows
+      pub push_forth : HasRoom (cap link) (flows e) (levels link.head) → HasSpare net rate flows link.tail → (HasSpare net rate flows link.head → ⊥)
+          → Grows net cap rate levels flows
       push_forth room s none = grown a link.tail link.head a part.1
           (more_flow (flows e) a (f.over.fits e link p needs).no_negative part.1) part.3
           (spare-tail net rate flows e link p a apart) s part.2
@@ -167,7 +172,8 @@ module _ (net : Network) (cap : Link → Option ℚ) (rate : ℚ) (levels : ℕ 
     Level e link = IsOpen net link × (levels link.head ≡ levels link.tail)
 
     abbrev Forth : ℕ → Link → Type 0
-    Forth e link = Level e link × (HasRoom (cap link) (flows e) (levels link.head) × (HasSpare net rate flows link.tail × (HasSpare net rate flows link.head → ⊥)))
+    Forth e link = Level e link
+        × (HasRoom (cap link) (flows e) (levels link.head) × (HasSpare net rate flows link.tail × (HasSpare net rate flows link.head → ⊥)))
 
     abbrev Back : ℕ → Link → Type 0
     Back e link = Level e link × ((0ℚ <ℚ flows e) × (HasSpare net rate flows link.head × (HasSpare net rate flows link.tail → ⊥)))
@@ -176,10 +182,13 @@ module _ (net : Network) (cap : Link → Option ℚ) (rate : ℚ) (levels : ℕ 
     level_or_not e link = both (open_or_not net link) (same_or_not (levels link.head) (levels link.tail))
 
     forth_or_not : (e : ℕ) (link : Link) → Decided (Forth e link)
-    forth_or_not e link = both (level_or_not e link) (both (room_or_not (cap link) (flows e) (levels link.head)) (both (spare_or_not net rate flows link.tail) (not_so (spare_or_not net rate flows link.head))))
+    forth_or_not e link = both (level_or_not e link)
+        (both (room_or_not (cap link) (flows e) (levels link.head))
+        (both (spare_or_not net rate flows link.tail) (not_so (spare_or_not net rate flows link.head))))
 
     back_or_not : (e : ℕ) (link : Link) → Decided (Back e link)
-    back_or_not e link = both (level_or_not e link) (both (less_or_not 0ℚ (flows e)) (both (spare_or_not net rate flows link.head) (not_so (spare_or_not net rate flows link.tail))))
+    back_or_not e link = both (level_or_not e link)
+        (both (less_or_not 0ℚ (flows e)) (both (spare_or_not net rate flows link.head) (not_so (spare_or_not net rate flows link.tail))))
 
     closed_by : NoLink net.links Forth → NoLink net.links Back → IsClosed net cap rate flows levels
     closed_by no_forth no_back = record {

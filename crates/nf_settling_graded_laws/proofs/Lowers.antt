@@ -45,8 +45,10 @@ enough_by_rest o d i p q k h l m = linear_le (o ∷ d ∷ i ∷ p ∷ q ∷ k �
 enough_by_same : (o d i p q : ℚ) → p ≤ℚ o → q ≡ i → o +ℚ d ≤ℚ i → p +ℚ d ≤ℚ q
 enough_by_same o d i p q h e m = linear_le (o ∷ d ∷ i ∷ p ∷ q ∷ []) (le h ∷ eq e ∷ le m ∷ []) (search reading_of depth 12) tt
 
-module _ (net : Network) (cap : Link → Option ℚ) (rate : ℚ) (flows levels : ℕ → ℚ) (good : IsNetwork net) (positive : (e : ℕ) (link : Link) → IsLink net e link → IsPositive (cap link))
-    (over : IsSupply net cap rate flows levels) (lifted : (v : ℕ) → HasSpare net rate flows v → 1ℚ <ℚ levels v) (closed : IsClosed net cap rate flows levels) where
+module _ (net : Network) (cap : Link → Option ℚ) (rate : ℚ) (flows levels : ℕ → ℚ) (good : IsNetwork net)
+    (positive : (e : ℕ) (link : Link) → IsLink net e link → IsPositive (cap link))
+    (over : IsSupply net cap rate flows levels) (lifted : (v : ℕ) → HasSpare net rate flows v → 1ℚ <ℚ levels v)
+    (closed : IsClosed net cap rate flows levels) where
   abbrev Spares : ℕ → Type 0
   Spares v = HasSpare net rate flows v
 
@@ -70,19 +72,23 @@ module _ (net : Network) (cap : Link → Option ℚ) (rate : ℚ) (flows levels 
   Paid h = (v : ℕ) → v < net.nodes → Spares v → sum_in net.links (capacity_at net cap) v *ℚ h ≤ℚ spare net rate flows v
 
   rising : Small Rising
-  rising = Small-links net.links (λ e link h. levels link.tail <ℚ levels link.head → h ≤ℚ levels link.head -ℚ levels link.tail) (λ e link. Small-apart (levels link.tail) (levels link.head))
+  rising = Small-links net.links (λ e link h. levels link.tail <ℚ levels link.head → h ≤ℚ levels link.head -ℚ levels link.tail)
+      (λ e link. Small-apart (levels link.tail) (levels link.head))
 
   falling : Small Falling
-  falling = Small-links net.links (λ e link h. levels link.head <ℚ levels link.tail → h ≤ℚ levels link.tail -ℚ levels link.head) (λ e link. Small-apart (levels link.head) (levels link.tail))
+  falling = Small-links net.links (λ e link h. levels link.head <ℚ levels link.tail → h ≤ℚ levels link.tail -ℚ levels link.head)
+      (λ e link. Small-apart (levels link.head) (levels link.tail))
 
   above : Small Above
   above = Small-to net.nodes (λ v h. Spares v → h ≤ℚ levels v -ℚ 1ℚ)
-      (λ v l. Small-when (Spares v) (λ h. h ≤ℚ levels v -ℚ 1ℚ) (spare_or_not net rate flows v) (λ s. Small-at_most (levels v -ℚ 1ℚ) (less_ps 1ℚ (levels v) (lifted v s))))
+      (λ v l. Small-when (Spares v) (λ h. h ≤ℚ levels v -ℚ 1ℚ) (spare_or_not net rate flows v)
+      (λ s. Small-at_most (levels v -ℚ 1ℚ) (less_ps 1ℚ (levels v) (lifted v s))))
 
   paid : Small Paid
   paid = Small-to net.nodes (λ v h. Spares v → sum_in net.links (capacity_at net cap) v *ℚ h ≤ℚ spare net rate flows v)
       (λ v l. Small-when (Spares v) (λ h. sum_in net.links (capacity_at net cap) v *ℚ h ≤ℚ spare net rate flows v) (spare_or_not net rate flows v)
-      (λ s. Small-times (spare net rate flows v) (sum_in net.links (capacity_at net cap) v) s.1 (sum_in-not_negative net.links (capacity_at net cap) v (capacity_at-not_negative))))
+      (λ s. Small-times (spare net rate flows v) (sum_in net.links (capacity_at net cap) v) s.1
+      (sum_in-not_negative net.links (capacity_at net cap) v (capacity_at-not_negative))))
 
   small : Small (IsSmall net cap rate flows levels)
   small = Small-map (λ h. (Rising h × Falling h) × (Above h × Paid h)) (IsSmall net cap rate flows levels)
@@ -133,14 +139,16 @@ module _ (net : Network) (cap : Link → Option ℚ) (rate : ℚ) (flows levels 
 
     -- Levels keep their order along a link with flow, and against a link with room.
     rises : (e : ℕ) (link : Link) → IsLink net e link → IsOpen net link → 0ℚ <ℚ flows e → lowered link.tail ≤ℚ lowered link.head
-    rises e link p m some = ordered-low (levels link.tail) (levels link.head) (lowered link.tail) (lowered link.head) h (fits_used (cap link) _ _ _ (fits_of e link p m) some) (lowered-le link.tail)
+    rises e link p m some = ordered-low (levels link.tail) (levels link.head) (lowered link.tail) (lowered link.head) h
+        (fits_used (cap link) _ _ _ (fits_of e link p m) some) (lowered-le link.tail)
         (⊎_elim
         (λ (w : Spares link.head × (lowered link.head ≡ levels link.head -ℚ h)).
         inr (w.1, (is_small.rising e link p, λ same. lowered-is link.tail (closed.back e link p m (sym same) some w.0))))
         (λ (w : (Spares link.head → ⊥) × (lowered link.head ≡ levels link.head)). inl w.1)
         (lowered-cases link.head))
 
-    falls : (e : ℕ) (link : Link) → IsLink net e link → IsOpen net link → HasRoom (cap link) (flows e) (levels link.head) → lowered link.head ≤ℚ lowered link.tail
+    falls : (e : ℕ) (link : Link) → IsLink net e link → IsOpen net link → HasRoom (cap link) (flows e) (levels link.head)
+        → lowered link.head ≤ℚ lowered link.tail
     falls e link p m room = ordered-low (levels link.head) (levels link.tail) (lowered link.head) (lowered link.tail) h low (lowered-le link.head)
         (⊎_elim
         (λ (w : Spares link.tail × (lowered link.tail ≡ levels link.tail -ℚ h)).
@@ -174,11 +182,14 @@ module _ (net : Network) (cap : Link → Option ℚ) (rate : ℚ) (flows levels 
 
     new-same : (e : ℕ) (link : Link) → IsLink net e link → (Spares link.head → ⊥) → new e ≡ flows e
     new-same e link p none = new-is e link p
-        ∙ capped-same (cap link) (flows e) (lowered link.head) (subst (λ (t : ℚ). IsAtMost (cap link) (flows e) t) (sym (lowered-not link.head none)) (flow_most net cap rate flows levels good positive over e link p))
+        ∙ capped-same (cap link) (flows e) (lowered link.head)
+        (subst (λ (t : ℚ). IsAtMost (cap link) (flows e) t) (sym (lowered-not link.head none))
+        (flow_most net cap rate flows levels good positive over e link p))
 
     new-near : (e : ℕ) (link : Link) → IsLink net e link → flows e ≤ℚ new e +ℚ capacity_at net cap e *ℚ h
     new-near e link p = subst (λ (o : Option Link). flows e ≤ℚ lowered_by o (flows e) +ℚ capacity_by cap o *ℚ h) (sym p)
-        (capped-near (cap link) (flows e) (levels link.head) (lowered link.head) h (positive e link p) n (flow_most net cap rate flows levels good positive over e link p) (lowered-near link.head))
+        (capped-near (cap link) (flows e) (levels link.head) (lowered link.head) h (positive e link p) n
+        (flow_most net cap rate flows levels good positive over e link p) (lowered-near link.head))
 
     less_out : (v : ℕ) → sum_out net.links new v ≤ℚ sum_out net.links flows v
     less_out v = sum_out-order net.links new flows v (λ e link p _. new-le e link p)
@@ -189,7 +200,8 @@ module _ (net : Network) (cap : Link → Option ℚ) (rate : ℚ) (flows levels 
 
     enough : (v : ℕ) → v < net.nodes → v ≢ net.source → sum_out net.links new v +ℚ demand net rate v ≤ℚ sum_in net.links new v
     enough v l other = ⊎_elim
-        (λ (s : Spares v). enough_by_rest (sum_out net.links flows v) (demand net rate v) (sum_in net.links flows v) _ _ _ (less_out v) (little_less_in v) (is_small.paid v l s))
+        (λ (s : Spares v). enough_by_rest (sum_out net.links flows v) (demand net rate v) (sum_in net.links flows v) _ _ _ (less_out v) (little_less_in v)
+        (is_small.paid v l s))
         (λ (s : Spares v → ⊥). enough_by_same (sum_out net.links flows v) (demand net rate v) (sum_in net.links flows v) _ _ (less_out v)
         (sum_in-same net.links new flows v (λ e link p at. new-same e link p (λ k. s (subst Spares at k)))) (over.enough v l other))
         (spare_or_not net rate flows v)
@@ -198,7 +210,8 @@ module _ (net : Network) (cap : Link → Option ℚ) (rate : ℚ) (flows levels 
     IsSupply-lowered = record {
       starts = lowered-not net.source (λ s. s.0 refl) ∙ over.starts;
       keeps_up = lowered-keeps_up;
-      shut = λ e link p none. new-is e link p ∙ capped-none (cap link) (flows e) (lowered link.head) (positive e link p) (over.shut e link p none) (lowered-not_negative link.head (good.heads e link p));
+      shut = λ e link p none. new-is e link p ∙ capped-none (cap link) (flows e) (lowered link.head) (positive e link p) (over.shut e link p none)
+          (lowered-not_negative link.head (good.heads e link p));
       fits = others;
       enough = enough;
     }

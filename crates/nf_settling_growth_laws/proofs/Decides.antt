@@ -36,9 +36,11 @@ use Rattle.nf_settling_growth_laws.proofs.Reserve.{in_transit, store-low, store-
 use Rattle.nf_settling_growth_laws.proofs.Growing.{IsGrowth-level, level-cut, level-one}
 
 -- The last start is at most each departure after which no piece starts.
-pub last_start-least : (pieces : List Piece) (time : ℚ) → 0ℚ ≤ℚ time → ((i : ℕ) (piece : Piece) → IsPiece pieces i piece → piece.start ≤ℚ time) → last_start pieces ≤ℚ time
+pub last_start-least : (pieces : List Piece) (time : ℚ) → 0ℚ ≤ℚ time → ((i : ℕ) (piece : Piece) → IsPiece pieces i piece → piece.start ≤ℚ time)
+    → last_start pieces ≤ℚ time
 last_start-least [] time n h = n
-last_start-least (piece ∷ later) time n h = max_keeps (λ z. z ≤ℚ time) piece.start (last_start later) (h 0 piece refl) (last_start-least later time n (λ i p e. h (suc i) p e))
+last_start-least (piece ∷ later) time n h = max_keeps (λ z. z ≤ℚ time) piece.start (last_start later) (h 0 piece refl)
+    (last_start-least later time n (λ i p e. h (suc i) p e))
 
 -- ---- over plain numbers: s is the slope of the sink, g its growth, and r the drift
 pub Apart : ℚ → ℚ → ℚ → ℚ → Type 0
@@ -55,7 +57,11 @@ apart-grow s g b c r h n a = (wider _ a.0, wider _ a.1)
 
 apart-same : (s g r : ℚ) → s ≡ g → Apart s g 0ℚ r
 unfolding Apart
-apart-same s g r e = (linear_le (s ∷ g ∷ r ∷ []) (eq e ∷ []) (search reading_of depth 12) tt, linear_le (s ∷ g ∷ r ∷ []) (eq e ∷ []) (search reading_of depth 12) tt)
+apart-same s g r e = (
+  linear_le (s ∷ g ∷ r ∷ []) (eq e ∷ []) (search reading_of depth 12) tt,
+  linear_le (s ∷ g ∷ r ∷ []) (eq e ∷ [])
+      (search reading_of depth 12) tt,
+)
 
 apart-other : (s g r : ℚ) → r <ℚ 0ℚ → (m : ℚ) × Apart s g m r
 unfolding Apart
@@ -73,9 +79,14 @@ Near g m f j u d y w = ((y -ℚ g *ℚ d) -ℚ (j -ℚ g *ℚ f) ≤ℚ m *ℚ (
 
 near-first : (g m f j u : ℚ) → Near g m f j u f j u
 unfolding Near
-near-first g m f j u = (linear_le (g ∷ m ∷ f ∷ j ∷ u ∷ []) [] (search reading_of depth 14) tt, linear_le (g ∷ m ∷ f ∷ j ∷ u ∷ []) [] (search reading_of depth 14) tt)
+near-first g m f j u = (
+  linear_le (g ∷ m ∷ f ∷ j ∷ u ∷ []) [] (search reading_of depth 14) tt,
+  linear_le (g ∷ m ∷ f ∷ j ∷ u ∷ []) []
+      (search reading_of depth 14) tt,
+)
 
-near-on : (g m f j u c x v d y w s r : ℚ) → c <ℚ d → y ≡ x +ℚ s *ℚ (d -ℚ c) → w ≡ v +ℚ (d -ℚ c) *ℚ r → Apart s g m r → Near g m f j u c x v → Near g m f j u d y w
+near-on : (g m f j u c x v d y w s r : ℚ) → c <ℚ d → y ≡ x +ℚ s *ℚ (d -ℚ c) → w ≡ v +ℚ (d -ℚ c) *ℚ r → Apart s g m r → Near g m f j u c x v
+    → Near g m f j u d y w
 unfolding Apart Near
 near-on g m f j u c x v d y w s r o e h a n = (above a.0 n.0, below a.1 n.1)
   where
@@ -83,12 +94,15 @@ near-on g m f j u c x v d y w s r o e h a n = (above a.0 n.0, below a.1 n.1)
     gap = less_nn c d (≤ℚ_of_lt _ _ o)
 
     above : s -ℚ g ≤ℚ m *ℚ (0ℚ -ℚ r) → (x -ℚ g *ℚ c) -ℚ (j -ℚ g *ℚ f) ≤ℚ m *ℚ (u -ℚ v) → (y -ℚ g *ℚ d) -ℚ (j -ℚ g *ℚ f) ≤ℚ m *ℚ (u -ℚ w)
-    above i k = linear_le (g ∷ m ∷ f ∷ j ∷ u ∷ c ∷ x ∷ v ∷ d ∷ y ∷ w ∷ s ∷ r ∷ []) (eq e ∷ eq_times m h ∷ le_times gap i ∷ le k ∷ []) (search reading_of depth 18) tt
+    above i k = linear_le (g ∷ m ∷ f ∷ j ∷ u ∷ c ∷ x ∷ v ∷ d ∷ y ∷ w ∷ s ∷ r ∷ []) (eq e ∷ eq_times m h ∷ le_times gap i ∷ le k ∷ [])
+        (search reading_of depth 18) tt
 
     below : g -ℚ s ≤ℚ m *ℚ (0ℚ -ℚ r) → (j -ℚ g *ℚ f) -ℚ (x -ℚ g *ℚ c) ≤ℚ m *ℚ (u -ℚ v) → (j -ℚ g *ℚ f) -ℚ (y -ℚ g *ℚ d) ≤ℚ m *ℚ (u -ℚ w)
-    below i k = linear_le (g ∷ m ∷ f ∷ j ∷ u ∷ c ∷ x ∷ v ∷ d ∷ y ∷ w ∷ s ∷ r ∷ []) (eq e ∷ eq_times m h ∷ le_times gap i ∷ le k ∷ []) (search reading_of depth 18) tt
+    below i k = linear_le (g ∷ m ∷ f ∷ j ∷ u ∷ c ∷ x ∷ v ∷ d ∷ y ∷ w ∷ s ∷ r ∷ []) (eq e ∷ eq_times m h ∷ le_times gap i ∷ le k ∷ [])
+        (search reading_of depth 18) tt
 
-pub near-is : (g m f j u d y w : ℚ) → Near g m f j u d y w → ((y -ℚ g *ℚ d) -ℚ (j -ℚ g *ℚ f) ≤ℚ m *ℚ (u -ℚ w)) × ((j -ℚ g *ℚ f) -ℚ (y -ℚ g *ℚ d) ≤ℚ m *ℚ (u -ℚ w))
+pub near-is : (g m f j u d y w : ℚ) → Near g m f j u d y w
+    → ((y -ℚ g *ℚ d) -ℚ (j -ℚ g *ℚ f) ≤ℚ m *ℚ (u -ℚ w)) × ((j -ℚ g *ℚ f) -ℚ (y -ℚ g *ℚ d) ≤ℚ m *ℚ (u -ℚ w))
 unfolding Near
 near-is g m f j u d y w n = n
 
@@ -99,10 +113,12 @@ unfolding Near
 near-bound g m f j u d y w b p h n m_nn g_nn f_nn j_nn j_le u_le w_ge = (above n.0, below n.1)
   where
     above : (y -ℚ g *ℚ d) -ℚ (j -ℚ g *ℚ f) ≤ℚ m *ℚ (u -ℚ w) → y -ℚ g *ℚ d ≤ℚ (b +ℚ g *ℚ f) +ℚ m *ℚ (p +ℚ h)
-    above k = linear_le (g ∷ m ∷ f ∷ j ∷ u ∷ d ∷ y ∷ w ∷ b ∷ p ∷ h ∷ []) (le k ∷ le j_le ∷ le_times g_nn f_nn ∷ le_times m_nn u_le ∷ le_times m_nn w_ge ∷ []) (search reading_of depth 16) tt
+    above k = linear_le (g ∷ m ∷ f ∷ j ∷ u ∷ d ∷ y ∷ w ∷ b ∷ p ∷ h ∷ []) (le k ∷ le j_le ∷ le_times g_nn f_nn ∷ le_times m_nn u_le ∷ le_times m_nn
+        w_ge ∷ []) (search reading_of depth 16) tt
 
     below : (j -ℚ g *ℚ f) -ℚ (y -ℚ g *ℚ d) ≤ℚ m *ℚ (u -ℚ w) → g *ℚ d -ℚ y ≤ℚ (b +ℚ g *ℚ f) +ℚ m *ℚ (p +ℚ h)
-    below k = linear_le (g ∷ m ∷ f ∷ j ∷ u ∷ d ∷ y ∷ w ∷ b ∷ p ∷ h ∷ []) (le k ∷ le j_nn ∷ le j_le ∷ le_times m_nn u_le ∷ le_times m_nn w_ge ∷ []) (search reading_of depth 16) tt
+    below k = linear_le (g ∷ m ∷ f ∷ j ∷ u ∷ d ∷ y ∷ w ∷ b ∷ p ∷ h ∷ []) (le k ∷ le j_nn ∷ le j_le ∷ le_times m_nn u_le ∷ le_times m_nn w_ge ∷ [])
+        (search reading_of depth 16) tt
 
 module _ (net : Network) (good : IsNetwork net) (flows levels : ℕ → ℚ) (graded : IsGraded net (last_rate net) flows levels) where
   nn : 0ℚ ≤ℚ last_rate net
@@ -135,16 +151,21 @@ module _ (net : Network) (good : IsNetwork net) (flows levels : ℕ → ℚ) (gr
     Holds : Sets → List ℚ → ℚ → Type 0
     Holds sets slopes m = Apart (number_at slopes net.sink) (levels net.sink) m (drift net sets (last_rate net) levels slopes)
 
-    holds-grow : (sets : Sets) (thin_flows slopes : List ℚ) (b c : ℚ) → b ≤ℚ c → AreLabelSets net sets → IsThinFlow net sets (last_rate net) thin_flows slopes → Holds sets slopes b → Holds sets slopes c
+    holds-grow : (sets : Sets) (thin_flows slopes : List ℚ) (b c : ℚ) → b ≤ℚ c → AreLabelSets net sets
+        → IsThinFlow net sets (last_rate net) thin_flows slopes → Holds sets slopes b → Holds sets slopes c
     unfolding Holds
-    holds-grow sets thin_flows slopes b c h label_sets thin a = apart-grow (number_at slopes net.sink) (levels net.sink) b c (drift net sets (last_rate net) levels slopes) h
+    holds-grow sets thin_flows slopes b c h label_sets thin a = apart-grow (number_at slopes net.sink) (levels net.sink) b c
+        (drift net sets (last_rate net) levels slopes) h
         (drift-le net good (last_rate net) flows levels graded nn sets label_sets.are label_sets.acyclic thin_flows slopes thin) a
 
-    holds-some : (sets : Sets) (thin_flows slopes : List ℚ) → AreLabelSets net sets → IsThinFlow net sets (last_rate net) thin_flows slopes → (m : ℚ) × Holds sets slopes m
+    holds-some : (sets : Sets) (thin_flows slopes : List ℚ) → AreLabelSets net sets → IsThinFlow net sets (last_rate net) thin_flows slopes
+        → (m : ℚ) × Holds sets slopes m
     unfolding Holds
     holds-some sets thin_flows slopes label_sets thin = ⊎_elim
-        (λ (e : number_at slopes net.sink ≡ levels net.sink). (0ℚ, apart-same (number_at slopes net.sink) (levels net.sink) (drift net sets (last_rate net) levels slopes) e))
-        (λ (apart : number_at slopes net.sink ≡ levels net.sink → ⊥). apart-other (number_at slopes net.sink) (levels net.sink) (drift net sets (last_rate net) levels slopes)
+        (λ (e : number_at slopes net.sink ≡ levels net.sink).
+        (0ℚ, apart-same (number_at slopes net.sink) (levels net.sink) (drift net sets (last_rate net) levels slopes) e))
+        (λ (apart : number_at slopes net.sink ≡ levels net.sink → ⊥). apart-other (number_at slopes net.sink) (levels net.sink)
+        (drift net sets (last_rate net) levels slopes)
         (drift-lt net good (last_rate net) flows levels graded nn sets label_sets.are label_sets.acyclic thin_flows slopes thin more apart))
         (same_or_not (number_at slopes net.sink) (levels net.sink))
 
@@ -179,22 +200,28 @@ module _ (net : Network) (good : IsNetwork net) (flows levels : ℕ → ℚ) (gr
 
         one_stretch : (c d : ℚ) → IsInterval net flow c d → Follows c → Follows d
         unfolding pace Holds
-        one_stretch c d i n = near-on (levels net.sink) pace from (label flow net.sink from) (stored from) c (label flow net.sink c) (stored c) d (label flow net.sink d) (stored d)
+        one_stretch c d i n = near-on (levels net.sink) pace from (label flow net.sink from) (stored from) c (label flow net.sink c) (stored c) d
+            (label flow net.sink d) (stored d)
             (number_at i.slopes net.sink) (drift net (sets_at net (labels_at net flow c)) (last_rate net) levels i.slopes) i.order (i.moved net.sink good.sink)
-            (store-step net good (last_rate net) flows levels graded (sets_at net (labels_at net flow c)) i.slopes (at c) (at d) (d -ℚ c) i.moved i.filled_by) apart n
+            (store-step net good (last_rate net) flows levels graded (sets_at net (labels_at net flow c)) i.slopes (at c) (at d)
+            (d -ℚ c) i.moved i.filled_by) apart n
           where
             label_sets : AreLabelSets net (sets_at net (labels_at net flow c))
             label_sets = AreLabelSets-at net good flow is c (i.not_negative, ≤ℚ_trans _ _ _ (≤ℚ_of_lt _ _ i.order) i.within)
 
             apart : Apart (number_at i.slopes net.sink) (levels net.sink) pace (drift net (sets_at net (labels_at net flow c)) (last_rate net) levels i.slopes)
-            apart = holds-grow (sets_at net (labels_at net flow c)) i.flows i.slopes some_pace.0 (max_ℚ 0ℚ some_pace.0) (max_right 0ℚ some_pace.0) label_sets i.thin
-                (some_pace.1 (sets_at net (labels_at net flow c)) (active_count net good flow is c) (resetting_count net good flow is c) label_sets i.flows i.slopes i.thin)
+            apart = holds-grow (sets_at net (labels_at net flow c)) i.flows i.slopes some_pace.0 (max_ℚ 0ℚ some_pace.0) (max_right 0ℚ some_pace.0)
+                label_sets i.thin
+                (some_pace.1 (sets_at net (labels_at net flow c)) (active_count net good flow is c)
+                (resetting_count net good flow is c) label_sets i.flows i.slopes i.thin)
 
         pub follows : (t : ℚ) → from ≤ℚ t → t ≤ℚ flow.reached → Follows t
-        follows t h l = over_intervals net good flow is Follows one_stretch from from_nn started t h l (near-first (levels net.sink) pace from (label flow net.sink from) (stored from))
+        follows t h l = over_intervals net good flow is Follows one_stretch from from_nn started t h l
+            (near-first (levels net.sink) pace from (label flow net.sink from) (stored from))
 
       pub stored_low : (t : ℚ) → 0ℚ ≤ℚ t → t ≤ℚ flow.reached → 0ℚ -ℚ in_transit net good (last_rate net) flows levels graded ≤ℚ stored t
-      stored_low t n l = store-low net good (last_rate net) flows levels graded (at t) (λ e link p none. (HoldsUpTo-equilibrium net flow good is).unbounded e link t p none (n, l))
+      stored_low t n l = store-low net good (last_rate net) flows levels graded (at t)
+          (λ e link p none. (HoldsUpTo-equilibrium net flow good is).unbounded e link t p none (n, l))
 
       -- ---- from the last start of a piece on
       abbrev first : ℚ
@@ -210,7 +237,8 @@ module _ (net : Network) (good : IsNetwork net) (flows levels : ℕ → ℚ) (gr
 
         pub stored_high : stored (last_start net.pieces) ≤ℚ most
         unfolding most
-        stored_high = store-high net good (last_rate net) flows levels graded (at first) latest nn latest_nn (λ v k. label_nn flow is v first k first_nn l) first_high
+        stored_high = store-high net good (last_rate net) flows levels graded (at first) latest nn latest_nn (λ v k. label_nn flow is v first k first_nn l)
+            first_high
 
       module _ (t : ℚ) (h : first ≤ℚ t) (l : t ≤ℚ flow.reached) where
         first_within : first ≤ℚ flow.reached
@@ -220,7 +248,8 @@ module _ (net : Network) (good : IsNetwork net) (flows levels : ℕ → ℚ) (gr
         unfolding far
         stays_near = near-bound (levels net.sink) pace first (label flow net.sink first) (stored first) t (label flow net.sink t) (stored t) latest most
             (in_transit net good (last_rate net) flows levels graded) (follows first first_nn first_started t h l) pace_nn growth_nn first_nn
-            (label_nn flow is net.sink first good.sink first_nn first_within) (first_high first_within net.sink good.sink) (stored_high first_within) (stored_low t (≤ℚ_trans _ _ _ first_nn h) l)
+            (label_nn flow is net.sink first good.sink first_nn first_within) (first_high first_within net.sink good.sink) (stored_high first_within)
+            (stored_low t (≤ℚ_trans _ _ _ first_nn h) l)
 
     grows-above : (bound : ℚ) × GrowsAt net (levels net.sink) bound
     grows-above = (
@@ -238,7 +267,8 @@ module _ (net : Network) (good : IsNetwork net) (flows levels : ℕ → ℚ) (gr
 
     pub growth_one : levels net.sink ≡ 1ℚ
     growth_one = level-one net good (last_rate net) flows levels graded
-        (λ h. let w : (cut : Cut) × IsStaticCut net cut × (last_rate net ≡ levels net.sink *ℚ cut_capacity net cut) = level-cut net good (last_rate net) flows levels graded h in
+        (λ h. let w : (cut : Cut) × IsStaticCut net cut × (last_rate net ≡ levels net.sink *ℚ cut_capacity net cut) = level-cut net good
+        (last_rate net) flows levels graded h in
         none_by (last_rate net) (levels net.sink) (cut_capacity net w.0) nothing h w.2 (cut_capacity-positive net w.0 w.1 good))
       where
         none_by : (u g c : ℚ) → u ≤ℚ 0ℚ → 1ℚ <ℚ g → u ≡ g *ℚ c → 0ℚ <ℚ c → ⊥
@@ -272,12 +302,15 @@ module _ (net : Network) (good : IsNetwork net) (flows levels : ℕ → ℚ) (gr
 
       pub slope_le : (c d : ℚ) → (i : IsInterval net flow c d) → number_at i.slopes net.sink ≤ℚ steepest
       unfolding steepest
-      slope_le c d i = ≤ℚ_trans _ _ _ (((bound_of_rate net good (last_rate net) nn).1 (sets_at net (labels_at net flow c)) (active_count net good flow is c) (resetting_count net good flow is c)
+      slope_le c d i = ≤ℚ_trans _ _ _
+          (((bound_of_rate net good (last_rate net) nn).1 (sets_at net (labels_at net flow c)) (active_count net good flow is c)
+          (resetting_count net good flow is c)
           (AreLabelSets-at net good flow is c (i.not_negative, ≤ℚ_trans _ _ _ (≤ℚ_of_lt _ _ i.order) i.within)) i.flows i.slopes i.thin).slopes_below net.sink)
           (max_right 0ℚ (bound_of_rate net good (last_rate net) nn).0)
 
       slow_on : (c d : ℚ) → IsInterval net flow c d → Slow c → Slow d
-      slow_on c d i k = onward (label flow net.sink c) (label flow net.sink d) latest steepest (number_at i.slopes net.sink) c d start i.order k (i.moved net.sink good.sink) (slope_le c d i)
+      slow_on c d i k = onward (label flow net.sink c) (label flow net.sink d) latest steepest (number_at i.slopes net.sink) c d start i.order k
+          (i.moved net.sink good.sink) (slope_le c d i)
         where
           onward : (x y b g s c d f : ℚ) → c <ℚ d → x ≤ℚ b +ℚ g *ℚ (c -ℚ f) → y ≡ x +ℚ s *ℚ (d -ℚ c) → s ≤ℚ g → y ≤ℚ b +ℚ g *ℚ (d -ℚ f)
           onward x y b g s c d f o h e k =
@@ -286,7 +319,8 @@ module _ (net : Network) (good : IsNetwork net) (flows levels : ℕ → ℚ) (gr
 
       slow : (t : ℚ) → start ≤ℚ t → t ≤ℚ flow.reached → Slow t
       unfolding latest
-      slow t h l = over_intervals net good flow is Slow slow_on start first_nn (IsLastSupply-from net start (≤ℚ_refl _)) t h l (at_start _ _ steepest start first_high)
+      slow t h l = over_intervals net good flow is Slow slow_on start first_nn (IsLastSupply-from net start (≤ℚ_refl _)) t h l
+          (at_start _ _ steepest start first_high)
         where
           at_start : (x b g f : ℚ) → x ≤ℚ b → x ≤ℚ b +ℚ g *ℚ (f -ℚ f)
           at_start x b g f h = linear_le (x ∷ b ∷ g ∷ f ∷ []) (le h ∷ []) (search reading_of depth 12) tt
@@ -299,7 +333,8 @@ module _ (net : Network) (good : IsNetwork net) (flows levels : ℕ → ℚ) (gr
       unfolding long
       before t h l k = (
         high (label flow net.sink t) t latest steepest settles.0 start (slow t h l) steepest_nn first_nn (≤ℚ_trans _ _ _ first_nn h) k,
-        low (label flow net.sink t) t latest steepest settles.0 latest_nn steepest_nn (label_nn flow is net.sink t good.sink (≤ℚ_trans _ _ _ first_nn h) l) (≤ℚ_trans _ _ _ first_nn h) k,
+        low (label flow net.sink t) t latest steepest settles.0 latest_nn steepest_nn (label_nn flow is net.sink t good.sink (≤ℚ_trans _ _ _ first_nn h) l)
+            (≤ℚ_trans _ _ _ first_nn h) k,
       )
         where
           high : (x t b g s f : ℚ) → x ≤ℚ b +ℚ g *ℚ (t -ℚ f) → 0ℚ ≤ℚ g → 0ℚ ≤ℚ f → 0ℚ ≤ℚ t → t ≤ℚ s → x -ℚ t ≤ℚ (b +ℚ g *ℚ s) +ℚ s
@@ -320,9 +355,14 @@ module _ (net : Network) (good : IsNetwork net) (flows levels : ℕ → ℚ) (gr
         where
           after : settles.0 ≤ℚ t → (label flow net.sink t -ℚ t ≤ℚ long) × (t -ℚ label flow net.sink t ≤ℚ long)
           after k =
-              let b : (label flow net.sink settles.0 -ℚ settles.0 ≤ℚ long) × (settles.0 -ℚ label flow net.sink settles.0 ≤ℚ long) = before settles.0 start_le (≤ℚ_trans _ _ _ k l) (≤ℚ_refl _) in
-              let e : label flow net.sink t ≡ label flow net.sink settles.0 +ℚ (t -ℚ settles.0) = (settles.1.steady flow is).labels net.sink t good.sink (k, l) in
-              (high (label flow net.sink t) (label flow net.sink settles.0) t settles.0 long e b.0, low (label flow net.sink t) (label flow net.sink settles.0) t settles.0 long e b.1)
+              let b : (label flow net.sink settles.0 -ℚ settles.0 ≤ℚ long) × (settles.0 -ℚ label flow net.sink settles.0 ≤ℚ long) = before settles.0
+              start_le (≤ℚ_trans _ _ _ k l) (≤ℚ_refl _) in
+              let e : label flow net.sink t ≡ label flow net.sink settles.0 +ℚ (t -ℚ settles.0) = (settles.1.steady flow is).labels net.sink t good.sink
+              (k, l) in (
+                high (label flow net.sink t) (label flow net.sink settles.0) t settles.0 long e b.0,
+                low (label flow net.sink t)
+                    (label flow net.sink settles.0) t settles.0 long e b.1,
+              )
             where
               start_le : start ≤ℚ settles.0
               start_le = last_start-least net.pieces settles.0 settles.1.not_negative settles.1.supply
@@ -337,8 +377,10 @@ module _ (net : Network) (good : IsNetwork net) (flows levels : ℕ → ℚ) (gr
     grows-none = (
       long,
       record {
-        below = λ flow t is w started. high (label flow net.sink t) (levels net.sink) t long growth_one (bounded flow is t (last_start-least net.pieces t w.0 started) w.1).0;
-        above = λ flow t is w started. low (label flow net.sink t) (levels net.sink) t long growth_one (bounded flow is t (last_start-least net.pieces t w.0 started) w.1).1;
+        below = λ flow t is w started. high (label flow net.sink t) (levels net.sink) t long growth_one
+            (bounded flow is t (last_start-least net.pieces t w.0 started) w.1).0;
+        above = λ flow t is w started. low (label flow net.sink t) (levels net.sink) t long growth_one
+            (bounded flow is t (last_start-least net.pieces t w.0 started) w.1).1;
       },
     )
       where

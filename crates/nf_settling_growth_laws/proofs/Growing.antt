@@ -123,25 +123,31 @@ module _ (net : Network) (good : IsNetwork net) (rate : ℚ) (flows : ℕ → �
 
         from_cut : cut link.tail ≡ true → flow e ≤ℚ sink_slope *ℚ outward cut link
         from_cut tail = ⊎_elim
-            (λ (k : (c : ℚ) × (link.capacity ≡ Some c)). let_by (flow e) k.0 (slope link.head) sink_slope (outward cut link) (≤ℚ_of_lt _ _ (good.capacities e link k.0 p k.1))
+            (λ (k : (c : ℚ) × (link.capacity ≡ Some c)). let_by (flow e) k.0 (slope link.head) sink_slope (outward cut link)
+            (≤ℚ_of_lt _ _ (good.capacities e link k.0 p k.1))
             (at_most e link k.0 p k.1) head.1 (outward_capacity-is (cut link.tail) (cut link.head) link.capacity k.0 tail head.0 k.1))
             (λ (k : link.capacity ≡ None). absurd (is.unbounded e link p k (record { tail = tail; head = head.0 })))
             (capacity_or_none link.capacity)
 
         from_greater : cut link.tail ≡ false → flow e ≤ℚ sink_slope *ℚ outward cut link
         from_greater tail = ≤ℚ_trans _ _ _
-            (no_flow_down e link p (below_both (slope link.head) sink_slope (slope link.tail) head.1 (less_of_test sink_slope (slope link.tail) (sym (wide_outside link.tail tail) ∙ inside))))
+            (no_flow_down e link p (below_both (slope link.head) sink_slope (slope link.tail) head.1
+            (less_of_test sink_slope (slope link.tail) (sym (wide_outside link.tail tail) ∙ inside))))
             (outward-not_negative cut e link p)
 
     each_below : (e : ℕ) (link : Link) → IsLink net e link → flow e *ℚ fall (one_in wide) link ≤ℚ sink_slope *ℚ outward cut link
     each_below e link p = ⊎_elim
         (λ (a : wide link.tail ≡ true). ⊎_elim
-        (λ (b : wide link.head ≡ true). fall_none (flow e) (one_in wide link.tail) (one_in wide link.head) sink_slope (outward cut link) (ap one_if (a ∙ sym b)) n)
-        (λ (b : wide link.head ≡ false). fall_out (flow e) (one_in wide link.tail) (one_in wide link.head) sink_slope (outward cut link) (ap one_if a) (ap one_if b) (out_of_wide e link p a b))
+        (λ (b : wide link.head ≡ true). fall_none (flow e) (one_in wide link.tail) (one_in wide link.head) sink_slope (outward cut link)
+        (ap one_if (a ∙ sym b)) n)
+        (λ (b : wide link.head ≡ false). fall_out (flow e) (one_in wide link.tail) (one_in wide link.head) sink_slope (outward cut link) (ap one_if a)
+        (ap one_if b) (out_of_wide e link p a b))
         (true_or_false (wide link.head)))
         (λ (a : wide link.tail ≡ false). ⊎_elim
-        (λ (b : wide link.head ≡ true). fall_in (flow e) (one_in wide link.tail) (one_in wide link.head) sink_slope (outward cut link) (ap one_if a) (ap one_if b) ((graded.fits e link p).no_negative) n)
-        (λ (b : wide link.head ≡ false). fall_none (flow e) (one_in wide link.tail) (one_in wide link.head) sink_slope (outward cut link) (ap one_if (a ∙ sym b)) n)
+        (λ (b : wide link.head ≡ true). fall_in (flow e) (one_in wide link.tail) (one_in wide link.head) sink_slope (outward cut link) (ap one_if a)
+        (ap one_if b) ((graded.fits e link p).no_negative) n)
+        (λ (b : wide link.head ≡ false). fall_none (flow e) (one_in wide link.tail) (one_in wide link.head) sink_slope (outward cut link)
+        (ap one_if (a ∙ sym b)) n)
         (true_or_false (wide link.head)))
         (true_or_false (wide link.tail))
       where
@@ -166,16 +172,19 @@ module _ (net : Network) (good : IsNetwork net) (rate : ℚ) (flows : ℕ → �
 
     -- A link that leaves the slower nodes leads to a greater slope.
     out_up : (link : Link) → LeadsOut slower link → slope link.tail <ℚ slope link.head
-    out_up link out = <_≤_trans (slope link.tail) sink_slope (slope link.head) (less_of_test (slope link.tail) sink_slope out.tail) (not_less (slope link.head) sink_slope out.head)
+    out_up link out = <_≤_trans (slope link.tail) sink_slope (slope link.head) (less_of_test (slope link.tail) sink_slope out.tail)
+        (not_less (slope link.head) sink_slope out.head)
 
     filled_up : (e : ℕ) (link : Link) → IsLink net e link → LeadsOut slower link → (c : ℚ) → link.capacity ≡ Some c → c *ℚ slope link.head ≤ℚ flow e
     filled_up e link p out c some =
-        let w : (d : ℚ) × (link.capacity ≡ Some d) × (d *ℚ slope link.head ≤ℚ flow e) = capacity_up net good rate flows (number_at slopes) graded e link p (out_up link out) in
+        let w : (d : ℚ) × (link.capacity ≡ Some d) × (d *ℚ slope link.head ≤ℚ flow e) = capacity_up net good rate flows (number_at slopes) graded e link p
+        (out_up link out) in
         subst (λ (k : ℚ). k *ℚ slope link.head ≤ℚ flow e) (same_Some w.0 c (sym w.1 ∙ some)) w.2
 
     out_bounded : (e : ℕ) (link : Link) → IsLink net e link → link.capacity ≡ None → LeadsOut slower link → ⊥
     out_bounded e link p none out =
-        let w : (d : ℚ) × (link.capacity ≡ Some d) × (d *ℚ slope link.head ≤ℚ flow e) = capacity_up net good rate flows (number_at slopes) graded e link p (out_up link out) in
+        let w : (d : ℚ) × (link.capacity ≡ Some d) × (d *ℚ slope link.head ≤ℚ flow e) = capacity_up net good rate flows (number_at slopes) graded e link p
+        (out_up link out) in
         none-some w.0 (sym none ∙ w.1)
 
     is_cut : IsStaticCut net slower
@@ -184,7 +193,8 @@ module _ (net : Network) (good : IsNetwork net) (rate : ℚ) (flows : ℕ → �
     -- A link that leaves the slower nodes carries at least its capacity times the slope of the sink.
     out_filled : (e : ℕ) (link : Link) → IsLink net e link → LeadsOut slower link → sink_slope *ℚ outward slower link ≤ℚ flow e
     out_filled e link p out = ⊎_elim
-        (λ (k : (c : ℚ) × (link.capacity ≡ Some c)). filled_by (flow e) k.0 (slope link.head) sink_slope (outward slower link) (≤ℚ_of_lt _ _ (good.capacities e link k.0 p k.1))
+        (λ (k : (c : ℚ) × (link.capacity ≡ Some c)). filled_by (flow e) k.0 (slope link.head) sink_slope (outward slower link)
+        (≤ℚ_of_lt _ _ (good.capacities e link k.0 p k.1))
         (filled_up e link p out k.0 k.1)
         (not_less (slope link.head) sink_slope out.head)
         (outward_capacity-is (slower link.tail) (slower link.head) link.capacity k.0 out.tail out.head k.1))
@@ -194,16 +204,21 @@ module _ (net : Network) (good : IsNetwork net) (rate : ℚ) (flows : ℕ → �
     each_above : (e : ℕ) (link : Link) → IsLink net e link → sink_slope *ℚ outward slower link ≤ℚ flow e *ℚ fall (one_in slower) link
     each_above e link p = ⊎_elim
         (λ (a : slower link.tail ≡ true). ⊎_elim
-        (λ (b : slower link.head ≡ true). rise_none (flow e) (one_in slower link.tail) (one_in slower link.head) sink_slope (outward slower link) (ap one_if (a ∙ sym b))
+        (λ (b : slower link.head ≡ true). rise_none (flow e) (one_in slower link.tail) (one_in slower link.head) sink_slope (outward slower link)
+        (ap one_if (a ∙ sym b))
         (outward_capacity-inside (slower link.tail) (slower link.head) link.capacity b))
-        (λ (b : slower link.head ≡ false). rise_out (flow e) (one_in slower link.tail) (one_in slower link.head) sink_slope (outward slower link) (ap one_if a) (ap one_if b)
+        (λ (b : slower link.head ≡ false). rise_out (flow e) (one_in slower link.tail) (one_in slower link.head) sink_slope (outward slower link)
+        (ap one_if a) (ap one_if b)
         (out_filled e link p (record { tail = a; head = b })))
         (true_or_false (slower link.head)))
         (λ (a : slower link.tail ≡ false). ⊎_elim
-        (λ (b : slower link.head ≡ true). rise_in (flow e) (one_in slower link.tail) (one_in slower link.head) sink_slope (outward slower link) (ap one_if a) (ap one_if b)
-        (no_flow_down e link p (<_≤_trans (slope link.head) sink_slope (slope link.tail) (less_of_test (slope link.head) sink_slope b) (not_less (slope link.tail) sink_slope a)))
+        (λ (b : slower link.head ≡ true). rise_in (flow e) (one_in slower link.tail) (one_in slower link.head) sink_slope (outward slower link)
+        (ap one_if a) (ap one_if b)
+        (no_flow_down e link p (<_≤_trans (slope link.head) sink_slope (slope link.tail) (less_of_test (slope link.head) sink_slope b)
+        (not_less (slope link.tail) sink_slope a)))
         (outward_capacity-outside (slower link.tail) (slower link.head) link.capacity a))
-        (λ (b : slower link.head ≡ false). rise_none (flow e) (one_in slower link.tail) (one_in slower link.head) sink_slope (outward slower link) (ap one_if (a ∙ sym b))
+        (λ (b : slower link.head ≡ false). rise_none (flow e) (one_in slower link.tail) (one_in slower link.head) sink_slope (outward slower link)
+        (ap one_if (a ∙ sym b))
         (outward_capacity-outside (slower link.tail) (slower link.head) link.capacity a))
         (true_or_false (slower link.head)))
         (true_or_false (slower link.tail))
@@ -263,5 +278,6 @@ pub IsGrowth-level : (net : Network) (flows levels : ℕ → ℚ) → IsNetwork 
 IsGrowth-level net flows levels good graded = record {
   least = level-least net good (last_rate net) flows levels graded;
   free = λ none. level-one net good (last_rate net) flows levels graded
-      (λ h. let w : (cut : Cut) × IsStaticCut net cut × (last_rate net ≡ levels net.sink *ℚ cut_capacity net cut) = level-cut net good (last_rate net) flows levels graded h in none w.0 w.1);
+      (λ h. let w : (cut : Cut) × IsStaticCut net cut × (last_rate net ≡ levels net.sink *ℚ cut_capacity net cut) = level-cut net good
+      (last_rate net) flows levels graded h in none w.0 w.1);
 }

@@ -53,7 +53,8 @@ module _ (net : Network) (growth : ℚ) (good : IsNetwork net) (is : IsGrowth ne
 
     one_then : CutsAreWide net → growth ≡ 1ℚ
     one_then wide = is.least least of ∙ max_is_left 1ℚ (last_rate net /ℚ least)
-        (le_from_times least (last_rate net /ℚ least) 1ℚ positive (below (last_rate net) (last_rate net /ℚ least) least (quotient-times (last_rate net) least positive)
+        (le_from_times least (last_rate net /ℚ least) 1ℚ positive
+        (below (last_rate net) (last_rate net /ℚ least) least (quotient-times (last_rate net) least positive)
         (subst (λ (z : ℚ). last_rate net ≤ℚ z) of.attained.2 (wide of.attained.0 of.attained.1))))
       where
         below : (u q c : ℚ) → q *ℚ c ≡ u → u ≤ℚ c → c *ℚ q ≤ℚ c *ℚ 1ℚ

@@ -48,7 +48,8 @@ raised-empty n x c p q e f = by (lt_ℚ p q) refl
     by false g = raised-by false false false n x c p q (not_less 0ℚ n (≤ℚ_of_same _ _ e)) g (not_less 0ℚ x (≤ℚ_of_same _ _ f))
 
 raised-level : (n x c p q : ℚ) → n ≡ 0ℚ → q ≤ℚ p → raised n x c p q ≡ 0ℚ
-raised-level n x c p q e h = ap (λ (k : Bool). if k then n *ℚ q else (if lt_ℚ p q then (if lt_ℚ 0ℚ x then c *ℚ q else 0ℚ) else 0ℚ)) (not_less 0ℚ n (≤ℚ_of_same _ _ e))
+raised-level n x c p q e h = ap (λ (k : Bool). if k then n *ℚ q else (if lt_ℚ p q then (if lt_ℚ 0ℚ x then c *ℚ q else 0ℚ) else 0ℚ)) (not_less 0ℚ n
+    (≤ℚ_of_same _ _ e))
     ∙ ap (λ (k : Bool). if k then (if lt_ℚ 0ℚ x then c *ℚ q else 0ℚ) else 0ℚ) (not_less p q h)
 
 module _ (n c p q x s t y z : ℚ) (n_nn : 0ℚ ≤ℚ n) (n_le : n ≤ℚ c) (p_ps : 0ℚ <ℚ p) (q_ps : 0ℚ <ℚ q) (x_nn : 0ℚ ≤ℚ x) (y_nn : 0ℚ ≤ℚ y) (z_nn : 0ℚ ≤ℚ z)
@@ -70,7 +71,11 @@ module _ (n c p q x s t y z : ℚ) (n_nn : 0ℚ ≤ℚ n) (n_le : n ≤ℚ c) (p
 
   full : x ≡ n *ℚ t → Done (n *ℚ q)
   full e = record {
-    bears = record { not_negative = nn_times n q n_nn (≤ℚ_of_lt _ _ q_ps); up = inr (flow_ge (≤ℚ_of_same _ _ (sym e))); down = inr (flow_le (≤ℚ_of_same _ _ e)) };
+    bears = record {
+      not_negative = nn_times n q n_nn (≤ℚ_of_lt _ _ q_ps);
+      up = inr (flow_ge (≤ℚ_of_same _ _ (sym e)));
+      down = inr (flow_le (≤ℚ_of_same _ _ e));
+    };
     pays = paid m m_nn m_gap;
   }
     where
@@ -92,7 +97,8 @@ module _ (n c p q x s t y z : ℚ) (n_nn : 0ℚ ≤ℚ n) (n_le : n ≤ℚ c) (p
   }
     where
       lower : q *ℚ z ≤ℚ q *ℚ y
-      lower = let l : p ≤ℚ q = ≤ℚ_of_lt _ _ up in linear_le (p ∷ q ∷ y ∷ z ∷ s ∷ t ∷ []) (eq tail ∷ eq head ∷ eq same ∷ le_times y_nn l ∷ []) (search reading_of depth 12) tt
+      lower = let l : p ≤ℚ q = ≤ℚ_of_lt _ _ up in linear_le (p ∷ q ∷ y ∷ z ∷ s ∷ t ∷ []) (eq tail ∷ eq head ∷ eq same ∷ le_times y_nn l ∷ [])
+          (search reading_of depth 12) tt
 
       flow_le : x ≤ℚ c *ℚ t → x ≤ℚ (c *ℚ q) *ℚ z
       flow_le h = linear_le (c ∷ q ∷ z ∷ x ∷ t ∷ []) (le h ∷ eq_times c head ∷ []) (search reading_of depth 12) tt
@@ -100,7 +106,8 @@ module _ (n c p q x s t y z : ℚ) (n_nn : 0ℚ ≤ℚ n) (n_le : n ≤ℚ c) (p
       paid : (g : ℚ) → q -ℚ p ≤ℚ g → n *ℚ (t -ℚ s) ≤ℚ (c *ℚ q) *ℚ (z -ℚ y) +ℚ 1ℚ *ℚ ((c *ℚ g) *ℚ y)
       paid g k =
           let w : c *ℚ (q -ℚ p) ≤ℚ c *ℚ g = linear_le (c ∷ q ∷ p ∷ g ∷ []) (le_times c_nn k ∷ []) (search reading_of depth 12) tt in
-          linear_le (n ∷ q ∷ p ∷ c ∷ g ∷ s ∷ t ∷ y ∷ z ∷ []) (le_times y_nn w ∷ eq_times (t -ℚ s) e ∷ eq_times c tail ∷ eq_times c head ∷ eq_times c same ∷ []) (search reading_of depth 14) tt
+          linear_le (n ∷ q ∷ p ∷ c ∷ g ∷ s ∷ t ∷ y ∷ z ∷ [])
+          (le_times y_nn w ∷ eq_times (t -ℚ s) e ∷ eq_times c tail ∷ eq_times c head ∷ eq_times c same ∷ []) (search reading_of depth 14) tt
 
   nothing_paid : n ≡ 0ℚ → n *ℚ (t -ℚ s) ≤ℚ 0ℚ *ℚ (z -ℚ y) +ℚ 1ℚ *ℚ ((c *ℚ m) *ℚ y)
   nothing_paid e = paid m (nn_times c m c_nn m_nn)

@@ -42,10 +42,12 @@ abbrev pub taken : Network → (ℕ → ℚ) → (ℕ → ℚ) → ℚ
 taken net levels w = link_sum net.links (λ e link. steep levels link *ℚ over levels w link.tail)
 
 abbrev pub store : Network → ℚ → (ℕ → ℚ) → (ℕ → ℚ) → ℚ
-store net rate levels labels = (link_sum net.links (λ e link. waits labels link) -ℚ taken net levels labels) -ℚ rate *ℚ (over levels labels net.sink -ℚ over levels labels net.source)
+store net rate levels labels = (link_sum net.links (λ e link. waits labels link) -ℚ taken net levels labels) -ℚ rate *ℚ (over levels labels
+    net.sink -ℚ over levels labels net.source)
 
 abbrev pub drift : Network → Sets → ℚ → (ℕ → ℚ) → List ℚ → ℚ
-drift net sets rate levels slopes = (link_sum net.links (λ e link. filled sets slopes e link *ℚ rise (number_at slopes) link) -ℚ taken net levels (number_at slopes))
+drift net sets rate levels slopes = (link_sum net.links (λ e link. filled sets slopes e link *ℚ rise (number_at slopes) link) -ℚ taken net levels
+    (number_at slopes))
     -ℚ rate *ℚ (over levels (number_at slopes) net.sink -ℚ over levels (number_at slopes) net.source)
 
 -- ---- a link of a thin flow carries at most the capacity times the slope of its head
@@ -103,14 +105,16 @@ module _ (net : Network) (good : IsNetwork net) (rate : ℚ) (flows levels : ℕ
       joined : (l a b c p q r : ℚ) → a ≡ l *ℚ p → b ≡ l *ℚ q → c ≡ l *ℚ r → b ≡ a +ℚ c *ℚ k → l *ℚ q ≡ l *ℚ (p +ℚ k *ℚ r)
       joined l a b c p q r e f g i = linear_eq (l ∷ a ∷ b ∷ c ∷ p ∷ q ∷ r ∷ k ∷ []) (eq e ∷ eq f ∷ eq_times k g ∷ eq i ∷ []) (search reading_of depth 14) tt tt
 
-  pub capacity_up : (e : ℕ) (link : Link) → IsLink net e link → levels link.tail <ℚ levels link.head → (c : ℚ) × (link.capacity ≡ Some c) × (c *ℚ levels link.head ≤ℚ flows e)
+  pub capacity_up : (e : ℕ) (link : Link) → IsLink net e link → levels link.tail <ℚ levels link.head
+      → (c : ℚ) × (link.capacity ≡ Some c) × (c *ℚ levels link.head ≤ℚ flows e)
   capacity_up e link p up = ⊎_elim
       (λ (k : levels link.head ≤ℚ levels link.tail). absurd (not_both_ℚ _ _ up k))
       (λ (w : (c : ℚ) × (link.capacity ≡ Some c) × (c *ℚ levels link.head ≤ℚ flows e)). w)
       (graded.fits e link p).upper
 
   -- ---- along a thin flow
-  module _ (nn : 0ℚ ≤ℚ rate) (sets : Sets) (are : AreSets net sets) (acyclic : HoldNoCycle net sets) (thin_flows slopes : List ℚ) (thin : IsThinFlow net sets rate thin_flows slopes) where
+  module _ (nn : 0ℚ ≤ℚ rate) (sets : Sets) (are : AreSets net sets) (acyclic : HoldNoCycle net sets) (thin_flows slopes : List ℚ)
+      (thin : IsThinFlow net sets rate thin_flows slopes) where
     abbrev slope : ℕ → ℚ
     slope = number_at slopes
 
@@ -154,12 +158,16 @@ module _ (net : Network) (good : IsNetwork net) (rate : ℚ) (flows levels : ℕ
     abbrev amount : ℕ → Link → ℚ
     amount e link = raised (filled sets slopes e link) (x e) (capacity_or_0 link.capacity) (levels link.tail) (levels link.head)
 
-    each : (e : ℕ) (link : Link) → IsLink net e link → Raises (filled sets slopes e link) (capacity_or_0 link.capacity) (levels link.tail) (levels link.head) (x e) (slope link.tail) (slope link.head)
+    each : (e : ℕ) (link : Link) → IsLink net e link → Raises (filled sets slopes e link) (capacity_or_0 link.capacity) (levels link.tail)
+        (levels link.head) (x e) (slope link.tail) (slope link.head)
         (pace link.tail) (pace link.head) (amount e link)
-    each e link p = raises (filled sets slopes e link) (capacity_or_0 link.capacity) (levels link.tail) (levels link.head) (x e) (slope link.tail) (slope link.head) (pace link.tail) (pace link.head)
-        (filled_nn (flag sets.resetting e) (flag sets.active e) _ link.capacity c_nn) (filled_le (flag sets.resetting e) (flag sets.active e) _ link.capacity c_nn)
+    each e link p = raises (filled sets slopes e link) (capacity_or_0 link.capacity) (levels link.tail) (levels link.head) (x e) (slope link.tail)
+        (slope link.head) (pace link.tail) (pace link.head)
+        (filled_nn (flag sets.resetting e) (flag sets.active e) _ link.capacity c_nn)
+        (filled_le (flag sets.resetting e) (flag sets.active e) _ link.capacity c_nn)
         (level_ps link.tail (good.tails e link p)) (level_ps link.head (good.heads e link p)) (thin.no_negative_flow e) (pace_nn link.tail) (pace_nn link.head)
-        (slope-is link.tail (good.tails e link p)) (slope-is link.head (good.heads e link p)) at_most (kind_at net good sets rate are acyclic thin_flows slopes thin e link p)
+        (slope-is link.tail (good.tails e link p))
+        (slope-is link.head (good.heads e link p)) at_most (kind_at net good sets rate are acyclic thin_flows slopes thin e link p)
       where
         c_nn : 0ℚ ≤ℚ capacity_or_0 link.capacity
         c_nn = capacity_nn link.capacity (IsPositive-link net e link good p)
@@ -186,8 +194,10 @@ module _ (net : Network) (good : IsNetwork net) (rate : ℚ) (flows levels : ℕ
 
     filling-le : filling ≤ℚ heap +ℚ 1ℚ *ℚ taken net levels slope
     filling-le = ≤ℚ_trans _ _ _
-        (link_sum-le net.links (λ e link. filled sets slopes e link *ℚ rise slope link) (λ e link. amount e link *ℚ rise pace link +ℚ 1ℚ *ℚ (steep levels link *ℚ over levels slope link.tail))
-        (λ e link p. subst (λ (z : ℚ). filled sets slopes e link *ℚ rise slope link ≤ℚ amount e link *ℚ rise pace link +ℚ 1ℚ *ℚ (steep levels link *ℚ z)) (pace-is link.tail (good.tails e link p))
+        (link_sum-le net.links (λ e link. filled sets slopes e link *ℚ rise slope link)
+        (λ e link. amount e link *ℚ rise pace link +ℚ 1ℚ *ℚ (steep levels link *ℚ over levels slope link.tail))
+        (λ e link p. subst (λ (z : ℚ). filled sets slopes e link *ℚ rise slope link ≤ℚ amount e link *ℚ rise pace link +ℚ 1ℚ *ℚ (steep levels link *ℚ z))
+        (pace-is link.tail (good.tails e link p))
         (each e link p).pays))
         (≤ℚ_of_same _ _ (link_sum-line 1ℚ net.links (λ e link. amount e link *ℚ rise pace link) (λ e link. steep levels link *ℚ over levels slope link.tail)
         (λ e link. amount e link *ℚ rise pace link +ℚ 1ℚ *ℚ (steep levels link *ℚ over levels slope link.tail)) (λ e link p. refl)))

@@ -56,26 +56,37 @@ module _ (net : Network) (good : IsNetwork net) (flows levels : ℕ → ℚ) (gr
       abbrev kept : ℚ → ℚ
       kept t = stored net good flows levels graded more flow is t
 
-      step : (c t : ℚ) → 0ℚ ≤ℚ c → IsLastSupply net c → c ≤ℚ t → t ≤ℚ flow.reached → (off flow t -ℚ off flow c ≤ℚ quick *ℚ (kept c -ℚ kept t)) × (off flow c -ℚ off flow t ≤ℚ quick *ℚ (kept c -ℚ kept t))
-      step c t n started h l = near-is (levels net.sink) quick c (label flow net.sink c) (kept c) t (label flow net.sink t) (kept t) (follows net good flows levels graded more flow is c n started t h l)
+      step : (c t : ℚ) → 0ℚ ≤ℚ c → IsLastSupply net c → c ≤ℚ t → t ≤ℚ flow.reached
+          → (off flow t -ℚ off flow c ≤ℚ quick *ℚ (kept c -ℚ kept t)) × (off flow c -ℚ off flow t ≤ℚ quick *ℚ (kept c -ℚ kept t))
+      step c t n started h l = near-is (levels net.sink) quick c (label flow net.sink c) (kept c) t (label flow net.sink t) (kept t)
+          (follows net good flows levels graded more flow is c n started t h l)
 
-      sways : (later : List ℚ) (c : ℚ) → 0ℚ ≤ℚ c → c ≤ℚ flow.reached → IsLastSupply net c → AreInOrder flow c later → sway (off flow) c later ≤ℚ quick *ℚ (kept c +ℚ held)
-      sways [] c n l started o = room_nn quick (kept c) held (pace_nn net good flows levels graded more) (stored_low net good flows levels graded more flow is c n l)
+      sways : (later : List ℚ) (c : ℚ) → 0ℚ ≤ℚ c → c ≤ℚ flow.reached → IsLastSupply net c → AreInOrder flow c later
+          → sway (off flow) c later ≤ℚ quick *ℚ (kept c +ℚ held)
+      sways [] c n l started o = room_nn quick (kept c) held (pace_nn net good flows levels graded more)
+          (stored_low net good flows levels graded more flow is c n l)
       sways (t ∷ later) c n l started o =
-          let w : (off flow t -ℚ off flow c ≤ℚ quick *ℚ (kept c -ℚ kept t)) × (off flow c -ℚ off flow t ≤ℚ quick *ℚ (kept c -ℚ kept t)) = step c t n started o.0 o.1 in
+          let w : (off flow t -ℚ off flow c ≤ℚ quick *ℚ (kept c -ℚ kept t)) × (off flow c -ℚ off flow t ≤ℚ quick *ℚ (kept c -ℚ kept t)) = step c t n started
+          o.0 o.1 in
           one_more _ _ quick (kept c) (kept t) held (max_keeps (λ z. z ≤ℚ quick *ℚ (kept c -ℚ kept t)) _ _ w.0 w.1)
           (sways later t (≤ℚ_trans _ _ _ n o.0) o.1 (later_supply net c t o.0 started) o.2)
 
-      sways_all : (later : List ℚ) (c : ℚ) → 0ℚ ≤ℚ c → c ≤ℚ flow.reached → IsLastSupply net c → AreInOrder flow c later → sway (off flow) c later ≤ℚ quick *ℚ (most net good flows levels graded more +ℚ held)
+      sways_all : (later : List ℚ) (c : ℚ) → 0ℚ ≤ℚ c → c ≤ℚ flow.reached → IsLastSupply net c → AreInOrder flow c later
+          → sway (off flow) c later ≤ℚ quick *ℚ (most net good flows levels graded more +ℚ held)
       sways_all later c n l started o =
           let h : last_start net.pieces ≤ℚ c = last_start-least net.pieces c n started in
-          let w : (off flow c -ℚ off flow (last_start net.pieces) ≤ℚ quick *ℚ (kept (last_start net.pieces) -ℚ kept c)) × (off flow (last_start net.pieces) -ℚ off flow c ≤ℚ quick *ℚ (kept (last_start net.pieces) -ℚ kept c))
+          let w : (off flow c -ℚ off flow (last_start net.pieces) ≤ℚ quick *ℚ (kept (last_start net.pieces) -ℚ kept c)) ×
+          (off flow (last_start net.pieces) -ℚ off flow c ≤ℚ quick *ℚ (kept (last_start net.pieces) -ℚ kept c))
           = step (last_start net.pieces) c (first_nn net good flows levels graded) (first_started net good flows levels graded more flow is) h l in
           at_first _ quick (kept (last_start net.pieces)) (kept c) _ held (off flow c) (off flow (last_start net.pieces)) (sways later c n l started o) w.0 w.1
           (stored_high net good flows levels graded more flow is (≤ℚ_trans _ _ _ h l)) (pace_nn net good flows levels graded more)
 
     steadies-above : (bound : ℚ) × SwaysAtMost net (levels net.sink) bound
-    steadies-above = (quick *ℚ (most net good flows levels graded more +ℚ held), λ flow first later is w started o. sways_all flow is later first w.0 w.1 started o)
+    steadies-above = (
+      quick *ℚ (most net good flows levels graded more +ℚ held),
+      λ flow first later is w started o.
+          sways_all flow is later first w.0 w.1 started o,
+    )
 
   -- ---- the rate 0: labels change at a bounded rate until the equilibrium is steady
   module _ (nothing : last_rate net ≤ℚ 0ℚ) where
@@ -108,27 +119,34 @@ module _ (net : Network) (good : IsNetwork net) (flows levels : ℕ → ℚ) (gr
           same : (x c m : ℚ) → x -ℚ x ≤ℚ m *ℚ (c -ℚ c)
           same x c m = linear_le (x ∷ c ∷ m ∷ []) [] (search reading_of depth 12) tt
 
-          up : (x y z g b s a c d : ℚ) → c <ℚ d → y ≡ x +ℚ s *ℚ (d -ℚ c) → g ≡ 1ℚ → s ≤ℚ b → (x -ℚ g *ℚ c) -ℚ z ≤ℚ (b +ℚ 1ℚ) *ℚ (c -ℚ a) → (y -ℚ g *ℚ d) -ℚ z ≤ℚ (b +ℚ 1ℚ) *ℚ (d -ℚ a)
+          up : (x y z g b s a c d : ℚ) → c <ℚ d → y ≡ x +ℚ s *ℚ (d -ℚ c) → g ≡ 1ℚ → s ≤ℚ b → (x -ℚ g *ℚ c) -ℚ z ≤ℚ (b +ℚ 1ℚ) *ℚ (c -ℚ a)
+              → (y -ℚ g *ℚ d) -ℚ z ≤ℚ (b +ℚ 1ℚ) *ℚ (d -ℚ a)
           up x y z g b s a c d o e f h k =
               let gap : 0ℚ ≤ℚ d -ℚ c = less_nn c d (≤ℚ_of_lt _ _ o) in
-              linear_le (x ∷ y ∷ z ∷ g ∷ b ∷ s ∷ a ∷ c ∷ d ∷ []) (eq e ∷ eq_times c f ∷ eq_times d f ∷ le_times gap h ∷ le k ∷ le gap ∷ []) (search reading_of depth 16) tt
+              linear_le (x ∷ y ∷ z ∷ g ∷ b ∷ s ∷ a ∷ c ∷ d ∷ []) (eq e ∷ eq_times c f ∷ eq_times d f ∷ le_times gap h ∷ le k ∷ le gap ∷ [])
+              (search reading_of depth 16) tt
 
-          down : (x y z g b s a c d : ℚ) → c <ℚ d → y ≡ x +ℚ s *ℚ (d -ℚ c) → g ≡ 1ℚ → 0ℚ ≤ℚ s → 0ℚ ≤ℚ b → z -ℚ (x -ℚ g *ℚ c) ≤ℚ (b +ℚ 1ℚ) *ℚ (c -ℚ a) → z -ℚ (y -ℚ g *ℚ d) ≤ℚ (b +ℚ 1ℚ) *ℚ (d -ℚ a)
+          down : (x y z g b s a c d : ℚ) → c <ℚ d → y ≡ x +ℚ s *ℚ (d -ℚ c) → g ≡ 1ℚ → 0ℚ ≤ℚ s → 0ℚ ≤ℚ b → z -ℚ (x -ℚ g *ℚ c) ≤ℚ (b +ℚ 1ℚ) *ℚ (c -ℚ a)
+              → z -ℚ (y -ℚ g *ℚ d) ≤ℚ (b +ℚ 1ℚ) *ℚ (d -ℚ a)
           down x y z g b s a c d o e f h i k =
               let gap : 0ℚ ≤ℚ d -ℚ c = less_nn c d (≤ℚ_of_lt _ _ o) in
-              linear_le (x ∷ y ∷ z ∷ g ∷ b ∷ s ∷ a ∷ c ∷ d ∷ []) (eq e ∷ eq_times c f ∷ eq_times d f ∷ le_times gap h ∷ le_times gap i ∷ le k ∷ le gap ∷ []) (search reading_of depth 16) tt
+              linear_le (x ∷ y ∷ z ∷ g ∷ b ∷ s ∷ a ∷ c ∷ d ∷ []) (eq e ∷ eq_times c f ∷ eq_times d f ∷ le_times gap h ∷ le_times gap i ∷ le k ∷ le gap ∷ [])
+              (search reading_of depth 16) tt
 
           onward : (a d : ℚ) → IsInterval net flow a d → Slow c a → Slow c d
           onward a d i w = (
-            up (label flow net.sink a) (label flow net.sink d) (off flow c) (levels net.sink) (steepest net good flows levels graded nothing) (number_at i.slopes net.sink) c a d i.order (i.moved net.sink good.sink)
+            up (label flow net.sink a) (label flow net.sink d) (off flow c) (levels net.sink) (steepest net good flows levels graded nothing)
+                (number_at i.slopes net.sink) c a d i.order (i.moved net.sink good.sink)
                 (growth_one net good flows levels graded nothing) (slope_le net good flows levels graded nothing flow is a d i) w.0,
-            down (label flow net.sink a) (label flow net.sink d) (off flow c) (levels net.sink) (steepest net good flows levels graded nothing) (number_at i.slopes net.sink) c a d i.order (i.moved net.sink good.sink)
+            down (label flow net.sink a) (label flow net.sink d) (off flow c) (levels net.sink) (steepest net good flows levels graded nothing)
+                (number_at i.slopes net.sink) c a d i.order (i.moved net.sink good.sink)
                 (growth_one net good flows levels graded nothing) (i.thin.no_negative_slope net.sink) (steepest_nn net good flows levels graded nothing) w.1,
           )
 
       -- From `until` on nothing changes.
       stands : (t : ℚ) → until ≤ℚ t → t ≤ℚ flow.reached → off flow t ≡ off flow until
-      stands t h l = same (label flow net.sink t) (label flow net.sink until) t until (levels net.sink) (((settles net good flows levels graded nothing).1.steady flow is).labels net.sink t good.sink (h, l))
+      stands t h l = same (label flow net.sink t) (label flow net.sink until) t until (levels net.sink)
+          (((settles net good flows levels graded nothing).1.steady flow is).labels net.sink t good.sink (h, l))
           (growth_one net good flows levels graded nothing)
         where
           same : (x y t s g : ℚ) → x ≡ y +ℚ (t -ℚ s) → g ≡ 1ℚ → x -ℚ g *ℚ t ≡ y -ℚ g *ℚ s
@@ -140,15 +158,25 @@ module _ (net : Network) (good : IsNetwork net) (flows levels : ℕ → ℚ) (gr
       step_none : (c t : ℚ) → 0ℚ ≤ℚ c → IsLastSupply net c → c ≤ℚ t → t ≤ℚ flow.reached → Changes c t (left c -ℚ left t)
       step_none c t n started h l = ⊎_elim
           (λ (k : c <ℚ until). ⊎_elim
-          (λ (m : t <ℚ until). let w : Slow c t = slow c n started t h l in (before _ _ _ (early c k) (early t m) w.0, before _ _ _ (early c k) (early t m) w.1))
+          (λ (m : t <ℚ until). let w : Slow c t = slow c n started t h l in (
+            before _ _ _ (early c k) (early t m) w.0,
+            before _ _ _ (early c k)
+                (early t m) w.1,
+          ))
           (λ (m : until ≤ℚ t).
-          let w : Slow c until = slow c n started until (≤ℚ_of_lt _ _ k) (≤ℚ_trans _ _ _ m l) in
-          (across (off flow t) (off flow until) (off flow c) _ _ (stands t m l) (early c k) (late t m) w.0, across_back (off flow t) (off flow until) (off flow c) _ _ (stands t m l) (early c k) (late t m) w.1))
+          let w : Slow c until = slow c n started until (≤ℚ_of_lt _ _ k) (≤ℚ_trans _ _ _ m l) in (
+            across (off flow t) (off flow until) (off flow c) _ _ (stands t m l) (early c k) (late t m) w.0,
+            across_back (off flow t) (off flow until)
+                (off flow c) _ _ (stands t m l) (early c k) (late t m) w.1,
+          ))
           (lt_or_le_ℚ t until))
           (λ (k : until ≤ℚ c).
           let e : off flow c ≡ off flow until = stands c k (≤ℚ_trans _ _ _ h l) in
-          let f : off flow t ≡ off flow until = stands t (≤ℚ_trans _ _ _ k h) l in
-          (after (off flow t) (off flow c) (off flow until) _ _ f e (late c k) (late t (≤ℚ_trans _ _ _ k h)), after (off flow c) (off flow t) (off flow until) _ _ e f (late c k) (late t (≤ℚ_trans _ _ _ k h))))
+          let f : off flow t ≡ off flow until = stands t (≤ℚ_trans _ _ _ k h) l in (
+            after (off flow t) (off flow c) (off flow until) _ _ f e (late c k) (late t (≤ℚ_trans _ _ _ k h)),
+            after (off flow c) (off flow t)
+                (off flow until) _ _ e f (late c k) (late t (≤ℚ_trans _ _ _ k h)),
+          ))
           (lt_or_le_ℚ c until)
         where
           early : (t : ℚ) → t <ℚ until → max_ℚ 0ℚ (until -ℚ t) ≡ until -ℚ t
@@ -188,7 +216,8 @@ module _ (net : Network) (good : IsNetwork net) (flows levels : ℕ → ℚ) (gr
       sways_none [] c n l started o = nn_times most_steep _ steep_nn (max_left 0ℚ (until -ℚ c))
       sways_none (t ∷ later) c n l started o =
           let w : Changes c t (left c -ℚ left t) = step_none c t n started o.0 o.1 in
-          add_up _ _ (left c) (left t) (max_keeps (λ z. z ≤ℚ left c -ℚ left t) _ _ w.0 w.1) (sways_none later t (≤ℚ_trans _ _ _ n o.0) o.1 (later_supply net c t o.0 started) o.2)
+          add_up _ _ (left c) (left t) (max_keeps (λ z. z ≤ℚ left c -ℚ left t) _ _ w.0 w.1)
+          (sways_none later t (≤ℚ_trans _ _ _ n o.0) o.1 (later_supply net c t o.0 started) o.2)
 
       left_le : (c : ℚ) → 0ℚ ≤ℚ c → left c ≤ℚ most_steep *ℚ until
       left_le c n = times most_steep _ until steep_nn (max_keeps (λ z. z ≤ℚ until) 0ℚ (until -ℚ c) until_nn (less until c n))
@@ -200,7 +229,11 @@ module _ (net : Network) (good : IsNetwork net) (flows levels : ℕ → ℚ) (gr
           times m a b h k = linear_le (m ∷ a ∷ b ∷ []) (le_times h k ∷ []) (search reading_of depth 12) tt
 
     steadies-none : (bound : ℚ) × SwaysAtMost net (levels net.sink) bound
-    steadies-none = (most_steep *ℚ until, λ flow first later is w started o. ≤ℚ_trans _ _ _ (sways_none flow is later first w.0 w.1 started o) (left_le flow is first w.0))
+    steadies-none = (
+      most_steep *ℚ until,
+      λ flow first later is w started o. ≤ℚ_trans _ _ _ (sways_none flow is later first w.0 w.1 started o)
+          (left_le flow is first w.0),
+    )
 
   steadies : (bound : ℚ) × SwaysAtMost net (levels net.sink) bound
   steadies = ⊎_elim steadies-above steadies-none (lt_or_le_ℚ 0ℚ (last_rate net))

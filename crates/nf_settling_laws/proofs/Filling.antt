@@ -105,6 +105,9 @@ module _ (net : Network) (good : IsNetwork net) (sets : Sets) (rate : ℚ) (are 
       (flag-cases sets.resetting e))
       (flag-cases sets.active e)
 
-  pub kind_at : (e : ℕ) (link : Link) → IsLink net e link → Kind (filled sets slopes e link) (number_at flows e) (number_at slopes link.tail) (number_at slopes link.head)
-  kind_at e link p = kind_of (flag sets.resetting e) (flag sets.active e) (lt_ℚ (number_at slopes link.tail) (number_at slopes link.head)) link.capacity (number_at flows e) (number_at slopes link.tail)
-      (number_at slopes link.head) (IsPositive-link net e link good p) (thin.no_negative_flow e) (thin.no_negative_slope link.tail) refl (off_at e) (law_at e link p)
+  pub kind_at : (e : ℕ) (link : Link) → IsLink net e link → Kind (filled sets slopes e link) (number_at flows e) (number_at slopes link.tail)
+      (number_at slopes link.head)
+  kind_at e link p = kind_of (flag sets.resetting e) (flag sets.active e) (lt_ℚ (number_at slopes link.tail) (number_at slopes link.head)) link.capacity
+      (number_at flows e) (number_at slopes link.tail)
+      (number_at slopes link.head) (IsPositive-link net e link good p) (thin.no_negative_flow e) (thin.no_negative_slope link.tail) refl (off_at e)
+      (law_at e link p)

@@ -93,7 +93,8 @@ module _ (net : Network) (good : IsNetwork net) (rate : ℚ) (x : ℕ → ℚ) (
       (λ i link p. times_line (x i) (rise r link) (rise s link) (rise w link) k (rises i link p)))
     where
       rises : (i : ℕ) (link : Link) → IsLink net i link → rise w link ≡ rise r link +ℚ k *ℚ rise s link
-      rises i link p = rise_line (r link.tail) (r link.head) (s link.tail) (s link.head) k (w link.tail) (w link.head) (e link.tail (good.tails i link p)) (e link.head (good.heads i link p))
+      rises i link p = rise_line (r link.tail) (r link.head) (s link.tail) (s link.head) k (w link.tail) (w link.head) (e link.tail (good.tails i link p))
+          (e link.head (good.heads i link p))
 
   -- ---- numbers cut at y
   abbrev capped : ℚ → ℕ → ℚ
@@ -122,11 +123,13 @@ module _ (net : Network) (good : IsNetwork net) (rate : ℚ) (x : ℕ → ℚ) (
       flat_by n s t e f = linear_eq (n ∷ s ∷ t ∷ []) (eq_times n e ∷ eq_times n f ∷ []) (search reading_of depth 12) tt tt
 
       flat : (n : ℚ) (link : Link) → n *ℚ rise (capped 0ℚ) link ≡ 0ℚ
-      flat n link = flat_by n (capped 0ℚ link.tail) (capped 0ℚ link.head) (min_is_right _ _ (borne.not_negative link.tail)) (min_is_right _ _ (borne.not_negative link.head))
+      flat n link = flat_by n (capped 0ℚ link.tail) (capped 0ℚ link.head) (min_is_right _ _ (borne.not_negative link.tail))
+          (min_is_right _ _ (borne.not_negative link.head))
 
   gain_last : gain (capped last) ≡ gain at
   gain_last = both_same _ _ _ _
-      (link_sum-same net.links (λ e link. n e link *ℚ rise (capped last) link) (λ e link. n e link *ℚ rise at link) (λ e link _. ap (λ (r : ℚ). n e link *ℚ r) (same link)))
+      (link_sum-same net.links (λ e link. n e link *ℚ rise (capped last) link) (λ e link. n e link *ℚ rise at link)
+      (λ e link _. ap (λ (r : ℚ). n e link *ℚ r) (same link)))
       (link_sum-same net.links (λ e link. x e *ℚ rise (capped last) link) (λ e link. x e *ℚ rise at link) (λ e link _. ap (λ (r : ℚ). x e *ℚ r) (same link)))
     where
       both_same : (a b c d : ℚ) → a ≡ b → c ≡ d → a -ℚ c ≡ b -ℚ d
@@ -150,9 +153,11 @@ module _ (net : Network) (good : IsNetwork net) (rate : ℚ) (x : ℕ → ℚ) (
     capped_step : (v : ℕ) → v < net.nodes → capped b v ≡ capped a v +ℚ (b -ℚ a) *ℚ above a values v
     capped_step v h = ⊎_elim
         (λ (w : (lt_ℚ a (at v) ≡ true) × (a <ℚ at v)).
-        capped_high (capped b v) (capped a v) (above a values v) a b (min_is_right _ _ (jump net rate x n values a b borne none v h w.1)) (min_is_right _ _ (≤ℚ_of_lt _ _ w.1)) (ap (λ (k : Bool). if k then 1ℚ else 0ℚ) w.0))
+        capped_high (capped b v) (capped a v) (above a values v) a b (min_is_right _ _ (jump net rate x n values a b borne none v h w.1))
+        (min_is_right _ _ (≤ℚ_of_lt _ _ w.1)) (ap (λ (k : Bool). if k then 1ℚ else 0ℚ) w.0))
         (λ (w : (lt_ℚ a (at v) ≡ false) × (at v ≤ℚ a)).
-        capped_low (capped b v) (capped a v) (above a values v) a b (min_is_left _ _ (≤ℚ_trans _ _ _ w.1 (≤ℚ_of_lt _ _ o)) ∙ sym (min_is_left _ _ w.1)) (ap (λ (k : Bool). if k then 1ℚ else 0ℚ) w.0))
+        capped_low (capped b v) (capped a v) (above a values v) a b (min_is_left _ _ (≤ℚ_trans _ _ _ w.1 (≤ℚ_of_lt _ _ o)) ∙ sym (min_is_left _ _ w.1))
+        (ap (λ (k : Bool). if k then 1ℚ else 0ℚ) w.0))
         (lt_ℚ_cases a (at v))
 
     gain_step : gain (capped b) ≡ gain (capped a) +ℚ (b -ℚ a) *ℚ gain (above a values)

@@ -129,7 +129,8 @@ module _ (net : Network) (good : IsNetwork net) (from : ℚ) (slopes : List ℚ)
 
   label-at : (v : ℕ) (t : ℚ) → v < net.nodes → from ≤ℚ t → t ≤ℚ flow.reached → label flow v t ≡ label first v from +ℚ (t -ℚ from) *ℚ slope v
   label-at v t h i j = grown _ _ _ _ _ (grows.grow flow v t there.1 h (i, j))
-      (labels-same net good flow first there.1 (grows.reaches from (≤ℚ_refl from)).1 v from h (grows.not_negative, from_reached) (grows.not_negative, (grows.reaches from (≤ℚ_refl from)).2))
+      (labels-same net good flow first there.1 (grows.reaches from (≤ℚ_refl from)).1 v from h (grows.not_negative, from_reached)
+      (grows.not_negative, (grows.reaches from (≤ℚ_refl from)).2))
     where
       grown : (x y z w s : ℚ) → x ≡ y +ℚ w *ℚ s → y ≡ z → x ≡ z +ℚ w *ℚ s
       grown x y z w s e f = linear_eq (x ∷ y ∷ z ∷ w ∷ s ∷ []) (eq e ∷ eq f ∷ []) (search reading_of depth 12) tt tt
@@ -151,7 +152,8 @@ module _ (net : Network) (good : IsNetwork net) (from : ℚ) (slopes : List ℚ)
   slack_is : (e : ℕ) (link : Link) → IsLink net e link → slack (labels_at net flow late) (hop_of link) ≡ first_slack link +ℚ (late -ℚ from) *ℚ rise link
   unfolding first_slack rise
   slack_is e link p = slack-at net good flow there.1 late e link p
-      ∙ moved _ _ _ _ _ _ _ link.transit (label-at link.tail late (good.tails e link p) from_late (≤ℚ_of_lt _ _ within)) (label-at link.head late (good.heads e link p) from_late (≤ℚ_of_lt _ _ within))
+      ∙ moved _ _ _ _ _ _ _ link.transit (label-at link.tail late (good.tails e link p) from_late (≤ℚ_of_lt _ _ within))
+      (label-at link.head late (good.heads e link p) from_late (≤ℚ_of_lt _ _ within))
     where
       moved : (x y a b s k w r : ℚ) → x ≡ a +ℚ w *ℚ s → y ≡ b +ℚ w *ℚ k → y -ℚ (x +ℚ r) ≡ (b -ℚ (a +ℚ r)) +ℚ w *ℚ (k -ℚ s)
       moved x y a b s k w r e f = linear_eq (x ∷ y ∷ a ∷ b ∷ s ∷ k ∷ w ∷ r ∷ []) (eq e ∷ eq f ∷ []) (search reading_of depth 14) tt tt
@@ -179,9 +181,11 @@ module _ (net : Network) (good : IsNetwork net) (from : ℚ) (slopes : List ℚ)
 
   pub GrowsByCuts-linear : GrowsByCuts net (last_rate net) slopes
   unfolding late
-  GrowsByCuts-linear = subst (λ (rate : ℚ). GrowsByCuts net rate slopes) (rate-after net late (IsLastSupply-from net late (max_right (from +ℚ settling.0) (last_start net.pieces))))
+  GrowsByCuts-linear = subst (λ (rate : ℚ). GrowsByCuts net rate slopes)
+      (rate-after net late (IsLastSupply-from net late (max_right (from +ℚ settling.0) (last_start net.pieces))))
       (subst (λ (l : List ℚ). GrowsByCuts net (rate_at net late) l) same_slopes
-      (GrowsByCuts-thin net (sets_at net (labels_at net flow late)) (rate_at net late) moves.flows moves.slopes good (HoldNoCycle-sets_at net (labels_at net flow late) good) moves.thin
+      (GrowsByCuts-thin net (sets_at net (labels_at net flow late)) (rate_at net late) moves.flows moves.slopes good
+      (HoldNoCycle-sets_at net (labels_at net flow late) good) moves.thin
       (subst (KeepsSets net (sets_at net (labels_at net flow late))) (sym same_slopes) keeps)))
 
 pub linear_growth-is_by_cuts : LinearGrowthIsByCuts
