@@ -1,4 +1,4 @@
--- The levels of a graded flow grow by the cuts. So the level of the sink is the growth that the cuts give.
+-- The levels of a graded flow grow by the cuts. So the level of the sink is the growth of the network.
 use Rattle.std.proofs.Common.{◌≡◌, ℕ, ◌<◌, List, ⊎_elim, sym, subst, ◌∙◌}
 use Rattle.nf_rational.specs.Rational.{ℚ}
 use Rattle.nf_rational.specs.Operations.{1ℚ, ◌*ℚ◌, ◌/ℚ◌}

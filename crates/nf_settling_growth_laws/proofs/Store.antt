@@ -1,6 +1,6 @@
--- The store of the labels at a departure, for a graded flow: the queues, less what the rise of the levels takes, less the rate times the rise of
--- the labels, each over its level, from source to sink. Along a thin flow it changes at the rate `drift`, which is never above 0, and below
--- 0 unless the slope of the sink is its level.
+-- The store of the labels at a departure, for a graded flow. It has three parts: the queues, less the sum over links to higher levels (`taken`), less
+-- the rate times the rise from source to sink of the labels, each over its level. Along a thin flow the store changes at the rate `drift`.
+-- That is never above 0, and below 0 unless the slope of the sink is its level.
 use Rattle.std.proofs.Common.{◌≡◌, ℕ, ◌<◌, ◌≤◌, List, [], ◌∷◌, ⊎_elim, Bool, true, false, Option, Some, None, sym, ap, subst, refl, ◌∙◌}
 use Rattle.std.proofs.lemmas.Bool.{cases_lt}
 use Rattle.nf_rational.specs.Rational.{ℚ}
@@ -36,7 +36,8 @@ over levels w v = w v /ℚ levels v
 abbrev pub steep : (ℕ → ℚ) → Link → ℚ
 steep levels link = steepness (capacity_or_0 link.capacity) (levels link.tail) (levels link.head)
 
--- What the rise of the levels takes.
+-- The part of the store in which the levels rise: for each link to a higher level, the capacity times the rise of the level times the number over
+-- the level at the tail.
 abbrev pub taken : Network → (ℕ → ℚ) → (ℕ → ℚ) → ℚ
 taken net levels w = link_sum net.links (λ e link. steep levels link *ℚ over levels w link.tail)
 
