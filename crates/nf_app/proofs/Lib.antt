@@ -22,6 +22,7 @@ pub mod Only
 pub mod Solving
 pub mod Resuming
 pub mod Output
+pub mod AnswerFlows
 pub mod Alike
 pub mod Unstopped
 pub mod Finished

@@ -15,6 +15,7 @@ pub mod Only
 pub mod Solves
 pub mod Completeness
 pub mod Resumption
+pub mod AnswerFlows
 pub mod Uniqueness
 pub mod Stops
 pub mod Output
