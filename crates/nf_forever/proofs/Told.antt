@@ -24,7 +24,7 @@ use Rattle.nf_forever_def.specs.ForeverText.{HasForm}
 use Rattle.nf_thin_laws.proofs.OneRun.{goes_knows, start_knows}
 use Rattle.nf_forever_laws.proofs.Run.{well_forever, Equilibrium-forever, Equilibrium-until}
 use Rattle.nf_forever_laws.specs.TailGrowth.{TailGrows}
-use Rattle.nf_forever_laws.proofs.Tail.{TailGrows-forever}
+use Rattle.nf_settling_laws.proofs.Tail.{TailGrows-forever}
 use Rattle.nf_forever.specs.declared.forever.Tail as code
 use Rattle.nf_forever.specs.declared.forever.Forever as told
 use Rattle.nf_forever.specs.Seen.{tail_in, forever_in}

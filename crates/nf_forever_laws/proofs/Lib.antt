@@ -8,10 +8,8 @@ pub mod OneForever
 pub mod Stopped
 pub mod Cuts
 pub mod Endless
+pub mod Fitting
 pub mod Growth
 pub mod Least
 pub mod LeastCut
-pub mod LastRate
 pub mod Labels
-pub mod Travel
-pub mod Tail

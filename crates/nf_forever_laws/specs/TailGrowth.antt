@@ -1,18 +1,14 @@
 -- The growth of labels and travel times in the last phase of a run without a horizon, which never ends.
-use Rattle.std.specs.Prelude.{◌≡◌, ◌↔◌, ℕ, ◌<◌, None, IfSome}
+use Rattle.std.specs.Prelude.{◌≡◌, ◌↔◌, ℕ, ◌<◌, None}
 use Rattle.std.specs.List.{last_or}
 use Rattle.std.specs.Option.{option_map_or}
 use Rattle.nf_rational.specs.Rational.{ℚ}
 use Rattle.nf_rational.specs.Operations.{0ℚ, 1ℚ, ◌+ℚ◌, ◌-ℚ◌, ◌*ℚ◌, ◌/ℚ◌}
 use Rattle.nf_rational.specs.Order.{◌≤ℚ◌, max_ℚ}
-use Rattle.nf_frac_def.specs.Passing.{Passing}
 use Rattle.nf_model.specs.Entries.{number_at}
-use Rattle.nf_model.specs.Network.{Network, IsNetwork}
-use Rattle.nf_model.specs.Pattern.{Pattern}
+use Rattle.nf_model.specs.Network.{Network}
 use Rattle.nf_model.specs.Equilibrium.{Flow, label}
-use Rattle.nf_thin_def.specs.PhaseRun.{Standing, flow_of}
 use Rattle.nf_forever_def.specs.Tails.{Tail}
-use Rattle.nf_forever_def.specs.ForeverRun.{NeverEnds, IsForeverRun, Forever, IsForever}
 use Rattle.nf_forever_def.specs.Extended.{flow_until}
 use Rattle.nf_forever_laws.specs.Cuts.{Cut, IsStaticCut, cut_capacity, IsLeastCapacity}
 use Rattle.nf_forever_laws.specs.Growth.{GrowsByCuts, GrowsByLeastCut}
@@ -40,10 +36,3 @@ pub record TailGrows (net : Network) (flow : Flow) (tail : Tail) : Type 0 where
   pub travel : (least departure : ℚ) → IsLeastCapacity net least → flow.reached ≤ℚ departure
       → travel_time net flow tail departure
       ≡ travel_time net flow tail flow.reached +ℚ (departure -ℚ flow.reached) *ℚ (max_ℚ 1ℚ (last_rate net /ℚ least) -ℚ 1ℚ)
-
--- `run`: a run without a horizon whose last phase never ends grows in this way. `told`: the same for the result of the run.
-pub record TailGrowsByCuts : Type 0 where
-  pub run : (passes : Passing) (net : Network) (phases patterns : ℕ) (last : Standing) (pattern : Pattern) (tail : Tail) → IsNetwork net
-      → IsForeverRun passes net phases patterns last (NeverEnds pattern tail) → TailGrows net (flow_of last) tail
-  pub told : (passes : Passing) (net : Network) (phases patterns : ℕ) (forever : Forever) → IsNetwork net
-      → IsForever passes net phases patterns forever → IfSome forever.tail (TailGrows net forever.flow)

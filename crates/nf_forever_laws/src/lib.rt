@@ -2,9 +2,10 @@
 //! (`specs/ForeverLaws`).
 //!
 //! In a phase that never ends, the slope of the sink is the supply rate over the least capacity of a static cut, or 1 if that is more
-//! (`specs/Growth`). Labels and travel times of the tail grow accordingly (`specs/TailGrowth`). Sources: Cominetti, Correa and Olver 2017,
-//! Long-term behavior of dynamic equilibria in fluid queuing networks; Olver, Sering and Vargas Koch 2021, Continuity, uniqueness and
-//! long-term behavior of Nash flows over time.
+//! (`specs/Growth`). Sources: Cominetti, Correa and Olver 2017, Long-term behavior of dynamic equilibria in fluid queuing networks; Olver,
+//! Sering and Vargas Koch 2021, Continuity, uniqueness and long-term behavior of Nash flows over time.
+//!
+//! `specs/TailGrowth` says how labels and travel times of a tail grow; `nf_settling_laws` proves it.
 //!
 //! Each theorem is the contract of a public function with an empty body.
 #![tactic(auto)]
@@ -12,7 +13,6 @@
 ghost use Rattle.nf_forever_laws.specs.ForeverLaws.{ForeverRunIsEquilibrium, TailGoesOn, EquilibriumHoldsBefore, ForeverHasOneResult, StoppedForeverHasNoThinFlow, StepsAgree};
 ghost use Rattle.nf_forever_laws.specs.Cuts.{CutsHaveCapacity, LeastCapacityExists, OneLinkIsLeastCut};
 ghost use Rattle.nf_forever_laws.specs.Growth.{EndlessPhaseGrowsByCuts, GrowthIsByLeastCut};
-ghost use Rattle.nf_forever_laws.specs.TailGrowth.{TailGrowsByCuts};
 
 /// Proves that the flow of a run without a horizon is an equilibrium up to the departure that it reached.
 pub fn forever_run_is_equilibrium()
@@ -71,11 +71,4 @@ pub fn growth_is_by_least_cut()
 /// Proves that the least capacity of a network of one link is that of the link. If the link is unbounded, there is no static cut.
 pub fn one_link_is_least_cut()
     ensures { OneLinkIsLeastCut }
-{}
-
-/// Proves that from the departure reached on each label grows at the slope of the tail. Travel times stay constant exactly if the capacity
-/// of each static cut is at least the last supply rate. Otherwise a unit of departure adds to them that rate over the least capacity, minus
-/// 1.
-pub fn tail_grows_by_cuts()
-    ensures { TailGrowsByCuts }
 {}
