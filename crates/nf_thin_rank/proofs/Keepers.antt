@@ -24,12 +24,6 @@ use Rattle.nf_thin_rank.specs.Firming.{HaveFirm, MayKeep, AreKeepers, IsFirmOf, 
 use Rattle.nf_thin_rank.specs.Questions.{AreSetsOf}
 use Rattle.nf_graph.proofs.NetworkHops.{hops_length}
 
--- a vector that was written to as a whole
-pub refilled : {A : Type 0} (n : ℕ) (xs ws : List A) → n ≡ length xs → length ws ≡ length xs → take n (ws ++ drop (length ws) xs) ≡ ws
-refilled {A = A} n xs ws count same =
-    ap (λ (zs : List A). take n (ws ++ zs)) (drop_of_length-le xs (omega arith))
-    ∙ (ap (take n) (append-nil ws) ∙ (ap (λ (k : ℕ). take k ws) (let e : n ≡ length ws = omega arith in e) ∙ take-length ws))
-
 -- no link
 pub none_kept : (net : Network) (sets : Sets) (listed : Pattern) (count : ℕ) (keepers : List (Option ℕ)) → keepers ≡ replicate {A = Option ℕ} count None → count ≡ net.nodes
     → AreKeepers net sets listed 0 keepers
