@@ -24,10 +24,10 @@ use Rattle.nf_app_words.specs.Requests.{Request, Solve, SolveForever, Show, Load
 use Rattle.nf_app_answers.specs.declared.arrival.Arrival.{Arrival}
 use Rattle.nf_app_answers.specs.Answers.{ProgramAnswer, Solved, SolvedForever, Shown, Loaded, Checked, Quickest, TooManyWalks, Generated, Settled, Distributed, MalformedLoads, MalformedFlows, MalformedRoutes, MalformedReport, Passes, Unbounded, NotThin, Earlier}
 use Rattle.nf_app.specs.Arrivals.{arrival_of, ArrivesIn, IsArrival}
-use Rattle.nf_app.specs.Given.{IsGiven}
+use Rattle.nf_app.specs.Results.{IsResultOf}
 use Rattle.nf_app.specs.Runs.{Run}
 use Rattle.nf_app.specs.Uniqueness.{SameForever, SameIfYes, SameArrival, IsSameInAll, AnswerIsSameInAll}
-use Rattle.nf_app.proofs.Results.{same_ok}
+use Rattle.nf_app.proofs.OneValue.{same_ok}
 
 -- ---- a run without a horizon
 each_some : {A : Type 0} (P Q : A → Type 0) (o : Option A) → ((x : A) → P x → Q x) → IfSome o P → IfSome o Q
@@ -73,7 +73,7 @@ module _ (n : Named) (text : List ℕ) (good : IsNetwork n.net) (answer : Progra
   of_this : (request : Request) (other : ProgramAnswer) → answer ≡ other → IsSameInAll text request other → IsSameInAll text request answer
   of_this request other e h = subst (λ (a : ProgramAnswer). IsSameInAll text request a) (sym e) h
 
-  given_same : (request : Request) → IsGiven n text request answer → IsSameInAll text request answer
+  given_same : (request : Request) → IsResultOf n text request answer → IsSameInAll text request answer
   given_same (Solve file horizon phases patterns) g =
       of_this (Solve file horizon phases patterns) (Solved n g.report) g.is (SameInAll-equilibrium n.net g.report.flow good g.equilibrium)
   given_same (SolveForever file phases patterns) g =
@@ -107,4 +107,4 @@ module _ (n : Named) (text : List ℕ) (good : IsNetwork n.net) (answer : Progra
   given_same (Routes file routes horizon) (inr (inr g)) = of_this (Routes file routes horizon) (Passes g.0) g.1 tt
 
 pub answered_same : (run : Run) → AnswerIsSameInAll run
-answered_same run answer c = given_same c.net c.second c.named.network answer c.request c.given
+answered_same run answer c = given_same c.net c.second c.named.network answer c.request c.is_result

@@ -20,10 +20,10 @@ use Rattle.nf_app_files.specs.Shown.{IsShown}
 use Rattle.nf_app_files.proofs.Networks.{all_reached}
 use Rattle.nf_app_words.specs.Requests.{Request, request_of}
 use Rattle.nf_app.specs.Requests.{files_of, generated_by, OtherIsText}
-use Rattle.nf_app.specs.Given.{IsGiven}
-use Rattle.nf_app.specs.Runs.{Call, Reached, Read, IsRefusedCall, IsAnswer}
+use Rattle.nf_app.specs.Results.{IsResultOf}
+use Rattle.nf_app.specs.Runs.{Call, FetchedUpTo, HasNetwork, IsRefusedCall, MayAnswer}
 use Rattle.nf_app.specs.Gathered.{IsGathered}
-use Rattle.nf_app.specs.Outcomes.{IsGiving, IsAnswered, with_net}
+use Rattle.nf_app.specs.Outcomes.{FindsResult, AnswersCall, with_net}
 
 -- ---- a request with its files
 module _ (words : List (List ℕ)) (shelf : Visit) (request : Request) (asks : request_of words ≡ Some request) (file : Wanted) (others : List Wanted)
@@ -31,10 +31,10 @@ module _ (words : List (List ℕ)) (shelf : Visit) (request : Request) (asks : r
   abbrev call : Call
   call = record { words = words; shelf = shelf }
 
-  reached : (last : Wanted) → FetchedTo shelf (file ∷ others) last → Reached call last
+  reached : (last : Wanted) → FetchedTo shelf (file ∷ others) last → FetchedUpTo call last
   reached last h = record { request = request; asks = asks; fetched = subst (λ (l : List Wanted). FetchedTo shelf l last) (sym files_are) h }
 
-  read_of : (read : Result Named Broken) → FetchedAll shelf (file ∷ others) → NetworkReads shelf None (file ∷ others) read → Read call request read
+  read_of : (read : Result Named Broken) → FetchedAll shelf (file ∷ others) → NetworkReads shelf None (file ∷ others) read → HasNetwork call request read
   read_of read h r = record {
     asks = asks;
     fetched = subst (λ (l : List Wanted). FetchedAll shelf l) (sym files_are) h;
@@ -43,7 +43,7 @@ module _ (words : List (List ℕ)) (shelf : Visit) (request : Request) (asks : r
   }
 
   -- there is no network
-  pub refused : (refusal : Refusal) → AreRead shelf file others (Err refusal) → IsAnswer call (answer_of refusal)
+  pub refused : (refusal : Refusal) → AreRead shelf file others (Err refusal) → MayAnswer call (answer_of refusal)
   refused Refusal.NoMemory (inl none) = inl (inl none)
   refused Refusal.NoMemory (inr h) = inl (inr (h.0, reached h.0 h.1))
   refused Refusal.NoRequest h = absurd h
@@ -60,7 +60,7 @@ module _ (words : List (List ℕ)) (shelf : Visit) (request : Request) (asks : r
   refused Refusal.Earlier h = absurd h
 
   -- all files were fetched, and the first reads as a network
-  read_with : (n : Named) (texts : List (List ℕ)) → AreRead shelf file others (Ok (n, texts)) → Read call request (Ok n)
+  read_with : (n : Named) (texts : List (List ℕ)) → AreRead shelf file others (Ok (n, texts)) → HasNetwork call request (Ok n)
   read_with n texts h = read_of (Ok n) h.0 h.1
 
 -- ---- what is gathered for a request
@@ -97,7 +97,7 @@ module _ (words : List (List ℕ)) (shelf : Visit) (request : Request) (asks : r
   fetched_nothing : FetchedAll shelf []
   fetched_nothing = record { asked = untouched ∙ sym (append-nil shelf.asked_before); fit = All-nil (Fits shelf); taken = tt }
 
-  generated_read : Read (record { words = words; shelf = shelf }) request (Ok n)
+  generated_read : HasNetwork (record { words = words; shelf = shelf }) request (Ok n)
   generated_read = record {
     asks = asks;
     fetched = subst (λ (l : List Wanted). FetchedAll shelf l) (sym no_files) fetched_nothing;
@@ -107,18 +107,18 @@ module _ (words : List (List ℕ)) (shelf : Visit) (request : Request) (asks : r
   pub gathered_none : (r : Result (Named × Vec ℕ Global) Refusal) → IfOk r (λ got. got.0 ≡ n) → IfErr r (λ refusal. refusal ≡ Refusal.NoMemory)
       → IsGathered (record { words = words; shelf = shelf }) request (result_map_both (λ got. (got.0, got.1.items)) (λ refusal. refusal) r)
   gathered_none (Ok got) same refused = (
-    subst (λ (m : Named). Read (record { words = words; shelf = shelf }) request (Ok m)) (sym same) generated_read,
+    subst (λ (m : Named). HasNetwork (record { words = words; shelf = shelf }) request (Ok m)) (sym same) generated_read,
     subst (λ (l : List Wanted). IfSome (slice_get l 1) (λ other. IsLastText shelf other got.1.items)) (sym no_files) tt,
   )
-  gathered_none (Err refusal) same refused = subst (λ (r : Refusal). IsAnswer (record { words = words; shelf = shelf }) (answer_of r)) (sym refused) (inl (inl untouched))
+  gathered_none (Err refusal) same refused = subst (λ (r : Refusal). MayAnswer (record { words = words; shelf = shelf }) (answer_of r)) (sym refused) (inl (inl untouched))
 
 -- ---- what a request gives with its network
-module _ (call : Call) (request : Request) (n : Named) (named : IsNamed n) (read : Read call request (Ok n)) (second : List ℕ) (is_second : OtherIsText call.shelf request second) where
-  computed : (answer : ProgramAnswer) → IsGiven n second request answer → IsAnswer call answer
-  computed answer g = inr (record { request = request; net = n; read = read; named = named; second = second; is_second = is_second; given = g })
+module _ (call : Call) (request : Request) (n : Named) (named : IsNamed n) (read : HasNetwork call request (Ok n)) (second : List ℕ) (is_second : OtherIsText call.shelf request second) where
+  computed : (answer : ProgramAnswer) → IsResultOf n second request answer → MayAnswer call answer
+  computed answer g = inr (record { request = request; net = n; has_network = read; named = named; second = second; is_second = is_second; is_result = g })
 
   -- allocation may fail after the last file
-  wants_memory : IsAnswer call NoMemory
+  wants_memory : MayAnswer call NoMemory
   wants_memory = inl (behind (files_of request) read.fetched refl)
     where
       behind : (files : List Wanted) → FetchedAll call.shelf files → files_of request ≡ files → IsRefusedCall call NoMemory
@@ -127,13 +127,13 @@ module _ (call : Call) (request : Request) (n : Named) (named : IsNamed n) (read
           let last = all_reached call.shelf file others h in
           inr (last.0, record { request = request; asks = read.asks; fetched = subst (λ (l : List Wanted). FetchedTo call.shelf l last.0) (sym e) last.1 })
 
-  given_with : (r : Result Computed Refusal) → IsGiving n second request r → IsAnswered call (with_net n r)
+  given_with : (r : Result Computed Refusal) → FindsResult n second request r → AnswersCall call (with_net n r)
   given_with (Ok found) g = (computed _ g.0, g.1)
-  given_with (Err refusal) (inl none) = subst (λ (r : Refusal). IsAnswer call (answer_of r)) (sym none) wants_memory
+  given_with (Err refusal) (inl none) = subst (λ (r : Refusal). MayAnswer call (answer_of r)) (sym none) wants_memory
   given_with (Err refusal) (inr g) = computed (answer_of refusal) g
 
-  pub given : (r : Result Computed Refusal) → IsGiving n second request r → (out : Result Outcome Refusal) → out ≡ with_net n r → IsAnswered call out
-  given r g out e = subst (λ (o : Result Outcome Refusal). IsAnswered call o) (sym e) (given_with r g)
+  pub given : (r : Result Computed Refusal) → FindsResult n second request r → (out : Result Outcome Refusal) → out ≡ with_net n r → AnswersCall call out
+  given r g out e = subst (λ (o : Result Outcome Refusal). AnswersCall call o) (sym e) (given_with r g)
 
 -- ---- a refusal has no text, so a sink that took nothing took it whole
 pub no_text : (refusal : Refusal) → out_text (answer_of refusal) ≡ []

@@ -26,9 +26,9 @@ use Rattle.nf_app_files.specs.Sinks.{TookAll}
 use Rattle.nf_app_files.specs.Shown.{IsShown, IsShownWhole}
 use Rattle.nf_app_words.specs.Requests.{Request, Solve, Check, Resume, request_of}
 use Rattle.nf_app.specs.Requests.{files_of, generated_by, budgets_of, bounds_to}
-use Rattle.nf_app.specs.Answered.{SolveAnswer}
-use Rattle.nf_app.specs.Given.{IsGiven}
-use Rattle.nf_app.specs.Runs.{Call, Run, IsRefusedCall, IsComputed, IsAnswer, Ran, NoFault, IsOneOf}
+use Rattle.nf_app.specs.FullAnswers.{SolveAnswer}
+use Rattle.nf_app.specs.Results.{IsResultOf}
+use Rattle.nf_app.specs.Runs.{Call, Run, IsRefusedCall, IsComputed, MayAnswer, Ran, NoFault, IsOneOf}
 use Rattle.nf_app.specs.Completeness.{ToldRequest}
 use Rattle.nf_app.specs.Resumption.{AsksToResumeRun}
 use Rattle.nf_app.specs.Chained.{WroteReport, ChecksSolved, SaysYes, ResumesSolved, ResumesSolvedText}
@@ -37,7 +37,7 @@ use Rattle.nf_app.proofs.ToldRequests.{Answers, told_answers}
 use Rattle.nf_app.proofs.Solving.{no_stop}
 use Rattle.nf_app.proofs.Resuming.{writes_report_of_one_run}
 use Rattle.nf_app.proofs.Only.{whole}
-use Rattle.nf_app.proofs.Results.{same_ok, ok_err}
+use Rattle.nf_app.proofs.OneValue.{same_ok, ok_err}
 
 is_ok_so : {A E : Type 0} (r : Result A E) (x : A) → r ≡ Ok x → IsOk r
 is_ok_so r x e = ap is_ok e
@@ -109,7 +109,7 @@ module _ (shelf : Visit) (file text : List ℕ) (s : WroteReport shelf file text
   shown : IsShownWhole s.ran.answer s.run.out s.run.err s.run.status
   shown = whole_so s.ran.shown
 
-  computed_so : IsAnswer s.run.call s.ran.answer → IsComputed s.run.call s.ran.answer
+  computed_so : MayAnswer s.run.call s.ran.answer → IsComputed s.run.call s.ran.answer
   computed_so (inl h) = absurd (not_refused s.run.call s.ran.answer h (ap of_report (sym shown.status_is) ∙ report_status s.run.status s.ended))
   computed_so (inr h) = h
 
@@ -118,16 +118,16 @@ module _ (shelf : Visit) (file text : List ℕ) (s : WroteReport shelf file text
 
   asked : computed.request ≡ Solve file s.horizon s.phases s.patterns
   asked =
-      let one : request_of s.run.call.words ≡ Some computed.request = computed.read.asks in
+      let one : request_of s.run.call.words ≡ Some computed.request = computed.has_network.asks in
       let other : request_of s.run.call.words ≡ Some (Solve file s.horizon s.phases s.patterns) = s.asks in
       same_Some computed.request (Solve file s.horizon s.phases s.patterns) (sym one ∙ other)
 
   reads : (bytes : List ℕ) → shelf.told file ≡ Some bytes → Reads bytes (Ok computed.net)
   reads bytes told = reads_told s.run.call.shelf (input_file file) bytes (s.told ∙ told) [] (Ok computed.net)
-      (subst (λ (q : Request). NetworkReads s.run.call.shelf (generated_by q) (files_of q) (Ok computed.net)) asked computed.read.reads)
+      (subst (λ (q : Request). NetworkReads s.run.call.shelf (generated_by q) (files_of q) (Ok computed.net)) asked computed.has_network.reads)
 
   solved : SolveAnswer computed.net bounds s.ran.answer
-  solved = subst (λ (q : Request). IsGiven computed.net computed.second q s.ran.answer) asked computed.given
+  solved = subst (λ (q : Request). IsResultOf computed.net computed.second q s.ran.answer) asked computed.is_result
 
   text_is : text ≡ report_text computed.net solved.report
   text_is = one_text s.before text (out_text s.ran.answer)
@@ -162,11 +162,9 @@ module _ (run : Run) (c : ChecksSolved run.call) where
   told_check = record {
     request = Check c.file c.report_name;
     asks = c.asks;
-    network = c.network.text;
-    second = c.report.text;
-    told_network = c.network.told;
-    told_second = c.report.told;
-    fit = record { network_fits = c.network.within; second_fits = c.report.within };
+    texts = record { network = Some c.network.text; second = Some c.report.text };
+    told = record { network = c.network.told; second = c.report.told };
+    fit = record { network = c.network.within; second = c.report.within };
     net = n;
     reads = reads run.call.shelf c.file c.report.text c.solved c.network.text c.network.told;
     second_reads = is_ok_so (report_in n c.report.text) wrote.report wrote.reads_back;
@@ -176,7 +174,7 @@ module _ (run : Run) (c : ChecksSolved run.call) where
   is_yes Yes h = refl
   is_yes (No rule subject time left right) h = absurd (h.1 wrote.equilibrium)
 
-  yes_given : (answer : ProgramAnswer) → IsGiven n c.report.text (Check c.file c.report_name) answer → (answer ≡ Checked n Yes) ⊎ (status_of answer ≡ Status.Passed)
+  yes_given : (answer : ProgramAnswer) → IsResultOf n c.report.text (Check c.file c.report_name) answer → (answer ≡ Checked n Yes) ⊎ (status_of answer ≡ Status.Passed)
   yes_given answer (inl g) =
       let same : g.report ≡ wrote.report = same_ok (report_in n c.report.text) g.report wrote.report g.read.reads wrote.reads_back in
       inl (g.is ∙ ap (Checked n) (is_yes g.verdict (subst (λ (r : Report). IsExact n.net r.flow g.verdict) same g.exact)))
@@ -213,11 +211,9 @@ module _ (run : Run) (r : ResumesSolved run.call) where
     told = record {
       request = Resume r.file r.report_name r.horizon r.phases r.patterns;
       asks = r.asks;
-      network = r.network.text;
-      second = r.report.text;
-      told_network = r.network.told;
-      told_second = r.report.told;
-      fit = record { network_fits = r.network.within; second_fits = r.report.within };
+      texts = record { network = Some r.network.text; second = Some r.report.text };
+      told = record { network = r.network.told; second = r.report.told };
+      fit = record { network = r.network.within; second = r.report.within };
       net = r.net;
       reads = r.reads;
       second_reads = is_ok_so (report_in r.net r.report.text) first.report first.reads_back;
@@ -228,17 +224,19 @@ module _ (run : Run) (r : ResumesSolved run.call) where
     phases = r.phases;
     patterns = r.patterns;
     is = refl;
-    old = first.report;
-    reads = first.reads_back;
-    first_bounds = bounds_to r.first.horizon r.first.phases r.first.patterns;
-    first = first.run;
-    later_budgets = budgets_of r.later.phases r.later.patterns;
-    later = record {
-      report = later.report;
-      is_report = subst (λ (horizon : ℚ). IsRunReport passes_Q r.net.net (bounds_to horizon r.later.phases r.later.patterns) later.report) r.to_horizon later.run;
-      no_stop = no_stop later.report.stop (sym later.status_is ∙ r.whole);
+    resumes = record {
+      old = first.report;
+      reads = first.reads_back;
+      first_bounds = bounds_to r.first.horizon r.first.phases r.first.patterns;
+      first = first.run;
+      later_budgets = budgets_of r.later.phases r.later.patterns;
+      later = record {
+        report = later.report;
+        is_report = subst (λ (horizon : ℚ). IsRunReport passes_Q r.net.net (bounds_to horizon r.later.phases r.later.patterns) later.report) r.to_horizon later.run;
+        no_stop = no_stop later.report.stop (sym later.status_is ∙ r.whole);
+      };
+      rest = r.rest first.report first.run;
     };
-    rest = r.rest first.report first.run;
   }
 
   resumed : Ran run → run.status ≡ Status.Ok → TookAll run.out r.later_text

@@ -1,4 +1,4 @@
--- How a run ends whose files are known, within their limits and well formed: the table of the commands.
+-- How a call ends whose files are known, within their limits and well formed: command by command.
 use Rattle.std.proofs.Common.{◌≡◌, ℕ, List, [], ◌∷◌, refl, sym, ◌∙◌, ap, subst, inl, inr}
 use Rattle.std.specs.Prelude.{Option, Some, None, IsSome, Ok, Err}
 use Rattle.nf_rational.specs.Rational.{ℚ}
@@ -29,12 +29,13 @@ use Rattle.nf_app_answers.specs.declared.status.Status.{Status}
 use Rattle.nf_app_answers.specs.Answers.{ProgramAnswer, status_of, status_of_stop, status_of_forever, status_of_verdict}
 use Rattle.nf_app_files.specs.Shown.{IsShownWhole}
 use Rattle.nf_app.specs.Requests.{bounds_to}
-use Rattle.nf_app.specs.Given.{IsGiven}
+use Rattle.nf_app.specs.Results.{IsResultOf}
 use Rattle.nf_app.specs.Runs.{Run, Ran, NoFault, IsOneOf}
-use Rattle.nf_app.specs.Completeness.{ends_of, best_ends_of, SecondReads, IsUnhindered, ToldRequest, EndsWell, IsComplete}
+use Rattle.nf_app.specs.Told.{second_bytes}
+use Rattle.nf_app.specs.Completeness.{endings, ToldRequest, endings_of, EndsWell, IsComplete}
 use Rattle.nf_app.proofs.Only.{whole}
 use Rattle.nf_app.proofs.ToldRequests.{Answers, told_answers}
-use Rattle.nf_app.proofs.Results.{same_ok, ok_err, ok_not_err}
+use Rattle.nf_app.proofs.OneValue.{same_ok, ok_err, ok_not_err}
 
 -- ---- by the stop of a run, or the verdict
 abbrev RunEnds : List Status → List Status
@@ -71,7 +72,7 @@ module _ (n : Named) (text : List ℕ) (good : IsNetwork n.net) (answer : Progra
   routes_once : (read : List NamedRoute) (broken : RoutesBroken) → ReadsRoutes n text (Ok read) → ReadsRoutes n text (Err broken) → ⊥
   routes_once read broken h k = ok_err (routes_in n text) read broken (only_reading n text (Ok read) h) (only_reading n text (Err broken) k)
 
-  all_end : (request : Request) → SecondReads n text request → IsGiven n text request answer → IsOneOf (status_of answer) (Status.Memory ∷ ends_of request)
+  all_end : (request : Request) → (endings n text request).second_reads → IsResultOf n text request answer → IsOneOf (status_of answer) (Status.Memory ∷ (endings n text request).may)
   all_end (Solve file horizon phases patterns) reads g = along (RunEnds []) answer _ g.is
       (run_ends [] g.report.stop (never_report passes_Q n.net (bounds_to horizon phases patterns) g.report good g.run))
   all_end (SolveForever file phases patterns) reads g = along (Status.Memory ∷ Status.Ok ∷ Status.Events ∷ Status.Patterns ∷ Status.Passed ∷ []) answer _ g.is
@@ -114,8 +115,8 @@ module _ (n : Named) (text : List ℕ) (good : IsNetwork n.net) (answer : Progra
   rest_ends (Some (Cause.Passed phase place at)) never fits = absurd (fits phase place at refl)
   rest_ends (Some (Cause.NoPattern phase)) never fits = absurd (never phase refl)
 
-  best_end : (request : Request) → SecondReads n text request → IsUnhindered n text request → IsGiven n text request answer
-      → IsOneOf (status_of answer) (Status.Memory ∷ best_ends_of request)
+  best_end : (request : Request) → (endings n text request).second_reads → (endings n text request).unhindered → IsResultOf n text request answer
+      → IsOneOf (status_of answer) (Status.Memory ∷ (endings n text request).best)
   best_end (Solve file horizon phases patterns) reads can g =
       let same : g.report ≡ can.report = one_report passes_Q n.net (bounds_to horizon phases patterns) g.report can.report g.run can.is_report in
       inr (inl (ap status_of g.is ∙ ap (λ (r : Report). status_of_stop r.stop) same ∙ ap status_of_stop can.no_stop))
@@ -146,7 +147,7 @@ module _ (n : Named) (text : List ℕ) (good : IsNetwork n.net) (answer : Progra
       subst (λ (r : Report). IsResumedReport passes_Q n.net (bounds_to horizon phases patterns) r g.made g.new) old g.resumed in
       along (Status.Memory ∷ Status.Ok ∷ Status.Phases ∷ Status.Patterns ∷ []) answer _ g.is (rest_ends g.new.stop
       (never_resumed passes_Q n.net (bounds_to horizon phases patterns) g.old g.made g.new good g.read.well_formed g.resumed)
-      (λ phase place at e. can.goes g.new g.made phase place at resumed e))
+      (λ phase place at e. can.never_passes g.new g.made phase place at resumed e))
   best_end (Resume file report horizon phases patterns) reads can (inr (inl g)) = absurd (ok_not_err (report_in n text) g.0 reads g.2.breaks)
   best_end (Resume file report horizon phases patterns) reads can (inr (inr (inl g))) = absurd (can.fits g.0 g.2)
   best_end (Resume file report horizon phases patterns) reads can (inr (inr (inr (inl g)))) =
@@ -164,17 +165,17 @@ module _ (run : Run) (ran : Ran run) (no_fault : NoFault run) (t : ToldRequest r
   shown : IsShownWhole ran.answer run.out run.err run.status
   shown = whole ran.answer run.out run.err run.status no_fault.out ran.shown
 
-  ends_so : (ends : List Status) → (IsNetwork t.net.net → IsGiven t.net t.second t.request ran.answer → IsOneOf (status_of ran.answer) (Status.Memory ∷ ends)) → Answers run.call t ran.answer
-      → IsOneOf run.status (Status.Memory ∷ ends)
+  ends_so : (ends : List Status) → (IsNetwork t.net.net → IsResultOf t.net (second_bytes t.texts) t.request ran.answer → IsOneOf (status_of ran.answer) (Status.Memory ∷ ends))
+      → Answers run.call t ran.answer → IsOneOf run.status (Status.Memory ∷ ends)
   ends_so ends end (inl none) = inl (shown.status_is ∙ ap status_of none)
   ends_so ends end (inr (inl h)) = absurd (no_fault.shelf h.1)
   ends_so ends end (inr (inr h)) = subst (λ (s : Status). IsOneOf s (Status.Memory ∷ ends)) (sym shown.status_is) (end h.0.network h.1)
 
   ends_well : EndsWell run t
   ends_well = record {
-    ends = ends_so (ends_of t.request) (λ good g. all_end t.net t.second good ran.answer t.request t.second_reads g) (told_answers run.call t ran.answer ran.comes);
+    ends = ends_so (endings_of t).may (λ good g. all_end t.net (second_bytes t.texts) good ran.answer t.request t.second_reads g) (told_answers run.call t ran.answer ran.comes);
     unhindered = λ can.
-        ends_so (best_ends_of t.request) (λ good g. best_end t.net t.second good ran.answer t.request t.second_reads can g) (told_answers run.call t ran.answer ran.comes);
+        ends_so (endings_of t).best (λ good g. best_end t.net (second_bytes t.texts) good ran.answer t.request t.second_reads can g) (told_answers run.call t ran.answer ran.comes);
   }
 
 pub complete : (run : Run) → Ran run → IsComplete run

@@ -4,7 +4,7 @@ use Rattle.std.specs.Prelude.{Option, Some, None, Result, Ok, Err, slice_get, zi
 use Rattle.nf_frac_def.proofs.Each.{with_front}
 use Rattle.nf_model.specs.Network.{Link, Piece}
 use Rattle.nf_report_def.specs.LoadsFile.{pieces_at}
-use Rattle.nf_app.proofs.Results.{same_some}
+use Rattle.nf_app.proofs.OneValue.{same_some}
 
 pub no_front : {B E : Type 0} (r : Result (List B) E) → with_front [] r ≡ r
 no_front (Ok ys) = refl

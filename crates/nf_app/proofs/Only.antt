@@ -1,8 +1,7 @@
 -- A call shows the one answer that its words have with the known bytes of their files; or an allocation failed, or the shelf did.
-use Rattle.std.proofs.Common.{◌≡◌, ◌⊎◌, ℕ, ◌<◌, ◌≤◌, List, [], ◌∷◌, length, refl, sym, subst, ◌∙◌, inl, inr, arith}
-use Rattle.std.specs.Prelude.{Option, Some, None, IfSome, IsSome, Result, Ok, Err, slice_get, unwrap_or}
+use Rattle.std.proofs.Common.{◌≡◌, ◌⊎◌, ℕ, ◌<◌, List, [], ◌∷◌, length, refl, sym, subst, inl, inr, arith}
+use Rattle.std.specs.Prelude.{Option, Some, None, IfSome, IsSome, IsSomeAnd, Result, Ok, Err, slice_get}
 use Rattle.std.specs.List.{All}
-use Rattle.std.proofs.lemmas.Option.{same_Some}
 use Rattle.std.proofs.lemmas.List.Elements.{All-head, All-tail}
 use Rattle.nf_edge.specs.Faults.{Rose}
 use Rattle.nf_edge.proofs.Rising.{rose}
@@ -15,10 +14,10 @@ use Rattle.nf_app_files.specs.Sinks.{Took}
 use Rattle.nf_app_files.specs.Shown.{IsShown, IsShownWhole}
 use Rattle.nf_app_words.specs.Requests.{Request, request_of}
 use Rattle.nf_app.specs.Requests.{files_of, first_of, other_of, generated_by}
-use Rattle.nf_app.specs.Runs.{Call, Run, IsRefusedCall, IsComputed, IsAnswer, Ran}
-use Rattle.nf_app.specs.Told.{TellsText, TellsAll, BothFit, TextsGive, too_long, malformed, answered, WordsGive, IsToldAnswer}
+use Rattle.nf_app.specs.Runs.{Call, Run, IsRefusedCall, IsComputed, MayAnswer, Ran}
+use Rattle.nf_app.specs.Told.{Texts, second_bytes, IsToldText, AreTold, TextFits, TellsAll, BothFit, TextsGive, too_long, malformed, answered, IsToldAnswer, no_request, by_texts}
 use Rattle.nf_app.specs.Only.{Shows, the_answer, no_memory, shelf_failed, ShowsOnlyThat}
-use Rattle.nf_app.proofs.Texts.{Holds, all_held, network_so, same_second, given_there, in_the_middle}
+use Rattle.nf_app.proofs.Texts.{Holds, all_held, network_so, same_second, result_there, in_the_middle}
 use Rattle.nf_app.proofs.ToldOnce.{one_told}
 
 -- where the output didn't fail, it took the whole text
@@ -31,16 +30,16 @@ module _ (shelf : Visit) where
   abbrev Known : Wanted → Type 0
   Known file = IsSome (shelf.told file.name)
 
-  abbrev text_at : Option Wanted → List ℕ
-  text_at None = []
-  text_at (Some file) = unwrap_or (shelf.told file.name) []
+  abbrev text_at : Option Wanted → Option (List ℕ)
+  text_at None = None
+  text_at (Some file) = shelf.told file.name
 
-  is_text : (o : Option (List ℕ)) → IsSome o → o ≡ Some (unwrap_or o [])
+  is_text : (o : Option (List ℕ)) → IsSome o → IsSomeAnd o (λ bytes. o ≡ Some bytes)
   is_text (Some text) some = refl
   is_text None some = absurd (cc)
 
-  told_at : (wanted : Option Wanted) → IfSome wanted Known → TellsText shelf.told wanted (text_at wanted)
-  told_at None known = tt
+  told_at : (wanted : Option Wanted) → IfSome wanted Known → IsToldText shelf.told wanted (text_at wanted)
+  told_at None known = refl
   told_at (Some file) known = is_text (shelf.told file.name) known
 
   first_of_all : (P : Wanted → Type 0) (files : List Wanted) → All P files → IfSome (slice_get files 0) P
@@ -52,61 +51,52 @@ module _ (shelf : Visit) where
   second_of_all P (file ∷ []) h = tt
   second_of_all P (file ∷ other ∷ files) h = All-head P other files (All-tail P file (other ∷ files) h)
 
-  fits_at : (wanted : Option Wanted) (text : List ℕ) → TellsText shelf.told wanted text → IfSome wanted (Fits shelf) → IfSome wanted (λ file. length text ≤ file.limit)
-  fits_at None text told fits = tt
-  fits_at (Some file) text told fits = subst (λ (o : Option (List ℕ)). IfSome o (λ t. length t ≤ file.limit)) told fits
+  fits_at : (wanted : Option Wanted) → IfSome wanted (Fits shelf) → TextFits wanted (text_at wanted)
+  fits_at None fits = tt
+  fits_at (Some file) fits = fits
 
 -- ---- a request whose files are all known
 module _ (call : Call) (request : Request) (asks : request_of call.words ≡ Some request) (known : All (Known call.shelf) (files_of request)) where
-  abbrev network : List ℕ
-  network = text_at call.shelf (first_of request)
+  abbrev texts : Texts
+  texts = record { network = text_at call.shelf (first_of request); second = text_at call.shelf (other_of request) }
 
-  abbrev second : List ℕ
-  second = text_at call.shelf (other_of request)
-
-  told_network : TellsText call.shelf.told (first_of request) network
-  told_network = told_at call.shelf (first_of request) (first_of_all call.shelf (Known call.shelf) (files_of request) known)
-
-  told_second : TellsText call.shelf.told (other_of request) second
-  told_second = told_at call.shelf (other_of request) (second_of_all call.shelf (Known call.shelf) (files_of request) known)
-
-  is_told : (answer : ProgramAnswer) → TextsGive request network second answer → IsToldAnswer call.words call.shelf.told answer
-  is_told answer g = record {
-    network = network;
-    second = second;
-    told_network = subst (λ (o : Option Request). IfSome o (λ r. TellsText call.shelf.told (first_of r) network)) (sym asks) told_network;
-    told_second = subst (λ (o : Option Request). IfSome o (λ r. TellsText call.shelf.told (other_of r) second)) (sym asks) told_second;
-    gives = subst (λ (o : Option Request). WordsGive o network second answer) (sym asks) g;
+  are_told : AreTold call.shelf.told request texts
+  are_told = record {
+    network = told_at call.shelf (first_of request) (first_of_all call.shelf (Known call.shelf) (files_of request) known);
+    second = told_at call.shelf (other_of request) (second_of_all call.shelf (Known call.shelf) (files_of request) known);
   }
 
-  fit : FetchedAll call.shelf (files_of request) → BothFit request network second
+  is_told : (answer : ProgramAnswer) → TextsGive request texts answer → IsToldAnswer call.words call.shelf.told answer
+  is_told answer g = by_texts request texts answer asks are_told g
+
+  fit : FetchedAll call.shelf (files_of request) → BothFit request texts
   fit fetched = record {
-    network_fits = fits_at call.shelf (first_of request) network told_network (first_of_all call.shelf (Fits call.shelf) (files_of request) fetched.fit);
-    second_fits = fits_at call.shelf (other_of request) second told_second (second_of_all call.shelf (Fits call.shelf) (files_of request) fetched.fit);
+    network = fits_at call.shelf (first_of request) (first_of_all call.shelf (Fits call.shelf) (files_of request) fetched.fit);
+    second = fits_at call.shelf (other_of request) (second_of_all call.shelf (Fits call.shelf) (files_of request) fetched.fit);
   }
 
   -- a file that is longer than it may be
-  not_both : (last : Wanted) (to : FetchedTo call.shelf (files_of request) last) → (text : List ℕ) → call.shelf.told last.name ≡ Some text → last.limit < length text → ¬ BothFit request network second
-  not_both last to text told longer both =
-      let all : All (Holds call.shelf) (files_of request) = all_held call.shelf request network second told_network told_second both in
+  not_both : (last : Wanted) (to : FetchedTo call.shelf (files_of request) last) → IfSome (call.shelf.told last.name) (λ text. last.limit < length text) → ¬ BothFit request texts
+  not_both last to longer both =
+      let all : All (Holds call.shelf) (files_of request) = all_held call.shelf request texts are_told both in
       let held : Holds call.shelf last = in_the_middle (Holds call.shelf) to.first last to.behind (subst (λ (l : List Wanted). All (Holds call.shelf) l) to.files_are all) in
-      let same : text ≡ held.text = same_Some text held.text (sym told ∙ held.told) in
-      let more : last.limit < length held.text = subst (λ (t : List ℕ). last.limit < length t) same longer in
+      let more : last.limit < length held.text = subst (λ (o : Option (List ℕ)). IfSome o (λ text. last.limit < length text)) held.told longer in
       let within = held.within in
       omega (arith, more, within)
 
   too_long_so : (last : Wanted) → FetchedTo call.shelf (files_of request) last → HasTooMany call.shelf last
       → IsToldAnswer call.words call.shelf.told ShelfTooLong ⊎ Rose call.shelf.faults_before call.shelf.faults_now
-  too_long_so last to many = by
-      (subst (λ (o : Option (List ℕ)). IfSome o (λ held. Rose call.shelf.faults_before call.shelf.faults_now ⊎ (last.limit < length held))) text many.1)
+  too_long_so last to many = by (call.shelf.told last.name) refl known_last many.1
     where
-      text : call.shelf.told last.name ≡ Some (text_at call.shelf (Some last))
-      text = is_text call.shelf (call.shelf.told last.name) (in_the_middle (Known call.shelf) to.first last to.behind (subst (λ (l : List Wanted). All (Known call.shelf) l) to.files_are known))
+      known_last : Known call.shelf last
+      known_last = in_the_middle (Known call.shelf) to.first last to.behind (subst (λ (l : List Wanted). All (Known call.shelf) l) to.files_are known)
 
-      by : (Rose call.shelf.faults_before call.shelf.faults_now ⊎ (last.limit < length (text_at call.shelf (Some last))))
+      by : (o : Option (List ℕ)) → call.shelf.told last.name ≡ o → IsSome o → IfSome o (λ text. Rose call.shelf.faults_before call.shelf.faults_now ⊎ (last.limit < length text))
           → IsToldAnswer call.words call.shelf.told ShelfTooLong ⊎ Rose call.shelf.faults_before call.shelf.faults_now
-      by (inl rise) = inr rise
-      by (inr longer) = inl (is_told ShelfTooLong (too_long (not_both last to (text_at call.shelf (Some last)) text longer)))
+      by (Some text) e some (inl rise) = inr rise
+      by (Some text) e some (inr longer) =
+          inl (is_told ShelfTooLong (too_long (not_both last to (subst (λ (o : Option (List ℕ)). IfSome o (λ held. last.limit < length held)) (sym e) longer))))
+      by None e some h = absurd (cc)
 
 -- ---- the answers
 module _ (run : Run) (all : TellsAll run.call.words run.call.shelf.told) where
@@ -121,23 +111,20 @@ module _ (run : Run) (all : TellsAll run.call.words run.call.shelf.told) where
 
   computed_shows : (answer : ProgramAnswer) → IsComputed call answer → IsShown answer run.out run.err run.status → Shows run
   computed_shows answer h shown =
-      let known = known_files h.request h.read.asks in
+      let asks = h.has_network.asks in
+      let known = known_files h.request asks in
       let net : Result Named Broken = Ok h.net in
-      shows_it answer (is_told call h.request h.read.asks known answer (answered h.net answer (fit call h.request h.read.asks known h.read.fetched)
-      (network_so call.shelf (generated_by h.request) (files_of h.request) (network call h.request h.read.asks known) net (told_network call h.request h.read.asks known) h.read.reads)
-      (given_there h.net h.request h.second (second call h.request h.read.asks known) answer
-      (same_second call.shelf (other_of h.request) h.second (second call h.request h.read.asks known) h.is_second (told_second call h.request h.read.asks known)) h.given))) shown
+      let told : AreTold call.shelf.told h.request (texts call h.request asks known) = are_told call h.request asks known in
+      let same : IfSome (other_of h.request) (λ file. h.second ≡ second_bytes (texts call h.request asks known)) =
+      same_second call.shelf (other_of h.request) h.second (texts call h.request asks known).second h.is_second told.second in
+      shows_it answer (is_told call h.request asks known answer (answered h.net answer (fit call h.request asks known h.has_network.fetched)
+      (network_so call.shelf (generated_by h.request) (files_of h.request) (texts call h.request asks known).network net told.network h.has_network.reads)
+      (result_there h.net h.request h.second (second_bytes (texts call h.request asks known)) answer same h.is_result))) shown
 
   refused_shows : (answer : ProgramAnswer) → IsRefusedCall call answer → IsShown answer run.out run.err run.status → Shows run
   refused_shows NoMemory h (inl s) = no_memory s
   refused_shows NoMemory h (inr s) = absurd s.has_text
-  refused_shows NoRequest h shown = shows_it NoRequest (record {
-    network = [];
-    second = [];
-    told_network = subst (λ (o : Option Request). IfSome o (λ r. TellsText call.shelf.told (first_of r) [])) (sym h.0) tt;
-    told_second = subst (λ (o : Option Request). IfSome o (λ r. TellsText call.shelf.told (other_of r) [])) (sym h.0) tt;
-    gives = subst (λ (o : Option Request). WordsGive o [] [] NoRequest) (sym h.0) refl;
-  }) shown
+  refused_shows NoRequest h shown = shows_it NoRequest (no_request h.0) shown
   refused_shows ShelfFailed h (inl s) = shelf_failed ShelfFailed refl h.2.1 s
   refused_shows ShelfFailed h (inr s) = absurd s.has_text
   refused_shows ShelfTooLong h (inr s) = absurd s.has_text
@@ -147,10 +134,12 @@ module _ (run : Run) (all : TellsAll run.call.words run.call.shelf.told) where
       by (inl is) = shows_it ShelfTooLong is (inl s)
       by (inr rise) = shelf_failed ShelfTooLong refl rise s
   refused_shows (Malformed broken) h shown =
-      let known = known_files h.0 h.1.asks in
+      let asks = h.1.asks in
+      let known = known_files h.0 asks in
       let net : Result Named Broken = Err broken in
-      shows_it (Malformed broken) (is_told call h.0 h.1.asks known (Malformed broken) (malformed broken (fit call h.0 h.1.asks known h.1.fetched)
-      (network_so call.shelf (generated_by h.0) (files_of h.0) (network call h.0 h.1.asks known) net (told_network call h.0 h.1.asks known) h.1.reads))) shown
+      let told : AreTold call.shelf.told h.0 (texts call h.0 asks known) = are_told call h.0 asks known in
+      shows_it (Malformed broken) (is_told call h.0 asks known (Malformed broken) (malformed broken (fit call h.0 asks known h.1.fetched)
+      (network_so call.shelf (generated_by h.0) (files_of h.0) (texts call h.0 asks known).network net told.network h.1.reads))) shown
   refused_shows (Solved n report) h shown = absurd h
   refused_shows (SolvedForever n forever) h shown = absurd h
   refused_shows (Shown n) h shown = absurd h
@@ -170,7 +159,7 @@ module _ (run : Run) (all : TellsAll run.call.words run.call.shelf.told) where
   refused_shows NotThin h shown = absurd h
   refused_shows Earlier h shown = absurd h
 
-  shows_answer : (answer : ProgramAnswer) → IsAnswer call answer → IsShown answer run.out run.err run.status → Shows run
+  shows_answer : (answer : ProgramAnswer) → MayAnswer call answer → IsShown answer run.out run.err run.status → Shows run
   shows_answer answer (inl h) shown = refused_shows answer h shown
   shows_answer answer (inr h) shown = computed_shows answer h shown
 

@@ -1,8 +1,7 @@
 -- A fault of the output gives its own status, which no answer has.
-use Rattle.std.proofs.Common.{◌≡◌, ◌<◌, ℕ, sym, ◌∙◌, inl, inr, arith}
+use Rattle.std.proofs.Common.{◌≡◌, ℕ, refl, sym, ◌∙◌, ap, inl, inr}
 use Rattle.std.specs.Prelude.{Option, Some, None}
 use Rattle.nf_rational.specs.Rational.{ℚ}
-use Rattle.nf_edge.proofs.Rising.{rises, rose}
 use Rattle.nf_net_def.specs.declared.Cause.{Cause}
 use Rattle.nf_check_def.specs.declared.Answer.{Answer as Verdict}
 use Rattle.nf_check_def.specs.declared.Answer.TheVariants.{Yes, No}
@@ -10,70 +9,60 @@ use Rattle.nf_app_answers.specs.declared.status.Status.{Status}
 use Rattle.nf_app_answers.specs.Answers.{ProgramAnswer, Solved, SolvedForever, Shown, Loaded, Checked, Quickest, TooManyWalks, Generated, Settled, Distributed, NoMemory, NoRequest, ShelfFailed, ShelfTooLong, Malformed, MalformedLoads, MalformedFlows, MalformedRoutes, MalformedReport, Passes, Unbounded, NotThin, Earlier, status_of, status_of_stop, status_of_forever, status_of_verdict}
 use Rattle.nf_app_files.specs.Shown.{IsShown}
 use Rattle.nf_app.specs.Runs.{Run, Ran}
-use Rattle.nf_app.specs.Output.{OutputFails}
+use Rattle.nf_app.specs.Output.{faults_after, OutputFails}
 
--- ---- no answer has the status of a failed output
-by_stop : (stop : Option (Cause ℚ)) → status_of_stop stop ≡ Status.Output → ⊥
-by_stop None e = cc
-by_stop (Some (Cause.Phases made)) e = cc
-by_stop (Some (Cause.Patterns phase tried)) e = cc
-by_stop (Some (Cause.Passed phase place at)) e = cc
-by_stop (Some (Cause.NoPattern phase)) e = cc
+-- ---- with the status of an answer no fault is counted
+module _ (before : ℕ) where
+  by_stop : (stop : Option (Cause ℚ)) → faults_after (status_of_stop stop) before ≡ before
+  by_stop None = refl
+  by_stop (Some (Cause.Phases made)) = refl
+  by_stop (Some (Cause.Patterns phase tried)) = refl
+  by_stop (Some (Cause.Passed phase place at)) = refl
+  by_stop (Some (Cause.NoPattern phase)) = refl
 
-by_forever : (stop : Option (Cause ℚ)) → status_of_forever stop ≡ Status.Output → ⊥
-by_forever None e = cc
-by_forever (Some (Cause.Phases made)) e = cc
-by_forever (Some (Cause.Patterns phase tried)) e = cc
-by_forever (Some (Cause.Passed phase place at)) e = cc
-by_forever (Some (Cause.NoPattern phase)) e = cc
+  by_forever : (stop : Option (Cause ℚ)) → faults_after (status_of_forever stop) before ≡ before
+  by_forever None = refl
+  by_forever (Some (Cause.Phases made)) = refl
+  by_forever (Some (Cause.Patterns phase tried)) = refl
+  by_forever (Some (Cause.Passed phase place at)) = refl
+  by_forever (Some (Cause.NoPattern phase)) = refl
 
-by_verdict : (verdict : Verdict ℕ ℕ ℚ) → status_of_verdict verdict ≡ Status.Output → ⊥
-by_verdict Yes e = cc
-by_verdict (No rule subject time left right) e = cc
+  by_verdict : (verdict : Verdict ℕ ℕ ℚ) → faults_after (status_of_verdict verdict) before ≡ before
+  by_verdict Yes = refl
+  by_verdict (No rule subject time left right) = refl
 
-pub never_output : (answer : ProgramAnswer) → status_of answer ≡ Status.Output → ⊥
-never_output (Solved n report) e = by_stop report.stop e
-never_output (SolvedForever n forever) e = by_forever forever.stop e
-never_output (Generated number rungs n made report) e = by_stop report.stop e
-never_output (Checked n verdict) e = by_verdict verdict e
-never_output (Shown n) e = cc
-never_output (Loaded n horizon loaded) e = cc
-never_output (Quickest n quick arrival) e = cc
-never_output (TooManyWalks n augments walks) e = cc
-never_output (Settled n pattern flows) e = cc
-never_output (Distributed n routes horizon routed) e = cc
-never_output NoMemory e = cc
-never_output NoRequest e = cc
-never_output ShelfFailed e = cc
-never_output ShelfTooLong e = cc
-never_output (Malformed broken) e = cc
-never_output (MalformedLoads broken) e = cc
-never_output (MalformedFlows broken) e = cc
-never_output (MalformedRoutes broken) e = cc
-never_output (MalformedReport broken) e = cc
-never_output (Passes at) e = cc
-never_output Unbounded e = cc
-never_output NotThin e = cc
-never_output Earlier e = cc
+  none_after : (answer : ProgramAnswer) → faults_after (status_of answer) before ≡ before
+  none_after (Solved n report) = by_stop report.stop
+  none_after (SolvedForever n forever) = by_forever forever.stop
+  none_after (Generated number rungs n made report) = by_stop report.stop
+  none_after (Checked n verdict) = by_verdict verdict
+  none_after (Shown n) = refl
+  none_after (Loaded n horizon loaded) = refl
+  none_after (Quickest n quick arrival) = refl
+  none_after (TooManyWalks n augments walks) = refl
+  none_after (Settled n pattern flows) = refl
+  none_after (Distributed n routes horizon routed) = refl
+  none_after NoMemory = refl
+  none_after NoRequest = refl
+  none_after ShelfFailed = refl
+  none_after ShelfTooLong = refl
+  none_after (Malformed broken) = refl
+  none_after (MalformedLoads broken) = refl
+  none_after (MalformedFlows broken) = refl
+  none_after (MalformedRoutes broken) = refl
+  none_after (MalformedReport broken) = refl
+  none_after (Passes at) = refl
+  none_after Unbounded = refl
+  none_after NotThin = refl
+  none_after Earlier = refl
 
 -- ---- a whole run
-same_not_less : (before now : ℕ) → now ≡ before → before < now → ⊥
-same_not_less before now e less = omega (arith, e, less)
+after_status : (run : Run) (status : Status) → run.status ≡ status → run.out.faults_now ≡ faults_after status run.out.faults_before → OutputFails run
+after_status run status is counted = counted ∙ ap (λ (s : Status). faults_after s run.out.faults_before) (sym is)
 
 fails_so : (run : Run) (answer : ProgramAnswer) → IsShown answer run.out run.err run.status → OutputFails run
-fails_so run answer (inl h) = record {
-  failed = λ e. absurd (never_output answer (sym h.status_is ∙ e));
-  else_none = λ other. h.took.no_fault;
-  exactly = λ below. (
-    (λ e. absurd (never_output answer (sym h.status_is ∙ e))),
-    (λ less. absurd (same_not_less run.out.faults_before run.out.faults_now h.took.no_fault less)),
-  );
-}
-fails_so run answer (inr h) = record {
-  failed = λ e. rose run.out.faults_before run.out.faults_now h.took.cause;
-  else_none = λ other. absurd (other h.status_is);
-  exactly = λ below. ((λ e. rises run.out.faults_before run.out.faults_now below h.took.cause), (λ less. h.status_is));
-}
+fails_so run answer (inl h) = after_status run (status_of answer) h.status_is (h.took.no_fault ∙ sym (none_after run.out.faults_before answer))
+fails_so run answer (inr h) = after_status run Status.Output h.status_is h.took.cause
 
 pub output_fails : (run : Run) → Ran run → OutputFails run
 output_fails run ran = fails_so run ran.answer ran.shown

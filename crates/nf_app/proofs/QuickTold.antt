@@ -37,7 +37,7 @@ use Rattle.nf_app_words.specs.Requests.{Quick}
 use Rattle.nf_unique_laws.proofs.Feasible.{quickest-le}
 use Rattle.nf_app.specs.Requests.{usual_budgets}
 use Rattle.nf_app_answers.specs.Answers.{Quickest, TooManyWalks, Passes, Unbounded}
-use Rattle.nf_app.specs.Given.{IsGiven}
+use Rattle.nf_app.specs.Results.{IsResultOf}
 use Rattle.nf_app.specs.Lists.{flow_list, departs_list}
 use Rattle.nf_app.specs.Arrivals.{arrival_of, ArrivesIn, IsArrival}
 
@@ -150,21 +150,21 @@ no_earlier-is net amount quick (Some departs) arrival flow least arrives time sa
 -- ---- what is given, from what `quickest` and `departure` answer
 module _ (n : Named) (file text : List ℕ) (amount : ℚ) (augments : ℕ) where
   pub budget_given : (walks : List lists.Augment) → HasNoWay n.net amount → flow_list n.net amount augments ≡ Ok (lists.Budget walks) → EndsAtBudget n.net amount augments walks
-      → IsGiven n text (Quick file amount augments) (TooManyWalks n augments walks)
+      → IsResultOf n text (Quick file amount augments) (TooManyWalks n augments walks)
   budget_given walks none listed pushed = inr (inl (walks, refl, record { no_way = none; computed = listed; pushed = pushed }))
 
-  pub unbounded_given : (links : Vec ℕ Global) → IsAnswered passes_Q n.net amount augments (Err (QuickFault.Unbounded links)) → IsGiven n text (Quick file amount augments) Unbounded
+  pub unbounded_given : (links : Vec ℕ Global) → IsAnswered passes_Q n.net amount augments (Err (QuickFault.Unbounded links)) → IsResultOf n text (Quick file amount augments) Unbounded
   unbounded_given links h = inr (inr (inr (refl, (h.0, (links.items, h.1)))))
 
-  pub passed_given : (at : PassedAt ℚ) → IsAnswered passes_Q n.net amount augments (Err (QuickFault.Passed at)) → IsGiven n text (Quick file amount augments) (Passes at)
+  pub passed_given : (at : PassedAt ℚ) → IsAnswered passes_Q n.net amount augments (Err (QuickFault.Passed at)) → IsResultOf n text (Quick file amount augments) (Passes at)
   passed_given at h = inr (inr (inl (at, refl, record { no_way = h.0; passes = inl h.1 })))
 
   module _ (quick : QuickFlow) (h : IsAnswered passes_Q n.net amount augments (Ok quick)) where
-    pub departure_passes : (at : PassedAt ℚ) → Err at ≡ departs_list n.net amount → IsGiven n text (Quick file amount augments) (Passes at)
+    pub departure_passes : (at : PassedAt ℚ) → Err at ≡ departs_list n.net amount → IsResultOf n text (Quick file amount augments) (Passes at)
     departure_passes at e = inr (inr (inl (at, refl, record { no_way = h.0; passes = inr (quick, h.1, sym e) })))
 
     pub quickest_given : IsQuickFlow n.net amount quick → ComesOfPushes n.net amount augments quick → (departs : Option ℚ) → Ok departs ≡ departs_list n.net amount → IsDeparture n.net amount departs
-        → (arrival : Arrival) → IsArrival n.net departs arrival → IsGiven n text (Quick file amount augments) (Quickest n quick arrival)
+        → (arrival : Arrival) → IsArrival n.net departs arrival → IsResultOf n text (Quick file amount augments) (Quickest n quick arrival)
     quickest_given flow pushes departs e least arrival arrives = inl (record {
       quick = quick;
       arrival = arrival;

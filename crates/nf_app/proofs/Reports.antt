@@ -10,7 +10,7 @@ use Rattle.nf_report_laws.proofs.ReportBack.{report_back}
 use Rattle.nf_report_laws.proofs.ReportFit.{fit}
 use Rattle.nf_report_laws.proofs.ReportKept.{report_kept}
 use Rattle.nf_app.specs.Reports.{IsReportText, IsNoReportText}
-use Rattle.nf_app.proofs.Results.{ok_err}
+use Rattle.nf_app.proofs.OneValue.{ok_err}
 
 module _ (n : Named) (named : IsNamed n) (text : List ℕ) where
   pub a_report : (report : Report) → report_in n text ≡ Ok report → IsReportText n text report

@@ -18,24 +18,26 @@ use Rattle.nf_app_answers.specs.Answers.{ProgramAnswer, Solved, Checked, Passes,
 use Rattle.nf_app_files.specs.Sinks.{TookAll}
 use Rattle.nf_app_files.specs.Shown.{IsShown}
 use Rattle.nf_app.specs.Requests.{bounds_to}
-use Rattle.nf_app.specs.Given.{IsGiven}
-use Rattle.nf_app.specs.Answered.{ResumeAnswer}
+use Rattle.nf_app.specs.Results.{IsResultOf}
+use Rattle.nf_app.specs.FullAnswers.{ResumeAnswer}
 use Rattle.nf_app.specs.Runs.{Run, Ran}
+use Rattle.nf_app.specs.Told.{second_bytes}
 use Rattle.nf_app.specs.Resumption.{AsksToResumeRun, WritesReportOfOneRun, ReportIsOfOneRun, AnswerIsOfOneRun, ComputesReportOfOneRun}
 use Rattle.nf_app.proofs.ToldRequests.{Answers, told_answers}
 use Rattle.nf_app.proofs.Solving.{no_stop}
-use Rattle.nf_app.proofs.Results.{same_ok}
+use Rattle.nf_app.proofs.OneValue.{same_ok}
 
 -- ---- the report that was read in this call
 module _ (n : Named) (text : List ℕ) (horizon : ℚ) (phases patterns : ℕ) (good : IsNetwork n.net) where
   one_run : (answer : ProgramAnswer) (g : ResumeAnswer n text (bounds_to horizon phases patterns) answer) → ReportIsOfOneRun n text (bounds_to horizon phases patterns) g.new
-  one_run answer g old reads first_bounds first later_budgets later rest ended =
-      let same : g.old ≡ old = same_ok (report_in n text) g.old old g.read.reads reads in
-      let on : IsResumedReport passes_Q n.net (bounds_to horizon phases patterns) old g.made g.new =
-      subst (λ (r : Report). IsResumedReport passes_Q n.net (bounds_to horizon phases patterns) r g.made g.new) same g.resumed in
-      resumed-solved passes_Q n.net good first_bounds (bounds_of horizon later_budgets) (bounds_to horizon phases patterns) old later.report g.new g.made first later.is_report later.no_stop on ended refl rest
+  one_run answer g r ended =
+      let same : g.old ≡ r.old = same_ok (report_in n text) g.old r.old g.read.reads r.reads in
+      let on : IsResumedReport passes_Q n.net (bounds_to horizon phases patterns) r.old g.made g.new =
+      subst (λ (o : Report). IsResumedReport passes_Q n.net (bounds_to horizon phases patterns) o g.made g.new) same g.resumed in
+      resumed-solved passes_Q n.net good r.first_bounds (bounds_of horizon r.later_budgets) (bounds_to horizon phases patterns) r.old r.later.report g.new g.made
+      r.first r.later.is_report r.later.no_stop on ended refl r.rest
 
-  solved_one : (file name : List ℕ) (answer : ProgramAnswer) (new : Report) → answer ≡ Solved n new → IsGiven n text (Resume file name horizon phases patterns) answer
+  solved_one : (file name : List ℕ) (answer : ProgramAnswer) (new : Report) → answer ≡ Solved n new → IsResultOf n text (Resume file name horizon phases patterns) answer
       → ReportIsOfOneRun n text (bounds_to horizon phases patterns) new
   solved_one file name answer new e (inl g) =
       let same : g.new ≡ new = (let h : Solved n g.new ≡ Solved n new = sym g.is ∙ e in cc) in
@@ -45,7 +47,7 @@ module _ (n : Named) (text : List ℕ) (horizon : ℚ) (phases patterns : ℕ) (
   solved_one file name answer new e (inr (inr (inr (inl g)))) = absurd (let h : Earlier ≡ Solved n new = sym g.0 ∙ e in cc)
   solved_one file name answer new e (inr (inr (inr (inr g)))) = absurd (let h : Checked n g.0 ≡ Solved n new = sym g.1 ∙ e in cc)
 
-given_one : (n : Named) (text : List ℕ) (request : Request) (answer : ProgramAnswer) → IsNetwork n.net → IsGiven n text request answer → AnswerIsOfOneRun n text request answer
+given_one : (n : Named) (text : List ℕ) (request : Request) (answer : ProgramAnswer) → IsNetwork n.net → IsResultOf n text request answer → AnswerIsOfOneRun n text request answer
 given_one n text (Solve file horizon phases patterns) answer good g = tt
 given_one n text (SolveForever file phases patterns) answer good g = tt
 given_one n text (Show file) answer good g = tt
@@ -58,15 +60,18 @@ given_one n text (Resume file name horizon phases patterns) answer good g = λ n
 given_one n text (Routes file routes horizon) answer good g = tt
 
 pub computes_report_of_one_run : (run : Run) → ComputesReportOfOneRun run
-computes_report_of_one_run run answer c = given_one c.net c.second c.request answer c.named.network c.given
+computes_report_of_one_run run answer c = given_one c.net c.second c.request answer c.named.network c.is_result
 
 -- ---- a report that is known to proofs
 module _ (run : Run) (r : AsksToResumeRun run.call) where
   abbrev n : Named
   n = r.told.net
 
+  abbrev text : List ℕ
+  text = second_bytes r.told.texts
+
   abbrev HasWritten : ProgramAnswer → Type 0
-  HasWritten answer = out_text answer ≡ report_text n r.later.report
+  HasWritten answer = out_text answer ≡ report_text n r.resumes.later.report
 
   ok_passed : (status : Status) → status ≡ Status.Passed → status ≡ Status.Ok → ⊥
   ok_passed status h k = cc
@@ -86,25 +91,25 @@ module _ (run : Run) (r : AsksToResumeRun run.call) where
   ok_output : (status : Status) → status ≡ Status.Output → status ≡ Status.Ok → ⊥
   ok_output status h k = cc
 
-  whole_text : (answer : ProgramAnswer) → IsNetwork n.net → IsGiven n r.told.second (Resume r.file r.report_name r.horizon r.phases r.patterns) answer → status_of answer ≡ Status.Ok → HasWritten answer
+  whole_text : (answer : ProgramAnswer) → IsNetwork n.net → IsResultOf n text (Resume r.file r.report_name r.horizon r.phases r.patterns) answer → status_of answer ≡ Status.Ok → HasWritten answer
   whole_text answer good (inl g) e =
       let ended : g.new.stop ≡ None = no_stop g.new.stop (sym (ap status_of g.is) ∙ e) in
-      let same : g.new ≡ r.later.report = one_run n r.told.second r.horizon r.phases r.patterns good answer g r.old r.reads r.first_bounds r.first r.later_budgets r.later r.rest ended in
+      let same : g.new ≡ r.resumes.later.report = one_run n text r.horizon r.phases r.patterns good answer g r.resumes ended in
       ap out_text g.is ∙ ap (report_text n) same
   whole_text answer good (inr (inl g)) e = absurd (ok_malformed (status_of answer) (ap status_of g.1) e)
   whole_text answer good (inr (inr (inl g))) e = absurd (ok_passed (status_of answer) (ap status_of g.1) e)
   whole_text answer good (inr (inr (inr (inl g)))) e = absurd (ok_earlier (status_of answer) (ap status_of g.0) e)
   whole_text answer good (inr (inr (inr (inr g)))) e =
-      let same : r.old ≡ g.2.old = same_ok (report_in n r.told.second) r.old g.2.old r.reads g.2.read.reads in
-      absurd (g.2.refused.none (subst (λ (old : Report). Equilibrium n.net old.flow) same (report_equilibrium passes_Q n.net good r.first_bounds r.old r.first)))
+      let same : r.resumes.old ≡ g.2.old = same_ok (report_in n text) r.resumes.old g.2.old r.resumes.reads g.2.read.reads in
+      absurd (g.2.refused.none (subst (λ (old : Report). Equilibrium n.net old.flow) same (report_equilibrium passes_Q n.net good r.resumes.first_bounds r.resumes.old r.resumes.first)))
 
   by_answer : (answer : ProgramAnswer) → status_of answer ≡ Status.Ok → Answers run.call r.told answer → HasWritten answer
   by_answer answer ok (inl none) = absurd (ok_memory (status_of answer) (ap status_of none) ok)
   by_answer answer ok (inr (inl h)) = absurd (ok_shelf (status_of answer) h.0 ok)
   by_answer answer ok (inr (inr h)) =
-      whole_text answer h.0.network (subst (λ (q : Request). IsGiven n r.told.second q answer) r.is h.1) ok
+      whole_text answer h.0.network (subst (λ (q : Request). IsResultOf n text q answer) r.is h.1) ok
 
-  by_shown : (ran : Ran run) → run.status ≡ Status.Ok → IsShown ran.answer run.out run.err run.status → TookAll run.out (report_text n r.later.report)
+  by_shown : (ran : Ran run) → run.status ≡ Status.Ok → IsShown ran.answer run.out run.err run.status → TookAll run.out (report_text n r.resumes.later.report)
   by_shown ran ok (inl h) = subst (λ (text : List ℕ). TookAll run.out text)
       (by_answer ran.answer (sym h.status_is ∙ ok) (told_answers run.call r.told ran.answer ran.comes)) h.took.all
   by_shown ran ok (inr h) = absurd (ok_output run.status h.status_is ok)

@@ -28,9 +28,10 @@ use Rattle.nf_complete_laws.specs.SettleLaws.{AreGoodSets}
 use Rattle.nf_complete.specs.FitSets.{AreFitSets}
 use Rattle.nf_complete.specs.declared.settled.Settled.{Settled}
 use Rattle.nf_complete.specs.Settling.{SettlesTo}
-use Rattle.nf_app.specs.Settling.{SlacksFit, TestFits, AreThin, PassesFirst, at_slack, at_test, at_settling, AreStartSets, SettlesAtStart}
+use Rattle.nf_app.specs.Settling.{SlacksFit, TestFits, AreThin, PassesFirst, at_slack, at_test, at_settling}
+use Rattle.nf_app.specs.SettlingSteps.{AreStartSets, SettlesAtStart}
 use Rattle.nf_app.proofs.Starting.{start_sets_good, start_source, start_rate}
-use Rattle.nf_app.proofs.Results.{same_err, ok_err}
+use Rattle.nf_app.proofs.OneValue.{same_err, ok_err}
 
 -- ---- what a test says
 pub some_of : (test : Bool) (P N : Type 0) → MatchBool test P N → test ≡ true → P

@@ -1,5 +1,5 @@
 -- What a call of `solve` with a known network file writes.
-use Rattle.std.proofs.Common.{◌≡◌, ℕ, List, [], refl, sym, ◌∙◌, ap, subst, inl, inr}
+use Rattle.std.proofs.Common.{◌≡◌, ℕ, List, refl, sym, ◌∙◌, ap, subst, inl, inr}
 use Rattle.std.specs.Prelude.{Option, Some, None}
 use Rattle.nf_rational.specs.Rational.{ℚ}
 use Rattle.nf_net_def.specs.declared.Cause.{Cause}
@@ -12,7 +12,7 @@ use Rattle.nf_app_answers.specs.Answers.{ProgramAnswer, status_of, status_of_sto
 use Rattle.nf_app_files.specs.Sinks.{TookAll}
 use Rattle.nf_app_files.specs.Shown.{IsShown, IsShownWhole}
 use Rattle.nf_app.specs.Requests.{bounds_to}
-use Rattle.nf_app.specs.Answered.{SolveAnswer}
+use Rattle.nf_app.specs.FullAnswers.{SolveAnswer}
 use Rattle.nf_app.specs.Runs.{Call, Run, Ran}
 use Rattle.nf_app.specs.Completeness.{ToldRequest}
 use Rattle.nf_app.specs.Solves.{AsksToSolve, HasAnswered, IsSolved, SolvesTold}
@@ -30,11 +30,9 @@ pub told_solve : (call : Call) (asked : AsksToSolve call) → ToldRequest call
 told_solve call asked = record {
   request = Solve asked.file asked.horizon asked.phases asked.patterns;
   asks = asked.asks;
-  network = asked.text;
-  second = [];
-  told_network = asked.told;
-  told_second = tt;
-  fit = record { network_fits = asked.within; second_fits = tt };
+  texts = record { network = Some asked.text; second = None };
+  told = record { network = asked.told; second = refl };
+  fit = record { network = asked.within; second = tt };
   net = asked.net;
   reads = asked.reads;
   second_reads = tt;

@@ -1,6 +1,6 @@
 -- Words have at most one answer with the known bytes of their files.
-use Rattle.std.proofs.Common.{◌≡◌, ℕ, ◌<◌, List, length, replicate, refl, sym, ap, subst, ◌∙◌, inl, inr}
-use Rattle.std.specs.Prelude.{Option, Some, None, IfSome, Result, Ok, Err, map}
+use Rattle.std.proofs.Common.{◌≡◌, ℕ, List, length, replicate, refl, sym, ap, subst, ◌∙◌, inl, inr}
+use Rattle.std.specs.Prelude.{Option, Some, None, Result, Ok, Err, map}
 use Rattle.std.proofs.lemmas.Option.{none-some}
 use Rattle.nf_rational.specs.Rational.{ℚ}
 use Rattle.nf_rational.specs.Operations.{0ℚ}
@@ -50,13 +50,12 @@ use Rattle.nf_app.specs.Lists.{flow_list, departs_list}
 use Rattle.nf_app.specs.Arrivals.{arrival_of}
 use Rattle.nf_app.specs.Refused.{IsUnbounded}
 use Rattle.nf_app.specs.Settling.{AreSettled, AreNotThin, PassesFirst, at_slack, at_test, at_settling}
-use Rattle.nf_app.specs.Given.{IsGiven}
-use Rattle.nf_app.specs.Told.{Telling, TellsText, NetworkIs, TextsGive, too_long, malformed, answered, WordsGive, IsToldAnswer}
+use Rattle.nf_app.specs.Results.{IsResultOf}
+use Rattle.nf_app.specs.Told.{Telling, Texts, second_bytes, IsToldText, AreTold, NetworkIs, TextsGive, too_long, malformed, answered, IsToldAnswer, no_request, by_texts}
 use Rattle.nf_app.proofs.Gives.{Arrives, DepartsGive, FlowGives, QuickGives, StartGives, SettleGives, RestGives, ResumeGives, Gives}
-use Rattle.nf_app.proofs.Texts.{given_there, network_there, fit_there}
-use Rattle.nf_app.proofs.ToldGiven.{given_so}
+use Rattle.nf_app.proofs.ToldResult.{result_so}
 use Rattle.nf_app.proofs.Starting.{start_sets_good}
-use Rattle.nf_app.proofs.Results.{same_some, same_ok, same_err, ok_err, ok_not_err}
+use Rattle.nf_app.proofs.OneValue.{same_some, same_ok, same_err, ok_err, ok_not_err}
 
 -- ---- the arrival beside a quickest flow
 one_arrival : (net : Network) (departs : Option ℚ) (arrival other : Arrival) → Arrives net departs arrival → Arrives net departs other → arrival ≡ other
@@ -193,36 +192,38 @@ one_gives n text (Resume file report horizon phases patterns) named a b g h =
 one_gives n text (Routes file routes horizon) named a b g h = g ∙ sym h
 
 -- ---- with the texts of its files
-one_given : (n : Named) (text : List ℕ) (request : Request) → (generated_by request ≡ None → IsNamed n) → (a b : ProgramAnswer) → IsGiven n text request a → IsGiven n text request b → a ≡ b
-one_given n text request named a b g h = one_gives n text request named a b (given_so n text a request g) (given_so n text b request h)
+one_result : (n : Named) (text : List ℕ) (request : Request) → (generated_by request ≡ None → IsNamed n) → (a b : ProgramAnswer) → IsResultOf n text request a → IsResultOf n text request b → a ≡ b
+one_result n text request named a b g h = one_gives n text request named a b (result_so n text a request g) (result_so n text b request h)
 
-pub one_network : (made : Option Named) (text : List ℕ) (r s : Result Named Broken) → NetworkIs made text r → NetworkIs made text s → r ≡ s
+pub one_network : (made : Option Named) (text : Option (List ℕ)) (r s : Result Named Broken) → NetworkIs made text r → NetworkIs made text s → r ≡ s
 one_network (Some n) text r s h k = h ∙ sym k
-one_network None text r s h k = reads_at_most_once text r s h k
+one_network None (Some text) r s h k = reads_at_most_once text r s h k
+one_network None None r s h k = absurd h
 
-named_in : (made : Option Named) (text : List ℕ) (n : Named) → NetworkIs made text (Ok n) → made ≡ None → IsNamed n
+named_in : (made : Option Named) (text : Option (List ℕ)) (n : Named) → NetworkIs made text (Ok n) → made ≡ None → IsNamed n
 named_in (Some m) text n h e = absurd (none-some m (sym e))
-named_in None text n h e = accepted_named text n h
+named_in None (Some text) n h e = accepted_named text n h
+named_in None None n h e = absurd h
 
-module _ (request : Request) (network second : List ℕ) where
-  one_broken : (broken other : Broken) → NetworkIs (generated_by request) network (Err broken) → NetworkIs (generated_by request) network (Err other) → broken ≡ other
+module _ (request : Request) (texts : Texts) where
+  one_broken : (broken other : Broken) → NetworkIs (generated_by request) texts.network (Err broken) → NetworkIs (generated_by request) texts.network (Err other) → broken ≡ other
   one_broken broken other h k =
       let read : Result Named Broken = Err broken in
-      same_err read broken other refl (one_network (generated_by request) network read (Err other) h k)
+      same_err read broken other refl (one_network (generated_by request) texts.network read (Err other) h k)
 
-  broken_or_not : (broken : Broken) (n : Named) → NetworkIs (generated_by request) network (Err broken) → NetworkIs (generated_by request) network (Ok n) → ⊥
+  broken_or_not : (broken : Broken) (n : Named) → NetworkIs (generated_by request) texts.network (Err broken) → NetworkIs (generated_by request) texts.network (Ok n) → ⊥
   broken_or_not broken n h k =
       let read : Result Named Broken = Err broken in
-      ok_err read n broken (one_network (generated_by request) network read (Ok n) h k) refl
+      ok_err read n broken (one_network (generated_by request) texts.network read (Ok n) h k) refl
 
-  one_answered : (n m : Named) (a b : ProgramAnswer) → NetworkIs (generated_by request) network (Ok n) → NetworkIs (generated_by request) network (Ok m) → IsGiven n second request a → IsGiven m second request b
-      → a ≡ b
+  one_answered : (n m : Named) (a b : ProgramAnswer) → NetworkIs (generated_by request) texts.network (Ok n) → NetworkIs (generated_by request) texts.network (Ok m)
+      → IsResultOf n (second_bytes texts) request a → IsResultOf m (second_bytes texts) request b → a ≡ b
   one_answered n m a b h k g i =
       let read : Result Named Broken = Ok n in
-      let same : n ≡ m = same_ok read n m refl (one_network (generated_by request) network read (Ok m) h k) in
-      one_given m second request (named_in (generated_by request) network m k) a b (subst (λ (x : Named). IsGiven x second request a) same g) i
+      let same : n ≡ m = same_ok read n m refl (one_network (generated_by request) texts.network read (Ok m) h k) in
+      one_result m (second_bytes texts) request (named_in (generated_by request) texts.network m k) a b (subst (λ (x : Named). IsResultOf x (second_bytes texts) request a) same g) i
 
-  one_of_texts : (a b : ProgramAnswer) → TextsGive request network second a → TextsGive request network second b → a ≡ b
+  one_of_texts : (a b : ProgramAnswer) → TextsGive request texts a → TextsGive request texts b → a ≡ b
   one_of_texts _ _ (too_long f) (too_long g) = refl
   one_of_texts _ _ (too_long f) (malformed other fit k) = absurd (f fit)
   one_of_texts _ _ (too_long f) (answered m b fit k h) = absurd (f fit)
@@ -233,27 +234,26 @@ module _ (request : Request) (network second : List ℕ) where
   one_of_texts _ _ (answered n a fit k g) (malformed other fit' l) = absurd (broken_or_not other n l k)
   one_of_texts _ _ (answered n a fit k g) (answered m b fit' l h) = one_answered n m a b k l g h
 
--- the same texts of the files that are wanted give the same
-texts_there : (request : Request) (network second network' second' : List ℕ) (answer : ProgramAnswer) → IfSome (first_of request) (λ file. network ≡ network') → IfSome (other_of request) (λ file. second ≡ second')
-    → IfSome (first_of request) (λ file. network' ≡ network) → IfSome (other_of request) (λ file. second' ≡ second) → TextsGive request network second answer → TextsGive request network' second' answer
-texts_there request network second network' second' _ p q p' q' (too_long f) = too_long (λ fit. f (fit_there request network' second' network second p' q' fit))
-texts_there request network second network' second' _ p q p' q' (malformed broken fit k) =
-    malformed broken (fit_there request network second network' second' p q fit) (network_there request network network' (Err broken) p k)
-texts_there request network second network' second' _ p q p' q' (answered n answer fit k g) =
-    answered n answer (fit_there request network second network' second' p q fit) (network_there request network network' (Ok n) p k) (given_there n request second second' answer q g)
-
 -- ---- with what is known
-same_told : (telling : Telling) (wanted : Option Wanted) (a b : List ℕ) → TellsText telling wanted a → TellsText telling wanted b → IfSome wanted (λ file. a ≡ b)
-same_told telling None a b h k = tt
-same_told telling (Some file) a b h k = same_some (telling file.name) a b h k
+one_text : (telling : Telling) (wanted : Option Wanted) (a b : Option (List ℕ)) → IsToldText telling wanted a → IsToldText telling wanted b → a ≡ b
+one_text telling None a b h k = h ∙ sym k
+one_text telling (Some file) (Some a) (Some b) h k = sym h ∙ k
+one_text telling (Some file) (Some a) None h k = absurd k
+one_text telling (Some file) None b h k = absurd h
 
-one_of_words : (telling : Telling) (o : Option Request) (network second network' second' : List ℕ) → IfSome o (λ r. TellsText telling (first_of r) network) → IfSome o (λ r. TellsText telling (other_of r) second)
-    → IfSome o (λ r. TellsText telling (first_of r) network') → IfSome o (λ r. TellsText telling (other_of r) second') → (a b : ProgramAnswer) → WordsGive o network second a → WordsGive o network' second' b → a ≡ b
-one_of_words telling None network second network' second' p q p' q' a b g h = g ∙ sym h
-one_of_words telling (Some request) network second network' second' p q p' q' a b g h = one_of_texts request network' second' a b
-    (texts_there request network second network' second' a (same_told telling (first_of request) network network' p p') (same_told telling (other_of request) second second' q q')
-    (same_told telling (first_of request) network' network p' p) (same_told telling (other_of request) second' second q' q) g) h
+same_texts : (a b : Texts) → a.network ≡ b.network → a.second ≡ b.second → a ≡ b
+same_texts a b h k = ap (λ (t : Option (List ℕ)). record { network = t; second = a.second }) h ∙ ap (λ (t : Option (List ℕ)). record { network = b.network; second = t }) k
+
+one_told_texts : (telling : Telling) (request : Request) (a b : Texts) → AreTold telling request a → AreTold telling request b → a ≡ b
+one_told_texts telling request a b h k =
+    same_texts a b (one_text telling (first_of request) a.network b.network h.network k.network) (one_text telling (other_of request) a.second b.second h.second k.second)
 
 pub one_told : (words : List (List ℕ)) (telling : Telling) (a b : ProgramAnswer) → IsToldAnswer words telling a → IsToldAnswer words telling b → a ≡ b
-one_told words telling a b g h =
-    one_of_words telling (request_of words) g.network g.second h.network h.second g.told_network g.told_second h.told_network h.told_second a b g.gives h.gives
+one_told words telling _ _ (no_request e) (no_request f) = refl
+one_told words telling _ _ (no_request e) (by_texts request texts b asks told g) = absurd (none-some request (sym e ∙ asks))
+one_told words telling _ _ (by_texts request texts a asks told g) (no_request e) = absurd (none-some request (sym e ∙ asks))
+one_told words telling _ _ (by_texts request texts a asks told g) (by_texts other others b asks' told' h) =
+    let same : request ≡ other = same_some (request_of words) request other asks asks' in
+    let there : AreTold telling other texts = subst (λ (q : Request). AreTold telling q texts) same told in
+    let texts_same : texts ≡ others = one_told_texts telling other texts others there told' in
+    one_of_texts other others a b (subst (λ (t : Texts). TextsGive other t a) texts_same (subst (λ (q : Request). TextsGive q texts a) same g)) h

@@ -13,12 +13,13 @@ use Rattle.nf_app_files.specs.Files.{Wanted, FetchedTo, HasTooMany}
 use Rattle.nf_app_files.specs.Fetching.{NetworkReads}
 use Rattle.nf_app_words.specs.Requests.{Request, request_of}
 use Rattle.nf_app.specs.Requests.{files_of, other_of, generated_by, OtherIsText}
-use Rattle.nf_app.specs.Given.{IsGiven}
-use Rattle.nf_app.specs.Runs.{Call, Asks, Reached, Read, IsRefusedCall, IsComputed, IsAnswer}
+use Rattle.nf_app.specs.Results.{IsResultOf}
+use Rattle.nf_app.specs.Runs.{Call, Asks, FetchedUpTo, HasNetwork, IsRefusedCall, IsComputed, MayAnswer}
+use Rattle.nf_app.specs.Told.{second_bytes}
 use Rattle.nf_app.specs.Completeness.{ToldRequest}
-use Rattle.nf_app.proofs.Texts.{Holds, all_held, network_so, same_second, given_there, in_the_middle}
+use Rattle.nf_app.proofs.Texts.{Holds, all_held, network_so, same_second, result_there, in_the_middle}
 use Rattle.nf_app.proofs.ToldOnce.{one_network}
-use Rattle.nf_app.proofs.Results.{same_ok, ok_err}
+use Rattle.nf_app.proofs.OneValue.{same_ok, ok_err}
 
 some_none : {A : Type 0} (o : Option A) (x : A) → o ≡ Some x → o ≡ None → ⊥
 some_none o x h k = cc
@@ -34,21 +35,22 @@ module _ (call : Call) (t : ToldRequest call) where
       same_Some request t.request (sym one ∙ other)
 
   -- the network has one reading
-  read_once : (request : Request) (read : Result Named Broken) → Read call request read → read ≡ Ok t.net
+  read_once : (request : Request) (read : Result Named Broken) → HasNetwork call request read → read ≡ Ok t.net
   read_once request read r =
       let here : NetworkReads call.shelf (generated_by t.request) (files_of t.request) read =
       subst (λ (q : Request). NetworkReads call.shelf (generated_by q) (files_of q) read) (one_request request r.asks) r.reads in
-      one_network (generated_by t.request) t.network read (Ok t.net) (network_so call.shelf (generated_by t.request) (files_of t.request) t.network read t.told_network here) t.reads
+      one_network (generated_by t.request) t.texts.network read (Ok t.net)
+      (network_so call.shelf (generated_by t.request) (files_of t.request) t.texts.network read t.told.network here) t.reads
 
   -- a file of which too many bytes were read isn't longer than it may be: so the shelf failed
-  too_long_fails : (last : Wanted) → Reached call last → HasTooMany call.shelf last → Failed
+  too_long_fails : (last : Wanted) → FetchedUpTo call last → HasTooMany call.shelf last → Failed
   too_long_fails last r many = by (subst (λ (o : Option (List ℕ)). IfSome o (λ text. Failed ⊎ (last.limit < length text))) held.told many.1)
     where
       held : Holds call.shelf last
       held =
           let to : FetchedTo call.shelf (files_of t.request) last = subst (λ (q : Request). FetchedTo call.shelf (files_of q) last) (one_request r.request r.asks) r.fetched in
           in_the_middle (Holds call.shelf) to.first last to.behind
-          (subst (λ (l : List Wanted). All (Holds call.shelf) l) to.files_are (all_held call.shelf t.request t.network t.second t.told_network t.told_second t.fit))
+          (subst (λ (l : List Wanted). All (Holds call.shelf) l) to.files_are (all_held call.shelf t.request t.texts t.told t.fit))
 
       by : Failed ⊎ (last.limit < length held.text) → Failed
       by (inl rise) = rise
@@ -56,7 +58,7 @@ module _ (call : Call) (t : ToldRequest call) where
 
   -- ---- the answers
   abbrev pub Answers : ProgramAnswer → Type 0
-  Answers answer = (answer ≡ NoMemory) ⊎ ((status_of answer ≡ Status.Shelf) × Failed) ⊎ (IsNamed t.net × IsGiven t.net t.second t.request answer)
+  Answers answer = (answer ≡ NoMemory) ⊎ ((status_of answer ≡ Status.Shelf) × Failed) ⊎ (IsNamed t.net × IsResultOf t.net (second_bytes t.texts) t.request answer)
 
   refused : (answer : ProgramAnswer) → IsRefusedCall call answer → Answers answer
   refused NoMemory h = inl refl
@@ -85,17 +87,17 @@ module _ (call : Call) (t : ToldRequest call) where
   refused NotThin h = absurd h
   refused Earlier h = absurd h
 
-  computed : (answer : ProgramAnswer) → IsComputed call answer → IsNamed t.net × IsGiven t.net t.second t.request answer
+  computed : (answer : ProgramAnswer) → IsComputed call answer → IsNamed t.net × IsResultOf t.net (second_bytes t.texts) t.request answer
   computed answer h =
       let read : Result Named Broken = Ok h.net in
-      let same_net : h.net ≡ t.net = same_ok read h.net t.net refl (read_once h.request read h.read) in
-      let same_request : h.request ≡ t.request = one_request h.request h.read.asks in
+      let same_net : h.net ≡ t.net = same_ok read h.net t.net refl (read_once h.request read h.has_network) in
+      let same_request : h.request ≡ t.request = one_request h.request h.has_network.asks in
       let second : OtherIsText call.shelf t.request h.second = subst (λ (q : Request). OtherIsText call.shelf q h.second) same_request h.is_second in
-      let same_text : IfSome (other_of t.request) (λ file. h.second ≡ t.second) = same_second call.shelf (other_of t.request) h.second t.second second t.told_second in
-      let given : IsGiven h.net h.second t.request answer = subst (λ (q : Request). IsGiven h.net h.second q answer) same_request h.given in
-      let there : IsGiven h.net t.second t.request answer = given_there h.net t.request h.second t.second answer same_text given in
-      (subst (λ (m : Named). IsNamed m) same_net h.named, subst (λ (m : Named). IsGiven m t.second t.request answer) same_net there)
+      let same_text : IfSome (other_of t.request) (λ file. h.second ≡ second_bytes t.texts) = same_second call.shelf (other_of t.request) h.second t.texts.second second t.told.second in
+      let here : IsResultOf h.net h.second t.request answer = subst (λ (q : Request). IsResultOf h.net h.second q answer) same_request h.is_result in
+      let there : IsResultOf h.net (second_bytes t.texts) t.request answer = result_there h.net t.request h.second (second_bytes t.texts) answer same_text here in
+      (subst (λ (m : Named). IsNamed m) same_net h.named, subst (λ (m : Named). IsResultOf m (second_bytes t.texts) t.request answer) same_net there)
 
-  pub told_answers : (answer : ProgramAnswer) → IsAnswer call answer → Answers answer
+  pub told_answers : (answer : ProgramAnswer) → MayAnswer call answer → Answers answer
   told_answers answer (inl h) = refused answer h
   told_answers answer (inr h) = inr (inr (computed answer h))

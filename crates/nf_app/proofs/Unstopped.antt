@@ -19,8 +19,8 @@ use Rattle.nf_app_files.specs.Shown.{IsShown}
 use Rattle.nf_app_words.specs.Requests.{Request, Solve, SolveForever, Show, Load, Check, Quick, Gen, Settle, Resume, Routes}
 use Rattle.nf_app.specs.Requests.{usual_budgets, bounds_to}
 use Rattle.nf_app.specs.Arrivals.{arrival_of, IsArrival}
-use Rattle.nf_app.specs.Given.{IsGiven}
-use Rattle.nf_app.specs.Runs.{Call, Run, IsRefusedCall, IsAnswer, Ran}
+use Rattle.nf_app.specs.Results.{IsResultOf}
+use Rattle.nf_app.specs.Runs.{Call, Run, IsRefusedCall, MayAnswer, Ran}
 use Rattle.nf_app.specs.Stops.{stop_of_arrival, stop_in, AlwaysHasPattern}
 
 -- ---- an answer without a run
@@ -51,7 +51,7 @@ arrival_never net (Some departs) arrival good is = subst NeverNoPattern (sym (ap
     (never_report passes_Q net (bounds_of departs usual_budgets) is.report good is.solution.run)
 
 -- ---- what a request gives with its network
-given_never : (n : Named) (text : List ℕ) (request : Request) (answer : ProgramAnswer) → IsNetwork n.net → IsGiven n text request answer → NeverNoPattern (stop_in answer)
+given_never : (n : Named) (text : List ℕ) (request : Request) (answer : ProgramAnswer) → IsNetwork n.net → IsResultOf n text request answer → NeverNoPattern (stop_in answer)
 given_never n text (Solve file horizon phases patterns) answer good g =
     with_stop answer (Solved n g.report) g.is (never_report passes_Q n.net (bounds_to horizon phases patterns) g.report good g.run)
 given_never n text (SolveForever file phases patterns) answer good g =
@@ -83,9 +83,9 @@ given_never n text (Routes file routes horizon) answer good (inl g) = no_run ans
 given_never n text (Routes file routes horizon) answer good (inr (inl g)) = no_run answer (MalformedRoutes g.0) g.1 refl
 given_never n text (Routes file routes horizon) answer good (inr (inr g)) = no_run answer (Passes g.0) g.1 refl
 
-pub answer_never : (call : Call) (answer : ProgramAnswer) → IsAnswer call answer → NeverNoPattern (stop_in answer)
+pub answer_never : (call : Call) (answer : ProgramAnswer) → MayAnswer call answer → NeverNoPattern (stop_in answer)
 answer_never call answer (inl h) = refused_never call answer h
-answer_never call answer (inr h) = given_never h.net h.second h.request answer h.named.network h.given
+answer_never call answer (inr h) = given_never h.net h.second h.request answer h.named.network h.is_result
 
 -- ---- the status
 by_stop : (stop : Option (Cause ℚ)) → NeverNoPattern stop → status_of_stop stop ≡ Status.NoPattern → ⊥
@@ -131,14 +131,14 @@ by_answer Unbounded never e = absurd (cc)
 by_answer NotThin never e = absurd (cc)
 by_answer Earlier never e = absurd (cc)
 
-pub status_never : (call : Call) (answer : ProgramAnswer) → IsAnswer call answer → status_of answer ≡ Status.NoPattern → ⊥
+pub status_never : (call : Call) (answer : ProgramAnswer) → MayAnswer call answer → status_of answer ≡ Status.NoPattern → ⊥
 status_never call answer comes = by_answer answer (answer_never call answer comes)
 
 output_other : (status : Status) → status ≡ Status.Output → status ≡ Status.NoPattern → ⊥
 output_other status o e = absurd (cc)
 
 -- ---- a whole run
-status_so : (run : Run) (answer : ProgramAnswer) → IsAnswer run.call answer → IsShown answer run.out run.err run.status → run.status ≡ Status.NoPattern → ⊥
+status_so : (run : Run) (answer : ProgramAnswer) → MayAnswer run.call answer → IsShown answer run.out run.err run.status → run.status ≡ Status.NoPattern → ⊥
 status_so run answer comes (inl h) e = status_never run.call answer comes (sym h.status_is ∙ e)
 status_so run answer comes (inr h) e = output_other run.status h.status_is e
 

@@ -3,9 +3,10 @@ pub mod Lists
 pub mod Reports
 pub mod Arrivals
 pub mod Settling
-pub mod Answered
+pub mod SettlingSteps
+pub mod FullAnswers
 pub mod Refused
-pub mod Given
+pub mod Results
 pub mod Runs
 pub mod Gathered
 pub mod Outcomes
@@ -18,3 +19,4 @@ pub mod Uniqueness
 pub mod Stops
 pub mod Output
 pub mod Chained
+pub mod Promises

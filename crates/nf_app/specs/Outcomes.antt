@@ -1,4 +1,4 @@
--- When an outcome of a request, or a refusal, comes.
+-- Words for private functions alone: what finding the result of a request, and answering words, return.
 use Rattle.std.specs.Prelude.{◌≡◌, ◌⊎◌, ℕ, List, Result, Ok, Err}
 use Rattle.nf_net_def.specs.Named.{Named}
 use Rattle.nf_app_answers.specs.declared.outcome.Computed.{Computed}
@@ -7,20 +7,21 @@ use Rattle.nf_app_answers.specs.declared.refusal.Refusal.{Refusal}
 use Rattle.nf_app_answers.specs.Refusals.{answer_of}
 use Rattle.nf_app_answers.specs.Outcomes.{answer_with, HasTextWith, answer_in, HasText}
 use Rattle.nf_app_words.specs.Requests.{Request}
-use Rattle.nf_app.specs.Given.{IsGiven}
-use Rattle.nf_app.specs.Runs.{Call, IsAnswer}
+use Rattle.nf_app.specs.Results.{IsResultOf}
+use Rattle.nf_app.specs.Runs.{Call, MayAnswer}
 
--- what a request gives with its network and the bytes of its second file, or why it gives nothing
-abbrev pub IsGiving : Named → List ℕ → Request → Result Computed Refusal → Type 0
-IsGiving n text request (Ok found) = IsGiven n text request (answer_with n found) × HasTextWith n found
-IsGiving n text request (Err refusal) = (refusal ≡ Refusal.NoMemory) ⊎ IsGiven n text request (answer_of refusal)
+-- The value found is the request's result, with its network and the bytes of its second file, and has its text. Or the refusal is the result,
+-- or an allocation failed.
+abbrev pub FindsResult : Named → List ℕ → Request → Result Computed Refusal → Type 0
+FindsResult n text request (Ok found) = IsResultOf n text request (answer_with n found) × HasTextWith n found
+FindsResult n text request (Err refusal) = (refusal ≡ Refusal.NoMemory) ⊎ IsResultOf n text request (answer_of refusal)
 
 -- what was found, with its network
 abbrev pub with_net : Named → Result Computed Refusal → Result Outcome Refusal
 with_net n (Ok found) = Ok (record { net = n; found = found })
 with_net n (Err refusal) = Err refusal
 
--- the outcome, or the refusal, is an answer that the call may give; an outcome has its text
-abbrev pub IsAnswered : Call → Result Outcome Refusal → Type 0
-IsAnswered call (Ok outcome) = IsAnswer call (answer_in outcome) × HasText outcome
-IsAnswered call (Err refusal) = IsAnswer call (answer_of refusal)
+-- The outcome is an answer that the call may give, and has its text. Or the refusal is such an answer.
+abbrev pub AnswersCall : Call → Result Outcome Refusal → Type 0
+AnswersCall call (Ok outcome) = MayAnswer call (answer_in outcome) × HasText outcome
+AnswersCall call (Err refusal) = MayAnswer call (answer_of refusal)

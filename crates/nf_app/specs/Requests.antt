@@ -1,5 +1,5 @@
 -- The files of each request, the network that it makes, and the bounds of its run.
-use Rattle.std.specs.Prelude.{ℕ, ◌≤◌, List, [], ◌∷◌, length, Option, Some, None, slice_get, IfSome}
+use Rattle.std.specs.Prelude.{ℕ, List, [], ◌∷◌, Option, Some, None, slice_get, IfSome}
 use Rattle.nf_rational.specs.Rational.{ℚ}
 use Rattle.nf_net_def.specs.Named.{Named}
 use Rattle.nf_thin_def.specs.PhaseRun.{Bounds}
@@ -31,10 +31,6 @@ first_of request = slice_get (files_of request) 0
 -- the file that is wanted beside the network's, if there is one
 abbrev pub other_of : Request → Option Wanted
 other_of request = slice_get (files_of request) 1
-
--- a text is at most as long as this file may be
-abbrev pub OtherFits : Request → List ℕ → Type 0
-OtherFits request text = IfSome (other_of request) (λ file. length text ≤ file.limit)
 
 -- the text is the second file's bytes: as many as the shelf read, and just the known ones, if they are known
 abbrev pub OtherIsText : Visit → Request → List ℕ → Type 0

@@ -14,17 +14,25 @@ use Rattle.nf_app_answers.specs.Answers.{ProgramAnswer, Solved}
 use Rattle.nf_app_files.specs.Sinks.{TookAll}
 use Rattle.nf_app.specs.Requests.{bounds_to}
 use Rattle.nf_app.specs.Runs.{Call, Run, IsComputed}
+use Rattle.nf_app.specs.Told.{second_bytes}
 use Rattle.nf_app.specs.Completeness.{ReachesHorizon, ToldRequest}
 
 -- ---- the report that was read in this call
--- The text is the report of a run of the network, to any horizon, within any budgets, whatever stopped it. One run from the start, within
--- budgets of its own, reaches the horizon of `resume`. If the first run ended mid-phase, no operation of a table or verdict list exceeds
--- the bound in the search for the remainder of that phase. Then the new report is that of the one run, if it isn't stopped.
+-- A text is the report of a run of the network, to any horizon, within any budgets, whatever stopped it. One run from the start, within
+-- budgets of its own, reaches the horizon of `resume`. If the first run ended mid-phase, no operation of a table or verdict list exceeds the
+-- bound in the search for the remainder of that phase.
+pub record ResumesRun (n : Named) (text : List ℕ) (bounds : Bounds) : Type 0 where
+  pub old : Report
+  pub reads : report_in n text ≡ Ok old
+  pub first_bounds : Bounds
+  pub first : IsRunReport passes_Q n.net first_bounds old
+  pub later_budgets : Budgets
+  pub later : ReachesHorizon n bounds.horizon later_budgets
+  pub rest : RestFits passes_Q n.net bounds first.last
+
+-- Then the new report is that of the one run, if it isn't stopped.
 abbrev pub ReportIsOfOneRun : Named → List ℕ → Bounds → Report → Type 0
-ReportIsOfOneRun n text bounds new = (old : Report) → report_in n text ≡ Ok old
-    → (first_bounds : Bounds) (first : IsRunReport passes_Q n.net first_bounds old) (later_budgets : Budgets)
-    (later : ReachesHorizon n bounds.horizon later_budgets) → RestFits passes_Q n.net bounds first.last → new.stop ≡ None
-    → new ≡ later.report
+ReportIsOfOneRun n text bounds new = (r : ResumesRun n text bounds) → new.stop ≡ None → new ≡ r.later.report
 
 -- `ReportIsOfOneRun` for every `Solved` answer to `resume`; trivial for other requests
 abbrev pub AnswerIsOfOneRun : Named → List ℕ → Request → ProgramAnswer → Type 0
@@ -45,13 +53,8 @@ pub record AsksToResumeRun (call : Call) : Type 0 where
   pub phases : ℕ
   pub patterns : ℕ
   pub is : told.request ≡ Resume file report_name horizon phases patterns
-  pub old : Report
-  pub reads : report_in told.net told.second ≡ Ok old
-  pub first_bounds : Bounds
-  pub first : IsRunReport passes_Q told.net.net first_bounds old
-  pub later_budgets : Budgets
-  pub later : ReachesHorizon told.net horizon later_budgets
-  pub rest : RestFits passes_Q told.net.net (bounds_to horizon phases patterns) first.last
+  pub resumes : ResumesRun told.net (second_bytes told.texts) (bounds_to horizon phases patterns)
 
 abbrev pub WritesReportOfOneRun : Run → Type 0
-WritesReportOfOneRun run = (r : AsksToResumeRun run.call) → run.status ≡ Status.Ok → TookAll run.out (report_text r.told.net r.later.report)
+WritesReportOfOneRun run = (r : AsksToResumeRun run.call) → run.status ≡ Status.Ok
+    → TookAll run.out (report_text r.told.net r.resumes.later.report)

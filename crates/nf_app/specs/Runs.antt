@@ -16,7 +16,7 @@ use Rattle.nf_app_files.specs.Sinks.{Took, took_of}
 use Rattle.nf_app_files.specs.Shown.{IsShown}
 use Rattle.nf_app_words.specs.Requests.{Request, request_of}
 use Rattle.nf_app.specs.Requests.{files_of, generated_by, OtherIsText}
-use Rattle.nf_app.specs.Given.{IsGiven}
+use Rattle.nf_app.specs.Results.{IsResultOf}
 
 -- the words of a call, and what it did with its shelf
 pub record Call : Type 0 where
@@ -43,47 +43,47 @@ this_call shelf out err words s t o p e f status = record {
 abbrev pub Asks : Call → Request → Type 0
 Asks call request = request_of call.words ≡ Some request
 
--- the request's files were fetched up to this one
-pub record Reached (call : Call) (last : Wanted) : Type 0 where
+-- The words are a request, and its files were fetched up to this one.
+pub record FetchedUpTo (call : Call) (last : Wanted) : Type 0 where
   pub request : Request
   pub asks : Asks call request
   pub fetched : FetchedTo call.shelf (files_of request) last
 
--- all files of the request were fetched, and its network reads so
-pub record Read (call : Call) (request : Request) (read : Result Named Broken) : Type 0 where
+-- The words are this request, all its files were fetched, and its network is this, or breaks this rule.
+pub record HasNetwork (call : Call) (request : Request) (read : Result Named Broken) : Type 0 where
   pub asks : Asks call request
   pub fetched : FetchedAll call.shelf (files_of request)
   pub reads : NetworkReads call.shelf (generated_by request) (files_of request) read
 
 -- The call is refused, so nothing is computed. An allocation may fail before any file was fetched, and after each.
 abbrev pub IsRefusedCall : Call → ProgramAnswer → Type 0
-IsRefusedCall call NoMemory = FetchedNone call.shelf ⊎ ((last : Wanted) × Reached call last)
+IsRefusedCall call NoMemory = FetchedNone call.shelf ⊎ ((last : Wanted) × FetchedUpTo call last)
 IsRefusedCall call NoRequest = (request_of call.words ≡ None) × FetchedNone call.shelf
-IsRefusedCall call ShelfFailed = (last : Wanted) × Reached call last × Failed call.shelf last
-IsRefusedCall call ShelfTooLong = (last : Wanted) × Reached call last × HasTooMany call.shelf last
-IsRefusedCall call (Malformed broken) = (request : Request) × Read call request (Err broken)
+IsRefusedCall call ShelfFailed = (last : Wanted) × FetchedUpTo call last × Failed call.shelf last
+IsRefusedCall call ShelfTooLong = (last : Wanted) × FetchedUpTo call last × HasTooMany call.shelf last
+IsRefusedCall call (Malformed broken) = (request : Request) × HasNetwork call request (Err broken)
 IsRefusedCall call answer = ⊥
 
--- The request has its network, which is one that a file can give, and the bytes of its second file that were read in this call. It gives
--- this answer with both.
+-- The request has its network, which is one that a file can give, and the bytes of its second file that were read in this call. The answer
+-- is its result with both.
 pub record IsComputed (call : Call) (answer : ProgramAnswer) : Type 0 where
   pub request : Request
   pub net : Named
-  pub read : Read call request (Ok net)
+  pub has_network : HasNetwork call request (Ok net)
   pub named : IsNamed net
   pub second : List ℕ
   pub is_second : OtherIsText call.shelf request second
-  pub given : IsGiven net second request answer
+  pub is_result : IsResultOf net second request answer
 
--- when which answer is given
-abbrev pub IsAnswer : Call → ProgramAnswer → Type 0
-IsAnswer call answer = IsRefusedCall call answer ⊎ IsComputed call answer
+-- A call may give an answer by which it is refused, or one that is computed.
+abbrev pub MayAnswer : Call → ProgramAnswer → Type 0
+MayAnswer call answer = IsRefusedCall call answer ⊎ IsComputed call answer
 
 -- ---- a whole run
 -- the run has an answer that its call may give, and its status and its sinks show this answer
 pub record Ran (run : Run) : Type 0 where
   pub answer : ProgramAnswer
-  pub comes : IsAnswer run.call answer
+  pub comes : MayAnswer run.call answer
   pub shown : IsShown answer run.out run.err run.status
 
 -- neither the shelf nor the output counted a fault in the call

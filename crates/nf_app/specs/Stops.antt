@@ -6,7 +6,7 @@ use Rattle.nf_phase_run_laws.specs.Stops.{NeverNoPattern}
 use Rattle.nf_app_answers.specs.declared.arrival.Arrival.{Arrival}
 use Rattle.nf_app_answers.specs.declared.status.Status.{Status}
 use Rattle.nf_app_answers.specs.Answers.{ProgramAnswer, Solved, SolvedForever, Quickest, Generated}
-use Rattle.nf_app.specs.Runs.{Run, IsAnswer}
+use Rattle.nf_app.specs.Runs.{Run, MayAnswer}
 
 -- the cause that stopped the run to the departure, if one did
 abbrev pub stop_of_arrival : Arrival → Option (Cause ℚ)
@@ -25,5 +25,5 @@ stop_in answer = None
 
 -- of each answer that the call may give, and of its status
 pub record AlwaysHasPattern (run : Run) : Type 0 where
-  pub stops : (answer : ProgramAnswer) → IsAnswer run.call answer → NeverNoPattern (stop_in answer)
+  pub stops : (answer : ProgramAnswer) → MayAnswer run.call answer → NeverNoPattern (stop_in answer)
   pub not_status : run.status ≡ Status.NoPattern → ⊥

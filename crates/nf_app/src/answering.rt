@@ -17,8 +17,8 @@ ghost use Rattle.nf_app_words.specs.Requests.{Solve, SolveForever, Show, Load, C
 ghost use Rattle.nf_app_words.specs.Requests as requests;
 ghost use Rattle.nf_app_words.specs.RequestViews.{requested};
 ghost use Rattle.nf_app.specs.Reports.{IsReportText};
-ghost use Rattle.nf_app.specs.Requests.{OtherFits};
-ghost use Rattle.nf_app.specs.Outcomes.{IsGiving, IsAnswered, with_net};
+ghost use Rattle.nf_app.specs.Gathered.{OtherFits};
+ghost use Rattle.nf_app.specs.Outcomes.{FindsResult, AnswersCall, with_net};
 
 use crate::arrival::{find_arrival, last_label};
 use crate::gathering::gather;
@@ -44,7 +44,7 @@ use std::alloc::{AllocError, Global};
 // Solves the network to a horizon.
 fn solve_to(alloc: Global, net: &Network, horizon: Q, budgets: Budgets) -> Result<Computed, Refusal>
     requires { 0ℚ ≤ℚ horizon }
-    ensures { (file text : List ℕ) → IsGiving net.now text (Solve file horizon budgets.phases budgets.patterns) result }
+    ensures { (file text : List ℕ) → FindsResult net.now text (Solve file horizon budgets.phases budgets.patterns) result }
 {
     // Proof: the network is that of an accepted file, and the parts of the horizon are within the bound.
     net.recall();
@@ -55,7 +55,7 @@ fn solve_to(alloc: Global, net: &Network, horizon: Q, budgets: Budgets) -> Resul
 
 // Solves the network without a horizon.
 fn solve_on(alloc: Global, net: &Network, budgets: Budgets) -> Result<Computed, Refusal>
-    ensures { (file text : List ℕ) → IsGiving net.now text (SolveForever file budgets.phases budgets.patterns) result }
+    ensures { (file text : List ℕ) → FindsResult net.now text (SolveForever file budgets.phases budgets.patterns) result }
 {
     // Proof: the network is that of an accepted file.
     net.recall();
@@ -72,7 +72,7 @@ fn sum_up(
     budgets: Budgets,
 ) -> Result<Computed, Refusal>
     requires { 0ℚ ≤ℚ horizon }
-    ensures { (text : List ℕ) → IsGiving net.now text (Gen ladder.number ladder.rungs horizon budgets.phases budgets.patterns) result }
+    ensures { (text : List ℕ) → FindsResult net.now text (Gen ladder.number ladder.rungs horizon budgets.phases budgets.patterns) result }
 {
     // Proof: the network is that of an accepted file.
     net.recall();
@@ -88,7 +88,7 @@ fn sum_up(
 
 // Returns the text of the network.
 fn show(alloc: Global, net: &Network) -> Result<Computed, Refusal>
-    ensures { (file other : List ℕ) → IsGiving net.now other (Show file) result }
+    ensures { (file other : List ℕ) → FindsResult net.now other (Show file) result }
 {
     let text = text(alloc, net)?;
     Ok(Computed::Shown { text })
@@ -98,7 +98,7 @@ fn show(alloc: Global, net: &Network) -> Result<Computed, Refusal>
 fn load_to(alloc: Global, net: &Network, loads: &[u8], horizon: Q) -> Result<Computed, Refusal>
     requires horizon { 0ℚ ≤ℚ horizon }
     requires within { length loads.now ≤ longest_text }
-    ensures { (file name : List ℕ) → IsGiving net.now loads.now (Load file name horizon) result }
+    ensures { (file name : List ℕ) → FindsResult net.now loads.now (Load file name horizon) result }
 {
     // Proof: the network is that of an accepted file.
     net.recall();
@@ -110,7 +110,7 @@ fn load_to(alloc: Global, net: &Network, loads: &[u8], horizon: Q) -> Result<Com
 // Parses a report and checks its flow. The text, which may be long, is dropped before.
 fn check_report(alloc: Global, net: &Network, text: Vec<u8>) -> Result<Computed, Refusal>
     requires { length text.items ≤ report_limit }
-    ensures { (file name : List ℕ) → IsGiving net.now text.items (Check file name) result }
+    ensures { (file name : List ℕ) → FindsResult net.now text.items (Check file name) result }
 {
     // Proof: the network is that of an accepted file.
     net.recall();
@@ -123,7 +123,7 @@ fn check_report(alloc: Global, net: &Network, text: Vec<u8>) -> Result<Computed,
 // Parses a flows file and settles its thin flow.
 fn settle_to(alloc: Global, net: &Network, text: &[u8]) -> Result<Computed, Refusal>
     requires { length text.now ≤ longest_text }
-    ensures { (file name : List ℕ) → IsGiving net.now text.now (Settle file name) result }
+    ensures { (file name : List ℕ) → FindsResult net.now text.now (Settle file name) result }
 {
     let flows = parse_flows(alloc, net, text)?;
     match settle_at_start(alloc, net, &flows)? {
@@ -135,7 +135,7 @@ fn settle_to(alloc: Global, net: &Network, text: &[u8]) -> Result<Computed, Refu
 // Returns why a report isn't resumed: if its flow is no equilibrium, the verdict of the check.
 fn refuse_resume(fault: ResumeFault) -> Result<Computed, Refusal>
     ensures { (net : Named) (file name text : List ℕ) (horizon : ℚ) (phases patterns : ℕ) (old : SeenReport) → IsReportText net text old
-        → IsResumeFault passes_Q net.net old horizon fault → IsGiving net text (Resume file name horizon phases patterns) result }
+        → IsResumeFault passes_Q net.net old horizon fault → FindsResult net text (Resume file name horizon phases patterns) result }
 {
     match fault {
         ResumeFault::Earlier { .. } => Err(Refusal::Earlier),
@@ -154,7 +154,7 @@ fn resume_to(
     budgets: Budgets,
 ) -> Result<Computed, Refusal>
     requires { length text.items ≤ report_limit }
-    ensures { (file name : List ℕ) → IsGiving net.now text.items (Resume file name horizon budgets.phases budgets.patterns) result }
+    ensures { (file name : List ℕ) → FindsResult net.now text.items (Resume file name horizon budgets.phases budgets.patterns) result }
 {
     // Proof: the network is that of an accepted file, and the parts of the horizon are within the bound.
     net.recall();
@@ -171,7 +171,7 @@ fn resume_to(
 fn distribute(alloc: Global, net: &Network, text: &[u8], horizon: Q) -> Result<Computed, Refusal>
     requires horizon { 0ℚ ≤ℚ horizon }
     requires within { length text.now ≤ longest_text }
-    ensures { (file name : List ℕ) → IsGiving net.now text.now (Routes file name horizon) result }
+    ensures { (file name : List ℕ) → FindsResult net.now text.now (Routes file name horizon) result }
 {
     let routes = parse_routes(alloc, net, text)?;
     let routed = carry_routes(alloc, net, &routes, horizon)?;
@@ -192,7 +192,7 @@ fn end_over_budget(
     ensures { (file other : List ℕ) (amount : ℚ)
         → answered.IsAnswered passes_Q net.now.net amount augments (Err (QuickFault.Budget walks))
         → answered.IsInOrder net.now.net amount augments (Err (QuickFault.Budget walks))
-        → IsGiving net.now other (requests.Quick file amount augments) result }
+        → FindsResult net.now other (requests.Quick file amount augments) result }
 {
     let text = augments_text(alloc, net, &walks)?;
     Ok(Computed::TooManyWalks {
@@ -210,7 +210,7 @@ fn refuse_quick(
     fault: QuickFault,
 ) -> Result<Computed, Refusal>
     ensures { (file other : List ℕ) (amount : ℚ) → answered.IsAnswered passes_Q net.now.net amount augments (Err fault)
-        → answered.IsInOrder net.now.net amount augments (Err fault) → IsGiving net.now other (requests.Quick file amount augments) result }
+        → answered.IsInOrder net.now.net amount augments (Err fault) → FindsResult net.now other (requests.Quick file amount augments) result }
 {
     match fault {
         QuickFault::Budget { walks } => end_over_budget(alloc, net, augments, walks),
@@ -230,7 +230,7 @@ fn beside_arrival(
     requires amount { 0ℚ ≤ℚ amount }
     requires flow { IsQuickFlow net.now.net amount quick }
     ensures { (file other : List ℕ) (augments : ℕ) → answered.IsAnswered passes_Q net.now.net amount augments (Ok quick)
-        → answered.IsInOrder net.now.net amount augments (Ok quick) → IsGiving net.now other (requests.Quick file amount augments) result }
+        → answered.IsInOrder net.now.net amount augments (Ok quick) → FindsResult net.now other (requests.Quick file amount augments) result }
 {
     let departs = departure(net, amount)?;
     let arrival = find_arrival(alloc, net, departs)?;
@@ -246,7 +246,7 @@ fn beside_arrival(
 fn quick_to(alloc: Global, net: &Network, amount: Q, augments: u64) -> Result<Computed, Refusal>
     requires amount { 0ℚ ≤ℚ amount }
     requires augments { 1 ≤ augments }
-    ensures { (file other : List ℕ) → IsGiving net.now other (requests.Quick file amount augments) result }
+    ensures { (file other : List ℕ) → FindsResult net.now other (requests.Quick file amount augments) result }
 {
     match quickest(alloc, net, amount, augments) {
         Ok(quick) => beside_arrival(alloc, net, amount, quick),
@@ -273,7 +273,7 @@ fn find(
 ) -> Result<Computed, Refusal>
     requires asked { CanBeAsked (requested request.now) }
     requires fits { OtherFits (requested request.now) other.items }
-    ensures { IsGiving net.now other.items (requested request.now) result }
+    ensures { FindsResult net.now other.items (requested request.now) result }
 {
     match *request {
         Request::Solve {
@@ -327,7 +327,7 @@ fn answer_request<S: Shelf>(
 ) -> Result<Outcome, Refusal>
     requires { CanBeAsked (requested request.now) }
     ensures answered { (words : List (List ℕ)) → request_of words ≡ Some (requested request.now)
-        → IsAnswered (record { words = words; shelf = visit S.Shelf shelf.old shelf.new }) result }
+        → AnswersCall (record { words = words; shelf = visit S.Shelf shelf.old shelf.new }) result }
     ensures same { (name : List ℕ) → S.told shelf.new name ≡ S.told shelf.old name }
     ensures never_falls { S.faults shelf.old ≤ S.faults shelf.new }
 {
@@ -343,7 +343,7 @@ pub(crate) fn answer<S: Shelf>(
     words: &[String],
     shelf: &mut S,
 ) -> Result<Outcome, Refusal>
-    ensures answered { IsAnswered (record { words = texts words.now; shelf = visit S.Shelf shelf.old shelf.new }) result }
+    ensures answered { AnswersCall (record { words = texts words.now; shelf = visit S.Shelf shelf.old shelf.new }) result }
     ensures same { (name : List ℕ) → S.told shelf.new name ≡ S.told shelf.old name }
     ensures never_falls { S.faults shelf.old ≤ S.faults shelf.new }
 {

@@ -7,8 +7,7 @@ ghost use Rattle.nf_app_files.specs.Fetching.{AreRead};
 ghost use Rattle.nf_gen.specs.Ladder.{most_rungs, ladder};
 ghost use Rattle.nf_app_words.specs.Requests.{CanBeAsked, request_of};
 ghost use Rattle.nf_app_words.specs.RequestViews.{requested};
-ghost use Rattle.nf_app.specs.Requests.{OtherFits};
-ghost use Rattle.nf_app.specs.Gathered.{IsGathered};
+ghost use Rattle.nf_app.specs.Gathered.{OtherFits, IsGathered};
 
 use nf_app_answers::Refusal;
 use nf_app_files::{fetch_network, fetch_network_with};

@@ -1,14 +1,7 @@
 // The top call.
 ghost use Rattle.std.specs.Prelude.{◌≡◌, ◌≤◌, ℕ, List};
-ghost use Rattle.nf_app.specs.Runs.{Ran, this_call};
-ghost use Rattle.nf_app.specs.Solves.{SolvesTold};
-ghost use Rattle.nf_app.specs.Only.{ShowsOnlyThat};
-ghost use Rattle.nf_app.specs.Completeness.{IsComplete};
-ghost use Rattle.nf_app.specs.Output.{OutputFails};
-ghost use Rattle.nf_app.specs.Stops.{AlwaysHasPattern};
-ghost use Rattle.nf_app.specs.Uniqueness.{AnswerIsSameInAll};
-ghost use Rattle.nf_app.specs.Resumption.{ComputesReportOfOneRun, WritesReportOfOneRun};
-ghost use Rattle.nf_app.specs.Chained.{SaysYes, ResumesSolvedText};
+ghost use Rattle.nf_app.specs.Runs.{this_call};
+ghost use Rattle.nf_app.specs.Promises.{Promises};
 
 use crate::answering::answer;
 use nf_app_answers::{Outcome, Status};
@@ -56,54 +49,8 @@ pub fn run<S: Shelf, O: Sink, E: Sink>(
     out: &mut O,
     err: &mut E,
 ) -> Status
-    // Asked to solve a known, accepted file, and with a status other than 1, 3 and 9, `out` took the text of one report to the horizon.
-    // Its flow is an equilibrium up to the departure reached. The status is 0 exactly if that is the horizon, else that of the cause.
-    ensures solves { SolvesTold
-        (this_call S.Shelf O.Sink E.Sink words.now shelf.old shelf.new out.old out.new err.old err.new result) }
-
-    // An answer comes, and the status, `out` and `err` show it.
-    ensures ran { Ran
-        (this_call S.Shelf O.Sink E.Sink words.now shelf.old shelf.new out.old out.new err.old err.new result) }
-
-    // With known files the words have one answer, whatever was fetched before, and it is shown; or an allocation or the shelf failed.
-    ensures only { ShowsOnlyThat
-        (this_call S.Shelf O.Sink E.Sink words.now shelf.old shelf.new out.old out.new err.old err.new result) }
-
-    // With known, well-formed files, and no fault of the shelf or of `out`, the status is 1 or one of the command's row (`ends_of`). If
-    // nothing hinders the command, the status is 1 or one of `best_ends_of`.
-    ensures complete { IsComplete
-        (this_call S.Shelf O.Sink E.Sink words.now shelf.old shelf.new out.old out.new err.old err.new result) }
-
-    // With status 9 a fault of `out` was counted in this call. With any other status none was, whatever the answer.
-    ensures output { OutputFails
-        (this_call S.Shelf O.Sink E.Sink words.now shelf.old shelf.new out.old out.new err.old err.new result) }
-
-    // No run stops because no pattern is left, and the status is never 8.
-    ensures never_no_pattern { AlwaysHasPattern
-        (this_call S.Shelf O.Sink E.Sink words.now shelf.old shelf.new out.old out.new err.old err.new result) }
-
-    // Every equilibrium of the network has the labels, queues and exits of the answer's flow, as far as both describe departures. The
-    // same holds of the report that `check` answers yes, and of the arrival of `quick`.
-    ensures same_in_all { AnswerIsSameInAll
-        (this_call S.Shelf O.Sink E.Sink words.now shelf.old shelf.new out.old out.new err.old err.new result) }
-
-    // If `resume` is given the report of a run, and both runs reach the horizon, its report is that of one run from the start. Mid-phase,
-    // no operation of a table or verdict list may exceed the bound in the search for the remainder of the phase.
-    ensures one_run { ComputesReportOfOneRun
-        (this_call S.Shelf O.Sink E.Sink words.now shelf.old shelf.new out.old out.new err.old err.new result) }
-
-    // With known files and status 0, `resume` then writes the text of that report, byte for byte.
-    ensures resumes { WritesReportOfOneRun
-        (this_call S.Shelf O.Sink E.Sink words.now shelf.old shelf.new out.old out.new err.old err.new result) }
-
-    // With known files and no fault of the shelf or of `out`, `check` says yes of a text that a call of `solve` wrote, unless an operation
-    // exceeds the bound or an allocation fails.
-    ensures says_yes { SaysYes
-        (this_call S.Shelf O.Sink E.Sink words.now shelf.old shelf.new out.old out.new err.old err.new result) }
-
-    // Let one call of `solve` write a text, and a second one, with status 0, the text to a later horizon. With known files and status 0,
-    // `resume` of the first text to that horizon writes the second text, on the premise of `one_run`.
-    ensures resumes_solved { ResumesSolvedText
+    // The promises are explained one by one in `specs/Promises`.
+    ensures promises { Promises
         (this_call S.Shelf O.Sink E.Sink words.now shelf.old shelf.new out.old out.new err.old err.new result) }
 
     // What is known of the shelf's files stays the same, and no count of faults falls. So one call can follow another.

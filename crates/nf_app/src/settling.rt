@@ -1,7 +1,7 @@
 // Settling a thin flow at departure 0.
 ghost use Rattle.std.specs.Prelude.{◌≡◌, length};
 ghost use Rattle.nf_complete_read.specs.Files.{given_of};
-ghost use Rattle.nf_app.specs.Settling.{AreStartSets, SettlesAtStart};
+ghost use Rattle.nf_app.specs.SettlingSteps.{AreStartSets, SettlesAtStart};
 
 use nf_complete::{Settled, is_thin, settle};
 use nf_complete_read::Flows;

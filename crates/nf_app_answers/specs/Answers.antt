@@ -28,38 +28,44 @@ use Rattle.nf_app_answers.specs.GenText.{gen_text}
 use Rattle.nf_app_answers.specs.declared.arrival.Arrival.{Arrival}
 use Rattle.nf_app_answers.specs.declared.status.Status.{Status}
 
--- The answers of the program.
--- `Solved`: the report of a run in the file's network. `SolvedForever`: a run in it without a horizon. `Shown`: the network. `Loaded`: the
--- loading of each of its links up to a horizon. `Checked`: the verdict on the flow of a report. `Quickest`: a quickest flow, and the
--- arrival in an equilibrium. `TooManyWalks`: the walks pushed for a quickest flow, as many as allowed. `Generated`: the run in the ladder
--- of a number and its rungs, with its number of phases. `Distributed`: the loading along routes up to a horizon. `Settled`: the pattern and
--- the flows of a settled thin flow.
--- `NotThin`: the flows and slopes of the file are not a thin flow. `Earlier`: the horizon is before the departure that the report's flow
--- has reached. `Unbounded`: a walk of unbounded links leads to the sink, so there is no quickest flow. `Passes`: an operation of the
--- command's operation sequence passes the bound.
+-- The answers of the program. `n` is the network, with its names.
 pub data ProgramAnswer : Type 0 where
-  Solved : Named → Report → ProgramAnswer
-  SolvedForever : Named → Forever → ProgramAnswer
-  Shown : Named → ProgramAnswer
-  Loaded : Named → ℚ → List Loading → ProgramAnswer
-  Checked : Named → Verdict ℕ ℕ ℚ → ProgramAnswer
-  Quickest : Named → Quick → Arrival → ProgramAnswer
-  TooManyWalks : Named → ℕ → List Augment → ProgramAnswer
-  Generated : ℕ → ℕ → Named → ℕ → Report → ProgramAnswer
-  Settled : Named → Pattern → List ℚ → ProgramAnswer
-  Distributed : Named → List NamedRoute → ℚ → Routed → ProgramAnswer
+  -- the report of a run in the file's network, and a run in it without a horizon
+  Solved : (n : Named) (report : Report) → ProgramAnswer
+  SolvedForever : (n : Named) (forever : Forever) → ProgramAnswer
+  -- the network
+  Shown : (n : Named) → ProgramAnswer
+  -- the loading of each link up to a horizon
+  Loaded : (n : Named) (horizon : ℚ) (loaded : List Loading) → ProgramAnswer
+  -- the verdict on the flow of a report
+  Checked : (n : Named) (verdict : Verdict ℕ ℕ ℚ) → ProgramAnswer
+  -- a quickest flow, and the arrival in an equilibrium; or the walks pushed for one, as many as the budget `augments` allows
+  Quickest : (n : Named) (quick : Quick) (arrival : Arrival) → ProgramAnswer
+  TooManyWalks : (n : Named) (augments : ℕ) (walks : List Augment) → ProgramAnswer
+  -- the run in the ladder of a number and its rungs, with the number of phases that were made
+  Generated : (number rungs : ℕ) (n : Named) (made : ℕ) (report : Report) → ProgramAnswer
+  -- the pattern and the flows of a settled thin flow
+  Settled : (n : Named) (pattern : Pattern) (flows : List ℚ) → ProgramAnswer
+  -- the loading along routes up to a horizon
+  Distributed : (n : Named) (routes : List NamedRoute) (horizon : ℚ) (routed : Routed) → ProgramAnswer
+  -- an allocation failed; the words are no request; a file could not be fetched, or is too long
   NoMemory : ProgramAnswer
   NoRequest : ProgramAnswer
   ShelfFailed : ProgramAnswer
   ShelfTooLong : ProgramAnswer
-  Malformed : Broken → ProgramAnswer
-  MalformedLoads : LoadsBroken → ProgramAnswer
-  MalformedFlows : FlowsBroken → ProgramAnswer
-  MalformedRoutes : RoutesBroken → ProgramAnswer
-  MalformedReport : ReportBroken → ProgramAnswer
-  Passes : PassedAt ℚ → ProgramAnswer
+  -- a file breaks a rule
+  Malformed : (broken : Broken) → ProgramAnswer
+  MalformedLoads : (broken : LoadsBroken) → ProgramAnswer
+  MalformedFlows : (broken : FlowsBroken) → ProgramAnswer
+  MalformedRoutes : (broken : RoutesBroken) → ProgramAnswer
+  MalformedReport : (broken : ReportBroken) → ProgramAnswer
+  -- this operation of the command exceeds the bound
+  Passes : (at : PassedAt ℚ) → ProgramAnswer
+  -- a walk of unbounded links leads to the sink, so there is no quickest flow
   Unbounded : ProgramAnswer
+  -- the flows and slopes of the file are no thin flow
   NotThin : ProgramAnswer
+  -- the horizon is before the departure that the report's flow has reached
   Earlier : ProgramAnswer
 
 -- ---- the status

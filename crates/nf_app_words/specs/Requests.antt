@@ -10,19 +10,19 @@ use Rattle.nf_app_words.specs.CommandLine.{matches_on, file_in}
 use Rattle.nf_app_words.specs.Numbers.{not_negative_in, count_in, usual_or_count_in, usual_phases, most_phases, usual_patterns, most_patterns, usual_augments, most_augments, most_number, most_rungs}
 use Rattle.nf_app_words.specs.Commands.{commands, first_task}
 
--- A request, with files by name. A run has a horizon or none, and budgets of phases and of patterns for each phase. A quickest flow has an
--- amount, and a budget of pushed walks. A ladder has a number and rungs.
+-- A request. `file` names the network's file, and the second file has the name of its kind. `phases` and `patterns` are budgets: of a run, and
+-- of the search in each of its phases. `augments` is the budget of pushed walks.
 pub data Request : Type 0 where
-  Solve : Text → ℚ → ℕ → ℕ → Request
-  SolveForever : Text → ℕ → ℕ → Request
-  Show : Text → Request
-  Load : Text → Text → ℚ → Request
-  Check : Text → Text → Request
-  Quick : Text → ℚ → ℕ → Request
-  Gen : ℕ → ℕ → ℚ → ℕ → ℕ → Request
-  Settle : Text → Text → Request
-  Resume : Text → Text → ℚ → ℕ → ℕ → Request
-  Routes : Text → Text → ℚ → Request
+  Solve : (file : Text) (horizon : ℚ) (phases patterns : ℕ) → Request
+  SolveForever : (file : Text) (phases patterns : ℕ) → Request
+  Show : (file : Text) → Request
+  Load : (file loads : Text) (horizon : ℚ) → Request
+  Check : (file report : Text) → Request
+  Quick : (file : Text) (amount : ℚ) (augments : ℕ) → Request
+  Gen : (number rungs : ℕ) (horizon : ℚ) (phases patterns : ℕ) → Request
+  Settle : (file flows : Text) → Request
+  Resume : (file report : Text) (horizon : ℚ) (phases patterns : ℕ) → Request
+  Routes : (file routes : Text) (horizon : ℚ) → Request
 
 -- A horizon and an amount are at least 0. Phases, patterns, pushed walks and rungs are at least 1 and at most their limit.
 abbrev pub IsWithin : ℕ → ℕ → Type 0

@@ -5,7 +5,7 @@ use Rattle.std.proofs.lemmas.Result.{err_from_is_err_and}
 use Rattle.nf_curve.specs.Flows.{trace_of}
 use Rattle.nf_report_def.specs.ReportFile.{report_in}
 use Rattle.nf_report_read.specs.Files.{IfBroken, report_of}
-use Rattle.nf_app.proofs.CheckGiven.{report_refused, checking_stopped, verdict_given}
+use Rattle.nf_app.proofs.CheckResult.{report_refused, checking_stopped, verdict_given}
 use Rattle.nf_app.proofs.answering.check_report.Goals as goal
 
 pub parse_report-requires : goal.parse_report-requires

@@ -6,14 +6,14 @@ use Rattle.nf_app_answers.specs.declared.refusal.Refusal.{Refusal}
 use Rattle.nf_app_words.specs.declared.request.Request as code
 use Rattle.nf_app_words.specs.Requests.{Request, CanBeAsked}
 use Rattle.nf_app_words.specs.RequestViews.{requested}
-use Rattle.nf_app.specs.Requests.{OtherFits}
-use Rattle.nf_app.specs.Outcomes.{IsGiving}
+use Rattle.nf_app.specs.Gathered.{OtherFits}
+use Rattle.nf_app.specs.Outcomes.{FindsResult}
 use Rattle.nf_app.proofs.answering.find.Goals as goal
 
 -- a request gives with the bytes of its second file what it gives with a borrow of them
 with_bytes : (n : Named) (request : code.Request) (borrowed bytes : List ℕ) (result : Result Computed Refusal) → borrowed ≡ bytes
-    → IsGiving n borrowed (requested request) result → IsGiving n bytes (requested request) result
-with_bytes n request borrowed bytes result same given = subst (λ (l : List ℕ). IsGiving n l (requested request) result) same given
+    → FindsResult n borrowed (requested request) result → FindsResult n bytes (requested request) result
+with_bytes n request borrowed bytes result same given = subst (λ (l : List ℕ). FindsResult n l (requested request) result) same given
 
 pub solve_to-requires : goal.solve_to-requires
 solve_to-requires c = (subst (λ (r : Request). CanBeAsked r) (ap requested c.in-Solve.is) c.requires.asked).0
@@ -56,43 +56,43 @@ distribute-requires-clause-within c =
 
 pub returns-in-Solve : goal.returns-in-Solve
 returns-in-Solve c =
-    subst (λ (r : code.Request). IsGiving c.args.net.now c.args.other.items (requested r) c.solve_to.result) (sym c.in-Solve.is) (c.solve_to.ensures c.in-Solve.file.now c.args.other.items)
+    subst (λ (r : code.Request). FindsResult c.args.net.now c.args.other.items (requested r) c.solve_to.result) (sym c.in-Solve.is) (c.solve_to.ensures c.in-Solve.file.now c.args.other.items)
 
 pub returns-in-SolveForever : goal.returns-in-SolveForever
 returns-in-SolveForever c =
-    subst (λ (r : code.Request). IsGiving c.args.net.now c.args.other.items (requested r) c.solve_on.result) (sym c.in-SolveForever.is) (c.solve_on.ensures c.in-SolveForever.file.now c.args.other.items)
+    subst (λ (r : code.Request). FindsResult c.args.net.now c.args.other.items (requested r) c.solve_on.result) (sym c.in-SolveForever.is) (c.solve_on.ensures c.in-SolveForever.file.now c.args.other.items)
 
 pub returns-in-Show : goal.returns-in-Show
 returns-in-Show c =
-    subst (λ (r : code.Request). IsGiving c.args.net.now c.args.other.items (requested r) c.show.result) (sym c.in-Show.is) (c.show.ensures c.in-Show.file.now c.args.other.items)
+    subst (λ (r : code.Request). FindsResult c.args.net.now c.args.other.items (requested r) c.show.result) (sym c.in-Show.is) (c.show.ensures c.in-Show.file.now c.args.other.items)
 
 pub returns-in-Load : goal.returns-in-Load
 returns-in-Load c =
     with_bytes c.args.net.now c.args.request.now c.deref.result.now c.args.other.items c.load_to.result c.deref.ensures.value
-    (subst (λ (r : code.Request). IsGiving c.args.net.now c.deref.result.now (requested r) c.load_to.result) (sym c.in-Load.is) (c.load_to.ensures c.in-Load.file.now c.in-Load.loads.now))
+    (subst (λ (r : code.Request). FindsResult c.args.net.now c.deref.result.now (requested r) c.load_to.result) (sym c.in-Load.is) (c.load_to.ensures c.in-Load.file.now c.in-Load.loads.now))
 
 pub returns-in-Check : goal.returns-in-Check
 returns-in-Check c =
-    subst (λ (r : code.Request). IsGiving c.args.net.now c.args.other.items (requested r) c.check_report.result) (sym c.in-Check.is) (c.check_report.ensures c.in-Check.file.now c.in-Check.report.now)
+    subst (λ (r : code.Request). FindsResult c.args.net.now c.args.other.items (requested r) c.check_report.result) (sym c.in-Check.is) (c.check_report.ensures c.in-Check.file.now c.in-Check.report.now)
 
 pub returns-in-Quick : goal.returns-in-Quick
 returns-in-Quick c =
-    subst (λ (r : code.Request). IsGiving c.args.net.now c.args.other.items (requested r) c.quick_to.result) (sym c.in-Quick.is) (c.quick_to.ensures c.in-Quick.file.now c.args.other.items)
+    subst (λ (r : code.Request). FindsResult c.args.net.now c.args.other.items (requested r) c.quick_to.result) (sym c.in-Quick.is) (c.quick_to.ensures c.in-Quick.file.now c.args.other.items)
 
 pub returns-in-Gen : goal.returns-in-Gen
 returns-in-Gen c =
-    subst (λ (r : code.Request). IsGiving c.args.net.now c.args.other.items (requested r) c.sum_up.result) (sym c.in-Gen.is) (c.sum_up.ensures c.args.other.items)
+    subst (λ (r : code.Request). FindsResult c.args.net.now c.args.other.items (requested r) c.sum_up.result) (sym c.in-Gen.is) (c.sum_up.ensures c.args.other.items)
 
 pub returns-in-Settle : goal.returns-in-Settle
 returns-in-Settle c =
     with_bytes c.args.net.now c.args.request.now c.deref-in-Settle.result.now c.args.other.items c.settle_to.result c.deref-in-Settle.ensures.value
-    (subst (λ (r : code.Request). IsGiving c.args.net.now c.deref-in-Settle.result.now (requested r) c.settle_to.result) (sym c.in-Settle.is) (c.settle_to.ensures c.in-Settle.file.now c.in-Settle.flows.now))
+    (subst (λ (r : code.Request). FindsResult c.args.net.now c.deref-in-Settle.result.now (requested r) c.settle_to.result) (sym c.in-Settle.is) (c.settle_to.ensures c.in-Settle.file.now c.in-Settle.flows.now))
 
 pub returns-in-Resume : goal.returns-in-Resume
 returns-in-Resume c =
-    subst (λ (r : code.Request). IsGiving c.args.net.now c.args.other.items (requested r) c.resume_to.result) (sym c.in-Resume.is) (c.resume_to.ensures c.in-Resume.file.now c.in-Resume.report.now)
+    subst (λ (r : code.Request). FindsResult c.args.net.now c.args.other.items (requested r) c.resume_to.result) (sym c.in-Resume.is) (c.resume_to.ensures c.in-Resume.file.now c.in-Resume.report.now)
 
 pub returns-in-Routes : goal.returns-in-Routes
 returns-in-Routes c =
     with_bytes c.args.net.now c.args.request.now c.deref-in-Routes.result.now c.args.other.items c.distribute.result c.deref-in-Routes.ensures.value
-    (subst (λ (r : code.Request). IsGiving c.args.net.now c.deref-in-Routes.result.now (requested r) c.distribute.result) (sym c.in-Routes.is) (c.distribute.ensures c.in-Routes.file.now c.in-Routes.routes.now))
+    (subst (λ (r : code.Request). FindsResult c.args.net.now c.deref-in-Routes.result.now (requested r) c.distribute.result) (sym c.in-Routes.is) (c.distribute.ensures c.in-Routes.file.now c.in-Routes.routes.now))

@@ -4,7 +4,7 @@ use Rattle.std.proofs.lemmas.Result.{err_from_is_err_and}
 use Rattle.nf_model.specs.Network.{Piece, ArePieces}
 use Rattle.nf_report_def.specs.LoadsFile.{pieces_at}
 use Rattle.nf_load.specs.Loadings.{loaded_of}
-use Rattle.nf_app.proofs.LoadGiven.{loads_refused, loading_stopped, loading_given}
+use Rattle.nf_app.proofs.LoadResult.{loads_refused, loading_stopped, loading_given}
 use Rattle.nf_app.proofs.answering.load_to.Goals as goal
 
 pub returns-in_err-loads : goal.returns-in_err-loads

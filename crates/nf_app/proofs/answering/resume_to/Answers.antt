@@ -6,7 +6,7 @@ use Rattle.nf_report_def.specs.ReportFile as reports
 use Rattle.nf_report_read.specs.Files.{IfBroken, report_of}
 use Rattle.nf_phase.specs.Solution.{bounds_of, report_in}
 use Rattle.nf_app.proofs.Reports.{a_report}
-use Rattle.nf_app.proofs.ResumeGiven.{old_refused, gone_on_given}
+use Rattle.nf_app.proofs.ResumeResult.{old_refused, gone_on_given}
 use Rattle.nf_app.proofs.answering.resume_to.Goals as goal
 
 pub parse_report-requires : goal.parse_report-requires

@@ -3,8 +3,8 @@ use Rattle.std.specs.Prelude.{Option, Ok}
 use Rattle.std.proofs.lemmas.Result.{err_from_is_err_and}
 use Rattle.nf_complete.specs.declared.settled.Settled.{Settled}
 use Rattle.nf_complete_read.specs.Files.{given_of}
-use Rattle.nf_app.specs.Settling.{SettlesAtStart}
-use Rattle.nf_app.proofs.SettleGiven.{flows_refused, settling_halted, not_thin_given, settled_given, settled_counts}
+use Rattle.nf_app.specs.SettlingSteps.{SettlesAtStart}
+use Rattle.nf_app.proofs.SettleResult.{flows_refused, settling_halted, not_thin_given, settled_given, settled_counts}
 use Rattle.nf_app.proofs.answering.settle_to.Goals as goal
 
 pub returns-in_err-flows : goal.returns-in_err-flows

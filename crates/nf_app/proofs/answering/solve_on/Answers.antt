@@ -9,7 +9,7 @@ use Rattle.nf_model.specs.Equilibrium.{Equilibrium}
 use Rattle.nf_forever_def.specs.Extended.{flow_until}
 use Rattle.nf_forever_laws.specs.TailGrowth.{TailGrows}
 use Rattle.nf_forever.specs.Seen.{forever_in}
-use Rattle.nf_app.proofs.ForeverGiven.{stop_seen, tail_seen, forever_short, forever_ends}
+use Rattle.nf_app.proofs.ForeverResult.{stop_seen, tail_seen, forever_short, forever_ends}
 use Rattle.nf_app.proofs.answering.solve_on.Goals as goal
 
 pub returns-in_err-forever : goal.returns-in_err-forever

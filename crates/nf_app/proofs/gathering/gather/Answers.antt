@@ -5,7 +5,8 @@ use Rattle.nf_app_words.specs.Requests.{Request, CanBeAsked}
 use Rattle.nf_app_words.specs.RequestViews.{requested}
 use Rattle.nf_gen.specs.Ladder.{ladder}
 use Rattle.nf_app_files.specs.Files.{visit, input_file, report_file}
-use Rattle.nf_app.specs.Requests.{files_of, generated_by, OtherFits}
+use Rattle.nf_app.specs.Requests.{files_of, generated_by}
+use Rattle.nf_app.specs.Gathered.{OtherFits}
 use Rattle.nf_app.proofs.Calls.{gathered_one, gathered_two, gathered_none, any_fit}
 use Rattle.nf_app.proofs.gathering.gather.Goals as goal
 

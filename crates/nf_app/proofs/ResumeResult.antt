@@ -25,12 +25,12 @@ use Rattle.nf_app.specs.Requests.{bounds_to}
 use Rattle.nf_app_answers.specs.Answers.{Solved, Checked, Passes, Earlier}
 use Rattle.nf_app_answers.specs.Refusals.{answer_of, refusal_of_report}
 use Rattle.nf_app.specs.Reports.{IsReportText}
-use Rattle.nf_app.specs.Given.{IsGiven}
+use Rattle.nf_app.specs.Results.{IsResultOf}
 use Rattle.nf_app.proofs.Reports.{no_report}
 
 module _ (n : Named) (file name text : List ℕ) (horizon : ℚ) (phases patterns : ℕ) where
   abbrev Answers : Refusal → Type 0
-  Answers refusal = (refusal ≡ Refusal.NoMemory) ⊎ IsGiven n text (Resume file name horizon phases patterns) (answer_of refusal)
+  Answers refusal = (refusal ≡ Refusal.NoMemory) ⊎ IsResultOf n text (Resume file name horizon phases patterns) (answer_of refusal)
 
   pub old_refused : (named : IsNamed n) (fault : ReportFault) → IfBroken fault (λ broken. report_in n text ≡ Err broken) → Answers (refusal_of_report fault)
   old_refused named (ReportFault.Broken rule line) e =
@@ -40,7 +40,7 @@ module _ (n : Named) (file name text : List ℕ) (horizon : ℚ) (phases pattern
   module _ (old : Report) (read : IsReportText n text old) where
     pub gone_on_given : (new : Report) (made : ℕ) → old.flow.reached ≤ℚ horizon → IsResumedReport passes_Q n.net (bounds_to horizon phases patterns) old made new → IsWellFormed n.net new
         → Equilibrium n.net new.flow → GoesOnFrom n.net old.flow new.flow → IsShortFlow n.net new.flow → EndsAtItsLabels n.net new.flow → ReadsBack n new
-        → IsGiven n text (Resume file name horizon phases patterns) (Solved n new)
+        → IsResultOf n text (Resume file name horizon phases patterns) (Solved n new)
     gone_on_given new made later resumed formed equilibrium on short ends back = inl (record {
       old = old;
       read = read;
@@ -58,12 +58,12 @@ module _ (n : Named) (file name text : List ℕ) (horizon : ℚ) (phases pattern
     })
 
     pub no_start_given : (verdict : Verdict ℕ ℕ ℚ) → old.flow.reached ≤ℚ horizon → IsRefusedReport passes_Q n.net old verdict
-        → IsGiven n text (Resume file name horizon phases patterns) (Checked n verdict)
+        → IsResultOf n text (Resume file name horizon phases patterns) (Checked n verdict)
     no_start_given verdict later refused = inr (inr (inr (inr (verdict, refl, record { old = old; read = read; not_earlier = later; refused = refused }))))
 
     pub passes_given : (at : PassedAt ℚ) → old.flow.reached ≤ℚ horizon → resume_list passes_Q n.net old ≡ Err at
-        → IsGiven n text (Resume file name horizon phases patterns) (Passes at)
+        → IsResultOf n text (Resume file name horizon phases patterns) (Passes at)
     passes_given at later passes = inr (inr (inl (at, refl, record { old = old; read = read; not_earlier = later; passes = passes })))
 
-    pub earlier_given : horizon <ℚ old.flow.reached → IsGiven n text (Resume file name horizon phases patterns) Earlier
+    pub earlier_given : horizon <ℚ old.flow.reached → IsResultOf n text (Resume file name horizon phases patterns) Earlier
     earlier_given earlier = inr (inr (inr (inl (refl, record { old = old; read = read; earlier = earlier }))))

@@ -21,11 +21,11 @@ use Rattle.nf_app_words.specs.Requests.{Routes}
 use Rattle.nf_app_answers.specs.Answers.{Distributed}
 use Rattle.nf_app_answers.specs.Refusals.{answer_of, refusal_of_routes, refusal_of_halt}
 use Rattle.nf_app.specs.Lists.{by_route_list}
-use Rattle.nf_app.specs.Given.{IsGiven}
+use Rattle.nf_app.specs.Results.{IsResultOf}
 
 module _ (n : Named) (file name : List ℕ) (horizon : ℚ) (text : List ℕ) where
   abbrev Answers : Refusal → Type 0
-  Answers refusal = (refusal ≡ Refusal.NoMemory) ⊎ IsGiven n text (Routes file name horizon) (answer_of refusal)
+  Answers refusal = (refusal ≡ Refusal.NoMemory) ⊎ IsResultOf n text (Routes file name horizon) (answer_of refusal)
 
   pub routes_refused : (fault : SideFault RoutesRule) → IfBroken fault (λ broken. ReadsRoutes n text (Err broken)) → Answers (refusal_of_routes fault)
   routes_refused (SideFault.Broken rule line) e = inr (inr (inl (record { rule = rule; line = line }, refl, e)))
@@ -37,7 +37,7 @@ module _ (n : Named) (file name : List ℕ) (horizon : ℚ) (text : List ℕ) wh
     distributing_stopped Halt.Memory e = inl refl
 
     pub distributed_given : (routed : Routed) → by_route_list n routes horizon ≡ Ok routed → IsRouted n.net (routes_of routes) horizon routed → RoutesArrive n.net (routes_of routes) horizon routed
-        → IsGiven n text (Routes file name horizon) (Distributed n routes horizon routed)
+        → IsResultOf n text (Routes file name horizon) (Distributed n routes horizon routed)
     distributed_given routed e is arrives =
         inl (record { routes = routes; read = read; routed = routed; is = refl; loadings = is; arrives = arrives; computed = e })
 

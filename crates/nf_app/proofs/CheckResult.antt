@@ -19,12 +19,12 @@ use Rattle.nf_app_answers.specs.declared.refusal.Refusal.{Refusal}
 use Rattle.nf_app_words.specs.Requests.{Check}
 use Rattle.nf_app_answers.specs.Answers.{Checked}
 use Rattle.nf_app_answers.specs.Refusals.{answer_of, refusal_of_report, refusal_of_halt}
-use Rattle.nf_app.specs.Given.{IsGiven}
+use Rattle.nf_app.specs.Results.{IsResultOf}
 use Rattle.nf_app.proofs.Reports.{a_report, no_report}
 
 module _ (n : Named) (named : IsNamed n) (file name text : List ℕ) where
   abbrev Answers : Refusal → Type 0
-  Answers refusal = (refusal ≡ Refusal.NoMemory) ⊎ IsGiven n text (Check file name) (answer_of refusal)
+  Answers refusal = (refusal ≡ Refusal.NoMemory) ⊎ IsResultOf n text (Check file name) (answer_of refusal)
 
   pub report_refused : (fault : ReportFault) → IfBroken fault (λ broken. report_in n text ≡ Err broken) → Answers (refusal_of_report fault)
   report_refused (ReportFault.Broken rule line) e =
@@ -37,7 +37,7 @@ module _ (n : Named) (named : IsNamed n) (file name text : List ℕ) where
     checking_stopped Halt.Memory e = inl refl
 
     pub verdict_given : (verdict : Verdict ℕ ℕ ℚ) → check_list passes_Q n.net report.flow ≡ Ok verdict → Checks n.net report.flow verdict → IsExact n.net report.flow verdict
-        → IsGiven n text (Check file name) (Checked n verdict)
+        → IsResultOf n text (Check file name) (Checked n verdict)
     verdict_given verdict e checks exact = inl (record {
       report = report;
       read = a_report n named text report read;

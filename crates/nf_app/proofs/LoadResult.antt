@@ -23,11 +23,11 @@ use Rattle.nf_app_words.specs.Requests.{Load}
 use Rattle.nf_app_answers.specs.Answers.{Loaded}
 use Rattle.nf_app_answers.specs.Refusals.{answer_of, refusal_of_loads, refusal_of_halt}
 use Rattle.nf_app.specs.Lists.{loading_list}
-use Rattle.nf_app.specs.Given.{IsGiven}
+use Rattle.nf_app.specs.Results.{IsResultOf}
 
 module _ (n : Named) (file name : List ℕ) (horizon : ℚ) (text : List ℕ) where
   abbrev Answers : Refusal → Type 0
-  Answers refusal = (refusal ≡ Refusal.NoMemory) ⊎ IsGiven n text (Load file name horizon) (answer_of refusal)
+  Answers refusal = (refusal ≡ Refusal.NoMemory) ⊎ IsResultOf n text (Load file name horizon) (answer_of refusal)
 
   pub loads_refused : (fault : SideFault LoadRule) → IfBroken fault (λ broken. loads_in n text ≡ Err broken) → Answers (refusal_of_loads fault)
   loads_refused (SideFault.Broken rule line) e = inr (inr (inl (record { rule = rule; line = line }, refl, e)))
@@ -39,7 +39,7 @@ module _ (n : Named) (file name : List ℕ) (horizon : ℚ) (text : List ℕ) wh
     loading_stopped Halt.Memory e = inl refl
 
     pub loading_given : (loaded : List Loading) → loading_list n pieces horizon ≡ Ok loaded → IsNetwork n.net → length pieces ≡ length n.net.links → 0ℚ ≤ℚ horizon
-        → ((e : ℕ) → ArePieces (pieces_at pieces e)) → IsGiven n text (Load file name horizon) (Loaded n horizon loaded)
+        → ((e : ℕ) → ArePieces (pieces_at pieces e)) → IsResultOf n text (Load file name horizon) (Loaded n horizon loaded)
     loading_given loaded e good many from_0 are = inl (record {
       pieces = pieces;
       read = read;

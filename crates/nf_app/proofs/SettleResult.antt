@@ -14,12 +14,12 @@ use Rattle.nf_app_answers.specs.declared.refusal.Refusal.{Refusal}
 use Rattle.nf_app_words.specs.Requests.{Settle}
 use Rattle.nf_app_answers.specs.Answers.{Settled, NotThin}
 use Rattle.nf_app_answers.specs.Refusals.{answer_of, refusal_of_flows, refusal_of_halt}
-use Rattle.nf_app.specs.Settling.{SettlesAtStart}
-use Rattle.nf_app.specs.Given.{IsGiven}
+use Rattle.nf_app.specs.SettlingSteps.{SettlesAtStart}
+use Rattle.nf_app.specs.Results.{IsResultOf}
 
 module _ (n : Named) (file name : List ℕ) (text : List ℕ) where
   abbrev Answers : Refusal → Type 0
-  Answers refusal = (refusal ≡ Refusal.NoMemory) ⊎ IsGiven n text (Settle file name) (answer_of refusal)
+  Answers refusal = (refusal ≡ Refusal.NoMemory) ⊎ IsResultOf n text (Settle file name) (answer_of refusal)
 
   pub flows_refused : (fault : SideFault FlowsRule) → IfBroken fault (λ broken. flows_in n text ≡ Err broken) → Answers (refusal_of_flows fault)
   flows_refused (SideFault.Broken rule line) e = inr (inr (inl (record { rule = rule; line = line }, refl, e)))
@@ -31,11 +31,11 @@ module _ (n : Named) (file name : List ℕ) (text : List ℕ) where
         inr (inr (inr (inl (at, refl, record { given = given; read = read; labels = h.0; are_start = h.1; passes = h.2 }))))
     settling_halted Halt.Memory h = inl refl
 
-    pub not_thin_given : SettlesAtStart n.net given (Ok None) → IsGiven n text (Settle file name) NotThin
+    pub not_thin_given : SettlesAtStart n.net given (Ok None) → IsResultOf n text (Settle file name) NotThin
     not_thin_given h = inr (inr (inr (refl, record { given = given; read = read; labels = h.0; are_start = h.1; not_thin = h.2 })))
 
     module _ (s : CodeSettled) (h : SettlesAtStart n.net given (Ok (Some s))) where
-      pub settled_given : IsGiven n text (Settle file name) (Settled n s.pattern s.flows.items)
+      pub settled_given : IsResultOf n text (Settle file name) (Settled n s.pattern s.flows.items)
       settled_given = inl (record {
         given = given;
         read = read;
