@@ -52,7 +52,7 @@ pub(crate) fn legs_of(alloc: Global, net: &Network, flows: &[Q]) -> Result<Vec<L
     ensures within { IfOk result (λ legs. AreLegs net.now.net.nodes legs.items) }
 {
     net.recall();
-    let mut legs = Vec::with_capacity(alloc, net.link_count() as usize)?;
+    let mut legs = Vec::with_capacity(alloc, 2 * net.link_count() as usize)?;
     for e in 0..net.link_count() {
         let number = LinkId(e);
         let link = net.link(number);

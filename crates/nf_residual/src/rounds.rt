@@ -217,7 +217,7 @@ fn reaches_by(
 {
     let legs = legs_of(alloc, net, flows)?;
     let arcs = Arcs::of(alloc, net.node_count(), legs)?;
-    let mut ways = Ways::start(alloc)?;
+    let mut ways = Ways::start(alloc, net.link_count() as usize)?;
     let mut places = first_places(alloc, net, from)?;
     let mut fresh = 0;
     for _ in 1..net.node_count() {
