@@ -64,11 +64,11 @@ fn decided(here: Step, there: Step, later: bool) -> bool
 }
 
 impl Ways {
-    /// Returns the tree with only the path of no step.
-    pub(crate) fn start(alloc: Global) -> Result<Ways, AllocError>
+    /// Returns the tree with only the path of no step, with memory for `room` paths.
+    pub(crate) fn start(alloc: Global, room: usize) -> Result<Ways, AllocError>
         ensures { IfOk result (λ ways. ways ≡ first_twig ∷ []) }
     {
-        let mut twigs = Vec::new(alloc);
+        let mut twigs = Vec::with_capacity(alloc, room)?;
         twigs.push(Twig {
             distance: Length::of(Q::zero()),
             count: 0,
