@@ -8,6 +8,7 @@ pub mod OneForever
 pub mod Stopped
 pub mod Cuts
 pub mod Endless
+pub mod Fitting
 pub mod Growth
 pub mod Least
 pub mod LeastCut

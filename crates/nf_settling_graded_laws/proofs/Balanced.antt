@@ -1,4 +1,4 @@
--- A least supply without excess at any node is a graded flow of bounded capacities; and there is none with excess.
+-- A least supply has no excess at any node. So it is a graded flow, for bounded capacities.
 use Rattle.std.proofs.Common.{◌≡◌, ◌≢◌, ℕ, ◌<◌, if◌then◌else◌, [], ◌∷◌, inl, ⊎_elim, Bool, true, false, eqb, Option, sym, ap, subst, refl, ◌∙◌}
 use Rattle.std.proofs.lemmas.Bool.Decides.{eqb_tells}
 use Rattle.nf_rational.specs.Rational.{ℚ}
@@ -108,7 +108,7 @@ module _ (net : Network) (cap : Link → Option ℚ) (rate : ℚ) (good : IsNetw
     }
 
   module _ (rate_nn : 0ℚ ≤ℚ rate) where
-    -- ---- a least supply has excess only at levels above 1: else less flow would do
+    -- ---- a least supply has excess only at levels above 1: otherwise less flow into the node suffices
     module _ (flows levels : ℕ → ℚ) (least : IsLeast net cap rate flows levels) where
       module _ (e : ℕ) (link : Link) (p : IsLink net e link) (some : 0ℚ <ℚ flows e) (s : HasSpare net rate flows link.head) (low : levels link.head ≤ℚ 1ℚ) where
         is_open : IsOpen net link

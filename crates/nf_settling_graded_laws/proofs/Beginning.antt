@@ -1,5 +1,5 @@
--- The existence of a supply, for bounded capacities. A walk from the source to the sink carries the rate. All nodes but the source have one
--- level, so great that the capacities suffice; the open links out of the source are full.
+-- A supply exists, for bounded capacities. A walk from the source to the sink carries the rate. All nodes but the source have one level, so
+-- great that the capacities suffice. The open links out of the source are full.
 use Rattle.std.proofs.Common.{◌≡◌, ◌≢◌, ℕ, ◌<◌, if◌then◌else◌, List, [], ◌∷◌, inl, inr, ⊎_elim, Bool, true, false, eqb, Option, Some, None, slice_get, sym, ap, subst, refl, ◌∙◌}
 use Rattle.std.proofs.lemmas.Bool.Decides.{eqb_tells}
 use Rattle.std.proofs.lemmas.Option.{same_Some}
@@ -58,7 +58,7 @@ module _ (net : Network) (good : IsNetwork net) (rate : ℚ) (nn : 0ℚ ≤ℚ r
 
   -- ---- one more link, from v on
   module _ (e : ℕ) (link : Link) (p : IsLink net e link) (flows : ℕ → ℚ) (r : IsRoute net rate link.head flows) where
-    -- A shut link takes nothing: it leads back to its tail, or to the source.
+    -- A shut link carries nothing: it leads back to its tail, or to the source.
     shut_step : (IsOpen net link → ⊥) → IsRoute net rate link.tail flows
     shut_step n = record {
       not_negative = r.not_negative;

@@ -1,5 +1,5 @@
--- Each network has a graded flow. Unbounded links are given a capacity above the rate. In a graded flow for these capacities they never lead
--- to a higher level, since nothing leaves the nodes above a level, and at most the rate enters them.
+-- Each network has a graded flow. Unbounded links get a capacity above the rate. In a graded flow for these capacities no such link leads to a
+-- higher level: no flow leaves the nodes above a level, and at most the rate enters them.
 use Rattle.std.proofs.Common.{◌≡◌, ℕ, if◌then◌else◌, [], ◌∷◌, inl, ⊎_elim, Bool, true, false, Option, Some, None, unwrap_or, sym, ap, subst, refl, ◌∙◌}
 use Rattle.std.proofs.lemmas.Option.{none-some, same_Some}
 use Rattle.nf_rational.specs.Rational.{ℚ}
@@ -34,7 +34,7 @@ size_by-positive rate (Some c) n p = p c refl
 some-positive : (x : ℚ) → 0ℚ <ℚ x → IsPositive (Some x)
 some-positive x h c e = subst (λ (z : ℚ). 0ℚ <ℚ z) (same_Some x c e) h
 
--- The flow fits the capacity itself, if no unbounded link leads to a higher level.
+-- The flow fits the capacity of the link itself, if no unbounded link leads to a higher level.
 true_fits : (rate : ℚ) (capacity : Option ℚ) (x s t : ℚ) → Fits (Some (size_by rate capacity)) x s t → (capacity ≡ None → t ≤ℚ s) → Fits capacity x s t
 true_fits rate None x s t fits low = record { no_negative = fits.no_negative; most = λ c e. absurd (none-some c e); used = fits.used; upper = inl (low refl) }
 true_fits rate (Some c) x s t fits low = fits

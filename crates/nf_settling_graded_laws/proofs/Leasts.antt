@@ -1,5 +1,5 @@
--- Systems describe supplies. So there is a supply with the least sum of levels, and among those, one with the least sum of inflows. As
--- `nf_complete_laws/Assigned`, for supplies.
+-- Systems of linear inequalities describe supplies. So one supply has the least sum of levels, and among those the least sum of inflows. The proof
+-- is that of `nf_complete_laws/Assigned`, for supplies.
 use Rattle.std.proofs.Common.{◌≡◌, ◌≢◌, ℕ, zero, suc, ◌<◌, ◌⊎◌, Option, Some, None, sym, subst, refl, arith}
 use Rattle.std.proofs.lemmas.Option.{none-some, same_Some}
 use Rattle.nf_rational.specs.Rational.{ℚ}

@@ -1,5 +1,5 @@
--- Pushes: starting with a supply whose nodes with excess have levels above 1, they end with one whose nodes with excess are closed. As
--- `nf_complete_laws/Growing`, for supplies.
+-- Pushes begin with a supply whose nodes with excess have levels above 1. They end with one whose nodes with excess are closed. The proof is that
+-- of `nf_complete_laws/Growing`, for supplies.
 use Rattle.std.proofs.Common.{◌≡◌, ◌≢◌, ℕ, zero, suc, ◌<◌, ◌≤◌, [], ◌∷◌, ◌⊎◌, inl, inr, ⊎_elim, Option, sym, ap, subst, ◌∙◌, arith}
 use Rattle.nf_rational.specs.Rational.{ℚ}
 use Rattle.nf_rational.specs.Operations.{0ℚ, 1ℚ, ◌+ℚ◌, ◌-ℚ◌}

@@ -1,5 +1,5 @@
--- If the nodes with excess are closed, the levels of all of them can be lowered. The result is a supply with a smaller sum of levels. As
--- `nf_complete_laws/Lowering`, for supplies.
+-- If the nodes with excess are closed, the levels of all of them can be lowered. The result is a supply with a smaller sum of levels. The proof is
+-- that of `nf_complete_laws/Lowering`, for supplies.
 use Rattle.std.proofs.Common.{◌≡◌, ◌≢◌, ℕ, ◌<◌, [], ◌∷◌, ◌⊎◌, inl, inr, ⊎_elim, Option, Some, None, slice_get, unwrap_or, sym, ap, subst, refl, ◌∙◌}
 use Rattle.nf_rational.specs.Rational.{ℚ}
 use Rattle.nf_rational.specs.Operations.{0ℚ, 1ℚ, ◌+ℚ◌, ◌-ℚ◌, ◌*ℚ◌}

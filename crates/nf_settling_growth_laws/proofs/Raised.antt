@@ -1,5 +1,5 @@
--- One link of a thin flow, compared with the levels p and q of its ends. Its slopes are s = p y and t = q z. An amount is chosen that bears
--- the flow along the numbers y and z, and that pays for the change of the queue, less what the rise of the levels takes.
+-- One link of a thin flow, compared with the levels p and q of its ends. Its slopes are s = p y and t = q z. Some amount bears the flow along the
+-- numbers y and z. Its rise is at least the change of the queue, less the part of the link in the rise of the levels.
 use Rattle.std.proofs.Common.{◌≡◌, [], ◌∷◌, inl, inr, ⊎_elim, Bool, true, false, if◌then◌else◌, sym, ap, subst, refl, ◌∙◌}
 use Rattle.nf_rational.specs.Rational.{ℚ}
 use Rattle.nf_rational.specs.Operations.{0ℚ, 1ℚ, ◌+ℚ◌, ◌-ℚ◌, ◌*ℚ◌}

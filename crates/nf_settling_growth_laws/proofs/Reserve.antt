@@ -131,7 +131,7 @@ wait-le link labels bound p n t h m = go link.capacity p
     go (Some c) p = times_le c _ (≤ℚ_of_lt _ _ (p c refl)) slack_le
 
 module _ (net : Network) (good : IsNetwork net) (rate : ℚ) (flows levels : ℕ → ℚ) (graded : IsGraded net rate flows levels) where
-  -- What the links hold while nobody waits, in the graded flow and at capacity.
+  -- The amount on the links without queues, in the graded flow and at capacity.
   abbrev pub in_transit : ℚ
   in_transit = link_sum net.links (λ e link. (capacity_or_0 link.capacity +ℚ flows e) *ℚ link.transit)
 

@@ -1,14 +1,13 @@
--- The store of the labels at a departure, for a graded flow: the queues, less what the rise of the levels takes, less the rate times the rise of
--- the labels, each over its level, from source to sink. Along a thin flow it changes at the rate `drift`, which is never above 0, and below
--- 0 unless the slope of the sink is its level.
+-- The store of the labels at a departure, for a graded flow. It has three parts: the queues, less the sum over links to higher levels (`taken`), less
+-- the rate times the rise from source to sink of the labels, each over its level. Along a thin flow the store changes at the rate `drift`.
+-- That is never above 0, and below 0 unless the slope of the sink is its level.
 use Rattle.std.proofs.Common.{◌≡◌, ℕ, ◌<◌, ◌≤◌, List, [], ◌∷◌, ⊎_elim, Bool, true, false, Option, Some, None, sym, ap, subst, refl, ◌∙◌}
 use Rattle.std.proofs.lemmas.Bool.{cases_lt}
-use Rattle.std.proofs.lemmas.Option.{none-some, same_Some}
 use Rattle.nf_rational.specs.Rational.{ℚ}
 use Rattle.nf_rational.specs.Operations.{0ℚ, 1ℚ, ◌+ℚ◌, ◌-ℚ◌, ◌*ℚ◌, ◌/ℚ◌}
 use Rattle.nf_rational.specs.Order.{◌≤ℚ◌, ◌<ℚ◌}
 use Rattle.nf_rational_laws.proofs.Polynomial.{reading_of}
-use Rattle.nf_rational_laws.proofs.Order.{≤ℚ_of_lt, ≤ℚ_of_same, lt_or_le_ℚ, not_both_ℚ, nn_times}
+use Rattle.nf_rational_laws.proofs.Order.{≤ℚ_of_lt, ≤ℚ_of_same, not_both_ℚ, nn_times}
 use Rattle.nf_rational_laws.proofs.Chains.{≤ℚ_refl, ≤ℚ_trans}
 use Rattle.nf_rational_laws.proofs.Linear.{le, lt, eq, eq_times, linear_le, linear_lt, linear_eq}
 use Rattle.nf_model.specs.Entries.{number_at, Has}
@@ -19,8 +18,8 @@ use Rattle.nf_model_laws.proofs.Affine.{nn-quotient, quotient-times, same_from_t
 use Rattle.nf_model_laws.proofs.Earliest.{IsPositive-link}
 use Rattle.nf_thin_laws.specs.ActiveLinks.{AreSets, HoldNoCycle}
 use Rattle.nf_thin_laws.proofs.Flags.{flag, flag-cases}
-use Rattle.nf_thin_laws.proofs.LinkLaws.{BoundedLaw, LinkLaw}
 use Rattle.nf_complete_laws.proofs.Numbers.{numbers, length-numbers, number_at-numbers, number_at-past}
+use Rattle.nf_forever_laws.proofs.Growth.{most_of}
 use Rattle.nf_settling_laws.specs.Excess.{link_sum}
 use Rattle.nf_settling_laws.proofs.Terms.{link_sum-le, link_sum-line, rise}
 use Rattle.nf_settling_laws.proofs.Levels.{IsBorne}
@@ -37,7 +36,8 @@ over levels w v = w v /ℚ levels v
 abbrev pub steep : (ℕ → ℚ) → Link → ℚ
 steep levels link = steepness (capacity_or_0 link.capacity) (levels link.tail) (levels link.head)
 
--- What the rise of the levels takes.
+-- The part of the store in which the levels rise: for each link to a higher level, the capacity times the rise of the level times the number over
+-- the level at the tail.
 abbrev pub taken : Network → (ℕ → ℚ) → (ℕ → ℚ) → ℚ
 taken net levels w = link_sum net.links (λ e link. steep levels link *ℚ over levels w link.tail)
 
@@ -50,18 +50,7 @@ drift net sets rate levels slopes = (link_sum net.links (λ e link. filled sets 
     (number_at slopes))
     -ℚ rate *ℚ (over levels (number_at slopes) net.sink -ℚ over levels (number_at slopes) net.source)
 
--- ---- a link of a thin flow carries at most the capacity times the slope of its head
-carries_at_most : (resets : Bool) (x c s t : ℚ) → 0ℚ <ℚ c → 0ℚ ≤ℚ t → BoundedLaw resets x c s t → x ≤ℚ c *ℚ t
-carries_at_most true x c s t h n law = ≤ℚ_of_same _ _ (law.full refl)
-carries_at_most false x c s t h n law = ⊎_elim
-    (λ (k : 0ℚ <ℚ x). (law.used refl k).1)
-    (λ (k : x ≤ℚ 0ℚ). ≤ℚ_trans _ _ _ k (nn_times c t (≤ℚ_of_lt _ _ h) n))
-    (lt_or_le_ℚ 0ℚ x)
-
-most_of : (resets : Bool) (capacity : Option ℚ) (x c s t : ℚ) → capacity ≡ Some c → IsPositive capacity → 0ℚ ≤ℚ t → LinkLaw resets capacity x s t → x ≤ℚ c *ℚ t
-most_of resets None x c s t e p n law = absurd (none-some c e)
-most_of resets (Some d) x c s t e p n law = subst (λ (k : ℚ). x ≤ℚ k *ℚ t) (same_Some d c e) (carries_at_most resets x d s t (p d refl) n law)
-
+-- ---- the filled amount is from 0 to the capacity
 filled_nn : (resets active up : Bool) (capacity : Option ℚ) → 0ℚ ≤ℚ capacity_or_0 capacity → 0ℚ ≤ℚ filled_amount resets active up capacity
 filled_nn true active up capacity h = h
 filled_nn false true true capacity h = h

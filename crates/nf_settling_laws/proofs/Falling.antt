@@ -1,5 +1,5 @@
--- The change of the balance never is above 0, and it is below 0 unless each slope is 1. The filled amounts bear the flow, so the change is at most
--- 0. If a slope is not 1, some link with a filled amount crosses a level between it and the slope of the source.
+-- The change of the balance is never above 0, and it is below 0 unless each slope is 1. The filled amounts bear the flow, so the change is at
+-- most 0. If a slope is not 1, some link with a filled amount crosses a level between that slope and the slope of the source.
 use Rattle.std.proofs.Common.{◌≡◌, ◌≢◌, ℕ, ◌<◌, List, [], ◌∷◌, inl, inr, ⊎_elim, Bool, true, false, Option, Some, None, unwrap_or, sym, ap, subst, refl, ◌∙◌}
 use Rattle.nf_rational.specs.Rational.{ℚ}
 use Rattle.nf_rational.specs.Operations.{0ℚ, 1ℚ, ◌-ℚ◌, ◌*ℚ◌, ◌/ℚ◌}

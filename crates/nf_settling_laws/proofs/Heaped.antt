@@ -71,7 +71,7 @@ jump net rate x n values a b borne none v h k = ⊎_elim
     (λ (l : b ≤ℚ number_at values v). l)
     (lt_or_le_ℚ (number_at values v) b)
 
--- It is at most 1 or at least 1 as a is.
+-- If a is below 1, b is at most 1, since the number of the source is 1.
 pub up_to_1 : (net : Network) (rate : ℚ) (x : ℕ → ℚ) (n : ℕ → Link → ℚ) (values : List ℚ) (a b : ℚ) → IsNetwork net → IsBorne net rate x n values
     → NoneBetween values a b → a <ℚ 1ℚ → b ≤ℚ 1ℚ
 up_to_1 net rate x n values a b good borne none h =

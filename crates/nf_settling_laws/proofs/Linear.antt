@@ -108,7 +108,7 @@ module _ (net : Network) (good : IsNetwork net) (from : ℚ) (slopes : List ℚ)
   late_nn : 0ℚ ≤ℚ late
   late_nn = ≤ℚ_trans _ _ _ grows.not_negative from_late
 
-  -- ---- an equilibrium that goes on after it
+  -- ---- an equilibrium that describes later departures
   next : late <ℚ late +ℚ 1ℚ
   next = linear_lt (late ∷ []) [] (search reading_of depth 12) tt
 

@@ -15,8 +15,8 @@ use Rattle.nf_forever_def.specs.ForeverRun.{NeverEnds, IsForeverRun, Forever, Is
 use Rattle.nf_forever_laws.specs.Growth.{GrowsByCuts, GrowsByLeastCut}
 use Rattle.nf_forever_laws.specs.TailGrowth.{last_rate, TailGrows}
 
--- From the departure `from` on, equilibria of the network go on for ever, and in each of them the label of each node grows at the slope of the
--- node. `reaches`: each later departure is described by an equilibrium.
+-- From the departure `from` on, equilibria of the network go on for ever, and in each of them the label of each node grows at the slope
+-- of the node. `reaches`: each later departure is described by an equilibrium.
 pub record GrowsLinearly (net : Network) (from : ℚ) (slopes : List ℚ) : Type 0 where
   pub not_negative : 0ℚ ≤ℚ from
   pub count : length slopes ≡ net.nodes
@@ -26,14 +26,14 @@ pub record GrowsLinearly (net : Network) (from : ℚ) (slopes : List ℚ) : Type
 
 -- ---- theorems
 
--- If labels grow at constant slopes for ever, their slopes grow by the cuts and by the least cut, with the last supply rate. The time of the last
--- start of a piece does not matter.
+-- If labels grow at constant slopes for ever, their slopes grow by the cuts and by the least cut, with the last supply rate. The time of
+-- the last start of a piece does not matter.
 abbrev pub LinearGrowthIsByCuts : Type 0
 LinearGrowthIsByCuts = (net : Network) (from : ℚ) (slopes : List ℚ) → IsNetwork net → GrowsLinearly net from slopes
     → GrowsByCuts net (last_rate net) slopes × GrowsByLeastCut net (last_rate net) slopes
 
--- Runs without a horizon that end in a tail. `linear`: labels grow at the slopes of the tail for ever. `run`: so they grow by the cuts. `told`: the
--- same for the result of the run.
+-- Runs without a horizon that end in a tail. `linear`: labels grow at the slopes of the tail for ever. `run`: so they grow by the cuts.
+-- `told`: the same for the result of the run.
 pub record TailGrowsByCuts : Type 0 where
   pub linear : (passes : Passing) (net : Network) (phases patterns : ℕ) (last : Standing) (pattern : Pattern) (tail : Tail) → IsNetwork net
       → IsForeverRun passes net phases patterns last (NeverEnds pattern tail) → GrowsLinearly net last.time tail.slopes
