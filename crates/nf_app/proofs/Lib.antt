@@ -22,8 +22,10 @@ pub mod Only
 pub mod Solving
 pub mod Resuming
 pub mod Output
+pub mod AnswerFlows
 pub mod Alike
 pub mod Unstopped
 pub mod Finished
 pub mod Chained
+pub mod LongRun
 pub mod Derived

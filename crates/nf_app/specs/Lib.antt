@@ -15,8 +15,10 @@ pub mod Only
 pub mod Solves
 pub mod Completeness
 pub mod Resumption
+pub mod AnswerFlows
 pub mod Uniqueness
 pub mod Stops
 pub mod Output
 pub mod Chained
+pub mod LongRun
 pub mod Promises
