@@ -99,7 +99,7 @@ fn round_in_order(
     Ok(())
 }
 
-// Offers the path to a node along each residual arc that begins there.
+// Offers the path to a node along each residual arc that begins there. Not inlined: the loop over the nodes then stays short.
 #[inline(never)]
 fn offer_from(
     node: usize,

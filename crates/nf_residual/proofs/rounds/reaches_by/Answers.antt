@@ -11,8 +11,8 @@ use Rattle.nf_residual.proofs.rounds.reaches_by.Goals as goal
 
 pub loop-init : goal.loop-init
 loop-init c = (
-    search_first passes_Q c.args.net.now.net c.args.flows.now c.args.from c.in_ok-arcs.arcs.legs.items c.in_ok-ways.ways c.in_ok-places.places.items c.in_ok-ways.ensures c.in_ok-places.ensures,
-    ap (λ (p : Places). length p) (c.in_ok-next.ensures ∙ c.deref.ensures.value),
+  search_first passes_Q c.args.net.now.net c.args.flows.now c.args.from c.in_ok-arcs.arcs.legs.items c.in_ok-ways.ways c.in_ok-places.places.items c.in_ok-ways.ensures c.in_ok-places.ensures,
+  ap (λ (p : Places). length p) (c.in_ok-next.ensures ∙ c.deref.ensures.value),
 )
 
 pub copy_from_slice-requires : goal.copy_from_slice-requires
@@ -84,10 +84,11 @@ loop-preserved c =
     search_more passes_Q c.args.net.now.net c.args.flows.now c.args.from c.in_ok-arcs.arcs.legs.items c.loop.fresh c.loop.ways c.loop.places.items c.loop.counter c.loop.invariant.0 inside
     (c.in_ok-arcs.ensures.legs ∙ c.in_ok-legs.ensures.legs) c.in_ok-arcs.arcs.legs.items refl c.deref-in-loop-2.result.now c.deref-in-loop-2.ensures.value
     c.round.new.ways c.round.new.places.items c.in_ok-round.ensures.list c.in_ok-round.ensures.grows c.count.ensures.tree c.in_ok-round.ensures.settled c.count-count.result c.count-count.ensures.count in
-    let long : length c.round.new.places.items ≡ length c.loop.places.items = c.in_ok-round.ensures.grows.count ∙ ap (λ (p : Places). length p) c.deref-in-loop-2.ensures.value in
-    (subst (λ (v : Vec (Option ℕ) Global). SearchOn passes_Q c.args.net.now.net c.args.flows.now c.args.from c.in_ok-arcs.arcs.legs.items c.count-count.result c.round.new.ways v.items (c.loop.counter + 1))
-    (sym c.swap.ensures.x_after) more,
-    ap (λ (v : Vec (Option ℕ) Global). length v.items) c.swap.ensures.y_after ∙ sym long ∙ sym (ap (λ (v : Vec (Option ℕ) Global). length v.items) c.swap.ensures.x_after))
+    let long : length c.round.new.places.items ≡ length c.loop.places.items = c.in_ok-round.ensures.grows.count ∙ ap (λ (p : Places). length p) c.deref-in-loop-2.ensures.value in (
+      subst (λ (v : Vec (Option ℕ) Global). SearchOn passes_Q c.args.net.now.net c.args.flows.now c.args.from c.in_ok-arcs.arcs.legs.items c.count-count.result c.round.new.ways v.items (c.loop.counter + 1))
+          (sym c.swap.ensures.x_after) more,
+      ap (λ (v : Vec (Option ℕ) Global). length v.items) c.swap.ensures.y_after ∙ sym long ∙ sym (ap (λ (v : Vec (Option ℕ) Global). length v.items) c.swap.ensures.x_after),
+    )
 
 pub of-requires-2 : goal.of-requires-2
 of-requires-2 c = c.loop.invariant.0.within
