@@ -1,5 +1,5 @@
 -- A round that tries some of the arcs, in any order, gives the table of the whole round, if no arc then offers anything new.
-use Rattle.std.proofs.Common.{◌≡◌, ◌≢◌, ℕ, zero, suc, ◌<◌, List, [], ◌∷◌, ◌++◌, length, length-set, Bool, true, false, if◌then◌else◌, ◌⊎◌, inl, inr, ⊎_elim, eqb, Option, Some, None, slice_get, refl, sym, ap, subst, ◌∙◌, arith}
+use Rattle.std.proofs.Common.{◌≡◌, ◌≢◌, ℕ, zero, suc, ◌<◌, List, [], ◌∷◌, length, length-set, Bool, true, false, if◌then◌else◌, ◌⊎◌, inl, inr, ⊎_elim, eqb, Option, Some, None, slice_get, refl, sym, ap, subst, ◌∙◌, arith}
 use Rattle.std.specs.Prelude.{Ok}
 use Rattle.std.proofs.lemmas.Bool.Decides.{eqb_tells}
 use Rattle.nf_frac_def.specs.Passing.{Passing}
@@ -7,7 +7,7 @@ use Rattle.nf_frac_def.specs.Checked.{Checked, fold_checked, ◌>>=◌}
 use Rattle.nf_frac_def.proofs.Binding.{bind_ok}
 use Rattle.nf_quick_def.specs.Order.{Reach, IsAtMost, is_better}
 use Rattle.nf_quick_def.specs.Rounds.{Known, known_at, better_of, offered}
-use Rattle.nf_quick_laws.proofs.Orders.{IsAtMost-refl, IsAtMost-trans, is_better-true, is_better-false}
+use Rattle.nf_quick_laws.proofs.Orders.{IsAtMost-refl, IsAtMost-trans, is_better-true}
 use Rattle.nf_residual.specs.declared.legs.Leg.{Leg}
 use Rattle.nf_residual.specs.Legs.{along_leg}
 use Rattle.nf_residual.proofs.Offering.{set_here, set_elsewhere}

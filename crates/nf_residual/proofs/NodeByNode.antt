@@ -1,15 +1,14 @@
 -- A round node by node: the offers along the arcs out of one node, and of one node after the other.
-use Rattle.std.proofs.Common.{◌≡◌, ◌≢◌, ℕ, zero, suc, ◌+◌, ◌<◌, ◌≤◌, List, [], ◌∷◌, ◌++◌, length, length-append, drop, get_or, ◌⊎◌, inl, inr, ⊎_elim, Option, Some, None, option_map, slice_get, refl, sym, ap, subst, ◌∙◌, Bool, true, false, arith}
+use Rattle.std.proofs.Common.{◌≡◌, ℕ, zero, suc, ◌+◌, ◌<◌, ◌≤◌, List, [], ◌∷◌, ◌++◌, length, length-append, drop, get_or, ◌⊎◌, inl, inr, Option, Some, None, option_map, slice_get, refl, sym, ap, subst, ◌∙◌, Bool, true, false, arith}
 use Rattle.std.specs.Prelude.{Result, Ok, Err, IfOk}
 use Rattle.std.proofs.lemmas.List.{drop_all, length-map}
-use Rattle.std.proofs.lemmas.Option.{slice_get_within, slice_get_read}
+use Rattle.std.proofs.lemmas.Option.{slice_get_read}
 use Rattle.nf_rational.specs.Rational.{ℚ}
 use Rattle.nf_frac_def.specs.Passing.{Passing}
 use Rattle.nf_frac_def.specs.declared.Part.TheVariants as Part
 use Rattle.nf_frac_def.specs.declared.Halt.{Halt}
-use Rattle.nf_frac_def.specs.declared.Halt.TheVariants as Halt
 use Rattle.nf_frac_def.specs.declared.PassedAt.{PassedAt}
-use Rattle.nf_frac_def.specs.Checked.{Checked, Gives, Stops, at_part, fold_checked, ◌>>=◌}
+use Rattle.nf_frac_def.specs.Checked.{Checked, Gives, Stops, at_part, fold_checked}
 use Rattle.nf_frac_def.proofs.Each.{fold_ok}
 use Rattle.nf_frac_def.proofs.Binding.{bind_ok}
 use Rattle.nf_rational_laws.proofs.Results.{same_Ok}
@@ -23,7 +22,7 @@ use Rattle.nf_residual.specs.Chains.{legs_out, IsNextOut, AreChains}
 use Rattle.nf_residual.proofs.Stopping.{ok_of_part}
 use Rattle.nf_residual.proofs.Twigs.{way_kept, known_at-by}
 use Rattle.nf_residual.proofs.Offering.{nothing_grows}
-use Rattle.nf_residual.proofs.AnyOrder.{fold_length, fold_keeps, fold_settles, any_order}
+use Rattle.nf_residual.proofs.AnyOrder.{fold_keeps, fold_settles, any_order}
 use Rattle.nf_residual.proofs.Chaining.{out_here, out_among, out_holds, split_here, Holds}
 use Rattle.nf_residual.proofs.Rounding.{IsOld, grows_on, settled_next, lt_or_ge}
 

@@ -3,7 +3,6 @@ use Rattle.std.specs.Prelude.{◌≡◌, ℕ, suc, ◌<◌, Bool, true, false, i
 use Rattle.nf_rational.specs.Rational.{ℚ}
 use Rattle.nf_frac_def.specs.Passing.{Passing}
 use Rattle.nf_frac_def.specs.declared.Halt.{Halt}
-use Rattle.nf_frac_def.specs.declared.Halt.TheVariants as Halt
 use Rattle.nf_frac_def.specs.declared.PassedAt.{PassedAt}
 use Rattle.nf_frac_def.specs.Checked.{Checked}
 use Rattle.nf_model.specs.Entries.{number_at}

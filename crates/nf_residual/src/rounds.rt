@@ -25,6 +25,7 @@ fn put(places: &mut Vec<Option<usize>>, node: NodeId, way: usize)
 }
 
 // Offers the path extended by a residual arc to the end of that arc, and records the extended path if it is better than the known one.
+#[inline(always)]
 fn offer(
     way: usize,
     leg: &Leg,
@@ -72,6 +73,7 @@ fn fresh_way(leg: &Leg, fresh: usize, before: &[Option<usize>]) -> Option<usize>
 }
 
 // Performs one round in the order of the arcs. `before` holds the best paths before the round, `places` those after it.
+#[cold]
 fn round_in_order(
     legs: &[Leg],
     fresh: usize,
@@ -97,7 +99,8 @@ fn round_in_order(
     Ok(())
 }
 
-// Offers the path to a node along each residual arc that begins there.
+// Offers the path to a node along each residual arc that begins there. Not inlined: the loop over the nodes then stays short.
+#[inline(never)]
 fn offer_from(
     node: usize,
     way: usize,
@@ -219,16 +222,17 @@ fn reaches_by(
     let arcs = Arcs::of(alloc, net.node_count(), legs)?;
     let mut ways = Ways::start(alloc, net.link_count() as usize)?;
     let mut places = first_places(alloc, net, from)?;
+    let mut next = copied(alloc, &places)?;
     let mut fresh = 0;
     for _ in 1..net.node_count() {
         let count = ways.count();
-        let mut next = copied(alloc, &places)?;
+        next.copy_from_slice(&places);
         round(in_order, &arcs, fresh, &places, &mut ways, &mut next)?;
         if ways.count() == count {
             return Ok(Reaches::of(ways, places));
         }
         fresh = count;
-        places = next;
+        std::mem::swap(&mut places, &mut next);
     }
     Ok(Reaches::of(ways, places))
 }

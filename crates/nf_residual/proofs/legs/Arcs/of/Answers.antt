@@ -1,4 +1,3 @@
-use Rattle.std.proofs.Common.{◌<◌, refl}
 use Rattle.nf_residual.proofs.Chaining.{chains_step, chains_all}
 use Rattle.nf_residual.proofs.legs.Arcs.of.Goals as goal
 
