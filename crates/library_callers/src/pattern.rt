@@ -41,7 +41,7 @@ pub fn first_listed(
         (λ pattern. IsListed nodes source links.now sets.now unbounded.now pattern)) }
 {
     let before = Pattern::none(alloc, links.len() as u32)?;
-    let first = base(alloc, links, sets, &before)?;
+    let first = base(alloc, nodes, links, sets, &before)?;
     let mut patterns = Patterns::new(alloc, nodes, source, links, sets, &first, unbounded)?;
     copy_next(alloc, &mut patterns)
 }

@@ -7,6 +7,7 @@ use Rattle.nf_app.proofs.Completing.{complete as is_complete}
 use Rattle.nf_app.proofs.Output.{output_fails}
 use Rattle.nf_app.proofs.Unstopped.{always_pattern}
 use Rattle.nf_app.proofs.Alike.{answered_same}
+use Rattle.nf_app.proofs.LongRun.{has_long_run}
 use Rattle.nf_app.proofs.Resuming.{computes_report_of_one_run, writes_report_of_one_run}
 use Rattle.nf_app.proofs.Chained.{says_yes as check_says_yes, resumes_solved as resumes_solved_text}
 
@@ -19,6 +20,7 @@ derived run ran = record {
   output = output_fails run ran;
   never_no_pattern = always_pattern run ran;
   same_in_all = answered_same run;
+  long_run = has_long_run run;
   one_run = computes_report_of_one_run run;
   resumes = writes_report_of_one_run run ran;
   says_yes = check_says_yes run ran;

@@ -27,4 +27,5 @@ pub mod Alike
 pub mod Unstopped
 pub mod Finished
 pub mod Chained
+pub mod LongRun
 pub mod Derived

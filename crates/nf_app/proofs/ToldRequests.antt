@@ -1,4 +1,5 @@
--- What a call answers whose files are known, within their limits and well formed: that of its command; or an allocation failed, or the shelf.
+-- What a call answers whose files are known, within their limits and well formed: that of its command; or an allocation failed, or the
+-- shelf.
 use Rattle.std.proofs.Common.{◌≡◌, ◌⊎◌, ℕ, ◌<◌, List, length, refl, sym, subst, ◌∙◌, inl, inr, arith}
 use Rattle.std.specs.Prelude.{Option, Some, None, IfSome, Result, Ok, Err}
 use Rattle.std.specs.List.{All}

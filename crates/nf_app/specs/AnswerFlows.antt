@@ -29,7 +29,8 @@ abbrev pub OfYes : FlowFact → Named → List ℕ → Verdict ℕ ℕ ℚ → T
 OfYes Holds n text Yes = (report : Report) → report_in n text ≡ Ok report → Holds n.net report.flow
 OfYes Holds n text (No rule subject time left right) = Unit {0}
 
--- Of an answer: of the flow of a report, of a run without a horizon, and of a text that `check` answers yes. Other answers describe no flow.
+-- Of an answer: of the flow of a report, of a run without a horizon, and of a text that `check` answers yes. Other answers describe no
+-- flow.
 abbrev pub OfEachFlow : FlowFact → List ℕ → Request → ProgramAnswer → Type 0
 OfEachFlow Holds text request (Solved n report) = Holds n.net report.flow
 OfEachFlow Holds text request (Generated number rungs n made report) = Holds n.net report.flow

@@ -42,8 +42,8 @@ abbrev pub NeverPasses : Named → Bounds → Report → Type 0
 NeverPasses n bounds old = (new : Report) (made phase : ℕ) (place : Option ℕ) (at : PassedAt ℚ)
     → IsResumedReport passes_Q n.net bounds old made new → new.stop ≢ Some (Cause.Passed phase place at)
 
--- The text is a report whose flow is an equilibrium that isn't beyond the horizon. No operation exceeds the bound, neither when the report is
--- resumed nor in a run that continues it.
+-- The text is a report whose flow is an equilibrium that isn't beyond the horizon. No operation exceeds the bound, neither when the report
+-- is resumed nor in a run that continues it.
 pub record CanGoOnFrom (n : Named) (text : List ℕ) (bounds : Bounds) : Type 0 where
   pub old : Report
   pub reads : report_in n text ≡ Ok old

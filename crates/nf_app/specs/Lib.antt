@@ -20,4 +20,5 @@ pub mod Uniqueness
 pub mod Stops
 pub mod Output
 pub mod Chained
+pub mod LongRun
 pub mod Promises

@@ -10,8 +10,8 @@ use Rattle.nf_app_words.specs.Requests.{Request}
 use Rattle.nf_app.specs.Results.{IsResultOf}
 use Rattle.nf_app.specs.Runs.{Call, MayAnswer}
 
--- The value found is the request's result, with its network and the bytes of its second file, and has its text. Or the refusal is the result,
--- or an allocation failed.
+-- The value found is the request's result, with its network and the bytes of its second file, and has its text. Or the refusal is the
+-- result, or an allocation failed.
 abbrev pub FindsResult : Named → List ℕ → Request → Result Computed Refusal → Type 0
 FindsResult n text request (Ok found) = IsResultOf n text request (answer_with n found) × HasTextWith n found
 FindsResult n text request (Err refusal) = (refusal ≡ Refusal.NoMemory) ⊎ IsResultOf n text request (answer_of refusal)

@@ -19,8 +19,8 @@ use Rattle.nf_app.specs.Completeness.{ReachesHorizon, ToldRequest}
 
 -- ---- the report that was read in this call
 -- A text is the report of a run of the network, to any horizon, within any budgets, whatever stopped it. One run from the start, within
--- budgets of its own, reaches the horizon of `resume`. If the first run ended mid-phase, no operation of a table or verdict list exceeds the
--- bound in the search for the remainder of that phase.
+-- budgets of its own, reaches the horizon of `resume`. If the first run ended mid-phase, no operation of a table or verdict list exceeds
+-- the bound in the search for the remainder of that phase.
 pub record ResumesRun (n : Named) (text : List ℕ) (bounds : Bounds) : Type 0 where
   pub old : Report
   pub reads : report_in n text ≡ Ok old

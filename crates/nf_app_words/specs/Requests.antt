@@ -10,8 +10,8 @@ use Rattle.nf_app_words.specs.CommandLine.{matches_on, file_in}
 use Rattle.nf_app_words.specs.Numbers.{not_negative_in, count_in, usual_or_count_in, usual_phases, most_phases, usual_patterns, most_patterns, usual_augments, most_augments, most_number, most_rungs}
 use Rattle.nf_app_words.specs.Commands.{commands, first_task}
 
--- A request. `file` names the network's file, and the second file has the name of its kind. `phases` and `patterns` are budgets: of a run, and
--- of the search in each of its phases. `augments` is the budget of pushed walks.
+-- A request. `file` names the network's file, and the second file has the name of its kind. `phases` and `patterns` are budgets: of a run,
+-- and of the search in each of its phases. `augments` is the budget of pushed walks.
 pub data Request : Type 0 where
   Solve : (file : Text) (horizon : ℚ) (phases patterns : ℕ) → Request
   SolveForever : (file : Text) (phases patterns : ℕ) → Request

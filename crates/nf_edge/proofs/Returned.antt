@@ -21,6 +21,11 @@ module _ {T : Type 0} where
   memory-has_no_value (Ok x) P is = let never : ⊥ = cc in absurd never
   memory-has_no_value (Err fault) P is = tt
 
+  -- what holds of each value
+  pub any_value : (r : Result T FetchFault) (P : T → Type 0) → ((x : T) → P x) → IfOk r P
+  any_value (Ok x) P all = all x
+  any_value (Err fault) P all = tt
+
   pub memory-not_failed : (r : Result T FetchFault) → r ≡ Err Memory → r ≡ Err Failed → ⊥
   memory-not_failed r is failed = cc
 

@@ -69,7 +69,7 @@ pub trait Shelf {
     /// Reads the file of this name and returns all its bytes, of which there are at most `limit`.
     ///
     /// Returns `Failed` if there is no such file or reading fails, `TooLong` if the file has more than `limit` bytes, and `Memory` if
-    /// an allocation fails. The call reads at most `limit + 1` bytes.
+    /// an allocation fails.
     fn fetch(&mut self, alloc: Global, name: &str, limit: u32) -> Result<Vec<u8>, FetchFault>
         ensures taken { IfOk result (λ bytes. taken self.new ≡ length bytes.items) }
         ensures told { IfOk result (λ bytes. IfSome (told self.old name.now) (λ held. bytes.items ≡ held)) }
@@ -78,9 +78,6 @@ pub trait Shelf {
         // A failure of the operating system raises the count of faults.
         ensures failed { IsErrOf result FetchFault.Failed → Rose (faults self.old) (faults self.new) }
         ensures never_falls { faults self.old ≤ faults self.new }
-
-        // The bytes read are at most the limit and one more, whatever the result.
-        ensures at_most { taken self.new ≤ limit + 1 }
 
         // `TooLong` implies that more than `limit` bytes were read; then the result is `TooLong` or `Memory`.
         ensures too_long { IsErrOf result FetchFault.TooLong → limit < taken self.new }
@@ -104,13 +101,13 @@ pub trait Sink {
     /// The bytes taken so far, if they are known to proofs.
     ghost took: { Self → Option (List ℕ) };
 
-    /// How often a write has failed.
+    /// How often `write` has returned `SinkFault`, up to 2^64 - 1. A fault that the sink itself mends, as by trying again, does not count.
     ghost faults: { Self → ℕ };
 
     /// Takes a prefix of `piece`, which isn't empty, and returns its length, at least 1. Allocates nothing.
     ///
-    /// Returns `SinkFault` if the sink takes no byte. A result with a length raises no count of faults, so one fault ends the writing of
-    /// a text.
+    /// Returns `SinkFault` if the sink takes no byte, and counts it once. A write that takes bytes counts no fault. So the count of a
+    /// sink whose bytes are unknown to proofs says whether a text was written whole, and that the first fault ended the writing.
     fn write(&mut self, piece: &[u8]) -> Result<usize, SinkFault>
         requires { 0 < length piece.now }
         ensures some { IfOk result (λ count. 0 < count) }

@@ -138,7 +138,6 @@ impl Shelf for MemShelf {
         ensures calls { self.new.calls ≡ one_more self.old.calls }
 
         ensures taken { IfOk result (λ bytes. self.new.taken ≡ length bytes.items) }
-        ensures at_most { self.new.taken ≤ limit + 1 }
         ensures too_long { IsErrOf result FetchFault.TooLong → self.new.taken ≡ limit + 1 }
         ensures long { limit < self.new.taken → IsErrOf result FetchFault.TooLong }
 

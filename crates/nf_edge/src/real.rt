@@ -1,5 +1,5 @@
 // Real files and a real writer: the trusted I/O boundary.
-ghost use Rattle.std.specs.Prelude.{◌≡◌, ◌⊎◌, ◌↔◌, ℕ, ◌+◌, ◌<◌, ◌≤◌, [], None, IfOk, OnOk, OnErr, IsErrOf, length, take};
+ghost use Rattle.std.specs.Prelude.{◌≡◌, ◌⊎◌, ◌↔◌, ℕ, ◌+◌, ◌<◌, ◌≤◌, [], ◌∷◌, ◌++◌, None, IfOk, OnOk, OnErr, IsErrOf, length, take};
 ghost use Rattle.std.specs.Io.KnownBytes.{Appends, Consumes, IsAtEnd};
 ghost use Rattle.nf_edge.specs.Faults.{one_more};
 ghost use Rattle.nf_edge.specs.Names.{texts};
@@ -61,7 +61,7 @@ fn read_named<R: Files>(
     }
 }
 
-/// The files of the operating system, by path. Their bytes are unknown to proofs.
+/// The files of the operating system, by path. Their bytes are unknown to proofs. A fetch reads at most `limit + 1` bytes.
 #[derive(Drop)]
 pub struct RealShelf<'r, R: Files> {
     runtime: &'r R,
@@ -108,7 +108,19 @@ impl<'r, R: Files> Shelf for RealShelf<'r, R> {
 
     ghost asked = { λ s. texts s.asked.items };
 
-    fn fetch(&mut self, alloc: Global, name: &str, limit: u32) -> Result<Vec<u8>, FetchFault> {
+    fn fetch(&mut self, alloc: Global, name: &str, limit: u32) -> Result<Vec<u8>, FetchFault>
+        // The bytes read are at most the limit and one more, whatever the result.
+        ensures at_most { self.new.taken ≤ limit + 1 }
+        ensures taken { IfOk result (λ bytes. self.new.taken ≡ length bytes.items) }
+        ensures too_long { IsErrOf result FetchFault.TooLong → limit < self.new.taken }
+        ensures long { limit < self.new.taken → IsErrOf result FetchFault.TooLong }
+
+        ensures failed { IsErrOf result FetchFault.Failed → self.new.faults ≡ one_more self.old.faults }
+        ensures never_falls { self.old.faults ≤ self.new.faults }
+
+        ensures asked { (texts self.new.asked.items ≡ texts self.old.asked.items ++ name.now ∷ [])
+            ⊎ (IsErrOf result FetchFault.Memory × (texts self.new.asked.items ≡ texts self.old.asked.items)) }
+    {
         self.taken = 0;
         note(&mut self.asked, alloc, name)?;
         let mut bytes = Vec::new(alloc);

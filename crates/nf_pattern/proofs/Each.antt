@@ -52,3 +52,10 @@ as_many_from xs ys k e = ap length (take_rest xs k) ∙ (length-drop k xs ∙ (a
 -- below how many entries a vector has
 pub under_len : {A : Type 0} (v : Vec A Global) (i n : ℕ) → i ≡ n → n < length v.items → i < v.len
 under_len v i n at below = let count = v.ok.0 in omega arith
+
+-- all of the first of two lists
+pub take_front : {A : Type 0} (xs ys : List A) (n : ℕ) → n ≡ length xs → take n (xs ++ ys) ≡ xs
+take_front [] ys zero e = refl
+take_front [] ys (suc n) e = absurd (omega arith)
+take_front (x ∷ xs) ys zero e = absurd (omega arith)
+take_front {A = A} (x ∷ xs) ys (suc n) e = ap (λ (l : List A). x ∷ l) (take_front xs ys n (omega arith))

@@ -1,5 +1,5 @@
 -- Base patterns, link by link.
-use Rattle.std.proofs.Common.{◌≡◌, ℕ, zero, suc, ◌<◌, List, Bool, length, get_or, replicate, true, false, refl, ap, ◌∙◌, arith, inl, inr, ⊎_elim, subst, sym, ◌+◌}
+use Rattle.std.proofs.Common.{◌≡◌, ℕ, zero, suc, ◌<◌, List, Bool, length, get_or, replicate, true, false, refl, ap, ◌∙◌, arith, inl, inr, subst, sym}
 use Rattle.std.specs.Prelude.{Option, Some, None, slice_get}
 use Rattle.std.proofs.lemmas.Option.{slice_get_within, slice_get-get_or, same_Some}
 use Rattle.nf_rational.specs.Operations.{0ℚ}
@@ -10,36 +10,28 @@ use Rattle.nf_model.specs.Walk.{Hop, IsHop}
 use Rattle.nf_model.specs.ThinFlow.{Sets}
 use Rattle.nf_model.specs.Pattern.{Pattern, HasState, NeedsState, IsPattern, IsFirstInto, IsBase}
 use Rattle.nf_graph.proofs.Walks.{IsHop-unique}
-use Rattle.nf_pattern.specs.Base.{Bars, IsBaseState}
+use Rattle.nf_pattern.specs.Base.{Bars, AreBarred, IsBaseState}
 use Rattle.nf_pattern.proofs.Each.{EachEntry}
-use Rattle.nf_rational_laws.proofs.Naturals.{before_or_at}
 
 module _ (hops : List Hop) (sets : Sets) where
-  -- no link bars this one
-  pub first_into : (e node : ℕ) (hop : Hop) → IsHop hops e hop → hop.head ≡ node
-      → ((k : ℕ) (other : Hop) → IsHop hops k other → other.head ≡ node → Bars sets k e → ⊥) → IsFirstInto hops sets e hop
-  first_into e node hop p head free = record {
-    is_hop = p;
-    first = λ other before less q same active. free other before q (same ∙ head) (inr (less, active));
-    no_reset = λ other before q same resetting. free other before q (same ∙ head) (inl resetting);
-  }
-
   -- a link bars this one
   barred : (e k : ℕ) (hop other : Hop) → IsHop hops k other → other.head ≡ hop.head → Bars sets k e → IsFirstInto hops sets e hop → ⊥
   barred e k hop other q same (inl resetting) first = first.no_reset k other q same resetting
   barred e k hop other q same (inr (less, active)) first = first.first k other less q same active
 
-  pub not_first_into : (e k : ℕ) (here other : Hop) → IsHop hops e here → IsHop hops k other → other.head ≡ here.head → Bars sets k e → (hop : Hop) → IsFirstInto hops sets e hop → ⊥
-  not_first_into e k here other p q same bars hop first =
-      barred e k hop other q (same ∙ ap (λ (h : Hop). h.head) (IsHop-unique hops e here hop p first.is_hop)) bars first
+  -- ---- what the flag of a link's head says
+  module _ (nodes e : ℕ) (flags : List Bool) (entered : AreBarred nodes hops sets e flags) where
+    pub first_if_free : (hop : Hop) → IsHop hops e hop → (Has flags hop.head → ⊥) → IsFirstInto hops sets e hop
+    first_if_free hop p free = record {
+      is_hop = p;
+      first = λ other before less q same active. free (subst (λ (v : ℕ). Has flags v) same (entered.all other before q (inr (less, active))));
+      no_reset = λ other before q same resetting. free (subst (λ (v : ℕ). Has flags v) same (entered.all other before q (inl resetting)));
+    }
 
-  -- none of the links so far bars this one, nor does the next
-  pub free_more : (e node n : ℕ) → ((k : ℕ) (other : Hop) → k < n → IsHop hops k other → other.head ≡ node → Bars sets k e → ⊥)
-      → ((other : Hop) → IsHop hops n other → other.head ≡ node → Bars sets n e → ⊥) → (k : ℕ) (other : Hop) → k < n + 1 → IsHop hops k other → other.head ≡ node → Bars sets k e → ⊥
-  free_more e node n free here k other less q head bars = ⊎_elim
-      (λ (l : k < n). free k other l q head bars)
-      (λ (same : k ≡ n). here other (subst (λ (i : ℕ). IsHop hops i other) same q) head (subst (λ (i : ℕ). Bars sets i e) same bars))
-      (before_or_at k n (omega (arith, less)))
+    pub not_first_if_set : (here : Hop) → IsHop hops e here → Has flags here.head → (hop : Hop) → IsFirstInto hops sets e hop → ⊥
+    not_first_if_set here p has hop first =
+        let by = entered.into here.head has in
+        barred e by.0 hop by.1 by.2 (by.3 ∙ ap (λ (h : Hop). h.head) (IsHop-unique hops e here hop p first.is_hop)) by.4 first
 
   -- ---- the state of the first one
   any_hop : Hop
@@ -51,14 +43,17 @@ module _ (hops : List Hop) (sets : Sets) where
   no_state : (last : Pattern) (e : ℕ) (state : State) → slice_get last e ≡ Some None → HasState last e state → ⊥
   no_state last e state none some = cc
 
-  pub tight_first : (last : Pattern) (e : ℕ) → e < length hops → Has sets.active e → slice_get sets.resetting e ≡ Some false → slice_get last e ≡ Some None
-      → ((hop : Hop) → IsHop hops e hop → IsFirstInto hops sets e hop) → IsBaseState hops sets last e (Some Tight)
-  tight_first last e below active off none first = record {
+  pub tight_first : (last : Pattern) (nodes e : ℕ) (flags : List Bool) → e < length hops → Has sets.active e → slice_get sets.resetting e ≡ Some false → slice_get last e ≡ Some None
+      → AreBarred nodes hops sets e flags → ((hop : Hop) → IsHop hops e hop → Has flags hop.head → ⊥) → IsBaseState hops sets last e (Some Tight)
+  tight_first last nodes e flags below active off none entered free = record {
     needed = λ state _. (active, not_set e off);
     there = λ _. (Tight, refl);
     kept = λ state _ was. absurd (no_state last e state none was);
     first = λ _ _ _ _. refl;
-    later = λ _ _ not_first. absurd (not_first (get_or hops e any_hop) (first (get_or hops e any_hop) (slice_get-get_or hops e any_hop below)));
+    later = λ _ _ not_first.
+        let hop = get_or hops e any_hop in
+        let p : IsHop hops e hop = slice_get-get_or hops e any_hop below in
+        absurd (not_first hop (first_if_free nodes e flags entered hop p (free hop p)));
   }
 
   -- ---- the state of one that had one, and of a later one
@@ -74,13 +69,13 @@ module _ (hops : List Hop) (sets : Sets) where
     later = λ _ none _. absurd (no_state last e state none at);
   }
 
-  pub zero_later : (last : Pattern) (e : ℕ) → Has sets.active e → slice_get sets.resetting e ≡ Some false → slice_get last e ≡ Some None
-      → ((hop : Hop) → IsFirstInto hops sets e hop → ⊥) → IsBaseState hops sets last e (Some Zero)
-  zero_later last e active off none not_first = record {
+  pub zero_later : (last : Pattern) (nodes e : ℕ) (flags : List Bool) → e < length hops → Has sets.active e → slice_get sets.resetting e ≡ Some false → slice_get last e ≡ Some None
+      → AreBarred nodes hops sets e flags → ((hop : Hop) → IsHop hops e hop → Has flags hop.head) → IsBaseState hops sets last e (Some Zero)
+  zero_later last nodes e flags below active off none entered has = record {
     needed = λ state _. (active, not_set e off);
     there = λ _. (Zero, refl);
     kept = λ state _ was. absurd (no_state last e state none was);
-    first = λ hop _ _ is. absurd (not_first hop is);
+    first = λ hop _ _ is. absurd (not_first_if_set nodes e flags entered hop is.is_hop (has hop is.is_hop) hop is);
     later = λ _ _ _. refl;
   }
 

@@ -1,4 +1,5 @@
 pub mod Each
+pub mod EnteredNodes
 pub mod FirstPatterns
 pub mod Successors
 pub mod Later

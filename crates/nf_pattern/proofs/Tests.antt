@@ -1,16 +1,14 @@
 -- Tests of one entry of a list.
-use Rattle.std.proofs.Common.{◌≡◌, ◌≢◌, ℕ, suc, ◌+◌, ◌<◌, ◌≤◌, Bool, true, false, not, eqb, ltb, ◌⊎◌, ⊎_elim, inl, inr, List, length, get_or, Some, None, add-one, refl, sym, ap, subst, ◌∙◌, arith}
+use Rattle.std.proofs.Common.{◌≡◌, ◌≢◌, ℕ, suc, ◌+◌, ◌<◌, Bool, true, false, not, eqb, ◌⊎◌, ⊎_elim, List, length, get_or, Some, None, add-one, refl, sym, ap, subst, ◌∙◌}
 use Rattle.std.specs.Prelude.{slice_get, MatchBool}
 use Rattle.std.proofs.lemmas.Bool.{false≢true}
-use Rattle.std.proofs.lemmas.Bool.Decides.{eqb_tells, nat_tests}
+use Rattle.std.proofs.lemmas.Bool.Decides.{eqb_tells}
 use Rattle.std.proofs.lemmas.Option.{same_Some, none-some}
 use Rattle.nf_model.specs.declared.State.{State}
 use Rattle.nf_model.specs.declared.State.TheVariants.{Tight, Full}
 use Rattle.nf_model.specs.Entries.{Has}
-use Rattle.nf_model.specs.ThinFlow.{Sets}
 use Rattle.nf_model.specs.Pattern.{Pattern, HasState}
 use Rattle.nf_graph.proofs.Walks.{apart_from_test}
-use Rattle.nf_pattern.specs.Base.{Bars}
 use Rattle.nf_pattern.specs.Entered.{MayCarry}
 use Rattle.nf_pattern.proofs.Each.{entry_at}
 
@@ -30,29 +28,6 @@ pub carries_not : (resetting : List Bool) (p : Pattern) (e : ℕ) → slice_get 
 carries_not resetting p e off tight full may = ⊎_elim
     (λ (on : Has resetting e). not_set resetting e off on)
     (λ (w : HasState p e Tight ⊎ HasState p e Full). ⊎_elim (λ (t : HasState p e Tight). tight t) (λ (f : HasState p e Full). full f) w) may
-
--- Whether another link bars this one.
-module _ (sets : Sets) (other e : ℕ) where
-  pub bars_by_resetting : (b : Bool) → slice_get sets.resetting other ≡ Some b → b ≡ true → MatchBool b (Bars sets other e) (Bars sets other e → ⊥)
-  bars_by_resetting true at is = inl at
-  bars_by_resetting false at is = absurd (false≢true is)
-
-  not_barred : slice_get sets.resetting other ≡ Some false → (other < e → Has sets.active other → ⊥) → Bars sets other e → ⊥
-  not_barred off f bars = ⊎_elim
-      (λ (on : Has sets.resetting other). not_set sets.resetting other off on)
-      (λ (w : (other < e) × Has sets.active other). f w.0 w.1) bars
-
-  pub bars_by_active : slice_get sets.resetting other ≡ Some false → other < e → (b : Bool) → slice_get sets.active other ≡ Some b → MatchBool b (Bars sets other e) (Bars sets other e → ⊥)
-  bars_by_active off before true at = inr (before, at)
-  bars_by_active off before false at = λ bars. not_barred off (λ _ on. not_set sets.active other at on) bars
-
-  not_before : (m n : ℕ) → n ≤ m → ltb m n ≡ false
-  not_before m n past = grind (arith, nat_tests)
-
-  pub bars_not_later : slice_get sets.resetting other ≡ Some false → (m n : ℕ) → m ≡ other → n ≡ e → n ≤ m → MatchBool (ltb m n) (Bars sets other e) (Bars sets other e → ⊥)
-  bars_not_later off m n at_m at_n past =
-      subst (λ (b : Bool). MatchBool b (Bars sets other e) (Bars sets other e → ⊥)) (sym (not_before m n past))
-      (λ bars. not_barred off (λ before _. omega arith) bars)
 
 by_test : (m n : ℕ) (P : Type 0) → (m ≡ n → P) → (P → m ≡ n) → MatchBool (eqb m n) P (P → ⊥)
 by_test m n P to from = ⊎_elim

@@ -57,7 +57,7 @@ impl Run {
         requires sets { sets.now ≡ sets_at net.now.net self.now.labels }
         ensures { (horizon : ℚ) → Finds (IsSearchHere passes_Q net.now.net horizon patterns self.now) patterns result }
     {
-        let base = base(alloc, net.hops(), sets, &self.last)?;
+        let base = base(alloc, net.node_count(), net.hops(), sets, &self.last)?;
         find_thin(alloc, net, sets, net.rate_at(self.reached), &base, patterns)
     }
 

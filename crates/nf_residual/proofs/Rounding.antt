@@ -22,14 +22,14 @@ use Rattle.nf_residual.proofs.Offering.{nothing_grows}
 use Rattle.nf_residual.proofs.Settled.{settled_here, settled_then}
 use Rattle.nf_residual.proofs.LegByLeg.{round_along}
 
-lt_or_ge : (j k : ℕ) → (j < k) ⊎ (k ≤ j)
+pub lt_or_ge : (j k : ℕ) → (j < k) ⊎ (k ≤ j)
 lt_or_ge zero zero = inr (omega arith)
 lt_or_ge zero (suc k) = inl (omega arith)
 lt_or_ge (suc j) zero = inr (omega arith)
 lt_or_ge (suc j) (suc k) = ⊎_elim (λ (h : j < k). inl (omega arith)) (λ (h : k ≤ j). inr (omega arith)) (lt_or_ge j k)
 
 -- ---- arc by arc: the remaining arcs give the result of the whole round, and processed arcs offer nothing new
-abbrev IsOld : ℕ → Places → Leg → Type 0
+abbrev pub IsOld : ℕ → Places → Leg → Type 0
 IsOld fresh places leg = (way : ℕ) × (place_at places leg.begin ≡ Some way) × (way < fresh)
 
 pub record RoundOn (passes : Passing) (legs : List Leg) (fresh : ℕ) (old : List Twig) (before : Places) (tree : List Twig) (places : Places) (k : ℕ) : Type 0 where
@@ -82,6 +82,27 @@ known_grown old new before after g good h = ap (λ (t : List Twig). known_by t b
 pub within_more : (old new : List Twig) (before after : Places) → Grows old new before after → AreWithin (length old) before → AreWithin (length new) before
 within_more old new before after g h = λ v way e. let b : way < length old = h v way e in let long : length new ≡ length old + length g.added = ap (λ (t : List Twig). length t) g.grown ∙ length-append old g.added in omega arith
 
+-- After a round, arcs whose path is not new in it offer nothing new.
+module _ (passes : Passing) (legs : List Leg) (old : List Twig) (before : Places) (tree : List Twig) (places : Places) (grows : Grows old tree before places) (good : IsTree old)
+    (done : (j : ℕ) (leg : Leg) → slice_get legs j ≡ Some leg → along_leg passes (known_by old before) (known_by tree places) leg ≡ Ok (known_by tree places)) where
+  pub settled_next : AreSettled passes legs (length old) tree places
+  settled_next j leg is way at h = by_place (grows.places leg.begin)
+    where
+      same : (x y : ℕ) → Some x ≡ Some y → x ≡ y
+      same x y e = cc
+
+      way_is : way_at tree way ≡ way_at old way
+      way_is = ap (λ (t : List Twig). way_at t way) grows.grown ∙ way_kept old grows.added way good h
+
+      by_place : (place_at places leg.begin ≡ place_at before leg.begin) ⊎ ((other : ℕ) × (place_at places leg.begin ≡ Some other) × (length old ≤ other) × (other < length tree))
+          → along_leg passes (known_by tree places) (known_by tree places) leg ≡ Ok (known_by tree places)
+      by_place (inl a) =
+          let here : known_at (known_by tree places) leg.begin ≡ known_at (known_by old before) leg.begin =
+          known_at-by tree places leg.begin ∙ ap (λ (o : Option ℕ). option_map (way_at tree) o) at ∙ ap (λ (r : Reach). Some r) way_is
+          ∙ sym (ap (λ (o : Option ℕ). option_map (way_at old) o) (sym a ∙ at)) ∙ sym (known_at-by old before leg.begin) in
+          ap (λ (o : Option Reach). along passes true o leg.step leg.transit leg.end (known_by tree places)) here ∙ done j leg is
+      by_place (inr a) = let e : a.0 ≡ way = same a.0 way (sym a.1 ∙ at) in absurd (omega (arith, e, a.2, h))
+
 module _ (passes : Passing) (legs : List Leg) (fresh : ℕ) (old : List Twig) (before : Places) where
   abbrev goes : Known → Leg → Checked Known
   goes = along_leg passes (known_by old before)
@@ -104,27 +125,9 @@ module _ (passes : Passing) (legs : List Leg) (fresh : ℕ) (old : List Twig) (b
     pub round_all : length legs ≤ k → at_part Part.Quick (fold_checked (along_leg passes (known_by old before)) (known_by old before) legs) ≡ Ok (known_by tree places)
     round_all b = ap (at_part Part.Quick) (sym on.same ∙ ap (λ (l : List Leg). fold_checked goes (known_by tree places) l) (drop_all k legs b))
 
-    -- Arcs whose path is not new in this round.
     pub settled_all : length legs ≤ k → IsTree old → AreSettled passes legs (length old) tree places
-    settled_all b good j leg is way at h = by_place (on.grows.places leg.begin)
-      where
-        same : (x y : ℕ) → Some x ≡ Some y → x ≡ y
-        same x y e = cc
-
-        done : along_leg passes (known_by old before) (known_by tree places) leg ≡ Ok (known_by tree places)
-        done = on.settled j leg is (inl (let i : j < length legs = slice_get_within legs j leg is in omega (arith, i, b)))
-
-        way_is : way_at tree way ≡ way_at old way
-        way_is = ap (λ (t : List Twig). way_at t way) on.grows.grown ∙ way_kept old on.grows.added way good h
-
-        by_place : (place_at places leg.begin ≡ place_at before leg.begin) ⊎ ((other : ℕ) × (place_at places leg.begin ≡ Some other) × (length old ≤ other) × (other < length tree))
-            → along_leg passes (known_by tree places) (known_by tree places) leg ≡ Ok (known_by tree places)
-        by_place (inl a) =
-            let here : known_at (known_by tree places) leg.begin ≡ known_at (known_by old before) leg.begin =
-            known_at-by tree places leg.begin ∙ ap (λ (o : Option ℕ). option_map (way_at tree) o) at ∙ ap (λ (r : Reach). Some r) way_is
-            ∙ sym (ap (λ (o : Option ℕ). option_map (way_at old) o) (sym a ∙ at)) ∙ sym (known_at-by old before leg.begin) in
-            ap (λ (o : Option Reach). along passes true o leg.step leg.transit leg.end (known_by tree places)) here ∙ done
-        by_place (inr a) = let e : a.0 ≡ way = same a.0 way (sym a.1 ∙ at) in absurd (omega (arith, e, a.2, h))
+    settled_all b good = settled_next passes legs old before tree places on.grows good
+        (λ j leg is. on.settled j leg is (inl (let i : j < length legs = slice_get_within legs j leg is in omega (arith, i, b))))
 
     module _ (leg : Leg) (b : k < length legs) (is : leg ≡ get_or legs k leg) where
       split : fold_checked goes (known_by tree places) (leg ∷ drop (k + 1) legs) ≡ fold_checked goes (known_by old before) legs

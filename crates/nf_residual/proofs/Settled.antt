@@ -83,7 +83,7 @@ again (Some old) way = by_test (is_better way old) refl
     by_test false e = ap (λ (b : Bool). if b then way else old) e
 
 -- A path that doesn't replace the known one doesn't replace a better one either.
-at_most : (old way : Reach) → better_of (Some old) way ≡ old → IsAtMost old way
+pub at_most : (old way : Reach) → better_of (Some old) way ≡ old → IsAtMost old way
 at_most old way e = by_test (is_better way old) refl
   where
     by_test : (t : Bool) → is_better way old ≡ t → IsAtMost old way
@@ -103,7 +103,7 @@ lost_still old way other e = by_test (is_better other old) refl
 
 -- ---- offers to nodes
 -- An offer that changes nothing.
-lost_there : (known : Known) (v : ℕ) (way : Reach) → v < length known → offered known v way ≡ known → (old : Reach) × (known_at known v ≡ Some old) × (better_of (Some old) way ≡ old)
+pub lost_there : (known : Known) (v : ℕ) (way : Reach) → v < length known → offered known v way ≡ known → (old : Reach) × (known_at known v ≡ Some old) × (better_of (Some old) way ≡ old)
 lost_there known v way h e =
     let at : known_at known v ≡ Some (better_of (known_at known v) way) = sym (ap (λ (k : Known). known_at k v) e) ∙ set_here known v (Some (better_of (known_at known v) way)) h in
     (better_of (known_at known v) way, at, ap (λ (o : Option Reach). better_of o way) (sym at))
@@ -139,20 +139,20 @@ bound r f y e = let b = bind_ok r (λ x. Ok (f x)) y e in (b.0, b.1, same_Ok (f 
 
 module _ (passes : Passing) (before : Known) (leg : Leg) where
   -- From the known path to its begin.
-  abbrev from_known : Option Reach → Known → Checked Known
+  abbrev pub from_known : Option Reach → Known → Checked Known
   from_known o so_far = along passes true o leg.step leg.transit leg.end so_far
 
-  gives : (o : Option Reach) (so_far next : Known) → from_known o so_far ≡ Ok next
+  pub gives : (o : Option Reach) (so_far next : Known) → from_known o so_far ≡ Ok next
       → ((later : Known) → from_known o later ≡ Ok later) ⊎ ((way : Reach) × (next ≡ offered so_far leg.end way) × ((later : Known) → from_known o later ≡ Ok (offered later leg.end way)))
   gives None so_far next e = inl (λ later. refl)
   gives (Some way) so_far next e =
       let b = bound (checked passes (op_of leg.step.forward) way.distance leg.transit) (λ d. offered so_far leg.end (longer way leg.step d)) next e in
       inr (longer way leg.step b.0, sym b.2, λ later. ap (λ (r : Checked ℚ). r >>= λ d. Ok (offered later leg.end (longer way leg.step d))) b.1)
 
-abbrev Offers : Passing → Known → Leg → Known → Known → Type 0
+abbrev pub Offers : Passing → Known → Leg → Known → Known → Type 0
 Offers passes before leg so_far next = (way : Reach) × (next ≡ offered so_far leg.end way) × ((later : Known) → along_leg passes before later leg ≡ Ok (offered later leg.end way))
 
-same_ok : (x y : Known) → ◌≡◌ {A = Checked Known} (Ok x) (Ok y) → x ≡ y
+pub same_ok : (x y : Known) → ◌≡◌ {A = Checked Known} (Ok x) (Ok y) → x ≡ y
 same_ok x y e = cc
 
 module _ (passes : Passing) (before : Known) (leg : Leg) where

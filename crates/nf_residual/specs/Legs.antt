@@ -1,7 +1,9 @@
 -- Residual arcs of a flow with their end nodes, and the paths they offer.
-use Rattle.std.specs.Prelude.{◌≡◌, ℕ, suc, ◌<◌, Bool, true, false, if◌then◌else◌, List, [], ◌∷◌, ◌++◌, Some, slice_get, Ok}
+use Rattle.std.specs.Prelude.{◌≡◌, ℕ, suc, ◌<◌, Bool, true, false, if◌then◌else◌, List, [], ◌∷◌, ◌++◌, Some, slice_get, Result, Ok, Err}
 use Rattle.nf_rational.specs.Rational.{ℚ}
 use Rattle.nf_frac_def.specs.Passing.{Passing}
+use Rattle.nf_frac_def.specs.declared.Halt.{Halt}
+use Rattle.nf_frac_def.specs.declared.PassedAt.{PassedAt}
 use Rattle.nf_frac_def.specs.Checked.{Checked}
 use Rattle.nf_model.specs.Entries.{number_at}
 use Rattle.nf_model.specs.Network.{Link}
@@ -42,3 +44,13 @@ abbrev pub AreSettled : Passing → List Leg → ℕ → List Twig → Places �
 AreSettled passes legs fresh tree places = (k : ℕ) (leg : Leg) → slice_get legs k ≡ Some leg → (way : ℕ)
     → place_at places leg.begin ≡ Some way → way < fresh
     → along_leg passes (known_by tree places) (known_by tree places) leg ≡ Ok (known_by tree places)
+
+-- As `Gives`, but if the arcs are not tried in order, nothing is said of a refusal.
+abbrev pub StopsBy : {A : Type 0} → Halt ℚ → Bool → Result A (PassedAt ℚ) → Type 0
+StopsBy Halt.Memory in_order said = Unit {0}
+StopsBy (Halt.Passed p) true said = said ≡ Err p
+StopsBy (Halt.Passed p) false said = Unit {0}
+
+abbrev pub GivesBy : {X A : Type 0} → Bool → (X → A) → Result X (Halt ℚ) → Result A (PassedAt ℚ) → Type 0
+GivesBy in_order value (Ok x) said = said ≡ Ok (value x)
+GivesBy in_order value (Err h) said = StopsBy h in_order said

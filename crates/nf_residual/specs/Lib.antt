@@ -1,3 +1,4 @@
 pub mod Lengths
 pub mod Ways
 pub mod Legs
+pub mod Chains

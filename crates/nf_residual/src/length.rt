@@ -40,6 +40,7 @@ impl Model for Length {
 }
 
 // Returns the sum, or None exactly if its magnitude exceeds 2^62 - 1.
+#[inline(always)]
 fn added(a: i64, b: i64) -> Option<i64>
     ensures { SomeIff result (nat_abs (a +ℤ b) ≤ most) (a +ℤ b) }
 {
@@ -50,6 +51,7 @@ fn added(a: i64, b: i64) -> Option<i64>
 }
 
 // Returns the difference, or None exactly if its magnitude exceeds 2^62 - 1.
+#[inline(always)]
 fn taken(a: i64, b: i64) -> Option<i64>
     ensures { SomeIff result (nat_abs (a -ℤ b) ≤ most) (a -ℤ b) }
 {
@@ -60,6 +62,7 @@ fn taken(a: i64, b: i64) -> Option<i64>
 }
 
 // Returns the sum for a forward step and the difference for a backward one, or None exactly if its magnitude exceeds 2^62 - 1.
+#[inline(always)]
 fn along(forward: bool, a: i64, b: i64) -> Option<i64>
     ensures { SomeIff result (nat_abs (along_by forward a b) ≤ most) (along_by forward a b) }
 {
@@ -114,6 +117,7 @@ impl Length {
 
     // Returns the changed length if both lengths and the result are held as whole numbers. A returned length implies that the checked
     // operation does not exceed its bound.
+    #[inline(always)]
     fn whole_change(&self, forward: bool, transit: &Length) -> Option<Length>
         ensures { IfSome result (IsExact forward self.now transit.now) }
     {
@@ -128,19 +132,37 @@ impl Length {
         None
     }
 
+    // Returns the result of `changed`, computed over fractions.
+    #[inline(never)]
+    fn changed_value(&self, forward: bool, transit: &Length) -> Result<Length, PassedAt<Q>>
+        ensures { result ≡ checked_at passes_Q Quick (op_of forward) self.now transit.now }
+    {
+        let value = changed(forward, self.value(), transit.value())?;
+        Ok(Length::of(value))
+    }
+
     /// Returns the length after a forward step of this transit time, which adds it, or a backward step, which subtracts it. Refuses with
     /// Passed, of the part Quick, exactly if the operation exceeds its bound.
+    #[inline(always)]
     pub(crate) fn changed(&self, forward: bool, transit: &Length) -> Result<Length, PassedAt<Q>>
         ensures { result ≡ checked_at passes_Q Quick (op_of forward) self.now transit.now }
     {
         if let Some(length) = self.whole_change(forward, transit) {
             return Ok(length);
         }
-        let value = changed(forward, self.value(), transit.value())?;
-        Ok(Length::of(value))
+        self.changed_value(forward, transit)
+    }
+
+    // Compares the two lengths as fractions.
+    #[inline(never)]
+    fn compare_values(&self, other: &Length) -> Ordering
+        ensures { result ≡ cmp_ℚ self.now other.now }
+    {
+        self.value().cmp(&other.value())
     }
 
     /// Compares the two lengths by their values.
+    #[inline(always)]
     pub(crate) fn compare(&self, other: &Length) -> Ordering
         ensures { result ≡ cmp_ℚ self.now other.now }
     {
@@ -149,6 +171,6 @@ impl Length {
                 return left.cmp(right);
             }
         }
-        self.value().cmp(&other.value())
+        self.compare_values(other)
     }
 }

@@ -64,11 +64,11 @@ fn decided(here: Step, there: Step, later: bool) -> bool
 }
 
 impl Ways {
-    /// Returns the tree with only the path of no step.
-    pub(crate) fn start(alloc: Global) -> Result<Ways, AllocError>
+    /// Returns the tree with only the path of no step, with memory for `room` paths.
+    pub(crate) fn start(alloc: Global, room: usize) -> Result<Ways, AllocError>
         ensures { IfOk result (λ ways. ways ≡ first_twig ∷ []) }
     {
-        let mut twigs = Vec::new(alloc);
+        let mut twigs = Vec::with_capacity(alloc, room)?;
         twigs.push(Twig {
             distance: Length::of(Q::zero()),
             count: 0,
@@ -99,6 +99,7 @@ impl Ways {
 
     /// Returns the length of a path extended by a residual arc, a time. Refuses with Passed, of the part Quick, exactly if the operation
     /// exceeds its bound.
+    #[inline(always)]
     pub(crate) fn changed(&self, way: usize, leg: &Leg) -> Result<Length, PassedAt<Q>>
         requires { way < length self.now }
         ensures { result ≡ checked_at passes_Q Quick (op_of leg.now.step.forward) (twig_at self.now way).distance leg.now.transit }
@@ -109,6 +110,7 @@ impl Ways {
     }
 
     // Compares this length with the length of a path.
+    #[inline(always)]
     fn compare(&self, distance: &Length, way: usize) -> Ordering
         requires { way < length self.now }
         ensures { result ≡ cmp_ℚ distance.now (twig_at self.now way).distance }
@@ -165,6 +167,7 @@ impl Ways {
     }
 
     // Returns whether a path extended by `step` has fewer steps than the other, or as many and precedes it.
+    #[inline(never)]
     fn are_fewer_or_before(&self, way: usize, step: Step, other: usize) -> bool
         requires way { way < length self.now }
         requires other { other < length self.now }
@@ -180,6 +183,7 @@ impl Ways {
     }
 
     // Returns whether a path extended by `step`, of length `distance`, precedes the other path.
+    #[inline(always)]
     fn is_better(&self, way: usize, step: Step, distance: &Length, other: usize) -> bool
         requires way { way < length self.now }
         requires other { other < length self.now }
@@ -193,6 +197,7 @@ impl Ways {
     }
 
     /// Returns whether a path extended by `step`, of length `distance`, precedes the known path, or no path is known.
+    #[inline(always)]
     pub(crate) fn is_gain(
         &self,
         way: usize,

@@ -8,10 +8,3 @@ take_next {A = A} (y ∷ xs) (suc i) x h = ap (λ (l : List A). y ∷ l) (take_n
 
 pub take_more : {A : Type 0} (xs : List A) (i : ℕ) (x : A) → i < length xs → take (i + 1) (set xs i x) ≡ take i xs ++ x ∷ []
 take_more xs i x h = ap (λ (j : ℕ). take j (set xs i x)) (add-one i) ∙ take_next xs i x h
-
--- all of the first of two lists
-pub take_front : {A : Type 0} (xs ys : List A) (n : ℕ) → n ≡ length xs → take n (xs ++ ys) ≡ xs
-take_front [] ys zero e = refl
-take_front [] ys (suc n) e = absurd (omega arith)
-take_front (x ∷ xs) ys zero e = absurd (omega arith)
-take_front {A = A} (x ∷ xs) ys (suc n) e = ap (λ (l : List A). x ∷ l) (take_front xs ys n (omega arith))

@@ -82,14 +82,20 @@ fn flows_of(
 }
 
 // Flows and slopes of a pattern are judged.
-fn judge(net: &Network, pattern: &Pattern, flows: &[Q], slopes: &[Q]) -> Result<Tried, PassedAt<Q>>
-    requires states { length pattern.now ≡ length net.now.net.links }
+fn judge(
+    net: &Network,
+    sets: &LinkSets,
+    pattern: &Pattern,
+    flows: &[Q],
+    slopes: &[Q],
+) -> Result<Tried, PassedAt<Q>>
+    requires pattern { IsPatternIn net.now.net sets.now pattern.now }
     requires flows { length flows.now ≡ length net.now.net.links }
     requires slopes { length slopes.now ≡ net.now.net.nodes }
     ensures { JudgesFlows net.now.net pattern.now flows.now slopes.now
         (at_part Part.Verdict (verdict_list passes_Q net.now.net pattern.now slopes.now)) result }
 {
-    match verdict(net, pattern, flows, slopes)? {
+    match verdict(net, sets, pattern, flows, slopes)? {
         Judged::Meets => Ok(Tried::Accepted),
         Judged::FailsNode(_) => Ok(Tried::NotSolvable),
         Judged::FailsLink(_) => Ok(Tried::NotSolvable),
@@ -116,7 +122,7 @@ fn judge_into(
 {
     spread_flows(net, sets, values, flows);
     slopes.copy_from_slice(&values[..net.node_count() as usize]);
-    judge(net, pattern, flows, slopes)
+    judge(net, sets, pattern, flows, slopes)
 }
 
 /// The values that solve the table of a pattern, judged.
@@ -136,7 +142,7 @@ pub fn judge_values(
     let flows = flows_of(alloc, net, sets, &values)?;
     let mut slopes = values;
     slopes.truncate(net.node_count() as usize);
-    match verdict(net, pattern, &flows, &slopes)? {
+    match verdict(net, sets, pattern, &flows, &slopes)? {
         Judged::Meets => Ok(Outcome::Accepted { flows, slopes }),
         Judged::FailsNode(_) => Ok(Outcome::Refused),
         Judged::FailsLink(_) => Ok(Outcome::Refused),
@@ -207,12 +213,12 @@ pub fn pattern_values(
 /// Solves the equations of a pattern, and tests their solution. `rate` is the supply at the source, an amount per unit of time.
 ///
 /// - `Accepted`: exactly if no operation passes and the pattern is solvable. `flows` then has the flow of each link, an amount per
-///   unit of time, and `slopes` the slope of each node's label.
+///   unit of time, and `labels` the slope of each node's label.
 /// - `NotSolvable`: exactly if no operation passes and the pattern is not solvable. The slices then hold any numbers.
 /// - `Passed`: exactly if an operation of the table passes (part Table) or, after the table, one of the verdict (part Verdict); it
 ///   has the first one. The slices then hold any numbers.
 ///
-/// There must be at most `MOST_GRID_UNKNOWNS` nodes and active links together, one flow for each link, and one slope for each node.
+/// There must be at most `MOST_GRID_UNKNOWNS` nodes and active links together, one flow for each link, and one label for each node.
 /// No resetting link may be unbounded. Doesn't allocate.
 pub fn try_pattern(
     net: &Network,
@@ -220,15 +226,15 @@ pub fn try_pattern(
     rate: Q,
     pattern: &Pattern,
     flows: &mut [Q],
-    slopes: &mut [Q],
+    labels: &mut [Q],
 ) -> Result<Tried, PassedAt<Q>>
     requires sets { AreSets net.now.net sets.now }
     requires bounded { (e : ℕ) → Has (unbounded net.now.net) e → Has sets.now.resetting e → ⊥ }
     requires pattern { IsPattern sets.now (unbounded net.now.net) pattern.now }
     requires few { length (unknowns net.now.net sets.now) ≤ 32 }
     requires flows { length flows.old ≡ length net.now.net.links }
-    requires slopes { length slopes.old ≡ net.now.net.nodes }
-    ensures { TriesInto passes_Q net.now.net sets.now rate pattern.now flows.new slopes.new result }
+    requires labels { length labels.old ≡ net.now.net.nodes }
+    ensures { TriesInto passes_Q net.now.net sets.now rate pattern.now flows.new labels.new result }
 {
     // Proof: every network is well formed.
     net.recall();
@@ -236,7 +242,7 @@ pub fn try_pattern(
     let mut room = [Q::zero(); 32];
     let values = &mut room[..count as usize];
     match solve_pattern(count, net, sets, rate, pattern, values)? {
-        Eliminated::One => judge_into(net, sets, pattern, values, flows, slopes),
+        Eliminated::One => judge_into(net, sets, pattern, values, flows, labels),
         Eliminated::NotOne => Ok(Tried::NotSolvable),
     }
 }

@@ -1,10 +1,8 @@
 -- Keepers of nodes, and the combinable states of links by them.
-use Rattle.std.proofs.Common.{◌≡◌, ◌≢◌, ◌⊎◌, inl, inr, ℕ, ◌+◌, ◌<◌, Bool, true, false, not, List, ◌++◌, length, replicate, take, drop, refl, sym, ap, subst, ◌∙◌, arith}
+use Rattle.std.proofs.Common.{◌≡◌, ◌≢◌, ◌⊎◌, inl, inr, ℕ, ◌+◌, ◌<◌, Bool, true, false, not, List, length, replicate, refl, sym, ap, subst, ◌∙◌, arith}
 use Rattle.std.specs.Prelude.{Option, Some, None, slice_get, slice_set, map, is_some, is_none}
-use Rattle.std.proofs.Math.ListN.{drop_of_length-le}
-use Rattle.std.proofs.Math.Seq.{take-length}
 use Rattle.std.proofs.lemmas.Bool.{true≢false}
-use Rattle.std.proofs.lemmas.List.{append-nil, get_or-replicate, length-map, length-replicate}
+use Rattle.std.proofs.lemmas.List.{get_or-replicate, length-map, length-replicate}
 use Rattle.std.proofs.lemmas.Option.{get_or_from_slice_get, none-some, same_Some, slice_get_within}
 use Rattle.nf_model.specs.declared.State.{State}
 use Rattle.nf_model.specs.declared.State.TheVariants.{Tight, Full}
@@ -23,12 +21,6 @@ use Rattle.nf_thin_narrow.specs.declared.firm.Firm.{Firm}
 use Rattle.nf_thin_rank.specs.Firming.{HaveFirm, MayKeep, AreKeepers, IsFirmOf, AreFirmBy}
 use Rattle.nf_thin_rank.specs.Questions.{AreSetsOf}
 use Rattle.nf_graph.proofs.NetworkHops.{hops_length}
-
--- a vector that was written to as a whole
-pub refilled : {A : Type 0} (n : ℕ) (xs ws : List A) → n ≡ length xs → length ws ≡ length xs → take n (ws ++ drop (length ws) xs) ≡ ws
-refilled {A = A} n xs ws count same =
-    ap (λ (zs : List A). take n (ws ++ zs)) (drop_of_length-le xs (omega arith))
-    ∙ (ap (take n) (append-nil ws) ∙ (ap (λ (k : ℕ). take k ws) (let e : n ≡ length ws = omega arith in e) ∙ take-length ws))
 
 -- no link
 pub none_kept : (net : Network) (sets : Sets) (listed : Pattern) (count : ℕ) (keepers : List (Option ℕ)) → keepers ≡ replicate {A = Option ℕ} count None → count ≡ net.nodes

@@ -1,4 +1,4 @@
-use Rattle.std.proofs.Common.{◌≡◌, List, ℕ, length, refl, sym, ap, subst, ◌≤◌, ◌+◌, ◌<◌}
+use Rattle.std.proofs.Common.{List, ℕ, length, refl, sym, subst, ◌≤◌, ◌+◌, ◌<◌}
 use Rattle.nf_edge.proofs.Returned.{failed-not_too_long, none-within, none-not_above}
 use Rattle.nf_edge.proofs.real.read_named.Goals as goal
 

@@ -1,5 +1,5 @@
 use Rattle.std.proofs.Common.{◌∙◌}
-use Rattle.nf_thin_one.proofs.Slices.{take_front}
+use Rattle.nf_pattern.proofs.Each.{take_front}
 use Rattle.nf_thin_one.proofs.trying.flows_of.Goals as goal
 
 pub spread_flows-requires-clause-active : goal.spread_flows-requires-clause-active

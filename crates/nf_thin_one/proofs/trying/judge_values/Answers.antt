@@ -11,8 +11,11 @@ pub verdict-requires-clause-flows : goal.verdict-requires-clause-flows
 verdict-requires-clause-flows c =
     ap (λ (l : List ℚ). length l) c.deref-2.ensures.value ∙ (ap (λ (l : List ℚ). length l) c.in_ok-flows.ensures ∙ (onto-length c.args.sets.now.active _ ∙ c.requires.pattern.sets_are.count))
 
-pub verdict-requires-clause-states : goal.verdict-requires-clause-states
-verdict-requires-clause-states c = c.requires.pattern.pattern_is.count ∙ c.requires.pattern.sets_are.count
+pub verdict-requires-clause-sets : goal.verdict-requires-clause-sets
+verdict-requires-clause-sets c = c.requires.pattern.sets_are
+
+pub verdict-requires-clause-pattern : goal.verdict-requires-clause-pattern
+verdict-requires-clause-pattern c = c.requires.pattern.pattern_is
 
 pub returns-in-Meets : goal.returns-in-Meets
 returns-in-Meets c =
@@ -35,7 +38,7 @@ returns-in-FailsLink c =
     let both = judged_so c.args.net.now.net c.args.pattern.now _ _ _ _ _ _ (c.deref-2.ensures.value ∙ flows) (c.deref-3.ensures.value ∙ long) c.in-FailsLink.is c.in_ok-verdict.ensures in
     (both.0, link_fails c.args.net.now.net c.args.pattern.now _ _ c.in-FailsLink.field-0 both.1)
 
-pub verdict-requires-clause-slopes : goal.verdict-requires-clause-slopes
-verdict-requires-clause-slopes c =
+pub verdict-requires-clause-labels : goal.verdict-requires-clause-labels
+verdict-requires-clause-labels c =
     ap (λ (l : List ℚ). length l) (c.deref-3.ensures.value ∙ c.truncate.ensures.items)
     ∙ (length-take-le c.node_count.result c.args.values.items (omega (arith, c.node_count.ensures, c.requires.values)) ∙ c.node_count.ensures)

@@ -29,7 +29,7 @@ pub judge_into-requires-clause-flows : goal.judge_into-requires-clause-flows
 judge_into-requires-clause-flows c = c.requires.flows
 
 pub judge_into-requires-clause-slopes : goal.judge_into-requires-clause-slopes
-judge_into-requires-clause-slopes c = c.requires.slopes
+judge_into-requires-clause-slopes c = c.requires.labels
 
 pub judge_into-requires-clause-pattern : goal.judge_into-requires-clause-pattern
 judge_into-requires-clause-pattern c = pattern_in c.args.net.now c.args.sets.now c.args.pattern.now c.recall.ensures c.requires.sets c.requires.bounded c.requires.pattern

@@ -3,7 +3,8 @@ use Rattle.std.specs.Prelude.{Option}
 use Rattle.nf_model.specs.Network.{Link, hop_of}
 use Rattle.nf_rational_laws.proofs.Entries.{slice_get-image}
 use Rattle.nf_thin_rank.specs.Firming.{AreKeepers}
-use Rattle.nf_thin_rank.proofs.Keepers.{refilled, none_kept, one_more}
+use Rattle.nf_pattern.proofs.Each.{take_front}
+use Rattle.nf_thin_rank.proofs.Keepers.{none_kept, one_more}
 use Rattle.nf_thin_rank.proofs.firming.keepers.Goals as goal
 
 pub loop-e-init : goal.loop-e-init
@@ -14,8 +15,8 @@ loop-e-init c =
 pub loop-e-preserved : goal.loop-e-preserved
 loop-e-preserved c =
     subst (λ (l : List (Option ℕ)). AreKeepers c.args.ranking.now.net.now.net c.args.ranking.now.sets.now c.args.listed.now (c.loop-e.e + 1) l)
-    (sym (refilled c.loop-e.keepers.len c.loop-e.keepers.items c.keep-in-loop-e.new.keepers (let n = c.loop-e.keepers.ok.0 in omega arith)
-    (c.keep-in-loop-e.ensures.count ∙ ap (λ (l : List (Option ℕ)). length l) c.deref_mut.ensures.value)))
+    (sym (take_front c.keep-in-loop-e.new.keepers _ c.loop-e.keepers.len
+    (let n = c.loop-e.keepers.ok.0 in let same = c.keep-in-loop-e.ensures.count ∙ ap (λ (l : List (Option ℕ)). length l) c.deref_mut.ensures.value in omega arith)))
     (one_more c.args.ranking.now.net.now.net c.args.ranking.now.sets.now c.args.listed.now c.loop-e.e _ c.deref_mut.result.now c.keep-in-loop-e.new.keepers c.resetting-resets.result c.leads-leads.result c.state.result
     (hop_of c.link.result) (slice_get-image hop_of c.args.ranking.now.net.now.net.links c.loop-e.e c.link.result c.link.ensures.link) (sym (ap (λ (l : Link). l.head) c.keep.view_is))
     c.resetting-resets.ensures.flag c.state.ensures c.leads-leads.ensures.leads c.leads-leads.ensures.all

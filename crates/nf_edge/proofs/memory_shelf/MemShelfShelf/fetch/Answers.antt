@@ -1,8 +1,8 @@
-use Rattle.std.proofs.Common.{◌≡◌, ℕ, ◌+◌, ◌≤◌, length, ◌++◌, ◌∷◌, [], Vec, refl, sym, ap, ◌∙◌, inl, inr, rules}
+use Rattle.std.proofs.Common.{ℕ, ◌+◌, length, ◌++◌, ◌∷◌, [], Vec, refl, sym, ap, ◌∙◌, inl, inr, rules}
 use Rattle.std.specs.declared.alloc.Global.{Global}
 use Rattle.nf_edge.specs.Faults.{one_more}
 use Rattle.nf_edge.specs.Memory.{MemoryShelf}
-use Rattle.nf_edge.proofs.Returned.{is_memory, memory-has_no_value, memory-not_failed, memory-not_too_long, memory-answers, too_long-not_failed, value-is_no_fault, found-fits, none-within, none-not_above, fits-within, fits-not_above, is-within}
+use Rattle.nf_edge.proofs.Returned.{is_memory, memory-has_no_value, memory-not_failed, memory-not_too_long, memory-answers, too_long-not_failed, value-is_no_fault, found-fits, none-not_above, fits-not_above, is-within}
 use Rattle.nf_edge.proofs.memory_shelf.MemShelfShelf.fetch.Goals as goal
 
 pub returns-in_err-note : goal.returns-in_err-note
@@ -15,7 +15,6 @@ returns-in_err-note c =
       failing = ap (λ (s : MemoryShelf). s.failing) c.self.view_is;
       calls = c.saturating_add-self-inside.ensures ∙ ap (λ (s : MemoryShelf). one_more s.calls) c.self.view_is;
       taken = memory-has_no_value _ _ memory;
-      at_most = none-within c.args.limit;
       too_long = λ e. absurd (memory-not_too_long _ memory e);
       long = λ more. absurd (none-not_above c.args.limit more);
       failed = λ e. absurd (memory-not_failed _ memory e);
@@ -35,7 +34,6 @@ returns-in_err-to_vec-in-Ok c =
       failing = ap (λ (s : MemoryShelf). s.failing) c.self.view_is;
       calls = c.saturating_add-self-inside.ensures ∙ ap (λ (s : MemoryShelf). one_more s.calls) c.self.view_is;
       taken = memory-has_no_value _ _ memory;
-      at_most = fits-within (length c.in-Ok.bytes.now) c.args.limit fits;
       too_long = λ e. absurd (memory-not_too_long _ memory e);
       long = λ more. absurd (fits-not_above (length c.in-Ok.bytes.now) c.args.limit fits more);
       failed = λ e. absurd (memory-not_failed _ memory e);
@@ -54,7 +52,6 @@ returns-in_ok-to_vec-in-Ok c =
       failing = ap (λ (s : MemoryShelf). s.failing) c.self.view_is;
       calls = c.saturating_add-self-inside.ensures ∙ ap (λ (s : MemoryShelf). one_more s.calls) c.self.view_is;
       taken = search rules;
-      at_most = fits-within (length c.in-Ok.bytes.now) c.args.limit fits;
       too_long = λ e. absurd (value-is_no_fault _ _ _ refl e);
       long = λ more. absurd (fits-not_above (length c.in-Ok.bytes.now) c.args.limit fits more);
       failed = λ e. absurd (value-is_no_fault _ _ _ refl e);
@@ -73,7 +70,6 @@ returns-in-Err-TooLong c =
       failing = ap (λ (s : MemoryShelf). s.failing) c.self.view_is;
       calls = c.saturating_add-self-inside.ensures ∙ ap (λ (s : MemoryShelf). one_more s.calls) c.self.view_is;
       taken = tt;
-      at_most = is-within _ _ next;
       too_long = λ _. next;
       long = λ _. refl;
       failed = λ e. absurd (too_long-not_failed _ refl e);

@@ -1,7 +1,6 @@
 use Rattle.std.proofs.Common.{◌≡◌, ℕ, length, Vec, String, refl, sym, ap, ◌∙◌, inl, inr, rules, Err}
 use Rattle.std.specs.declared.alloc.Global.{Global}
 use Rattle.nf_edge.specs.Names.{texts}
-use Rattle.nf_edge.proofs.Rising.{rose}
 use Rattle.nf_edge.proofs.Returned.{is_memory, memory-has_no_value, memory-not_failed, memory-not_too_long, value-is_no_fault, none-within, none-not_above, fits-within, fits-not_above, is-within, same_fault, count-fits, count-above, above-count}
 use Rattle.nf_edge.proofs.real.RealShelfShelf.fetch.Goals as goal
 
@@ -10,15 +9,11 @@ returns-in_err-note g c =
     let memory = is_memory {T = Vec ℕ Global} c.from_residual.result c.from_residual.ensures.1 in
     record {
       taken = memory-has_no_value _ _ memory;
-      told = memory-has_no_value _ _ memory;
-      same = λ _. refl;
       failed = λ e. absurd (memory-not_failed _ memory e);
       never_falls = is-within _ _ refl;
       at_most = none-within c.args.limit;
       too_long = λ e. absurd (memory-not_too_long _ memory e);
       long = λ more. absurd (none-not_above c.args.limit more);
-      told_too_long = λ _. tt;
-      told_long = tt;
       asked = inr (memory, c.in_err-note.ensures.err);
     }
 
@@ -28,15 +23,11 @@ returns-in-Ok g c =
     let fits = c.in-Ok.ensures.within in
     record {
       taken = taken;
-      told = tt;
-      same = λ _. refl;
       failed = λ e. absurd (value-is_no_fault _ _ _ refl e);
       never_falls = is-within _ _ refl;
       at_most = fits-within _ _ (count-fits _ _ _ taken fits);
       too_long = λ e. absurd (value-is_no_fault _ _ _ refl e);
       long = λ more. absurd (fits-not_above _ _ (count-fits _ _ _ taken fits) more);
-      told_too_long = λ _. tt;
-      told_long = tt;
       asked = inl c.in_ok-note.ensures.ok;
     }
 
@@ -46,14 +37,10 @@ returns-in-Err g c =
     let taken = c.counted.ensures.taken ∙ len in
     record {
       taken = tt;
-      told = tt;
-      same = λ _. refl;
-      failed = λ e. rose _ _ (c.counted.ensures.failed (sym c.counted.ensures.fault ∙ same_fault _ _ _ refl e));
+      failed = λ e. c.counted.ensures.failed (sym c.counted.ensures.fault ∙ same_fault _ _ _ refl e);
       never_falls = c.counted.ensures.never_falls;
       at_most = count-fits _ _ _ taken c.read_named-read.ensures.at_most;
       too_long = λ e. count-above _ _ _ taken (c.read_named-read.ensures.too_long (c.in-Err.is ∙ ap Err (sym c.counted.ensures.fault ∙ same_fault _ _ _ refl e)));
-      long = λ more. inl (ap Err (c.counted.ensures.fault ∙ same_fault _ _ _ c.in-Err.is (c.read_named-read.ensures.long (above-count _ _ _ taken more))));
-      told_too_long = λ _. tt;
-      told_long = tt;
+      long = λ more. ap Err (c.counted.ensures.fault ∙ same_fault _ _ _ c.in-Err.is (c.read_named-read.ensures.long (above-count _ _ _ taken more)));
       asked = inl (ap (λ (v : Vec (String Global) Global). texts v.items) c.counted.ensures.asked ∙ c.in_ok-note.ensures.ok);
     }

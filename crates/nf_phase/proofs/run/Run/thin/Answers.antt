@@ -6,10 +6,13 @@ use Rattle.nf_model.specs.ThinFlow.{Sets, sets_at}
 use Rattle.nf_model.specs.Pattern.{Pattern, IsPattern, IsBase}
 use Rattle.nf_thin_def.specs.PhaseRun.{Standing}
 use Rattle.nf_thin.specs.Questions.{AreSetsOf}
-use Rattle.nf_graph.proofs.NetworkHops.{hops_length}
+use Rattle.nf_graph.proofs.NetworkHops.{below_nodes, hops_length}
 use Rattle.nf_net.proofs.Limits.{few_hops}
 use Rattle.nf_phase.proofs.Reached.{Stands-reached, active_count, sets_fit, base_fits}
 use Rattle.nf_phase.proofs.run.Run.thin.Goals as goal
+
+pub base-requires-clause-ends : goal.base-requires-clause-ends
+base-requires-clause-ends c = rw (c.node_count.ensures, c.hops.ensures.value) (below_nodes c.args.net.now.net c.hops.ensures.named.network)
 
 pub base-requires-clause-last : goal.base-requires-clause-last
 base-requires-clause-last c =

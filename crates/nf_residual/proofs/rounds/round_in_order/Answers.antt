@@ -2,8 +2,8 @@ use Rattle.std.proofs.Common.{ℕ, ◌<◌, ◌≤◌, length, sym, subst, arith
 use Rattle.std.proofs.lemmas.Result.{err_from_is_err_and}
 use Rattle.nf_frac_def.specs.Passing.{passes_Q}
 use Rattle.nf_residual.proofs.Rounding.{round_first, leg_ends, count_is, way_within, within_grown, offer_stops, offer_more, old_more, round_all, settled_all}
-use Rattle.nf_residual.proofs.rounds.round.Goals.{in-Some+in_ok-offer, in_default}
-use Rattle.nf_residual.proofs.rounds.round.Goals as goal
+use Rattle.nf_residual.proofs.rounds.round_in_order.Goals.{in-Some+in_ok-offer, in_default}
+use Rattle.nf_residual.proofs.rounds.round_in_order.Goals as goal
 
 pub loop-leg-init : goal.loop-leg-init
 loop-leg-init c = round_first passes_Q c.args.legs.now c.args.fresh c.args.ways.now c.args.before.now c.args.places.now.items c.requires.same c.requires.settled

@@ -1,6 +1,0 @@
-use Rattle.nf_frac_def.specs.Passing.{passes_Q}
-use Rattle.nf_residual.proofs.Rounding.{SearchOn}
-use Rattle.nf_residual.proofs.rounds.reaches.Given as goal
-
-abbrev pub invariant-loop : goal.invariant-loop
-invariant-loop l = SearchOn passes_Q l.net.net l.flows l.fn.from l.legs.items l.fresh l.ways l.places.items l.counter
