@@ -84,7 +84,7 @@ def bad_name(page: pathlib.Path, name: str, section: str) -> Optional[str]:
 def declares(line: str, name: str) -> bool:
     """Whether a line of a definition or of code declares a name: a definition, a field, a constructor, a function, a type or a clause."""
     word = re.escape(name)
-    definition = rf"(?:(?:pub|abbrev|record|data|opaque|unfoldable) )*{word}(?= |$)"
+    definition = rf"(?:\s*(?:(?:pub|abbrev|record|data|opaque|unfoldable) )+|){word}(?= |$)"
     field = rf"\s+(?:pub )?{word} ?:"
     code = rf".*\b(?:fn|struct|enum|trait|const|ensures) {word}\b"
     return re.match(rf"(?:{definition}|{field}|{code})", line) is not None
