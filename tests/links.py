@@ -129,7 +129,7 @@ def main() -> int:
     told: Dict[str, None] = {}
     for page in pages():
         for number, line in prose(page):
-            faults = [bad_link(page, target) for target in LINK.findall(line)]
+            faults = [bad_link(page, target) for target in LINK.findall(re.sub(r"`[^`]*`", "", line))]
             faults += [bad_name(page, name, section) for name, section in NAMED.findall(line)]
             told.update((f"links: {page.relative_to(ROOT)}:{number}: {fault}", None) for fault in faults if fault)
         told.update((f"links: {page.relative_to(ROOT)}: {fault}", None) for fault in mend(page, sys.argv[1:] == ["--write"]))
