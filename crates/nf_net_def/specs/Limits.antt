@@ -5,11 +5,11 @@ use Rattle.std.specs.Prelude.{ℕ}
 abbrev pub longest_name : ℕ
 longest_name = 24
 
--- a file has at most this number of nodes, including those on no walk from the source to the sink
+-- a file has at most this number of nodes, including idle ones, which no walk from the source reaches
 abbrev pub most_nodes : ℕ
 most_nodes = 64
 
--- a file has at most this number of links, including links out of unreached nodes
+-- a file has at most this number of links, including idle ones, which leave idle nodes
 abbrev pub most_links : ℕ
 most_links = 200
 

@@ -84,7 +84,8 @@ fn base_state(
 
 /// Returns the base pattern of a phase, from the pattern of the last phase. Exactly the active links that are not resetting have a state. A
 /// link with a state in the last pattern keeps it. Every other such link is Tight if it is the first active link, in link order, into a
-/// node that no resetting link enters. Otherwise it is Zero. Fails if an allocation fails.
+/// node that no resetting link enters. Otherwise it is Zero. `nodes` is the number of nodes, and the ends of all links are below it. Fails
+/// if an allocation fails.
 pub fn base(
     alloc: Global,
     nodes: u32,
