@@ -1,7 +1,7 @@
 -- Lengths held as whole numbers: their operations don't exceed the bound, and their order is that of the numbers.
 use Rattle.std.proofs.Common.{◌≡◌, ℕ, ◌<◌, ◌≤◌, Bool, true, false, ℤ, pos, ◌+ℤ◌, ◌-ℤ◌, ◌*ℤ◌, neg_ℤ, nat_abs, [], ◌∷◌, Option, Some, None, refl, sym, ap, subst, ◌∙◌, arith}
 use mathlib.Core.Path.{ap₂}
-use Rattle.std.specs.Prelude.{Ok, SomeIff}
+use Rattle.std.specs.Prelude.{Ok, SomeIff, IfSome}
 use Rattle.std.specs.Ordering.{int_cmp}
 use Rattle.nf_rational.specs.Gcd.{gcd}
 use Rattle.nf_rational.specs.Rational.{ℚ, same_parts}
@@ -11,7 +11,8 @@ use Rattle.nf_rational.proofs.Lowest.{num-ratio, den-ratio}
 use Rattle.nf_rational_laws.proofs.Field.{whole-plus, whole-times}
 use Rattle.nf_rational_laws.proofs.Quotient.{/ℚ-unique}
 use Rattle.nf_frac_def.specs.Passing.{passes_Q, bound_of}
-use Rattle.nf_frac_def.specs.Checked.{checked}
+use Rattle.nf_frac_def.specs.declared.Part.TheVariants as Part
+use Rattle.nf_frac_def.specs.Checked.{checked, checked_at, at_part}
 use Rattle.nf_quick_def.specs.Rounds.{op_of}
 use Rattle.nf_frac.specs.Parts.{IsWithin, IsMade}
 use Rattle.nf_frac.specs.Short.{short}
@@ -116,14 +117,25 @@ pub whole_exact : (forward : Bool) (x y : ℚ) (a b n : ℤ) → nat_abs a ≤ m
 whole_exact true x y a b n h k e f g = sum_exact a b n h k g ∙ ap₂ (λ (p q : ℚ). checked passes_Q (op_of true) p q) (sym e) (sym f)
 whole_exact false x y a b n h k e f g = difference_exact a b n h k g ∙ ap₂ (λ (p q : ℚ). checked passes_Q (op_of false) p q) (sym e) (sym f)
 
--- The result is held as a whole number if it is small enough.
-pub whole_kept : (forward : Bool) (x y : ℚ) (a b n : ℤ) → nat_abs a ≤ most → nat_abs b ≤ most → whole a ≡ x → whole b ≡ y
-    → nat_abs (along_by forward (to_z w64 (of_z w64 a)) (to_z w64 (of_z w64 b))) ≤ most → n ≡ along_by forward (to_z w64 (of_z w64 a)) (to_z w64 (of_z w64 b))
-    → IsExact forward x y (whole (to_z w64 (of_z w64 n)))
-whole_kept forward x y a b n h k e f l g =
-    let few : nat_abs n ≤ most = subst (λ (z : ℤ). nat_abs z ≤ most) (sym g) l in
-    whole_exact forward x y a b (to_z w64 (of_z w64 n)) h k (sym e) (sym f)
-    (plain_64 n (omega (arith, few)) ∙ g ∙ ap₂ (along_by forward) (plain_64 a (omega (arith, h))) (plain_64 b (omega (arith, k))))
+-- The whole number that a step gives, if it is small enough.
+pub whole_given : (forward : Bool) (x y : ℚ) (a b : ℤ) → nat_abs a ≤ most → nat_abs b ≤ most → whole a ≡ x → whole b ≡ y → (o : Option ℤ)
+    → SomeIff o (nat_abs (along_by forward (to_z w64 (of_z w64 a)) (to_z w64 (of_z w64 b))) ≤ most) (along_by forward (to_z w64 (of_z w64 a)) (to_z w64 (of_z w64 b)))
+    → IfSome o (λ n. (nat_abs n ≤ most) × IsExact forward x y (whole n))
+whole_given forward x y a b h k e f None g = tt
+whole_given forward x y a b h k e f (Some n) g = (
+  subst (λ (z : ℤ). nat_abs z ≤ most) (sym g.1) g.0,
+  whole_exact forward x y a b n h k (sym e) (sym f) (g.1 ∙ ap₂ (along_by forward) (plain_64 a (omega (arith, h))) (plain_64 b (omega (arith, k)))),
+)
+
+-- The same number, as it is handed over.
+pub kept_exact : (forward : Bool) (x y : ℚ) (n : ℤ) → (nat_abs n ≤ most) × IsExact forward x y (whole n) → Ok (whole (to_z w64 (of_z w64 n))) ≡ checked_at passes_Q Part.Quick (op_of forward) x y
+kept_exact forward x y n h = let small : nat_abs n ≤ most = h.0 in ap (at_part Part.Quick) (ap (λ (z : ℤ). Ok (whole z)) (plain_64 n (omega (arith, small))) ∙ h.1)
+
+pub order_kept : (n right : ℤ) (y other : ℚ) → nat_abs n ≤ most → whole right ≡ y → y ≡ other → int_cmp (to_z w64 (of_z w64 n)) right ≡ cmp_ℚ (whole n) other
+order_kept n right y other h e f = order_is (to_z w64 (of_z w64 n)) right ∙ ap₂ (λ (z : ℤ) (q : ℚ). cmp_ℚ (whole z) q) (plain_64 n (omega (arith, h))) (e ∙ f)
+
+pub order_handed : (n : ℤ) (x y : ℚ) → nat_abs n ≤ most → x ≡ y → cmp_ℚ (whole (to_z w64 (of_z w64 n))) x ≡ cmp_ℚ (whole n) y
+order_handed n x y h e = ap₂ (λ (z : ℤ) (q : ℚ). cmp_ℚ (whole z) q) (plain_64 n (omega (arith, h))) e
 
 pub counted_fits : (number : ℤ) (m : ℕ) → m ≡ nat_abs (bits_of number) → m ≤ most → SFits w64 (bits_of number)
 counted_fits number m e h = fits_64 (bits_of number) (omega (arith, e, h))

@@ -115,62 +115,56 @@ impl Length {
         }
     }
 
-    // Returns the changed length if both lengths and the result are held as whole numbers. A returned length implies that the checked
-    // operation does not exceed its bound.
+    /// Returns the whole number that a forward or backward step of this transit time changes the length to, if both lengths and the result are
+    /// held as whole numbers. A returned number implies that the checked operation does not exceed its bound.
     #[inline(always)]
-    fn whole_change(&self, forward: bool, transit: &Length) -> Option<Length>
-        ensures { IfSome result (IsExact forward self.now transit.now) }
+    pub(crate) fn whole_change(&self, forward: bool, transit: &Length) -> Option<i64>
+        ensures { IfSome result (λ n. (nat_abs n ≤ most) × IsExact forward self.now transit.now (whole n)) }
     {
         if let Form::Whole(number) = &self.form {
             if let Form::Whole(change) = &transit.form {
-                let changed = along(forward, *number, *change)?;
-                return Some(Length {
-                    form: Form::Whole(changed),
-                });
+                return along(forward, *number, *change);
             }
         }
         None
     }
 
-    // Returns the result of `changed`, computed over fractions.
-    #[inline(never)]
-    fn changed_value(&self, forward: bool, transit: &Length) -> Result<Length, PassedAt<Q>>
+    /// Returns the length of this whole number.
+    #[inline(always)]
+    pub(crate) fn of_whole(number: i64) -> Length
+        requires { nat_abs number ≤ most }
+        ensures { result ≡ whole number }
+    {
+        Length {
+            form: Form::Whole(number),
+        }
+    }
+
+    /// Compares a whole number with the length by their values.
+    #[inline(always)]
+    pub(crate) fn compare_whole(number: i64, other: &Length) -> Ordering
+        requires { nat_abs number ≤ most }
+        ensures { result ≡ cmp_ℚ (whole number) other.now }
+    {
+        match &other.form {
+            Form::Whole(right) => number.cmp(right),
+            Form::Other(right) => fraction(number).cmp(right),
+        }
+    }
+
+    /// Returns the length after a forward step of this transit time, which adds it, or a backward step, which subtracts it. Refuses with
+    /// Passed, of the part Quick, exactly if the operation exceeds its bound.
+    pub(crate) fn changed(&self, forward: bool, transit: &Length) -> Result<Length, PassedAt<Q>>
         ensures { result ≡ checked_at passes_Q Quick (op_of forward) self.now transit.now }
     {
         let value = changed(forward, self.value(), transit.value())?;
         Ok(Length::of(value))
     }
 
-    /// Returns the length after a forward step of this transit time, which adds it, or a backward step, which subtracts it. Refuses with
-    /// Passed, of the part Quick, exactly if the operation exceeds its bound.
-    #[inline(always)]
-    pub(crate) fn changed(&self, forward: bool, transit: &Length) -> Result<Length, PassedAt<Q>>
-        ensures { result ≡ checked_at passes_Q Quick (op_of forward) self.now transit.now }
-    {
-        if let Some(length) = self.whole_change(forward, transit) {
-            return Ok(length);
-        }
-        self.changed_value(forward, transit)
-    }
-
-    // Compares the two lengths as fractions.
-    #[inline(never)]
-    fn compare_values(&self, other: &Length) -> Ordering
-        ensures { result ≡ cmp_ℚ self.now other.now }
-    {
-        self.value().cmp(&other.value())
-    }
-
     /// Compares the two lengths by their values.
-    #[inline(always)]
     pub(crate) fn compare(&self, other: &Length) -> Ordering
         ensures { result ≡ cmp_ℚ self.now other.now }
     {
-        if let Form::Whole(left) = &self.form {
-            if let Form::Whole(right) = &other.form {
-                return left.cmp(right);
-            }
-        }
-        self.compare_values(other)
+        self.value().cmp(&other.value())
     }
 }

@@ -10,6 +10,7 @@ ghost use Rattle.nf_residual.specs.Chains.{legs_out, AreChains};
 ghost use Rattle.nf_residual.specs.Ways.{place_at, way_at, known_by, first_places as first_places_by, AreWithin, IsTree, Grows};
 
 use crate::legs::{Arcs, Leg, legs_of};
+use crate::length::Length;
 use crate::reaches::{Reaches, place_of};
 use crate::ways::Ways;
 use nf_frac::{Halt, Q};
@@ -25,8 +26,9 @@ fn put(places: &mut Vec<Option<usize>>, node: NodeId, way: usize)
 }
 
 // Offers the path extended by a residual arc to the end of that arc, and records the extended path if it is better than the known one.
-#[inline(always)]
-fn offer(
+// Computes its length over fractions.
+#[cold]
+fn offer_value(
     way: usize,
     leg: &Leg,
     ways: &mut Ways,
@@ -47,6 +49,35 @@ fn offer(
         return Ok(());
     }
     ways.add(way, leg.step, distance)?;
+    put(places, leg.end, number);
+    Ok(())
+}
+
+// Does the same as `offer_value`. Whole lengths need no fraction.
+#[inline(always)]
+fn offer(
+    way: usize,
+    leg: &Leg,
+    ways: &mut Ways,
+    places: &mut Vec<Option<usize>>,
+) -> Result<(), Halt<Q>>
+    requires way { way < length ways.old }
+    requires end { leg.now.end < length places.old.items }
+    requires within { AreWithin (length ways.old) places.old.items }
+    ensures list { Gives (λ _. known_by ways.new places.new.items) (λ q. q) result
+        (at_part Quick (along_by passes_Q true (Some (way_at ways.old way)) leg.now.step leg.now.transit leg.now.end
+        (known_by ways.old places.old.items))) }
+    ensures grows { OnOk result (Grows ways.old ways.new places.old.items places.new.items) }
+    ensures tree { IsTree ways.old }
+{
+    let number = ways.count();
+    let Some(whole) = ways.whole_change(way, leg) else {
+        return offer_value(way, leg, ways, places);
+    };
+    if !ways.is_whole_gain(way, leg.step, whole, place_of(places, leg.end.index())) {
+        return Ok(());
+    }
+    ways.add(way, leg.step, Length::of_whole(whole))?;
     put(places, leg.end, number);
     Ok(())
 }

@@ -1,5 +1,7 @@
 // Paths from one node, each with an index, and their order: by length, then by number of steps, then lexicographically by their steps.
-ghost use Rattle.std.specs.Prelude.{◌≡◌, ◌+◌, ◌^◌, ◌<◌, ◌++◌, [], ◌∷◌, suc, length, option_map, IfOk, IfSome, OnOk};
+ghost use Rattle.std.specs.Prelude.{◌≡◌, ◌+◌, ◌^◌, ◌<◌, ◌≤◌, nat_abs, ◌++◌, [], ◌∷◌, suc, length, option_map, IfOk, IfSome, OnOk};
+ghost use Rattle.nf_rational.specs.Rational.{ℚ};
+ghost use Rattle.nf_rational.specs.Operations.{whole};
 ghost use Rattle.nf_rational.specs.Order.{cmp_ℚ};
 ghost use Rattle.nf_frac_def.specs.declared.Part.TheVariants.{Quick};
 ghost use Rattle.nf_frac_def.specs.Passing.{passes_Q};
@@ -7,6 +9,7 @@ ghost use Rattle.nf_frac_def.specs.Checked.{checked_at};
 ghost use Rattle.nf_quick_def.specs.Steps.{place as place_of};
 ghost use Rattle.nf_quick_def.specs.Rounds.{op_of};
 ghost use Rattle.nf_quick_def.specs.Order.{are_before as are_before_by, are_fewer_or_before as are_fewer_or_before_by, is_better as is_better_by};
+ghost use Rattle.nf_residual.specs.Lengths.{most, IsExact};
 ghost use Rattle.nf_residual.specs.Ways.{first_twig, twig_at, way_at, longer, one_before, gains, twig_after, IsTree};
 
 use crate::legs::Leg;
@@ -99,7 +102,6 @@ impl Ways {
 
     /// Returns the length of a path extended by a residual arc, a time. Refuses with Passed, of the part Quick, exactly if the operation
     /// exceeds its bound.
-    #[inline(always)]
     pub(crate) fn changed(&self, way: usize, leg: &Leg) -> Result<Length, PassedAt<Q>>
         requires { way < length self.now }
         ensures { result ≡ checked_at passes_Q Quick (op_of leg.now.step.forward) (twig_at self.now way).distance leg.now.transit }
@@ -109,13 +111,34 @@ impl Ways {
             .changed(leg.step.forward, &leg.transit)
     }
 
-    // Compares this length with the length of a path.
+    /// Returns the length of a path extended by a residual arc, if the whole numbers of both give it (see `Length::whole_change`).
     #[inline(always)]
+    pub(crate) fn whole_change(&self, way: usize, leg: &Leg) -> Option<i64>
+        requires { way < length self.now }
+        ensures { IfSome result (λ n. (nat_abs n ≤ most)
+            × IsExact leg.now.step.forward (twig_at self.now way).distance leg.now.transit (whole n)) }
+    {
+        self.twigs[way]
+            .distance
+            .whole_change(leg.step.forward, &leg.transit)
+    }
+
+    // Compares this length with the length of a path.
     fn compare(&self, distance: &Length, way: usize) -> Ordering
         requires { way < length self.now }
         ensures { result ≡ cmp_ℚ distance.now (twig_at self.now way).distance }
     {
         distance.compare(&self.twigs[way].distance)
+    }
+
+    // Compares this whole length with the length of a path.
+    #[inline(always)]
+    fn compare_whole(&self, number: i64, way: usize) -> Ordering
+        requires number { nat_abs number ≤ most }
+        requires way { way < length self.now }
+        ensures { result ≡ cmp_ℚ (whole number) (twig_at self.now way).distance }
+    {
+        Length::compare_whole(number, &self.twigs[way].distance)
     }
 
     // Returns the number of steps of a path.
@@ -167,7 +190,6 @@ impl Ways {
     }
 
     // Returns whether a path extended by `step` has fewer steps than the other, or as many and precedes it.
-    #[inline(never)]
     fn are_fewer_or_before(&self, way: usize, step: Step, other: usize) -> bool
         requires way { way < length self.now }
         requires other { other < length self.now }
@@ -182,14 +204,15 @@ impl Ways {
         }
     }
 
-    // Returns whether a path extended by `step`, of length `distance`, precedes the other path.
+    // Returns whether a path extended by `step` precedes the other path, given the order of their lengths.
     #[inline(always)]
-    fn is_better(&self, way: usize, step: Step, distance: &Length, other: usize) -> bool
+    fn is_better(&self, way: usize, step: Step, order: Ordering, other: usize) -> bool
         requires way { way < length self.now }
         requires other { other < length self.now }
-        ensures { result ≡ is_better_by (longer (way_at self.now way) step distance.now) (way_at self.now other) }
+        ensures { (distance : ℚ) → order ≡ cmp_ℚ distance (twig_at self.now other).distance
+            → result ≡ is_better_by (longer (way_at self.now way) step distance) (way_at self.now other) }
     {
-        match self.compare(distance, other) {
+        match order {
             Ordering::Less => true,
             Ordering::Greater => false,
             Ordering::Equal => self.are_fewer_or_before(way, step, other),
@@ -197,7 +220,6 @@ impl Ways {
     }
 
     /// Returns whether a path extended by `step`, of length `distance`, precedes the known path, or no path is known.
-    #[inline(always)]
     pub(crate) fn is_gain(
         &self,
         way: usize,
@@ -211,7 +233,33 @@ impl Ways {
     {
         match known {
             None => true,
-            Some(other) => self.is_better(way, step, distance, other),
+            Some(other) => {
+                let order = self.compare(distance, other);
+                self.is_better(way, step, order, other)
+            }
+        }
+    }
+
+    /// The same as `is_gain`, for a whole length.
+    #[inline(always)]
+    pub(crate) fn is_whole_gain(
+        &self,
+        way: usize,
+        step: Step,
+        number: i64,
+        known: Option<usize>,
+    ) -> bool
+        requires number { nat_abs number ≤ most }
+        requires way { way < length self.now }
+        requires known { IfSome known (λ other. other < length self.now) }
+        ensures { result ≡ gains (longer (way_at self.now way) step (whole number)) (option_map (way_at self.now) known) }
+    {
+        match known {
+            None => true,
+            Some(other) => {
+                let order = self.compare_whole(number, other);
+                self.is_better(way, step, order, other)
+            }
         }
     }
 
