@@ -3,7 +3,7 @@ from __future__ import annotations
 
 from bisect import bisect_left
 from fractions import Fraction
-from typing import Iterable, List, Tuple
+from typing import Iterable, List, Mapping, Tuple
 
 from .curves import Curve
 from .drafts import Link
@@ -25,14 +25,15 @@ class FedLink:
         self.link = link
         self.rows: List[Row] = [(ZERO, ZERO, ZERO)]
         self._rate = ZERO
+        self._growth = self._queue_growth()
         for start, rate in pieces:
-            if start > 0:
+            if start:
                 self._go_on(start)
             self._rate = rate
+            self._growth = self._queue_growth()
         time, _, waits = self.rows[-1]
-        self._growth = self._queue_growth()
         if self._growth < 0:
-            if waits > 0:
+            if waits:
                 self._go_on(time - waits / self._growth)
             self._growth = ZERO
 
@@ -43,13 +44,13 @@ class FedLink:
     def _go_on(self, until: Fraction) -> None:
         """Adds a row for a later time, and one before it where the queue runs empty."""
         time, entered, waits = self.rows[-1]
-        growth, length = self._queue_growth(), until - time
-        left = waits + growth * length if waits or growth > 0 else ZERO
-        if left < 0:
-            lasts = -waits / growth
+        length = until - time
+        left = waits + self._growth * length if waits or self._growth.numerator > 0 else ZERO
+        if left.numerator < 0:
+            lasts = -waits / self._growth
             self.rows.append((time + lasts, entered + self._rate * lasts, ZERO))
             left = ZERO
-        self.rows.append((until, entered + self._rate * length, left))
+        self.rows.append((until, entered + self._rate * length if self._rate else entered, left))
 
     @property
     def settled(self) -> Fraction:
@@ -80,19 +81,24 @@ class FedLink:
         passing = time + self.link.transit
         return passing + waits / self.link.capacity if waits and self.link.capacity else passing
 
+    def time_spent(self) -> Fraction:
+        """What all that enters up to the last change spends on the link, in amount times time."""
+        waited = sum(((waits + later) * (end - time) / 2 for (time, _, waits), (end, _, later) in zip(self.rows, self.rows[1:])), ZERO)
+        return waited + self.rows[-1][1] * self.link.transit
+
     # ---- curves
 
     def exits(self, start: Fraction, until: Fraction) -> Curve:
         """When flow leaves the link that enters it at a time, for times from `start` to `until`."""
-        return Curve([(row[0], self.leaves(row)) for row in self.between(start, until)])
+        return made((row[0], self.leaves(row)) for row in self.between(start, until))
 
     def inflow(self, until: Fraction) -> Curve:
         """The amount that has entered the link by a time."""
-        return Curve(tidied((time, entered) for time, entered, _ in self.between(ZERO, until)))
+        return made(tidied((time, entered) for time, entered, _ in self.between(ZERO, until)))
 
     def queue(self, until: Fraction) -> Curve:
         """The amount that waits at a time."""
-        return Curve(tidied((time, waits) for time, _, waits in self.between(ZERO, until)))
+        return made(tidied((time, waits) for time, _, waits in self.between(ZERO, until)))
 
     def outflow(self, until: Fraction) -> Curve:
         """The amount that has left the link by a time, until all has left that enters it up to `until`."""
@@ -101,4 +107,21 @@ class FedLink:
             point = self.leaves(row), row[1]
             if point[0] > points[-1][0]:
                 points.append(point)
-        return Curve(tidied(points))
+        return made(tidied(points))
+
+
+def made(points: Iterable[Point]) -> Curve:
+    """The curve of points whose times are known to rise."""
+    known = list(points)
+    return Curve._made(known, known[-1][0])
+
+
+def pieces_of_changes(changes: Mapping[Fraction, Fraction]) -> List[Piece]:
+    """The pieces (start, rate), given by how much the rate changes at each time."""
+    pieces: List[Piece] = []
+    rate = ZERO
+    for start in sorted(changes):
+        rate += changes[start]
+        if rate != (pieces[-1][1] if pieces else ZERO):
+            pieces.append((start, rate))
+    return pieces

@@ -7,7 +7,7 @@ from typing import Dict, Iterable, List, Mapping, Sequence, Tuple
 
 from .curves import Curve
 from .faults import OutOfRange, Refused
-from .loading import FedLink, Piece
+from .loading import FedLink, Piece, pieces_of_changes
 from .merging import Point, merged, tidied
 from .networks import Network
 
@@ -62,13 +62,7 @@ def rates_of(amounts: Iterable[Curve]) -> List[Piece]:
         for start, stop, _, rate in curve.pieces():
             changes[start] = changes.get(start, ZERO) + rate
             changes[stop] = changes.get(stop, ZERO) - rate
-    pieces: List[Piece] = []
-    rate = ZERO
-    for start in sorted(changes):
-        rate += changes[start]
-        if rate != (pieces[-1][1] if pieces else ZERO):
-            pieces.append((start, rate))
-    return pieces
+    return pieces_of_changes(changes)
 
 
 def passed(entered: Curve, loaded: FedLink) -> Curve:
