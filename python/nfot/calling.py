@@ -11,7 +11,7 @@ from .lines import PathLike, shown_name
 from .numbers import short
 from .program import Done, in_files, run
 from .report_values import Report
-from .rules import sentence
+from .meanings import sentence
 
 _BROKEN = re.compile(r"nfot: (\w+) line (\d+): (\w+)")
 _STOPPED = re.compile(r"nfot: stopped: (.*)")

@@ -19,7 +19,7 @@ from .networks import Network, read_network
 from .numbers import Number
 from .report_file import read_report, report_of
 from .report_values import Report, belonging
-from .rules import meaning
+from .meanings import meaning
 
 Net = Union[Network, PathLike]
 Run = Union[Report, PathLike]
