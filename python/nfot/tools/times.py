@@ -1,0 +1,72 @@
+"""Prints when departures arrive, which links have queues, and the time that all spend, from a report.
+
+DEPARTUREs are minutes, or with --clock times of day. With --every the table has all departures in steps; with --csv it is written for a
+spreadsheet, alone. A wait is the amount in the queue divided by the capacity.
+
+example: nfot-py times bridge.net bridge.report 0 30 60
+example: nfot-py times bridge.net bridge.report --every 5 --clock 6:00 --csv times.csv"""
+from __future__ import annotations
+
+import argparse
+from fractions import Fraction
+
+from ..comparing import spent
+from ..faults import Refused
+from ..networks import Network
+from ..numbers import clock, decimal, short
+from ..queues import Queue, queues
+from ..reports import Report
+from ..rows import Rows, grid
+from .common import add_clock, add_csv, add_pair, departures, positive, read_pair, write_rows
+
+
+def add_arguments(parser: argparse.ArgumentParser) -> None:
+    """The arguments of the tool."""
+    add_pair(parser)
+    parser.add_argument("departures", metavar="DEPARTURE", nargs="*", help="a departure from the source")
+    parser.add_argument("--every", metavar="MINUTES", type=positive, help="all departures from 0 on in steps of so many minutes")
+    add_clock(parser)
+    add_csv(parser)
+
+
+def rows_of(network: Network, run: Report, times: list[Fraction], begin: Fraction | None) -> Rows:
+    """A row for each departure."""
+    label = run.label(network.sink)
+    columns = ["leave", "arrive", "takes"] if begin is None else ["clock", "leave", "arrive", "takes"]
+    return Rows(columns, ([*([] if begin is None else [clock(time, begin)]), time, label(time), label(time) - time] for time in times))
+
+
+def queue_line(queue: Queue, exact: bool) -> str:
+    """When a link has a queue, and how long its longest wait is."""
+    def word(value: Fraction) -> str:
+        return short(value) if exact else decimal(value)
+    spans = [f"from {word(start)} to {word(end) if end is not None else '(the end of its curve)'}" for start, end in queue.spans]
+    return f"{queue.link}: queue {', '.join(spans)}, longest wait {word(queue.wait)}"
+
+
+def main(arguments: argparse.Namespace) -> int:
+    """Prints the departures, the queues and the total; or writes the departures as CSV."""
+    network, run = read_pair(arguments.net, arguments.report)
+    times = departures(arguments.departures, arguments.clock, run, arguments.report)
+    if arguments.every is not None:
+        times = sorted({*times, *grid(arguments.every, run.reached)})
+    rows = rows_of(network, run, times, arguments.clock)
+    if arguments.csv is not None:
+        if not times:
+            raise Refused("--csv has a row for each departure: name some, or take --every")
+        write_rows(rows, arguments)
+        return 0
+    for row in rows:
+        cells = {name: cell if isinstance(cell, str) else short(cell) if arguments.exact else decimal(cell) for name, cell in row.items() if cell is not None}
+        print("  ".join(f"{name} {cell}" if name != "clock" else cell for name, cell in cells.items()))
+    if run.cause != "done":
+        print(f"the report ends at departure {decimal(run.reached)}, not at {decimal(run.horizon)}: {run.cause}")
+    for queue in queues(run):
+        print(queue_line(queue, arguments.exact))
+    total, vehicles = spent(network, run.label(network.sink), run.reached)[0], network.supplied(run.reached)
+    each = [total / vehicles] if vehicles else []
+    if arguments.exact:
+        print(f"all together on the way: {short(total)}" + "".join(f", a vehicle {short(mean)}" for mean in each))
+    else:
+        print(f"all together on the way: {decimal(total, 1)}" + "".join(f", a vehicle {decimal(mean)}" for mean in each))
+    return 0
