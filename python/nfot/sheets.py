@@ -11,8 +11,10 @@ from dataclasses import dataclass
 from fractions import Fraction
 from typing import Iterator, Mapping, Optional, Sequence
 
-from .faults import Fault, NotFound, Refused
+from .faults import Refused
+from .lines import read_bytes, shown_name
 
+MOST_BYTES = 2 ** 28
 NUMBER = re.compile(r"[+-]?(\d+(\.\d*)?|\.\d+)([eE][+-]?\d{1,3})?|[+-]?\d+/0*[1-9]\d*")
 
 
@@ -87,19 +89,10 @@ def text_of(data: bytes, file: str) -> tuple[str, str]:
     raise Refused("this is no text; save it as CSV in UTF-8", file=file)
 
 
-def bytes_of(path: str) -> bytes:
-    """The bytes of a file, or of standard input for `-`."""
-    try:
-        with open(0 if path == "-" else path, "rb", closefd=path != "-") as stream:
-            return stream.read()
-    except OSError as fault:
-        raise NotFound(f"{fault.strerror}", file=path) from None
-
-
 def read_sheet(path: str) -> Sheet:
     """The table of a file (`-`: of standard input); a Fault where it has no first line, no rows, or a row of another width."""
-    name = "standard input" if path == "-" else path
-    text, encoding = text_of(bytes_of(path), name)
+    name = shown_name(path)
+    text, encoding = text_of(read_bytes(path, MOST_BYTES), name)
     first = next((line for line in text.splitlines() if line.strip()), "")
     separator = max(";\t,", key=first.count)
     table = csv.reader(io.StringIO(text, newline=""), delimiter=separator)

@@ -7,9 +7,9 @@ from typing import Callable, Optional
 
 from ..demand import minutes_at
 from ..faults import Fault, OutOfRange, Refused
-from ..networks import Network, read_network
+from ..networks import Network
 from ..numbers import decimal, parse, short
-from ..reports import Report, mismatch, read_report
+from ..reports import Report, read_pair
 from ..rows import Rows
 
 
@@ -51,15 +51,11 @@ def add_csv(parser: argparse.ArgumentParser) -> None:
     parser.add_argument("--exact", action="store_true", help="write exact numbers, as 16/3, where a decimal would be rounded")
 
 
-def read_pair(net: str, report: str) -> tuple[Network, Report]:
-    """A network and its report; a Fault with status 1 where they don't belong together."""
+def read_run(net: str, report: str) -> tuple[Network, Report]:
+    """A network and its report; a Fault where they don't belong together."""
     if net == report == "-":
-        raise Refused("only one file can be standard input")
-    network = read_network(net)
-    run = read_report(report, network)
-    if why := mismatch(network, run):
-        raise Refused(f"{report} is no report of {net}: {why}", status=1)
-    return network, run
+        raise Refused("only one of the files can be standard input")
+    return read_pair(net, report)
 
 
 def departures(words: list[str], clock: Optional[Fraction], run: Report, name: str) -> list[Fraction]:
@@ -73,7 +69,12 @@ def departures(words: list[str], clock: Optional[Fraction], run: Report, name: s
 
 def write_rows(rows: Rows, arguments: argparse.Namespace) -> None:
     """Writes rows as CSV where that is asked for, else prints them in columns."""
-    if arguments.csv is not None:
+    if arguments.csv not in (None, "-"):
         rows.csv(arguments.csv, arguments.exact)
     else:
-        print(rows.text(arguments.exact), end="")
+        print(rows.text(arguments.exact) if arguments.csv is None else rows.csv_text(arguments.exact), end="")
+
+
+def amounts(exact: bool, *values: tuple[Optional[Fraction], int]) -> list[str]:
+    """Numbers for a line: rounded to so many digits (6: as they are, where a decimal is exact), or exact."""
+    return ["inf" if value is None else short(value) if exact or digits == 6 else decimal(value, digits) for value, digits in values]

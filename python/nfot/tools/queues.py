@@ -15,7 +15,7 @@ from ..numbers import clock
 from ..queues import VEHICLE, Place, Queue, longest_first, queues, read_places
 from ..reports import Report
 from ..rows import Cell, Rows
-from .common import add_clock, add_csv, add_pair, positive, read_pair, write_rows
+from .common import add_clock, add_csv, add_pair, positive, read_run, write_rows
 
 
 def add_arguments(parser: argparse.ArgumentParser) -> None:
@@ -50,7 +50,7 @@ def row_of(run: Report, queue: Queue, begin: Optional[Fraction], places: Optiona
 
 def main(arguments: argparse.Namespace) -> int:
     """Prints the table, or writes it as CSV."""
-    _, run = read_pair(arguments.net, arguments.report)
+    _, run = read_run(arguments.net, arguments.report)
     places = None if arguments.names is None else read_places(arguments.names, arguments.vehicle_m)
     found = longest_first(queues(run))[:arguments.top]
     columns = ["link", "from", "until", "longest wait", "at", "vehicles"] + ([] if places is None else ["road", "holds", "too long from"])

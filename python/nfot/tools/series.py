@@ -13,7 +13,7 @@ from pathlib import PurePath
 from ..faults import Refused
 from ..reports import Report
 from ..rows import side_by_side
-from .common import add_clock, add_csv, positive, read_pair, write_rows
+from .common import add_clock, add_csv, positive, read_run, write_rows
 
 
 def add_arguments(parser: argparse.ArgumentParser) -> None:
@@ -35,7 +35,7 @@ def runs_of(files: list[str]) -> dict[str, Report]:
     names = stems if len(set(stems)) == len(stems) else [report for _, report in pairs]
     if len(set(names)) < len(names):
         raise Refused("a report is named twice")
-    return {name: read_pair(net, report)[1] for name, (net, report) in zip(names, pairs)}
+    return {name: read_run(net, report)[1] for name, (net, report) in zip(names, pairs)}
 
 
 def main(arguments: argparse.Namespace) -> int:

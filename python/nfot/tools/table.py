@@ -19,7 +19,6 @@ from typing import Optional
 from ..demand import Demand, demand_of_words, read_demand
 from ..faults import Refused
 from ..numbers import clock, short
-from ..program import write_beside
 from ..roads import Columns, read_roads
 from ..tables import Units, network_of_table
 from .common import natural, number, positive
@@ -84,7 +83,7 @@ def main(arguments: argparse.Namespace) -> int:
         made.notes.append(f"minute 0 is {clock(Fraction(0), demand.begin)}; the other tools take --clock {short(demand.begin // 60)}:{int(demand.begin % 60):02}")
     if arguments.names is not None:
         made.write_names(arguments.names)
-    write_beside("-", made.network.text())
+    print(made.network.text(), end="", flush=True)
     for note in made.notes:
         print(f"table: {note}", file=sys.stderr)
     return 0

@@ -17,7 +17,7 @@ from ..numbers import clock, decimal, short
 from ..queues import Queue, queues
 from ..reports import Report
 from ..rows import Rows, grid
-from .common import add_clock, add_csv, add_pair, departures, positive, read_pair, write_rows
+from .common import add_clock, add_csv, add_pair, departures, positive, read_run, write_rows
 
 
 def add_arguments(parser: argparse.ArgumentParser) -> None:
@@ -46,7 +46,7 @@ def queue_line(queue: Queue, exact: bool) -> str:
 
 def main(arguments: argparse.Namespace) -> int:
     """Prints the departures, the queues and the total; or writes the departures as CSV."""
-    network, run = read_pair(arguments.net, arguments.report)
+    network, run = read_run(arguments.net, arguments.report)
     times = departures(arguments.departures, arguments.clock, run, arguments.report)
     if arguments.every is not None:
         times = sorted({*times, *grid(arguments.every, run.reached)})
