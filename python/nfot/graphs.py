@@ -26,8 +26,8 @@ class Reader:
     def __init__(self, transit: str, capacity: str, round_to: Optional[Number], most: Fraction) -> None:
         self.transit, self.capacity = transit, capacity
         unit = None if round_to is None else exact(round_to)
-        self.time = None if unit is None else Rounding("times", unit, "round_to=", most)
-        self.rate = None if unit is None else Rounding("capacities", unit, "round_to=", most)
+        self.time = None if unit is None else Rounding("times", unit, "round_to=", most, "most_change=")
+        self.rate = None if unit is None else Rounding("capacities", unit, "round_to=", most, "most_change=")
 
     @staticmethod
     def number(value: object, rounding: Optional[Rounding], what: str) -> Fraction:

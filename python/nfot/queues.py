@@ -46,7 +46,7 @@ def spans(curve: Curve) -> list[tuple[Fraction, Optional[Fraction]]]:
     return found if begin is None else [*found, (begin, None)]
 
 
-def queues(run: Report) -> list[Queue]:
+def queues_of(run: Report) -> list[Queue]:
     """The queues of a report, in the order of its links; links that never queue are left out."""
     if run.network is None:
         raise Refused("the report has no network: read it by read_report(path, net)")

@@ -11,12 +11,14 @@ MOST = Fraction(20)  # percent: a greater change is refused unless it is asked f
 
 
 class Rounding:
-    """Rounds amounts to the nearest multiple of a unit, at least one unit. `what` names them, as "capacities"; `most` is in percent."""
+    """Rounds amounts to the nearest multiple of a unit, at least one unit. `what` names them, as "capacities"; `most` is in percent.
 
-    def __init__(self, what: str, unit: Fraction, option: str, most: Fraction = MOST) -> None:
+    `option` and `allow` begin what a message tells the user to write: for the unit, and for a greater change."""
+
+    def __init__(self, what: str, unit: Fraction, option: str, most: Fraction = MOST, allow: str = "--most-change ") -> None:
         if unit <= 0:
-            raise Refused(f"{option} {short(unit)}: the unit has to be above 0")
-        self.what, self.unit, self.option, self.most = what, unit, option, most
+            raise Refused(f"{option}{short(unit)}: the unit has to be above 0")
+        self.what, self.unit, self.option, self.most, self.allow = what, unit, option, most, allow
         self.greatest = Fraction(0)  # change in percent
         self.where = ""
         self.least: Optional[Fraction] = None  # the smallest amount above 0
@@ -38,8 +40,8 @@ class Rounding:
         """Raises a Fault where the greatest change is above the limit; the line says which unit fits."""
         if self.greatest > self.most and self.least is not None:
             fits = round_number(self.least * 2 * self.most / 100)
-            raise Refused(f"{self.what} change by up to {percent(self.greatest)} ({self.where}): take {self.option} {short(fits)}, "
-                          f"or allow it with --most-change {-(-self.greatest // 1)}")
+            raise Refused(f"{self.what} change by up to {percent(self.greatest)} ({self.where}): take {self.option}{short(fits)}, "
+                          f"or allow it with {self.allow}{-(-self.greatest // 1)}")
 
     def note(self, unit_words: str) -> str:
         """The line that tells what was rounded, and by how much at most."""

@@ -105,11 +105,11 @@ class Maker:
         self.nodes, self.links, self.names = Names(), Names(), list[Name]()
         self.per = 60 if units.hourly else 1
         capacities = [road.capacity * self.per for road in kept if road.capacity is not None]
-        self.capacity = Rounding("capacities", units.capacity or unit_for(capacities, Fraction(1, 10)), "--round-capacity", units.most)
+        self.capacity = Rounding("capacities", units.capacity or unit_for(capacities, Fraction(1, 10)), "--round-capacity ", units.most)
         step = unit_for([road.minutes for road in kept], Fraction(2, 5), Fraction(1, 10))
-        self.time = Rounding("times", units.time or step, "--round-time", units.most)
+        self.time = Rounding("times", units.time or step, "--round-time ", units.most)
         rate_unit = units.rate or unit_for(rates, Fraction(1, 100), digits=(1,))
-        self.rate = Rounding("rates", rate_unit, "--round-rate", units.most)
+        self.rate = Rounding("rates", rate_unit, "--round-rate ", units.most)
 
     def node(self, name: str) -> str:
         """The name of a node in the network."""

@@ -45,7 +45,7 @@ class Graphs(unittest.TestCase):
     def test_rounding(self) -> None:
         net = self.made(self.graph(minutes=9.96, per_minute=1.93), round_to="1/10")
         self.assertEqual((net.links["home-work"].transit, net.links["home-work"].capacity), (10, Fraction(19, 10)))
-        with self.assertRaisesRegex(nfot.Fault, "capacities change by up to 46.3 %"):
+        with self.assertRaisesRegex(nfot.Fault, r"capacities change by up to 46.4 % .*: take round_to=0.02, or allow it with most_change=47"):
             self.made(self.graph(per_minute=0.0683), round_to="1/10")
         self.assertEqual(self.made(self.graph(per_minute=0.0683), round_to="1/10", most_change=50).links["home-work"].capacity, Fraction(1, 10))
 

@@ -33,7 +33,7 @@ class Results(Case):
 class Times(Results):
     def test_bridge(self) -> None:
         """Who leaves at 30 takes 30; 40 cars at 2 a minute are a wait of 20. In all 6,400 minutes, as docs/GUIDE.md works out."""
-        self.assertEqual(self.fine("times", *self.solved("bridge.net", 60), "0", "20", "30", "0:60").splitlines(), [
+        self.assertEqual(self.fine("times", *self.solved("bridge.net", 60), "0", "20", "30", "1:00").splitlines(), [
             "leave 0.00  arrive 10.00  takes 10.00", "leave 20.00  arrive 50.00  takes 30.00", "leave 30.00  arrive 60.00  takes 30.00",
             "leave 60.00  arrive 90.00  takes 30.00", "bridge: queue from 0.00 to (the end of its curve), longest wait 20.00",
             "all together on the way: 6400.0, a vehicle 26.67"])
@@ -74,7 +74,7 @@ class Queues(Results):
         net, report = self.solved("corridor.net", 160)
         self.fine("queues", net, report, "--clock", "6:00", "--csv", "queues.csv")
         rows = self.rows("queues.csv")
-        self.assertEqual([(row["link"], row["longest wait"]) for row in rows], [("bridge", "17"), ("approach", "7.2"), ("main", "6.166667"), ("alley", "2.166667")])
+        self.assertEqual([(row["link"], f"{float(row['longest wait']):.2f}") for row in rows], [("bridge", "17.00"), ("approach", "7.20"), ("main", "6.17"), ("alley", "2.17")])
         self.assertEqual(rows[0], {"link": "bridge", "from": "06:37", "until": "08:09", "longest wait": "17", "at": "07:11", "vehicles": "680"})
         self.assertEqual(len(self.fine("queues", net, report, "--top", 1).splitlines()), 2)
 

@@ -45,7 +45,7 @@ class Numbers(Table):
         links = {name: link for name, link in wanted.links.items() if link.tail != "20" and link.head != "1"}
         self.assertEqual((net.source, net.sink, net.supply, dict(net.links)), ("1", "20", wanted.supply, links))
         self.assertIn("24 nodes, 70 links", err)
-        self.assertIn("capacities are rounded to multiples of 40 vehicles a minute; the greatest change is 8.0 % (10-9: 231.9298 becomes 240)", err)
+        self.assertIn("capacities are rounded to multiples of 40 vehicles a minute; the greatest change is 8.2 % (16-17: 87.1652 becomes 80)", err)
 
     def test_rounding_of_each_kind(self) -> None:
         net, err = self.made("To,FROM,x,capacity,Time\nt,s,9,82.63634880000001,4.26\nt,s,9,,1\n", "s", "t", "0:1.5", "--round-capacity", 5)

@@ -99,6 +99,16 @@ def told(name: str, line: str, status: int) -> int:
     return status
 
 
+def tried(name: str, words: Words) -> int:
+    """Runs the command or the tool, and prints a Fault in one line."""
+    try:
+        return chosen(words)
+    except Fault as fault:
+        if isinstance(fault.__context__, BrokenPipeError):
+            raise BrokenPipeError from None
+        return told(name, " ".join(str(fault).split()), fault.status or 1)
+
+
 def main(words: Optional[Words] = None) -> int:
     """Runs `nfot-py` with these words (None: those of the command line); the status. Prints each fault in one line."""
     words = sys.argv[1:] if words is None else words
@@ -108,11 +118,9 @@ def main(words: Optional[Words] = None) -> int:
     except ValueError:
         pass  # another thread than the main one
     try:
-        status = chosen(words)
+        status = tried(name, words)
         sys.stdout.flush()
         return status
-    except Fault as fault:
-        return told(name, " ".join(str(fault).split()), fault.status or 1)
     except BrokenPipeError:
         closed_output()
         return CLOSED

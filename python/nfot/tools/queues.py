@@ -12,7 +12,7 @@ from fractions import Fraction
 from typing import Optional
 
 from ..numbers import clock
-from ..queues import VEHICLE, Place, Queue, longest_first, queues, read_places
+from ..queues import VEHICLE, Place, Queue, longest_first, queues_of, read_places
 from ..reports import Report
 from ..rows import Cell, Rows
 from .common import add_clock, add_csv, add_pair, positive, read_run, write_rows
@@ -52,7 +52,7 @@ def main(arguments: argparse.Namespace) -> int:
     """Prints the table, or writes it as CSV."""
     _, run = read_run(arguments.net, arguments.report)
     places = None if arguments.names is None else read_places(arguments.names, arguments.vehicle_m)
-    found = longest_first(queues(run))[:arguments.top]
+    found = longest_first(queues_of(run))[:arguments.top]
     columns = ["link", "from", "until", "longest wait", "at", "vehicles"] + ([] if places is None else ["road", "holds", "too long from"])
     if not found and arguments.csv is None:
         print("no link has a queue")

@@ -14,7 +14,7 @@ from ..comparing import spent
 from ..faults import Refused
 from ..networks import Network
 from ..numbers import clock, decimal, short
-from ..queues import Queue, queues
+from ..queues import Queue, queues_of
 from ..reports import Report
 from ..rows import Rows, grid
 from .common import add_clock, add_csv, add_pair, departures, positive, read_run, write_rows
@@ -61,7 +61,7 @@ def main(arguments: argparse.Namespace) -> int:
         print("  ".join(f"{name} {cell}" if name != "clock" else cell for name, cell in cells.items()))
     if run.cause != "done":
         print(f"the report ends at departure {decimal(run.reached)}, not at {decimal(run.horizon)}: {run.cause}")
-    for queue in queues(run):
+    for queue in queues_of(run):
         print(queue_line(queue, arguments.exact))
     total, vehicles = spent(network, run.label(network.sink), run.reached)[0], network.supplied(run.reached)
     each = [total / vehicles] if vehicles else []
