@@ -90,15 +90,21 @@ def corners(*curves: Curve) -> list[Fraction]:
     return sorted({time for curve in curves for time, _ in curve.points})
 
 
-def spent(net: Network, label: Curve, until: Fraction) -> tuple[Fraction, Optional[Fraction]]:
-    """The time that all who leave by `until` spend, and the longest travel time of a vehicle (None without vehicles)."""
+class Spent(NamedTuple):
+    """The time that all vehicles spend on the way, and the longest travel time of one (None without vehicles)."""
+    total: Fraction
+    longest: Optional[Fraction]
+
+
+def spent(net: Network, label: Curve, until: Fraction) -> Spent:
+    """The time that all who leave by `until` spend, given when they arrive at the sink."""
     total, longest = Fraction(0), None
     for start, end, rate in spans(net.supply, until, corners(label)):
         first, last = label(start) - start, label(end) - end
         total += rate * (end - start) * (first + last) / 2
         if rate:
             longest = max(first, last, *([] if longest is None else [longest]))
-    return total, longest
+    return Spent(total, longest)
 
 
 def changes(supply: Sequence[tuple[Fraction, Fraction]], before: Curve, after: Curve, until: Fraction) -> Iterator[Piece]:
@@ -136,14 +142,13 @@ def compare(net: Network, run: Report, other_net: Network, other_run: Report) ->
             raise Refused(f"the {what} report is none of its network: {why}", status=1)
     until = min(run.reached, other_run.reached)
     before, after = run.label(net.sink).cut(until), other_run.label(other_net.sink).cut(until)
-    totals, longest = zip(spent(net, before, until), spent(other_net, after, until))
+    first, second = spent(net, before, until), spent(other_net, after, until)
     vehicles = Pair(net.supplied(until), other_net.supplied(until))
     same = net.supply_curve(until) == other_net.supply_curve(until)
     common = net.supply if same else least_rates(net, other_net, until)
     pieces = list(changes(common, before, after, until))
-    full = all(vehicles)
-    return Comparison(
-        until, before, after, vehicles, Pair(*totals),
-        Pair(totals[0] / vehicles[0], totals[1] / vehicles[1]) if full else None, Pair(*longest) if full else None, same,
-        sum((rate * (end - start) for start, end, rate in spans(common, until, ())), Fraction(0)),
-        group([piece for piece in pieces if piece.first + piece.last > 0]), group([piece for piece in pieces if piece.first + piece.last < 0]))
+    mean = Pair(first.total / vehicles.before, second.total / vehicles.after) if all(vehicles) else None
+    longest = None if first.longest is None or second.longest is None else Pair(first.longest, second.longest)
+    amount = sum((rate * (end - start) for start, end, rate in spans(common, until, ())), Fraction(0))
+    return Comparison(until, before, after, vehicles, Pair(first.total, second.total), mean, longest, same, amount,
+                      group([piece for piece in pieces if piece.first + piece.last > 0]), group([piece for piece in pieces if piece.first + piece.last < 0]))

@@ -1,6 +1,7 @@
 """Networks from and to graphs of networkx. networkx itself is imported only where one of its graphs is made."""
 from __future__ import annotations
 
+import importlib
 import math
 from fractions import Fraction
 from typing import Any, Hashable, Iterable, Iterator, Mapping, Optional, Union
@@ -98,7 +99,7 @@ def to_networkx(net: Network) -> Any:
     The graph's attributes `source`, `sink` and `supply` hold the rest, so `from_networkx(graph, source, sink, supply=supply)` gives the
     network back. Raises a Fault where networkx isn't installed."""
     try:
-        import networkx
+        networkx: Any = importlib.import_module("networkx")
     except ImportError:
         raise Fault("networkx isn't installed: `pip install networkx`") from None
     graph = networkx.MultiDiGraph(source=net.source, sink=net.sink, supply=net.supply)

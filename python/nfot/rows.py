@@ -2,6 +2,7 @@
 from __future__ import annotations
 
 import csv
+import importlib
 import io
 from fractions import Fraction
 from typing import Any, Callable, Dict, Iterable, Iterator, Optional, Sequence, Union, overload
@@ -74,7 +75,7 @@ class Rows(Sequence[RowDict]):
     def frame(self) -> Any:
         """The table as a DataFrame of pandas, numbers as floats. Raises a Fault where pandas isn't installed."""
         try:
-            import pandas
+            pandas: Any = importlib.import_module("pandas")
         except ImportError:
             raise Fault("pandas isn't installed: `pip install pandas`, or take .csv(path)") from None
         return pandas.DataFrame([{name: float(cell) if isinstance(cell, Fraction) else cell for name, cell in row.items()} for row in self._rows],

@@ -97,7 +97,7 @@ def read_sheet(path: str) -> Sheet:
     separator = max(";\t,", key=first.count)
     table = csv.reader(io.StringIO(text, newline=""), delimiter=separator)
     try:
-        heads = next((words for words in table if any(word.strip() for word in words)), [])
+        heads: list[str] = next((words for words in table if any(word.strip() for word in words)), [])
         if not heads:
             raise Refused("the file is empty", file=name)
         columns = [head.strip().lower() for head in heads]

@@ -162,7 +162,7 @@ class Demand(Table):
         self.write("demand.csv", self.COUNTS)
         net, err = self.made(GOOD, "s", "t", "--demand", "demand.csv", "--each", 15)
         self.assertEqual(net.supply, ((0, 20), (15, Fraction(407, 10)), (45, 0), (60, 10), (75, 0)))
-        self.assertIn("minute 0 is 06:00; the other tools take --clock 6:00", err)
+        self.assertIn("minute 0 is 06:00; the other tools take --clock 06:00", err)
         self.assertIn("rates are rounded to multiples of 0.1 vehicles a minute; the greatest change is 0.1 % (from 15 on: 40.6667 becomes 40.7)", err)
         self.assertIn("1671.0 vehicles are supplied by 75; the table has 1670.0", err)
 

@@ -11,11 +11,12 @@ from __future__ import annotations
 import argparse
 from fractions import Fraction
 
-from ..comparing import Comparison, Group, compare
+from ..comparing import Comparison, compare
 from ..networks import Network
-from ..numbers import clock as clock_of, decimal, short
+from ..numbers import decimal
 from ..reports import Report
 from ..rows import Rows, grid
+from ..wording import Words
 from .common import add_clock, add_csv, departures, positive, read_run, write_rows
 
 
@@ -30,32 +31,9 @@ def add_arguments(parser: argparse.ArgumentParser) -> None:
     add_csv(parser)
 
 
-class Words:
-    """Numbers and times as the output has them."""
-
-    def __init__(self, arguments: argparse.Namespace) -> None:
-        self.exact, self.begin = arguments.exact, arguments.clock
-
-    def number(self, value: Fraction, digits: int = 2) -> str:
-        """A number, rounded or exact."""
-        return short(value) if self.exact else decimal(value, digits)
-
-    def time(self, departure: Fraction) -> str:
-        """A departure, as a time of day where minute 0 has one."""
-        return self.number(departure) if self.begin is None else clock_of(departure, self.begin)
-
-    def group(self, word: str, group: Group) -> str:
-        """The line of those who lose, or gain."""
-        if group.departure is None:
-            return f"{word}: nobody"
-        when = ", ".join(f"{self.time(start)} to {self.time(end)}" for start, end in group.spans)
-        return (f"{word}: {self.number(group.vehicles, 1)} vehicles, {self.number(group.mean)} on average, "
-                f"at most {self.number(group.most)} (leave {self.time(group.departure)}); they leave {when}")
-
-    def row(self, what: str, before: Fraction, after: Fraction) -> str:
-        """A line with both cases and the change."""
-        change = self.number(after - before)
-        return f"{what:<22}{self.number(before):>12}{self.number(after):>12}{change if change.startswith('-') else '+' + change:>12}"
+def row(words: Words, what: str, before: Fraction, after: Fraction) -> str:
+    """A line with both cases and the change."""
+    return f"{what:<22}{words.number(before):>12}{words.number(after):>12}{words.change(after - before):>12}"
 
 
 def table(found: Comparison, times: list[Fraction], words: Words) -> Rows:
@@ -79,7 +57,7 @@ def cut_line(arguments: argparse.Namespace, runs: list[Report], until: Fraction)
 def main(arguments: argparse.Namespace) -> int:
     """Prints the comparison; or writes the departures as CSV."""
     pairs: list[tuple[Network, Report]] = [read_run(arguments.net1, arguments.report1), read_run(arguments.net2, arguments.report2)]
-    found, words = compare(*pairs[0], *pairs[1]), Words(arguments)
+    found, words = compare(*pairs[0], *pairs[1]), Words(arguments.exact, arguments.clock)
     shorter = min(pairs, key=lambda pair: pair[1].reached)[1]
     times = departures(arguments.departures, arguments.clock, shorter, "both reports together")
     if arguments.every is not None:
@@ -90,11 +68,11 @@ def main(arguments: argparse.Namespace) -> int:
         return 0
     print(*cut_line(arguments, [run for _, run in pairs], found.until), f"{'':<22}{'first':>12}{'second':>12}{'change':>12}", sep="\n")
     for time in times:
-        print(words.row(f"leave {words.time(time)}", *found.takes(time)))
+        print(row(words, f"leave {words.time(time)}", *found.takes(time)))
     if found.mean is not None and found.longest is not None:
-        print(words.row("a vehicle, mean", *found.mean))
-        print(words.row("a vehicle, longest", *found.longest))
-    print(words.row("all together, hours", found.total.before / 60, found.total.after / 60))
+        print(row(words, "a vehicle, mean", *found.mean))
+        print(row(words, "a vehicle, longest", *found.longest))
+    print(row(words, "all together, hours", found.total.before / 60, found.total.after / 60))
     if not found.same_supply:
         vehicles = " and ".join(words.number(amount, 1) for amount in found.vehicles)
         print(f"the supplies differ: {vehicles} vehicles; of those, {words.number(found.common, 1)} leave at the same time in both cases")

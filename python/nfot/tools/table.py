@@ -18,7 +18,7 @@ from typing import Optional
 
 from ..demand import Demand, demand_of_words, read_demand
 from ..faults import Refused
-from ..numbers import clock, short
+from ..numbers import clock
 from ..roads import Columns, read_roads
 from ..tables import Units, network_of_table
 from .common import natural, number, positive
@@ -80,7 +80,8 @@ def main(arguments: argparse.Namespace) -> int:
     units = Units(arguments.round_capacity, arguments.round_time, arguments.round_rate, hourly, arguments.most_change)
     made = network_of_table(roads, arguments.origin, arguments.destination, demand, units=units, detour=arguments.detour)
     if demand.begin is not None:
-        made.notes.append(f"minute 0 is {clock(Fraction(0), demand.begin)}; the other tools take --clock {short(demand.begin // 60)}:{int(demand.begin % 60):02}")
+        begin = clock(Fraction(0), demand.begin)
+        made.notes.append(f"minute 0 is {begin}; the other tools take --clock {begin}")
     if arguments.names is not None:
         made.write_names(arguments.names)
     print(made.network.text(), end="", flush=True)

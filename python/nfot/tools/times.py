@@ -13,10 +13,11 @@ from fractions import Fraction
 from ..comparing import spent
 from ..faults import Refused
 from ..networks import Network
-from ..numbers import clock, decimal, short
-from ..queues import Queue, queues_of
+from ..numbers import clock, decimal
+from ..queues import queues_of
 from ..reports import Report
 from ..rows import Rows, grid
+from ..wording import Words
 from .common import add_clock, add_csv, add_pair, departures, positive, read_run, write_rows
 
 
@@ -36,14 +37,6 @@ def rows_of(network: Network, run: Report, times: list[Fraction], begin: Fractio
     return Rows(columns, ([*([] if begin is None else [clock(time, begin)]), time, label(time), label(time) - time] for time in times))
 
 
-def queue_line(queue: Queue, exact: bool) -> str:
-    """When a link has a queue, and how long its longest wait is."""
-    def word(value: Fraction) -> str:
-        return short(value) if exact else decimal(value)
-    spans = [f"from {word(start)} to {word(end) if end is not None else '(the end of its curve)'}" for start, end in queue.spans]
-    return f"{queue.link}: queue {', '.join(spans)}, longest wait {word(queue.wait)}"
-
-
 def main(arguments: argparse.Namespace) -> int:
     """Prints the departures, the queues and the total; or writes the departures as CSV."""
     network, run = read_run(arguments.net, arguments.report)
@@ -56,17 +49,15 @@ def main(arguments: argparse.Namespace) -> int:
             raise Refused("--csv has a row for each departure: name some, or take --every")
         write_rows(rows, arguments)
         return 0
+    words = Words(arguments.exact, arguments.clock)
     for row in rows:
-        cells = {name: cell if isinstance(cell, str) else short(cell) if arguments.exact else decimal(cell) for name, cell in row.items() if cell is not None}
-        print("  ".join(f"{name} {cell}" if name != "clock" else cell for name, cell in cells.items()))
+        cells = {name: cell if isinstance(cell, str) else words.number(cell) for name, cell in row.items() if cell is not None}
+        print("  ".join(cell if name == "clock" else f"{name} {cell}" for name, cell in cells.items()))
     if run.cause != "done":
         print(f"the report ends at departure {decimal(run.reached)}, not at {decimal(run.horizon)}: {run.cause}")
     for queue in queues_of(run):
-        print(queue_line(queue, arguments.exact))
-    total, vehicles = spent(network, run.label(network.sink), run.reached)[0], network.supplied(run.reached)
-    each = [total / vehicles] if vehicles else []
-    if arguments.exact:
-        print(f"all together on the way: {short(total)}" + "".join(f", a vehicle {short(mean)}" for mean in each))
-    else:
-        print(f"all together on the way: {decimal(total, 1)}" + "".join(f", a vehicle {decimal(mean)}" for mean in each))
+        print(words.queue(queue))
+    total, vehicles = spent(network, run.label(network.sink), run.reached).total, network.supplied(run.reached)
+    mean = f", a vehicle {words.number(total / vehicles)}" if vehicles else ""
+    print(f"all together on the way: {words.number(total, 1)}{mean}")
     return 0
