@@ -61,7 +61,3 @@ class Names:
         if name not in self.given:
             self.given[name] = self.new(name)
         return self.given[name]
-
-    def changed(self) -> list[tuple[str, str]]:
-        """The names that changed, with what they became."""
-        return [(name, new) for name, new in self.given.items() if name != new]

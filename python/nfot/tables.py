@@ -102,7 +102,9 @@ class Maker:
     """Makes the network: names and rounded numbers, and the notes on them."""
 
     def __init__(self, kept: Sequence[Road], units: Units, rates: Sequence[Fraction]) -> None:
-        self.nodes, self.links, self.names = Names(), Names(), list[Name]()
+        self.nodes, self.links = Names(), Names()
+        self.names: list[Name] = []
+        self.renamed: list[str] = []
         self.per = 60 if units.hourly else 1
         capacities = [road.capacity * self.per for road in kept if road.capacity is not None]
         self.capacity = Rounding("capacities", units.capacity or unit_for(capacities, Fraction(1, 10)), "--round-capacity ", units.most)
@@ -115,13 +117,20 @@ class Maker:
         """The name of a node in the network."""
         if name not in self.nodes.given:
             self.names.append(Name(self.nodes.of(name), "node", name))
+            self.tell("node", name, self.nodes.of(name), name)
         return self.nodes.of(name)
+
+    def tell(self, kind: str, name: str, new: str, expected: str) -> None:
+        """Notes a name that isn't the one that a user would expect."""
+        if new != expected:
+            self.renamed.append(f"{kind} `{name}` is called {new}")
 
     def link(self, road: Road) -> Link:
         """The link of a road."""
         tail, head = self.node(road.tail), self.node(road.head)
         name = self.links.new(road.name or joined(tail, head))
-        self.names.append(Name(name, "link", road.name or f"{road.tail}-{road.head}", road.line, road.kilometres, road.lanes))
+        self.names.append(Name(name, "link", road.words(), road.line, road.kilometres, road.lanes))
+        self.tell("link", road.words(), name, road.name or f"{tail}-{head}")
         capacity = None if road.capacity is None else self.capacity(road.capacity * self.per, road.words()) / self.per
         return Link(name, tail, head, self.time(road.minutes, road.words()), capacity)
 
@@ -137,7 +146,7 @@ class Maker:
             found.append(f"{self.time.zeros} times of 0 became {short(self.time.unit)}, since no walk may take no time")
         if self.rate.least is not None:
             found.append(self.rate.note("vehicles a minute"))
-        return found + [f"{kind} `{name}` is called {new}" for new, kind, name, *_ in self.names if name != new]
+        return found + self.renamed
 
 
 def left_out(found: Corridor, closed: Sequence[Road]) -> list[str]:

@@ -42,7 +42,7 @@ class Help(Case):
         self.refused(2, "required: NET", "times")
 
     def test_version(self) -> None:
-        self.assertTrue(self.fine("--version").startswith(f"nfot-py {nfot.__version__}; "))
+        self.assertTrue(self.fine("--version").startswith(f"nfot-py {nfot.__version__}, with the "))
 
 
 class Passing(Case):

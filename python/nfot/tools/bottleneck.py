@@ -1,4 +1,4 @@
-"""Prints whether travel times settle under a demand that lasts, and if not, which links are the bottleneck.
+"""Prints whether travel times settle under lasting demand, and if not, the bottleneck.
 
 FOREVER is the output of `nfot solve NET --forever` (`-`: standard input); without it the tool has it made. If travel times grow, the links of
 the bottleneck are printed with their capacities, the sum beside the last supply rate, and the growth. Numbers are exact.

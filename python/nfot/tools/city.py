@@ -1,4 +1,4 @@
-"""Prints a network file of Sioux Falls, a test network of the field: 24 zones, 76 links, from one zone to another.
+"""Prints a network file of Sioux Falls, a test network of the field with 24 zones and 76 links.
 
 Capacities are rounded to multiples of UNIT vehicles an hour (at least one), and written a minute; times are minutes. From START (minutes) on
 RATE vehicles a minute leave zone FROM. With --roads the roads themselves are printed as CSV, for `nfot-py table`.

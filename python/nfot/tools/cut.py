@@ -1,4 +1,4 @@
-"""Prints which links limit an amount: at which capacity, for how long, and how much goes through them then.
+"""Prints which links limit an amount: capacity, for how long, and how much goes through.
 
 The output of `nfot quick` comes from standard input, or --amount has it made. The amounts of the links add up to the whole amount.
 

@@ -1,4 +1,4 @@
-"""Prints the queues of a report, the longest wait first: when they stand, how long drivers wait, how many vehicles stand there.
+"""Prints the queues of a report, the longest wait first: when, how long, how many vehicles.
 
 With --names, a file that `nfot-py table --names` wrote, the table has the names of the roads; and where their lengths are known, how many
 vehicles the road holds, and from when on the queue is longer than the road (in the model queues take no room).

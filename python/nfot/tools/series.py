@@ -1,4 +1,4 @@
-"""Prints a link over the day in several scenarios, or their travel times, side by side in steps of time.
+"""Prints a link over the day, or travel times, in several scenarios side by side.
 
 Each scenario is a pair NET REPORT, called by the name of its report. With --link the columns are its queue (or what --show names: queue, wait,
 in and out, the vehicles that enter and leave until the next row); without it they are the travel times by departure. A cell is empty beyond

@@ -1,4 +1,4 @@
-"""Solves a network as `nfot solve`, and goes on where the patterns of a phase are used up (status 6).
+"""Solves a network, and goes on where the patterns of a phase are used up (status 6).
 
 There the package looks for a pattern that fits, and `nfot resume` goes on from it. The package is not proved, and need not be: `resume` checks
 what it is given, so the report is right whatever the package proposes. A run that ends early prints its report all the same, up to the

@@ -1,4 +1,4 @@
-"""Prints when departures arrive, which links have queues, and the time that all spend, from a report.
+"""Prints when departures arrive, which links have queues, and the time that all spend.
 
 DEPARTUREs are minutes, or with --clock times of day. With --every the table has all departures in steps; with --csv it is written for a
 spreadsheet, alone. A wait is the amount in the queue divided by the capacity.
