@@ -11,11 +11,12 @@ from .lines import PathLike, shown_name
 from .numbers import short
 from .program import Done, in_files, run
 from .report_values import Report
-from .rules import sentence
+from .meanings import sentence
 
 _BROKEN = re.compile(r"nfot: (\w+) line (\d+): (\w+)")
 _STOPPED = re.compile(r"nfot: stopped: (.*)")
 
+CAUSES = {"phases": 5, "patterns": 6, "passed": 7, "nopattern": 8}
 TO_DO = {5: "give more with phases=, or resume", 6: "give more with patterns=, or let transit times differ a little",
          7: "round capacities and rates to multiples of one unit", 11: "give more with augments=, or ask for a smaller amount",
          12: "give more with phases=, or a horizon"}
@@ -62,7 +63,7 @@ def _raise(command: str, done: Done, answer: Answer, named: Mapping[str, str]) -
     if done.status == 3 and named:
         raise _unread(list(named.values()), done)
     if done.status in TO_DO:
-        raise stop_of(done.status, answer.cause or done.err.partition(": ")[2].strip(), None)
+        raise stop_of(answer.cause or done.err.partition(": ")[2].strip(), None, done.status)
     if done.status in FIXED:
         raise Refused(f"nfot {command}: {FIXED[done.status]}", status=done.status)
     last = (done.err.strip().splitlines() or ["nothing on standard error"])[-1]
@@ -79,8 +80,9 @@ def _unread(names: Sequence[str], done: Done) -> Fault:
     return Refused("it has too many bytes" if "too long" in done.err else "it can't be read", status=3, file=names[0])
 
 
-def stop_of(status: int, cause: str, report: Optional[Report]) -> Stopped:
-    """The fault of a run that ended early."""
-    reached = f" at departure {short(report.reached)} of {short(report.horizon)}" if report else ""
-    return Stopped(f"the run stopped{reached} (cause {cause}): {TO_DO.get(status, 'see the cause')}", status=status, cause=cause,
-                   report=report)
+def stop_of(cause: str, report: Optional[Report], status: Optional[int] = None) -> Stopped:
+    """The fault of a run that ended early, by its cause."""
+    ended = CAUSES.get(cause.split(" ")[0], 1) if status is None else status
+    reached = f" at departure {short(report.reached)}" if report else ""
+    reached += f" of {short(report.horizon)}" if report and report.horizon > report.reached else ""
+    return Stopped(f"the run stopped{reached} (cause {cause}): {TO_DO.get(ended, 'see the cause')}", status=ended, cause=cause, report=report)

@@ -1,22 +1,25 @@
-"""The ten commands of `nfot` as calls, each with an answer of its own."""
+"""The ten commands of `nfot` as calls, each with an answer of its own.
+
+Each call takes a network or the name of its file, and `timeout` in seconds for each run of the program. Besides the faults that it
+names, each raises NotFound without a program, Killed where a signal ended it, and Timeout.
+"""
 from __future__ import annotations
 
-import os
 from fractions import Fraction
-from typing import Dict, Iterable, List, Mapping, Optional, Sequence, Tuple, Union
+from typing import Iterable, List, Mapping, Optional, Sequence, Tuple, Union
 
 from .answers import Carried, Forever, Generated, Lines, Loaded, Quickest, Settled, Verdict, lines_of
 from .calling import Answer, ask, stop_of, words_of_budgets
 from .faults import Fault, Refused, Stopped, Unbounded
 from .graph import path_of
 from .hints import go_on_past
-from .lines import PathLike, check_name
+from .lines import PathLike
 from .drafts import fitting
 from .networks import Network, read_network
-from .numbers import Number, exact
+from .numbers import Number
 from .report_file import read_report, report_of
 from .report_values import Report, belonging
-from .rules import meaning
+from .meanings import meaning
 
 Net = Union[Network, PathLike]
 Run = Union[Report, PathLike]
@@ -74,7 +77,7 @@ def _reached(net: Network, answer: Answer, words: Sequence[str], timeout: Option
     if report is not None and go_on and answer.status == 6:
         report = go_on_past(net, report, lambda files: ask("resume", words, files, timeout=timeout, statuses=(0, 5, 6, 7)))
     if report is None or report.cause != "done":
-        raise stop_of(answer.status, report.cause if report else answer.cause, report)
+        raise stop_of(report.cause if report else answer.cause, report)
     return report
 
 
@@ -138,5 +141,77 @@ def routes(net: Net, routes: Union[PathLike, Mapping[str, Tuple[Sequence[str], P
 
 def show(net: Net) -> str:
     """The canonical text of a network, as `nfot show` writes it."""
+    return ask("show", [], {"network": _network(net).text()}).out
+
+
+def quick(net: Net, amount: Number, *, augments: Optional[int] = None, timeout: Optional[float] = None) -> Quickest:
+    """The quickest flow of an amount, its cut, and when the amount has arrived in the equilibrium.
+
+    Unbounded, with a walk of links without capacity, where any amount arrives in no time. Stopped (status 11) where `augments` is
+    used up, or 7.
+    """
     network = _network(net)
-    return ask("show", [], {"network": network.text()}).out
+    words = ["--amount", str(fitting(amount, "amount")), *words_of_budgets(augments=augments)]
+    answer = ask("quick", words, {"network": network.text()}, timeout=timeout, statuses=(0, 14))
+    if answer.status == 14:
+        links = path_of(network.source, network.sink, [link for link in network.used_links() if link.capacity is None])
+        raise Unbounded(f"any amount arrives at once: a walk of unbounded links leads to the sink: {' '.join(links)}", links=links)
+    found = lines_of(answer.out, ended=False)
+    walks = tuple((Fraction(rate), tuple(links)) for rate, *links in found.words.get("walk", []))
+    equilibrium = _arrival(found.only("equilibrium"))
+    return Quickest(Fraction(found.only("quick")[0]), walks, found.numbers["cut"], Fraction(found.only("value")[0]), equilibrium)
+
+
+def _arrival(words: List[str]) -> Union[Fraction, None, Stopped]:
+    """What the line `equilibrium` of `quick` says."""
+    if words[0] == "stopped":
+        return stop_of(" ".join(words[1:]), None)
+    return None if words[0] == "none" else Fraction(words[0])
+
+
+def forever(net: Net, *, phases: Optional[int] = None, patterns: Optional[int] = None, timeout: Optional[float] = None) -> Forever:
+    """The run without a horizon, up to the phase that never ends, with the slopes and flows of that phase.
+
+    Stopped, with the report up to the departure reached, where a budget is used up (status 12 or 6) or an operation passes (7).
+    """
+    network = _network(net)
+    words = ["--forever", *words_of_budgets(phases=phases, patterns=patterns)]
+    answer = ask("solve", words, {"network": network.text()}, timeout=timeout, statuses=(0, 6, 7, 12))
+    found = lines_of(answer.out)
+    reached = found.only("reached")[0]
+    kept = ("label ", "never ", "inflow ", "outflow ", "queue ", "state ")
+    body = [line for line in answer.out.splitlines() if line.startswith(kept)]
+    head = [f"report {network.version}", f"horizon {reached}", f"reached {reached}", "cause done"]
+    report = report_of([*head, *body, "end"], "the run of nfot", network)
+    if answer.status:
+        raise stop_of(answer.cause, report, status=answer.status)
+    return Forever(report, found.numbers["slope"], found.numbers["flow"])
+
+
+def settle(net: Net, flows: Union[PathLike, Mapping[str, Number]], slopes: Mapping[str, Number] = {}, *,
+           timeout: Optional[float] = None) -> Settled:
+    """The thin flow of given flows and slopes at departure 0 without flow round cycles, with the states of its links.
+
+    `flows` has the flow of each link that carries some and `slopes` the slope of each node, or `flows` is the name of a flows file.
+    Refused by S1 to S11, and with status 15 where they are no thin flow.
+    """
+    texts, named = {"network": _network(net).text()}, {}
+    if isinstance(flows, Mapping):
+        lines = [f"flow {link} {fitting(flow, 'flow')}" for link, flow in flows.items()]
+        lines += [f"slope {node} {fitting(slope, 'slope')}" for node, slope in slopes.items()]
+        texts["flows"] = "\n".join(["flows 1", *lines, "end", ""])
+    else:
+        named["flows"] = flows
+    found = lines_of(ask("settle", [], texts, named, timeout=timeout).out)
+    return Settled({link: state for link, state in found.words.get("state", [])}, found.numbers.get("flow", {}))
+
+
+def gen(number: int, rungs: int, horizon: Number, *, phases: Optional[int] = None, patterns: Optional[int] = None,
+        timeout: Optional[float] = None) -> Generated:
+    """The run of a ladder, a network that its number stands for, up to the horizon. Stopped where the horizon isn't reached."""
+    words = ["--number", str(number), "--rungs", str(rungs), "--horizon", str(_horizon(horizon))]
+    answer = ask("gen", words + words_of_budgets(phases=phases, patterns=patterns), {}, timeout=timeout)
+    found = lines_of(answer.out, ended=False)
+    nodes, links, made = (int(found.only(kind)[0]) for kind in ("nodes", "links", "phases"))
+    arrival, reached = Fraction(found.only("arrival")[0]), Fraction(found.only("reached")[0])
+    return Generated(number, rungs, nodes, links, made, reached, " ".join(found.only("cause")), arrival)
