@@ -10,3 +10,13 @@ from .faults import Fault, Killed, NotFound, OutOfRange, Refused, Stopped, Timeo
 from .networks import Link, Network, network_of, read_network, write_network
 from .program import program
 from .reports import Report, mismatch, read_pair, read_report, report_of, write_report
+
+from .comparing import Comparison, compare
+from .demand import Demand, demand_of_words, read_demand
+from .graphs import clean_names, from_networkx, to_networkx
+from .queues import Queue, longest_first, queues_of
+from .roads import Columns, Roads, read_roads
+from .rows import Rows, side_by_side, table
+from .tables import Made, Units, network_of_table
+
+__version__ = "1.0.0"
