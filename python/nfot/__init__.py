@@ -18,5 +18,12 @@ from .queues import Queue, longest_first, queues_of
 from .roads import Columns, Roads, read_roads
 from .rows import Rows, side_by_side, table
 from .tables import Made, Units, network_of_table
+from .evidence import Open, same, unsaid
+from .gaps import Gap, gap
+from .inputs import read_flows, read_loads, read_routes
+from .judging import report_of_flows, report_of_routes
+from .phases import Phase, phases
+from .theory import Broken, broken, candidate, thin
+from .vehicles import loads_of_vehicles, routes_of_vehicles
 
 __version__ = "1.0.0"
