@@ -73,7 +73,7 @@ def _horizon(horizon: Number) -> Fraction:
 
 def _reached(net: Network, answer: Answer, words: Sequence[str], timeout: Optional[float], go_on: bool) -> Report:
     """The report of a run, gone on past the pattern budget; Stopped where it doesn't reach the horizon."""
-    report = report_of(answer.out, "the report of nfot", net) if answer.out else None
+    report = report_of(answer.out, "the report of nfot", net) if answer.out or not answer.cause else None
     if report is not None and go_on and answer.status == 6:
         report = go_on_past(net, report, lambda files: ask("resume", words, files, timeout=timeout, statuses=(0, 5, 6, 7)))
     if report is None or report.cause != "done":
