@@ -1,14 +1,14 @@
 """Curves: piecewise linear functions of time, exact, with a known range."""
 from __future__ import annotations
 
-from bisect import bisect_right
+from bisect import bisect_left, bisect_right
 from fractions import Fraction
 from typing import Callable, Iterable, Iterator, List, Optional, Sequence, Tuple, Union
 
 from .faults import OutOfRange, Refused
+from .merging import Point, Row, clipped, composed, lesser, merged, on_line, tidied
 from .numbers import Number, Time, exact, short, time_of
 
-Point = Tuple[Fraction, Fraction]
 ZERO = Fraction(0)
 
 
@@ -98,7 +98,7 @@ class Curve:
         if at == len(self._points) or t == time:
             return v
         u, w = self._points[at]
-        return v + (w - v) * (time - t) / (u - t)
+        return on_line((t, v), (u, w), time)
 
     def slope(self, time: Time, side: str = "right") -> Fraction:
         """The slope right (or left) of a time; OutOfRange where nothing is known on that side."""
@@ -124,7 +124,7 @@ class Curve:
             while place + 1 < len(self._times) and self._times[place + 1] <= moment:
                 place += 1
             (t, v), (u, w) = self._points[place], self._points[min(place + 1, len(self._points) - 1)]
-            values.append(v if u == t else v + (w - v) * (moment - t) / (u - t))
+            values.append(v if u == t or v == w else on_line((t, v), (u, w), moment))
         return values
 
     def sample(self, every: Time, start: Optional[Time] = None, stop: Optional[Time] = None) -> List[Point]:
@@ -156,12 +156,7 @@ class Curve:
 
     def tidy(self) -> "Curve":
         """The same curve with the points at which it turns, and the first and last time known."""
-        kept: List[Point] = []
-        for point in self._ended():
-            while len(kept) > 1 and _straight(kept[-2], kept[-1], point):
-                kept.pop()
-            kept.append(point)
-        return Curve._made(kept, self._until)
+        return Curve._made(tidied(self._ended()), self._until)
 
     def cut(self, until: Time) -> "Curve":
         """The curve up to a time of its known range."""
@@ -181,22 +176,31 @@ class Curve:
         """The curve whose values are changed, each by the same linear function."""
         return Curve._made([(time, change(value)) for time, value in self._points], self._until)
 
-    def _merged(self, other: "Curve") -> List[Tuple[Fraction, Fraction, Fraction]]:
-        """The times of both curves in the range that both know, with both values."""
+    def _between(self, start: Fraction, end: Fraction) -> List[Point]:
+        """The points from one time to another one of the known range, with both."""
+        points = list(self._points[bisect_left(self._times, start):bisect_right(self._times, end)])
+        if not points or points[0][0] > start:
+            points.insert(0, (start, self._value(start)))
+        return points if points[-1][0] == end else [*points, (end, self._value(end))]
+
+    def _common(self, other: "Curve") -> Tuple[List[Point], List[Point]]:
+        """The points of both curves in the range that both know."""
         start, end = max(self.start, other.start), min(self._until, other._until)
         if start > end:
             raise OutOfRange(f"one curve is known until {short(end)}, the other one from {short(start)} on")
-        times = sorted({start, end, *self._times, *other._times})
-        times = [time for time in times if start <= time <= end]
-        return list(zip(times, self.at(times), other.at(times)))
+        return self._between(start, end), other._between(start, end)
+
+    def _merged(self, other: "Curve") -> List[Row]:
+        """The times of both curves in the range that both know, with both values."""
+        return list(merged(*self._common(other)))
 
     def _joined(self, other: Union["Curve", Number], join: Callable[[Fraction, Fraction], Fraction]) -> "Curve":
         """Both curves joined value by value, by a linear function."""
         if not isinstance(other, Curve):
             number = exact(other)
             return self._mapped(lambda value: join(value, number))
-        merged = self._merged(other)
-        return Curve._made([(time, join(here, there)) for time, here, there in merged], merged[-1][0])
+        rows = self._merged(other)
+        return Curve._made([(time, join(here, there)) for time, here, there in rows], rows[-1][0])
 
     def __add__(self, other: Union["Curve", Number]) -> "Curve":
         return self._joined(other, lambda here, there: here + there)
@@ -210,14 +214,8 @@ class Curve:
 
     def least(self, other: "Curve") -> "Curve":
         """The lesser of both curves at each time that both know."""
-        merged, points = self._merged(other), []
-        for (t, v, w), (u, x, y) in zip(merged, merged[1:]):
-            points.append((t, min(v, w)))
-            if (v - w) * (x - y) < 0:
-                share = (v - w) / (v - w - x + y)
-                points.append((t + (u - t) * share, v + (x - v) * share))
-        end, here, there = merged[-1]
-        return Curve._made(points + [(end, min(here, there))], end)
+        points = list(lesser(*self._common(other)))
+        return Curve._made(points, points[-1][0])
 
     def then(self, outer: "Curve") -> "Curve":
         """The curve that has outer(self(t)) at t, where self(t) is known of outer; this curve never falls."""
@@ -225,9 +223,11 @@ class Curve:
         if inner[-1][1] < outer.start or inner[0][1] > reach:
             known = f"{short(outer.start)} to {short(reach)}"
             raise OutOfRange(f"values {short(inner[0][1])} to {short(inner[-1][1])} are outside of what is known: {known}")
-        points = [point for point in _crossed(inner, sorted({*outer._times, reach})) if outer.start <= point[1] <= reach]
-        values = outer.at(value for _, value in points)
-        return Curve._made([(time, value) for (time, _), value in zip(points, values)], points[-1][0])
+        falls = [t for (t, v), (_, w) in zip(inner, inner[1:]) if w < v]
+        if falls:
+            raise Refused(f"the curve falls after time {short(falls[0])}: only one that never falls is put into another one")
+        points = list(composed(clipped(inner, outer.start, reach), outer._ended()))
+        return Curve._made(points, points[-1][0])
 
     # ---- numbers of a curve
 
@@ -250,22 +250,3 @@ class Curve:
     def differences(self, other: "Curve") -> List[Tuple[Fraction, Fraction, Fraction]]:
         """The corners of both curves at which they differ, as (time, value here, value there), in the range that both know."""
         return [(time, here, there) for time, here, there in self._merged(other) if here != there]
-
-
-def _straight(a: Point, b: Point, c: Point) -> bool:
-    """Whether b lies on the line from a to c."""
-    return (b[1] - a[1]) * (c[0] - a[0]) == (c[1] - a[1]) * (b[0] - a[0])
-
-
-def _crossed(points: Sequence[Point], values: Sequence[Fraction]) -> Iterator[Point]:
-    """The points of a curve that never falls, and those at which it has one of the rising values; Refused where it falls."""
-    place = 0
-    for (t, v), (u, w) in zip(points, points[1:]):
-        if w < v:
-            raise Refused(f"the curve falls after time {short(t)}: only one that never falls is put into another one")
-        yield t, v
-        place = bisect_right(values, v, place)
-        while place < len(values) and values[place] < w:
-            yield t + (values[place] - v) * (u - t) / (w - v), values[place]
-            place += 1
-    yield points[-1]

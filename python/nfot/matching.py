@@ -2,7 +2,7 @@
 from __future__ import annotations
 
 from fractions import Fraction
-from typing import Optional, Tuple
+from typing import Iterator, Optional, Tuple
 
 from .faults import UNFIT, Refused
 from .drafts import Link
@@ -16,20 +16,33 @@ from .report_values import Report
 
 def mismatch(net: Network, report: Report) -> Optional[str]:
     """What speaks against the report being one of the network, in words; None where nothing does. (`check` looks at all of it.)"""
+    return next(mismatches(net, report), None)
+
+
+def mismatches(net: Network, report: Report) -> Iterator[str]:
+    """All that speaks against the report being one of the network: first the names, and where these are the same, the numbers."""
     names = [link.name for link in net.used_links()]
+    strange = False
     for wanted, curves, what in (net.nodes(), report.labels, "label"), (names, report.inflows, "inflow"):
         for name in [name for name in wanted if name not in curves] + [name for name in curves if name not in wanted]:
-            return f"it has {'a' if name in curves else 'no'} line `{what} {name}`"
+            strange = True
+            yield f"it has {'a' if name in curves else 'no'} line `{what} {name}`"
+    for name in names:
+        for curves, what in (report.outflows, "outflow"), (report.queues, "queue"):
+            if name not in curves:
+                strange = True
+                yield f"it has no line `{what} {name}`"
+    if not strange:
+        yield from _number_faults(net, report)
+
+
+def _number_faults(net: Network, report: Report) -> Iterator[str]:
+    """What is wrong with the numbers of a report that has the names of the network."""
     for node, first in least_sums(net.source, net.used_links()).items():
         if report.label(node)(0) != first:
-            return f"its driver on empty roads reaches {node} at {short(report.label(node)(0))}, and the transit times sum to {short(first)}"
-    for link in net.used_links():
-        if link.name not in report.outflows or link.name not in report.queues:
-            return f"it has no line `{'queue' if link.name in report.outflows else 'outflow'} {link.name}`"
-        fault = _rate_fault(link, report)
-        if fault:
-            return fault
-    return _supply_fault(net, report)
+            yield f"its driver on empty roads reaches {node} at {short(report.label(node)(0))}, and the transit times sum to {short(first)}"
+    faults = [_rate_fault(link, report) for link in net.used_links()] + [_supply_fault(net, report)]
+    yield from (fault for fault in faults if fault)
 
 
 def _supply_fault(net: Network, report: Report) -> Optional[str]:

@@ -28,6 +28,8 @@ def exact(value: object) -> Fraction:
 
     A float is refused, since it is mostly a rounded number. So is anything else that is no number.
     """
+    if type(value) is Fraction:
+        return value
     if isinstance(value, numbers.Rational):
         return Fraction(int(value.numerator), int(value.denominator))
     if isinstance(value, numbers.Real) and not isinstance(value, Decimal):

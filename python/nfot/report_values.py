@@ -23,6 +23,8 @@ def curve_of(points: Points, what: str, until: Optional[Fraction] = None, begins
     With `begins` the point (0, 0) is added where it is missing. Refused where it is no curve of a report; `what` names it.
     """
     try:
+        if isinstance(points, Curve) and points.start == 0 and all(within(time) and within(value) for time, value in points.points):
+            return Curve._made(points.points, max(points.until, until or ZERO))
         pairs = points.points if isinstance(points, Curve) else points
         made = [(fitting(time, "time"), fitting(value, "value")) for time, value in pairs]
         kept = [point for at, point in enumerate(made) if at == 0 or point != made[at - 1]]
