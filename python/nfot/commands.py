@@ -59,7 +59,9 @@ def resume(net: Net, report: Run, horizon: Number, *, phases: Optional[int] = No
     network = _network(net)
     words = ["--horizon", str(_horizon(horizon)), *words_of_budgets(phases=phases, patterns=patterns)]
     files = {"network": network.text(), "report": _report(network, report).text()}
-    answer = ask("resume", words, files, timeout=timeout, statuses=(0, 5, 6, 7))
+    answer = ask("resume", words, files, timeout=timeout, statuses=(0, 5, 6, 7, 10))
+    if answer.status == 10:
+        raise Refused(f"the report is no equilibrium: {_verdict(answer.out).why}", status=10)
     return _reached(network, answer, words, timeout, go_on)
 
 
@@ -88,12 +90,16 @@ def check(net: Net, report: Run, *, timeout: Optional[float] = None) -> Verdict:
     """
     network = _network(net)
     files = {"network": network.text(), "report": _report(network, report).text()}
-    answer = ask("check", [], files, timeout=timeout, statuses=(0, 10))
-    words = answer.out.split()
+    return _verdict(ask("check", [], files, timeout=timeout, statuses=(0, 10)).out)
+
+
+def _verdict(text: str) -> Verdict:
+    """The answer that a line `yes` or `no RULE SUBJECT TIME LEFT RIGHT` gives."""
+    words = text.split()
     if words == ["yes"]:
         return Verdict(True)
     if words[:1] != ["no"] or len(words) != 6:
-        raise Fault(f"nfot check answered neither yes nor no: {answer.out[:80]!r}", status=1)
+        raise Fault(f"nfot answered neither yes nor no: {text[:80]!r}", status=1)
     _, rule, subject, time, left, right = words
     why = f"{rule} doesn't hold for {subject} at {time}: the report has {left}, and {right} is right ({meaning(rule)})"
     return Verdict(False, rule, subject, Fraction(time), Fraction(left), Fraction(right), why)
