@@ -85,14 +85,9 @@ def check_whole(net: Network, flows: Mapping[str, FedLink], report: Report) -> N
         into, out = rates_of(come[node]), rates_of(gone[node])
         if node != net.sink and into != out:
             time = min(start for start, _ in set(into) ^ set(out))
-            amounts = [sum(curve(min(curve.until, flows_end(flows))) for curve in part[node]) for part in (come, gone)]
-            raise Fault(f"from time {short(time)} on, another flow comes to {node} than leaves it ({short(amounts[0])} and {short(amounts[1])} in "
-                        f"all): give what those who leave by {short(report.reached)} do until they arrive, and nothing of others", status=UNFIT)
-
-
-def flows_end(flows: Mapping[str, FedLink]) -> Fraction:
-    """The time at which the last flow leaves its link."""
-    return max(flow.leaves(flow.rows[-1]) for flow in flows.values())
+            amounts = [sum((curve.points[-1][1] for curve in part[node]), ZERO) for part in (come, gone)]
+            where = f"{short(amounts[0])} come to {node} in all and {short(amounts[1])} leave it, at other rates from time {short(time)} on"
+            raise Fault(f"{where}: a gap needs the whole way of those who leave by {short(report.reached)}, and nothing of others", status=UNFIT)
 
 
 def departures(net: Network, label: Curve, reached: Fraction) -> List[Tuple[Row, Row]]:

@@ -3,10 +3,10 @@ from __future__ import annotations
 
 from fractions import Fraction
 from graphlib import CycleError, TopologicalSorter
-from typing import Dict, Iterable, List, Mapping, Sequence, Tuple
+from typing import Dict, Iterable, List, Mapping, Optional, Sequence, Tuple
 
 from .curves import Curve
-from .faults import OutOfRange, Refused
+from .faults import BROKEN, OutOfRange, Refused
 from .loading import FedLink, Piece, pieces_of_changes
 from .merging import Point, merged, tidied
 from .networks import Network
@@ -31,15 +31,22 @@ def loaded_routes(net: Network, routes: Mapping[str, Route], horizon: Fraction) 
 
 def check_route(net: Network, name: str, links: Sequence[str]) -> None:
     """Refuses what is no walk from source to sink."""
+    unknown = [link for link in links if link not in net.links]
+    if unknown:
+        raise OutOfRange(f"route {name}: the network has no link {unknown[0]}")
+    why = walk_fault(net, links)
+    if why:
+        raise Refused(f"route {name} {why}", status=BROKEN, rule="G12")
+
+
+def walk_fault(net: Network, links: Sequence[str]) -> Optional[str]:
+    """Why links are no walk from source to sink; None where they are one."""
     at = net.source
     for link in links:
-        if link not in net.links:
-            raise OutOfRange(f"route {name}: the network has no link {link}")
         if net.links[link].tail != at:
-            raise Refused(f"route {name}: the link {link} begins at {net.links[link].tail}, and the route is at {at} there")
+            return f"takes {link} at {at}, and that link begins at {net.links[link].tail}"
         at = net.links[link].head
-    if at != net.sink or not links:
-        raise Refused(f"route {name} ends at {at}, not at the sink {net.sink}")
+    return None if at == net.sink else f"ends at {at}, not at the sink {net.sink}"
 
 
 def in_order(routes: Iterable[Sequence[str]]) -> List[str]:
@@ -52,7 +59,7 @@ def in_order(routes: Iterable[Sequence[str]]) -> List[str]:
         return list(TopologicalSorter(before).static_order())
     except CycleError as fault:
         cycle = " ".join(fault.args[1])
-        raise Refused(f"links of routes follow each other round a cycle: {cycle}", rule="G17") from None
+        raise Refused(f"links of routes follow each other round a cycle: {cycle}", status=BROKEN, rule="G17") from None
 
 
 def rates_of(amounts: Iterable[Curve]) -> List[Piece]:
