@@ -7,45 +7,43 @@ import sys
 import tempfile
 import unittest
 import zipfile
-from typing import Tuple
-
 import nfot
 
 from .cases import EXAMPLES, ROOT, Case, independent
 
 
-def installed(folder: pathlib.Path, *options: str) -> Tuple[pathlib.Path, subprocess.CompletedProcess[str]]:
-    """A virtual environment with the package, and what pip said."""
-    subprocess.run([sys.executable, "-m", "venv", str(folder)], check=True, stdout=subprocess.PIPE, stderr=subprocess.PIPE)
-    python = folder / ("Scripts" if os.name == "nt" else "bin") / "python"
-    done = subprocess.run([str(python), "-m", "pip", "install", "--no-index", *options, str(ROOT)], stdout=subprocess.PIPE, stderr=subprocess.STDOUT,
-                          text=True, cwd=folder)
-    return python, done
+def words_of(done: "subprocess.CompletedProcess[str]") -> str:
+    """What a process wrote, for messages."""
+    return f"{done.stdout}{done.stderr or ''}"
 
 
 @unittest.skipUnless(importlib.util.find_spec("venv") and importlib.util.find_spec("ensurepip"), "the module venv isn't here: python3-venv has it")
 class Installed(Case):
+    def setUp(self) -> None:
+        self.place = self.folder()
+        subprocess.run([sys.executable, "-m", "venv", str(self.place / "venv")], check=True, stdout=subprocess.PIPE, stderr=subprocess.PIPE)
+        self.bin = self.place / "venv" / ("Scripts" if os.name == "nt" else "bin")
+
+    def run_there(self, *words: str) -> "subprocess.CompletedProcess[str]":
+        """Runs a command of the environment, outside the checkout and without the program."""
+        environment = {"PATH": str(self.place), "HOME": str(self.place)}
+        return subprocess.run([str(self.bin / words[0]), *words[1:]], cwd=self.place, env=environment, stdout=subprocess.PIPE,
+                              stderr=subprocess.PIPE, text=True)
+
     def test_an_installed_copy_works_without_the_program(self) -> None:
-        folder = self.folder()
-        python, pip = installed(folder / "venv", "--no-build-isolation")
-        self.assertEqual(pip.returncode, 0, pip.stdout)
-        environment = {"PATH": str(folder), "HOME": str(folder)}
+        """The scripts of the examples worked in their own folder alone."""
+        for options in (["--no-build-isolation"], ["--force-reinstall"]):
+            pip = self.run_there("python", "-m", "pip", "install", "--no-index", *options, str(ROOT))
+            self.assertEqual(pip.returncode, 0, words_of(pip))
         script = ("import nfot, sys\nnet = nfot.read_network(sys.argv[1])\nrun = nfot.solve(net, 2)\nprint(run.text(), end='')\n"
                   "print(nfot.check(net, run), nfot.program().proved, nfot.__version__)")
-        done = subprocess.run([str(python), "-c", script, str(EXAMPLES / "one.net")], cwd=folder, env=environment, stdout=subprocess.PIPE,
-                              stderr=subprocess.PIPE, text=True)
+        done = self.run_there("python", "-c", script, str(EXAMPLES / "one.net"))
         status, report, _ = independent("app").run(["solve", str(EXAMPLES / "one.net"), "--horizon", "2"])
         self.assertEqual((done.stdout, status), (f"{report.decode()}yes False {nfot.__version__}\n", 0))
         self.assertEqual(done.stderr, "nfot: no proved program found; using the slow one\n")
-        command = python.parent / "nfot-py"
         if (ROOT / "python/nfot/__main__.py").exists():
-            done = subprocess.run([str(command), "solve", str(EXAMPLES / "one.net"), "--horizon", "2"], cwd=folder, env=environment,
-                                  stdout=subprocess.PIPE, stderr=subprocess.PIPE, text=True)
-            self.assertEqual((done.returncode, done.stdout.encode()), (0, report))
-
-    def test_pip_alone_is_enough(self) -> None:
-        _, pip = installed(self.folder() / "venv")
-        self.assertEqual(pip.returncode, 0, pip.stdout)
+            done = self.run_there("nfot-py", "solve", str(EXAMPLES / "one.net"), "--horizon", "2")
+            self.assertEqual((done.returncode, done.stdout.encode()), (0, report), words_of(done))
 
 
 class Built(Case):
