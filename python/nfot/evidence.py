@@ -69,4 +69,4 @@ def _unsaid_of(course: Course, link: Link) -> Iterator[Open]:
         rate = max((slope for _, _, _, slope in inflow.pieces()), default=Fraction(0))
         yield Open("capacity", link.name, rate or None, f"no queue until {short(last)}")
     if slack < 0:
-        yield Open("transit", link.name, link.transit + slack, "never on a quickest route")
+        yield Open("transit", link.name, max(link.transit + slack, Fraction(0)) or None, "never on a quickest route")

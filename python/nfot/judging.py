@@ -44,10 +44,11 @@ def report_of_flows(net: Network, loads: Loads, reached: Number) -> Report:
     `reached`. All curves go on until no rate changes any more. `check` says whether the flow is an equilibrium, `gap` how far it is
     from one. Refused where a number is no number or negative, OutOfRange where a link isn't there.
 
-    >>> two = Network("s", "t", [Link("a", "s", "t", 1, 1), Link("b", "s", "t", 3, 1)], [(0, 3)])
-    >>> report = report_of_flows(two, {"a": [(0, 3), (1, "3/2")], "b": [(1, "3/2")]}, 4)
-    >>> print(report.arrival(4))
-    17/2
+    >>> import nfot
+    >>> two = nfot.Network("s", "t", [nfot.Link("a", "s", "t", 1, 1), nfot.Link("b", "s", "t", 3, 1)], [(0, 3)])
+    >>> report = nfot.report_of_flows(two, {"a": [(0, 3), (1, "3/2")], "b": [(1, "3/2")]}, 4)
+    >>> print(report.arrival(4), report.queue("a")(4))
+    17/2 7/2
     """
     return report_of_loaded(net, loaded_links(net, loads), exact(reached))
 

@@ -6,11 +6,13 @@ from fractions import Fraction
 from typing import Dict, List, Mapping, Optional, Tuple
 
 import nfot
+from nfot.program import program
 
 from .cases import EXAMPLES, Case, example, pairs, random_network
 
 Pieces = List[Tuple[Fraction, Fraction]]
 Routes = Dict[str, Tuple[List[str], Pieces]]
+COUNT = 20 if program().proved else 4
 SPLIT = {"a": [(0, 3), (1, "3/2"), (4, 0)], "b": [(1, "3/2"), (4, 0)]}  # the equilibrium of two.net, for those who leave by 4
 LATE = {"a": [(0, 3), (2, "3/2"), (4, 0)], "b": [(2, "3/2"), (4, 0)]}  # drivers look every two minutes
 
@@ -65,7 +67,7 @@ class Links(Case):
 
     def test_queues_outflows_and_exits_are_those_of_load(self) -> None:
         rng = random.Random(21)
-        for _ in range(30):
+        for _ in range(COUNT):
             net = random_network(rng)
             loads = {link.name: random_pieces(rng, 5) for link in net.used_links()}
             found, horizon = nfot.report_of_flows(net, loads, 6), Fraction(rng.randint(16, 40))
@@ -82,7 +84,7 @@ class Links(Case):
         """So `check` answers by conservation alone: C6 or C7."""
         rng = random.Random(22)
         rules = set()
-        for _ in range(30):
+        for _ in range(COUNT):
             net = random_network(rng)
             verdict = nfot.check(net, nfot.report_of_flows(net, {link.name: random_pieces(rng, 3) for link in net.used_links()}, 5))
             rules.add(verdict.rule)
@@ -90,7 +92,7 @@ class Links(Case):
 
     def test_an_equilibrium_comes_back(self) -> None:
         rng = random.Random(23)
-        for _ in range(25):
+        for _ in range(COUNT):
             net = random_network(rng)
             run = nfot.solve(net, rng.choice([3, 9]))
             report = nfot.report_of_flows(net, {link.name: slopes_of(run, link.name) for link in net.used_links()}, run.reached)
@@ -132,7 +134,7 @@ class Along(Case):
     def test_routes_are_those_of_the_program(self) -> None:
         rng = random.Random(31)
         seen = 0
-        while seen < 30:
+        while seen < COUNT:
             net = random_network(rng)
             routes = random_routes(rng, net, 4)
             if not routes:
@@ -152,7 +154,7 @@ class Along(Case):
     def test_single_routes_have_the_gap_of_their_travel_times(self) -> None:
         """With the routes' rates as supply: what is spent is what `routes` says of each departure; the greatest loss is not below that of any route."""
         rng, positive = random.Random(32), 0
-        for _ in range(60):
+        for _ in range(2 * COUNT):
             net = random_network(rng)
             routes = random_routes(rng, net, 2)
             if not routes:
@@ -166,7 +168,7 @@ class Along(Case):
             self.assertEqual((found.gap == 0, found.worst.time == 0, found.worst.departure is None), (bool(verdict),) * 3)
             self.assertEqual(found.gap, found.spent - found.best)
             positive += found.gap > 0
-        self.assertGreater(positive, 10)
+        self.assertGreater(positive, COUNT // 3)
 
     def supply_of(self, routes: Routes) -> Pieces:
         """The rates of all routes together."""
@@ -225,7 +227,7 @@ class Gaps(Case):
     def test_zero_for_solved_runs_and_positive_for_those_of_smaller_networks(self) -> None:
         """The equilibrium of a network without some links, judged in the whole one: no gap exactly where `check` says yes."""
         rng, told = random.Random(41), []
-        while len(told) < 25:
+        while len(told) < COUNT:
             net = random_network(rng)
             run = nfot.solve(net, 6)
             self.assertEqual(nfot.gap(net, run).gap, 0)

@@ -7,11 +7,13 @@ from typing import Dict, List
 
 import nfot
 from nfot.phases import Phase
+from nfot.program import program
 from nfot.theory import all_broken
 
 from .cases import Case, example, random_network
 
 HALF = Fraction(1, 2)
+COUNT = 20 if program().proved else 4
 
 
 def meets_definition(net: nfot.Network, phase: Phase) -> bool:
@@ -53,7 +55,7 @@ def solved(seed: int, count: int) -> List[nfot.Report]:
 
 class Random(Case):
     def test_each_phase_meets_the_definition(self) -> None:
-        for run in solved(11, 40):
+        for run in solved(11, 2 * COUNT):
             net = run.network
             assert net is not None
             found = nfot.phases(net, run)
@@ -85,7 +87,7 @@ class Random(Case):
 
     def test_as_many_phases_as_the_program_makes(self) -> None:
         """A run of as many phases reaches the horizon, and with one less it ends where the last phase begins."""
-        for run in solved(12, 25):
+        for run in solved(12, COUNT):
             net = run.network
             assert net is not None
             rates = [Fraction(0)] + [rate for _, rate in net.supply]
@@ -100,7 +102,7 @@ class Random(Case):
                 self.assertEqual(caught.exception.report.reached, found[-1].start)
 
     def test_neighbours_differ(self) -> None:
-        for run in solved(13, 20):
+        for run in solved(13, COUNT):
             assert run.network is not None
             found = nfot.phases(run.network, run)
             for before, after in zip(found, found[1:]):
@@ -109,7 +111,7 @@ class Random(Case):
     def test_broken_exactly_where_the_definition_fails(self) -> None:
         rng = random.Random(14)
         broken = 0
-        for run in solved(14, 25):
+        for run in solved(14, COUNT):
             net = run.network
             assert net is not None
             for phase in nfot.phases(net, run):
@@ -117,7 +119,7 @@ class Random(Case):
                     changed = self.changed(rng, phase)
                     self.assertEqual(nfot.broken(net, changed) is None, meets_definition(net, changed), changed)
                     broken += not meets_definition(net, changed)
-        self.assertGreater(broken, 100)
+        self.assertGreater(broken, 4 * COUNT)
 
     def changed(self, rng: random.Random, phase: Phase) -> Phase:
         """The phase with some flows or slopes changed; often along a whole route, so that all is kept but one condition."""
@@ -131,7 +133,7 @@ class Random(Case):
         """`settle` answers whether flows and slopes are a thin flow at departure 0."""
         rng = random.Random(15)
         answers = set()
-        for run in solved(15, 25):
+        for run in solved(15, COUNT):
             net = run.network
             assert net is not None
             phase = self.changed(rng, nfot.thin(net, run, 0)) if rng.random() < 0.6 else nfot.thin(net, run, 0)
@@ -149,7 +151,7 @@ class Random(Case):
 
     def test_a_later_departure_of_a_phase_has_its_thin_flow(self) -> None:
         """The flows and slopes of a phase are also a thin flow for the sets within it."""
-        for run in solved(16, 15):
+        for run in solved(16, COUNT):
             assert run.network is not None
             for phase in nfot.phases(run.network, run):
                 found = nfot.thin(run.network, run, (phase.start + phase.end) / 2)

@@ -21,7 +21,7 @@ def add_arguments(parser: argparse.ArgumentParser) -> None:
     parser.add_argument("net", metavar="NET", help="the network file")
     parser.add_argument("flows", metavar="FLOWS", help="the loads file or the routes file (`-`: standard input)")
     parser.add_argument("reached", metavar="REACHED", type=natural, help="the last departure that is judged; routes are sent until then")
-    parser.add_argument("--out", metavar="PATH", default="-", help="write the report to this file")
+    parser.add_argument("--out", metavar="PATH", help="write the report to this file, not to standard output")
 
 
 def main(arguments: argparse.Namespace) -> int:
@@ -32,5 +32,8 @@ def main(arguments: argparse.Namespace) -> int:
         report = report_of_routes(network, routes, arguments.reached)
     else:
         report = report_of_flows(network, loads, arguments.reached)
-    write_report(report, arguments.out)
+    if arguments.out is None:
+        print(report.text(), end="")
+    else:
+        write_report(report, arguments.out)
     return 0
