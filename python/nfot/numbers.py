@@ -5,6 +5,7 @@ import numbers
 import re
 from decimal import Decimal
 from fractions import Fraction
+from math import gcd
 from typing import Optional, Union
 
 from .faults import Refused
@@ -14,6 +15,7 @@ Time = Union[int, float, Fraction, Decimal, str]  # what the calls of a curve ta
 
 BOUND = 2 ** 127 - 1  # the greatest numerator and denominator of a number in a file
 LONGEST_WORD = 400  # characters; longer words are no numbers
+LONGEST_PRINTED = 80  # characters of a printed number within the bound: two times 39 digits, a minus and a slash
 
 _DECIMAL = re.compile(r"[+-]?(?:\d+(?:\.\d*)?|\.\d+)(?:[eE][+-]?\d{1,3})?", re.ASCII)
 _FRACTION = re.compile(r"[+-]?\d+/0*[1-9]\d*", re.ASCII)
@@ -73,10 +75,13 @@ def within(number: Fraction) -> bool:
 
 def printed(word: str) -> Optional[Fraction]:
     """The number of which the word is the printed form (lowest terms, no slash before a 1); None for another word."""
-    if not _PRINTED.fullmatch(word) or len(word) > 80:
+    if not _PRINTED.fullmatch(word) or len(word) > LONGEST_PRINTED:
         return None
-    number = Fraction(word)
-    return number if str(number) == word and within(number) else None
+    above, slash, below = word.partition("/")
+    numerator, denominator = int(above), int(below) if slash else 1
+    if abs(numerator) > BOUND or denominator > BOUND or (slash and (denominator == 1 or gcd(numerator, denominator) > 1)):
+        return None
+    return Fraction(numerator, denominator) if slash else Fraction(numerator)
 
 
 def file_number(word: str, decimals: bool) -> Optional[Fraction]:

@@ -4,10 +4,11 @@ from __future__ import annotations
 import os
 import pathlib
 import shutil
-import signal
+import signal as signals
 import subprocess
 import sys
 import tempfile
+import time
 from contextlib import contextmanager
 from dataclasses import dataclass
 from typing import IO, Dict, Iterator, Mapping, Optional, Sequence, Tuple, Union
@@ -73,25 +74,48 @@ def run(words: Sequence[str], *, timeout: Optional[float] = None, input: Optiona
     Standard input is `input`, or that of this process. Raises NotFound without a program, Timeout, and Killed where a signal ended
     the program. Any status is returned as it is.
     """
-    used = program()
+    used, name = program(), " ".join(["nfot", *words[:1]])
     try:
-        done = subprocess.run([*used.words, *words], stdout=stdout or subprocess.PIPE, stderr=subprocess.PIPE, input=input,
-                              timeout=timeout)
-    except subprocess.TimeoutExpired:
-        raise Timeout(f"nfot {words[0] if words else ''} took more than {timeout:g} seconds and was ended") from None
+        process = subprocess.Popen([*used.words, *words], stdin=None if input is None else subprocess.PIPE, stdout=stdout or subprocess.PIPE,
+                                   stderr=subprocess.PIPE)
     except (OSError, ValueError) as fault:
         why = fault.strerror if isinstance(fault, OSError) else str(fault)
         raise NotFound(f"{used.place} can't be run: {why}", status=NO_PROGRAM) from None
-    if done.returncode < 0:
-        name = signal_name(-done.returncode)
-        raise Killed(f"nfot {words[0] if words else ''} was ended by the signal {name}", signal=name, status=128 - done.returncode)
-    return Done(done.returncode, (done.stdout or b"").decode("utf-8", "replace"), done.stderr.decode("utf-8", "replace"))
+    with process, progress(name) as show:
+        try:
+            out, err = _output(process, input, timeout, show if stdout is None else None)
+        except BaseException as fault:
+            process.kill()
+            if isinstance(fault, subprocess.TimeoutExpired):
+                raise Timeout(f"{name} took more than {timeout:g} seconds and was ended") from None
+            raise
+    if process.returncode < 0:
+        signal = signal_name(-process.returncode)
+        raise Killed(f"{name} was ended by the signal {signal}", signal=signal, status=128 - process.returncode)
+    return Done(process.returncode, (out or b"").decode("utf-8", "replace"), err.decode("utf-8", "replace"))
+
+
+def _output(process: "subprocess.Popen[bytes]", input: Optional[bytes], timeout: Optional[float],
+            show: Optional["Progress"]) -> Tuple[Optional[bytes], bytes]:
+    """Both outputs of a process; on a terminal the seconds are shown that it has taken."""
+    begun = time.monotonic()
+    while True:
+        spent = time.monotonic() - begun
+        left = None if timeout is None else max(timeout - spent, 0)
+        if show is None or not show.on:
+            return process.communicate(input, left)
+        try:
+            return process.communicate(input, 1 if left is None else min(left, 1))
+        except subprocess.TimeoutExpired:
+            if left is not None and left <= 1:
+                raise
+            show(f"{spent + 1:.0f} s")
 
 
 def signal_name(number: int) -> str:
     """The name of a signal, as SIGKILL."""
     try:
-        return signal.Signals(number).name
+        return signals.Signals(number).name
     except ValueError:
         return f"signal {number}"
 

@@ -162,6 +162,18 @@ class PastTheBudget(Case):
             self.assertEqual((run.reached, run.cause), (horizon, "done"))
             self.assertTrue(nfot.check(net, run))
 
+    def test_a_grid_of_equal_streets(self) -> None:
+        """Of the guide: the way of 12 streets takes 24; two streets of 30 lead out, so 20 times 30 too many wait 10 by 40."""
+        side = 7 if nfot.program().proved else 4
+        ends = [((i, j), other) for i in range(side) for j in range(side) for other in ((i + 1, j), (i, j + 1)) if max(other) < side]
+        ways = [(f"{i}_{j}", f"{k}_{m}") for one, other in ends for (i, j), (k, m) in ((one, other), (other, one))]
+        links = [nfot.Link(f"{tail}-{head}", tail, head, 2, 30) for tail, head in ways]
+        net = nfot.Network("0_0", f"{side - 1}_{side - 1}", links, [(0, 30), (20, 90), (40, 20), (60, 0)])
+        self.faulted(nfot.Stopped, "cause patterns 2 9", nfot.solve, net, 90, patterns=9, go_on=False)
+        run = nfot.solve(net, 90, patterns=9)
+        self.assertEqual([run.travel_time(time) - 4 * (side - 1) for time in (0, 20, 40, 60)], [0, 0, 10, 0])
+        self.assertTrue(nfot.check(net, run))
+
     def test_resume_goes_on_too(self) -> None:
         net = example("braess")
         run = nfot.resume(net, nfot.solve(net, 0), 20, patterns=1)

@@ -94,6 +94,10 @@ class Files(Case):
         path.write_text("nfot 1\nsource s\nsink t\nlink a s t 1 1,5\nend\n")
         fault = self.faulted(nfot.Refused, "line 4: N8: 1,5 is no number: write it as 5/2", nfot.read_network, path)
         self.assertEqual((fault.file, fault.line, fault.rule, fault.status), (str(path), 4, "N8", 4))
+        for wrong, wanted in (("Link a s t 1 1", "line 4: N5: Link begins no line of a network file: source, sink, link, inflow, end do"),
+                              ("link a s t 1", "line 4: N6: the line has 5 words, and a line `link` has 6"), ("sink u", "line 4: N9: there are two")):
+            path.write_text(f"nfot 1\nsource s\nsink t\n{wrong}\nend\n")
+            self.faulted(nfot.Refused, wanted, nfot.read_network, path)
         self.faulted(nfot.NotFound, "nowhere.net: there is no file of this name", nfot.read_network, "nowhere.net")
         self.faulted(nfot.Fault, "directory", nfot.read_network, path.parent)
         path.write_bytes(b"#" * 1048577)
