@@ -167,7 +167,8 @@ class Question:
 
     def answer(self) -> Optional[States]:
         """A listed pattern whose solution meets all inequalities; None where none is found."""
-        states, slopes, seen = self.first_states(), {}, set()  # type: States, Slopes, Set[Tuple[str, ...]]
+        states, slopes = self.first_states(), {}  # type: States, Slopes
+        seen: Set[Tuple[str, ...]] = set()
         for step in range(1, MOST_STEPS + 1):
             self.make_listed(states, slopes)
             slopes = self.slopes_of(states)
@@ -177,11 +178,15 @@ class Question:
             if tuple(states.values()) in seen:  # the search goes in a circle: one repair alone, another one each time
                 repairs = [repairs[step % len(repairs)]]
             seen.add(tuple(states.values()))
-            for name, state in sorted(repairs, key=lambda repair: repair[1] == TIGHT):
-                old, states[name] = states[name], state
-                if state == TIGHT and self.components(states)[1]:
-                    states[name] = old
+            self.repair(states, repairs)
         return None
+
+    def repair(self, states: States, repairs: List[Tuple[str, str]]) -> None:
+        """Changes the states of links, but for Tight ones that would close a cycle with those before."""
+        for name, state in sorted(repairs, key=lambda repair: repair[1] == TIGHT):
+            before, states[name] = states[name], state
+            if state == TIGHT and self.components(states)[1]:
+                states[name] = before
 
 
 def _solution(rows: Rows, right: Slopes) -> Slopes:
@@ -189,17 +194,22 @@ def _solution(rows: Rows, right: Slopes) -> Slopes:
     order = list(rows)
     for at, name in enumerate(order):
         for other in order[at + 1:]:
-            factor = rows[other].pop(name, Fraction(0)) / rows[name][name]
-            if factor:
-                right[other] -= factor * right[name]
-                for column, amount in rows[name].items():
-                    if column != name:
-                        rows[other][column] = rows[other].get(column, Fraction(0)) - factor * amount
+            _eliminate(rows, right, name, other)
     found: Slopes = {}
     for name in reversed(order):
         known = sum((amount * found[column] for column, amount in rows[name].items() if column != name), Fraction(0))
         found[name] = (right[name] - known) / rows[name][name]
     return found
+
+
+def _eliminate(rows: Rows, right: Slopes, name: str, other: str) -> None:
+    """Takes an unknown out of another row by its own one."""
+    factor = rows[other].pop(name, Fraction(0)) / rows[name][name]
+    if factor:
+        right[other] -= factor * right[name]
+        for column, amount in rows[name].items():
+            if column != name:
+                rows[other][column] = rows[other].get(column, Fraction(0)) - factor * amount
 
 
 def hinted(net: Network, report: Report) -> Optional[Report]:

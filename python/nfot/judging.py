@@ -75,4 +75,4 @@ def report_of_loaded(net: Network, loaded: Mapping[str, FedLink], reached: Fract
     for name, passage in loaded.items():
         for kind, curve in zip(curves, (passage.inflow(until), passage.outflow(until), passage.queue(until))):
             kind[name] = curve
-    return Report(reached, reached, labels, *curves, network=net)
+    return Report(reached, reached, labels, curves[0], curves[1], curves[2], network=net)

@@ -150,8 +150,7 @@ def write_beside(path: PathLike, text: str) -> None:
     data = text.encode("utf-8")
     try:
         if name == "-":
-            sys.stdout.flush()
-            _write_all(1, data)
+            _write_out(text, data)
         elif os.path.exists(name) and not os.path.isfile(name):
             _write_open(name, os.O_WRONLY, data)
         else:
@@ -159,6 +158,17 @@ def write_beside(path: PathLike, text: str) -> None:
     except OSError as fault:
         shown = "standard output" if name == "-" else name
         raise Fault(f"it can't be written: {fault.strerror}", status=9, file=shown) from None
+
+
+def _write_out(text: str, data: bytes) -> None:
+    """Writes to standard output; to its file directly, so that nothing stays in a buffer where that fails."""
+    sys.stdout.flush()
+    try:
+        descriptor = sys.stdout.fileno()
+    except (AttributeError, OSError, ValueError):  # it is no file, as in tests
+        sys.stdout.write(text)
+    else:
+        _write_all(descriptor, data)
 
 
 def _write_all(descriptor: int, data: bytes) -> None:

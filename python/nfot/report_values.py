@@ -204,7 +204,7 @@ def _known_names(net: Network, labels: Mapping[str, Points], *links: Mapping[str
 
 def belonging(report: Report, net: Network) -> Report:
     """The report as one of the network: names and order are the network's; OutOfRange for names that it doesn't have."""
-    if report.network is net:
+    if report.network == net:
         return report
     missing = [node for node in net.nodes() if node not in report.labels]
     if missing:

@@ -36,20 +36,20 @@ def explain(line: str, files: Sequence[str] = (), words: Sequence[str] = (), end
         return []
     when, advice = status(number)
     reason = wrong_words(words) if number == 2 and words else _unread(files) if number == 3 else None
-    told = [f"status {number}: {when}", reason, f"to do: {advice}" if advice else None]
-    return [text for text in told if text]
+    sentences = [f"status {number}: {when}", reason, f"to do: {advice}" if advice else None]
+    return [text for text in sentences if text]
 
 
 def _of_rule(kind: str, number: int, rule: str, files: Sequence[str]) -> List[str]:
     """What a line with a rule of a file means."""
     if not RULE.fullmatch(rule) or rule not in tables()["rules"]:
         return [f"{rule}: there is no such rule"]
-    told = [f"{rule}: {meaning(rule)}"]
+    sentences = [f"{rule}: {meaning(rule)}"]
     name = None if not files else files[0] if kind == "network" else files[min(1, len(files) - 1)]
     if name is not None and number:
-        told.insert(0, _line_of(name, number))
+        sentences.insert(0, _line_of(name, number))
     why = _why(kind, rule, files)
-    return [*told, why] if why else told
+    return [*sentences, why] if why else sentences
 
 
 def _line_of(name: str, number: int) -> str:
