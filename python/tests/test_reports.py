@@ -92,8 +92,23 @@ class Simulators(Case):
                                       ({"inflows": {"a": [(2, 1), (1, 1)]}}, nfot.Refused, "inflow of a: time 1 comes after time 2"),
                                       ({"inflows": {"a": [(2, 1), (2, 3)]}}, nfot.Refused, "inflow of a: time 2 comes after time 2"),
                                       ({"reached": 3}, nfot.Refused, "P10"), ({"reached": 1}, nfot.Refused, "P10"),
+                                      ({"reached": 1, "cause": "why 3"}, nfot.Refused, "P9: why is no cause"),
+                                      ({"reached": 1, "cause": "phases"}, nfot.Refused, "P6"), ({"reached": 1, "cause": "phases 01"}, nfot.Refused, "P8"),
+                                      ({"network": None}, nfot.Refused, "inflow of b: it has no point at time 0"),
                                       ({"states": {"a": "wide"}}, nfot.Refused, "P9: wide is no state")]:
             self.faulted(kind, wanted, self.report, **changed)
+
+
+    def test_names_without_a_network(self) -> None:
+        zero = [(0, 0)]
+        labels = {"s": zero, "t": zero}
+        report = nfot.Report(0, 0, labels, {"a": zero}, {"a": zero}, {"a": zero}, {"a": "zero"})
+        self.assertEqual(nfot.report_of(report.text()), report)
+        self.assertEqual(report.arrival(0), 0)
+        for given in (({"a": zero}, {"b": zero}), ({"a": zero}, {"a": zero}, {"b": zero}), ({}, {}, {}, {"b": "zero"})):
+            self.faulted(nfot.OutOfRange, "the report has no link b", nfot.Report, 0, 0, labels, *given)
+        self.faulted(nfot.Refused, "N7: 'a b' is no name", nfot.Report, 0, 0, {"a b": zero, "t": zero})
+        self.faulted(nfot.Refused, "waiting times need the capacity", report.waits, "a")
 
 
 class Files(Case):
