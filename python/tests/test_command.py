@@ -70,7 +70,7 @@ class Output(Case):
 
     def test_full_disk(self) -> None:
         """A tool whose output can't be written says so, in one line, and doesn't end with 0."""
-        for words in (["times", *self.solved(), "1"], ["city", "--roads"], ["--help"]):
+        for words in (["times", *self.solved(), "1"], ["city", "--roads"], ["--help"], ["solve-on", EXAMPLES / "two.net", "--horizon", "4"]):
             with open("/dev/full", "w") as full:
                 done = subprocess.run(command(*words), stdout=full, stderr=subprocess.PIPE, env=ENVIRONMENT, text=True)
             self.assertEqual((done.returncode, done.stderr.count("\n")), (9, 1), done.stderr)
@@ -108,3 +108,35 @@ class Output(Case):
             self.assertEqual(process.wait(timeout=10), 143)
         self.assertLess(time.monotonic() - begun, 5)
         self.assertEqual(list((self.folder / "tmp").iterdir()), [])
+
+
+class SolveOn(Case):
+    def test_past_the_patterns(self) -> None:
+        """With one pattern a phase nfot stops with status 6; the report that goes on is an equilibrium up to the horizon."""
+        net = EXAMPLES / "twelve.net"
+        self.fine("solve-on", net, "--horizon", "8", "--patterns", 1, "--out", "twelve.report")
+        self.assertTrue(nfot.check(net, "twelve.report"))
+        self.assertEqual(nfot.read_report("twelve.report", net).reached, 8)
+
+    def test_stopped_run(self) -> None:
+        """A run that ends early prints what it has, says so in one line, and ends with the status of nfot."""
+        status, out, err = self.run_tool("solve-on", EXAMPLES / "two.net", "--horizon", 4, "--phases", 1)
+        self.assertEqual((status, err.count("\n")), (5, 1), err)
+        self.assertIn("the run stopped at departure 1 of 4", err)
+        self.assertEqual(nfot.report_of(out, "report", nfot.read_network(EXAMPLES / "two.net")).cause, "phases 1")
+
+    def test_faults(self) -> None:
+        (self.folder / "out").mkdir()
+        self.refused(9, "out: it can't be written: Is a directory", "solve-on", EXAMPLES / "two.net", "--horizon", 4, "--out", "out")
+        self.refused(2, "required: --horizon", "solve-on", EXAMPLES / "two.net")
+        self.refused(3, "nothing.net: there is no file of this name", "solve-on", "nothing.net", "--horizon", 4)
+
+
+class City(Case):
+    def test_file_of_the_examples(self) -> None:
+        self.assertEqual(self.fine("city", 2400, 1, 20, "0:200", "30:400", "60:200", "90:0"), (EXAMPLES / "siouxfalls.net").read_text(encoding="ascii"))
+
+    def test_faults(self) -> None:
+        for words, wanted in [((1, 1, 25), "25 is no zone"), ((0, 1, 20), "0 isn't above 0"), ((1, 1, 1), "1 is FROM and TO"), ((1, 1, 20, "5"), "5 is no START:RATE"),
+                              ((1, 1), "UNIT, FROM and TO are needed"), (("--roads", 1), "--roads stands alone")]:
+            self.refused(2, wanted, "city", *words)

@@ -2,20 +2,11 @@
 from __future__ import annotations
 
 import csv
-import doctest
-import unittest
 from fractions import Fraction
 
 import nfot
-from nfot import renaming, rounding
 
 from .tooling import EXAMPLES, Case
-
-
-def load_tests(loader: unittest.TestLoader, tests: unittest.TestSuite, pattern: object) -> unittest.TestSuite:
-    """Adds the doctests."""
-    tests.addTests(doctest.DocTestSuite(module) for module in (renaming, rounding))
-    return tests
 
 
 GOOD = "from,to,time,capacity\ns,t,1,1\n"
