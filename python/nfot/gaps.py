@@ -69,8 +69,9 @@ def gap(net: Network, report: Report) -> Gap:
     spent = sum((flow.time_spent() for flow in flows.values()), ZERO)
     stretches = departures(net, given.label(net.sink), given.reached)
     best = time_of_best(stretches)
+    order = sorted(net.nodes(), key=lambda node: given.label(node)(given.reached))
     relative = (spent - best) / best if best else ZERO if spent == best else None
-    return Gap(spent, best, spent - best, relative, worst(latest(net, flows), stretches))
+    return Gap(spent, best, spent - best, relative, worst(latest(net, flows, order), stretches))
 
 
 def check_whole(net: Network, flows: Mapping[str, FedLink], report: Report) -> None:

@@ -13,23 +13,26 @@ Values = Optional[Tuple[Fraction, Fraction]]  # of an interval: the value at its
 ZERO = Fraction(0)
 
 
-def latest(net: Network, flows: Mapping[str, FedLink]) -> List[Segment]:
+def latest(net: Network, flows: Mapping[str, FedLink], order: Sequence[str]) -> List[Segment]:
     """When a vehicle that is at the source at a time arrives at the latest, if it takes links only while flow enters them.
 
-    The segments cover the times at which flow enters a link out of the source.
+    The segments cover the times at which flow enters a link out of the source. Of the nodes whose arrivals changed, the last one of
+    `order` is looked at first; that of the labels makes few repetitions.
     """
     end = max(flow.leaves(flow.rows[-1]) for flow in flows.values())
     found: Dict[str, List[Segment]] = {net.sink: [(ZERO, end, ZERO, end)] if end else []}
-    waiting = [net.sink]
+    rank = {node: -place for place, node in enumerate(order)}
+    used = [flow.link for flow in flows.values() if flow.rows[-1][1] > 0]
+    waiting = {net.sink}
     while waiting:
-        node = waiting.pop(0)
-        for link in net.used_links():
+        node = min(waiting, key=lambda name: rank[name])
+        waiting.remove(node)
+        for link in used:
             if link.head == node:
                 before = found.get(link.tail, [])
-                after = later(before, entering(flows[link.name], found[node]))
-                if after != before:
-                    found[link.tail] = after
-                    waiting += [link.tail] if link.tail not in waiting else []
+                found[link.tail] = later(before, entering(flows[link.name], found[node]))
+                if found[link.tail] != before:
+                    waiting.add(link.tail)
     return found.get(net.source, [])
 
 
@@ -49,11 +52,12 @@ def entering(flow: FedLink, after: Sequence[Segment]) -> List[Segment]:
         passing = flow.leaves(before), flow.leaves(now), before[0], now[0]
         while place < len(after) and after[place][1] <= passing[0]:
             place += 1
-        for segment in after[place:]:
+        number = place
+        while number < len(after) and after[number][0] < passing[1]:
+            segment = after[number]
             low, high = max(segment[0], passing[0]), min(segment[1], passing[1])
-            if low >= high:
-                break
             found.append((at(passing, low), at(passing, high), at(segment, low), at(segment, high)))
+            number += 1
     return found
 
 
