@@ -17,9 +17,9 @@ _BROKEN = re.compile(r"nfot: (\w+) line (\d+): (\w+)")
 _STOPPED = re.compile(r"nfot: stopped: (.*)")
 
 CAUSES = {"phases": 5, "patterns": 6, "passed": 7, "nopattern": 8}
-TO_DO = {5: "give more with phases=, or resume", 6: "give more with patterns=, or let transit times differ a little",
-         7: "round capacities and rates to multiples of one unit", 11: "give more with augments=, or ask for a smaller amount",
-         12: "give more with phases=, or a horizon"}
+TO_DO = {5: "allow more phases, or resume", 6: "allow more patterns, or let transit times differ a little",
+         7: "round capacities and rates to multiples of one unit", 11: "allow more augments, or ask for a smaller amount",
+         12: "allow more phases, or give a horizon"}
 FIXED = {1: "the program ran out of memory", 2: "the program takes no such words or numbers", 9: "the output of the program failed",
          10: "the flow of the report is no equilibrium", 15: "flows and slopes are no thin flow at departure 0",
          16: "the horizon is before the departure that the report has reached"}

@@ -4,18 +4,15 @@ from __future__ import annotations
 from fractions import Fraction
 from typing import Dict, List, Optional, Tuple, Union
 
+from .causes import check_cause, count_of, printed_number
 from .curves import Curve
 from .faults import Refused
 from .lines import MOST_REPORT_BYTES, PathLike, Text, as_bytes, broken, content_words, read_bytes, shown_name, split_lines
 from .networks import Network, read_network
-from .numbers import printed
 from .report_values import STATES, Report
 
 HEADS = ("horizon", "reached", "cause")
 COUNTS = {"horizon": 2, "reached": 2, "label": 4, "never": 2, "inflow": 5, "outflow": 5, "queue": 4, "state": 3, "end": 1}
-CAUSES = {"done": 2, "phases": 3, "patterns": 4, "passed": 8, "nopattern": 3}
-PARTS = ("slack", "table", "verdict", "extend", "advance", "curve", "load", "check", "quick")
-OPERATIONS = ("sum", "difference", "product", "quotient")
 
 Subject = Tuple[str, str]  # the first word of a curve's lines and its name
 
@@ -91,7 +88,7 @@ class _Reader:
 
     def take_head(self, kind: str, word: str) -> None:
         """A `horizon` or `reached` line."""
-        number = _printed(word)
+        number = printed_number(word)
         self.heads[kind] = number
         if number < 0 or number > self.heads["horizon"]:
             raise broken("P10", f"{kind} is {word}: it is at least 0, and reached at most the horizon")
@@ -99,18 +96,7 @@ class _Reader:
     def take_cause(self, words: List[str]) -> None:
         """The `cause` line."""
         self.cause = " ".join(words[1:])
-        if words[1] not in CAUSES:
-            raise broken("P9", f"{words[1]} is no cause: {', '.join(CAUSES)} are")
-        if words[1] == "passed":
-            _, _, phase, part, place, operation, left, right = words
-            for count in [phase] + [place] * (place != "-"):
-                _count(count)
-            _printed(left), _printed(right)
-            if part not in PARTS or operation not in OPERATIONS:
-                raise broken("P9", f"{part} is no part of the work, or {operation} no operation")
-        else:
-            for count in words[2:]:
-                _count(count)
+        check_cause(words[1:])
         if (self.cause == "done") != (self.heads["horizon"] == self.heads["reached"]):
             raise broken("P10", "the cause is `done` exactly where reached is the horizon")
 
@@ -148,8 +134,8 @@ class _Reader:
 
     def take_point(self, subject: Subject, words: List[str], last: bool) -> None:
         """A point of the current curve."""
-        time, value = _printed(words[2]), _printed(words[3])
-        rate = _printed(words[4]) if len(words) == 5 and words[4] != "-" else None
+        time, value = printed_number(words[2]), printed_number(words[3])
+        rate = printed_number(words[4]) if len(words) == 5 and words[4] != "-" else None
         points = self.points.setdefault(subject, [])
         if (time <= points[-1][0]) if points else (time != 0):
             why = f"time {words[2]} isn't above the time before it" if points else f"the first time is {words[2]}, not 0"
@@ -178,20 +164,6 @@ def _slopes(points: List[Tuple[Fraction, Fraction]]) -> List[Fraction]:
     return [(w - v) / (u - t) for (t, v), (u, w) in zip(points, points[1:])]
 
 
-def _printed(word: str) -> Fraction:
-    """The number of a word in its printed form; Refused by P8."""
-    number = printed(word)
-    if number is None:
-        raise broken("P8", f"{word[:60]} isn't the printed form of a number: lowest terms, as 5/2 or 3")
-    return number
-
-
-def _count(word: str) -> None:
-    """Refuses a word that is no plain count, by P8."""
-    if not (word.isascii() and word.isdigit()) or str(int(word[:40])) != word or int(word) >= 2 ** 64:
-        raise broken("P8", f"{word[:60]} is no plain count below 2^64")
-
-
 def _check_form(words: List[str], line: str, index: int, net: Optional[Network]) -> None:
     """Rules P3 to P6 of a line; `index` counts from 0."""
     if not words or " ".join(words) != line:
@@ -204,7 +176,7 @@ def _check_form(words: List[str], line: str, index: int, net: Optional[Network])
     allowed = HEADS[index - 1:index] if index <= len(HEADS) else tuple(COUNTS)[2:]
     if words[0] not in allowed:
         raise broken("P5", f"`{words[0][:40]}` begins no line here: {', '.join(allowed)} do")
-    count = CAUSES.get(words[1], len(words)) if words[0] == "cause" and len(words) > 1 else COUNTS.get(words[0], 2)
+    count = 1 + count_of(words[1:]) if words[0] == "cause" else COUNTS[words[0]]
     if len(words) != count:
         raise broken("P6", f"the line has {len(words)} words, and {count} are right for it")
 

@@ -3,11 +3,13 @@ from __future__ import annotations
 
 from fractions import Fraction
 from types import MappingProxyType
-from typing import Any, Dict, Iterable, Iterator, List, Mapping, Optional, Sequence, Tuple, Union
+from typing import Any, Dict, Iterable, Iterator, List, Mapping, Optional, Sequence, Tuple, Union, Set
 
+from .causes import check_cause
 from .curves import Curve
 from .faults import OutOfRange, Refused
 from .drafts import Link, fitting
+from .lines import check_name
 from .networks import Network
 from .numbers import Number, Time, short, time_of, within
 
@@ -74,8 +76,11 @@ class Report:
                   never=tuple(network.idle_nodes() if network else never), rates=MappingProxyType(dict(rates)))
         if not 0 <= self.reached <= self.horizon or (cause == "done") != (self.reached == self.horizon):
             raise Refused(f"a report that reaches {short(self.reached)} of {short(self.horizon)} has not the cause `{cause}`", rule="P10")
+        check_cause(cause.split(" "))
         if network:
-            _known_names(network, labels, inflows, outflows, queues, states)
+            _check_names("the network", set(network.nodes()), {link.name for link in network.used_links()}, labels, inflows, outflows, queues, states)
+        else:
+            _check_names("the report", set(labels), set(inflows), labels, outflows, queues, states)
         self._take_labels(labels)
         self._take_flows(inflows, outflows, queues)
         self._set(states=MappingProxyType(self._in_order(states)))
@@ -193,13 +198,14 @@ def _of(curves: Mapping[str, Curve], name: str, what: str) -> Curve:
     return curves[name]
 
 
-def _known_names(net: Network, labels: Mapping[str, Points], *links: Mapping[str, object]) -> None:
-    """Refuses names that the network doesn't have."""
-    nodes, used = set(net.nodes()), {link.name for link in net.used_links()}
+def _check_names(owner: str, nodes: Set[str], used: Set[str], labels: Mapping[str, Points], *links: Mapping[str, object]) -> None:
+    """Refuses names of nodes and links that aren't among the owner's, and those that the format refuses."""
     unknown = [f"node {name}" for name in labels if name not in nodes]
     unknown += [f"link {name}" for given in links for name in given if name not in used]
     if unknown:
-        raise OutOfRange(f"the network has no {unknown[0]} that is reached")
+        raise OutOfRange(f"{owner} has no {unknown[0]}{' that is reached' if owner == 'the network' else ' with an inflow'}")
+    for name in [*nodes, *used]:
+        check_name(name, "node or link")
 
 
 def belonging(report: Report, net: Network) -> Report:

@@ -93,8 +93,8 @@ class Answers(Case):
 
 class Faults(Case):
     def test_budgets(self) -> None:
-        """`nfot.solve` of the examples returned a stopped report without a word."""
-        stop = self.faulted(nfot.Stopped, r"stopped at departure 1 of 4 \(cause phases 1\): give more", nfot.solve, TWO, 4, phases=1)
+        """A run that ends early is never returned like one that reached its horizon."""
+        stop = self.faulted(nfot.Stopped, r"stopped at departure 1 of 4 \(cause phases 1\): allow more phases", nfot.solve, TWO, 4, phases=1)
         assert isinstance(stop, nfot.Stopped) and stop.report is not None
         self.assertEqual((stop.cause, stop.status, stop.report.reached), ("phases 1", 5, 1))
         self.assertTrue(nfot.check(TWO, stop.report))
@@ -151,7 +151,7 @@ class Faults(Case):
 
 
 class PastTheBudget(Case):
-    """Going on where the patterns of a phase are used up, as solve_on.sh of the examples did."""
+    """Going on where the patterns of a phase are used up."""
 
     def test_solve_goes_on_by_itself(self) -> None:
         for name, horizon, patterns in (("twelve", 8, 1), ("braess", 20, 1)):

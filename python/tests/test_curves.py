@@ -24,7 +24,7 @@ class Values(Case):
         self.assertEqual([ARRIVAL(moment) for moment in (0, 10, 20, 30, 60, "1/2", 0.5, Decimal("0.5"))], [10, 30, 50, 60, 90, 11, 11, 11])
 
     def test_nothing_is_said_beyond_what_is_known(self) -> None:
-        """nfot.value of the examples went on with the last value."""
+        """A value after the last known time would be a guess."""
         for call in (ARRIVAL, ARRIVAL.slope, ARRIVAL.cut):
             self.faulted(nfot.OutOfRange, "time 99 is outside of what is known: 0 to 60", call, 99)
             self.faulted(nfot.OutOfRange, "time -1 is outside", call, -1)
@@ -145,7 +145,7 @@ class Definitions(Case):
 
 class Speed(Case):
     def test_calls_are_merges(self) -> None:
-        """`composed` of the examples looked at each corner of the outer curve in each piece of the inner one: 10^7 steps here."""
+        """A call that looks at each corner of one curve in each piece of the other one takes 10^7 steps here."""
         inner = Curve([(number, number + number % 2) for number in range(3000)], 6000)
         outer = Curve([(number, number % 7) for number in range(3000)], 6000)
         begun = time.process_time()

@@ -65,7 +65,7 @@ class Form(Case):
 
 class OldPython(Case):
     def test_an_old_python_ends_with_a_sentence(self) -> None:
-        """Python 3.6 and 3.7 ended with a SyntaxError."""
+        """A SyntaxError would say nothing about the version."""
         text = (PACKAGE / "__init__.py").read_text(encoding="utf-8")
         ast.parse(text, feature_version=(3, 6))
         self.assertNotIn("annotations", text)

@@ -31,7 +31,7 @@ class Installed(Case):
                               stderr=subprocess.PIPE, text=True)
 
     def test_an_installed_copy_works_without_the_program(self) -> None:
-        """The scripts of the examples worked in their own folder alone."""
+        """It is imported from any folder, and finds the slow program that came with it."""
         for options in (["--no-build-isolation"], ["--force-reinstall"]):
             pip = self.run_there("python", "-m", "pip", "install", "--no-index", *options, str(ROOT))
             self.assertEqual(pip.returncode, 0, words_of(pip))

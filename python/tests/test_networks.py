@@ -56,7 +56,7 @@ class Values(Case):
             LINKS[0].capacity = Fraction(2)  # type: ignore[misc]
 
     def test_a_key_that_is_not_the_name_is_refused(self) -> None:
-        """Solved under one name, it was checked under the other one."""
+        """Else a network is solved under one name and checked under the other one."""
         self.faulted(nfot.Refused, "the key b holds the link a", Network, "s", "t", {"b": LINKS[0]})
         self.assertEqual(list(Network("s", "t", {"a": LINKS[0]}).links), ["a"])
 

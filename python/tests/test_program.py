@@ -145,7 +145,7 @@ class Whole(Case):
 
     @unittest.skipUnless(FULL.exists(), "there is no /dev/full here")
     def test_a_full_disk_is_never_a_report_of_16_kB_and_status_0(self) -> None:
-        """solve_on.sh ended with 0 where its last `cat` failed."""
+        """A write that fails half way is a fault, whatever was written before."""
         net = example("two")
         report = nfot.solve(net, 4)
         for call in (lambda: nfot.write_report(report, FULL), lambda: nfot.write_network(net, FULL), lambda: write_beside(FULL, "x" * 10 ** 6)):

@@ -36,7 +36,7 @@ class Values(Case):
         self.assertEqual(nfot.solve(example("two"), 4), report)
 
     def test_nothing_is_said_beyond_the_departure_reached(self) -> None:
-        """`solve(net, 120, phases=5)` and then value(labels[t], 90) - 90 was -31."""
+        """A label that is read after the departure reached would give negative travel times."""
         with self.assertRaises(nfot.Stopped) as caught:
             nfot.solve(example("two"), 4, phases=1)
         report = caught.exception.report
@@ -92,13 +92,28 @@ class Simulators(Case):
                                       ({"inflows": {"a": [(2, 1), (1, 1)]}}, nfot.Refused, "inflow of a: time 1 comes after time 2"),
                                       ({"inflows": {"a": [(2, 1), (2, 3)]}}, nfot.Refused, "inflow of a: time 2 comes after time 2"),
                                       ({"reached": 3}, nfot.Refused, "P10"), ({"reached": 1}, nfot.Refused, "P10"),
+                                      ({"reached": 1, "cause": "why 3"}, nfot.Refused, "P9: why is no cause"),
+                                      ({"reached": 1, "cause": "phases"}, nfot.Refused, "P6"), ({"reached": 1, "cause": "phases 01"}, nfot.Refused, "P8"),
+                                      ({"network": None}, nfot.Refused, "inflow of b: it has no point at time 0"),
                                       ({"states": {"a": "wide"}}, nfot.Refused, "P9: wide is no state")]:
             self.faulted(kind, wanted, self.report, **changed)
 
 
+    def test_names_without_a_network(self) -> None:
+        zero = [(0, 0)]
+        labels = {"s": zero, "t": zero}
+        report = nfot.Report(0, 0, labels, {"a": zero}, {"a": zero}, {"a": zero}, {"a": "zero"})
+        self.assertEqual(nfot.report_of(report.text()), report)
+        self.assertEqual(report.arrival(0), 0)
+        for given in (({"a": zero}, {"b": zero}), ({"a": zero}, {"a": zero}, {"b": zero}), ({}, {}, {}, {"b": "zero"})):
+            self.faulted(nfot.OutOfRange, "the report has no link b", nfot.Report, 0, 0, labels, *given)
+        self.faulted(nfot.Refused, "N7: 'a b' is no name", nfot.Report, 0, 0, {"a b": zero, "t": zero})
+        self.faulted(nfot.Refused, "waiting times need the capacity", report.waits, "a")
+
+
 class Files(Case):
     def test_a_report_cut_anywhere_is_a_fault(self) -> None:
-        """A file cut at a line's end was read as `done`, with 3 of 76 links."""
+        """Also one that is cut at the end of a line, behind the lines of some links."""
         reader = independent("report_file").read_report
         for net, text in REPORTS:
             lines = text.splitlines(True)
@@ -142,7 +157,7 @@ class Files(Case):
         self.assertLessEqual({f"P{number}" for number in (1, 3, 4, 5, 6, 7, 8, 9, 10, 11, 12, 13, 14)} | {""}, broken)
 
     def test_wrong_rates_are_kept(self) -> None:
-        """The module of the examples wrote slopes in place of the rates that it had read, so that its check said yes."""
+        """With slopes in place of the rates that were read, `check` would say yes of a report that it refuses."""
         text = TEXT.replace("inflow a 0 0 3\n", "inflow a 0 0 2\n")
         report = nfot.report_of(text, net=example("two"))
         self.assertEqual(report.text(), text)
