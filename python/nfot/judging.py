@@ -4,7 +4,6 @@ from __future__ import annotations
 from fractions import Fraction
 from typing import Dict, List, Mapping, Sequence, Tuple
 
-from .curves import Curve
 from .faults import OutOfRange, Refused
 from .labels import earliest
 from .loading import FedLink, Piece
@@ -71,8 +70,7 @@ def report_of_loaded(net: Network, loaded: Mapping[str, FedLink], reached: Fract
         raise Refused(f"the last departure {short(reached)} is below 0")
     labels = earliest(net, loaded, reached)
     until = max([passage.settled for passage in loaded.values()] + [label.points[-1][1] for label in labels.values()])
-    curves: List[Dict[str, Curve]] = [{}, {}, {}]
-    for name, passage in loaded.items():
-        for kind, curve in zip(curves, (passage.inflow(until), passage.outflow(until), passage.queue(until))):
-            kind[name] = curve
-    return Report(reached, reached, labels, curves[0], curves[1], curves[2], network=net)
+    inflows = {name: passage.inflow(until) for name, passage in loaded.items()}
+    outflows = {name: passage.outflow(until) for name, passage in loaded.items()}
+    queues = {name: passage.queue(until) for name, passage in loaded.items()}
+    return Report(reached, reached, labels, inflows, outflows, queues, network=net)

@@ -14,7 +14,8 @@ from .networks import Network
 
 def arrivals(net: Network, loaded: Mapping[str, FedLink], departure: Fraction) -> Dict[str, Fraction]:
     """When a driver who leaves at the departure reaches each node at the earliest, the nodes in the order of these times."""
-    links_from, found = links_by_tail(net), {}
+    links_from = links_by_tail(net)
+    found: Dict[str, Fraction] = {}
     waiting = [(departure, net.source)]
     while waiting:
         time, node = heappop(waiting)

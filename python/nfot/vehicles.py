@@ -24,6 +24,7 @@ def loads_of_vehicles(net: Network, vehicles: Union[Entries, Iterable[Trip]], si
     Floats are taken with `round_to` alone. Refused where a time is negative, OutOfRange where a link isn't there.
     """
     entries: Dict[str, List[Fraction]] = {link.name: [] for link in net.used_links()}
+    pairs: Iterable[Tuple[str, Iterable[Time]]]
     pairs = vehicles.items() if isinstance(vehicles, Mapping) else ((link, [time]) for trip in vehicles for link, time in trip)
     for link, times in pairs:
         if link not in entries:

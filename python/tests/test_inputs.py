@@ -10,7 +10,7 @@ from nfot.program import program
 
 from .cases import EXAMPLES, Case, example, first_broken, independent, pairs, random_network, refusal
 
-COUNT = 20 if program().proved else 4
+COUNT = 12 if program().proved else 3
 
 FILES = {
     "loads": (loads_of, "read_loads", b"loads 1\nrate p 0 3 # a comment\n\nrate p 1/2 3/2\r\nrate z 0 1\nend\n"),

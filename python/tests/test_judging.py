@@ -6,15 +6,16 @@ from fractions import Fraction
 from typing import Dict, List, Mapping, Optional, Tuple
 
 import nfot
+from nfot.judging import Loads
 from nfot.program import program
 
 from .cases import EXAMPLES, Case, example, pairs, random_network
 
 Pieces = List[Tuple[Fraction, Fraction]]
 Routes = Dict[str, Tuple[List[str], Pieces]]
-COUNT = 20 if program().proved else 4
-SPLIT = {"a": [(0, 3), (1, "3/2"), (4, 0)], "b": [(1, "3/2"), (4, 0)]}  # the equilibrium of two.net, for those who leave by 4
-LATE = {"a": [(0, 3), (2, "3/2"), (4, 0)], "b": [(2, "3/2"), (4, 0)]}  # drivers look every two minutes
+COUNT = 12 if program().proved else 3
+SPLIT: Loads = {"a": [(0, 3), (1, "3/2"), (4, 0)], "b": [(1, "3/2"), (4, 0)]}  # the equilibrium of two.net, for those who leave by 4
+LATE: Loads = {"a": [(0, 3), (2, "3/2"), (4, 0)], "b": [(2, "3/2"), (4, 0)]}  # drivers look every two minutes
 
 
 def random_pieces(rng: random.Random, most: int) -> Pieces:

@@ -13,7 +13,7 @@ from nfot.theory import all_broken
 from .cases import Case, example, random_network
 
 HALF = Fraction(1, 2)
-COUNT = 20 if program().proved else 4
+COUNT = 12 if program().proved else 3
 
 
 def meets_definition(net: nfot.Network, phase: Phase) -> bool:
