@@ -29,7 +29,7 @@ from .faults import Fault, Killed, NotFound, OutOfRange, Refused, Stopped, Timeo
 from .gaps import Gap, gap
 from .graphs import clean_names, from_networkx, to_networkx
 from .inputs import read_flows, read_loads, read_routes
-from .judging import report_of_flows, report_of_routes
+from .judging import report_of_flows, report_of_routes, supply_of
 from .networks import Link, Network, network_of, read_network, write_network
 from .numbers import clock, decimal, exact, parse, short
 from .phases import Phase, phases

@@ -63,7 +63,8 @@ def gap(net: Network, report: Report) -> Gap:
     given = belonging(report, net)
     verdict = check(net, given)
     if not verdict and verdict.rule != "C7":
-        raise Fault(f"only a flow that keeps all rules but C7 has a gap: {verdict.why}", status=UNFIT)
+        more = "; flow along routes keeps C6 at nodes: report_of_routes, routes_of_vehicles and supply_of make it" if verdict.rule == "C6" else ""
+        raise Fault(f"only a flow that keeps all rules but C7 has a gap: {verdict.why}{more}", status=UNFIT)
     flows = {link.name: FedLink(link, rates_of([given.inflow(link.name)])) for link in net.used_links()}
     check_whole(net, flows, given)
     spent = sum((flow.time_spent() for flow in flows.values()), ZERO)

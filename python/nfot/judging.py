@@ -4,13 +4,14 @@ from __future__ import annotations
 from fractions import Fraction
 from typing import Dict, List, Mapping, Sequence, Tuple
 
+from .curves import Curve
 from .faults import OutOfRange, Refused
 from .labels import earliest
 from .loading import FedLink, Piece
 from .networks import Network
 from .numbers import Number, exact, short
 from .reports import Report
-from .routing import loaded_routes
+from .routing import loaded_routes, rates_of
 
 Loads = Mapping[str, Sequence[Tuple[Number, Number]]]  # by link: pieces (start, rate)
 Routes = Mapping[str, Tuple[Sequence[str], Sequence[Tuple[Number, Number]]]]  # by name: links, pieces (start, rate)
@@ -62,6 +63,15 @@ def report_of_routes(net: Network, routes: Routes, horizon: Number) -> Report:
     given = {name: (links, pieces_of(pieces, f"route {name}")) for name, (links, pieces) in routes.items()}
     loaded = loaded_routes(net, given, end)
     return report_of_loaded(net, {**loaded_links(net, {}), **loaded}, end)
+
+
+def supply_of(routes: Routes, horizon: Number) -> List[Piece]:
+    """The rates of all routes together until the horizon, as the supply of a network: `net.with_supply(supply_of(routes, horizon))`.
+
+    Take it where vehicles don't leave at the rates of the network's own supply.
+    """
+    end = exact(horizon)
+    return rates_of([Curve.of_rates(pieces_of(pieces, f"route {name}"), end) for name, (_, pieces) in routes.items()])
 
 
 def report_of_loaded(net: Network, loaded: Mapping[str, FedLink], reached: Fraction) -> Report:

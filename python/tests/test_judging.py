@@ -160,7 +160,7 @@ class Along(Case):
             routes = random_routes(rng, net, 2)
             if not routes:
                 continue
-            net = net.with_supply(self.supply_of(routes))
+            net = net.with_supply(nfot.supply_of(routes, 12))
             report, carried = nfot.report_of_routes(net, routes, 12), nfot.routes(net, routes, 12)
             found, verdict = nfot.gap(net, report), nfot.check(net, report)
             spent, loss = self.of_travels(report, routes, carried.travels)
@@ -170,13 +170,6 @@ class Along(Case):
             self.assertEqual(found.gap, found.spent - found.best)
             positive += found.gap > 0
         self.assertGreater(positive, COUNT // 3)
-
-    def supply_of(self, routes: Routes) -> Pieces:
-        """The rates of all routes together."""
-        starts = sorted({start for _, pieces in routes.values() for start, _ in pieces})
-        def rate(pieces: Pieces, time: Fraction) -> Fraction:
-            return ([rate for start, rate in pieces if start <= time] or [Fraction(0)])[-1]
-        return [(start, sum((rate(pieces, start) for _, pieces in routes.values()), Fraction(0))) for start in starts]
 
     def of_travels(self, report: nfot.Report, routes: Routes, travels: Mapping[str, nfot.Curve]) -> Tuple[Fraction, Fraction]:
         """Time spent and greatest loss on the routes themselves, from the travel lines of `nfot routes`."""
@@ -192,6 +185,11 @@ class Along(Case):
                 corners = {start, end, *(time for curve in (travel, label) for time, _ in curve.points if start < time < end)}
                 loss = max([loss, *(travel(time) - label(time) for time in corners)])
         return spent, loss
+
+    def test_supply_of_routes(self) -> None:
+        """By hand: 1, then 3, then 2 a minute, until the horizon."""
+        routes: Routes = {"x": (["a"], pairs((0, 1), (2, 0))), "y": (["b"], pairs((1, 2), (9, 5)))}
+        self.assertEqual(nfot.supply_of(routes, 8), pairs((0, 1), (1, 3), (2, 2), (8, 0)))
 
     def test_shared_queue(self) -> None:
         """examples/merge.net by hand: z of capacity 1 takes 1 a minute from 1 on, 2 from 2 to 3, and 1 until 4: 1 waits from 3 to 4."""
