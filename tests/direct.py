@@ -19,8 +19,10 @@ sys.dont_write_bytecode = True
 
 from independent.checking import Violation, check
 from independent.direct import DirectFlow, plain
+from independent.direct_excess import excess_complaints, last_start, steady_from
 from independent.direct_flows import DirectRoutes, extended, is_listed, is_quickest, whole_listing
-from independent.direct_growth import tail_grows
+from independent.direct_grading import Grading, growth, growth_complaints, is_graded, sways
+from independent.direct_growth import least_capacity, tail_grows
 from independent.direct_violations import is_explained
 from independent.endless import solve_forever
 from independent.exact import ONE, Passing, Rational, ZERO
@@ -36,7 +38,7 @@ from independent.resuming import resume
 from independent.routes import load_routes
 from independent.routes_file import read_routes
 from independent.settling import settled, settled_pattern
-from independent.small_cases import changed_flow, flow_of_part, reordered, some_network, some_number, some_routes_text
+from independent.small_cases import changed_flow, flow_of_part, reordered, some_network, some_number, some_routes_text, with_last_rate
 from independent.thin_flows import NoPattern, OverBudget, is_thin_flow, meets, search, solve_pattern
 
 PHASES, PATTERNS = 10000, 2000
@@ -222,7 +224,56 @@ def meet_routes(rng, net, tally):
     tally["routes"] += 1
 
 
-MEETINGS = [meet_run, meet_listing, meet_quickest, meet_settling, meet_forever, meet_resuming, meet_routes]
+def meet_excess(rng, net, tally):
+    """The excess of an equilibrium never rises after the last start, and is equal only where the equilibrium is steady."""
+    horizon = exact(last_start(net)) + some_number(rng, 0, 40, [1, 2, 3])
+    direct = DirectFlow(net, solve(net, horizon, 60, PATTERNS).flow)
+    complaints = excess_complaints(direct)
+    expect(not complaints, "the excess isn't as it must be:", complaints[:3])
+    tally["excess, " + ("steady" if steady_from(direct) is not None else "not steady")] += 1
+
+
+def exact(number):
+    """A fraction of the standard library as a number of the program."""
+    return Rational(number.numerator, number.denominator)
+
+
+def meet_bottleneck(rng, net, tally):
+    """The label of the sink grows by the least cut, also with a last supply rate that is the least capacity, or differs little from it."""
+    least = least_capacity(net)
+    if least is None:
+        return meet_growth(rng, net, tally)
+    near = least / rng.choice([3, 10, 50])
+    for rate in (least - near, least, least + near):
+        meet_growth(rng, with_last_rate(net, exact(rate)), tally)
+
+
+def meet_growth(rng, net, tally):
+    """A run without a horizon has a graded flow as its tail. Long runs keep to it, and no label of the sink changes against its line later."""
+    solution, tail = solve_forever(net, 60, PATTERNS)
+    if tail is None:
+        tally["growth, stopped"] += 1
+        return
+    grading, grows = Grading([plain(flow) for flow in tail[1]], [plain(slope) for slope in tail[0]]), growth(net)
+    expect(is_graded(net, grading), "the tail is no graded flow")
+    expect(grows > 1 or set(grading.levels) == {1}, "a slope isn't 1, and all cuts are wide")
+    run = solve(net, solution.flow.reached * Rational(4) + some_number(rng, 1, 30, [1, 2, 3]), 100, PATTERNS)
+    direct = DirectFlow(net, run.flow)
+    complaints = growth_complaints(direct, grading)
+    expect(not complaints, "the sink doesn't grow as it must:", complaints[:3])
+    if run.cause == DONE:
+        meet_last_phase(direct, DirectFlow(net, solution.flow), grows)
+        tally["growth, " + ("narrow" if grows > 1 else "wide")] += 1
+
+
+def meet_last_phase(direct, until_tail, grows):
+    """A long run changes no more against the line of the sink than the run up to the tail. If it becomes steady, the tail begins then."""
+    expect(sum(sways(direct, grows)) == sum(sways(until_tail, grows)), "the label of the sink changes in the tail")
+    steady = steady_from(direct)
+    expect(steady == (until_tail.reached if grows == 1 else None), "the tail begins at", until_tail.reached, "and it is steady from", steady)
+
+
+MEETINGS = [meet_run, meet_listing, meet_quickest, meet_settling, meet_forever, meet_resuming, meet_routes, meet_excess, meet_bottleneck]
 
 
 def meet(seed, tally):

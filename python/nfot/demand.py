@@ -9,6 +9,7 @@ from .faults import Refused
 from .numbers import parse, short
 from .sheets import Row, Sheet, read_sheet
 
+DAY = 1440  # minutes
 STARTS, COUNTS = ("start", "time", "from", "begin"), ("count", "counts", "vehicles", "volume", "demand")
 
 
@@ -60,7 +61,7 @@ def read_demand(path: str, each: Fraction, begin: Optional[Fraction] = None, sta
         due = pieces[-1][0] + each if pieces else None
         at = due if due is not None else Fraction(0)
         if starts is not None:
-            at, begin = start_of(row, starts, begin)
+            at, begin = start_of(row, starts, begin, pieces[-1][0] if pieces else None)
             if due is not None and at != due:
                 raise row.fault(starts, f"{row.text(starts)} is {short(at - pieces[-1][0])} minutes after the row before, and an interval has {short(each)}")
         pieces.append((at, row.number(counts) / each))
@@ -76,8 +77,10 @@ def columns_of(sheet: Sheet, start: Optional[str], count: Optional[str]) -> tupl
     return counts, sheet.column(start, *STARTS) if start or sheet.has(*STARTS) else None
 
 
-def start_of(row: Row, column: str, begin: Optional[Fraction]) -> tuple[Fraction, Optional[Fraction]]:
-    """The minute at which a row begins, and the time of day of minute 0 (that of the first row, where nothing else is known)."""
+def start_of(row: Row, column: str, begin: Optional[Fraction], before: Optional[Fraction]) -> tuple[Fraction, Optional[Fraction]]:
+    """The minute at which a row begins, and the time of day of minute 0 (that of the first row, where nothing else is known).
+
+    `before` is the minute of the row before; a time of day that is earlier is one of the next day."""
     word = row.text(column)
     try:
         time = parse(word.replace(",", ".") if row.decimal_comma else word)
@@ -89,6 +92,7 @@ def start_of(row: Row, column: str, begin: Optional[Fraction]) -> tuple[Fraction
         minute, begin = Fraction(0), time
     else:
         minute = time - begin
+        minute += DAY if before is not None and minute <= before else 0
     if minute < 0:
         raise row.fault(column, f"{word} is before minute 0")
     return minute, begin

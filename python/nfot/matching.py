@@ -7,10 +7,10 @@ from typing import Iterator, Optional, Tuple
 from .faults import UNFIT, Refused
 from .drafts import Link
 from .graph import least_sums
-from .lines import PathLike
+from .lines import MOST_REPORT_BYTES, PathLike, read_bytes, shown_name
 from .networks import Network, read_network
 from .numbers import short
-from .report_file import read_report
+from .report_file import report_of
 from .report_values import Report
 
 
@@ -85,9 +85,9 @@ def _rate_fault(link: Link, report: Report) -> Optional[str]:
 
 def read_pair(net: PathLike, report: PathLike) -> Tuple[Network, Report]:
     """A network and its report, by all rules; Refused where they don't belong together."""
-    network = read_network(net)
-    read = read_report(report)
-    why = mismatch(network, read)
+    network, name = read_network(net), shown_name(report)
+    data = read_bytes(report, MOST_REPORT_BYTES)  # once, since it may be a pipe
+    why = mismatch(network, report_of(data, name))
     if why:
-        raise Refused(f"{report} is no report of {net}: {why}", status=UNFIT)
-    return network, read_report(report, network)
+        raise Refused(f"{name} is no report of {shown_name(net)}: {why}", status=UNFIT)
+    return network, report_of(data, name, network)

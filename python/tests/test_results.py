@@ -38,6 +38,10 @@ class Times(Results):
             "leave 60.00  arrive 90.00  takes 30.00", "bridge: queue from 0.00 to (the end of its curve), longest wait 20.00",
             "all together on the way: 6400.0, a vehicle 26.67"])
 
+    def test_report_from_standard_input(self) -> None:
+        net, report = self.solved("two.net", 4)
+        self.assertIn("leave 1.00  arrive 4.00  takes 3.00", self.fine("times", net, "-", "1", stdin=(self.folder / report).read_text()))
+
     def test_steps_times_of_day_and_csv(self) -> None:
         pair = self.solved("bridge.net", 60)
         out = self.fine("times", *pair, "6:25", "--every", 30, "--clock", "6:00").splitlines()

@@ -164,6 +164,11 @@ class Demand(Table):
         words, _ = self.made(GOOD, "s", "t", "6:00:20", "6:15:40", "7:00:0", "--clock", "6:00")
         self.assertEqual(words.supply, ((0, 20), (15, 40), (60, 0)))
 
+    def test_past_midnight(self) -> None:
+        self.write("demand.csv", "time,count\n23:30,30\n23:45,60\n0:00,90\n0:15,30\n")
+        net, err = self.made(GOOD, "s", "t", "--demand", "demand.csv", "--each", 15)
+        self.assertEqual(net.supply, ((0, 2), (15, 4), (30, 6), (45, 2), (60, 0)))
+
     def test_other_columns(self) -> None:
         for text, words in [("count\n30\n60\n", []), ("min;Zahl\n0;30\n15,0;60\n", []), ("t,a,b\n0,9,30\n15,9,60\n", ["--start", "t", "--count", "b"])]:
             self.write("demand.csv", text)

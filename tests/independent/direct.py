@@ -211,7 +211,7 @@ class DirectFlow:
         """Links that take flow just after a departure but lie on no shortest route (`TakesFlow`, `OnlyShortest`)."""
         found = []
         for e, link in enumerate(self.links):
-            corners = sorted(set(departures) | self.entries_at_corners(e))
+            corners = sorted(set(departures) | self.departures_at(link.tail, [time for time, _ in self.inflows[e][0]]))
             for now, later in zip(corners, corners[1:]):
                 entry, next_entry = self.earliest(now)[link.tail], self.earliest(later)[link.tail]
                 takes_flow = link.entered(next_entry) > link.entered(entry)
@@ -219,11 +219,10 @@ class DirectFlow:
                     found.append(["detour", e, now])
         return found
 
-    def entries_at_corners(self, e):
-        """The departures up to the one reached whose arrival at a link's tail is a corner of the link's inflow."""
-        label = self.labels[self.links[e].tail]
+    def departures_at(self, v, times):
+        """The departures, up to the one reached, whose arrival at a node is one of these times."""
+        label = self.labels[v]
         found = set()
         for (start, before), (end, after) in zip(label, label[1:]):
-            found |= {start + (time - before) / (after - before) * (end - start)
-                      for time, _ in self.inflows[e][0] if before < time <= after}
+            found |= {start + (time - before) / (after - before) * (end - start) for time in times if before < time <= after}
         return {departure for departure in found if departure <= self.reached}

@@ -3,7 +3,7 @@ from . import curves
 from .exact import CHECK, Rational, ZERO
 from .lines import Broken, joined
 from .loading import load_link
-from .network import canonical_text
+from .network import Network, canonical_text
 from .network_file import read_network
 from .phases import Flow, solve
 
@@ -47,6 +47,12 @@ def reordered(rng, net):
     others = [line for line in lines if not line.startswith(("link", "end"))]
     rng.shuffle(links)
     return read_network(joined(others + links + ["end"]))
+
+
+def with_last_rate(net, rate):
+    """The network with another rate in its last supply piece; with a piece from 0 on if it has none."""
+    pieces = [*net.pieces[:-1], (net.pieces[-1][0] if net.pieces else ZERO, rate)]
+    return Network(net.version, net.nodes, net.links, pieces, net.idle_nodes, net.idle_links)
 
 
 def part_of(rng, net):

@@ -1,5 +1,8 @@
 """A case: the words of a command and its files; and the ways in which words may be spelled."""
+from __future__ import annotations
+
 from dataclasses import dataclass, field
+from typing import Optional
 
 from .numerals import LARGEST, ODD_COUNTS, ODD_WORDS, chance
 
@@ -23,6 +26,14 @@ class Call:
     command: str
     options: list
     files: dict
+
+    def value_of(self, name: str) -> Optional[object]:
+        """The value of an option, None if there is none."""
+        return dict(self.options).get(name)
+
+    def with_value(self, name: str, value: object) -> Call:
+        """The call with another value of an option that it has."""
+        return Call(self.command, [(option, value if option == name else old) for option, old in self.options], self.files)
 
     def in_plain_words(self):
         """The words in one order, each option as two words."""

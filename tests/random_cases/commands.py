@@ -11,6 +11,7 @@ from .flow_changes import changed_flow, foreign_states
 from .limits import full_file, second_file_at_limits, show_at_limits
 from .networks import PLAIN, WIDE, joined, some_network
 from .numerals import LARGEST, chance, near_powers, printed, some_time, wide
+from .places import beside_a_place
 from .reports import read_report
 from .side_files import flows_lines, full_loads_lines, loads_lines, routes_lines
 
@@ -67,8 +68,17 @@ def show_call(rng, answer_of):
     return Call("show", [], {"N": text})
 
 
+def large_call(rng, answer_of):
+    """`solve` of a network of up to 64 nodes and 200 links, for a phase or two by few patterns."""
+    network = some_network(rng, answer_of, ["row"])
+    options = [("horizon", printed(some_time(rng))), ("phases", rng.choice([1, 1, 2])), ("patterns", rng.choice([1, 2, 3, 5, 20]))]
+    return Call("solve", options, {"N": network.text()})
+
+
 def solve_call(rng, answer_of):
     """`solve` up to an event, between events or to any time."""
+    if chance(rng, 0.08):
+        return large_call(rng, answer_of)
     network = some_network(rng, answer_of)
     horizon = printed(some_horizon(rng, answer_of, network))
     return Call("solve", with_budgets(rng, [("horizon", horizon)]), {"N": network_text(rng, network)})
@@ -111,7 +121,7 @@ def settle_call(rng, answer_of):
 
 def routes_call(rng, answer_of):
     """`routes` of walks through the network."""
-    network, horizon = some_network(rng, answer_of, PLAIN * 3 + WIDE), Fraction(rng.randint(0, 12), rng.choice([1, 2, 3]))
+    network, horizon = some_network(rng, answer_of, ["layers"] * 12 + PLAIN * 3 + WIDE), Fraction(rng.randint(0, 12), rng.choice([1, 2, 3]))
     names, idle = names_of(network)
     text = changed_text(rng, joined(routes_lines(rng, network, horizon)), lambda lines: breaking.break_routes(rng, lines, names, idle))
     return Call("routes", [("horizon", printed(horizon))], {"N": network_text(rng, network), "G": text})
@@ -142,7 +152,7 @@ def length_amount(answer_of, network):
 
 def quick_call(rng, answer_of):
     """`quick` of an amount; most networks have no supply, so that no equilibrium is looked for."""
-    network = some_network(rng, answer_of, ["row"] + PLAIN + WIDE)
+    network = some_network(rng, answer_of, ["row", "row", "layers"] + PLAIN + WIDE)
     if len(network.links) > 8 or chance(rng, 0.5):
         network = replace(network, pieces=[])
     amount = length_amount(answer_of, network) if chance(rng, 0.2) else some_amount(rng)
@@ -236,6 +246,8 @@ def some_case(rng, answer_of, commands):
     """A case of one of the commands, and the name of that command."""
     name = rng.choices(commands, [SHARES[command] for command in commands])[0]
     call = MAKERS[name](rng, answer_of)
+    if chance(rng, 0.08):
+        call = beside_a_place(rng, answer_of, call)
     if chance(rng, 0.02) and len(call.files) == 2:
         call = second_file_at_limits(rng, call)
     if chance(rng, 0.005) and call.files:

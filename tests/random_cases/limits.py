@@ -1,6 +1,7 @@
 """Files at the limits: of nodes, links, pieces, names, lines and bytes, and one beyond."""
 from fractions import Fraction
 
+from .breaking import break_network
 from .case import Call
 from .networks import Link, Network, joined, some_name
 from .numerals import chance
@@ -63,12 +64,14 @@ def padded(rng, text):
 def full_file(rng):
     """The bytes of a network file at some limits."""
     lines = full_network(rng).text().decode().splitlines()
+    if chance(rng, 0.2):
+        break_network(rng, lines)
     if chance(rng, 0.4):
         lines = reordered(rng, lines)
     if chance(rng, 0.3):
         lines = with_a_long_line(rng, lines)
     ending = rng.choice(["\n", "\n", "\r\n"])
-    text = (ending.join(lines) + ending).encode()
+    text = (ending.join(lines) + ending).encode("latin-1")
     return padded(rng, text) if chance(rng, 0.3) else text
 
 

@@ -5,45 +5,25 @@ The networks have small numbers, so that no operation passes; where one does all
 widths of numbers are not kept by units. Runs have the same budgets, and where a budget ends one of them (status 5, 6 or 12), each relation
 says whether it holds.
 """
+from __future__ import annotations
+
+import random
 from dataclasses import replace
 from fractions import Fraction
 
-from .case import Case
-from .networks import PLAIN, joined, scaled, some_network
+from .networks import PLAIN, Link, Network, joined, scaled, some_network
 from .numerals import printed
-from .relations import in_other_units, lines_of, other_names, renamed, with_names
+from .relations import in_other_units, lines_of, other_names, renamed, with_names, without_name
 from .reports import CURVES
+from .resumptions import checking, continuing, resuming, supplying_more
 from .running import Answer
+from .runs import PATTERNS, Relation, Runs, some_later
 from .side_files import flows_text_lines, loads_lines, routes_lines, thin_flow, with_shuffled_links
-
-PATTERNS = ["--patterns", "5000"]
-YES = Answer(0, b"yes\n", b"")
-
-
-class Runs:
-    """The program on networks."""
-
-    def __init__(self, programs):
-        self.found = programs.found
-
-    def of(self, words, **files):
-        """The case of these words and files, and its answer."""
-        case = Case(words, files)
-        return case, self.found(case.words, case.files)
-
-    def solve(self, network, horizon, *more):
-        """The run of a network up to a horizon."""
-        return self.of(["solve", "N", "--horizon", printed(horizon), *PATTERNS, *more], N=network.text())
 
 
 def small_factor(rng):
     """A positive rational number with small parts."""
     return Fraction(rng.randint(1, 40), rng.randint(1, 12))
-
-
-def some_later(rng, time):
-    """A time at or behind another one."""
-    return time + Fraction(rng.randint(0, 12), rng.choice([1, 2, 3]))
 
 
 def scaling(rng, runs, network, horizon):
@@ -92,44 +72,6 @@ def renaming(rng, runs, network, horizon):
         _, answer = runs.of(words, N=network.text())
         case, found = runs.of(words, N=other.text())
         yield case, answer._replace(out=with_names(answer.out, nodes, links)), found
-
-
-def resuming(rng, runs, network, horizon):
-    """`resume` at each event, and between events, gives the bytes of one run.
-
-    A run's next phase depends on the flow up to the departure reached and on the last states alone, and a report has both. So the bytes are
-    the same where both runs reach the horizon (status 0). Budgets count from the resumed departure, and a search that begins within a
-    phase may be longer than the one at its start: where the resumed run stops, nothing is asked.
-    """
-    _, whole = runs.solve(network, horizon)
-    if whole.status != 0:
-        return
-    stops = [("--phases", str(count)) for count in range(1, 7)]
-    parts = [runs.solve(network, horizon, *stop)[1] for stop in stops]
-    parts += [runs.solve(network, horizon * Fraction(rng.randint(0, 12), 12))[1] for _ in range(2)]
-    for part in parts:
-        if part.status in (0, 5):
-            case, found = runs.of(["resume", "N", "R", "--horizon", printed(horizon), *PATTERNS], N=network.text(), R=part.out)
-            if found.status == 0:
-                yield case, whole, found
-
-
-def checking(rng, runs, network, horizon):
-    """`check` says yes of what `solve` and `resume` wrote, whatever stopped them.
-
-    A written report is an equilibrium up to the departure reached, and `check` says yes of each equilibrium. Its own operations may pass
-    (status 7) where those of `solve` don't; then nothing is asked.
-    """
-    _, first = runs.solve(network, horizon, "--phases", str(rng.randint(1, 8)))
-    if not first.out:
-        return
-    later = printed(some_later(rng, horizon))
-    _, second = runs.of(["resume", "N", "R", "--horizon", later, *PATTERNS, "--phases", "3"], N=network.text(), R=first.out)
-    for answer in (first, second):
-        if answer.out:
-            case, found = runs.of(["check", "N", "R"], N=network.text(), R=answer.out)
-            if found.status != 7:
-                yield case, YES, found
 
 
 def settling(rng, runs, network, horizon):
@@ -209,6 +151,37 @@ def halving(rng, runs, network, horizon):
         yield case, lines_of(answer, "label"), lines_of(found, "label")
 
 
+def splitting(rng: random.Random, runs: Runs, network: Network, horizon: Fraction) -> Relation:
+    """A link in two, one after the other, of which the second is unbounded, leaves the labels.
+
+    Nobody waits before the second one. So both together have the exits of the one link, and equilibria of the one network are equilibria of the
+    other. The list of patterns is longer: nothing is asked unless both runs reach the horizon.
+    """
+    link = rng.choice(network.links)
+    part = link.transit * Fraction(rng.randint(0, 3), 3)
+    halves = [replace(link, head="mid", transit=part), Link("second", "mid", link.head, link.transit - part, None)]
+    links = [new for old in network.links for new in (halves if old is link else [old])]
+    _, answer = runs.solve(network, horizon)
+    case, found = runs.solve(replace(network, version=2, links=links), horizon)
+    if (answer.status, found.status) == (0, 0):
+        yield case, lines_of(answer, "label"), without_name(lines_of(found, "label"), "mid")
+
+
+def ordering_routes(rng: random.Random, runs: Runs, network: Network, horizon: Fraction) -> Relation:
+    """Another order of the `route` lines leaves the lines that `routes` writes, but for their order.
+
+    What enters a link is a sum over its routes. In another order an operation may pass (status 7); then nothing is asked.
+    """
+    lines = routes_lines(rng, network, horizon)
+    routes = [line for line in lines if line.startswith("route ")]
+    others = [line for line in lines[1:] if not line.startswith("route ")]
+    _, answer = runs.of(["routes", "N", "X", "--horizon", printed(horizon)], N=network.text(), X=joined(lines))
+    rng.shuffle(routes)
+    case, found = runs.of(["routes", "N", "X", "--horizon", printed(horizon)], N=network.text(), X=joined([lines[0], *routes, *others]))
+    if answer.status == 0 and found.status != 7:
+        yield case, lines_of(answer), lines_of(found)
+
+
 def later_supply(rng, runs, network, horizon):
     """What is supplied from the horizon on leaves the report.
 
@@ -236,7 +209,8 @@ def lasting(rng, runs, network, horizon):
             yield case, lines_of(answer, *CURVES, "never"), lines_of(found, *CURVES, "never")
 
 
-RELATIONS = [scaling, scaling_files, renaming, resuming, resuming, checking, settling, showing, ordering, cutting, halving, later_supply, lasting]
+RELATIONS = [scaling, scaling_files, renaming, resuming, resuming, checking, settling, showing, ordering, ordering_routes, cutting, halving,
+             splitting, continuing, supplying_more, later_supply, lasting]
 
 
 def some_relation(rng, programs):

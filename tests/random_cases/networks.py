@@ -1,4 +1,7 @@
 """Networks of several kinds, and their files."""
+from __future__ import annotations
+
+import random
 from dataclasses import dataclass, replace
 from fractions import Fraction
 
@@ -262,12 +265,40 @@ def other_units(rng, version):
     return scaled(small(rng, version), wide(rng, rng.choice([20, 40, 63])), wide(rng, rng.choice([3, 20, 40, 63])))
 
 
+def many_pieces(rng: random.Random, version: int) -> Network:
+    """Two to four nodes whose supply changes up to 40 times, seldom 200 times, so that reports are long."""
+    nodes = inner_nodes(rng.randint(0, 2))
+    transit, capacity = choice_of(Fraction(0), Fraction(1), Fraction(1, 2)), choice_of(Fraction(1), Fraction(2), Fraction(3, 2))
+    links = chain(rng, nodes, transit, capacity)
+    for k in range(rng.randint(1, 3)):
+        tail, head = sorted(rng.sample(range(len(nodes)), 2))
+        links.append(Link(f"x{k}", nodes[tail], nodes[head], Fraction(rng.randint(1, 5)), unbounded_at_times(rng, version, capacity(rng))))
+    starts = rising_times(rng, rng.choice([200] + 9 * [rng.randint(8, 40)]))
+    return Network(version, links, [(start, Fraction(rng.choice([0, 0, 1, 2, 3, 5, Fraction(1, 2)]))) for start in starts])
+
+
+def layers(rng: random.Random, version: int) -> Network:
+    """One to four layers of up to three nodes between source and sink, with a link or two from each node to each of the next layer."""
+    width, taken, links = rng.randint(1, 3), set(), []
+    rows = [["s"]] + [[f"n{i}{j}" for j in range(width)] for i in range(rng.randint(0, 3))] + [["t"]]
+    transits = rng.choice([[0, 1], [1], [0, 1, Fraction(1, 2), 2]])
+    for tail, head in [(tail, head) for row, after in zip(rows, rows[1:]) for tail in row for head in after]:
+        for _ in range(rng.choice([1, 1, 2])):
+            capacity = unbounded_at_times(rng, version, Fraction(rng.choice([1, 2, Fraction(1, 2), Fraction(3, 2)])))
+            links.append(Link(some_name(rng, taken), tail, head, Fraction(rng.choice(transits)), capacity))
+    if chance(rng, 0.3):
+        links.append(Link(some_name(rng, taken), "t", rng.choice("st"), Fraction(1), Fraction(1)))
+    rng.shuffle(links)
+    return Network(version, links, some_pieces(rng, 2))
+
+
 def ladder_like(rng, version):
     """Up to 64 nodes in a row with links between near ones, and long names."""
     count = rng.choice([12, 24, 40, 64])
     taken, names = set(), set()
     nodes = [some_name(rng, taken) for _ in range(count)]
-    transits, capacities = rng.choice([[1], [0, 1], [1, 2, 3], [5, 7, 11]]), rng.choice([[1], [1, 2], [3, 4, 5, 6, 7]])
+    transits = rng.choice([[1], [0, 1], [1, 2, 3], [5, 7, 11], [2 ** k for k in range(8)]])
+    capacities = rng.choice([[1], [1, 2], [3, 4, 5, 6, 7], [2 ** k for k in range(30)], [3 ** k for k in range(20)]])
     ends = [(max(0, i - rng.randint(1, 4)), i) for i in range(1, count)]
     ends += [(i, min(count - 1, max(0, i + rng.randint(-3, 6)))) for i in (rng.randrange(count) for _ in range(rng.randint(0, 200 - count)))]
     links = [Link(some_name(rng, names), nodes[tail], nodes[head], Fraction(rng.choice(transits) or head <= tail),
@@ -284,8 +315,8 @@ def scaled(network, time, amount):
 
 KINDS = {"small": small, "larger": larger, "parallel": parallel, "zero": zero_chains, "still": standing_still, "wide": wide_numbers,
          "tables": wide_tables, "coprime": coprime_numbers, "powers": at_powers, "primes": primes, "idle": with_idle_parts, "units": other_units,
-         "row": ladder_like}
-PLAIN = ["small", "small", "larger", "parallel", "zero", "still", "idle"]
+         "row": ladder_like, "pieces": many_pieces, "layers": layers}
+PLAIN = ["small", "small", "larger", "parallel", "zero", "still", "idle", "pieces"]
 WIDE = ["wide", "tables", "coprime", "powers", "primes", "units"]
 
 

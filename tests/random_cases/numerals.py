@@ -3,7 +3,7 @@ from fractions import Fraction
 
 LARGEST = 2 ** 127 - 1
 # Primes: fractions over two of them can hardly be summed.
-PRIMES = [2 ** 61 - 1, 2 ** 64 + 13, 2 ** 67 + 3, 2 ** 71 + 11, 2 ** 89 - 1, 2 ** 107 - 1, 2 ** 127 - 1]
+PRIMES = [2 ** 61 - 1, 2 ** 64 + 13, 2 ** 67 + 3, 2 ** 71 + 11, 2 ** 89 - 1, 2 ** 107 - 1, 2 ** 127 - 1, 2 ** 127 - 25, 2 ** 127 - 39]
 # Words that are no numbers, or numbers in another than the printed form, or at the limits of what is accepted.
 ODD_WORDS = ["2/4", "07", "-0", "0/1", "1/1", "+1", "1.5", "0.50", "02.5", "-", "x", "1/0", "0/5", "0/0", "00/1", str(LARGEST), str(LARGEST + 1),
              f"1/{LARGEST}", f"1/{LARGEST + 1}", f"{LARGEST}/{LARGEST}", f"-{LARGEST}", f"-{LARGEST + 1}", "--1", "1/-2", "-1/02",

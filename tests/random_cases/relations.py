@@ -55,6 +55,12 @@ def renamed(network, nodes, links):
 
 
 def lines_of(answer, *keys):
-    """The answer with those lines alone that begin with one of the words, sorted."""
-    lines = [line for line in answer.out.splitlines(keepends=True) if line.split(b" ")[0].decode() in keys]
+    """The answer with those lines alone that begin with one of the words, or with all lines if there is no word, sorted."""
+    lines = [line for line in answer.out.splitlines(keepends=True) if not keys or line.split(b" ")[0].decode() in keys]
     return Answer(answer.status, b"".join(sorted(lines)), answer.err)
+
+
+def without_name(answer: Answer, name: str) -> Answer:
+    """The answer without the lines whose second word is a name."""
+    lines = [line for line in answer.out.splitlines(keepends=True) if line.split(b" ")[1:2] != [name.encode()]]
+    return Answer(answer.status, b"".join(lines), answer.err)

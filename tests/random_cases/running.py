@@ -5,7 +5,7 @@ import shutil
 import signal
 import subprocess
 import tempfile
-from typing import NamedTuple
+from typing import Callable, NamedTuple
 
 from independent.app import run
 
@@ -15,6 +15,9 @@ class Answer(NamedTuple):
     status: object
     out: bytes
     err: bytes
+
+
+AnswerOf = Callable[[list, dict], Answer]  # a program: its answer to words and files
 
 
 class TooSlow(Exception):
