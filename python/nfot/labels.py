@@ -50,18 +50,18 @@ def earliest(net: Network, loaded: Mapping[str, FedLink], reached: Fraction) -> 
     while waiting:
         node = order[heappop(waiting)]
         for link in links_from.get(node, []):
-            exits = loaded[link.name].exits(first[node], last[node])
-            if link.head != net.source and improves(labels, link, exits) and rank[link.head] not in waiting:
+            if link.head != net.source and improves(labels, loaded[link.name], first[node], last[node]) and rank[link.head] not in waiting:
                 heappush(waiting, rank[link.head])
     return labels
 
 
-def improves(labels: Dict[str, Curve], link: Link, exits: Curve) -> bool:
-    """Lowers the label of the link's head to the exits for those who come by its tail; whether it changed."""
+def improves(labels: Dict[str, Curve], passage: FedLink, start: Fraction, until: Fraction) -> bool:
+    """Lowers the label of the link's head to the exits for those who come by its tail, from `start` to `until`; whether it changed."""
+    link = passage.link
     before = labels.get(link.head)
     if before is not None and is_later(labels[link.tail], link.transit, before):
         return False
-    arrival = labels[link.tail].then(exits)
+    arrival = labels[link.tail].then(passage.exits(start, until))
     after = arrival.tidy() if before is None else arrival.least(before).tidy()
     labels[link.head] = after
     return before is None or after.points != before.points

@@ -1,8 +1,9 @@
 """Readers of loads, routes and flows files against those of the independent program; vehicles as flow; what a report leaves open."""
+import itertools
 import random
 import unittest
 from fractions import Fraction
-from typing import Callable, List, Tuple
+from typing import Callable, List, Set, Tuple
 
 import nfot
 from nfot.inputs import flows_of, loads_of, read_sent, routes_of
@@ -111,8 +112,11 @@ class Vehicles(Case):
 class Evidence(Case):
     def test_what_is_open_may_be_otherwise(self) -> None:
         """The report is an equilibrium of each network that the list names, and of none with a smaller value."""
-        rng, kinds = random.Random(61), set()
-        for _ in range(COUNT):
+        rng = random.Random(61)
+        kinds: Set[str] = set()
+        for count in itertools.count():
+            if count >= COUNT and kinds >= {"supply", "capacity", "transit"}:
+                break
             net = random_network(rng)
             run = nfot.solve(net, 6)
             for item in nfot.unsaid(net, run):
@@ -124,7 +128,6 @@ class Evidence(Case):
                     self.assertTrue(nfot.check(self.other(net, item, more), found), (str(item), net.text()))
                 if item.least and item.least > Fraction(1, 9):
                     self.assertFalse(nfot.check(self.other(net, item, Fraction(-1, 9)), found), (str(item), net.text()))
-        self.assertLessEqual({"supply", "capacity", "transit"}, kinds)
 
     def other(self, net: nfot.Network, item: nfot.Open, more: Fraction) -> nfot.Network:
         """The network with the least value that the item names, and so much more."""

@@ -154,9 +154,9 @@ class Along(Case):
 
     def test_single_routes_have_the_gap_of_their_travel_times(self) -> None:
         """With the routes' rates as supply: what is spent is what `routes` says of each departure; the greatest loss is not below that of any route."""
-        rng, positive = random.Random(32), 0
-        for _ in range(2 * COUNT):
-            net = random_network(rng)
+        rng, count, positive = random.Random(32), 0, 0
+        while count < 2 * COUNT or positive < COUNT // 2:
+            net, count = random_network(rng), count + 1
             routes = random_routes(rng, net, 2)
             if not routes:
                 continue
@@ -169,7 +169,6 @@ class Along(Case):
             self.assertEqual((found.gap == 0, found.worst.time == 0, found.worst.departure is None), (bool(verdict),) * 3)
             self.assertEqual(found.gap, found.spent - found.best)
             positive += found.gap > 0
-        self.assertGreater(positive, COUNT // 3)
 
     def of_travels(self, report: nfot.Report, routes: Routes, travels: Mapping[str, nfot.Curve]) -> Tuple[Fraction, Fraction]:
         """Time spent and greatest loss on the routes themselves, from the travel lines of `nfot routes`."""
@@ -225,8 +224,9 @@ class Gaps(Case):
 
     def test_zero_for_solved_runs_and_positive_for_those_of_smaller_networks(self) -> None:
         """The equilibrium of a network without some links, judged in the whole one: no gap exactly where `check` says yes."""
-        rng, told = random.Random(41), []
-        while len(told) < COUNT:
+        rng = random.Random(41)
+        told: List[bool] = []
+        while len(told) < COUNT or all(told):
             net = random_network(rng)
             run = nfot.solve(net, 6)
             self.assertEqual(nfot.gap(net, run).gap, 0)
@@ -241,7 +241,6 @@ class Gaps(Case):
             self.assertEqual((found.gap > 0, found.worst.time > 0), (not verdict, not verdict), net.text())
             self.assertLessEqual(found.gap, found.worst.time * net.supplied(6))
             told.append(bool(verdict))
-        self.assertIn(False, told)
 
     def test_small_gaps_are_never_printed_as_zero(self) -> None:
         """One of 10^9 drivers a minute takes the longer road."""

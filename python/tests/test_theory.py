@@ -119,7 +119,7 @@ class Random(Case):
                     changed = self.changed(rng, phase)
                     self.assertEqual(nfot.broken(net, changed) is None, meets_definition(net, changed), changed)
                     broken += not meets_definition(net, changed)
-        self.assertGreater(broken, 4 * COUNT)
+        self.assertGreater(broken, COUNT)
 
     def changed(self, rng: random.Random, phase: Phase) -> Phase:
         """The phase with some flows or slopes changed; often along a whole route, so that all is kept but one condition."""
@@ -132,10 +132,10 @@ class Random(Case):
     def test_settle_agrees_at_departure_0(self) -> None:
         """`settle` answers whether flows and slopes are a thin flow at departure 0."""
         rng = random.Random(15)
-        answers = set()
-        for run in solved(15, COUNT):
-            net = run.network
-            assert net is not None
+        answers: Dict[bool, int] = {True: 0, False: 0}
+        while min(answers.values()) < COUNT // 3 or sum(answers.values()) < COUNT:
+            net = random_network(rng)
+            run = nfot.solve(net, 4)
             phase = self.changed(rng, nfot.thin(net, run, 0)) if rng.random() < 0.6 else nfot.thin(net, run, 0)
             if min(*phase.flows.values(), *phase.slopes.values()) < 0:
                 continue
@@ -146,8 +146,7 @@ class Random(Case):
             except nfot.Refused:
                 thin = False
             self.assertEqual(nfot.broken(net, given) is None, thin)
-            answers.add(thin)
-        self.assertEqual(answers, {True, False})
+            answers[thin] += 1
 
     def test_a_later_departure_of_a_phase_has_its_thin_flow(self) -> None:
         """The flows and slopes of a phase are also a thin flow for the sets within it."""
