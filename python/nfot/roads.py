@@ -62,6 +62,8 @@ Measure = Callable[[Row], Optional[Fraction]]
 
 def length_of(sheet: Sheet, columns: Columns) -> Optional[Measure]:
     """How the kilometres of a row are read; None where no column has them."""
+    if columns.length_m and columns.length_km:
+        raise Refused("the length is in kilometres or in metres, not in both columns", file=sheet.file)
     if columns.length_m:
         metres = sheet.column(columns.length_m)
         return lambda row: row.number(metres) / 1000
@@ -73,6 +75,8 @@ def length_of(sheet: Sheet, columns: Columns) -> Optional[Measure]:
 
 def minutes_of(sheet: Sheet, columns: Columns, length: Optional[Measure]) -> Measure:
     """How the minutes of a row are read: from their column, else from length and speed."""
+    if columns.speed_kmh and columns.minutes:
+        raise Refused("the time is given in minutes or by a speed, not by both columns", file=sheet.file)
     if columns.speed_kmh or not (columns.minutes or sheet.has("minutes", "time")) and sheet.has("speed_kmh"):
         if length is None:
             raise Refused("a speed needs a length: name its column by --length-km or --length-m", file=sheet.file, line=1)
@@ -90,9 +94,11 @@ def minutes_of(sheet: Sheet, columns: Columns, length: Optional[Measure]) -> Mea
 
 def capacity_of(sheet: Sheet, columns: Columns, hourly: bool) -> Measure:
     """How the capacity of a row is read, in vehicles a minute: from its column, else from lanes."""
-    if columns.lanes or columns.lane_capacity is not None:
-        if columns.lane_capacity is None:
-            raise Refused("lanes need the vehicles that a lane lets through in an hour: --lane-capacity 1800", file=sheet.file)
+    if columns.lane_capacity is None and columns.lanes and not columns.capacity and not sheet.has("capacity"):
+        raise Refused("lanes need the vehicles that a lane lets through in an hour: --lane-capacity 1800", file=sheet.file)
+    if columns.lane_capacity is not None:
+        if columns.capacity:
+            raise Refused("the capacity is given by its column or by lanes, not by both", file=sheet.file)
         lanes, each = sheet.column(columns.lanes, "lanes"), columns.lane_capacity
         return lambda row: row.number(lanes) * each / 60
     capacity = sheet.column(columns.capacity, "capacity")

@@ -81,6 +81,7 @@ class Queues(Results):
         self.assertEqual([(row["link"], f"{float(row['longest wait']):.2f}") for row in rows], [("bridge", "17.00"), ("approach", "7.20"), ("main", "6.17"), ("alley", "2.17")])
         self.assertEqual(rows[0], {"link": "bridge", "from": "06:37", "until": "08:09", "longest wait": "17", "at": "07:11", "vehicles": "680"})
         self.assertEqual(len(self.fine("queues", net, report, "--top", 1).splitlines()), 2)
+        self.refused(2, "argument --top: 0 is no whole number above 0", "queues", net, report, "--top", 0)
 
     def test_longer_than_the_road(self) -> None:
         """The bridge of bridge.net has 140 metres, so 20 vehicles of 7 metres: its queue grows by 2 a minute, and is longer from 10 on."""
@@ -175,6 +176,8 @@ class Bottlenecks(Results):
         forever = "forever 1\nslope s 1\nslope t 3/2\n"
         self.assertEqual(self.fine("bottleneck", EXAMPLES / "two.net", "-", stdin=forever), wanted)
         self.assertEqual(self.fine("bottleneck", EXAMPLES / "two.net"), wanted)
+        self.fine("bottleneck", EXAMPLES / "two.net", "--csv", "links.csv")
+        self.assertEqual(self.rows("links.csv"), [{"link": "a", "capacity": "1"}, {"link": "b", "capacity": "1"}])
         self.assertEqual(self.fine("bottleneck", EXAMPLES / "bridge.net"), "travel times settle: the slope of the sink is 1\n")
         self.refused(1, "other nodes", "bottleneck", EXAMPLES / "bridge.net", "-", stdin=forever)
         self.refused(1, "aren't those of this network", "bottleneck", EXAMPLES / "two.net", "-", stdin=forever.replace("3/2", "5/2"))

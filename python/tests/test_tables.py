@@ -74,6 +74,17 @@ class Numbers(Table):
         self.wrong(2, "roads.csv line 3: column `vmax`: 0 is no speed", table.replace("30,1", "0,1"), *words)
         self.wrong(2, "--lane-capacity 1800", table, *words[:-2])
 
+    def test_two_columns_for_one_value_are_refused(self) -> None:
+        """Neither is taken in silence."""
+        table = "from,to,t,q,km,m,v,n\ns,t,1,1,1,1000,60,1\n"
+        both = ["--minutes", "t", "--capacity", "q"]
+        self.wrong(2, "in kilometres or in metres", table, "s", "t", *both, "--length-km", "km", "--length-m", "m")
+        self.wrong(2, "in minutes or by a speed", table, "s", "t", *both, "--length-km", "km", "--speed-kmh", "v")
+        self.wrong(2, "by its column or by lanes", table, "s", "t", *both, "--lanes", "n", "--lane-capacity", 1800)
+        net, _ = self.made(table, "s", "t", *both, "--lanes", "n", "--length-km", "km", "--names", "names.csv")
+        self.assertEqual(net.links["s-t"].capacity, 1)
+        self.assertIn("s-t,link,s-t,2,1,1", (self.folder / "names.csv").read_text())
+
     def test_zero_times_are_told(self) -> None:
         net, err = self.made("from,to,time,capacity\ns,t,0,1\n", "s", "t", "0:1")
         self.assertEqual(net.links["s-t"].transit, Fraction(1, 10))

@@ -1,7 +1,8 @@
 """Prints whether travel times settle under lasting demand, and if not, the bottleneck.
 
 FOREVER is the output of `nfot solve NET --forever` (`-`: standard input); without it the tool has it made. If travel times grow, the links of
-the bottleneck are printed with their capacities, the sum beside the last supply rate, and the growth. Numbers are exact.
+the bottleneck are printed with their capacities, the sum beside the last supply rate, and the growth. Numbers are exact. With --csv the
+links and their capacities are written alone.
 
 example: nfot-py bottleneck lasting.net
 example: nfot-py solve lasting.net --forever | nfot-py bottleneck lasting.net -"""
@@ -16,12 +17,15 @@ from ..cuts import bottleneck, numbers_of
 from ..faults import Refused
 from ..lines import read_bytes
 from ..networks import Network, read_network
+from ..rows import Rows
+from .common import add_csv, write_rows
 
 
 def add_arguments(parser: argparse.ArgumentParser) -> None:
     """The arguments of the tool."""
     parser.add_argument("net", metavar="NET", help="the network file, with a demand whose last rate lasts")
     parser.add_argument("forever", metavar="FOREVER", nargs="?", help="the output of `nfot solve NET --forever`")
+    add_csv(parser)
 
 
 def slopes_of(network: Network, path: str | None) -> dict[str, Fraction]:
@@ -40,6 +44,9 @@ def main(arguments: argparse.Namespace) -> int:
     """Prints the bottleneck."""
     network = read_network(arguments.net)
     found = bottleneck(network, slopes_of(network, arguments.forever))
+    if arguments.csv is not None:
+        write_rows(Rows(["link", "capacity"], [(link.name, link.capacity) for link in found.links]), arguments)
+        return 0
     if found.slope == 1:
         print("travel times settle: the slope of the sink is 1")
         return 0

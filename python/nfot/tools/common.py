@@ -31,6 +31,13 @@ def least(bound: Fraction, open_end: bool = False) -> Callable[[str], Fraction]:
     return read
 
 
+def count(word: str) -> int:
+    """A whole number above 0."""
+    if not word.isdecimal() or not int(word):
+        raise argparse.ArgumentTypeError(f"{word} is no whole number above 0")
+    return int(word)
+
+
 positive, natural = least(Fraction(0), True), least(Fraction(0))
 
 

@@ -15,13 +15,13 @@ from ..numbers import clock
 from ..queues import VEHICLE, Place, Queue, longest_first, queues_of, read_places
 from ..reports import Report
 from ..rows import Cell, Rows
-from .common import add_clock, add_csv, add_pair, positive, read_run, write_rows
+from .common import add_clock, add_csv, add_pair, count, positive, read_run, write_rows
 
 
 def add_arguments(parser: argparse.ArgumentParser) -> None:
     """The arguments of the tool."""
     add_pair(parser)
-    parser.add_argument("--top", metavar="N", type=int, help="only the N links with the longest waits")
+    parser.add_argument("--top", metavar="N", type=count, help="only the N links with the longest waits")
     parser.add_argument("--names", metavar="FILE", help="the names, as `nfot-py table --names` wrote them")
     parser.add_argument("--vehicle-m", metavar="METRES", type=positive, default=VEHICLE, help="metres of a lane that a waiting vehicle takes (7)")
     add_clock(parser)

@@ -14,15 +14,15 @@ from ..commands import solve
 from ..faults import Stopped
 from ..networks import read_network
 from ..reports import Report, write_report
-from .common import natural
+from .common import count, natural
 
 
 def add_arguments(parser: argparse.ArgumentParser) -> None:
     """The arguments of the tool."""
     parser.add_argument("net", metavar="NET", help="the network file; `-` is standard input")
     parser.add_argument("--horizon", metavar="Q", type=natural, required=True, help="the last departure")
-    parser.add_argument("--phases", metavar="N", type=int, help="the most phases of a run (10000)")
-    parser.add_argument("--patterns", metavar="N", type=int, help="the most patterns that a phase tries before the package helps (100000)")
+    parser.add_argument("--phases", metavar="N", type=count, help="the most phases of a run (10000)")
+    parser.add_argument("--patterns", metavar="N", type=count, help="the most patterns that a phase tries before the package helps (100000)")
     parser.add_argument("--timeout", metavar="SECONDS", type=float, help="the most seconds of each run of nfot")
     parser.add_argument("--out", metavar="PATH", help="write the report to this file, whole or not at all")
 
