@@ -242,10 +242,11 @@ def meet_bottleneck(rng, net, tally):
     """The label of the sink grows by the least cut, also with a last supply rate that is the least capacity, or differs little from it."""
     least = least_capacity(net)
     if least is None:
-        return meet_growth(rng, net, tally)
-    near = least / rng.choice([3, 10, 50])
-    for rate in (least - near, least, least + near):
-        meet_growth(rng, with_last_rate(net, exact(rate)), tally)
+        meet_growth(rng, net, tally)
+    else:
+        near = least / rng.choice([3, 10, 50])
+        for rate in (least - near, least, least + near):
+            meet_growth(rng, with_last_rate(net, exact(rate)), tally)
 
 
 def meet_growth(rng, net, tally):
@@ -264,6 +265,8 @@ def meet_growth(rng, net, tally):
     if run.cause == DONE:
         meet_last_phase(direct, DirectFlow(net, solution.flow), grows)
         tally["growth, " + ("narrow" if grows > 1 else "wide")] += 1
+    else:
+        tally["growth, stopped"] += 1
 
 
 def meet_last_phase(direct, until_tail, grows):

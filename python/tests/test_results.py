@@ -152,7 +152,8 @@ class Compare(Results):
     def test_faults_name_the_word(self) -> None:
         bridge = self.solved("bridge.net", 60)
         for words, status, wanted in [((*bridge, EXAMPLES / "two.net", bridge[1]), 1, "is no report of"), ((*bridge, *bridge, "61"), 1, "not 61"),
-                                      ((*bridge, *bridge, "x"), 2, "x is no number"), (bridge, 2, "required: NET2, REPORT2")]:
+                                      ((*bridge, *bridge, "x"), 2, "x is no number"),
+                                      ((bridge[0], "-", bridge[0], "-"), 2, "only one of the files"), (bridge, 2, "required: NET2, REPORT2")]:
             self.refused(status, wanted, "compare", *words)
 
 

@@ -9,7 +9,7 @@ from fractions import Fraction
 from typing import Optional
 
 from .direct import DirectFlow, plain
-from .direct_growth import last_rate, static_cuts, cut_capacity
+from .direct_growth import cut_capacity, last_rate, static_cuts
 from .network import Network
 
 

@@ -1,4 +1,7 @@
 """A random case of each command: its files, valid, changed at random or broken at a chosen rule, and its options."""
+from __future__ import annotations
+
+import random
 from dataclasses import replace
 from fractions import Fraction
 
@@ -13,6 +16,7 @@ from .networks import PLAIN, WIDE, joined, some_network
 from .numerals import LARGEST, chance, near_powers, printed, some_time, wide
 from .places import beside_a_place
 from .reports import read_report
+from .running import AnswerOf
 from .side_files import flows_lines, full_loads_lines, loads_lines, routes_lines
 
 NUMBER_COLUMNS = {"link": 4, "inflow": 1, "rate": 2, "flow": 2, "slope": 2}
@@ -68,7 +72,7 @@ def show_call(rng, answer_of):
     return Call("show", [], {"N": text})
 
 
-def large_call(rng, answer_of):
+def large_call(rng: random.Random, answer_of: AnswerOf) -> Call:
     """`solve` of a network of up to 64 nodes and 200 links, for a phase or two by few patterns."""
     network = some_network(rng, answer_of, ["row"])
     options = [("horizon", printed(some_time(rng))), ("phases", rng.choice([1, 1, 2])), ("patterns", rng.choice([1, 2, 3, 5, 20]))]

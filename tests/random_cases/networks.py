@@ -278,7 +278,7 @@ def many_pieces(rng: random.Random, version: int) -> Network:
 
 
 def layers(rng: random.Random, version: int) -> Network:
-    """One to four layers of up to three nodes between source and sink, with a link or two from each node to each of the next layer."""
+    """Up to three layers of up to three nodes between source and sink, with a link or two from each node to each of the next layer."""
     width, taken, links = rng.randint(1, 3), set(), []
     rows = [["s"]] + [[f"n{i}{j}" for j in range(width)] for i in range(rng.randint(0, 3))] + [["t"]]
     transits = rng.choice([[0, 1], [1], [0, 1, Fraction(1, 2), 2]])

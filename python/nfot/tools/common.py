@@ -53,9 +53,14 @@ def add_csv(parser: argparse.ArgumentParser) -> None:
 
 def read_run(net: str, report: str) -> tuple[Network, Report]:
     """A network and its report; a Fault where they don't belong together."""
-    if net == report == "-":
-        raise Refused("only one of the files can be standard input")
+    check_inputs(net, report)
     return read_pair(net, report)
+
+
+def check_inputs(*paths: Optional[str]) -> None:
+    """Refuses a second file that is standard input."""
+    if paths.count("-") > 1:
+        raise Refused("only one of the files can be standard input")
 
 
 def departures(words: list[str], clock: Optional[Fraction], run: Report, name: str) -> list[Fraction]:

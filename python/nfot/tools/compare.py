@@ -17,7 +17,7 @@ from ..numbers import decimal
 from ..reports import Report
 from ..rows import Rows, grid
 from ..wording import Words
-from .common import add_clock, add_csv, departures, positive, read_run, write_rows
+from .common import add_clock, add_csv, check_inputs, departures, positive, read_run, write_rows
 
 
 def add_arguments(parser: argparse.ArgumentParser) -> None:
@@ -56,6 +56,7 @@ def cut_line(arguments: argparse.Namespace, runs: list[Report], until: Fraction)
 
 def main(arguments: argparse.Namespace) -> int:
     """Prints the comparison; or writes the departures as CSV."""
+    check_inputs(arguments.net1, arguments.report1, arguments.net2, arguments.report2)
     pairs: list[tuple[Network, Report]] = [read_run(arguments.net1, arguments.report1), read_run(arguments.net2, arguments.report2)]
     found, words = compare(*pairs[0], *pairs[1]), Words(arguments.exact, arguments.clock)
     shorter = min(pairs, key=lambda pair: pair[1].reached)[1]

@@ -48,7 +48,7 @@ def version() -> str:
     """The text of `nfot-py --version`."""
     from .. import __version__
     found = program()
-    return f"nfot-py {__version__}, with {'the program' if found.proved else 'the slow program, which is not proved,'} {found.place}"
+    return f"nfot-py {__version__}, with {'the program' if found.proved else 'the slow program, which is not proved:'} {found.place}"
 
 
 def plain(words: Sequence[str]) -> list[str]:

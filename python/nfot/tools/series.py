@@ -13,7 +13,7 @@ from pathlib import PurePath
 from ..faults import Refused
 from ..reports import Report
 from ..rows import side_by_side
-from .common import add_clock, add_csv, positive, read_run, write_rows
+from .common import add_clock, add_csv, check_inputs, positive, read_run, write_rows
 
 
 def add_arguments(parser: argparse.ArgumentParser) -> None:
@@ -30,6 +30,7 @@ def runs_of(files: list[str]) -> dict[str, Report]:
     """The reports by name: that of the file without its ending, else the whole one where two are equal."""
     if len(files) % 2:
         raise Refused(f"{files[-1]}: each scenario is a pair NET REPORT, and this is the first of one")
+    check_inputs(*files)
     pairs = list(zip(files[::2], files[1::2]))
     stems = [PurePath(report).stem for _, report in pairs]
     names = stems if len(set(stems)) == len(stems) else [report for _, report in pairs]

@@ -21,7 +21,7 @@ from ..faults import Refused
 from ..numbers import clock
 from ..roads import Columns, read_roads
 from ..tables import Units, network_of_table
-from .common import natural, number, positive
+from .common import check_inputs, natural, number, positive
 
 COLUMNS = [("--from", "tail", "node at which a road begins (usual: from)"), ("--to", "head", "node at which it ends (usual: to)"),
            ("--name", "name", "name of the road (usual: name)"), ("--minutes", "minutes", "minutes on the empty road (usual: minutes or time)"),
@@ -75,6 +75,7 @@ def main(arguments: argparse.Namespace) -> int:
     """Prints the network, and on standard error what became of the table."""
     columns = Columns(**{name: getattr(arguments, name) for _, name, _ in COLUMNS}, lane_capacity=arguments.lane_capacity)
     hourly = arguments.hourly or arguments.lane_capacity is not None
+    check_inputs(arguments.table, arguments.demand)
     demand = demand_of(arguments)
     roads = read_roads(arguments.table, columns, two_way=arguments.two_way, hourly=arguments.hourly)
     units = Units(arguments.round_capacity, arguments.round_time, arguments.round_rate, hourly, arguments.most_change)
