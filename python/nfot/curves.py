@@ -6,7 +6,7 @@ from fractions import Fraction
 from typing import Callable, Iterable, Iterator, List, Optional, Sequence, Tuple, Union
 
 from .faults import OutOfRange, Refused
-from .merging import Point, Row, clipped, composed, lesser, merged, on_line, tidied
+from .merging import Point, Row, clipped, composed, lesser, merged, on_line, slope_between, tidied
 from .numbers import Number, Time, exact, short, time_of
 
 ZERO = Fraction(0)
@@ -112,8 +112,7 @@ class Curve:
             at -= 1
         if at == len(self._points):
             return ZERO
-        (t, v), (u, w) = self._points[at - 1], self._points[at]
-        return (w - v) / (u - t)
+        return slope_between(self._points[at - 1], self._points[at])
 
     def at(self, times: Iterable[Time]) -> List[Fraction]:
         """The values at rising times, in one pass; OutOfRange outside the known range."""
@@ -144,8 +143,8 @@ class Curve:
     def pieces(self) -> Iterator[Tuple[Fraction, Fraction, Fraction, Fraction]]:
         """The straight pieces (from, to, value at from, slope) of the known range."""
         points = self._ended()
-        for (t, v), (u, w) in zip(points, points[1:]):
-            yield t, u, v, (w - v) / (u - t)
+        for before, after in zip(points, points[1:]):
+            yield before[0], after[0], before[1], slope_between(before, after)
 
     def _ended(self) -> List[Point]:
         """The points, with one at the last time known."""

@@ -22,6 +22,20 @@ def on_line(before: Point, after: Point, time: Fraction) -> Fraction:
     return Fraction(vn * wd * length + (wn * vd - vn * wd) * here, vd * wd * length)
 
 
+def slope_between(before: Point, after: Point) -> Fraction:
+    """The slope of the line through two points of different times."""
+    tn, td = before[0].as_integer_ratio()
+    vn, vd = before[1].as_integer_ratio()
+    un, ud = after[0].as_integer_ratio()
+    wn, wd = after[1].as_integer_ratio()
+    return Fraction((wn * vd - vn * wd) * ud * td, (un * td - tn * ud) * wd * vd)
+
+
+def slopes_of(points: Sequence[Point]) -> List[Fraction]:
+    """The slopes between neighbouring points."""
+    return [slope_between(before, after) for before, after in zip(points, points[1:])]
+
+
 def straight(a: Point, b: Point, c: Point) -> bool:
     """Whether b lies on the line through a and c; the times differ."""
     tn, td = a[0].as_integer_ratio()

@@ -8,6 +8,7 @@ from .causes import check_cause, count_of, printed_number
 from .curves import Curve
 from .faults import Refused
 from .lines import MOST_REPORT_BYTES, PathLike, Text, as_bytes, broken, content_words, read_bytes, shown_name, split_lines
+from .merging import slopes_of
 from .networks import Network, read_network
 from .report_values import STATES, Report
 
@@ -153,15 +154,10 @@ class _Reader:
         kinds: Dict[str, Dict[str, Curve]] = {"label": {}, "inflow": {}, "outflow": {}, "queue": {}}
         for (kind, name), points in self.points.items():
             kinds[kind][name] = Curve._made(points, points[-1][0])
-        wrong = {subject: rates for subject, rates in self.rates.items() if rates != _slopes(self.points[subject])}
+        wrong = {subject: rates for subject, rates in self.rates.items() if rates != slopes_of(self.points[subject])}
         never = [name for kind, name in self.order.seen if kind == "never"]
         return Report(self.heads["horizon"], self.heads["reached"], kinds["label"], kinds["inflow"], kinds["outflow"], kinds["queue"],
                       self.states, self.cause, self.net, self.version, never, wrong)
-
-
-def _slopes(points: List[Tuple[Fraction, Fraction]]) -> List[Fraction]:
-    """The slopes between neighbouring points."""
-    return [(w - v) / (u - t) for (t, v), (u, w) in zip(points, points[1:])]
 
 
 def _check_form(words: List[str], line: str, index: int, net: Optional[Network]) -> None:

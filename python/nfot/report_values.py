@@ -10,6 +10,7 @@ from .curves import Curve
 from .faults import OutOfRange, Refused
 from .drafts import Link, fitting
 from .lines import check_name
+from .merging import slopes_of
 from .networks import Network
 from .numbers import Number, Time, short, time_of, within
 
@@ -183,8 +184,7 @@ class Report:
 
     def _flow_lines(self, kind: str, name: str, curve: Curve) -> Iterator[str]:
         """The lines of an inflow or outflow: each point with the rate up to the next one."""
-        slopes = [(w - v) / (u - t) for (t, v), (u, w) in zip(curve.points, curve.points[1:])]
-        rates = self.rates.get((kind, name), slopes)
+        rates = self.rates.get((kind, name)) or slopes_of(curve.points)
         if not all(map(within, rates)):
             raise Refused(f"a rate of the {kind} of {name} is too wide for a report: round times and amounts", rule="P8", status=4)
         for (time, value), rate in zip(curve.points, [*map(str, rates), "-"]):

@@ -27,7 +27,8 @@ def random_pieces(rng: random.Random, most: int) -> Pieces:
 def random_route(rng: random.Random, net: nfot.Network) -> Optional[List[str]]:
     """A walk from source to sink of at most six different links, or None."""
     for _ in range(10):
-        at, links = net.source, []
+        at = net.source
+        links: List[str] = []
         while len(links) < 6 and (at != net.sink or rng.random() < 0.3):
             out = [link for link in net.used_links() if link.tail == at and link.name not in links]
             if not out:
