@@ -5,7 +5,7 @@
 
 The families of networks:
 
-    city      the roads of examples/siouxfalls.txt from one zone to another, supplied for an hour: all ordered pairs of six zones, four
+    city      the roads of Sioux Falls (python/nfot/data/siouxfalls.txt) from one zone to another, supplied for an hour: all ordered pairs of six zones, four
               demands, three roundings of the capacities (hundreds of vehicles an hour, vehicles a minute, 500 vehicles an hour)
     grids     squares of 25 to 64 nodes with links to the right and down; `streets` has transits of 1 and 2 and small capacities
     random    20 to 64 nodes with three links a node that mostly lead forward
@@ -34,7 +34,7 @@ import sys
 import tempfile
 
 HERE = os.path.dirname(os.path.realpath(__file__))
-ROADS = f"{HERE}/../examples/siouxfalls.txt"
+ROADS = f"{HERE}/../python/nfot/data/siouxfalls.txt"
 PROGRAM = f"{HERE}/../crates/nfot/out/nfot"
 
 # A network of the bench: its family, the group that its figures are summed in, the lines of its file, and the departure to solve up to.

@@ -2,14 +2,13 @@
 """simulate.py STEP HORIZON: a simulation of two.net in time steps, written as a report for `nfot check`.
 
 At the start of each step drivers look at the queues, and all who leave within the step take the road that is quicker then (half
-take each where both are equal). What a report asks for: exact fractions, curves by their corners, also those between two steps, and
-labels that are the least exit at every departure. The order and form of the lines are left to nfot.py.
+take each where both are equal). A report asks for exact fractions, for curves by their corners, also those between two steps, and for
+labels that are the least exit at every departure. The package writes its lines.
 Statuses: 0 printed; 2 wrong arguments."""
 import pathlib
 import sys
 from fractions import Fraction
 
-sys.dont_write_bytecode = True  # no folder of compiled scripts among the examples
 import nfot
 
 
@@ -20,11 +19,12 @@ class Road:
         self.transit, self.capacity, self.corners = link.transit, link.capacity, [(Fraction(0), Fraction(0), Fraction(0))]
 
     def exit(self, corner):
+        """When a driver who enters at a corner leaves the road."""
         time, _, waits = corner
         return time + self.transit + waits / self.capacity
 
     def send(self, rate, length):
-        """Flow enters at a rate for some time; where the queue is gone before, there is a corner."""
+        """Lets flow enter at a rate for some time; where the queue is gone before, there is a corner."""
         time, entered, waits = self.corners[-1]
         growth = rate - self.capacity
         lasts = -waits / growth if growth < 0 else length
@@ -33,6 +33,7 @@ class Road:
 
 
 def simulate(net, step, horizon):
+    """The roads after the simulation."""
     roads, now = {name: Road(link) for name, link in net.links.items()}, Fraction(0)
     ((_, supply),) = net.supply
     while now < horizon:
@@ -45,20 +46,26 @@ def simulate(net, step, horizon):
     return roads
 
 
-def main(step, horizon):
-    step, horizon = nfot.exact(step), nfot.exact(horizon)
+def report_of(net, roads, horizon):
+    """The report of the simulation."""
+    first, second = (nfot.Curve((corner[0], road.exit(corner)) for corner in road.corners) for road in roads.values())
+    inflows = {name: [(time, entered) for time, entered, _ in road.corners] for name, road in roads.items()}
+    outflows = {name: [(road.exit(corner), corner[1]) for corner in road.corners] for name, road in roads.items()}
+    queues = {name: [(time, waits) for time, _, waits in road.corners] for name, road in roads.items()}
+    labels = {"s": [(0, 0), (horizon, horizon)], "t": first.least(second)}
+    return nfot.Report(horizon, horizon, labels, inflows, outflows, queues, network=net)
+
+
+def main(words):
+    try:
+        step, horizon = map(Fraction, words)
+    except (ValueError, ZeroDivisionError):
+        sys.exit("usage: simulate.py STEP HORIZON, two numbers as 3/4")
     if step <= 0 or horizon <= 0:
-        raise nfot.Fault(f"{step if step <= 0 else horizon} isn't above 0")
+        sys.exit("simulate: STEP and HORIZON are above 0")
     net = nfot.read_network(pathlib.Path(__file__).with_name("two.net"))
-    roads = simulate(net, step, horizon)
-    exits = [[(corner[0], road.exit(corner)) for corner in road.corners] for road in roads.values()]
-    report = nfot.Report(horizon, horizon, {"s": [nfot.ZERO, (horizon, horizon)], "t": nfot.least(*exits)})
-    for name, road in roads.items():
-        report.inflows[name] = [(time, entered) for time, entered, _ in road.corners]
-        report.outflows[name] = [(road.exit(corner), corner[1]) for corner in road.corners]
-        report.queues[name] = [(time, waits) for time, _, waits in road.corners]
-    print(nfot.report_text(net, report), end="")
+    nfot.write_report(report_of(net, simulate(net, step, horizon), horizon), "-")
 
 
 if __name__ == "__main__":
-    nfot.script(main, __doc__)
+    main(sys.argv[1:])

@@ -1,14 +1,15 @@
 #!/usr/bin/env python3
-"""bottleneck.py PROGRAM [--seed N] [--cases N]: compares what examples/bottleneck.py reads off `solve --forever` with cuts found by brute force.
+"""bottleneck.py PROGRAM [--seed N] [--cases N]: compares what `nfot-py bottleneck` reads off `solve --forever` with cuts found by brute force.
 
-Case i is a random network of the seed N + i, of 2 to 30 nodes. PROGRAM solves it without a horizon, and the script gets the output.
+Case i is a random network of the seed N + i, of 2 to 30 nodes. PROGRAM solves it without a horizon, and the tool gets the output.
 If the slope of the sink is above 1, the sum of the printed capacities times that slope must be the last supply rate, and the printed growth
-60 (slope - 1). In networks of at most 9 nodes each cut is tried: the sum must be the least capacity of a cut. If the slope is 1, the script
+60 (slope - 1). In networks of at most 9 nodes each cut is tried: the sum must be the least capacity of a cut. If the slope is 1, the tool
 must say that travel times settle, and no cut that is tried may have less capacity than the last supply rate.
 Statuses: 0 nothing differs; 1 something differs, and each such case is named; 2 wrong arguments."""
 import argparse
 import collections
 import itertools
+import os
 import pathlib
 import random
 import subprocess
@@ -17,7 +18,7 @@ import tempfile
 from fractions import Fraction
 
 MOST_TRIED = 9  # nodes of a network each of whose cuts is tried
-SCRIPT = pathlib.Path(__file__).resolve().parent.parent / "examples/bottleneck.py"
+PACKAGE = pathlib.Path(__file__).resolve().parent.parent / "python"
 Link = collections.namedtuple("Link", "name tail head transit capacity")  # capacity None: unbounded
 
 
@@ -65,11 +66,11 @@ def fault(printed, slope, rate, tried):
     """What is wrong with the printed lines, beside the capacities of the cuts that were tried (None: none were); None: nothing is."""
     if slope == 1:
         if printed != ["travel times settle: the slope of the sink is 1"]:
-            return f"the slope is 1, and the script prints {printed}"
+            return f"the slope is 1, and the tool prints {printed}"
         return f"the slope is 1, and a cut has only {min(tried)} of {rate}" if tried and min(tried) < rate else None
     total = sum(Fraction(line.split(": capacity ")[1]) for line in printed[:-2])
     if printed[-2:] != [f"together {total}, supplied {rate}", f"travel times grow by {60 * (slope - 1)} minutes an hour"]:
-        return f"the slope is {slope}, and the script prints {printed}"
+        return f"the slope is {slope}, and the tool prints {printed}"
     if total * slope != rate:
         return f"{total} times {slope} isn't {rate}"
     return f"the sum is {total}, the cuts have {sorted(set(tried))}" if tried is not None and total != min(tried, default=None) else None
@@ -86,11 +87,12 @@ def outcome(program, seed, folder):
         return f"stop with status {status}", None
     slopes = dict(line.split()[1:] for line in forever.read_text().splitlines() if line.startswith("slope "))
     slope = Fraction(slopes[f"n{nodes - 1}"])
-    script = subprocess.run([sys.executable, SCRIPT, net, forever], capture_output=True, text=True)
-    if script.returncode:
-        return "are refused by the script", script.stderr.strip()
+    environment = dict(os.environ, PYTHONPATH=str(PACKAGE))
+    tool = subprocess.run([sys.executable, "-m", "nfot", "bottleneck", net, forever], capture_output=True, text=True, env=environment)
+    if tool.returncode:
+        return "are refused by the tool", tool.stderr.strip()
     tried = list(capacities(nodes, links)) if nodes <= MOST_TRIED else None
-    wrong = fault(script.stdout.splitlines(), slope, supply[-1][1], tried)
+    wrong = fault(tool.stdout.splitlines(), slope, supply[-1][1], tried)
     return f"{'settle' if slope == 1 else 'grow'} ({'each' if nodes <= MOST_TRIED else 'no'} cut tried)", wrong
 
 

@@ -1,0 +1,88 @@
+"""Faults: everything that can go wrong, as one sentence with its status, file, line and rule."""
+from __future__ import annotations
+
+from typing import TYPE_CHECKING, List, Optional, Sequence
+
+if TYPE_CHECKING:
+    from .reports import Report
+
+WORDS, NO_FILE, BROKEN, UNFIT = 2, 3, 4, 1  # statuses: arguments, a file that can't be read, a broken rule, values that don't fit
+
+
+class Fault(Exception):
+    """A fault as one sentence.
+
+    `status` is the status with which a tool ends. `file` is the name that the caller knows, `line` counts from 1 (0: the file as a
+    whole), `rule` is a rule of docs/FORMATS.md. Each is None where there is none.
+    """
+
+    def __init__(self, why: str, *, status: int = WORDS, file: Optional[str] = None, line: Optional[int] = None,
+                 rule: Optional[str] = None) -> None:
+        super().__init__(why)
+        self.why = why
+        self.status = status
+        self.file = file
+        self.line = line
+        self.rule = rule
+
+    def __str__(self) -> str:
+        place = [self.file] if self.file is not None else []
+        if self.line:
+            place.append(f"line {self.line}")
+        parts = [" ".join(place)] if place else []
+        if self.rule is not None:
+            parts.append(self.rule)
+        return ": ".join([*parts, self.why])
+
+    def placed(self, file: Optional[str] = None, line: Optional[int] = None) -> "Fault":
+        """This fault with a file and a line, where it has none yet."""
+        self.file = file if self.file is None else self.file
+        self.line = line if self.line is None else self.line
+        return self
+
+
+class Refused(Fault):
+    """A file or a value breaks a rule."""
+
+
+class Stopped(Fault):
+    """A run ended early. `cause` is the cause as `nfot` prints it, `report` the report up to the departure that the run reached."""
+
+    def __init__(self, why: str, *, status: int = 5, cause: str = "", report: Optional["Report"] = None) -> None:
+        super().__init__(why, status=status)
+        self.cause = cause
+        self.report = report
+
+
+class Unbounded(Fault):
+    """There is no quickest flow: `links` is a walk of unbounded links from the source to the sink."""
+
+    def __init__(self, why: str, *, links: Sequence[str] = ()) -> None:
+        super().__init__(why, status=14)
+        self.links: List[str] = list(links)
+
+
+class Killed(Fault):
+    """A signal ended the program. `signal` is its name, as SIGKILL; the status is 128 more than its number."""
+
+    def __init__(self, why: str, *, signal: str = "", status: int = 137) -> None:
+        super().__init__(why, status=status)
+        self.signal = signal
+
+
+class Timeout(Fault):
+    """The program took longer than the caller allows."""
+
+    def __init__(self, why: str, *, status: int = 124) -> None:
+        super().__init__(why, status=status)
+
+
+class NotFound(Fault):
+    """A program or a file isn't there."""
+
+
+class OutOfRange(Fault):
+    """A time beyond what is known, or a name that the network or the report doesn't have."""
+
+    def __init__(self, why: str, *, status: int = UNFIT) -> None:
+        super().__init__(why, status=status)

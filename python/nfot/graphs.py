@@ -1,0 +1,109 @@
+"""Networks from and to graphs of networkx. networkx itself is imported only where one of its graphs is made."""
+from __future__ import annotations
+
+import importlib
+import math
+from fractions import Fraction
+from typing import Any, Hashable, Iterable, Iterator, Mapping, Optional, Union
+
+from .faults import Fault, OutOfRange, Refused
+from .networks import Link, Network
+from .numbers import Number, exact, time_of
+from .renaming import Names, joined
+from .rounding import MOST, Rounding
+
+
+def clean_names(graph: Any) -> dict[Hashable, str]:
+    """A name for each node that the network file allows: `networkx.relabel_nodes(graph, nfot.clean_names(graph))`.
+
+    Umlauts are spelled out, other characters become `_`, and the second node of a name gets `.2`."""
+    names = Names()
+    return {node: names.new(str(node)) for node in graph.nodes}
+
+
+class Reader:
+    """Reads the numbers of a graph's edges, rounded where that was asked for."""
+
+    def __init__(self, transit: str, capacity: str, round_to: Optional[Number], most: Fraction) -> None:
+        self.transit, self.capacity = transit, capacity
+        unit = None if round_to is None else exact(round_to)
+        self.time = None if unit is None else Rounding("times", unit, "round_to=", most, "most_change=")
+        self.rate = None if unit is None else Rounding("capacities", unit, "round_to=", most, "most_change=")
+
+    @staticmethod
+    def number(value: object, rounding: Optional[Rounding], what: str) -> Fraction:
+        """A number of an edge: exact, or rounded where a rounding is given; 0 stays 0."""
+        try:
+            found = exact(value) if rounding is None else time_of(value)
+        except Fault as fault:
+            raise Refused(f"{what}: {fault.why}" + (", or give round_to" if isinstance(value, float) else "")) from None
+        if found < 0:
+            raise Refused(f"{what}: {value} is below 0")
+        return found if rounding is None or not found else rounding(found, what)
+
+    def numbers(self, data: Mapping[str, Any], what: str) -> tuple[Fraction, Optional[Fraction]]:
+        """The transit time and the capacity of an edge; without a capacity, or with an infinite one, it is unbounded."""
+        if data.get(self.transit) is None:
+            raise Refused(f"{what} has no attribute `{self.transit}`")
+        transit = self.number(data[self.transit], self.time, f"`{self.transit}` of {what}")
+        limit = data.get(self.capacity)
+        if limit is None or limit == "inf" or isinstance(limit, float) and limit == math.inf:
+            return transit, None
+        return transit, self.number(limit, self.rate, f"`{self.capacity}` of {what}")
+
+    def refuse(self) -> None:
+        """Raises a Fault where the rounding changes a number too much."""
+        for rounding in (self.time, self.rate):
+            if rounding is not None:
+                rounding.refuse()
+
+
+def edges(graph: Any) -> Iterator[tuple[Hashable, Hashable, Optional[str], Mapping[str, Any]]]:
+    """The edges as (tail, head, key where it is a text, attributes); those of an undirected graph in both directions."""
+    keyed = graph.edges(keys=True, data=True) if graph.is_multigraph() else ((tail, head, None, data) for tail, head, data in graph.edges(data=True))
+    for tail, head, key, data in keyed:
+        yield tail, head, key if isinstance(key, str) else None, data
+        if not graph.is_directed():
+            yield head, tail, f"{key}_back" if isinstance(key, str) else None, data
+
+
+def from_networkx(graph: Any, source: Hashable, sink: Hashable, *, supply: Iterable[tuple[Number, Number]] = (), transit: str = "transit",
+                  capacity: str = "capacity", name: Optional[str] = None, round_to: Optional[Number] = None,
+                  most_change: Union[int, Fraction] = MOST) -> Network:
+    """The network of a graph of networkx (of any kind; an edge of an undirected one is a road with both directions).
+
+    `transit` and `capacity` name attributes of edges; an edge without a capacity is unbounded, one of capacity 0 is closed and left out.
+    `name` is the attribute with the name of a link; without one it is the key of a multigraph, if that is a text, else `TAIL-HEAD`.
+    Numbers are exact; floats need `round_to`, the unit to whose multiples times and capacities are rounded. Raises a Fault where a number
+    is a float, where rounding changes one by more than `most_change` percent, and for a name that the network file doesn't allow
+    (see `clean_names`)."""
+    for node in (source, sink):
+        if node not in graph:
+            raise OutOfRange(f"the graph has no node {node!r}")
+    reader, names, links = Reader(transit, capacity, round_to, Fraction(most_change)), Names(), []
+    for tail, head, key, data in edges(graph):
+        what = f"the edge {tail}-{head}"
+        time, limit = reader.numbers(data, what)
+        called = str(data[name]) if name is not None and data.get(name) is not None else key
+        if limit != 0:
+            links.append(Link(names.new(called or joined(str(tail), str(head))), str(tail), str(head), time, limit))
+    reader.refuse()
+    if len({str(node) for node in graph.nodes}) < len(graph.nodes):
+        raise Refused("two nodes of the graph have the same name as a text: relabel them by networkx.relabel_nodes(graph, nfot.clean_names(graph))")
+    return Network(str(source), str(sink), links, supply)
+
+
+def to_networkx(net: Network) -> Any:
+    """The network as a MultiDiGraph of networkx: keys are the names of links, `transit` and `capacity` are Fractions (None: unbounded).
+
+    The graph's attributes `source`, `sink` and `supply` hold the rest, so `from_networkx(graph, source, sink, supply=supply)` gives the
+    network back. Raises a Fault where networkx isn't installed."""
+    try:
+        networkx: Any = importlib.import_module("networkx")
+    except ImportError:
+        raise Fault("networkx isn't installed: `pip install networkx`") from None
+    graph = networkx.MultiDiGraph(source=net.source, sink=net.sink, supply=net.supply)
+    graph.add_nodes_from([*net.nodes(), *net.idle_nodes()])
+    for link in net.links.values():
+        graph.add_edge(link.tail, link.head, key=link.name, transit=link.transit, capacity=link.capacity)
+    return graph

@@ -1,0 +1,80 @@
+"""Queues of a report: when they stand, how long they are, how long drivers wait, and whether they are longer than the road."""
+from __future__ import annotations
+
+from dataclasses import dataclass
+from fractions import Fraction
+from typing import Optional, Sequence
+
+from .curves import Curve
+from .faults import Refused
+from .reports import Report
+from .sheets import read_sheet
+
+VEHICLE = Fraction(7)  # metres of a lane that a waiting vehicle takes
+
+
+@dataclass(frozen=True)
+class Queue:
+    """The queue of a link. `spans`: from when to when one stands (None: beyond the last time that is known). `wait`: the longest wait in
+    minutes, first met at `time`; `vehicles`: the most that wait, also then."""
+    link: str
+    spans: Sequence[tuple[Fraction, Optional[Fraction]]]
+    wait: Fraction
+    time: Fraction
+    vehicles: Fraction
+
+
+@dataclass(frozen=True)
+class Place:
+    """A link in the table that it was made from: its name there, and how many vehicles its road holds (None: not known)."""
+    name: str
+    room: Optional[Fraction]
+
+
+def spans(curve: Curve) -> list[tuple[Fraction, Optional[Fraction]]]:
+    """The times from when to when a curve is above 0."""
+    found: list[tuple[Fraction, Optional[Fraction]]] = []
+    begin: Optional[Fraction] = None
+    before = Fraction(0), Fraction(0)
+    for time, amount in curve.points:
+        if amount > 0 and begin is None:
+            begin = before[0] if before[1] == 0 else time
+        elif amount == 0 and begin is not None:
+            found.append((begin, time))
+            begin = None
+        before = time, amount
+    return found if begin is None else [*found, (begin, None)]
+
+
+def queues_of(run: Report) -> list[Queue]:
+    """The queues of a report, in the order of its links; links that never queue are left out."""
+    if run.network is None:
+        raise Refused("the report has no network: read it by read_report(path, net)")
+    found = []
+    for link in run.network.used_links():
+        queue = run.queue(link.name)
+        time, most = queue.greatest()
+        if most > 0 and link.capacity is not None:
+            found.append(Queue(link.name, spans(queue), most / link.capacity, time, most))
+    return found
+
+
+def longest_first(found: Sequence[Queue]) -> list[Queue]:
+    """The queues by their longest wait; of equal ones the first link stays first."""
+    return sorted(found, key=lambda queue: -queue.wait)
+
+
+def read_places(path: str, vehicle: Fraction = VEHICLE) -> dict[str, Place]:
+    """The links of a file of names, as `nfot-py table --names` writes it, by their name in the network.
+
+    The room of a road is its length times its lanes (1 where they aren't known) divided by the metres of a vehicle."""
+    sheet = read_sheet(path)
+    sheet.column("id")
+    found = {}
+    for row in sheet.rows:
+        if row.cells.get("kind", "link") != "link":
+            continue
+        lanes = row.number("lanes") if row.cells.get("lanes") else Fraction(1)
+        room = row.number("km") * 1000 * lanes / vehicle if row.cells.get("km") else None
+        found[row.text("id")] = Place(row.cells.get("name") or row.text("id"), room)
+    return found

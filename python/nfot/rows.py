@@ -1,0 +1,180 @@
+"""Results as rows: curves on a grid of times, for a table, a CSV file or pandas. All values are Fractions until they are written."""
+from __future__ import annotations
+
+import csv
+import importlib
+import io
+from fractions import Fraction
+from typing import Any, Callable, Dict, Iterable, Iterator, Optional, Sequence, Union, overload
+
+from .curves import Curve
+from .faults import Fault, OutOfRange, Refused
+from .numbers import Time, clock as clock_of, decimal, parse, short, time_of
+from .program import write_beside
+from .reports import Report
+
+Cell = Union[str, Fraction, None]  # None: nothing is known
+RowDict = Dict[str, Cell]
+MOST_ROWS = 1_000_000
+
+
+def cell_text(cell: Cell, digits: int, exact: bool) -> str:
+    """A cell as a text: a decimal of so many digits, or the exact number; nothing where nothing is known."""
+    if cell is None or isinstance(cell, str):
+        return cell or ""
+    return short(cell) if exact else decimal(cell, digits)
+
+
+class Rows(Sequence[RowDict]):
+    """Rows of one table: dicts with the same keys, in the same order. Values are Fractions, texts, or None where nothing is known."""
+
+    def __init__(self, columns: Sequence[str], rows: Iterable[Sequence[Cell]]) -> None:
+        self.columns = tuple(columns)
+        self._rows = [dict(zip(self.columns, row)) for row in rows]
+
+    @overload
+    def __getitem__(self, at: int) -> RowDict: ...
+
+    @overload
+    def __getitem__(self, at: slice) -> list[RowDict]: ...
+
+    def __getitem__(self, at: Union[int, slice]) -> Union[RowDict, list[RowDict]]:
+        return self._rows[at]
+
+    def __len__(self) -> int:
+        return len(self._rows)
+
+    def __iter__(self) -> Iterator[RowDict]:
+        return iter(self._rows)
+
+    def __repr__(self) -> str:
+        return f"Rows({len(self)} rows: {', '.join(self.columns)})"
+
+    def csv_text(self, exact: bool = False) -> str:
+        """The table as CSV: decimals with at most six digits behind the point, or with `exact` the fractions themselves."""
+        text = io.StringIO()
+        lines = csv.writer(text, lineterminator="\n")
+        lines.writerow(self.columns)
+        for row in self._rows:
+            lines.writerow([cell if isinstance(cell, str) else bare(cell_text(cell, 6, exact)) for cell in row.values()])
+        return text.getvalue()
+
+    def csv(self, path: str, exact: bool = False) -> None:
+        """Writes the table as CSV; `-` is standard output. Raises a Fault where the file can't be written."""
+        write_beside(path, self.csv_text(exact))
+
+    def text(self, exact: bool = False) -> str:
+        """The table in columns, numbers with two digits behind the point, or with `exact` as they are."""
+        cells = [[cell_text(cell, 2, exact) for cell in row.values()] for row in self._rows]
+        widths = [max(map(len, column)) for column in zip(self.columns, *cells)]
+        lefts = [any(isinstance(row[name], str) for row in self._rows) for name in self.columns]
+        lines = [[word.ljust(width) if left else word.rjust(width) for word, width, left in zip(row, widths, lefts)]
+                 for row in [list(self.columns), *cells]]
+        return "".join("  ".join(line).rstrip() + "\n" for line in lines)
+
+    def frame(self) -> Any:
+        """The table as a DataFrame of pandas, numbers as floats. Raises a Fault where pandas isn't installed."""
+        try:
+            pandas: Any = importlib.import_module("pandas")
+        except ImportError:
+            raise Fault("pandas isn't installed: `pip install pandas`, or take .csv(path)") from None
+        return pandas.DataFrame([{name: float(cell) if isinstance(cell, Fraction) else cell for name, cell in row.items()} for row in self._rows],
+                                columns=list(self.columns))
+
+
+def bare(word: str) -> str:
+    """A decimal without zeros at its end."""
+    return word.rstrip("0").rstrip(".") if "." in word and "/" not in word else word
+
+
+def grid(every: Time, stop: Fraction, start: Fraction = Fraction(0)) -> list[Fraction]:
+    """The times from `start` to `stop` in steps of `every`; a Fault where the step isn't above 0."""
+    step = parse(every) if isinstance(every, str) else time_of(every)
+    if step <= 0:
+        raise Refused(f"{short(step)} is no step of time: it has to be above 0")
+    if (stop - start) / step >= MOST_ROWS:
+        raise Refused(f"steps of {short(step)} make more than {MOST_ROWS} rows")
+    return [start + step * number for number in range(int((stop - start) // step) + 1)]
+
+
+def known(curve: Curve, time: Fraction) -> Optional[Fraction]:
+    """The value of a curve at a time; None beyond what is known."""
+    return curve(time) if curve.start <= time <= curve.until else None
+
+
+def grown(curve: Curve, start: Fraction, end: Fraction) -> Optional[Fraction]:
+    """By how much a curve grows from one time to another; None beyond what is known."""
+    before, after = known(curve, start), known(curve, end)
+    return None if before is None or after is None else after - before
+
+
+Column = Callable[[Fraction, Fraction], Cell]  # of the time of a row and of the next one
+
+
+def clock_column(clock: Union[str, Fraction]) -> Column:
+    """The time of day of a row; `clock` is that of time 0, as "6:00"."""
+    begin = parse(clock) if isinstance(clock, str) else clock
+    return lambda time, after: clock_of(time, begin)
+
+
+def arrival_columns(run: Report, name: str = "") -> dict[str, Column]:
+    """Arrival and travel time at the sink of a driver who leaves at the time of a row."""
+    if run.network is None:
+        raise Refused("the report has no network: read it by read_report(path, net)")
+    label = run.label(run.network.sink)
+
+    def takes(time: Fraction, after: Fraction) -> Cell:
+        arrival = known(label, time)
+        return None if arrival is None else arrival - time
+    return {f"{name}arrive": lambda time, after: known(label, time), f"{name}takes": takes}
+
+
+def link_columns(run: Report, link: str, name: str) -> dict[str, Column]:
+    """Of a link: the queue and its wait at the time of a row, and what enters and leaves until the next row."""
+    queue, wait, into, out = run.queue(link), run.waits(link), run.inflow(link), run.outflow(link)
+    return {f"{name}queue": lambda time, after: known(queue, time), f"{name}wait": lambda time, after: known(wait, time),
+            f"{name}in": lambda time, after: grown(into, time, after), f"{name}out": lambda time, after: grown(out, time, after)}
+
+
+def rows_of(times: Sequence[Fraction], step: Fraction, columns: dict[str, Column], first: str = "time") -> Rows:
+    """The rows of these columns, one for each time."""
+    return Rows([first, *columns], ([time, *(column(time, time + step) for column in columns.values())] for time in times))
+
+
+def table(run: Report, every: Time = 5, links: Optional[Sequence[str]] = None, clock: Optional[str] = None) -> Rows:
+    """A report on a grid of times, `every` minutes from 0 on, up to the last time that is known.
+
+    Columns: `time`; with `clock` (the time of day of time 0, as "6:00") `clock`; `arrive` and `takes` of a driver who leaves the source
+    then; of each link `LINK queue` and `LINK wait` at that time, and `LINK in` and `LINK out`, the vehicles that enter and leave it until
+    the next row. A value that isn't known is None. Raises a Fault for a name that isn't in the network."""
+    columns: dict[str, Column] = {"clock": clock_column(clock)} if clock is not None else {}
+    columns.update(arrival_columns(run))
+    stop = run.reached
+    for link in links or []:
+        columns.update(link_columns(run, link, f"{link} "))
+        stop = max(stop, run.queue(link).until)
+    times = grid(every, stop)
+    return rows_of(times, times[1] - times[0] if len(times) > 1 else stop, columns)
+
+
+def side_by_side(runs: dict[str, Report], link: Optional[str], show: Sequence[str], every: Time = 5, clock: Optional[str] = None) -> Rows:
+    """Scenarios beside each other on one grid of times: of each run, by its name, the columns `NAME queue` and so on.
+
+    `show` names them: queue, wait, in, out of the link; without a link arrive and takes. A link that a scenario doesn't have is left empty."""
+    columns: dict[str, Column] = {"clock": clock_column(clock)} if clock is not None else {}
+    stop, found = Fraction(0), link is None
+    for name, run in runs.items():
+        offered, stop = arrival_columns(run), max(stop, run.reached)
+        if link is not None:
+            has = link in run.queues
+            found = found or has
+            offered = link_columns(run, link, "") if has else {word: lambda time, after: None for word in ("queue", "wait", "in", "out")}
+            stop = max(stop, run.queue(link).until if has else stop)
+        for word in show:
+            if word not in offered:
+                raise Refused(f"{word} is none of the columns: {', '.join(offered)}")
+            columns[f"{name} {word}"] = offered[word]
+    if not found:
+        raise OutOfRange(f"no scenario has a link {link}")
+    times = grid(every, stop)
+    return rows_of(times, times[1] - times[0] if len(times) > 1 else stop, columns)

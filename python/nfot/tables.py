@@ -1,0 +1,198 @@
+"""A network from a table of roads: `nfot-py table` and the functions behind it.
+
+    roads = nfot.read_roads("roads.csv", nfot.Columns(minutes="t0"), two_way=True)
+    made = nfot.network_of_table(roads, "home", "work", nfot.demand_of_words(["0:30", "60:0"]))
+    made.network, made.notes, made.names
+
+Times are minutes. Capacities and rates are vehicles a minute."""
+from __future__ import annotations
+
+import csv
+import io
+from dataclasses import dataclass, field
+from fractions import Fraction
+from typing import Iterable, NamedTuple, Optional, Sequence
+
+from .demand import Demand
+from .faults import OutOfRange, Refused
+from .networks import Link, Network
+from .numbers import decimal, short
+from .program import write_beside
+from .renaming import Names, joined
+from .roads import Corridor, Road, Roads, corridor
+from .rounding import MOST, Rounding, readable, unit_for
+
+NODES, LINKS, SUPPLIES = 64, 200, 200
+LISTED = 12  # how many roads a note names
+
+
+@dataclass(frozen=True)
+class Units:
+    """What numbers are rounded to multiples of; None: chosen by the numbers. `capacity` is in vehicles an hour if `hourly`.
+
+    A change by more than `most` percent is refused."""
+    capacity: Optional[Fraction] = None
+    time: Optional[Fraction] = None
+    rate: Optional[Fraction] = None
+    hourly: bool = False
+    most: Fraction = MOST
+
+
+class Name(NamedTuple):
+    """A name of the network, and what the table calls it; of a link also its row, kilometres and lanes, where known."""
+    id: str
+    kind: str
+    name: str
+    line: Optional[int] = None
+    km: Optional[Fraction] = None
+    lanes: Optional[Fraction] = None
+
+
+@dataclass
+class Made:
+    """A network made from a table: what was rounded, left out and renamed, in lines; the names of the table by those of the network."""
+    network: Network
+    notes: list[str] = field(default_factory=list)
+    names: list[Name] = field(default_factory=list)
+
+    def names_text(self) -> str:
+        """The names as CSV."""
+        text = io.StringIO()
+        rows = csv.writer(text, lineterminator="\n")
+        rows.writerow(Name._fields)
+        rows.writerows([short(cell) if isinstance(cell, Fraction) else "" if cell is None else cell for cell in name] for name in self.names)
+        return text.getvalue()
+
+    def write_names(self, path: str) -> None:
+        """Writes the names as CSV with the columns id, kind (node or link), name, line, km and lanes. `-` is standard output."""
+        write_beside(path, self.names_text())
+
+
+def goals_of(roads: Roads, origin: str, destination: str) -> list[str]:
+    """The destinations: one node, or several joined by commas; a Fault where a name is no node of the table."""
+    places = roads.places()
+    goals = [destination] if destination in places else [goal.strip() for goal in destination.split(",")]
+    for node in [origin, *goals]:
+        if node not in places:
+            raise OutOfRange(f"{node} is no node of {roads.file}")
+    if origin in goals:
+        raise Refused(f"{origin} is the origin and a destination")
+    return goals
+
+
+def check_size(kept: Sequence[tuple[Fraction, Road]], sinks: int) -> None:
+    """Raises a Fault where there are more nodes or links than `nfot` takes; the line says which detour fits. `sinks`: links to a common sink."""
+    def size(roads: Iterable[Road]) -> tuple[int, int]:
+        part = list(roads)
+        return len({end for road in part for end in (road.tail, road.head)}) + (sinks > 0), len(part) + sinks
+    nodes, links = size(road for _, road in kept)
+    if nodes <= NODES and links <= LINKS:
+        return
+    fits = None
+    for longer in sorted({longer for longer, _ in kept}):
+        some_nodes, some_links = size(road for length, road in kept if length <= longer)
+        if some_nodes > NODES or some_links > LINKS:
+            break
+        fits = longer
+    advice = "cut out the part that the question is about" if fits is None else f"--detour {short(Fraction(fits * 100 // 1, 100))} leaves few enough"
+    raise Refused(f"{nodes} nodes and {links} links are on routes to the destination; nfot takes {NODES} and {LINKS}: {advice}", status=1)
+
+
+class Maker:
+    """Makes the network: names and rounded numbers, and the notes on them."""
+
+    def __init__(self, kept: Sequence[Road], units: Units, rates: Sequence[Fraction]) -> None:
+        self.nodes, self.links = Names(), Names()
+        self.names: list[Name] = []
+        self.renamed: list[str] = []
+        self.per = 60 if units.hourly else 1
+        capacities = [road.capacity * self.per for road in kept if road.capacity is not None]
+        self.capacity = Rounding("capacities", units.capacity or unit_for(capacities, Fraction(1, 10)), "--round-capacity ", units.most)
+        step = unit_for([road.minutes for road in kept], Fraction(2, 5), Fraction(1, 10))
+        self.time = Rounding("times", units.time or step, "--round-time ", units.most)
+        rate_unit = units.rate or unit_for(rates, Fraction(1, 100), digits=(1,))
+        self.rate = Rounding("rates", rate_unit, "--round-rate ", units.most)
+
+    def node(self, name: str) -> str:
+        """The name of a node in the network."""
+        if name not in self.nodes.given:
+            self.names.append(Name(self.nodes.of(name), "node", name))
+            self.tell("node", name, self.nodes.of(name), name)
+        return self.nodes.of(name)
+
+    def tell(self, kind: str, name: str, new: str, expected: str) -> None:
+        """Notes a name that isn't the one that a user would expect."""
+        if new != expected:
+            self.renamed.append(f"{kind} `{name}` is called {new}")
+
+    def link(self, road: Road) -> Link:
+        """The link of a road."""
+        tail, head = self.node(road.tail), self.node(road.head)
+        name = self.links.new(road.name or joined(tail, head))
+        self.names.append(Name(name, "link", road.words(), road.line, road.kilometres, road.lanes))
+        self.tell("link", road.words(), name, road.name or f"{tail}-{head}")
+        capacity = None if road.capacity is None else self.capacity(road.capacity * self.per, road.words()) / self.per
+        return Link(name, tail, head, self.time(road.minutes, road.words()), capacity)
+
+    def supply(self, demand: Demand) -> list[tuple[Fraction, Fraction]]:
+        """The pieces of the supply, with rounded rates; a rate 0 stays 0."""
+        return [(start, self.rate(rate, f"from {short(start)} on") if rate else Fraction(0)) for start, rate in demand.pieces]
+
+    def notes(self) -> list[str]:
+        """What was rounded, and which names changed."""
+        found = [self.capacity.note(f"vehicles {'an hour' if self.per > 1 else 'a minute'}") if self.capacity.least is not None else "no road has a capacity",
+                 self.time.note("minutes")]
+        if self.time.zeros:
+            found.append(f"{self.time.zeros} times of 0 became {short(self.time.unit)}, since no walk may take no time")
+        if self.rate.least is not None:
+            found.append(self.rate.note("vehicles a minute"))
+        return found + self.renamed
+
+
+def left_out(found: Corridor, closed: Sequence[Road]) -> list[str]:
+    """The lines on roads that are left out, by the reason."""
+    reasons = {**({"their capacity is 0": closed} if closed else {}), **found.left_out}
+    lines = []
+    for reason, roads in reasons.items():
+        named = ", ".join(road.words() for road in roads[:LISTED]) + (f" and {len(roads) - LISTED} more" if len(roads) > LISTED else "")
+        lines.append(f"left out, since {reason}: {len(roads)} ({named})")
+    return lines
+
+
+def network_of_table(roads: Roads, origin: str, destination: str, demand: Demand = Demand(()), *, units: Units = Units(),
+                     detour: Optional[Fraction] = None) -> Made:
+    """The network of the roads on routes from the origin to the destination (several: joined by commas; each driver takes the best one).
+
+    `detour` keeps routes that take at most so many minutes longer than the quickest one on empty roads. Raises a Fault where there is no
+    route, more than 64 nodes or 200 links, or a number changes too much."""
+    goals = goals_of(roads, origin, destination)
+    found = corridor(roads.open, origin, goals, detour)
+    check_size(found.kept, len(goals) if len(goals) > 1 else 0)
+    kept = [road for _, road in found.kept]
+    maker = Maker(kept, units, [rate for _, rate in demand.pieces])
+    source = maker.node(origin)
+    sink = maker.nodes.new("sink") if len(goals) > 1 else maker.node(goals[0])
+    links = [maker.link(road) for road in kept]
+    for goal in goals if len(goals) > 1 else []:
+        links.append(Link(maker.links.new(f"{maker.node(goal)}-to"), maker.node(goal), sink, Fraction(0), None))
+    supply = maker.supply(demand)
+    for rounding in (maker.capacity, maker.time, maker.rate):
+        rounding.refuse()
+    if len(supply) > SUPPLIES:
+        raise Refused(f"the demand has {len(supply)} pieces, and nfot takes {SUPPLIES}: take longer intervals", status=1)
+    network = Network(source, sink, links, supply)
+    notes = [] if roads.encoding in ("utf-8-sig", "utf-16") else [f"{roads.file} is read as {roads.encoding}"]
+    notes += left_out(found, roads.closed) + maker.notes() + supply_notes(demand, network)
+    return Made(network, [*notes, f"{len(network.nodes())} nodes, {len(links)} links"], maker.names)
+
+
+def supply_notes(demand: Demand, network: Network) -> list[str]:
+    """The line on how much is supplied."""
+    if not demand.pieces:
+        return ["no demand: nothing is supplied, so nfot gives the times on empty roads"]
+    before, until = demand.vehicles(), demand.pieces[-1][0]
+    if before is None:
+        return [f"the last rate, {readable(network.supply[-1][1])} a minute, lasts for ever"]
+    after = network.supplied(until)
+    changed = f"; the table has {decimal(before, 1)}" if after != before else ""
+    return [f"{decimal(after, 1)} vehicles are supplied by {short(until)}{changed}"]

@@ -1,0 +1,86 @@
+"""The ten commands of nfot: `nfot-py` hands them to the program that was found. Output and status are the program's."""
+from __future__ import annotations
+
+import os
+import re
+import subprocess
+import sys
+from typing import NamedTuple, Sequence
+
+from ..faults import Fault, NotFound
+from ..numbers import parse
+from ..program import program
+
+TAKEN = re.compile(r"-?\d+(/0*[1-9]\d*)?")  # a number as nfot takes it on its command line
+
+
+class Command(NamedTuple):
+    """A command of nfot: its words, what it does in a sentence, and an example."""
+    words: str
+    summary: str
+    example: str
+
+
+COMMANDS = {
+    "solve": Command("NET --horizon Q | --forever [--phases N] [--patterns N]", "Prints the equilibrium of all departures up to Q, as a report.",
+                     "nfot-py solve bridge.net --horizon 60 > bridge.report"),
+    "resume": Command("NET REPORT --horizon Q [--phases N] [--patterns N]", "Goes on from a report to a later horizon.",
+                      "nfot-py resume bridge.net bridge.report --horizon 90 > longer.report"),
+    "check": Command("NET REPORT", "Says whether the flow of a report is an equilibrium, and if not, where it breaks which rule.",
+                     "nfot-py check bridge.net bridge.report"),
+    "load": Command("NET LOADS --horizon Q", "Prints queues and exit times of links for given inflows.", "nfot-py load bridge.net tolled.loads --horizon 60"),
+    "routes": Command("NET ROUTES --horizon Q", "Prints arrivals of drivers whose routes are given.", "nfot-py routes merge.net merge.routes --horizon 2"),
+    "quick": Command("NET --amount Q [--augments N]", "Prints the least time for an amount, and the cut that proves it.", "nfot-py quick bridge.net --amount 240"),
+    "gen": Command("--number N --rungs N --horizon Q [--phases N] [--patterns N]", "Solves a numbered test network.", "nfot-py gen --number 7 --rungs 3 --horizon 20"),
+    "settle": Command("NET FLOWS", "Settles a thin flow of departure 0: which links are tight, full or zero.", "nfot-py settle even.net even.flows"),
+    "show": Command("NET", "Prints a network as nfot understands it.", "nfot-py show bridge.net"),
+}
+
+
+def help_of(name: str) -> str:
+    """The text of `nfot-py COMMAND --help`."""
+    command = COMMANDS[name]
+    return (f"usage: nfot-py {name} {command.words}\n\n{command.summary}\n\nThe program nfot does this; docs/FORMATS.md has files, options and statuses, and\n"
+            f"`nfot-py why -- nfot {name} ..` explains what it answers.\n\nexample: {command.example}")
+
+
+def version() -> str:
+    """The text of `nfot-py --version`."""
+    from .. import __version__
+    found = program()
+    return f"nfot-py {__version__}, with {'the program' if found.proved else 'the slow program, which is not proved:'} {found.place}"
+
+
+def plain(words: Sequence[str]) -> list[str]:
+    """The words with each horizon and amount as nfot takes it: `--horizon 2.5` becomes `--horizon 5/2`. All else stays."""
+    found: list[str] = []
+    for word in words:
+        option, equals, value = word.partition("=")
+        if equals and option in ("--horizon", "--amount"):
+            found.append(f"{option}={fraction(value)}")
+        else:
+            found.append(fraction(word) if found and found[-1] in ("--horizon", "--amount") else word)
+    return found
+
+
+def fraction(word: str) -> str:
+    """A number as nfot takes it; a word that is no number stays, so that nfot refuses it."""
+    if TAKEN.fullmatch(word):
+        return word
+    try:
+        return str(parse(word))
+    except Fault:
+        return word
+
+
+def pass_through(words: Sequence[str]) -> int:
+    """Runs the program with these words, on this process's own streams; its status, 128 more than the number of a signal that ended it."""
+    if list(words[1:]) in (["--help"], ["-h"]):
+        print(help_of(words[0]))
+        return 0
+    sys.stdout.flush()
+    try:
+        status = subprocess.call([*program().words, *plain(words)])
+    except OSError as fault:
+        raise NotFound(f"the program doesn't start: {fault.strerror}", file=os.fspath(program().words[0])) from None
+    return status if status >= 0 else 128 - status

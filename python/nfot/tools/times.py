@@ -1,0 +1,63 @@
+"""Prints when departures arrive, which links have queues, and the time that all spend.
+
+DEPARTUREs are minutes, or with --clock times of day. With --every the table has all departures in steps; with --csv it is written for a
+spreadsheet, alone. A wait is the amount in the queue divided by the capacity.
+
+example: nfot-py times bridge.net bridge.report 0 30 60
+example: nfot-py times bridge.net bridge.report --every 5 --clock 6:00 --csv times.csv"""
+from __future__ import annotations
+
+import argparse
+from fractions import Fraction
+
+from ..comparing import spent
+from ..faults import Refused
+from ..networks import Network
+from ..numbers import clock, decimal
+from ..queues import queues_of
+from ..reports import Report
+from ..rows import Rows, grid
+from ..wording import Words
+from .common import add_clock, add_csv, add_pair, departures, positive, read_run, write_rows
+
+
+def add_arguments(parser: argparse.ArgumentParser) -> None:
+    """The arguments of the tool."""
+    add_pair(parser)
+    parser.add_argument("departures", metavar="DEPARTURE", nargs="*", help="a departure from the source")
+    parser.add_argument("--every", metavar="MINUTES", type=positive, help="all departures from 0 on in steps of so many minutes")
+    add_clock(parser)
+    add_csv(parser)
+
+
+def rows_of(network: Network, run: Report, times: list[Fraction], begin: Fraction | None) -> Rows:
+    """A row for each departure."""
+    label = run.label(network.sink)
+    columns = ["leave", "arrive", "takes"] if begin is None else ["clock", "leave", "arrive", "takes"]
+    return Rows(columns, ([*([] if begin is None else [clock(time, begin)]), time, label(time), label(time) - time] for time in times))
+
+
+def main(arguments: argparse.Namespace) -> int:
+    """Prints the departures, the queues and the total; or writes the departures as CSV."""
+    network, run = read_run(arguments.net, arguments.report)
+    times = departures(arguments.departures, arguments.clock, run, arguments.report)
+    if arguments.every is not None:
+        times = sorted({*times, *grid(arguments.every, run.reached)})
+    rows = rows_of(network, run, times, arguments.clock)
+    if arguments.csv is not None:
+        if not times:
+            raise Refused("--csv has a row for each departure: name some, or take --every")
+        write_rows(rows, arguments)
+        return 0
+    words = Words(arguments.exact, arguments.clock)
+    for row in rows:
+        cells = {name: cell if isinstance(cell, str) else words.number(cell) for name, cell in row.items() if cell is not None}
+        print("  ".join(cell if name == "clock" else f"{name} {cell}" for name, cell in cells.items()))
+    if run.cause != "done":
+        print(f"the report ends at departure {decimal(run.reached)}, not at {decimal(run.horizon)}: {run.cause}")
+    for queue in queues_of(run):
+        print(words.queue(queue))
+    total, vehicles = spent(network, run.label(network.sink), run.reached).total, network.supplied(run.reached)
+    mean = f", a vehicle {words.number(total / vehicles)}" if vehicles else ""
+    print(f"all together on the way: {words.number(total, 1)}{mean}")
+    return 0

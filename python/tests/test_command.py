@@ -1,0 +1,142 @@
+"""The command `nfot-py`: help, commands that pass through, faults, output that fails, closed pipes and signals."""
+from __future__ import annotations
+
+import os
+import signal
+import subprocess
+import sys
+import time
+from pathlib import Path
+
+import nfot
+from nfot import tools
+from nfot.program import WARNING
+
+from .tooling import EXAMPLES, Case
+
+PYTHON = str(EXAMPLES.parent / "python")
+ENVIRONMENT = dict(os.environ, PYTHONPATH=PYTHON)
+
+
+def command(*words: object) -> list[str]:
+    """The words that run `nfot-py` as a process."""
+    return [sys.executable, "-m", "nfot", *map(str, words)]
+
+
+class Help(Case):
+    def test_all_have_help_with_an_example(self) -> None:
+        overview = self.fine("--help")
+        for name in [*tools.TOOLS, *tools.COMMANDS]:
+            self.assertIn(f"  {name} ", overview)
+            out = self.fine(name, "--help")
+            self.assertIn("example", out)
+            self.assertTrue(out.startswith(f"usage: nfot-py {name} "), out)
+
+    def test_without_words(self) -> None:
+        status, out, err = self.run_tool()
+        self.assertEqual((status, out), (2, ""))
+        self.assertIn("usage: nfot-py", err)
+
+    def test_wrong_words(self) -> None:
+        self.refused(2, "sole is no command or tool", "sole")
+        self.refused(2, "required: NET", "times")
+
+    def test_version(self) -> None:
+        self.assertTrue(self.fine("--version").startswith(f"nfot-py {nfot.__version__}, with the "))
+
+
+class Passing(Case):
+    def test_bytes_and_status(self) -> None:
+        """The ten commands print what the program prints, and end as it does."""
+        words = nfot.program().words
+        for given in (["show", EXAMPLES / "two.net"], ["check", EXAMPLES / "two.net", EXAMPLES / "late.report"], ["quick", EXAMPLES / "two.net", "--amount", "3"],
+                      ["solve", "nothing.net", "--horizon", "2"], ["solve", EXAMPLES / "two.net", "--horizon", "x"]):
+            here = subprocess.run(command(*given), stdout=subprocess.PIPE, stderr=subprocess.PIPE, env=ENVIRONMENT)
+            there = subprocess.run([*words, *map(str, given)], stdout=subprocess.PIPE, stderr=subprocess.PIPE)
+            told = here.stderr.replace(WARNING.encode() + b"\n", b"")  # it is printed where the slow program is used
+            self.assertEqual((here.returncode, here.stdout, told), (there.returncode, there.stdout, there.stderr))
+
+    def test_numbers(self) -> None:
+        from nfot.tools.passing import plain
+        self.assertEqual(plain(["solve", "x.net", "--horizon", "2.5"]), ["solve", "x.net", "--horizon", "5/2"])
+        self.assertEqual(plain(["quick", "2.5", "--amount=1e3"]), ["quick", "2.5", "--amount=1000"])
+        self.assertEqual(plain(["solve", "x", "--horizon", "7:30", "--horizon", "07", "--horizon", "x"]), ["solve", "x", "--horizon", "450", "--horizon", "07", "--horizon", "x"])
+
+
+class Output(Case):
+    def solved(self) -> tuple[Path, str]:
+        """A network and its report."""
+        return EXAMPLES / "two.net", self.write("two.report", nfot.solve(EXAMPLES / "two.net", 4).text())
+
+    def test_full_disk(self) -> None:
+        """A tool whose output can't be written says so, in one line, and doesn't end with 0."""
+        for words in (["times", *self.solved(), "1"], ["city", "--roads"], ["--help"], ["solve-on", EXAMPLES / "two.net", "--horizon", "4"]):
+            with open("/dev/full", "w") as full:
+                done = subprocess.run(command(*words), stdout=full, stderr=subprocess.PIPE, env=ENVIRONMENT, text=True)
+            self.assertEqual((done.returncode, done.stderr.count("\n")), (9, 1), done.stderr)
+            self.assertIn("standard output: No space left on device", done.stderr)
+
+    def test_closed_pipe(self) -> None:
+        for words in (["city", "--roads"], ["times", *self.solved(), "--every", "1/1000", "--csv", "-"]):
+            with subprocess.Popen(command(*words), stdout=subprocess.PIPE, stderr=subprocess.PIPE, env=ENVIRONMENT) as process:
+                assert process.stdout is not None and process.stderr is not None
+                process.stdout.close()
+                told = process.stderr.read()
+            self.assertEqual(told, b"")
+
+    def test_whole_files(self) -> None:
+        """A file that can't be replaced stays as it was, and nothing is left beside it."""
+        self.write("times.csv", "old\n")
+        self.run_tool("times", *self.solved(), "9", "--csv", "times.csv")
+        self.assertEqual((self.folder / "times.csv").read_text(), "old\n")
+        self.fine("times", *self.solved(), "1", "--csv", "times.csv")
+        self.assertEqual(sorted(path.name for path in self.folder.iterdir()), ["times.csv", "two.report"])
+
+    def test_terminated(self) -> None:
+        """SIGTERM ends a run at once, with the program that it runs, and leaves no temporary files."""
+        slow = self.write("slow", "#!/bin/sh\nexec sleep 60\n")
+        os.chmod(slow, 0o755)
+        (self.folder / "tmp").mkdir()
+        environment = dict(ENVIRONMENT, NFOT=str(self.folder / slow), TMPDIR=str(self.folder / "tmp"))
+        with subprocess.Popen(command("solve-on", EXAMPLES / "two.net", "--horizon", 4), stdout=subprocess.PIPE, env=environment) as process:
+            for _ in range(100):
+                time.sleep(0.05)
+                if any((self.folder / "tmp").iterdir()):
+                    break
+            begun = time.monotonic()
+            process.send_signal(signal.SIGTERM)
+            self.assertEqual(process.wait(timeout=10), 143)
+        self.assertLess(time.monotonic() - begun, 5)
+        self.assertEqual(list((self.folder / "tmp").iterdir()), [])
+
+
+class SolveOn(Case):
+    def test_past_the_patterns(self) -> None:
+        """With one pattern a phase nfot stops with status 6; the report that goes on is an equilibrium up to the horizon."""
+        net = EXAMPLES / "twelve.net"
+        self.fine("solve-on", net, "--horizon", "8", "--patterns", 1, "--out", "twelve.report")
+        self.assertTrue(nfot.check(net, "twelve.report"))
+        self.assertEqual(nfot.read_report("twelve.report", net).reached, 8)
+
+    def test_stopped_run(self) -> None:
+        """A run that ends early prints what it has, says so in one line, and ends with the status of nfot."""
+        status, out, err = self.run_tool("solve-on", EXAMPLES / "two.net", "--horizon", 4, "--phases", 1)
+        self.assertEqual((status, err.count("\n")), (5, 1), err)
+        self.assertIn("the run stopped at departure 1 of 4", err)
+        self.assertEqual(nfot.report_of(out, "report", nfot.read_network(EXAMPLES / "two.net")).cause, "phases 1")
+
+    def test_faults(self) -> None:
+        (self.folder / "out").mkdir()
+        self.refused(9, "out: it can't be written: Is a directory", "solve-on", EXAMPLES / "two.net", "--horizon", 4, "--out", "out")
+        self.refused(2, "required: --horizon", "solve-on", EXAMPLES / "two.net")
+        self.refused(3, "nothing.net: there is no file of this name", "solve-on", "nothing.net", "--horizon", 4)
+
+
+class City(Case):
+    def test_file_of_the_examples(self) -> None:
+        self.assertEqual(self.fine("city", 2400, 1, 20, "0:200", "30:400", "60:200", "90:0"), (EXAMPLES / "siouxfalls.net").read_text(encoding="ascii"))
+
+    def test_faults(self) -> None:
+        for words, wanted in [((1, 1, 25), "25 is no zone"), ((0, 1, 20), "0 isn't above 0"), ((1, 1, 1), "1 is FROM and TO"), ((1, 1, 20, "5"), "5 is no START:RATE"),
+                              ((1, 1), "UNIT, FROM and TO are needed"), (("--roads", 1), "--roads stands alone")]:
+            self.refused(2, wanted, "city", *words)

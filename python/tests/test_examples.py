@@ -1,0 +1,77 @@
+"""The programs of the folder examples that no page shows, run as a user runs them."""
+import importlib.util
+import os
+import re
+import subprocess
+import sys
+import unittest
+from fractions import Fraction
+from typing import Tuple
+
+from .cases import EXAMPLES, ROOT, Case
+
+
+def run(name: str, *words: str) -> Tuple[int, str, str]:
+    """Status, output and error of an example, with the package of this checkout."""
+    done = subprocess.run([sys.executable, str(EXAMPLES / name), *words], stdout=subprocess.PIPE, stderr=subprocess.PIPE, text=True,
+                          env={**os.environ, "PYTHONPATH": str(ROOT / "python"), "PYTHONDONTWRITEBYTECODE": "1"})
+    return done.returncode, done.stdout, done.stderr
+
+
+def last_arrival(n: int) -> Fraction:
+    """By hand, when the driver who leaves at n arrives on n + 1 roads of 0 to n minutes and capacity 1, with a supply of n + 1.
+
+    While k roads are used, arrivals grow by (n + 1)/k for each minute of departure. The next road is used when travel times are k.
+    """
+    opens, used = Fraction(0), 1
+    while used <= n and opens + Fraction(used, n + 1 - used) < n:
+        opens += Fraction(used, n + 1 - used)
+        used += 1
+    return opens + used - 1 + (n - opens) * Fraction(n + 1, used)
+
+
+class Examples(Case):
+    def test_price_of_anarchy(self) -> None:
+        """The least time is 3 n/2: by then the roads bring (n + 1) 3 n/2 less their transit times, n (n + 1)/2."""
+        status, out, _ = run("anarchy.py", *map(str, range(1, 9)))
+        rows = [[Fraction(above or whole) / Fraction(below or 1) for above, below, whole in re.findall(r"\$(?:\\frac\{(\d+)\}\{(\d+)\}|(\d+))\$", line)]
+                for line in out.splitlines()[1:-1]]
+        self.assertEqual((status, rows), (0, [[Fraction(n), Fraction(3 * n, 2), last_arrival(n), last_arrival(n) / Fraction(3 * n, 2)] for n in range(1, 9)]))
+        self.assertEqual(run("anarchy.py", "x")[:2], (2, ""))
+
+    def test_more(self) -> None:
+        status, out, err = run("more.py", "3")
+        self.assertEqual((status, err, len(out.splitlines())), (0, "", 2))
+        self.assertRegex(out, r"^more capacity: earlier in \d, later in \d of 3 networks\nmore supply: earlier in 0, later in \d of 3 networks\n$")
+        self.assertEqual(run("more.py")[:2], (2, ""))
+
+    @unittest.skipUnless(importlib.util.find_spec("networkx"), "networkx isn't installed")
+    def test_graph(self) -> None:
+        """By hand: 4 a minute, 20 in five minutes, go by the bridge until its wait is 18.25 minutes, and then 2 a minute each way."""
+        status, out, err = run("graph.py")
+        self.assertEqual((status, err), (0, ""))
+        lines = out.splitlines()
+        self.assertEqual((lines[0], lines[3], lines[5]), ("06:00 20.00 0.00 12.00", "06:15 16.50 3.50 20.00", "06:25 10.00 10.00 10.00"))
+        self.assertEqual(lines[-1], "('bridge', 'work', 18.25)")
+
+    def test_sample(self) -> None:
+        folder = self.folder()
+        (folder / "two.net").write_bytes((EXAMPLES / "two.net").read_bytes())
+        done = subprocess.run([sys.executable, str(EXAMPLES / "sample.py")], cwd=folder, stdout=subprocess.PIPE, text=True,
+                              env={**os.environ, "PYTHONPATH": str(ROOT / "python"), "PYTHONDONTWRITEBYTECODE": "1"})
+        self.assertEqual((done.returncode, done.stdout), (0, "yes\n"))
+
+    def test_packets_come_closer(self) -> None:
+        """The gap falls with the packets, about as 1/k."""
+        status, out, _ = run("packets.py", "2", "4", "8")
+        gaps = [float(line.split()[1]) for line in out.splitlines()]
+        self.assertEqual(status, 0)
+        self.assertTrue(gaps[0] > 1.5 * gaps[1] > 2 * gaps[2] > 0, gaps)
+
+    def test_all_are_short(self) -> None:
+        for path in EXAMPLES.glob("*.py"):
+            self.assertLessEqual(len(path.read_text(encoding="utf-8").splitlines()), 72, path)
+
+
+if __name__ == "__main__":
+    unittest.main()

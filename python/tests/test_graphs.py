@@ -1,0 +1,89 @@
+"""Networks from and to graphs of networkx."""
+from __future__ import annotations
+
+import unittest
+from fractions import Fraction
+from typing import Any
+
+import nfot
+
+from .tooling import EXAMPLES
+
+networkx: Any
+try:
+    import networkx
+except ImportError:
+    networkx = None
+
+
+@unittest.skipIf(networkx is None, "networkx isn't installed")
+class Graphs(unittest.TestCase):
+    def graph(self, **data: object) -> Any:
+        """Home and work with a bridge, and a bay road behind."""
+        graph = networkx.DiGraph()
+        graph.add_edge("home", "work", **{"minutes": 10, "per_minute": 2, **data})
+        graph.add_edge("home", "bay", minutes=30, per_minute=4)
+        graph.add_edge("bay", "work", minutes=1)
+        return graph
+
+    def made(self, graph: Any, **options: Any) -> nfot.Network:
+        """The network of a graph."""
+        return nfot.from_networkx(graph, "home", "work", supply=[(0, 4), (60, 0)], transit="minutes", capacity="per_minute", **options)
+
+    def test_there(self) -> None:
+        net = self.made(self.graph())
+        self.assertEqual(net.text(), "nfot 2\nsource home\nsink work\nlink home-work home work 10 2\nlink home-bay home bay 30 4\n"
+                                     "link bay-work bay work 1 inf\ninflow 0 4\ninflow 60 0\nend\n")
+
+    def test_back_and_forth(self) -> None:
+        for name in ("paradox.net", "siouxfalls.net", "corridor.net"):
+            net = nfot.read_network(EXAMPLES / name)
+            graph = nfot.to_networkx(net)
+            again = nfot.from_networkx(graph, graph.graph["source"], graph.graph["sink"], supply=graph.graph["supply"])
+            self.assertEqual((set(again.links.values()), again.supply), (set(net.links.values()), net.supply))
+
+    def test_rounding(self) -> None:
+        net = self.made(self.graph(minutes=9.96, per_minute=1.93), round_to="1/10")
+        self.assertEqual((net.links["home-work"].transit, net.links["home-work"].capacity), (10, Fraction(19, 10)))
+        with self.assertRaisesRegex(nfot.Fault, r"capacities change by up to 46.4 % .*: take round_to=0.02, or allow it with most_change=47"):
+            self.made(self.graph(per_minute=0.0683), round_to="1/10")
+        self.assertEqual(self.made(self.graph(per_minute=0.0683), round_to="1/10", most_change=50).links["home-work"].capacity, Fraction(1, 10))
+
+    def test_kinds_of_graphs(self) -> None:
+        multi = networkx.MultiGraph()
+        multi.add_edge("home", "work", minutes=1, per_minute=1)
+        multi.add_edge("home", "work", key="tunnel", minutes=2, per_minute=1)
+        self.assertEqual(list(self.made(multi).links), ["home-work", "work-home", "tunnel", "tunnel_back"])
+        multi.add_edge("home", "work", minutes=2, per_minute=float("inf"))
+        self.assertIsNone(self.made(multi).links["home-work.2"].capacity)
+
+    def test_clean_names(self) -> None:
+        graph = networkx.DiGraph()
+        graph.add_edge("Höhe 2", "Höhe_2", transit=1)
+        with self.assertRaises(nfot.Fault):
+            nfot.from_networkx(graph, "Höhe 2", "Höhe_2")
+        names = nfot.clean_names(graph)
+        self.assertEqual(names, {"Höhe 2": "Hoehe_2", "Höhe_2": "Hoehe_2.2"})
+        self.assertEqual(nfot.from_networkx(networkx.relabel_nodes(graph, names), "Hoehe_2", "Hoehe_2.2").source, "Hoehe_2")
+
+    def test_faults(self) -> None:
+        graph = self.graph()
+        with self.assertRaisesRegex(nfot.Fault, "no node 'shop'"):
+            nfot.from_networkx(graph, "home", "shop")
+        for data, wanted in [({"minutes": None}, "the edge home-work has no attribute `minutes`"), ({"minutes": 1.5}, "`minutes` of the edge home-work: 1.5 is a float"),
+                             ({"per_minute": -1}, "`per_minute` of the edge home-work: -1 is below 0"), ({"per_minute": "x"}, "x is no number")]:
+            with self.assertRaisesRegex(nfot.Fault, wanted):
+                self.made(self.graph(**data))
+
+    def test_closed_roads_are_left_out(self) -> None:
+        self.assertEqual(list(self.made(self.graph(per_minute=0)).links), ["home-bay", "bay-work"])
+
+
+class Without(unittest.TestCase):
+    def test_nothing_is_imported(self) -> None:
+        """The package imports neither networkx nor pandas by itself."""
+        import subprocess
+        import sys
+        done = subprocess.run([sys.executable, "-c", "import sys, nfot, nfot.tools; print(sorted({'networkx', 'pandas'} & set(sys.modules)))"],
+                              stdout=subprocess.PIPE, text=True, env={"PYTHONPATH": str(EXAMPLES.parent / "python")})
+        self.assertEqual(done.stdout, "[]\n")

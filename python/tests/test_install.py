@@ -1,0 +1,72 @@
+"""An installed copy, in a fresh virtual environment outside the checkout and without the program."""
+import importlib.util
+import os
+import pathlib
+import subprocess
+import sys
+import tempfile
+import unittest
+import zipfile
+import nfot
+
+from .cases import EXAMPLES, ROOT, Case, independent
+
+
+def words_of(done: "subprocess.CompletedProcess[str]") -> str:
+    """What a process wrote, for messages."""
+    return f"{done.stdout}{done.stderr or ''}"
+
+
+@unittest.skipUnless(importlib.util.find_spec("venv") and importlib.util.find_spec("ensurepip"), "the module venv isn't here: python3-venv has it")
+class Installed(Case):
+    def setUp(self) -> None:
+        self.place = self.folder()
+        subprocess.run([sys.executable, "-m", "venv", str(self.place / "venv")], check=True, stdout=subprocess.PIPE, stderr=subprocess.PIPE)
+        self.bin = self.place / "venv" / ("Scripts" if os.name == "nt" else "bin")
+
+    def run_there(self, *words: str) -> "subprocess.CompletedProcess[str]":
+        """Runs a command of the environment, outside the checkout and without the program."""
+        environment = {"PATH": str(self.place), "HOME": str(self.place)}
+        return subprocess.run([str(self.bin / words[0]), *words[1:]], cwd=self.place, env=environment, stdout=subprocess.PIPE,
+                              stderr=subprocess.PIPE, text=True)
+
+    def test_an_installed_copy_works_without_the_program(self) -> None:
+        """It is imported from any folder, and finds the slow program that came with it."""
+        for options in (["--no-build-isolation"], ["--force-reinstall"]):
+            pip = self.run_there("python", "-m", "pip", "install", "--no-index", *options, str(ROOT))
+            self.assertEqual(pip.returncode, 0, words_of(pip))
+        script = ("import nfot, sys\nnet = nfot.read_network(sys.argv[1])\nrun = nfot.solve(net, 2)\nprint(run.text(), end='')\n"
+                  "print(nfot.check(net, run), nfot.program().proved, nfot.__version__)")
+        done = self.run_there("python", "-c", script, str(EXAMPLES / "one.net"))
+        status, report, _ = independent("app").run(["solve", str(EXAMPLES / "one.net"), "--horizon", "2"])
+        self.assertEqual((done.stdout, status), (f"{report.decode()}yes False {nfot.__version__}\n", 0))
+        self.assertEqual(done.stderr, "nfot: no proved program found; using the slow one\n")
+        if (ROOT / "python/nfot/__main__.py").exists():
+            done = self.run_there("nfot-py", "solve", str(EXAMPLES / "one.net"), "--horizon", "2")
+            self.assertEqual((done.returncode, done.stdout.encode()), (0, report), words_of(done))
+
+
+class Built(Case):
+    def test_the_wheel_has_the_package_and_one_copy_of_the_slow_program(self) -> None:
+        sys.path.insert(0, str(ROOT / "tools"))
+        self.addCleanup(sys.path.remove, str(ROOT / "tools"))
+        wheels = __import__("wheels")
+        with tempfile.TemporaryDirectory() as folder:
+            with zipfile.ZipFile(pathlib.Path(folder) / wheels.build_wheel(folder)) as wheel:
+                names = set(wheel.namelist())
+                metadata = wheel.read(f"nfot-{nfot.__version__}.dist-info/METADATA").decode()
+        for path in (ROOT / "python/nfot").rglob("*"):
+            if path.is_file() and "__pycache__" not in path.parts:
+                self.assertIn(f"nfot/{path.relative_to(ROOT / 'python/nfot').as_posix()}", names)
+        self.assertLessEqual({"nfot/py.typed", "nfot/data/rules.json", "nfot/slow/independent/__main__.py"}, names)
+        self.assertIn("Requires-Python: >=3.9\n", metadata)
+        self.assertNotIn("Requires-Dist", metadata)
+        self.assertFalse((ROOT / "python/nfot/slow/independent").exists())
+
+    def test_the_version_is_the_same_everywhere(self) -> None:
+        self.assertIn(f'version = "{nfot.__version__}"', (ROOT / "pyproject.toml").read_text())
+        self.assertIn(f"\nversion: {nfot.__version__}\n", (ROOT / "CITATION.cff").read_text())
+
+
+if __name__ == "__main__":
+    unittest.main()
