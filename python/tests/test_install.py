@@ -12,16 +12,11 @@ import nfot
 from .cases import EXAMPLES, ROOT, Case, independent
 
 
-def words_of(done: "subprocess.CompletedProcess[str]") -> str:
-    """What a process wrote, for messages."""
-    return f"{done.stdout}{done.stderr or ''}"
-
-
-@unittest.skipUnless(importlib.util.find_spec("venv") and importlib.util.find_spec("ensurepip"), "the module venv isn't here: python3-venv has it")
+@unittest.skipUnless(all(map(importlib.util.find_spec, ("venv", "pip"))), "the modules venv and pip aren't here: python3-venv and python3-pip have them")
 class Installed(Case):
     def setUp(self) -> None:
         self.place = self.folder()
-        subprocess.run([sys.executable, "-m", "venv", str(self.place / "venv")], check=True, stdout=subprocess.PIPE, stderr=subprocess.PIPE)
+        subprocess.run([sys.executable, "-m", "venv", "--without-pip", str(self.place / "venv")], check=True, stdout=subprocess.PIPE, stderr=subprocess.PIPE)
         self.bin = self.place / "venv" / ("Scripts" if os.name == "nt" else "bin")
 
     def run_there(self, *words: str) -> "subprocess.CompletedProcess[str]":
@@ -33,8 +28,9 @@ class Installed(Case):
     def test_an_installed_copy_works_without_the_program(self) -> None:
         """It is imported from any folder, and finds the slow program that came with it."""
         for options in (["--no-build-isolation"], ["--force-reinstall"]):
-            pip = self.run_there("python", "-m", "pip", "install", "--no-index", *options, str(ROOT))
-            self.assertEqual(pip.returncode, 0, words_of(pip))
+            words = ["--python", str(self.bin / "python"), "install", "--no-index", "--no-compile", *options, str(ROOT)]
+            pip = subprocess.run([sys.executable, "-m", "pip", *words], cwd=self.place, stdout=subprocess.PIPE, stderr=subprocess.STDOUT, text=True)
+            self.assertEqual(pip.returncode, 0, pip.stdout)
         script = ("import nfot, sys\nnet = nfot.read_network(sys.argv[1])\nrun = nfot.solve(net, 2)\nprint(run.text(), end='')\n"
                   "print(nfot.check(net, run), nfot.program().proved, nfot.__version__)")
         done = self.run_there("python", "-c", script, str(EXAMPLES / "one.net"))
@@ -43,7 +39,7 @@ class Installed(Case):
         self.assertEqual(done.stderr, "nfot: no proved program found; using the slow one\n")
         if (ROOT / "python/nfot/__main__.py").exists():
             done = self.run_there("nfot-py", "solve", str(EXAMPLES / "one.net"), "--horizon", "2")
-            self.assertEqual((done.returncode, done.stdout.encode()), (0, report), words_of(done))
+            self.assertEqual((done.returncode, done.stdout.encode()), (0, report), done.stderr)
 
 
 class Built(Case):

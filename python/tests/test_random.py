@@ -8,7 +8,7 @@ from nfot.program import program
 
 from .cases import Case, random_network
 
-COUNT = 120 if program().proved else 15
+COUNT = 100 if program().proved else 9
 
 
 class Networks(Case):
