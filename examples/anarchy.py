@@ -1,8 +1,12 @@
 #!/usr/bin/env python3
-"""anarchy.py N ..: what selfish choice costs on N + 1 roads of 0 to N minutes, as the rows of a LaTeX table with exact fractions.
+"""anarchy.py [--nested] N ..: what selfish choice costs in a family of networks, as the rows of a LaTeX table with exact fractions.
 
-Each road lets 1 a minute through, and N + 1 a minute leave for N minutes. Statuses: 0 printed; 2 wrong arguments."""
+Without --nested: N + 1 parallel roads of 0 to N minutes. Each lets 1 a minute through, and N + 1 a minute leave for N minutes.
+With --nested (N at least 2): a street of short links that let N - 1, N - 2, .. and M a minute through. From the tail of the link that lets
+k - 1 through, a road of N - N M/k minutes and capacity 1 leads to the end. N a minute leave for M minutes, and M is the least number for
+which 1/(M + 1) + .. + 1/N is at most 1. Statuses: 0 printed; 2 wrong arguments."""
 import sys
+from fractions import Fraction
 
 import nfot
 
@@ -13,18 +17,32 @@ def roads(n):
     return nfot.Network("home", "work", links, [(0, n + 1), (n, 0)])
 
 
+def street(n):
+    """The nested network of N, whose roads begin at ever later points of the street."""
+    least = next(m for m in range(1, n) if sum(Fraction(1, k) for k in range(m + 1, n + 1)) <= 1)
+    nodes = {n: "home", least: "work"}
+    links = []
+    for k in range(n, least, -1):
+        tail, head = nodes.get(k, f"v{k}"), nodes.get(k - 1, f"v{k - 1}")
+        links += [nfot.Link(f"street{k - 1}", tail, head, 0, k - 1), nfot.Link(f"road{k}", tail, "work", n - Fraction(n * least, k), 1)]
+    return nfot.Network("home", "work", links, [(0, n), (least, 0)])
+
+
 def fraction(number):
     """A number in LaTeX."""
     return str(number) if number.denominator == 1 else rf"\frac{{{number.numerator}}}{{{number.denominator}}}"
 
 
 def main(words):
-    if not words or not all(word.isdigit() and int(word) for word in words):
-        print("usage: anarchy.py N .., whole numbers above 0", file=sys.stderr)
+    family, least = (street, 2) if words[:1] == ["--nested"] else (roads, 1)
+    sizes = words[1:] if family is street else words
+    if not sizes or not all(word.isdigit() and int(word) >= least for word in sizes):
+        print("usage: anarchy.py N .., whole numbers above 0, or anarchy.py --nested N .., whole numbers above 1", file=sys.stderr)
         return 2
     print(r"\begin{tabular}{cccc} $n$ & least time & equilibrium & price of anarchy \\ \hline")
-    for n in map(int, words):
-        answer = nfot.quick(roads(n), n * (n + 1))
+    for n in map(int, sizes):
+        net = family(n)
+        answer = nfot.quick(net, net.supplied(n))
         times = [answer.time, answer.equilibrium, answer.equilibrium / answer.time]
         print(f"${n}$ & " + " & ".join(f"${fraction(time)}$" for time in times) + r" \\")
     print(r"\end{tabular}")

@@ -39,6 +39,15 @@ class Examples(Case):
         self.assertEqual((status, rows), (0, [[Fraction(n), Fraction(3 * n, 2), last_arrival(n), last_arrival(n) / Fraction(3 * n, 2)] for n in range(1, 9)]))
         self.assertEqual(run("anarchy.py", "x")[:2], (2, ""))
 
+    def test_price_of_anarchy_of_a_nested_family(self) -> None:
+        """By hand: nobody leaves the street, so the last driver arrives at n. The links into the end bring n m by n - m (1/(m + 1) + .. + 1/n)."""
+        status, out, _ = run("anarchy.py", "--nested", *map(str, range(2, 9)))
+        prices = [Fraction(*map(int, found)) for found in re.findall(r"\\frac\{(\d+)\}\{(\d+)\}\$ \\\\", out)]
+        least = {2: 1, 3: 1, 4: 2, 5: 2, 6: 2, 7: 3, 8: 3}
+        times = {n: n - m * sum(Fraction(1, k) for k in range(m + 1, n + 1)) for n, m in least.items()}
+        self.assertEqual((status, prices), (0, [n / time for n, time in times.items()]))
+        self.assertEqual([run("anarchy.py", *words)[:2] for words in (["--nested"], ["--nested", "1"])], [(2, ""), (2, "")])
+
     def test_more(self) -> None:
         status, out, err = run("more.py", "3")
         self.assertEqual((status, err, len(out.splitlines())), (0, "", 2))
