@@ -70,7 +70,7 @@ class Form(Case):
 
 def blocks() -> Iterator[Tuple[int, str]]:
     """The blocks of Python on the page of the package: the line above each, and its text."""
-    begun, lines = 0, []
+    begun, lines = 0, list[str]()
     for number, line in enumerate(PAGE.read_text(encoding="utf-8").splitlines(), 1):
         if line.startswith("```"):
             if begun:
