@@ -7,7 +7,7 @@ usage() {
 usage: tools/release.sh FOLDER
 
 Writes FOLDER/nfot-VERSION-linux-x86_64.tar.gz from this tree, as it is committed. Build it first (`bash .ci/run`).
-The archive holds bin/nfot, the wheel, examples, docs, README.md, CHANGELOG.md, CITATION.cff, BUILD (commit, version, kit)
+The archive holds bin/nfot, the wheel, examples, docs, README.md, CHANGELOG.md, CONTRIBUTING.md, CITATION.cff, BUILD (commit, version, kit)
 and SHA256SUMS. The same commit and program give the same bytes. The unpacked program is tried on examples/one.net.
 
 Statuses: 0 written and tried; 1 something is missing, differs or fails; 2 wrong arguments.
@@ -43,7 +43,7 @@ export SOURCE_DATE_EPOCH
 mkdir -p "$work/tree" "$work/$name/bin"
 git archive HEAD | tar xf - -C "$work/tree"
 (cd "$work/tree" && python3 -m pip wheel --quiet --no-deps --no-build-isolation --no-cache-dir --wheel-dir "$work/$name" .) || refuse "the wheel could not be built"
-cp -r "$work/tree/examples" "$work/tree/docs" "$work/tree/README.md" "$work/tree/CHANGELOG.md" "$work/tree/CITATION.cff" "$work/$name"
+cp -r "$work/tree/examples" "$work/tree/docs" "$work/tree/README.md" "$work/tree/CHANGELOG.md" "$work/tree/CONTRIBUTING.md" "$work/tree/CITATION.cff" "$work/$name"
 cp "$program" "$work/$name/bin/nfot"
 chmod 755 "$work/$name/bin/nfot"
 cat >"$work/$name/BUILD" <<TEXT
