@@ -5,8 +5,8 @@
 
 - A link `[text](page.md#section)` leads to a file of the repository, and to a heading of it.
 - A page that a sentence names, as `docs/GUIDE.md`, is there. A section that follows, as in `docs/GUIDE.md, *A city*`, is a heading of it.
-- A quoted line, as `` `Labels` (`crates/nf_unique_laws/specs/Labels.antt:12`) ``, holds the name in front of it. A name with dots is a field:
-  the line holds its last part. `--write` puts in the first line that declares the name, where the number is wrong.
+- A quoted line, as `` `IsCurve` ([Curve.antt:51](../crates/nf_model/specs/Curve.antt#L51)) ``, declares the name in front of it. A name with dots
+  is a field: the line declares its last part. `--write` puts in the first line that declares the name, where the number is wrong.
 
 Statuses: 0 all are right (or were written); 1 some are wrong, each on one line; 2 wrong arguments."""
 from __future__ import annotations
@@ -19,7 +19,7 @@ from typing import Dict, Iterator, List, Optional, Set
 ROOT = pathlib.Path(__file__).resolve().parent.parent
 LINK = re.compile(r"\[[^\]]*\]\(([^)\s]+)\)")
 NAMED = re.compile(r"(?<![\w/])((?:docs/|bench/)?[A-Z]+\.md)(?:, \*([^*]+)\*)?")
-QUOTED = re.compile(r"`([\w.↔-]+)` \(`([\w./-]+\.(?:antt|rt)):(\d+)`\)")
+QUOTED = re.compile(r"`([\w.↔-]+)` \(\[[\w.-]+:(\d+)\]\(\.\./([\w./-]+\.(?:antt|rt))#L\d+\)\)")
 
 
 def pages() -> List[pathlib.Path]:
@@ -60,7 +60,7 @@ def bad_link(page: pathlib.Path, target: str) -> Optional[str]:
     file = (page.parent / name).resolve() if name else page
     if not file.exists():
         return f"{target}: no such file"
-    if section and section not in {anchor(heading) for heading in headings(file)}:
+    if section and file.suffix == ".md" and section not in {anchor(heading) for heading in headings(file)}:
         return f"{target}: no such section"
     return None
 
@@ -106,14 +106,14 @@ def mend(page: pathlib.Path, writes: bool) -> List[str]:
     wrong: List[str] = []
 
     def right(found: re.Match[str]) -> str:
-        name, place, number = found.groups()
+        name, number, place = found.groups()
         file = ROOT / place
         at = declared_at(file, name) if file.exists() else None
         if at is None:
             wrong.append(f"{place}: it declares no {name}")
         elif at != int(number) and not writes:
             wrong.append(f"{place}:{number}: {name} stands at line {at}")
-        return found[0] if at is None else f"`{name}` (`{place}:{at}`)"
+        return found[0] if at is None else f"`{name}` ([{file.name}:{at}](../{place}#L{at}))"
 
     text = page.read_text(encoding="utf-8")
     new = QUOTED.sub(right, text)

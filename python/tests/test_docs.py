@@ -2,19 +2,24 @@
 import ast
 import doctest
 import importlib
+import importlib.util
+import inspect
+import os
 import pathlib
 import pkgutil
 import re
+import shutil
 import subprocess
 import sys
 import unittest
-from typing import Iterator
+from typing import Any, Dict, Iterator, List, Tuple
 
 import nfot
 
-from .cases import ROOT, Case
+from .cases import EXAMPLES, ROOT, Case
 
 PACKAGE = ROOT / "python/nfot"
+PAGE = ROOT / "docs/PYTHON.md"
 
 
 def load_tests(loader: unittest.TestLoader, tests: unittest.TestSuite, pattern: object) -> unittest.TestSuite:
@@ -61,6 +66,72 @@ class Form(Case):
                 names += [node.module or ""] if isinstance(node, ast.ImportFrom) and not node.level else []
                 for name in names if len(allowed) > 1 else []:
                     self.assertIn(name.split(".")[0], allowed, path)
+
+
+def blocks() -> Iterator[Tuple[int, str]]:
+    """The blocks of Python on the page of the package: the line above each, and its text."""
+    begun, lines = 0, list[str]()
+    for number, line in enumerate(PAGE.read_text(encoding="utf-8").splitlines(), 1):
+        if line.startswith("```"):
+            if begun:
+                yield begun, "\n".join([*lines, ""])
+            begun, lines = 0 if begun else number, []
+        elif begun:
+            lines.append(line)
+
+
+def section(title: str) -> List[str]:
+    """The rows of the table in a section of the page, without its head."""
+    text = PAGE.read_text(encoding="utf-8").partition(f"\n## {title}\n")[2].partition("\n## ")[0]
+    return [line for line in text.splitlines() if line.startswith("|")][2:]
+
+
+def public_names() -> List[str]:
+    """The names that the package takes from its modules."""
+    tree = ast.parse((PACKAGE / "__init__.py").read_text(encoding="utf-8"))
+    return [alias.name for node in tree.body if isinstance(node, ast.ImportFrom) for alias in node.names]
+
+
+class Page(Case):
+    def test_blocks_print_what_they_show(self) -> None:
+        """The blocks run one after the other in a copy of examples; one that imports a package that isn't installed is skipped."""
+        examples = shutil.copytree(EXAMPLES, self.folder() / "examples")
+        self.addCleanup(os.chdir, os.getcwd())
+        os.chdir(examples)
+        session: Dict[str, Any] = {}
+        for line, text in blocks():
+            with self.subTest(line=line):
+                for name in re.findall(r"^>>> import (\w+)$", text, re.MULTILINE):
+                    if importlib.util.find_spec(name) is None:
+                        self.skipTest(f"docs/PYTHON.md line {line}: {name} isn't installed")
+                told: List[str] = []
+                test = doctest.DocTestParser().get_doctest(text, {}, PAGE.name, str(PAGE), line)
+                self.assertTrue(test.examples)
+                test.globs = session
+                failed, _ = doctest.DocTestRunner(verbose=False).run(test, out=told.append, clear_globs=False)
+                self.assertEqual(failed, 0, "".join(told))
+
+    def test_all_public_names_are_listed(self) -> None:
+        """Each name stands in the list or among the faults, and each name there is public."""
+        rows = section("All public names")
+        listed = {name for row in rows + section("Faults") for name in re.findall(r"`([A-Za-z]\w*)(?:\([^`]*)?`", row)}
+        heads = {name for row in rows + section("Faults") for name in re.findall(r"`(\w+)(?:\([^`]*)?`", row.split("|")[1])}
+        self.assertEqual((set(public_names()) - listed, heads - set(public_names())), (set(), set()))
+
+    def test_words_of_calls_are_right(self) -> None:
+        """The words in brackets are the first parameters of the call, in order."""
+        for row in section("All public names"):
+            for name, words in re.findall(r"`(\w+)\(([^)`]*)\)`", row.split("|")[1]):
+                wanted = list(inspect.signature(getattr(nfot, name)).parameters)
+                shown = words.split(", ") if words else []
+                self.assertEqual(shown, wanted[:len(shown)], name)
+
+    def test_all_faults_are_listed(self) -> None:
+        kinds = [name for name in public_names() if isinstance(getattr(nfot, name), type) and issubclass(getattr(nfot, name), nfot.Fault)]
+        self.assertEqual(sorted(row.split("|")[1] for row in section("Faults")), sorted(f"`{name}`" for name in kinds))
+
+    def test_the_page_is_short(self) -> None:
+        self.assertLessEqual(len(PAGE.read_text(encoding="utf-8").splitlines()), 350)
 
 
 class OldPython(Case):
