@@ -16,7 +16,7 @@ import sys
 import tempfile
 
 ROOT = pathlib.Path(__file__).resolve().parent.parent
-PAGES = ["README.md", "docs/GUIDE.md", "docs/PROGRAMS.md", "docs/TEACHING.md"]
+PAGES = ["README.md", "docs/GUIDE.md", "docs/STUDIES.md", "docs/PROGRAMS.md", "docs/TEACHING.md"]
 
 
 def shown(page):

@@ -1,5 +1,5 @@
 #!/usr/bin/env python3
-"""rules.py [--check]: writes python/nfot/data/rules.json, the tables of rules and statuses of docs/FORMATS.md and docs/GUIDE.md.
+"""rules.py [--check]: writes python/nfot/data/rules.json, the tables of rules and statuses of docs/FORMATS.md and docs/STUDIES.md.
 
 With --check nothing is written, and the status is 1 where the file isn't what the pages say.
 """
@@ -51,7 +51,7 @@ def formats_tables(page):
 def tables():
     """All tables, as the package has them."""
     found = formats_tables((ROOT / "docs/FORMATS.md").read_text(encoding="utf-8"))
-    rows = [cells(line) for line in (ROOT / "docs/GUIDE.md").read_text(encoding="utf-8").splitlines() if ADVICE.match(line)]
+    rows = [cells(line) for line in (ROOT / "docs/STUDIES.md").read_text(encoding="utf-8").splitlines() if ADVICE.match(line)]
     found["advice"] = {number: row[-1] for row in rows for number in numbers(row[0])}
     return json.dumps(found, indent=1, ensure_ascii=False) + "\n"
 

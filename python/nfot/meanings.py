@@ -1,4 +1,4 @@
-"""What rules and statuses mean: the texts of docs/FORMATS.md and docs/GUIDE.md, which tools/rules.py packs."""
+"""What rules and statuses mean: the texts of docs/FORMATS.md and docs/STUDIES.md, which tools/rules.py packs."""
 from __future__ import annotations
 
 import json

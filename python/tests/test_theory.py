@@ -168,7 +168,7 @@ class ByHand(Case):
                                                              "[20, 60) u=4 E'={bridge bay} E*={bridge} x'=(bridge:2 bay:2) l'=(home:1 work:1)"])
 
     def test_braess(self) -> None:
-        """docs/GUIDE.md, *A new road that makes it worse*: until 8 all take su, uv, vt; until 16 half of them; then nobody takes uv."""
+        """docs/STUDIES.md, *A new road that makes it worse*: until 8 all take su, uv, vt; until 16 half of them; then nobody takes uv."""
         self.assertEqual(self.lines(example("paradox"), 60), [
             "[0, 8) u=4 E'={su uv vt} E*={} x'=(su:4 uv:4 vt:4) l'=(s:1 t:2 u:2 v:2)",
             "[8, 16) u=4 E'={su sv uv vt} E*={su} x'=(su:2 sv:2 uv:2 vt:4) l'=(s:1 t:2 u:1 v:1)",
