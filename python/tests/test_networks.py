@@ -92,7 +92,7 @@ class Files(Case):
     def test_faults_name_file_line_rule_and_what_to_do(self) -> None:
         path = self.folder() / "roads.net"
         path.write_text("nfot 1\nsource s\nsink t\nlink a s t 1 1,5\nend\n")
-        fault = self.faulted(nfot.Refused, "line 4: N8: 1,5 is no number: write it as 5/2", nfot.read_network, path)
+        fault = self.faulted(nfot.Refused, "line 4: N8: 1,5 is no number: write 3/2", nfot.read_network, path)
         self.assertEqual((fault.file, fault.line, fault.rule, fault.status), (str(path), 4, "N8", 4))
         for wrong, wanted in (("Link a s t 1 1", "line 4: N5: Link begins no line of a network file: source, sink, link, inflow, end do"),
                               ("link a s t 1", "line 4: N6: the line has 5 words, and a line `link` has 6"), ("sink u", "line 4: N9: there are two")):
