@@ -125,6 +125,13 @@ class Roads(Table):
                      "they lead back to where they begin: 1 (m-m)", "no route from s to t takes them: 3 (s-x, y-t, m-t)"):
             self.assertIn(f"table: left out, since {line}\n", err)
 
+    def test_the_quickest_route_is_told(self) -> None:
+        """500 and 700 metres at 60 km/h are 0.5 and 0.7 minutes; read as kilometres they are 1200."""
+        table = "from,to,m,v,capacity\ns,m,500,60,1\nm,t,700,60,1\ns,t,2000,60,1\nm,u,100,60,1\n"
+        for option, goal, wanted in (("--length-m", "t", "1.20"), ("--length-km", "t", "1200.00"), ("--length-m", "t,u", "0.60")):
+            _, err = self.made(table, "s", goal, "0:1", option, "m", "--speed-kmh", "v")
+            self.assertIn(f"table: the quickest route from s to {goal} takes {wanted} minutes on empty roads\n", err)
+
     def test_detour(self) -> None:
         text = "from,to,time,capacity\ns,t,10,1\ns,m,6,1\nm,t,5,1\ns,n,9,1\nn,t,9,1\n"
         net, err = self.made(text, "s", "t", "0:1", "--detour", 1)
