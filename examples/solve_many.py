@@ -32,7 +32,7 @@ def main(horizon, names):
             try:
                 print(run.result())
             except nfot.Fault as fault:
-                print(f"{name}: {fault}")
+                print(fault if fault.file == name else f"{name}: {fault}")
                 faults += 1
     return 1 if faults else 0
 

@@ -81,9 +81,9 @@ def start_of(row: Row, column: str, begin: Optional[Fraction], before: Optional[
     """The minute at which a row begins, and the time of day of minute 0 (that of the first row, where nothing else is known).
 
     `before` is the minute of the row before; a time of day that is earlier is one of the next day."""
-    word = row.text(column)
+    word, plain = row.text(column), row.with_point(column)
     try:
-        time = parse(word.replace(",", ".") if row.decimal_comma else word)
+        time = parse(plain)
     except Refused as fault:
         raise row.fault(column, fault.why) from None
     if ":" not in word:

@@ -13,12 +13,13 @@ from .renaming import Names, joined
 from .rounding import MOST, Rounding
 
 
-def clean_names(graph: Any) -> dict[Hashable, str]:
+def clean_names(graph: Iterable[Hashable]) -> dict[Hashable, str]:
     """A name for each node that the network file allows: `networkx.relabel_nodes(graph, nfot.clean_names(graph))`.
 
-    Umlauts are spelled out, other characters become `_`, and the second node of a name gets `.2`."""
+    A list of names of nodes or links may stand in the graph's place. Umlauts are spelled out, other characters become `_`, and the
+    second of equal names gets `.2`."""
     names = Names()
-    return {node: names.new(str(node)) for node in graph.nodes}
+    return {node: names.new(str(node)) for node in dict.fromkeys(graph)}
 
 
 class Reader:

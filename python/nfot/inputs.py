@@ -8,7 +8,7 @@ from .faults import Refused
 from .lines import PathLike, Text, as_bytes, broken, content_words, is_name, read_bytes, shown_name, split_lines
 from .loading import Piece
 from .networks import Network
-from .numbers import file_number, short
+from .numbers import file_number, hint, short
 from .routing import in_order, walk_fault
 
 MOST_ROUTES, MOST_PIECES = 100, 200
@@ -46,7 +46,7 @@ def number_of(word: str, rule: str, line: int) -> Fraction:
     """The number of a word; Refused by the rule."""
     number = file_number(word, False)
     if number is None:
-        raise broken(rule, f"{word[:40]} is no number: write it as 5/2, with parts of at most 2^127 - 1", line)
+        raise broken(rule, f"{word[:40]} is no number: {hint(word)}", line)
     return number
 
 

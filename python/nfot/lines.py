@@ -1,6 +1,7 @@
 """Lines of files: reading them, what all formats share of them, and writing whole files."""
 from __future__ import annotations
 
+import codecs
 import os
 import re
 import sys
@@ -14,6 +15,7 @@ Text = Union[str, bytes, Iterable[str]]  # a whole text, or its lines
 MOST_BYTES, MOST_REPORT_BYTES, LONGEST_LINE, LONGEST_NAME = 1048576, 67108864, 1000, 24
 
 _NAME = re.compile(r"[A-Za-z0-9_.-]{1,24}", re.ASCII)
+_MARKS = (codecs.BOM_UTF8, codecs.BOM_UTF16_LE, codecs.BOM_UTF16_BE)
 _FORBIDDEN = re.compile(rb"[^\t\n -~]")
 
 
@@ -83,6 +85,8 @@ def split_lines(data: bytes, letter: str) -> Tuple[List[str], bool]:
 def _check_line(line: bytes, letter: str, number: int) -> None:
     """Refuses a line by rule 1 or 2."""
     found = _FORBIDDEN.search(line)
+    if number == 1 and line.startswith(_MARKS):
+        raise broken(f"{letter}1", "the file begins with a byte order mark: save the file as plain text without a byte order mark", number)
     if found:
         raise broken(f"{letter}1", f"the byte {found[0]!r} is neither printable ASCII nor a space or a tab"[:80], number)
     if len(line) > LONGEST_LINE:
@@ -98,4 +102,4 @@ def check_name(word: object, what: str) -> None:
     """Refuses what is no name of a node or a link, by rule N7."""
     if not isinstance(word, str) or not is_name(word):
         wanted = f"1 to {LONGEST_NAME} characters out of A-Z a-z 0-9 _ - ."
-        raise broken("N7", f"{ascii(word)[:60]} is no name of a {what}: a name has {wanted}")
+        raise broken("N7", f"{word!r:.60} is no name of a {what}: a name has {wanted} (in Python, nfot.clean_names makes names)")

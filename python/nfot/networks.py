@@ -10,7 +10,7 @@ from .drafts import Draft, Link, Piece, fitting
 from .faults import OutOfRange, Refused
 from .graph import reached_from
 from .lines import PathLike, Text, as_bytes, broken, check_name, content_words, read_bytes, shown_name, split_lines
-from .numbers import Number, file_number
+from .numbers import Number, file_number, hint
 from .program import write_beside
 
 __all__ = ["Link", "Network", "network_of", "read_network", "write_network"]
@@ -184,8 +184,7 @@ def _number(draft: Draft, word: str) -> Fraction:
     """The number of a word; Refused by N8."""
     number = file_number(word, draft.version == 2)
     if number is None:
-        wanted = "5/2" if draft.version == 1 else "5/2 or 2.5"
-        raise broken("N8", f"{word} is no number: write it as {wanted}, with parts of at most 2^127 - 1")
+        raise broken("N8", f"{word[:40]} is no number: {hint(word, '5/2' if draft.version == 1 else '5/2 or 2.5')}")
     return number
 
 

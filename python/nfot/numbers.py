@@ -19,6 +19,8 @@ LONGEST_PRINTED = 80  # characters of a printed number within the bound: two tim
 
 _DECIMAL = re.compile(r"[+-]?(?:\d+(?:\.\d*)?|\.\d+)(?:[eE][+-]?\d{1,3})?", re.ASCII)
 _FRACTION = re.compile(r"[+-]?\d+/0*[1-9]\d*", re.ASCII)
+_OVER_ZERO = re.compile(r"[+-]?\d+/0+", re.ASCII)
+_THOUSANDS = re.compile(r"[+-]?\d+,\d{3}", re.ASCII)
 _CLOCK = re.compile(r"(\d{1,3}):([0-5]\d)(?::([0-5]\d))?", re.ASCII)
 _PRINTED = re.compile(r"0|-?[1-9]\d*(?:/[1-9]\d*)?", re.ASCII)
 _FILE_FRACTION = re.compile(r"(-?)(\d+)(?:/(\d+))?", re.ASCII)
@@ -36,18 +38,31 @@ def exact(value: object) -> Fraction:
         return Fraction(int(value.numerator), int(value.denominator))
     if isinstance(value, numbers.Real) and not isinstance(value, Decimal):
         raise Refused(f"{value} is a float: round it and write it as a text, as Fraction('{float(value):.4g}')")
-    return _exact_word(value)
+    found = _of_word(value)
+    if found is None:
+        raise Refused(f"{value!s:.60} is no number: {hint(str(value), '5/2 or 2.5')}")
+    return found
 
 
-def _exact_word(value: object) -> Fraction:
-    """The number of a Decimal or a text; Refused for all else."""
+def _of_word(value: object) -> Optional[Fraction]:
+    """The number of a Decimal or a text; None for all else."""
     if isinstance(value, Decimal) and value.is_finite():
         return Fraction(value)
     if isinstance(value, str) and len(value) <= LONGEST_WORD:
         word = value.strip()
         if _DECIMAL.fullmatch(word) or _FRACTION.fullmatch(word):
             return Fraction(word)
-    raise Refused(f"{value!s:.60} is no number: write it as 5/2 or 2.5")
+    return None
+
+
+def hint(word: str, forms: str = "5/2") -> str:
+    """What to do about a word that isn't taken as a number: its own number as a fraction, where it has one; `forms` are taken.
+
+    A comma before three digits may part thousands, so such a word has no number."""
+    value = _of_word(word if _THOUSANDS.fullmatch(word) else word.replace(",", "."))
+    if value is not None:
+        return f"write {value}" if within(value) else "its numerator or denominator exceeds 2^127 - 1"
+    return "its denominator is 0" if _OVER_ZERO.fullmatch(word) else f"a number is written like {forms}"
 
 
 def time_of(value: object) -> Fraction:

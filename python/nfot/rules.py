@@ -8,6 +8,7 @@ from typing import Dict, List, Optional, Sequence, Tuple
 from .faults import Fault
 from .lines import MOST_REPORT_BYTES, read_bytes
 from .networks import read_network
+from .numbers import LONGEST_WORD, file_number, hint
 from .report_file import read_report
 from .meanings import RULE, meaning, status, tables
 
@@ -15,7 +16,7 @@ __all__ = ["explain", "files_of", "meaning", "status", "wrong_words"]
 
 _FILE = re.compile(r"nfot: (network|report|loads|flows|routes) line (\d+): (\w+)")
 _VERDICT = re.compile(r"no (C\d) (\S+) (\S+) (\S+) (\S+)")
-_FRACTION = r"\d+(/0*[1-9]\d*)?"
+_RANGES = {"--phases": (1, 100000), "--patterns": (1, 1000000), "--augments": (1, 100000), "--number": (0, 2 ** 64 - 1), "--rungs": (1, 30)}
 
 
 def explain(line: str, files: Sequence[str] = (), words: Sequence[str] = (), ended: Optional[int] = None) -> List[str]:
@@ -146,17 +147,32 @@ def wrong_words(words: Sequence[str]) -> str:
     wanted = [word for word in forms[0][1:] if word.isalpha() and word.isupper() and word not in ("Q", "N")]
     if len(files) != len(wanted):
         return f"{words[0]} takes {len(wanted)} files{': ' * bool(wanted)}{' '.join(wanted)}, and {len(files)} are given"
-    return _wrong_value(dict(options)) or _missing(forms, names) or "a number is outside its range"
+    return _wrong_value(dict(options)) or _missing(forms, names) or "options exclude each other, or a value begins with a minus"
 
 
 def _wrong_value(options: Dict[str, str]) -> Optional[str]:
     """The option whose value is none, and what a value is."""
     for name, value in options.items():
-        if name in ("--horizon", "--amount") and not re.fullmatch(_FRACTION, value):
-            return f"{value or 'nothing'} is no value of {name}: a number is written 5/2, not 2.5"
-        if name not in ("--horizon", "--amount", "--forever") and not re.fullmatch(r"\d+", value):
-            return f"{value or 'nothing'} is no value of {name}: decimal digits alone"
+        why = _wrong_count(value, *_RANGES[name]) if name in _RANGES else None if name == "--forever" else _wrong_quantity(value)
+        if why:
+            return f"{value[:60] or 'nothing'} is no value of {name}: {why}"
     return None
+
+
+def _wrong_count(value: str, least: int, most: int) -> Optional[str]:
+    """What a count is, where the value is none."""
+    digits = value.lstrip("0") or value[:1]
+    if re.fullmatch(r"\d{1,20}", digits, re.ASCII) and least <= int(digits) <= most:
+        return None
+    return f"it takes {least} to {most}, in decimal digits alone"
+
+
+def _wrong_quantity(value: str) -> Optional[str]:
+    """What a horizon or an amount is, where the value is none."""
+    number = file_number(value, False) if len(value) <= LONGEST_WORD else None
+    if value.startswith("-") and number != 0:
+        return "it takes a number of at least 0"
+    return hint(value) if number is None else None
 
 
 def _missing(forms: Sequence[Sequence[str]], names: Sequence[str]) -> Optional[str]:

@@ -1,13 +1,14 @@
 """Tables as spreadsheets and map programs write them: encodings, separators, decimal commas, and what is wrong in which row.
 
 UTF-8, UTF-16 and Windows-1252 are read, with or without a byte order mark. The separator is the one of `;`, tab and `,` that the first
-line holds most often. With `;` or tabs a number may have a decimal comma."""
+line holds most often. With `;` or tabs a number may have a decimal comma; then a dot before three digits is refused, since it may part
+thousands."""
 from __future__ import annotations
 
 import csv
 import io
 import re
-from dataclasses import dataclass
+from dataclasses import dataclass, replace
 from fractions import Fraction
 from typing import Iterator, Mapping, Optional, Sequence
 
@@ -17,14 +18,20 @@ from .lines import read_bytes, shown_name
 MOST_BYTES = 2 ** 28
 NUMBER = re.compile(r"[+-]?(\d+(\.\d*)?|\.\d+)([eE][+-]?\d{1,3})?|[+-]?\d+/0*[1-9]\d*")
 
+WITH_COMMA = re.compile(r"[+-]?\d*,\d+")
+MAYBE_THOUSANDS = re.compile(r"[+-]?\d+\.\d{3}")
+
 
 @dataclass(frozen=True)
 class Row:
-    """A row of a table: its cells by column (names in small letters), and where it stands."""
+    """A row of a table: its cells by column (names in small letters), and where it stands.
+
+    `decimal_comma` says that a number may have one, `has_commas` that some number of the table has one."""
     file: str
     line: int
     cells: Mapping[str, str]
     decimal_comma: bool
+    has_commas: bool = False
 
     def fault(self, column: str, why: str) -> Refused:
         """The Fault that names file, row and column."""
@@ -34,12 +41,20 @@ class Row:
         """The cell of a column, without blanks around it."""
         return self.cells[column.lower()]
 
+    def with_point(self, column: str) -> str:
+        """The cell of a column with a decimal point for a decimal comma; a Fault where its dot may part thousands."""
+        word = self.text(column)
+        if self.has_commas and MAYBE_THOUSANDS.fullmatch(word):
+            both = f"{word.replace('.', '')} or {word.replace('.', ',')}"
+            raise self.fault(column, f"`{word}` has a dot before three digits, and the table has decimal commas: write {both}")
+        return word.replace(",", ".") if self.decimal_comma else word
+
     def number(self, column: str) -> Fraction:
         """The number in a column, at least 0; a Fault for an empty cell and for what is no such number."""
         word = self.text(column)
         if not word:
             raise self.fault(column, "the cell is empty")
-        plain = word.replace(",", ".") if self.decimal_comma else word
+        plain = self.with_point(column)
         if not NUMBER.fullmatch(plain):
             raise self.fault(column, f"`{word}` is no number")
         found = Fraction(plain)
@@ -102,6 +117,8 @@ def read_sheet(path: str) -> Sheet:
             raise Refused("the file is empty", file=name)
         columns = [head.strip().lower() for head in heads]
         rows = list(rows_of(table, name, columns, separator != ","))
+        if any(WITH_COMMA.fullmatch(cell) for row in rows if row.decimal_comma for cell in row.cells.values()):
+            rows = [replace(row, has_commas=True) for row in rows]
     except csv.Error as fault:
         raise Refused(f"{fault}", file=name, line=table.line_num) from None
     if not rows:

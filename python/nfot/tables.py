@@ -15,6 +15,7 @@ from typing import Iterable, NamedTuple, Optional, Sequence
 
 from .demand import Demand
 from .faults import OutOfRange, Refused
+from .graph import least_sums
 from .networks import Link, Network
 from .numbers import decimal, short
 from .program import write_beside
@@ -183,6 +184,8 @@ def network_of_table(roads: Roads, origin: str, destination: str, demand: Demand
     network = Network(source, sink, links, supply)
     notes = [] if roads.encoding in ("utf-8-sig", "utf-16") else [f"{roads.file} is read as {roads.encoding}"]
     notes += left_out(found, roads.closed) + maker.notes() + supply_notes(demand, network)
+    quickest = least_sums(source, links)[sink]
+    notes.append(f"the quickest route from {origin} to {destination} takes {decimal(quickest)} minutes on empty roads")
     return Made(network, [*notes, f"{len(network.nodes())} nodes, {len(links)} links"], maker.names)
 
 

@@ -54,6 +54,19 @@ class Examples(Case):
         self.assertRegex(out, r"^more capacity: earlier in \d, later in \d of 3 networks\nmore supply: earlier in 0, later in \d of 3 networks\n$")
         self.assertEqual(run("more.py")[:2], (2, ""))
 
+    def test_many(self) -> None:
+        """A fault names its network once, whether it is of the file or of the run."""
+        folder = self.folder()
+        (folder / "bad.net").write_text("nfot 1\nlink\n")
+        (folder / "even.net").write_bytes((EXAMPLES / "even.net").read_bytes())
+        bad, even = folder / "bad.net", folder / "even.net"
+        status, out, _ = run("solve_many.py", "-1", str(bad), str(even))
+        lines = out.splitlines()
+        self.assertEqual((status, len(lines)), (1, 2))
+        self.assertEqual([line.count(str(path)) for line, path in zip(lines, (bad, even))], [1, 1])
+        self.assertTrue(lines[0].startswith(f"{bad} line 2: N6: "), out)
+        self.assertTrue(lines[1].startswith(f"{even}: "), out)
+
     @unittest.skipUnless(importlib.util.find_spec("networkx"), "networkx isn't installed")
     def test_graph(self) -> None:
         """By hand: 4 a minute, 20 in five minutes, go by the bridge until its wait is 18.25 minutes, and then 2 a minute each way."""

@@ -60,7 +60,7 @@ class Graphs(unittest.TestCase):
     def test_clean_names(self) -> None:
         graph = networkx.DiGraph()
         graph.add_edge("Höhe 2", "Höhe_2", transit=1)
-        with self.assertRaises(nfot.Fault):
+        with self.assertRaisesRegex(nfot.Refused, "'Höhe 2' is no name of a node: .*nfot.clean_names"):
             nfot.from_networkx(graph, "Höhe 2", "Höhe_2")
         names = nfot.clean_names(graph)
         self.assertEqual(names, {"Höhe 2": "Hoehe_2", "Höhe_2": "Hoehe_2.2"})
@@ -80,6 +80,11 @@ class Graphs(unittest.TestCase):
 
 
 class Without(unittest.TestCase):
+    def test_clean_names_of_a_list(self) -> None:
+        self.assertEqual(nfot.clean_names(["Brücke", "Br:cke", "Br:cke", "Br;cke"]), {"Brücke": "Bruecke", "Br:cke": "Br_cke", "Br;cke": "Br_cke.2"})
+        with self.assertRaisesRegex(nfot.Refused, "'Brücke' is no name of a link: .*nfot.clean_names"):
+            nfot.Link("Brücke", "s", "t", 1, 1)
+
     def test_nothing_is_imported(self) -> None:
         """The package imports neither networkx nor pandas by itself."""
         import subprocess

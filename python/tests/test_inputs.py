@@ -35,6 +35,13 @@ class Readers(Case):
                 rules.add(wanted[0])
         self.assertGreaterEqual(len(rules), 28, rules)
 
+    def test_a_decimal_is_told_as_its_fraction(self) -> None:
+        net = example("merge")
+        for reader, text, wanted in [(loads_of, "loads 1\nrate p 0 1.5\nend\n", "line 2: L8: 1.5 is no number: write 3/2"),
+                                     (routes_of, "routes 1\nroute one p z\nrate one 0.25 1\nend\n", "line 3: G9: 0.25 is no number: write 1/4"),
+                                     (flows_of, f"flows 1\nflow p {2 ** 127}\nend\n", "S8: .* numerator or denominator exceeds 2")]:
+            self.faulted(nfot.Refused, wanted, reader, text, net)
+
     def changed(self, rng: random.Random, good: bytes) -> bytes:
         """The file with one or two words or lines changed."""
         lines = [line.split(b" ") for line in good.split(b"\n")]

@@ -92,12 +92,17 @@ class Files(Case):
     def test_faults_name_file_line_rule_and_what_to_do(self) -> None:
         path = self.folder() / "roads.net"
         path.write_text("nfot 1\nsource s\nsink t\nlink a s t 1 1,5\nend\n")
-        fault = self.faulted(nfot.Refused, "line 4: N8: 1,5 is no number: write it as 5/2", nfot.read_network, path)
+        fault = self.faulted(nfot.Refused, "line 4: N8: 1,5 is no number: write 3/2", nfot.read_network, path)
         self.assertEqual((fault.file, fault.line, fault.rule, fault.status), (str(path), 4, "N8", 4))
         for wrong, wanted in (("Link a s t 1 1", "line 4: N5: Link begins no line of a network file: source, sink, link, inflow, end do"),
                               ("link a s t 1", "line 4: N6: the line has 5 words, and a line `link` has 6"), ("sink u", "line 4: N9: there are two")):
             path.write_text(f"nfot 1\nsource s\nsink t\n{wrong}\nend\n")
             self.faulted(nfot.Refused, wanted, nfot.read_network, path)
+        for mark in (b"\xef\xbb\xbf", b"\xff\xfe", b"\xfe\xff"):
+            path.write_bytes(mark + b"nfot 1\n")
+            self.faulted(nfot.Refused, "line 1: N1: .* save the file as plain text without a byte order mark", nfot.read_network, path)
+        path.write_bytes(b"nfot 1\n\xef\xbb\xbf\n")
+        self.faulted(nfot.Refused, "line 2: N1: the byte", nfot.read_network, path)
         self.faulted(nfot.NotFound, "nowhere.net: there is no file of this name", nfot.read_network, "nowhere.net")
         self.faulted(nfot.Fault, "directory", nfot.read_network, path.parent)
         path.write_bytes(b"#" * 1048577)

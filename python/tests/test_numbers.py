@@ -27,6 +27,17 @@ class Numbers(Case):
         for value in ("x", "1/0", "", None, "1,5", "1e9999", "7" * 500, Decimal("Infinity"), [1]):
             self.faulted(nfot.Refused, re.escape(f"{value!s:.60}"), numbers.exact, value)
 
+    def test_the_hint_has_the_number_of_the_word(self) -> None:
+        """The value is worked out; a word beyond the bound of files, one over 0 and one without a value are told apart."""
+        most = 2 ** 127 - 1
+        wide = "its numerator or denominator exceeds 2^127 - 1"
+        for word, wanted in [("1.5", "write 3/2"), ("-0.25", "write -1/4"), ("1,5", "write 3/2"), ("1e3", "write 1000"), (".5", "write 1/2"),
+                             (f"{2 * most}/2", f"write {most}"), (str(most + 1), wide), (f"0.{'0' * 39}1", wide), ("1/0", "its denominator is 0"),
+                             ("1,800", "a number is written like 5/2"), ("x", "a number is written like 5/2")]:
+            self.assertEqual(numbers.hint(word), wanted, word)
+        self.faulted(nfot.Refused, "^1,5 is no number: write 3/2$", numbers.exact, "1,5")
+        self.faulted(nfot.Refused, "^x is no number: a number is written like 5/2 or 2.5$", numbers.exact, "x")
+
     def test_words_of_the_command_line(self) -> None:
         words = {"2.5": "5/2", "7/2": "7/2", "1e6": "1000000", "7:30": "450", "07:30": "450", "0:00:30": "1/2", "-1": "-1"}
         for word, value in words.items():

@@ -125,6 +125,13 @@ class Roads(Table):
                      "they lead back to where they begin: 1 (m-m)", "no route from s to t takes them: 3 (s-x, y-t, m-t)"):
             self.assertIn(f"table: left out, since {line}\n", err)
 
+    def test_the_quickest_route_is_told(self) -> None:
+        """500 and 700 metres at 60 km/h are 0.5 and 0.7 minutes; read as kilometres they are 1200."""
+        table = "from,to,m,v,capacity\ns,m,500,60,1\nm,t,700,60,1\ns,t,2000,60,1\nm,u,100,60,1\n"
+        for option, goal, wanted in (("--length-m", "t", "1.20"), ("--length-km", "t", "1200.00"), ("--length-m", "t,u", "0.60")):
+            _, err = self.made(table, "s", goal, "0:1", option, "m", "--speed-kmh", "v")
+            self.assertIn(f"table: the quickest route from s to {goal} takes {wanted} minutes on empty roads\n", err)
+
     def test_detour(self) -> None:
         text = "from,to,time,capacity\ns,t,10,1\ns,m,6,1\nm,t,5,1\ns,n,9,1\nn,t,9,1\n"
         net, err = self.made(text, "s", "t", "0:1", "--detour", 1)
@@ -204,6 +211,22 @@ class Files(Table):
             net, err = self.made(text, "Köln", "t", "0:1", encoding=encoding)
             self.assertEqual(net.text().splitlines()[3], "link Koeln-t Koeln t 5/2 3")
             self.assertEqual("roads.csv is read as cp1252" in err, encoding == "cp1252")
+
+    def test_dots_that_may_part_thousands(self) -> None:
+        """They are refused beside decimal commas; without one, and in names and other columns, a dot is what it was."""
+        head = "from;to;time;capacity\n"
+        self.wrong(2, "roads.csv line 2: column `capacity`: `1.800` has a dot before three digits, and the table has decimal commas: write 1800 or 1,800",
+                   head + "A;B;3,5;1.800\n", "A", "B", "0:1", "--hourly")
+        self.wrong(2, "roads.csv line 2: column `time`: `2.125` has a dot", head + "A;B;2.125;1\nB;C;,5;1\n", "A", "C", "0:1")
+        for text in ("A;B;3,5;1800\n", "A;B;3,5;1.8e3\n", "A;B;3.5;1800.000\n"):
+            net, _ = self.made(head + text, "A", "B", "0:1", "--hourly")
+            self.assertEqual((net.links["A-B"].transit, net.links["A-B"].capacity), (Fraction(7, 2), 30))
+        net, _ = self.made("from;to;time;capacity;x\n1.800;B;3,5;1;2.500\n", "1.800", "B", "0:1")
+        self.assertEqual(list(net.links), ["1.800-B"])
+        self.write("counts.csv", "start;count\n0;1,5\n15;1.200\n")
+        self.wrong(2, "counts.csv line 3: column `count`: `1.200` has a dot", GOOD, "s", "t", "--demand", "counts.csv", "--each", 15)
+        self.write("counts.csv", "start;count\n1.000;1,5\n")
+        self.wrong(2, "counts.csv line 2: column `start`: `1.000` has a dot", GOOD, "s", "t", "--demand", "counts.csv", "--each", 15)
 
     def test_standard_input(self) -> None:
         self.assertIn("link s-t s t 1 1\n", self.fine("table", "-", "s", "t", "0:1", stdin=GOOD))

@@ -54,6 +54,7 @@ class Why(Case):
         for words, status, wanted in [
                 ("nfot show x.net", 4, "x.net line 4: link a s t 1.5 1\n  N8: "), ("show lost.net", 4, "u"), ("nfot show none.net", 3, "none.net: there is no file"),
                 ("nfot solve x.net --horizon 2x", 2, "2x is no value of --horizon"), ("nfot solve x.net --horison 2", 2, "--horison is no option of solve"),
+                ("nfot solve x.net --horizon 2.5", 2, "2.5 is no value of --horizon: write 5/2"),
                 ("nfot solve x.net", 2, "--horizon or --forever"), ("nfot check x.net", 2, "check takes 2 files: NET REPORT"), ("nfot sole x.net", 2, "sole is no command")]:
             found, out, err = self.run_tool("why", "--", *words.split())
             self.assertEqual((found, out), (status, ""), err)

@@ -42,7 +42,9 @@ def main(arguments: argparse.Namespace) -> int:
         words: list[str] = arguments.behind
         if arguments.files:
             raise Refused(f"{arguments.files[0]}: the files are named behind --, by the command itself")
-        if words[:1] in (["nfot"], ["nfot-py"]):
+        if words[:1] == ["nfot"]:
+            return run_explained(words[1:])
+        if words[:1] == ["nfot-py"]:
             words = words[1:]
         elif not words or words[0] not in COMMANDS:
             raise Refused(f"{' '.join(words[:1]) or 'nothing'}: behind -- is a command of nfot, as `nfot solve my.net --horizon 60`")
