@@ -56,6 +56,16 @@ class Passing(Case):
             told = here.stderr.replace(WARNING.encode() + b"\n", b"")  # it is printed where the slow program is used
             self.assertEqual((here.returncode, here.stdout, told), (there.returncode, there.stdout, there.stderr))
 
+    def test_process_substitution(self) -> None:
+        """A file may be an open descriptor, as a shell makes one of `<(nfot solve ..)`."""
+        report, into = os.pipe()
+        with open(into, "w") as file:
+            file.write(nfot.solve(EXAMPLES / "two.net", 4).text())
+        words = ["check", EXAMPLES / "two.net", f"/dev/fd/{report}"]
+        done = subprocess.run(command(*words), stdout=subprocess.PIPE, pass_fds=[report], env=ENVIRONMENT)
+        os.close(report)
+        self.assertEqual((done.returncode, done.stdout), (0, b"yes\n"))
+
     def test_numbers(self) -> None:
         from nfot.tools.passing import plain
         self.assertEqual(plain(["solve", "x.net", "--horizon", "2.5"]), ["solve", "x.net", "--horizon", "5/2"])
