@@ -89,6 +89,20 @@ class Queues(Results):
         out = self.fine("queues", *self.solved("bridge.net", 60), "--names", "names.csv").splitlines()
         self.assertEqual([out[0].split("  ")[-1], out[1].split()], ["too long from", ["bridge", "0.00", "20.00", "20.00", "40.00", "Brücke", "20.00", "10.00"]])
 
+    def test_a_row_for_each_stretch(self) -> None:
+        """A capacity of 1 takes 2 a minute up to 4, so 4 wait then, until 8; and 3 a minute from 30 to 35, so 10 wait then, until 45."""
+        self.write("twice.net", "nfot 2\nsource s\nsink t\nlink a s t 1 1\ninflow 0 2\ninflow 4 0\ninflow 30 3\ninflow 35 0\nend\n")
+        self.write("names.csv", "id,kind,name,line,km,lanes\na,link,Allee,2,0.035,1\n")
+        net, report = self.solved("twice.net", 50)
+        out = self.fine("queues", net, report, "--names", "names.csv").splitlines()
+        self.assertEqual([line.split() for line in out[1:]], [["a", "30.00", "45.00", "10.00", "35.00", "10.00", "Allee", "5.00", "32.50"],
+                                                              ["a", "0.00", "8.00", "4.00", "4.00", "4.00", "Allee", "5.00"]])
+        self.fine("queues", net, report, "--csv", "queues.csv")
+        self.assertEqual([(row["from"], row["until"], row["longest wait"]) for row in self.rows("queues.csv")], [("30", "45", "10"), ("0", "8", "4")])
+        run = nfot.read_report(report, net)
+        self.assertEqual([(queue.spans, queue.wait) for queue in nfot.queues_of(run)], [([(0, 8), (30, 45)], 10)])
+        self.assertEqual([(queue.spans, queue.wait, queue.time) for queue in nfot.queues_of(run, stretches=True)], [([(0, 8)], 4, 4), ([(30, 45)], 10, 35)])
+
     def test_none(self) -> None:
         self.write("free.net", "nfot 2\nsource s\nsink t\nlink a s t 1 inf\ninflow 0 3\nend\n")
         self.assertEqual(self.fine("queues", *self.solved("free.net", 2)), "no link has a queue\n")
