@@ -133,6 +133,13 @@ class Series(Results):
                                       ((*pair, "--every", "1e-9"), 2, "make more than 1000000 rows")]:
             self.refused(status, wanted, "series", *words)
 
+    def test_idle_link(self) -> None:
+        """A link of the network that no walk from the source reaches has no curves."""
+        self.write("idle.net", "nfot 2\nsource s\nsink t\nlink a s t 1 1\nlink x u t 1 1\ninflow 0 1\nend\n")
+        pair = self.solved("idle.net", 2)
+        self.refused(1, "the link x is idle: no walk from the source reaches it", "series", *pair, "--link", "x")
+        self.refused(1, "no scenario has a link y", "series", *pair, "--link", "y")
+
 
 class Compare(Results):
     def test_braess(self) -> None:
