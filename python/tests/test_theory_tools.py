@@ -28,7 +28,7 @@ class Tools(tooling.Case):
         self.assertEqual((len(lines), lines[1]), (2, BRIDGE))
         rows = list(csv.DictReader(io.StringIO(self.fine("phases", "bridge.net", "bridge.report", "--csv", "-"))))
         self.assertEqual((rows[1]["start"], rows[1]["active"], rows[0]["flow bridge"], rows[0]["slope work"]), ("20", "bridge bay", "4", "2"))
-        self.refused(1, "bridge.report is no report of two.net: it has no line `label s`", "phases", "two.net", "bridge.report")
+        self.refused(1, "bridge.report is no report of two.net: other names: 2 nodes and 2 links of the network are not in the report", "phases", "two.net", "bridge.report")
 
     def test_phases_of_no_equilibrium(self) -> None:
         self.fine("judge", "bridge.net", "tolled.loads", "60", "--out", "tolled.report")
@@ -72,7 +72,8 @@ class Tools(tooling.Case):
         self.assertEqual(self.fine("same", "bridge.net", self.report()), "yes\nopen: the supply: any (after departure 60)\n"
                          "open: the capacity of bay: any of at least 2 (no queue until 60)\n")
         status, out, _ = self.run_tool("same", "two.net", "bridge.report")
-        self.assertEqual((status, out.splitlines()[0]), (10, "no: it has no line `label s`"))
+        self.assertEqual((status, out.splitlines()), (10, ["no: other names: 2 nodes and 2 links of the network are not in the report",
+                                                           "no: other names: 2 nodes and 2 links of the report are not in the network"]))
 
 
 if __name__ == "__main__":
