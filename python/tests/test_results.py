@@ -2,10 +2,12 @@
 from __future__ import annotations
 
 import csv
+import os
 import unittest
 from fractions import Fraction
 from pathlib import Path
 from typing import Optional
+from unittest import mock
 
 import nfot
 
@@ -70,6 +72,27 @@ class Times(Results):
         self.write("cut.report", "".join(lines[:20]))
         status, out, err = self.run_tool("times", net, "cut.report", "1")
         self.assertEqual((status != 0, out, err.count("\n")), (True, "", 1))
+
+
+class Warned(Results):
+    def test_no_equilibrium(self) -> None:
+        """examples/late.report breaks C3: at 2 the label of t is 7, and 5 is right. The tools say so, and nothing of a report that is one."""
+        net, good = self.solved("two.net", 4)
+        late = EXAMPLES / "late.report"
+        for words in (["times", net, late, 1], ["times", net, late, 1, "--csv", "x.csv"], ["queues", net, late], ["series", net, good, net, late], ["compare", net, late, net, good]):
+            status, _, err = self.run_tool(*words)
+            self.assertEqual((status, err.count("\n")), (0, 1), err)
+            self.assertTrue(err.startswith(f"nfot-py {words[0]}: {late} is no equilibrium: C3 doesn't hold for t at 2: the report has 7, and 5 is right"), err)
+        for words in (["times", net, good, 1], ["queues", net, good], ["series", net, good], ["compare", net, good, net, good]):
+            self.assertEqual(self.run_tool(*words)[2], "")
+
+    def test_not_checked(self) -> None:
+        """Where the program fails, the tool prints what it has, and says that it couldn't be checked."""
+        net, good = self.solved("two.net", 4)
+        wanted = self.fine("times", net, good, 1)
+        os.chmod(self.write("broken", "#!/bin/sh\nkill -9 $$\n"), 0o755)
+        with mock.patch.dict(os.environ, {"NFOT": str(self.folder / "broken")}):
+            self.assertEqual(self.run_tool("times", net, good, 1), (0, wanted, "nfot-py times: two.report wasn't checked: nfot check was ended by the signal SIGKILL\n"))
 
 
 class Queues(Results):

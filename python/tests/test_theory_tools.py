@@ -34,7 +34,7 @@ class Tools(tooling.Case):
         self.fine("judge", "bridge.net", "tolled.loads", "60", "--out", "tolled.report")
         status, out, err = self.run_tool("phases", "bridge.net", "tolled.report")
         self.assertEqual((status, len(out.splitlines())), (0, 1))
-        self.assertIn("the report is no equilibrium, so a phase may be no thin flow: C7", err)
+        self.assertIn("is no equilibrium, so a phase may be no thin flow: C7", err)
 
     def test_judge(self) -> None:
         """docs/PROGRAMS.md: of who left by 2 only 4 are there at the label."""

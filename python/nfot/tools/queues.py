@@ -16,7 +16,7 @@ from ..numbers import clock
 from ..queues import VEHICLE, Place, Queue, longest_first, queues_of, read_places
 from ..reports import Report
 from ..rows import Cell, Rows
-from .common import add_clock, add_csv, add_pair, count, positive, read_run, write_rows
+from .common import add_clock, add_csv, add_pair, count, positive, read_run, warn, write_rows
 
 
 def add_arguments(parser: argparse.ArgumentParser) -> None:
@@ -58,6 +58,7 @@ def main(arguments: argparse.Namespace) -> int:
     places = None if arguments.names is None else read_places(arguments.names, arguments.vehicle_m)
     found = longest_first(queues_of(run, stretches=True))[:arguments.top]
     columns = ["link", "from", "until", "longest wait", "at", "vehicles"] + ([] if places is None else ["road", "holds", "too long from"])
+    warn("queues", arguments.report, run)
     if not found and arguments.csv is None:
         print("no link has a queue")
         return 0
