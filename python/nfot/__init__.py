@@ -43,4 +43,14 @@ from .tables import Made, Units, network_of_table
 from .theory import Broken, broken, candidate, thin
 from .vehicles import loads_of_vehicles, routes_of_vehicles
 
+__all__ = [
+    "Broken", "Carried", "Columns", "Comparison", "Curve", "Demand", "Fault", "Forever", "Gap", "Generated", "Killed", "Link", "Loaded",
+    "Made", "Network", "NotFound", "Open", "OutOfRange", "Phase", "Program", "Queue", "Quickest", "Refused", "Report", "Roads", "Rows",
+    "Settled", "Stopped", "Timeout", "Unbounded", "Units", "Verdict", "broken", "candidate", "check", "clean_names", "clock", "compare",
+    "decimal", "demand_of_words", "exact", "explain", "forever", "from_networkx", "gap", "gen", "load", "loads_of_vehicles",
+    "longest_first", "meaning", "mismatch", "network_of", "network_of_table", "parse", "phases", "program", "queues_of", "quick",
+    "read_demand", "read_flows", "read_loads", "read_network", "read_pair", "read_report", "read_roads", "read_routes", "report_of",
+    "report_of_flows", "report_of_routes", "resume", "routes", "routes_of_vehicles", "same", "settle", "short", "show", "side_by_side",
+    "solve", "status", "supply_of", "table", "thin", "to_networkx", "unsaid", "write_network", "write_report",
+]
 __version__ = "1.0.0"

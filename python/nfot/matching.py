@@ -2,7 +2,7 @@
 from __future__ import annotations
 
 from fractions import Fraction
-from typing import Iterator, Optional, Tuple
+from typing import Iterator, List, Optional, Tuple
 
 from .faults import UNFIT, Refused
 from .drafts import Link
@@ -20,20 +20,35 @@ def mismatch(net: Network, report: Report) -> Optional[str]:
 
 
 def mismatches(net: Network, report: Report) -> Iterator[str]:
-    """All that speaks against the report being one of the network: first the names, and where these are the same, the numbers."""
-    names = [link.name for link in net.used_links()]
-    strange = False
+    """All that speaks against the report being one of the network: first the names, and where these are the same, the numbers.
+
+    Where most names differ, a sentence for each direction says how many."""
+    yield from _other_names(net, report) or _name_faults(net, report) or _number_faults(net, report)
+
+
+def _other_names(net: Network, report: Report) -> List[str]:
+    """How many names of the network the report doesn't have, and the other way round, where that is more than half of either's names."""
+    ours = set(net.nodes()), {link.name for link in net.used_links()}
+    theirs = set(report.labels), set(report.inflows)
+    found, most = [], False
+    for here, there, where in (ours, theirs, "of the network are not in the report"), (theirs, ours, "of the report are not in the network"):
+        gone = [len(mine - others) for mine, others in zip(here, there)]
+        most = most or 2 * sum(gone) > sum(map(len, here))
+        parts = [f"{count} {what}{'s' * (count > 1)}" for count, what in zip(gone, ("node", "link")) if count]
+        found += [f"other names: {' and '.join(parts)} {where}"] if parts else []
+    return found if most else []
+
+
+def _name_faults(net: Network, report: Report) -> List[str]:
+    """Which lines of a report are missing or too many, by the names of the network."""
+    names, found = [link.name for link in net.used_links()], []
     for wanted, curves, what in (net.nodes(), report.labels, "label"), (names, report.inflows, "inflow"):
-        for name in [name for name in wanted if name not in curves] + [name for name in curves if name not in wanted]:
-            strange = True
-            yield f"it has {'a' if name in curves else 'no'} line `{what} {name}`"
+        found += [f"it has no line `{what} {name}`" for name in wanted if name not in curves]
+        found += [f"it has a line `{what} {name}`" for name in curves if name not in wanted]
     for name in names:
         for curves, what in (report.outflows, "outflow"), (report.queues, "queue"):
-            if name not in curves:
-                strange = True
-                yield f"it has no line `{what} {name}`"
-    if not strange:
-        yield from _number_faults(net, report)
+            found += [f"it has no line `{what} {name}`"] if name not in curves else []
+    return found
 
 
 def _number_faults(net: Network, report: Report) -> Iterator[str]:

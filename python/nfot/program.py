@@ -77,7 +77,7 @@ def run(words: Sequence[str], *, timeout: Optional[float] = None, input: Optiona
     used, name = program(), " ".join(["nfot", *words[:1]])
     try:
         process = subprocess.Popen([*used.words, *words], stdin=None if input is None else subprocess.PIPE, stdout=stdout or subprocess.PIPE,
-                                   stderr=subprocess.PIPE)
+                                   stderr=subprocess.PIPE, close_fds=False)  # a word may be /dev/fd/63
     except (OSError, ValueError) as fault:
         why = fault.strerror if isinstance(fault, OSError) else str(fault)
         raise NotFound(f"{used.place} can't be run: {why}", status=NO_PROGRAM) from None

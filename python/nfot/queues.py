@@ -15,8 +15,8 @@ VEHICLE = Fraction(7)  # metres of a lane that a waiting vehicle takes
 
 @dataclass(frozen=True)
 class Queue:
-    """The queue of a link. `spans`: from when to when one stands (None: beyond the last time that is known). `wait`: the longest wait in
-    minutes, first met at `time`; `vehicles`: the most that wait, also then."""
+    """The queue of a link, or one stretch of it. `spans`: from when to when one stands (None: beyond the last time that is known). `wait`: the
+    longest wait in minutes, first met at `time`; `vehicles`: the most that wait, also then."""
     link: str
     spans: Sequence[tuple[Fraction, Optional[Fraction]]]
     wait: Fraction
@@ -46,16 +46,27 @@ def spans(curve: Curve) -> list[tuple[Fraction, Optional[Fraction]]]:
     return found if begin is None else [*found, (begin, None)]
 
 
-def queues_of(run: Report) -> list[Queue]:
-    """The queues of a report, in the order of its links; links that never queue are left out."""
+def greatest(curve: Curve, start: Fraction, end: Optional[Fraction]) -> tuple[Fraction, Fraction]:
+    """The greatest value at the points from one time to another (None: the last one), as (first time that has it, value)."""
+    return max((point for point in curve.points if start <= point[0] and (end is None or point[0] <= end)), key=lambda point: (point[1], -point[0]))
+
+
+def queues_of(run: Report, stretches: bool = False) -> list[Queue]:
+    """The queues of a report, in the order of its links; links that never queue are left out.
+
+    With `stretches` each of the times with a queue has a Queue of its own, with one span and the longest wait in it."""
     if run.network is None:
         raise Refused("the report has no network: read it by read_report(path, net)")
     found = []
     for link in run.network.used_links():
+        if link.capacity is None:
+            continue
         queue = run.queue(link.name)
-        time, most = queue.greatest()
-        if most > 0 and link.capacity is not None:
-            found.append(Queue(link.name, spans(queue), most / link.capacity, time, most))
+        standing = spans(queue)
+        parts = [[span] for span in standing] if stretches else [standing] if standing else []
+        for part in parts:
+            time, most = greatest(queue, part[0][0], part[-1][1])
+            found.append(Queue(link.name, part, most / link.capacity, time, most))
     return found
 
 

@@ -175,6 +175,7 @@ def side_by_side(runs: dict[str, Report], link: Optional[str], show: Sequence[st
                 raise Refused(f"{word} is none of the columns: {', '.join(offered)}")
             columns[f"{name} {word}"] = offered[word]
     if not found:
-        raise OutOfRange(f"no scenario has a link {link}")
+        idle = any(run.network is not None and link in run.network.links for run in runs.values())
+        raise OutOfRange(f"the link {link} is idle: no walk from the source reaches it" if idle else f"no scenario has a link {link}")
     times = grid(every, stop)
     return rows_of(times, times[1] - times[0] if len(times) > 1 else stop, columns)

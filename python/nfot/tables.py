@@ -51,10 +51,19 @@ class Name(NamedTuple):
 
 @dataclass
 class Made:
-    """A network made from a table: what was rounded, left out and renamed, in lines; the names of the table by those of the network."""
+    """A network made from a table: what was rounded, left out and renamed, in lines; the names of the table by those of the network.
+
+    `renamed` has the notes on changed names alone."""
     network: Network
     notes: list[str] = field(default_factory=list)
     names: list[Name] = field(default_factory=list)
+    renamed: list[str] = field(default_factory=list)
+
+    def notes_with(self, names: str) -> list[str]:
+        """The notes, with one line for all changed names, which stand in the file of this name."""
+        count = sum(name.id != name.name for name in self.names)
+        changed = [f"{count} name{'s' * (count > 1)} changed, see {'standard output' if names == '-' else names}"] if count else []
+        return [note for note in self.notes if note not in self.renamed] + changed
 
     def names_text(self) -> str:
         """The names as CSV."""
@@ -186,7 +195,7 @@ def network_of_table(roads: Roads, origin: str, destination: str, demand: Demand
     notes += left_out(found, roads.closed) + maker.notes() + supply_notes(demand, network)
     quickest = least_sums(source, links)[sink]
     notes.append(f"the quickest route from {origin} to {destination} takes {decimal(quickest)} minutes on empty roads")
-    return Made(network, [*notes, f"{len(network.nodes())} nodes, {len(links)} links"], maker.names)
+    return Made(network, [*notes, f"{len(network.nodes())} nodes, {len(links)} links"], maker.names, maker.renamed)
 
 
 def supply_notes(demand: Demand, network: Network) -> list[str]:

@@ -23,6 +23,11 @@ def command(*words: object) -> list[str]:
     return [sys.executable, "-m", "nfot", *map(str, words)]
 
 
+def told(text: bytes) -> bytes:
+    """Standard error without the warning that is printed where the slow program is used."""
+    return text.replace(WARNING.encode() + b"\n", b"")
+
+
 class Help(Case):
     def test_all_have_help_with_an_example(self) -> None:
         overview = self.fine("--help")
@@ -53,8 +58,17 @@ class Passing(Case):
                       ["solve", "nothing.net", "--horizon", "2"], ["solve", EXAMPLES / "two.net", "--horizon", "x"]):
             here = subprocess.run(command(*given), stdout=subprocess.PIPE, stderr=subprocess.PIPE, env=ENVIRONMENT)
             there = subprocess.run([*words, *map(str, given)], stdout=subprocess.PIPE, stderr=subprocess.PIPE)
-            told = here.stderr.replace(WARNING.encode() + b"\n", b"")  # it is printed where the slow program is used
-            self.assertEqual((here.returncode, here.stdout, told), (there.returncode, there.stdout, there.stderr))
+            self.assertEqual((here.returncode, here.stdout, told(here.stderr)), (there.returncode, there.stdout, there.stderr))
+
+    def test_process_substitution(self) -> None:
+        """A file may be an open descriptor, as a shell makes one of `<(nfot solve ..)`."""
+        report, into = os.pipe()
+        with open(into, "w") as file:
+            file.write(nfot.solve(EXAMPLES / "two.net", 4).text())
+        words = ["check", EXAMPLES / "two.net", f"/dev/fd/{report}"]
+        done = subprocess.run(command(*words), stdout=subprocess.PIPE, pass_fds=[report], env=ENVIRONMENT)
+        os.close(report)
+        self.assertEqual((done.returncode, done.stdout), (0, b"yes\n"))
 
     def test_numbers(self) -> None:
         from nfot.tools.passing import plain
@@ -72,17 +86,17 @@ class Output(Case):
         """A tool whose output can't be written says so, in one line, and doesn't end with 0."""
         for words in (["times", *self.solved(), "1"], ["city", "--roads"], ["--help"], ["solve-on", EXAMPLES / "two.net", "--horizon", "4"]):
             with open("/dev/full", "w") as full:
-                done = subprocess.run(command(*words), stdout=full, stderr=subprocess.PIPE, env=ENVIRONMENT, text=True)
-            self.assertEqual((done.returncode, done.stderr.count("\n")), (9, 1), done.stderr)
-            self.assertIn("standard output: No space left on device", done.stderr)
+                done = subprocess.run(command(*words), stdout=full, stderr=subprocess.PIPE, env=ENVIRONMENT)
+            self.assertEqual((done.returncode, told(done.stderr).count(b"\n")), (9, 1), done.stderr)
+            self.assertIn(b"standard output: No space left on device", done.stderr)
 
     def test_closed_pipe(self) -> None:
         for words in (["city", "--roads"], ["times", *self.solved(), "--every", "1/1000", "--csv", "-"]):
             with subprocess.Popen(command(*words), stdout=subprocess.PIPE, stderr=subprocess.PIPE, env=ENVIRONMENT) as process:
                 assert process.stdout is not None and process.stderr is not None
                 process.stdout.close()
-                told = process.stderr.read()
-            self.assertEqual(told, b"")
+                err = process.stderr.read()
+            self.assertEqual(told(err), b"")
 
     def test_whole_files(self) -> None:
         """A file that can't be replaced stays as it was, and nothing is left beside it."""

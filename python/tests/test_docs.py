@@ -7,6 +7,7 @@ import inspect
 import os
 import pathlib
 import pkgutil
+import pydoc
 import re
 import shutil
 import subprocess
@@ -117,6 +118,14 @@ class Page(Case):
         listed = {name for row in rows + section("Faults") for name in re.findall(r"`([A-Za-z]\w*)(?:\([^`]*)?`", row)}
         heads = {name for row in rows + section("Faults") for name in re.findall(r"`(\w+)(?:\([^`]*)?`", row.split("|")[1])}
         self.assertEqual((set(public_names()) - listed, heads - set(public_names())), (set(), set()))
+
+    def test_help_lists_all_public_names(self) -> None:
+        """`help` lists what `__all__` names, and no function without it."""
+        self.assertEqual(sorted(nfot.__all__), sorted(public_names()))
+        self.assertEqual(len(set(nfot.__all__)), len(nfot.__all__))
+        told = pydoc.render_doc(nfot, renderer=pydoc.plaintext)
+        for name in public_names():
+            self.assertRegex(told, rf"(?m)^    (class )?{name}\b")
 
     def test_words_of_calls_are_right(self) -> None:
         """The words in brackets are the first parameters of the call, in order."""

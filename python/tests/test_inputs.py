@@ -155,7 +155,11 @@ class Evidence(Case):
         wide = net.with_capacity("bridge", 3).with_supply([(0, 5)])
         self.assertEqual(nfot.same(wide, run), ["a queue stands at bridge from 0 on, 2 leave it, and its capacity is 3",
                                                 "240 leave the source by 60, and 300 are supplied"])
-        self.assertEqual(len(nfot.same(example("two"), run)), 12)
+        self.assertEqual(nfot.same(example("two"), run), ["other names: 2 nodes and 2 links of the network are not in the report",
+                                                          "other names: 2 nodes and 2 links of the report are not in the network"])
+        self.assertEqual(nfot.same(net.without("bay"), run), ["it has a line `inflow bay`"])
+        wide = nfot.Network("home", "work", [*net.links.values(), *(nfot.Link(f"e{number}", "home", "work", 9, 1) for number in range(5))], net.supply)
+        self.assertEqual(nfot.same(wide, run)[-1], "other names: 5 links of the network are not in the report")
         turned = nfot.Network("home", "work", [net.links["bay"], net.links["bridge"]], net.supply, version=1)
         self.assertIn("another order", nfot.same(turned, nfot.report_of(run.text()))[0])
         self.assertIn("of version 1", nfot.same(nfot.Network("home", "work", net.links, net.supply), nfot.report_of(run.text()))[0])

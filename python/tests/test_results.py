@@ -2,10 +2,12 @@
 from __future__ import annotations
 
 import csv
+import os
 import unittest
 from fractions import Fraction
 from pathlib import Path
 from typing import Optional
+from unittest import mock
 
 import nfot
 
@@ -72,6 +74,27 @@ class Times(Results):
         self.assertEqual((status != 0, out, err.count("\n")), (True, "", 1))
 
 
+class Warned(Results):
+    def test_no_equilibrium(self) -> None:
+        """examples/late.report breaks C3: at 2 the label of t is 7, and 5 is right. The tools say so, and nothing of a report that is one."""
+        net, good = self.solved("two.net", 4)
+        late = EXAMPLES / "late.report"
+        for words in (["times", net, late, 1], ["times", net, late, 1, "--csv", "x.csv"], ["queues", net, late], ["series", net, good, net, late], ["compare", net, late, net, good]):
+            status, _, err = self.run_tool(*words)
+            self.assertEqual((status, err.count("\n")), (0, 1), err)
+            self.assertTrue(err.startswith(f"nfot-py {words[0]}: {late} is no equilibrium: C3 doesn't hold for t at 2: the report has 7, and 5 is right"), err)
+        for words in (["times", net, good, 1], ["queues", net, good], ["series", net, good], ["compare", net, good, net, good]):
+            self.assertEqual(self.run_tool(*words)[2], "")
+
+    def test_not_checked(self) -> None:
+        """Where the program fails, the tool prints what it has, and says that it couldn't be checked."""
+        net, good = self.solved("two.net", 4)
+        wanted = self.fine("times", net, good, 1)
+        os.chmod(self.write("broken", "#!/bin/sh\nkill -9 $$\n"), 0o755)
+        with mock.patch.dict(os.environ, {"NFOT": str(self.folder / "broken")}):
+            self.assertEqual(self.run_tool("times", net, good, 1), (0, wanted, "nfot-py times: two.report wasn't checked: nfot check was ended by the signal SIGKILL\n"))
+
+
 class Queues(Results):
     def test_longest_first(self) -> None:
         """The corridor's waits as docs/GUIDE.md has them; on the bridge 680 cars wait from 71 on, and the queue is gone at 129."""
@@ -88,6 +111,20 @@ class Queues(Results):
         self.write("names.csv", "id,kind,name,line,km,lanes\nhome,node,Zuhause,,,\nbridge,link,Brücke,2,0.14,1\nbay,link,Bucht,3,,\n")
         out = self.fine("queues", *self.solved("bridge.net", 60), "--names", "names.csv").splitlines()
         self.assertEqual([out[0].split("  ")[-1], out[1].split()], ["too long from", ["bridge", "0.00", "20.00", "20.00", "40.00", "Brücke", "20.00", "10.00"]])
+
+    def test_a_row_for_each_stretch(self) -> None:
+        """A capacity of 1 takes 2 a minute up to 4, so 4 wait then, until 8; and 3 a minute from 30 to 35, so 10 wait then, until 45."""
+        self.write("twice.net", "nfot 2\nsource s\nsink t\nlink a s t 1 1\ninflow 0 2\ninflow 4 0\ninflow 30 3\ninflow 35 0\nend\n")
+        self.write("names.csv", "id,kind,name,line,km,lanes\na,link,Allee,2,0.035,1\n")
+        net, report = self.solved("twice.net", 50)
+        out = self.fine("queues", net, report, "--names", "names.csv").splitlines()
+        self.assertEqual([line.split() for line in out[1:]], [["a", "30.00", "45.00", "10.00", "35.00", "10.00", "Allee", "5.00", "32.50"],
+                                                              ["a", "0.00", "8.00", "4.00", "4.00", "4.00", "Allee", "5.00"]])
+        self.fine("queues", net, report, "--csv", "queues.csv")
+        self.assertEqual([(row["from"], row["until"], row["longest wait"]) for row in self.rows("queues.csv")], [("30", "45", "10"), ("0", "8", "4")])
+        run = nfot.read_report(report, net)
+        self.assertEqual([(queue.spans, queue.wait) for queue in nfot.queues_of(run)], [([(0, 8), (30, 45)], 10)])
+        self.assertEqual([(queue.spans, queue.wait, queue.time) for queue in nfot.queues_of(run, stretches=True)], [([(0, 8)], 4, 4), ([(30, 45)], 10, 35)])
 
     def test_none(self) -> None:
         self.write("free.net", "nfot 2\nsource s\nsink t\nlink a s t 1 inf\ninflow 0 3\nend\n")
@@ -118,6 +155,13 @@ class Series(Results):
                                       ((*pair, *pair), 2, "a report is named twice"), ((*pair, "--link", "bridge", "--show", "speed"), 2, "speed is none of the columns"),
                                       ((*pair, "--every", "1e-9"), 2, "make more than 1000000 rows")]:
             self.refused(status, wanted, "series", *words)
+
+    def test_idle_link(self) -> None:
+        """A link of the network that no walk from the source reaches has no curves."""
+        self.write("idle.net", "nfot 2\nsource s\nsink t\nlink a s t 1 1\nlink x u t 1 1\ninflow 0 1\nend\n")
+        pair = self.solved("idle.net", 2)
+        self.refused(1, "the link x is idle: no walk from the source reaches it", "series", *pair, "--link", "x")
+        self.refused(1, "no scenario has a link y", "series", *pair, "--link", "y")
 
 
 class Compare(Results):

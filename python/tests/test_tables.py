@@ -101,6 +101,15 @@ class Names(Table):
                      "link `Brücke` is called Bruecke.2"):
             self.assertIn(f"table: {line}\n", err)
 
+    def test_one_line_where_the_names_are_written(self) -> None:
+        rows = "from,to,time,capacity,name\nA#1,B,1,1,\nB,C,1,1,Brücke\n"
+        _, err = self.made(rows, "A#1", "C", "0:1", "--names", "names.csv")
+        self.assertIn("table: 3 names changed, see names.csv\n", err)  # the node A#1, the links A#1-B and Brücke
+        self.assertNotIn("is called", err)
+        self.assertIn("3 nodes, 2 links", err)
+        _, err = self.made(rows.replace("Brücke", ""), "B", "C", "0:1", "--names", "names.csv")
+        self.assertNotIn("changed, see", err)
+
     def test_decomposed_umlaut(self) -> None:
         net, _ = self.made("from,to,time,capacity\ns,Ho\u0308he,1,1\n", "s", "Ho\u0308he", "0:1")
         self.assertEqual(net.sink, "Hoehe")

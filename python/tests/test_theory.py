@@ -204,7 +204,7 @@ class ByHand(Case):
                               {"a": [(4, 8)]}, network=net)
         fault = self.faulted(nfot.Refused, "the label of t falls from departure 1 on", nfot.phases, net, falling)
         self.assertEqual(fault.status, 1)
-        self.faulted(nfot.Refused, "none of the network: it has no line `label home`", nfot.phases, example("bridge"), falling)
+        self.faulted(nfot.Refused, "none of the network: other names: 2 nodes and 2 links of the network", nfot.phases, example("bridge"), falling)
 
 
 class Student(Case):

@@ -28,13 +28,13 @@ class Tools(tooling.Case):
         self.assertEqual((len(lines), lines[1]), (2, BRIDGE))
         rows = list(csv.DictReader(io.StringIO(self.fine("phases", "bridge.net", "bridge.report", "--csv", "-"))))
         self.assertEqual((rows[1]["start"], rows[1]["active"], rows[0]["flow bridge"], rows[0]["slope work"]), ("20", "bridge bay", "4", "2"))
-        self.refused(1, "bridge.report is no report of two.net: it has no line `label s`", "phases", "two.net", "bridge.report")
+        self.refused(1, "bridge.report is no report of two.net: other names: 2 nodes and 2 links of the network are not in the report", "phases", "two.net", "bridge.report")
 
     def test_phases_of_no_equilibrium(self) -> None:
         self.fine("judge", "bridge.net", "tolled.loads", "60", "--out", "tolled.report")
         status, out, err = self.run_tool("phases", "bridge.net", "tolled.report")
         self.assertEqual((status, len(out.splitlines())), (0, 1))
-        self.assertIn("the report is no equilibrium, so a phase may be no thin flow: C7", err)
+        self.assertIn("is no equilibrium, so a phase may be no thin flow: C7", err)
 
     def test_judge(self) -> None:
         """docs/PROGRAMS.md: of who left by 2 only 4 are there at the label."""
@@ -72,7 +72,8 @@ class Tools(tooling.Case):
         self.assertEqual(self.fine("same", "bridge.net", self.report()), "yes\nopen: the supply: any (after departure 60)\n"
                          "open: the capacity of bay: any of at least 2 (no queue until 60)\n")
         status, out, _ = self.run_tool("same", "two.net", "bridge.report")
-        self.assertEqual((status, out.splitlines()[0]), (10, "no: it has no line `label s`"))
+        self.assertEqual((status, out.splitlines()), (10, ["no: other names: 2 nodes and 2 links of the network are not in the report",
+                                                           "no: other names: 2 nodes and 2 links of the report are not in the network"]))
 
 
 if __name__ == "__main__":

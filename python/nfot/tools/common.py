@@ -2,15 +2,20 @@
 from __future__ import annotations
 
 import argparse
+import sys
 from fractions import Fraction
 from typing import Callable, Optional
 
+from ..commands import check
 from ..demand import minutes_at
 from ..faults import Fault, OutOfRange, Refused
+from ..lines import shown_name
 from ..networks import Network
 from ..numbers import decimal, parse, short
 from ..reports import Report, read_pair
 from ..rows import Rows
+
+CHECK_SECONDS = 10  # a report of a city is checked in 0.02 s
 
 
 def number(word: str) -> Fraction:
@@ -62,6 +67,21 @@ def read_run(net: str, report: str) -> tuple[Network, Report]:
     """A network and its report; a Fault where they don't belong together."""
     check_inputs(net, report)
     return read_pair(net, report)
+
+
+def warn(tool: str, report: str, run: Report, so: str = "") -> None:
+    """Says on standard error that a report is no equilibrium, where `check` says no, or that it couldn't be checked.
+
+    `report` is the name of its file, and `so` says what follows."""
+    if run.network is None:
+        raise Refused("the report has no network")
+    try:
+        verdict = check(run.network, run, timeout=CHECK_SECONDS)
+    except Fault as fault:
+        print(f"nfot-py {tool}: {shown_name(report)} wasn't checked: {' '.join(str(fault).split())}", file=sys.stderr)
+        return
+    if not verdict:
+        print(f"nfot-py {tool}: {shown_name(report)} is no equilibrium{so}: {verdict.why}", file=sys.stderr)
 
 
 def check_inputs(*paths: Optional[str]) -> None:

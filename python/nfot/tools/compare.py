@@ -17,7 +17,7 @@ from ..numbers import decimal
 from ..reports import Report
 from ..rows import Rows, grid
 from ..wording import Words
-from .common import add_clock, add_csv, check_inputs, departures, positive, read_run, write_rows
+from .common import add_clock, add_csv, check_inputs, departures, positive, read_run, warn, write_rows
 
 
 def add_arguments(parser: argparse.ArgumentParser) -> None:
@@ -64,6 +64,8 @@ def main(arguments: argparse.Namespace) -> int:
     if arguments.every is not None:
         times = sorted({*times, *grid(arguments.every, found.until)})
     times = times or [start for start, _ in pairs[0][0].supply if start <= found.until]
+    for report, (_, run) in zip((arguments.report1, arguments.report2), pairs):
+        warn("compare", report, run)
     if arguments.csv is not None:
         write_rows(table(found, times, words), arguments)
         return 0

@@ -80,7 +80,7 @@ def pass_through(words: Sequence[str]) -> int:
         return 0
     sys.stdout.flush()
     try:
-        status = subprocess.call([*program().words, *plain(words)])
+        status = subprocess.call([*program().words, *plain(words)], close_fds=False)  # a word may be /dev/fd/63
     except OSError as fault:
         raise NotFound(f"the program doesn't start: {fault.strerror}", file=os.fspath(program().words[0])) from None
     return status if status >= 0 else 128 - status

@@ -7,12 +7,10 @@ example: nfot-py phases bridge.net bridge.report"""
 from __future__ import annotations
 
 import argparse
-import sys
 
-from ..commands import check
 from ..rows import Cell, Rows
 from ..phases import Phase, phases
-from .common import add_csv, add_pair, read_run, write_rows
+from .common import add_csv, add_pair, read_run, warn, write_rows
 
 
 def add_arguments(parser: argparse.ArgumentParser) -> None:
@@ -30,9 +28,7 @@ def main(arguments: argparse.Namespace) -> int:
     """Prints the phases, or writes them as CSV."""
     network, run = read_run(arguments.net, arguments.report)
     found = phases(network, run)
-    verdict = check(network, run)
-    if not verdict:
-        print(f"nfot-py phases: the report is no equilibrium, so a phase may be no thin flow: {verdict.why}", file=sys.stderr)
+    warn("phases", arguments.report, run, ", so a phase may be no thin flow")
     if arguments.csv is None:
         print("".join(f"{phase}\n" for phase in found), end="")
         return 0

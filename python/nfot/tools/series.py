@@ -13,7 +13,7 @@ from pathlib import PurePath
 from ..faults import Refused
 from ..reports import Report
 from ..rows import side_by_side
-from .common import add_clock, add_csv, check_inputs, positive, read_run, write_rows
+from .common import add_clock, add_csv, check_inputs, positive, read_run, warn, write_rows
 
 
 def add_arguments(parser: argparse.ArgumentParser) -> None:
@@ -43,5 +43,9 @@ def main(arguments: argparse.Namespace) -> int:
     """Prints the table, or writes it as CSV."""
     show = [word.strip() for word in arguments.show.split(",")] if arguments.show else ["queue" if arguments.link else "takes"]
     clock = None if arguments.clock is None else str(arguments.clock)
-    write_rows(side_by_side(runs_of(arguments.files), arguments.link, show, arguments.every, clock), arguments)
+    runs = runs_of(arguments.files)
+    rows = side_by_side(runs, arguments.link, show, arguments.every, clock)
+    for report, run in zip(arguments.files[1::2], runs.values()):
+        warn("series", report, run)
+    write_rows(rows, arguments)
     return 0

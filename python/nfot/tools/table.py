@@ -2,7 +2,8 @@
 
 The first line of the table names its columns: from, to, minutes (or time) and capacity, perhaps name; other names are given by options. A
 row is a one-way link. An empty capacity, or inf, is unbounded; 0 closes the road. Roads on no route from ORIGIN to DESTINATION are left out.
-Names get the characters that nfot allows; standard error says what was rounded, left out and renamed.
+Names get the characters that nfot allows; standard error says what was rounded, left out and renamed
+(with --names only how many names changed).
 
 example, a table of a map program (length, speed, lanes) and counts of each quarter of an hour:
   nfot-py table roads.csv A B --from a_node --to b_node --length-km km --speed-kmh vmax --lanes n --lane-capacity 1800 \\
@@ -86,6 +87,6 @@ def main(arguments: argparse.Namespace) -> int:
     if arguments.names is not None:
         made.write_names(arguments.names)
     print(made.network.text(), end="", flush=True)
-    for note in made.notes:
+    for note in made.notes if arguments.names is None else made.notes_with(arguments.names):
         print(f"table: {note}", file=sys.stderr)
     return 0

@@ -18,7 +18,7 @@ from ..queues import queues_of
 from ..reports import Report
 from ..rows import Rows, grid
 from ..wording import Words
-from .common import add_clock, add_csv, add_pair, departures, positive, read_run, write_rows
+from .common import add_clock, add_csv, add_pair, departures, positive, read_run, warn, write_rows
 
 
 def add_arguments(parser: argparse.ArgumentParser) -> None:
@@ -44,9 +44,10 @@ def main(arguments: argparse.Namespace) -> int:
     if arguments.every is not None:
         times = sorted({*times, *grid(arguments.every, run.reached)})
     rows = rows_of(network, run, times, arguments.clock)
+    if arguments.csv is not None and not times:
+        raise Refused("--csv has a row for each departure: name some, or take --every")
+    warn("times", arguments.report, run)
     if arguments.csv is not None:
-        if not times:
-            raise Refused("--csv has a row for each departure: name some, or take --every")
         write_rows(rows, arguments)
         return 0
     words = Words(arguments.exact, arguments.clock)
