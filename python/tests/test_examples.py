@@ -8,14 +8,16 @@ import unittest
 from fractions import Fraction
 from typing import Tuple
 
+from nfot.program import WARNING
+
 from .cases import EXAMPLES, ROOT, Case
 
 
 def run(name: str, *words: str) -> Tuple[int, str, str]:
-    """Status, output and error of an example, with the package of this checkout."""
+    """Status, output and error of an example, with the package of this checkout; without the warning that the slow program is used."""
     done = subprocess.run([sys.executable, str(EXAMPLES / name), *words], stdout=subprocess.PIPE, stderr=subprocess.PIPE, text=True,
                           env={**os.environ, "PYTHONPATH": str(ROOT / "python"), "PYTHONDONTWRITEBYTECODE": "1"})
-    return done.returncode, done.stdout, done.stderr
+    return done.returncode, done.stdout, done.stderr.replace(f"{WARNING}\n", "")
 
 
 def last_arrival(n: int) -> Fraction:
