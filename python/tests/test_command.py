@@ -106,6 +106,21 @@ class Output(Case):
         self.fine("times", *self.solved(), "1", "--csv", "times.csv")
         self.assertEqual(sorted(path.name for path in self.folder.iterdir()), ["times.csv", "two.report"])
 
+    def test_seconds_on_a_terminal(self) -> None:
+        """A command that takes over a second shows it on a terminal, and nothing where standard error is a file."""
+        slow = self.write("slow", "#!/bin/sh\nsleep 1.5\necho done\n")
+        os.chmod(slow, 0o755)
+        environment = dict(ENVIRONMENT, NFOT=str(self.folder / slow))
+        ours, theirs = os.openpty()
+        done = subprocess.run(command("solve", EXAMPLES / "two.net", "--horizon", 4), stdout=subprocess.PIPE, stderr=theirs, env=environment)
+        os.close(theirs)
+        shown = os.read(ours, 1000)
+        os.close(ours)
+        self.assertEqual((done.returncode, done.stdout), (0, b"done\n"))
+        self.assertTrue(shown.startswith(b"\rnfot solve: 1 s"), shown)
+        quiet = subprocess.run(command("solve", EXAMPLES / "two.net", "--horizon", 4), stdout=subprocess.PIPE, stderr=subprocess.PIPE, env=environment)
+        self.assertEqual((quiet.stdout, quiet.stderr), (b"done\n", b""))
+
     def test_terminated(self) -> None:
         """SIGTERM ends a run at once, with the program that it runs, and leaves no temporary files."""
         slow = self.write("slow", "#!/bin/sh\nexec sleep 60\n")

@@ -5,11 +5,12 @@ import os
 import re
 import subprocess
 import sys
+import time
 from typing import NamedTuple, Sequence
 
 from ..faults import Fault, NotFound
 from ..numbers import parse
-from ..program import program
+from ..program import program, progress
 
 TAKEN = re.compile(r"-?\d+(/0*[1-9]\d*)?")  # a number as nfot takes it on its command line
 
@@ -80,7 +81,24 @@ def pass_through(words: Sequence[str]) -> int:
         return 0
     sys.stdout.flush()
     try:
-        status = subprocess.call([*program().words, *plain(words)], close_fds=False)  # a word may be /dev/fd/63
+        process = subprocess.Popen([*program().words, *plain(words)], close_fds=False)  # a word may be /dev/fd/63
     except OSError as fault:
         raise NotFound(f"the program doesn't start: {fault.strerror}", file=os.fspath(program().words[0])) from None
+    status = status_of(process, f"nfot {words[0]}")
     return status if status >= 0 else 128 - status
+
+
+def status_of(process: "subprocess.Popen[bytes]", name: str) -> int:
+    """The status of a process at its end. On a terminal the seconds are shown that it takes, unless its output goes there too."""
+    begun = time.monotonic()
+    with process, progress(name) as show:
+        try:
+            while show.on and not sys.stdout.isatty():
+                try:
+                    return process.wait(1)
+                except subprocess.TimeoutExpired:
+                    show(f"{time.monotonic() - begun:.0f} s")
+            return process.wait()
+        except BaseException:
+            process.kill()
+            raise
