@@ -73,7 +73,7 @@ class Lines(Case):
         commands = {"--phases": "solve x --horizon 1", "--patterns": "solve x --horizon 1", "--augments": "quick x --amount 1",
                     "--number": "gen --rungs 2 --horizon 1", "--rungs": "gen --number 1 --horizon 1"}
         for option, words in commands.items():
-            found = re.search(rf"`{option}` \| .* from (\d) to ([\d,]+)", page)
+            found = re.search(rf"`{option}` ?\|.* from (\d) to ([\d,]+)", page)
             assert found
             least, most = int(found[1]), int(found[2].replace(",", ""))
             for value in (least - 1, most + 1, "9" * 5000, "2.5", "", "٣"):

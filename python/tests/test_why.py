@@ -25,7 +25,7 @@ class Why(Case):
     def test_all_rules(self) -> None:
         """Each rule that the page has in a table is said in its words."""
         kinds = {"N": "network", "P": "report", "L": "loads", "S": "flows", "G": "routes"}
-        rows = [line.split("|") for line in FORMATS.read_text(encoding="utf-8").splitlines() if re.match(r"\| [NPLSGC]\d", line)]
+        rows = [line.split("|") for line in FORMATS.read_text(encoding="utf-8").splitlines() if re.match(r"\| ?[NPLSGC]\d", line)]
         rules = {name: row[2].strip() for row in rows for name in row[1].strip().split(", ")}
         counts = {letter: sum(name[0] == letter for name in rules) for letter in "NPLSGC"}
         self.assertEqual(counts, {"N": 22, "P": 14, "L": 12, "S": 11, "G": 17, "C": 8})
