@@ -1,6 +1,6 @@
 """Growth in the long run by definition: static cuts by brute force, and how labels and travel times grow by a tail.
 
-MODEL.md, "Growth in the long run". No computation is shared with the modules that make runs. Each set of nodes is tried, so networks must be small.
+MODEL.md, "The long run". No computation is shared with the modules that make runs. Each set of nodes is tried, so networks must be small.
 """
 from fractions import Fraction
 from itertools import product
