@@ -12,8 +12,8 @@ use Rattle.nf_frac_def.specs.Checked.{Checked, checked, ◌>>=◌}
 use Rattle.nf_frac_def.specs.declared.Op.TheVariants.{Quotient}
 use Rattle.nf_model.specs.Entries.{number_at}
 use Rattle.nf_rational.specs.Signs.{is_zero}
-use Rattle.nf_thin_def.specs.Table.{Row, Eliminated, row_at, pivot_of, eliminate_at, if_some, eliminate_from, solution_from, solution_of, table_list}
-use Rattle.nf_thin_laws.specs.ListLaws.{never}
+use Rattle.nf_linear_def.specs.Table.{Row, Eliminated, row_at, pivot_of, eliminate_at, if_some, eliminate_from, solution_from, solution_of, table_list}
+use Rattle.nf_frac_def.specs.Passing.{never}
 use Rattle.nf_linear_laws.proofs.Steps.{Table, Meets, IsStep, meets_after, meets_before}
 use Rattle.nf_linear_laws.proofs.Columns.{Reduced, one_more, solution, forced, met, free, free-at, homogeneous}
 use Rattle.nf_linear_laws.proofs.Pivots.{zero_tested, some_tested, pivot_row_of, none_is, none_any, no_pivot, IsPivot, is_pivot, different, every_one}

@@ -11,8 +11,8 @@ use Rattle.nf_frac_def.specs.declared.Op.TheVariants.{Quotient}
 use Rattle.nf_frac_def.specs.Checked.{checked, ◌>>=◌}
 use Rattle.nf_model.specs.Entries.{number_at}
 use Rattle.nf_rational.specs.Signs.{is_zero}
-use Rattle.nf_thin_def.specs.Table.{Row, row_at, less_unless, entries_less, clear_unless, clear_rows}
-use Rattle.nf_thin_laws.specs.ListLaws.{never}
+use Rattle.nf_linear_def.specs.Table.{Row, row_at, less_unless, entries_less, clear_unless, clear_rows}
+use Rattle.nf_frac_def.specs.Passing.{never}
 use Rattle.nf_linear_laws.proofs.Pivots.{zero_tested}
 
 pub bind_ok : {A B E : Type 0} (r : Result A E) (a : A) (f : A → Result B E) (s : Result B E) → r ≡ Ok a → f a ≡ s → (r >>= f) ≡ s

@@ -11,8 +11,8 @@ use Rattle.nf_rational_laws.proofs.Quotient.{ps_apart}
 use Rattle.nf_rational_laws.proofs.Linear.{eq, linear_eq}
 use Rattle.nf_frac_def.specs.Passing.{Passing}
 use Rattle.nf_model.specs.Entries.{number_at}
-use Rattle.nf_thin_def.specs.Table.{Row, row_at, table_list}
-use Rattle.nf_thin_laws.proofs.Exact.{table_list_as}
+use Rattle.nf_linear_def.specs.Table.{Row, row_at, table_list}
+use Rattle.nf_linear_laws.proofs.Exact.{table_list_as}
 use Rattle.nf_linear_laws.specs.Solution.{IsSquare, left_side, Solves, IsOnlySolution}
 use Rattle.nf_linear_laws.proofs.Totals.{total, total_same, total_zero, total_less}
 use Rattle.nf_linear_laws.proofs.Steps.{Meets}

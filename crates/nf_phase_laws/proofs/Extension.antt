@@ -17,7 +17,7 @@ use Rattle.nf_model.specs.Phases.{Lasts, IsExtension, IsUnending}
 use Rattle.nf_model_laws.proofs.Supply.{StartsRise, StartsRise-pieces}
 use Rattle.nf_rational.specs.Signs.{is_zero, are_opposite}
 use Rattle.nf_thin_def.specs.Extend.{to_zero, after_link, least_after, until_change, extend_list}
-use Rattle.nf_thin_laws.specs.ListLaws.{never}
+use Rattle.nf_frac_def.specs.Passing.{never}
 use Rattle.nf_thin_laws.proofs.Exact.{extend_list_as}
 use Rattle.nf_phase_laws.proofs.Limits.{HoldsUpTo, IsLimit, Both, IsLimit-same, IsLimit-with, IsLimit-lesser}
 use Rattle.nf_phase_laws.proofs.Sides.{KeepsSide, lt_false, keeps_at_zero, keeps_away, keeps_until}

@@ -16,7 +16,7 @@ use Rattle.nf_model.specs.ThinFlow.{Sets}
 use Rattle.nf_model.specs.Pattern.{Pattern}
 use Rattle.nf_rational.specs.Signs.{is_positive}
 use Rattle.nf_thin_def.specs.CurveList.{QueueStep, LinkStep, LinkPhase, rate_over, size_at, slope_at, queue_step, link_step, link_phase, curve_list}
-use Rattle.nf_thin_laws.specs.ListLaws.{never}
+use Rattle.nf_frac_def.specs.Passing.{never}
 use Rattle.nf_thin_laws.proofs.Exact.{curve_list_as}
 use Rattle.nf_thin_laws.proofs.Ending.{each_cons, enumerated}
 use Rattle.nf_phase_laws.specs.Invariant.{queue_by_slack}

@@ -16,7 +16,7 @@ use Rattle.nf_model.specs.Network.{Link, Network}
 use Rattle.nf_model.specs.ThinFlow.{Sets}
 use Rattle.nf_model.specs.Pattern.{Pattern, IsSolution}
 use Rattle.nf_net_def.specs.WellNamed.{IsFraction}
-use Rattle.nf_thin_def.specs.Table.{table_list}
+use Rattle.nf_linear_def.specs.Table.{table_list}
 use Rattle.nf_thin_def.specs.Equations.{Unknown, SlopeOf, FlowOn, unknowns, row, source_factor, leaves_less_enters, node_factor, node_row, fills_factor, link_factor, link_rows, equations, slopes_in, onto_links, flows_in}
 use Rattle.nf_thin_def.specs.Verdict.{bound_on, bound_of, verdict_list}
 use Rattle.nf_thin_def.specs.Accepted.{Solved, after_table, pattern_lists}

@@ -10,7 +10,7 @@ use Rattle.nf_frac_def.specs.Checked.{Checked, checked}
 use Rattle.nf_model.specs.Entries.{number_at}
 use Rattle.nf_net_def.specs.WellNamed.{IsFraction}
 use Rattle.nf_rational.specs.Signs.{is_zero}
-use Rattle.nf_thin_def.specs.Table.{Row, Eliminated, row_at, pivot_of, less_unless, entries_less, cleared_row, clear_unless, clear_rows, eliminate_at, if_some, eliminate_from, solution_from, solution_of, table_list}
+use Rattle.nf_linear_def.specs.Table.{Row, Eliminated, row_at, pivot_of, less_unless, entries_less, cleared_row, clear_unless, clear_rows, eliminate_at, if_some, eliminate_from, solution_from, solution_of, table_list}
 use Rattle.nf_report_laws.proofs.KeysBack.{all-append}
 use Rattle.nf_phase_run_laws.proofs.Lists.{all_take, all_drop, entry_or}
 use Rattle.nf_phase_run_laws.proofs.Fractions.{AreFractions, zero_fraction, number_fraction}

@@ -17,7 +17,7 @@ use Rattle.nf_model.specs.Entries.{number_at, Has}
 use Rattle.nf_model.specs.Network.{Link, Network, IsNetwork, IsLink, unbounded}
 use Rattle.nf_model.specs.ThinFlow.{Sets, surplus}
 use Rattle.nf_model.specs.Pattern.{Pattern, HasState, Fills, Equation, Solves}
-use Rattle.nf_thin_def.specs.Table.{Row, row_at, table_list}
+use Rattle.nf_linear_def.specs.Table.{Row, row_at, table_list}
 use Rattle.nf_thin_def.specs.Equations.{Unknown, unknowns, row, source_factor, node_factor, node_row, link_factor, link_rows, equations, slopes_in, flows_in, onto_links}
 use Rattle.nf_thin_laws.specs.ActiveLinks.{AreSets}
 use Rattle.nf_thin_laws.proofs.Flags.{entry_beyond, number_at-beyond, flag-cases}
