@@ -77,40 +77,40 @@ change-is : (passes : Passing) (o : Option Bool) (a x y : ℚ) → change_on pas
 change-is passes None a x y h = same (same_Ok x y h)
   where
     same : x ≡ y → y ≡ x +ℚ 0ℚ *ℚ a
-    same e = linear_eq (x ∷ y ∷ a ∷ []) (eq e ∷ []) (search reading_of depth 12) tt tt
+    same e = linear_eq (x ∷ y ∷ a ∷ []) (eq e ∷ []) (search reading_of) tt tt
 change-is passes (Some true) a x y h = more (checked-is passes Sum x a y h)
   where
     more : y ≡ x +ℚ a → y ≡ x +ℚ 1ℚ *ℚ a
-    more e = linear_eq (x ∷ y ∷ a ∷ []) (eq e ∷ []) (search reading_of depth 12) tt tt
+    more e = linear_eq (x ∷ y ∷ a ∷ []) (eq e ∷ []) (search reading_of) tt tt
 change-is passes (Some false) a x y h = less (checked-is passes Difference x a y h)
   where
     less : y ≡ x -ℚ a → y ≡ x +ℚ (0ℚ -ℚ 1ℚ) *ℚ a
-    less e = linear_eq (x ∷ y ∷ a ∷ []) (eq e ∷ []) (search reading_of depth 12) tt tt
+    less e = linear_eq (x ∷ y ∷ a ∷ []) (eq e ∷ []) (search reading_of) tt tt
 
 -- ---- numbers
 plus_none : (x a : ℚ) → x +ℚ 0ℚ *ℚ a ≡ x
-plus_none x a = linear_eq (x ∷ a ∷ []) [] (search reading_of depth 12) tt tt
+plus_none x a = linear_eq (x ∷ a ∷ []) [] (search reading_of) tt tt
 
 grown_nn : (x a y : ℚ) → y ≡ x +ℚ 1ℚ *ℚ a → 0ℚ ≤ℚ x → 0ℚ ≤ℚ a → 0ℚ ≤ℚ y
-grown_nn x a y e h k = linear_le (x ∷ a ∷ y ∷ []) (eq e ∷ le h ∷ le k ∷ []) (search reading_of depth 12) tt
+grown_nn x a y e h k = linear_le (x ∷ a ∷ y ∷ []) (eq e ∷ le h ∷ le k ∷ []) (search reading_of) tt
 
 shrunk_nn : (x a y : ℚ) → y ≡ x +ℚ (0ℚ -ℚ 1ℚ) *ℚ a → a ≤ℚ x → 0ℚ ≤ℚ y
-shrunk_nn x a y e h = linear_le (x ∷ a ∷ y ∷ []) (eq e ∷ le h ∷ []) (search reading_of depth 12) tt
+shrunk_nn x a y e h = linear_le (x ∷ a ∷ y ∷ []) (eq e ∷ le h ∷ []) (search reading_of) tt
 
 grown_most : (x a y f : ℚ) → y ≡ x +ℚ 1ℚ *ℚ a → a ≤ℚ f -ℚ x → y ≤ℚ f
-grown_most x a y f e h = linear_le (x ∷ a ∷ y ∷ f ∷ []) (eq e ∷ le h ∷ []) (search reading_of depth 12) tt
+grown_most x a y f e h = linear_le (x ∷ a ∷ y ∷ f ∷ []) (eq e ∷ le h ∷ []) (search reading_of) tt
 
 shrunk_most : (x a y f : ℚ) → y ≡ x +ℚ (0ℚ -ℚ 1ℚ) *ℚ a → 0ℚ ≤ℚ a → x ≤ℚ f → y ≤ℚ f
-shrunk_most x a y f e h k = linear_le (x ∷ a ∷ y ∷ f ∷ []) (eq e ∷ le h ∷ le k ∷ []) (search reading_of depth 12) tt
+shrunk_most x a y f e h k = linear_le (x ∷ a ∷ y ∷ f ∷ []) (eq e ∷ le h ∷ le k ∷ []) (search reading_of) tt
 
 gap : (x f : ℚ) → x <ℚ f → 0ℚ <ℚ f -ℚ x
-gap x f h = linear_lt (x ∷ f ∷ []) (lt h ∷ []) (search reading_of depth 12) tt
+gap x f h = linear_lt (x ∷ f ∷ []) (lt h ∷ []) (search reading_of) tt
 
 emptied : (x a y : ℚ) → y ≡ x +ℚ (0ℚ -ℚ 1ℚ) *ℚ a → x ≡ a → y ≡ 0ℚ
-emptied x a y e f = linear_eq (x ∷ a ∷ y ∷ []) (eq e ∷ eq f ∷ []) (search reading_of depth 12) tt tt
+emptied x a y e f = linear_eq (x ∷ a ∷ y ∷ []) (eq e ∷ eq f ∷ []) (search reading_of) tt tt
 
 filled : (x a y f : ℚ) → y ≡ x +ℚ 1ℚ *ℚ a → f -ℚ x ≡ a → y ≡ f
-filled x a y f e g = linear_eq (x ∷ a ∷ y ∷ f ∷ []) (eq e ∷ eq g ∷ []) (search reading_of depth 12) tt tt
+filled x a y f e g = linear_eq (x ∷ a ∷ y ∷ f ∷ []) (eq e ∷ eq g ∷ []) (search reading_of) tt tt
 
 number-of : (xs : List ℚ) (e : ℕ) (x : ℚ) → slice_get xs e ≡ Some x → number_at xs e ≡ x
 number-of xs e x h = ap (λ (o : Option ℚ). unwrap_or o 0ℚ) h
@@ -325,7 +325,7 @@ module _ (passes : Passing) (net : Network) (sets : Sets) (rate : ℚ) (flows sl
       )
 
   node_line : (o p i j r s a : ℚ) → o ≡ p +ℚ r *ℚ a → i ≡ j +ℚ s *ℚ a → r -ℚ s ≡ 0ℚ → o -ℚ i ≡ p -ℚ j
-  node_line o p i j r s a e f g = linear_eq (o ∷ p ∷ i ∷ j ∷ r ∷ s ∷ a ∷ []) (eq e ∷ eq f ∷ eq_times a g ∷ []) (search reading_of depth 12) tt tt
+  node_line o p i j r s a e f g = linear_eq (o ∷ p ∷ i ∷ j ∷ r ∷ s ∷ a ∷ []) (eq e ∷ eq f ∷ eq_times a g ∷ []) (search reading_of) tt tt
 
   same_surplus : (v : ℕ) → v < net.nodes → surplus net new v ≡ surplus net flows v
   same_surplus v h = node_line _ _ _ _ (sum_out net.links (carried_by steps) v) (sum_in net.links (carried_by steps) v) amount

@@ -61,16 +61,16 @@ empty_slopes (Some c) x s t p l e n = ⊎_elim
     (l.upper refl)
   where
     zero : c *ℚ t ≤ℚ x → c *ℚ t ≤ℚ c *ℚ 0ℚ
-    zero w = linear_le (c ∷ t ∷ x ∷ []) (le w ∷ eq e ∷ []) (search reading_of depth 12) tt
+    zero w = linear_le (c ∷ t ∷ x ∷ []) (le w ∷ eq e ∷ []) (search reading_of) tt
 
     below : t ≤ℚ 0ℚ → t ≤ℚ s
-    below w = linear_le (s ∷ t ∷ []) (le w ∷ le n ∷ []) (search reading_of depth 12) tt
+    below w = linear_le (s ∷ t ∷ []) (le w ∷ le n ∷ []) (search reading_of) tt
 
 empty_exit : (capacity : Option ℚ) (x s : ℚ) → IsPositive capacity → x ≡ 0ℚ → 0ℚ ≤ℚ s → exit_slope false capacity x s ≡ s
 empty_exit capacity x s p e n = exit_tight capacity x s s p refl (λ c h. at_most c (≤ℚ_of_lt _ _ (p c h)))
   where
     at_most : (c : ℚ) → 0ℚ ≤ℚ c → x ≤ℚ c *ℚ s
-    at_most c h = let w : 0ℚ ≤ℚ c *ℚ s = nn_times c s h n in linear_le (x ∷ c ∷ s ∷ []) (eq e ∷ le w ∷ []) (search reading_of depth 12) tt
+    at_most c h = let w : 0ℚ ≤ℚ c *ℚ s = nn_times c s h n in linear_le (x ∷ c ∷ s ∷ []) (eq e ∷ le w ∷ []) (search reading_of) tt
 
 reset_fills : (capacity : Option ℚ) (x s t : ℚ) → (capacity ≡ None → ⊥) → LinkLaw true capacity x s t → Fills capacity x t
 reset_fills None x s t n l = absurd (n refl)
@@ -155,7 +155,7 @@ module _ (net : Network) (sets : Sets) (rate : ℚ) (flows slopes : List ℚ) (p
       (some_or_none y n))
     where
       zero : y ≡ 0ℚ → 0ℚ ≤ℚ d → y ≤ℚ d *ℚ t
-      zero h k = let q : 0ℚ ≤ℚ d *ℚ t = nn_times d t k m in linear_le (y ∷ d ∷ t ∷ []) (eq h ∷ le q ∷ []) (search reading_of depth 12) tt
+      zero h k = let q : 0ℚ ≤ℚ d *ℚ t = nn_times d t k m in linear_le (y ∷ d ∷ t ∷ []) (eq h ∷ le q ∷ []) (search reading_of) tt
 
   known-inequality : (e : ℕ) (link : Link) → IsLink net e link → NeedsState sets e → (state : State) → Known e link state → Inequality (Some state) link.capacity (x e) (l link.tail) (l link.head)
   known-inequality e link p n Tight k = at_most link.capacity (x e) (l link.tail) (l link.head) (IsPositive-link net e link good.network p) (law e link p n) (thin.no_negative_flow e) (thin.no_negative_slope link.head)

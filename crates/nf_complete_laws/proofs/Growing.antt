@@ -32,11 +32,11 @@ pub record IsPart (b x a : ℚ) : Type 0 where
   pub most : a ≤ℚ x
 
 half_of : (b q : ℚ) → 0ℚ <ℚ b → q *ℚ (1ℚ +ℚ 1ℚ) ≡ b → (0ℚ <ℚ q) × (q <ℚ b)
-half_of b q h e = (linear_lt (b ∷ q ∷ []) (lt h ∷ eq e ∷ []) (search reading_of depth 12) tt, linear_lt (b ∷ q ∷ []) (lt h ∷ eq e ∷ []) (search reading_of depth 12) tt)
+half_of b q h e = (linear_lt (b ∷ q ∷ []) (lt h ∷ eq e ∷ []) (search reading_of) tt, linear_lt (b ∷ q ∷ []) (lt h ∷ eq e ∷ []) (search reading_of) tt)
 
 pub half : (b : ℚ) → 0ℚ <ℚ b → (q : ℚ) × (0ℚ <ℚ q) × (q <ℚ b)
 half b h =
-    let two : 0ℚ <ℚ 1ℚ +ℚ 1ℚ = linear_lt [] [] (search reading_of depth 12) tt in
+    let two : 0ℚ <ℚ 1ℚ +ℚ 1ℚ = linear_lt [] [] (search reading_of) tt in
     let w : (0ℚ <ℚ b /ℚ (1ℚ +ℚ 1ℚ)) × (b /ℚ (1ℚ +ℚ 1ℚ) <ℚ b) = half_of b (b /ℚ (1ℚ +ℚ 1ℚ)) h (/ℚ-times b (1ℚ +ℚ 1ℚ) (ps_apart _ two)) in
     (b /ℚ (1ℚ +ℚ 1ℚ), w.0, w.1)
 
@@ -52,7 +52,7 @@ part_of b x h k =
     )
   where
     below : (y q : ℚ) → y ≤ℚ q → q <ℚ b → y <ℚ b
-    below y q l m = linear_lt (y ∷ q ∷ b ∷ []) (le l ∷ lt m ∷ []) (search reading_of depth 12) tt
+    below y q l m = linear_lt (y ∷ q ∷ b ∷ []) (le l ∷ lt m ∷ []) (search reading_of) tt
 
 -- The same for the room on a link.
 pub part_of_room : (capacity : Option ℚ) (x t b : ℚ) → 0ℚ <ℚ b → HasRoom capacity x t → (a : ℚ) × (0ℚ <ℚ a) × (a <ℚ b) × IsAtMost capacity (x +ℚ a) t
@@ -62,38 +62,38 @@ part_of_room (Some c) x t b h r =
     (w.0, w.1.above, w.1.less, λ d e. subst (λ (k : ℚ). x +ℚ w.0 ≤ℚ k *ℚ t) (same_Some c d e) (within w.0 w.1.most))
   where
     gap : x <ℚ c *ℚ t → 0ℚ <ℚ c *ℚ t -ℚ x
-    gap l = linear_lt (x ∷ c ∷ t ∷ []) (lt l ∷ []) (search reading_of depth 12) tt
+    gap l = linear_lt (x ∷ c ∷ t ∷ []) (lt l ∷ []) (search reading_of) tt
 
     within : (a : ℚ) → a ≤ℚ c *ℚ t -ℚ x → x +ℚ a ≤ℚ c *ℚ t
-    within a l = linear_le (x ∷ c ∷ t ∷ a ∷ []) (le l ∷ []) (search reading_of depth 12) tt
+    within a l = linear_le (x ∷ c ∷ t ∷ a ∷ []) (le l ∷ []) (search reading_of) tt
 
 -- ---- numbers
 left_over : (s t a : ℚ) → t ≡ s -ℚ a → a <ℚ s → 0ℚ <ℚ t
-left_over s t a e h = linear_lt (s ∷ t ∷ a ∷ []) (eq e ∷ lt h ∷ []) (search reading_of depth 12) tt
+left_over s t a e h = linear_lt (s ∷ t ∷ a ∷ []) (eq e ∷ lt h ∷ []) (search reading_of) tt
 
 gained : (s t a : ℚ) → t ≡ s +ℚ a → 0ℚ ≤ℚ s → 0ℚ <ℚ a → 0ℚ <ℚ t
-gained s t a e h k = linear_lt (s ∷ t ∷ a ∷ []) (eq e ∷ le h ∷ lt k ∷ []) (search reading_of depth 12) tt
+gained s t a e h k = linear_lt (s ∷ t ∷ a ∷ []) (eq e ∷ le h ∷ lt k ∷ []) (search reading_of) tt
 
 taken : (s t a : ℚ) → t ≡ s +ℚ (0ℚ -ℚ a) → a ≤ℚ s → 0ℚ ≤ℚ t
-taken s t a e h = linear_le (s ∷ t ∷ a ∷ []) (eq e ∷ le h ∷ []) (search reading_of depth 12) tt
+taken s t a e h = linear_le (s ∷ t ∷ a ∷ []) (eq e ∷ le h ∷ []) (search reading_of) tt
 
 more_flow : (x a : ℚ) → 0ℚ ≤ℚ x → 0ℚ <ℚ a → 0ℚ ≤ℚ x +ℚ a
-more_flow x a h k = linear_le (x ∷ a ∷ []) (le h ∷ lt k ∷ []) (search reading_of depth 12) tt
+more_flow x a h k = linear_le (x ∷ a ∷ []) (le h ∷ lt k ∷ []) (search reading_of) tt
 
 less_flow : (x a : ℚ) → a ≤ℚ x → 0ℚ ≤ℚ x +ℚ (0ℚ -ℚ a)
-less_flow x a h = linear_le (x ∷ a ∷ []) (le h ∷ []) (search reading_of depth 12) tt
+less_flow x a h = linear_le (x ∷ a ∷ []) (le h ∷ []) (search reading_of) tt
 
 still_most : (x a y : ℚ) → 0ℚ <ℚ a → x ≤ℚ y → x +ℚ (0ℚ -ℚ a) ≤ℚ y
-still_most x a y h k = linear_le (x ∷ a ∷ y ∷ []) (lt h ∷ le k ∷ []) (search reading_of depth 12) tt
+still_most x a y h k = linear_le (x ∷ a ∷ y ∷ []) (lt h ∷ le k ∷ []) (search reading_of) tt
 
 plus_less : (s t a : ℚ) → t ≡ s +ℚ (0ℚ -ℚ a) → t ≡ s -ℚ a
-plus_less s t a e = linear_eq (s ∷ t ∷ a ∷ []) (eq e ∷ []) (search reading_of depth 12) tt tt
+plus_less s t a e = linear_eq (s ∷ t ∷ a ∷ []) (eq e ∷ []) (search reading_of) tt tt
 
 less_less : (s t a : ℚ) → t ≡ s -ℚ (0ℚ -ℚ a) → t ≡ s +ℚ a
-less_less s t a e = linear_eq (s ∷ t ∷ a ∷ []) (eq e ∷ []) (search reading_of depth 12) tt tt
+less_less s t a e = linear_eq (s ∷ t ∷ a ∷ []) (eq e ∷ []) (search reading_of) tt tt
 
 no_less_than : (o q a : ℚ) → q ≡ o +ℚ (0ℚ -ℚ a) → o ≤ℚ q → 0ℚ <ℚ a → ⊥
-no_less_than o q a e h k = linear_false (o ∷ q ∷ a ∷ []) (eq e ∷ le h ∷ lt k ∷ []) (search reading_of depth 12) tt
+no_less_than o q a e h k = linear_false (o ∷ q ∷ a ∷ []) (eq e ∷ le h ∷ lt k ∷ []) (search reading_of) tt
 
 -- ---- an oversupply with these slopes that sends the least out of the source
 pub record IsLeastFlow (net : Network) (sets : Sets) (rate : ℚ) (slopes flows : ℕ → ℚ) : Type 0 where

@@ -35,10 +35,10 @@ pub record Load (k : ℚ) (resets : Bool) (capacity : Option ℚ) (a b t : ℕ) 
   pub least : b ≡ bound resets capacity a t → room capacity *ℚ power k t ≤ℚ flow
 
 one_is : (p : ℚ) → p ≤ℚ 1ℚ *ℚ p
-one_is p = linear_le (p ∷ []) [] (search reading_of depth 12) tt
+one_is p = linear_le (p ∷ []) [] (search reading_of) tt
 
 is_one : (p : ℚ) → 1ℚ *ℚ p ≤ℚ p
-is_one p = linear_le (p ∷ []) [] (search reading_of depth 12) tt
+is_one p = linear_le (p ∷ []) [] (search reading_of) tt
 
 same_capacity : (x c s d : ℚ) → x ≤ℚ c *ℚ s → Some c ≡ Some d → x ≤ℚ d *ℚ s
 same_capacity x c s d h e = subst (λ (z : ℚ). x ≤ℚ z *ℚ s) (same_Some c d e) h

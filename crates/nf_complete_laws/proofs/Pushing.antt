@@ -19,26 +19,26 @@ use Rattle.nf_complete_laws.proofs.Fitting.{IsAtMost}
 use Rattle.nf_complete_laws.proofs.Spare.{spare, enough_of_spare}
 
 more_by : (x y a d : ℚ) → a ≡ 1ℚ → y ≡ x +ℚ a *ℚ d → y ≡ x +ℚ d
-more_by x y a d e f = linear_eq (x ∷ y ∷ a ∷ d ∷ []) (eq_times d e ∷ eq f ∷ []) (search reading_of depth 12) tt tt
+more_by x y a d e f = linear_eq (x ∷ y ∷ a ∷ d ∷ []) (eq_times d e ∷ eq f ∷ []) (search reading_of) tt tt
 
 same_by : (x y a d : ℚ) → a ≡ 0ℚ → y ≡ x +ℚ a *ℚ d → y ≡ x
-same_by x y a d e f = linear_eq (x ∷ y ∷ a ∷ d ∷ []) (eq_times d e ∷ eq f ∷ []) (search reading_of depth 12) tt tt
+same_by x y a d e f = linear_eq (x ∷ y ∷ a ∷ d ∷ []) (eq_times d e ∷ eq f ∷ []) (search reading_of) tt tt
 
 -- Inflows and outflows change by multiples of d.
 spare_by : (i o m j p a b d : ℚ) → j ≡ i +ℚ a *ℚ d → p ≡ o +ℚ b *ℚ d → j -ℚ (p +ℚ m) ≡ (i -ℚ (o +ℚ m)) +ℚ (a -ℚ b) *ℚ d
-spare_by i o m j p a b d e f = linear_eq (i ∷ o ∷ m ∷ j ∷ p ∷ a ∷ b ∷ d ∷ []) (eq e ∷ eq f ∷ []) (search reading_of depth 14) tt tt
+spare_by i o m j p a b d e f = linear_eq (i ∷ o ∷ m ∷ j ∷ p ∷ a ∷ b ∷ d ∷ []) (eq e ∷ eq f ∷ []) (search reading_of) tt tt
 
 less_by : (x y a b d : ℚ) → a ≡ 0ℚ → b ≡ 1ℚ → y ≡ x +ℚ (a -ℚ b) *ℚ d → y ≡ x -ℚ d
-less_by x y a b d e f g = linear_eq (x ∷ y ∷ a ∷ b ∷ d ∷ []) (eq_times d e ∷ eq_times d f ∷ eq g ∷ []) (search reading_of depth 12) tt tt
+less_by x y a b d e f g = linear_eq (x ∷ y ∷ a ∷ b ∷ d ∷ []) (eq_times d e ∷ eq_times d f ∷ eq g ∷ []) (search reading_of) tt tt
 
 gap_is : (a b x y : ℚ) → a ≡ x → b ≡ y → a -ℚ b ≡ x -ℚ y
-gap_is a b x y e f = linear_eq (a ∷ b ∷ x ∷ y ∷ []) (eq e ∷ eq f ∷ []) (search reading_of depth 12) tt tt
+gap_is a b x y e f = linear_eq (a ∷ b ∷ x ∷ y ∷ []) (eq e ∷ eq f ∷ []) (search reading_of) tt tt
 
 one_less_none : 1ℚ -ℚ 0ℚ ≡ 1ℚ
-one_less_none = linear_eq [] [] (search reading_of depth 12) tt tt
+one_less_none = linear_eq [] [] (search reading_of) tt tt
 
 none_less_none : 0ℚ -ℚ 0ℚ ≡ 0ℚ
-none_less_none = linear_eq [] [] (search reading_of depth 12) tt tt
+none_less_none = linear_eq [] [] (search reading_of) tt tt
 
 module _ (net : Network) (rate : ℚ) (flows : ℕ → ℚ) (e : ℕ) (link : Link) (p : IsLink net e link) (d : ℚ) where
   abbrev pub pushed : ℕ → ℚ

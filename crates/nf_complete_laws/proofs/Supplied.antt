@@ -37,7 +37,7 @@ demand_at_most false rate n = n
 
 enough_by : (o b i rate r x c k p : ℚ) → o ≤ℚ c *ℚ p → b ≤ℚ rate → 0ℚ ≤ℚ rate → 1ℚ ≤ℚ p → 0ℚ ≤ℚ p → c +ℚ rate ≤ℚ r *ℚ k → r *ℚ (k *ℚ p) ≤ℚ x → x ≤ℚ i → o +ℚ b ≤ℚ i
 enough_by o b i rate r x c k p h j n one m w f g =
-    linear_le (o ∷ b ∷ i ∷ rate ∷ r ∷ x ∷ c ∷ k ∷ p ∷ []) (le h ∷ le j ∷ le_times n one ∷ le_times m w ∷ le f ∷ le g ∷ []) (search reading_of depth 12) tt
+    linear_le (o ∷ b ∷ i ∷ rate ∷ r ∷ x ∷ c ∷ k ∷ p ∷ []) (le h ∷ le j ∷ le_times n one ∷ le_times m w ∷ le f ∷ le g ∷ []) (search reading_of) tt
 
 zero_at_most : (x y : ℚ) → x ≡ 0ℚ → 0ℚ ≤ℚ y → x ≤ℚ y
 zero_at_most x y e h = subst (λ (z : ℚ). z ≤ℚ y) (sym e) h

@@ -29,10 +29,10 @@ module _ (net : Network) (flow : Flow) (until : ℚ) (good : IsNetwork net) (eq 
   label_within v time h w = (w.0, ≤ℚ_trans time (label flow v until) (label flow v flow.reached) w.1 (rises v until flow.reached h from_0 earlier (≤ℚ_refl flow.reached)))
 
   then_later : (a b c : ℚ) → a <ℚ b → b ≤ℚ c → a <ℚ c
-  then_later a b c h k = linear_lt (a ∷ b ∷ c ∷ []) (lt h ∷ le k ∷ []) (search reading_of depth 12) tt
+  then_later a b c h k = linear_lt (a ∷ b ∷ c ∷ []) (lt h ∷ le k ∷ []) (search reading_of) tt
 
   later_nn : (s r x : ℚ) → 0ℚ ≤ℚ s → 0ℚ ≤ℚ r → s +ℚ r ≤ℚ x → 0ℚ ≤ℚ x
-  later_nn s r x h k l = linear_le (s ∷ r ∷ x ∷ []) (le h ∷ le k ∷ le l ∷ []) (search reading_of depth 12) tt
+  later_nn s r x h k l = linear_le (s ∷ r ∷ x ∷ []) (le h ∷ le k ∷ le l ∷ []) (search reading_of) tt
 
   arrives_nn : (walk : List ℕ) (t a : ℚ) → 0ℚ ≤ℚ t → Arrives net (inflow flow) walk t a → 0ℚ ≤ℚ a
   arrives_nn [] t a h w = subst (λ (z : ℚ). 0ℚ ≤ℚ z) w h

@@ -54,13 +54,13 @@ abbrev pub one_in : Cut → ℕ → ℚ
 one_in cut v = one_if (cut v)
 
 one_times : (w y r : ℚ) → w ≡ 1ℚ → y ≡ r → w *ℚ y ≡ r
-one_times w y r e f = linear_eq (w ∷ y ∷ r ∷ []) (eq_times y e ∷ eq f ∷ []) (search reading_of depth 12) tt tt
+one_times w y r e f = linear_eq (w ∷ y ∷ r ∷ []) (eq_times y e ∷ eq f ∷ []) (search reading_of) tt tt
 
 none_times : (w y : ℚ) → w ≡ 0ℚ → w *ℚ y ≡ 0ℚ
-none_times w y e = linear_eq (w ∷ y ∷ []) (eq_times y e ∷ []) (search reading_of depth 12) tt tt
+none_times w y e = linear_eq (w ∷ y ∷ []) (eq_times y e ∷ []) (search reading_of) tt tt
 
 times_none : (w y : ℚ) → y ≡ 0ℚ → w *ℚ y ≡ 0ℚ
-times_none w y e = linear_eq (w ∷ y ∷ []) (eq_times w e ∷ []) (search reading_of depth 12) tt tt
+times_none w y e = linear_eq (w ∷ y ∷ []) (eq_times w e ∷ []) (search reading_of) tt tt
 
 -- The net flow of a static flow out of a set with the source and without the sink is its value.
 module _ (net : Network) (good : IsNetwork net) (cut : Cut) (inside : cut net.source ≡ true) (outside : cut net.sink ≡ false) (f : ℕ → ℚ) (rate : ℚ)
@@ -87,21 +87,21 @@ module _ (net : Network) (good : IsNetwork net) (cut : Cut) (inside : cut net.so
 -- ---- bounds of the net flow, link by link: w is the indicator of the set, and s is a factor
 module _ (w : ℕ → ℚ) (cut : Cut) (s : ℚ) where
   more_below : (a b c d : ℚ) → a ≤ℚ s *ℚ c → b ≤ℚ s *ℚ d → a +ℚ b ≤ℚ s *ℚ (c +ℚ d)
-  more_below a b c d h k = linear_le (a ∷ b ∷ c ∷ d ∷ s ∷ []) (le h ∷ le k ∷ []) (search reading_of depth 12) tt
+  more_below a b c d h k = linear_le (a ∷ b ∷ c ∷ d ∷ s ∷ []) (le h ∷ le k ∷ []) (search reading_of) tt
 
   more_above : (a b c d : ℚ) → s *ℚ c ≤ℚ a → s *ℚ d ≤ℚ b → s *ℚ (c +ℚ d) ≤ℚ a +ℚ b
-  more_above a b c d h k = linear_le (a ∷ b ∷ c ∷ d ∷ s ∷ []) (le h ∷ le k ∷ []) (search reading_of depth 12) tt
+  more_above a b c d h k = linear_le (a ∷ b ∷ c ∷ d ∷ s ∷ []) (le h ∷ le k ∷ []) (search reading_of) tt
 
   pub carried-below : (links : List Link) (f : ℕ → ℚ) → ((e : ℕ) (link : Link) → slice_get links e ≡ Some link → f e *ℚ fall w link ≤ℚ s *ℚ outward cut link)
       → carried w links f ≤ℚ s *ℚ capacity_sum links cut
-  carried-below [] f h = linear_le (s ∷ []) [] (search reading_of depth 12) tt
+  carried-below [] f h = linear_le (s ∷ []) [] (search reading_of) tt
   carried-below (link ∷ links) f h =
       more_below (f 0 *ℚ fall w link) (carried w links (λ e. f (suc e))) (outward cut link) (capacity_sum links cut) (h 0 link refl)
       (carried-below links (λ e. f (suc e)) (λ e l p. h (suc e) l p))
 
   pub carried-above : (links : List Link) (f : ℕ → ℚ) → ((e : ℕ) (link : Link) → slice_get links e ≡ Some link → s *ℚ outward cut link ≤ℚ f e *ℚ fall w link)
       → s *ℚ capacity_sum links cut ≤ℚ carried w links f
-  carried-above [] f h = linear_le (s ∷ []) [] (search reading_of depth 12) tt
+  carried-above [] f h = linear_le (s ∷ []) [] (search reading_of) tt
   carried-above (link ∷ links) f h =
       more_above (f 0 *ℚ fall w link) (carried w links (λ e. f (suc e))) (outward cut link) (capacity_sum links cut) (h 0 link refl)
       (carried-above links (λ e. f (suc e)) (λ e l p. h (suc e) l p))
@@ -155,7 +155,7 @@ module _ (net : Network) (cut : Cut) (is : IsStaticCut net cut) where
 
 -- ---- the network of one link
 plus_none : (a b c : ℚ) → a ≡ c → b ≡ 0ℚ → a +ℚ b ≡ c
-plus_none a b c e f = linear_eq (a ∷ b ∷ c ∷ []) (eq e ∷ eq f ∷ []) (search reading_of depth 12) tt tt
+plus_none a b c e f = linear_eq (a ∷ b ∷ c ∷ []) (eq e ∷ eq f ∷ []) (search reading_of) tt tt
 
 module _ (transit : ℚ) (pieces : List Piece) where
   abbrev link_of : Option ℚ → Link

@@ -32,31 +32,31 @@ pub record FitsSlopes (net : Network) (rate : ℚ) (flows : ℕ → ℚ) (slopes
 -- ---- arithmetic: x is the flow of a link, a and b are the indicator at its tail and its head, r is its outward capacity, and s is the slope of
 -- the sink
 fall_none : (x a b s r : ℚ) → a ≡ b → 0ℚ ≤ℚ s *ℚ r → x *ℚ (a -ℚ b) ≤ℚ s *ℚ r
-fall_none x a b s r e h = linear_le (x ∷ a ∷ b ∷ s ∷ r ∷ []) (eq_times x e ∷ le h ∷ []) (search reading_of depth 12) tt
+fall_none x a b s r e h = linear_le (x ∷ a ∷ b ∷ s ∷ r ∷ []) (eq_times x e ∷ le h ∷ []) (search reading_of) tt
 
 fall_in : (x a b s r : ℚ) → a ≡ 0ℚ → b ≡ 1ℚ → 0ℚ ≤ℚ x → 0ℚ ≤ℚ s *ℚ r → x *ℚ (a -ℚ b) ≤ℚ s *ℚ r
-fall_in x a b s r e f n h = linear_le (x ∷ a ∷ b ∷ s ∷ r ∷ []) (eq_times x e ∷ eq_times x f ∷ le n ∷ le h ∷ []) (search reading_of depth 12) tt
+fall_in x a b s r e f n h = linear_le (x ∷ a ∷ b ∷ s ∷ r ∷ []) (eq_times x e ∷ eq_times x f ∷ le n ∷ le h ∷ []) (search reading_of) tt
 
 fall_out : (x a b s r : ℚ) → a ≡ 1ℚ → b ≡ 0ℚ → x ≤ℚ s *ℚ r → x *ℚ (a -ℚ b) ≤ℚ s *ℚ r
-fall_out x a b s r e f h = linear_le (x ∷ a ∷ b ∷ s ∷ r ∷ []) (eq_times x e ∷ eq_times x f ∷ le h ∷ []) (search reading_of depth 12) tt
+fall_out x a b s r e f h = linear_le (x ∷ a ∷ b ∷ s ∷ r ∷ []) (eq_times x e ∷ eq_times x f ∷ le h ∷ []) (search reading_of) tt
 
 rise_none : (x a b s r : ℚ) → a ≡ b → r ≡ 0ℚ → s *ℚ r ≤ℚ x *ℚ (a -ℚ b)
-rise_none x a b s r e f = linear_le (x ∷ a ∷ b ∷ s ∷ r ∷ []) (eq_times x e ∷ eq_times s f ∷ []) (search reading_of depth 12) tt
+rise_none x a b s r e f = linear_le (x ∷ a ∷ b ∷ s ∷ r ∷ []) (eq_times x e ∷ eq_times s f ∷ []) (search reading_of) tt
 
 rise_in : (x a b s r : ℚ) → a ≡ 0ℚ → b ≡ 1ℚ → x ≤ℚ 0ℚ → r ≡ 0ℚ → s *ℚ r ≤ℚ x *ℚ (a -ℚ b)
-rise_in x a b s r e f n h = linear_le (x ∷ a ∷ b ∷ s ∷ r ∷ []) (eq_times x e ∷ eq_times x f ∷ le n ∷ eq_times s h ∷ []) (search reading_of depth 12) tt
+rise_in x a b s r e f n h = linear_le (x ∷ a ∷ b ∷ s ∷ r ∷ []) (eq_times x e ∷ eq_times x f ∷ le n ∷ eq_times s h ∷ []) (search reading_of) tt
 
 rise_out : (x a b s r : ℚ) → a ≡ 1ℚ → b ≡ 0ℚ → s *ℚ r ≤ℚ x → s *ℚ r ≤ℚ x *ℚ (a -ℚ b)
-rise_out x a b s r e f h = linear_le (x ∷ a ∷ b ∷ s ∷ r ∷ []) (eq_times x e ∷ eq_times x f ∷ le h ∷ []) (search reading_of depth 12) tt
+rise_out x a b s r e f h = linear_le (x ∷ a ∷ b ∷ s ∷ r ∷ []) (eq_times x e ∷ eq_times x f ∷ le h ∷ []) (search reading_of) tt
 
 let_by : (x c t s r : ℚ) → 0ℚ ≤ℚ c → x ≤ℚ c *ℚ t → t ≤ℚ s → r ≡ c → x ≤ℚ s *ℚ r
-let_by x c t s r n h k e = linear_le (x ∷ c ∷ t ∷ s ∷ r ∷ []) (le h ∷ le_times n k ∷ eq_times s e ∷ []) (search reading_of depth 12) tt
+let_by x c t s r n h k e = linear_le (x ∷ c ∷ t ∷ s ∷ r ∷ []) (le h ∷ le_times n k ∷ eq_times s e ∷ []) (search reading_of) tt
 
 filled_by : (x c t s r : ℚ) → 0ℚ ≤ℚ c → c *ℚ t ≤ℚ x → s ≤ℚ t → r ≡ c → s *ℚ r ≤ℚ x
-filled_by x c t s r n h k e = linear_le (x ∷ c ∷ t ∷ s ∷ r ∷ []) (le h ∷ le_times n k ∷ eq_times s e ∷ []) (search reading_of depth 12) tt
+filled_by x c t s r n h k e = linear_le (x ∷ c ∷ t ∷ s ∷ r ∷ []) (le h ∷ le_times n k ∷ eq_times s e ∷ []) (search reading_of) tt
 
 below_both : (a b c : ℚ) → a ≤ℚ b → b <ℚ c → a <ℚ c
-below_both a b c h k = linear_lt (a ∷ b ∷ c ∷ []) (le h ∷ lt k ∷ []) (search reading_of depth 12) tt
+below_both a b c h k = linear_lt (a ∷ b ∷ c ∷ []) (le h ∷ lt k ∷ []) (search reading_of) tt
 
 not_less : (x y : ℚ) → lt_ℚ x y ≡ false → y ≤ℚ x
 not_less x y e = ⊎_elim
@@ -89,7 +89,7 @@ module _ (net : Network) (good : IsNetwork net) (rate : ℚ) (flow : ℕ → ℚ
   sink_nn = one_nn sink_slope (fit.keeps_up net.sink good.sink)
     where
       one_nn : (x : ℚ) → 1ℚ ≤ℚ x → 0ℚ ≤ℚ x
-      one_nn x h = linear_le (x ∷ []) (le h ∷ []) (search reading_of depth 12) tt
+      one_nn x h = linear_le (x ∷ []) (le h ∷ []) (search reading_of) tt
 
   no_flow_down : (e : ℕ) (link : Link) → IsLink net e link → slope link.head <ℚ slope link.tail → flow e ≤ℚ 0ℚ
   no_flow_down e link p down = ⊎_elim

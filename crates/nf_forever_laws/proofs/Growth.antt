@@ -62,7 +62,7 @@ never_up resets None x s t e law = law.upper
 never_up resets (Some c) x s t e law = absurd (none-some c (sym e))
 
 below_both : (a b c : ℚ) → a ≤ℚ b → b <ℚ c → a <ℚ c
-below_both a b c h k = linear_lt (a ∷ b ∷ c ∷ []) (le h ∷ lt k ∷ []) (search reading_of depth 12) tt
+below_both a b c h k = linear_lt (a ∷ b ∷ c ∷ []) (le h ∷ lt k ∷ []) (search reading_of) tt
 
 module _ (net : Network) (sets : Sets) (rate : ℚ) (flows slopes : List ℚ) (good : IsNetwork net) (acyclic : HoldNoCycle net sets)
     (thin : IsThinFlow net sets rate flows slopes) (keeps : KeepsSets net sets slopes) where

@@ -36,16 +36,16 @@ queue_same None s = refl
 queue_same (Some c) s = refl
 
 same_value : (p q : Point) (w r : ℚ) → p ≡ q → p.1 +ℚ w *ℚ r ≡ q.1 +ℚ r *ℚ w
-same_value p q w r e = ap (λ (p : Point). p.1 +ℚ w *ℚ r) e ∙ linear_eq (q.1 ∷ w ∷ r ∷ []) [] (search reading_of depth 12) tt tt
+same_value p q w r e = ap (λ (p : Point). p.1 +ℚ w *ℚ r) e ∙ linear_eq (q.1 ∷ w ∷ r ∷ []) [] (search reading_of) tt tt
 
 rest_of : (a b : ℚ) → a +ℚ (b -ℚ a) ≡ b
-rest_of a b = linear_eq (a ∷ b ∷ []) [] (search reading_of depth 12) tt tt
+rest_of a b = linear_eq (a ∷ b ∷ []) [] (search reading_of) tt tt
 
 gap : (a b : ℚ) → a <ℚ b → 0ℚ <ℚ b -ℚ a
-gap a b h = linear_lt (a ∷ b ∷ []) (lt h ∷ []) (search reading_of depth 12) tt
+gap a b h = linear_lt (a ∷ b ∷ []) (lt h ∷ []) (search reading_of) tt
 
 same_slack : (a b c d t : ℚ) → a ≡ b → c ≡ d → a -ℚ (c +ℚ t) ≡ b -ℚ (d +ℚ t)
-same_slack a b c d t e f = linear_eq (a ∷ b ∷ c ∷ d ∷ t ∷ []) (eq e ∷ eq f ∷ []) (search reading_of depth 12) tt tt
+same_slack a b c d t e f = linear_eq (a ∷ b ∷ c ∷ d ∷ t ∷ []) (eq e ∷ eq f ∷ []) (search reading_of) tt tt
 
 module _ (net : Network) (flow : Flow) (tail : Tail) (until : ℚ) (labels : List ℚ) (good : IsNetwork net) (grown : Grown net flow.reached labels (curves_of flow))
     (shape : HasShape net flow) (inflow_rates : HasSlopes flow.inflows) (outflow_rates : HasSlopes flow.outflows)
@@ -111,7 +111,7 @@ module _ (net : Network) (flow : Flow) (tail : Tail) (until : ℚ) (labels : Lis
         (GoesOnTo-appended (curves.labels v) (flow.reached, label_now v) (flow.reached +ℚ while, label_now v +ℚ number_at tail.slopes v *ℚ while) ends (later flow.reached while some))
       where
         later : (a t : ℚ) → 0ℚ <ℚ t → a <ℚ a +ℚ t
-        later a t k = linear_lt (a ∷ t ∷ []) (lt k ∷ []) (search reading_of depth 12) tt
+        later a t k = linear_lt (a ∷ t ∷ []) (lt k ∷ []) (search reading_of) tt
 
     new_at : at curves'.labels v (flow.reached +ℚ while) ≡ number_at then v
     new_at = EndsAt-value (curves'.labels v) (flow.reached +ℚ while, label_now v +ℚ number_at tail.slopes v *ℚ while) (flow.reached +ℚ while)

@@ -44,7 +44,7 @@ place P i (suc c) = ⊎_elim
 
 -- ---- equations of rationals
 less_nothing : (a k b : ℚ) → b ≡ 0ℚ → a -ℚ k *ℚ b ≡ a
-less_nothing a k b e = linear_eq (a ∷ k ∷ b ∷ []) (eq_times k e ∷ []) (search reading_of depth 12) tt tt
+less_nothing a k b e = linear_eq (a ∷ k ∷ b ∷ []) (eq_times k e ∷ []) (search reading_of) tt tt
 
 first_zero : (a x : ℚ) → a ≡ 0ℚ → a *ℚ x ≡ 0ℚ
 first_zero a x e = ap (λ (v : ℚ). v *ℚ x) e ∙ zero-*ℚ x
@@ -53,7 +53,7 @@ second_zero : (a x : ℚ) → x ≡ 0ℚ → a *ℚ x ≡ 0ℚ
 second_zero a x e = ap (λ (v : ℚ). a *ℚ v) e ∙ times_zero a
 
 cancels : (a q b x y : ℚ) → q *ℚ a ≡ b → x ≡ 0ℚ -ℚ q → y ≡ 1ℚ → a *ℚ x +ℚ b *ℚ y ≡ 0ℚ
-cancels a q b x y e f g = linear_eq (a ∷ q ∷ b ∷ x ∷ y ∷ []) (eq e ∷ eq_times a f ∷ eq_times b g ∷ []) (search reading_of depth 12) tt tt
+cancels a q b x y e f g = linear_eq (a ∷ q ∷ b ∷ x ∷ y ∷ []) (eq e ∷ eq_times a f ∷ eq_times b g ∷ []) (search reading_of) tt tt
 
 -- ---- one more column
 module _ {n c p : ℕ} {g : ℕ → ℚ} {M N : Table} {P Q : ℕ → ℕ}

@@ -34,27 +34,27 @@ record Lower (n : ℕ) (c : AtMost) : Type 0 where
 
 -- a is the coefficient of the variable v, k is one over a or over -a, and f is the rest of the form.
 kept_there : (a v f b g : ℚ) → a ≡ 0ℚ → g ≡ a *ℚ v +ℚ f → g ≤ℚ b → f ≤ℚ b
-kept_there a v f b g z e h = linear_le (a ∷ v ∷ f ∷ b ∷ g ∷ []) (eq_times v z ∷ eq e ∷ le h ∷ []) (search reading_of depth 12) tt
+kept_there a v f b g z e h = linear_le (a ∷ v ∷ f ∷ b ∷ g ∷ []) (eq_times v z ∷ eq e ∷ le h ∷ []) (search reading_of) tt
 
 kept_back : (a v f b g : ℚ) → a ≡ 0ℚ → g ≡ a *ℚ v +ℚ f → f ≤ℚ b → g ≤ℚ b
-kept_back a v f b g z e h = linear_le (a ∷ v ∷ f ∷ b ∷ g ∷ []) (eq_times v z ∷ eq e ∷ le h ∷ []) (search reading_of depth 12) tt
+kept_back a v f b g z e h = linear_le (a ∷ v ∷ f ∷ b ∷ g ∷ []) (eq_times v z ∷ eq e ∷ le h ∷ []) (search reading_of) tt
 
 upper_there : (a k v f b g d : ℚ) → a *ℚ k ≡ 1ℚ → 0ℚ ≤ℚ k → g ≡ a *ℚ v +ℚ f → d ≡ k *ℚ f → g ≤ℚ b → v +ℚ d ≤ℚ k *ℚ b
-upper_there a k v f b g d o n e s h = linear_le (a ∷ k ∷ v ∷ f ∷ b ∷ g ∷ d ∷ []) (le_times n h ∷ eq_times k e ∷ eq_times v o ∷ eq s ∷ []) (search reading_of depth 12) tt
+upper_there a k v f b g d o n e s h = linear_le (a ∷ k ∷ v ∷ f ∷ b ∷ g ∷ d ∷ []) (le_times n h ∷ eq_times k e ∷ eq_times v o ∷ eq s ∷ []) (search reading_of) tt
 
 upper_back : (a k v f b g d : ℚ) → a *ℚ k ≡ 1ℚ → 0ℚ ≤ℚ a → g ≡ a *ℚ v +ℚ f → d ≡ k *ℚ f → v +ℚ d ≤ℚ k *ℚ b → g ≤ℚ b
 upper_back a k v f b g d o n e s h =
-    linear_le (a ∷ k ∷ v ∷ f ∷ b ∷ g ∷ d ∷ []) (le_times n h ∷ eq_times a s ∷ eq_times b o ∷ eq_times f o ∷ eq e ∷ []) (search reading_of depth 12) tt
+    linear_le (a ∷ k ∷ v ∷ f ∷ b ∷ g ∷ d ∷ []) (le_times n h ∷ eq_times a s ∷ eq_times b o ∷ eq_times f o ∷ eq e ∷ []) (search reading_of) tt
 
 lower_there : (a k v f b g d : ℚ) → (0ℚ -ℚ a) *ℚ k ≡ 1ℚ → 0ℚ ≤ℚ k → g ≡ a *ℚ v +ℚ f → d ≡ k *ℚ f → g ≤ℚ b → d ≤ℚ v +ℚ k *ℚ b
-lower_there a k v f b g d o n e s h = linear_le (a ∷ k ∷ v ∷ f ∷ b ∷ g ∷ d ∷ []) (le_times n h ∷ eq_times k e ∷ eq_times v o ∷ eq s ∷ []) (search reading_of depth 12) tt
+lower_there a k v f b g d o n e s h = linear_le (a ∷ k ∷ v ∷ f ∷ b ∷ g ∷ d ∷ []) (le_times n h ∷ eq_times k e ∷ eq_times v o ∷ eq s ∷ []) (search reading_of) tt
 
 lower_back : (a k v f b g d : ℚ) → (0ℚ -ℚ a) *ℚ k ≡ 1ℚ → 0ℚ ≤ℚ 0ℚ -ℚ a → g ≡ a *ℚ v +ℚ f → d ≡ k *ℚ f → d ≤ℚ v +ℚ k *ℚ b → g ≤ℚ b
 lower_back a k v f b g d o n e s h =
-    linear_le (a ∷ k ∷ v ∷ f ∷ b ∷ g ∷ d ∷ []) (le_times n h ∷ eq_times a s ∷ eq_times b o ∷ eq_times f o ∷ eq e ∷ []) (search reading_of depth 12) tt
+    linear_le (a ∷ k ∷ v ∷ f ∷ b ∷ g ∷ d ∷ []) (le_times n h ∷ eq_times a s ∷ eq_times b o ∷ eq_times f o ∷ eq e ∷ []) (search reading_of) tt
 
 turned : (a : ℚ) → a <ℚ 0ℚ → 0ℚ <ℚ 0ℚ -ℚ a
-turned a h = linear_lt (a ∷ []) (lt h ∷ []) (search reading_of depth 12) tt
+turned a h = linear_lt (a ∷ []) (lt h ∷ []) (search reading_of) tt
 
 Kept-from : (n : ℕ) (c : AtMost) → Within (suc n) c.form → coefficient n c.form ≡ 0ℚ → Kept n c
 Kept-from n c w z = record {

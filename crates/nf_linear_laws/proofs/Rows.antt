@@ -68,13 +68,13 @@ none_less : (f : ℚ) → 0ℚ ≡ 0ℚ -ℚ f *ℚ 0ℚ
 none_less f = ring rationals (f ∷ []) (search reading depth 30) tt
 
 kept : (x f p : ℚ) → p ≡ 0ℚ → x ≡ x -ℚ f *ℚ p
-kept x f p e = linear_eq (x ∷ f ∷ p ∷ []) (eq_times f e ∷ []) (search reading_of depth 12) tt tt
+kept x f p e = linear_eq (x ∷ f ∷ p ∷ []) (eq_times f e ∷ []) (search reading_of) tt tt
 
 no_times : (x p : ℚ) → x ≡ x -ℚ 0ℚ *ℚ p
 no_times x p = ring rationals (x ∷ p ∷ []) (search reading depth 30) tt
 
 less_all : (x q p : ℚ) → q *ℚ p ≡ x → x -ℚ q *ℚ p ≡ 0ℚ
-less_all x q p e = linear_eq (x ∷ q ∷ p ∷ []) (eq e ∷ []) (search reading_of depth 12) tt tt
+less_all x q p e = linear_eq (x ∷ q ∷ p ∷ []) (eq e ∷ []) (search reading_of) tt tt
 
 less_at-is : (b : Bool) (f p x : ℚ) → is_zero p ≡ b → less_at b f p x ≡ x -ℚ f *ℚ p
 less_at-is true f p x e = kept x f p (zero_tested p e)

@@ -63,7 +63,7 @@ no_change : (m : ℚ) → m *ℚ 1ℚ -ℚ 1ℚ *ℚ (m *ℚ 0ℚ) ≡ m *ℚ 1�
 no_change m = ring rationals (m ∷ []) (search reading depth 30) tt
 
 is_nothing : (x h : ℚ) → x -ℚ h ≡ x → h ≡ 0ℚ
-is_nothing x h e = linear_eq (x ∷ h ∷ []) (eq e ∷ []) (search reading_of depth 12) tt tt
+is_nothing x h e = linear_eq (x ∷ h ∷ []) (eq e ∷ []) (search reading_of) tt tt
 
 one_is_some : 1ℚ ≢ 0ℚ
 one_is_some = ps_apart 1ℚ (ps_whole 0)

@@ -12,13 +12,13 @@ total (suc n) f = f 0 +ℚ total n (λ j. f (suc j))
 
 -- ---- equations of rationals that the sums need
 both_zero : (a b : ℚ) → a ≡ 0ℚ → b ≡ 0ℚ → a +ℚ b ≡ 0ℚ
-both_zero a b e f = linear_eq (a ∷ b ∷ []) (eq e ∷ eq f ∷ []) (search reading_of depth 12) tt tt
+both_zero a b e f = linear_eq (a ∷ b ∷ []) (eq e ∷ eq f ∷ []) (search reading_of) tt tt
 
 first_zero : (a b : ℚ) → a ≡ 0ℚ → a +ℚ b ≡ b
-first_zero a b e = linear_eq (a ∷ b ∷ []) (eq e ∷ []) (search reading_of depth 12) tt tt
+first_zero a b e = linear_eq (a ∷ b ∷ []) (eq e ∷ []) (search reading_of) tt tt
 
 second_zero : (a b : ℚ) → b ≡ 0ℚ → a +ℚ b ≡ a
-second_zero a b e = linear_eq (a ∷ b ∷ []) (eq e ∷ []) (search reading_of depth 12) tt tt
+second_zero a b e = linear_eq (a ∷ b ∷ []) (eq e ∷ []) (search reading_of) tt tt
 
 none_less : (k : ℚ) → 0ℚ ≡ 0ℚ -ℚ k *ℚ 0ℚ
 none_less k = ring rationals (k ∷ []) (search reading depth 30) tt

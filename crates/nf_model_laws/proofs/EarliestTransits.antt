@@ -16,16 +16,16 @@ use Rattle.nf_model_laws.proofs.Earliest.{AreHops-net}
 
 -- ---- steps over plain numbers
 kept : (s t x y r : ℚ) → s ≤ℚ t → x ≡ s +ℚ r → y ≡ t +ℚ r → x ≤ℚ y
-kept s t x y r h e f = linear_le (s ∷ t ∷ x ∷ y ∷ r ∷ []) (le h ∷ eq e ∷ eq f ∷ []) (search reading_of depth 12) tt
+kept s t x y r h e f = linear_le (s ∷ t ∷ x ∷ y ∷ r ∷ []) (le h ∷ eq e ∷ eq f ∷ []) (search reading_of) tt
 
 none_more : (t a : ℚ) → t ≡ a → a ≡ t +ℚ 0ℚ
-none_more t a e = linear_eq (t ∷ a ∷ []) (eq e ∷ []) (search reading_of depth 12) tt tt
+none_more t a e = linear_eq (t ∷ a ∷ []) (eq e ∷ []) (search reading_of) tt tt
 
 one_more : (t x a r l : ℚ) → x ≡ t +ℚ r → a ≡ x +ℚ l → a ≡ t +ℚ (r +ℚ l)
-one_more t x a r l e f = linear_eq (t ∷ x ∷ a ∷ r ∷ l ∷ []) (eq e ∷ eq f ∷ []) (search reading_of depth 12) tt tt
+one_more t x a r l e f = linear_eq (t ∷ x ∷ a ∷ r ∷ l ∷ []) (eq e ∷ eq f ∷ []) (search reading_of) tt tt
 
 from_none : (l a : ℚ) → a ≡ 0ℚ +ℚ l → l ≡ a
-from_none l a e = linear_eq (l ∷ a ∷ []) (eq e ∷ []) (search reading_of depth 12) tt tt
+from_none l a e = linear_eq (l ∷ a ∷ []) (eq e ∷ []) (search reading_of) tt tt
 
 -- ---- walks
 abbrev pub Takes : List Hop → ℕ → ℚ → ℚ → Type 0
@@ -36,14 +36,14 @@ Comes-sum hops [] t a c = none_more t a c
 Comes-sum hops (e ∷ walk) t a c = one_more t c.0 a (transit_of hops e) (transit_sum hops walk) c.1 (Comes-sum hops walk c.0 a c.2)
 
 sum-comes : (hops : List Hop) (walk : List ℕ) (t a : ℚ) → a ≡ t +ℚ transit_sum hops walk → Comes (Takes hops) walk t a
-sum-comes hops [] t a e = linear_eq (t ∷ a ∷ []) (eq e ∷ []) (search reading_of depth 12) tt tt
+sum-comes hops [] t a e = linear_eq (t ∷ a ∷ []) (eq e ∷ []) (search reading_of) tt tt
 sum-comes hops (f ∷ walk) t a e = (t +ℚ transit_of hops f, refl, sum-comes hops walk (t +ℚ transit_of hops f) a (by_sum t a (transit_of hops f) (transit_sum hops walk) e))
   where
     by_sum : (t a r l : ℚ) → a ≡ t +ℚ (r +ℚ l) → a ≡ (t +ℚ r) +ℚ l
-    by_sum t a r l e = linear_eq (t ∷ a ∷ r ∷ l ∷ []) (eq e ∷ []) (search reading_of depth 12) tt tt
+    by_sum t a r l e = linear_eq (t ∷ a ∷ r ∷ l ∷ []) (eq e ∷ []) (search reading_of) tt tt
 
 zero_sum : (l : ℚ) → l ≡ 0ℚ +ℚ l
-zero_sum l = linear_eq (l ∷ []) [] (search reading_of depth 12) tt tt
+zero_sum l = linear_eq (l ∷ []) [] (search reading_of) tt tt
 
 IsLeastTransit-first : (hops : List Hop) (source v : ℕ) (least : ℚ) → IsFirst hops source (Takes hops) v 0ℚ least → IsLeastTransit hops source v least
 IsLeastTransit-first hops source v least f = record {

@@ -60,16 +60,16 @@ last_hop hops Cross e (f ∷ walk) u v time arrival w c =
 
 -- ---- steps over plain numbers
 no_time : (a b : ℚ) → a ≡ b → a +ℚ 0ℚ ≤ℚ b
-no_time a b e = linear_le (a ∷ b ∷ []) (eq e ∷ []) (search reading_of depth 12) tt
+no_time a b e = linear_le (a ∷ b ∷ []) (eq e ∷ []) (search reading_of) tt
 
 more_time : (a b c r l : ℚ) → a +ℚ r ≤ℚ b → b +ℚ l ≤ℚ c → a +ℚ (r +ℚ l) ≤ℚ c
-more_time a b c r l h k = linear_le (a ∷ b ∷ c ∷ r ∷ l ∷ []) (le h ∷ le k ∷ []) (search reading_of depth 12) tt
+more_time a b c r l h k = linear_le (a ∷ b ∷ c ∷ r ∷ l ∷ []) (le h ∷ le k ∷ []) (search reading_of) tt
 
 no_loop : (a l : ℚ) → a +ℚ l ≤ℚ a → 0ℚ <ℚ l → ⊥
-no_loop a l h k = linear_false (a ∷ l ∷ []) (le h ∷ lt k ∷ []) (search reading_of depth 12) tt
+no_loop a l h k = linear_false (a ∷ l ∷ []) (le h ∷ lt k ∷ []) (search reading_of) tt
 
 goes_on : (t r x : ℚ) → 0ℚ ≤ℚ r → t +ℚ r ≤ℚ x → t ≤ℚ x
-goes_on t r x h k = linear_le (t ∷ r ∷ x ∷ []) (le h ∷ le k ∷ []) (search reading_of depth 12) tt
+goes_on t r x h k = linear_le (t ∷ r ∷ x ∷ []) (le h ∷ le k ∷ []) (search reading_of) tt
 
 -- walks go forward in time
 module _ (hops : List Hop) (nodes : ℕ) (Cross : ℕ → ℚ → ℚ → Type 0) (good : AreHops hops nodes) (can : CanCross hops Cross) where

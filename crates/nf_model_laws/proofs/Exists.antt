@@ -23,7 +23,7 @@ over_piece : (capacity : Option ℚ) (amount : ℚ → ℚ) (start end rate time
 over_piece capacity amount start end rate time line was h k = (queue_after capacity rate was.0 (time -ℚ start), IsQueue-after capacity amount start end rate was.0 time line was.1 h k)
 
 flat : (y t : ℚ) → y ≡ y +ℚ 0ℚ *ℚ t
-flat y t = linear_eq (y ∷ t ∷ []) [] (search reading_of depth 12) tt tt
+flat y t = linear_eq (y ∷ t ∷ []) [] (search reading_of) tt tt
 
 -- after the last point the curve is affine with the slope 0
 pub IsAffine-last : (front : List (ℚ × ℚ)) (p : ℚ × ℚ) (end : ℚ) → IsCurve (front ++ p ∷ []) → IsAffine (value (front ++ p ∷ [])) p.0 end 0ℚ
@@ -57,10 +57,10 @@ HasExit-curve transit capacity points time c h =
     (time +ℚ transit +ℚ waiting capacity q.0, record { queue = q.0; is_queue = q.1; is_sum = refl })
 
 back_on : (time transit : ℚ) → time ≡ time -ℚ transit +ℚ transit
-back_on time transit = linear_eq (time ∷ transit ∷ []) [] (search reading_of depth 12) tt tt
+back_on time transit = linear_eq (time ∷ transit ∷ []) [] (search reading_of) tt tt
 
 since : (time transit : ℚ) → transit ≤ℚ time → 0ℚ ≤ℚ time -ℚ transit
-since time transit h = linear_le (time ∷ transit ∷ []) (le h ∷ []) (search reading_of depth 12) tt
+since time transit h = linear_le (time ∷ transit ∷ []) (le h ∷ []) (search reading_of) tt
 
 pub HasOutflow-curve : (transit : ℚ) (capacity : Option ℚ) (points : List (ℚ × ℚ)) (time : ℚ) → IsCurve points → 0ℚ ≤ℚ time → (out : ℚ) × IsOutflow transit capacity (value points) time out
 HasOutflow-curve transit capacity points time c h = ⊎_elim

@@ -24,10 +24,10 @@ pub IsExtension-unique : (net : Network) (slacks slopes : List ℚ) (time y z : 
 IsExtension-unique net slacks slopes time y z p q = ≤ℚ_antisymm y z (q.greatest y p.lasts) (p.greatest z q.lasts)
 
 one_more : (y : ℚ) → y <ℚ y +ℚ 1ℚ
-one_more y = linear_lt (y ∷ []) [] (search reading_of depth 12) tt
+one_more y = linear_lt (y ∷ []) [] (search reading_of) tt
 
 no_end : (y : ℚ) → 0ℚ ≤ℚ y → 0ℚ ≤ℚ y +ℚ 1ℚ
-no_end y h = linear_le (y ∷ []) (le h ∷ []) (search reading_of depth 12) tt
+no_end y h = linear_le (y ∷ []) (le h ∷ []) (search reading_of) tt
 
 -- where a phase may last for any length there is no extension length
 pub IsExtension-ends : (net : Network) (slacks slopes : List ℚ) (time y : ℚ) → IsExtension net slacks slopes time y → IsUnending net slacks slopes time → ⊥

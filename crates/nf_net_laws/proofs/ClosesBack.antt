@@ -37,10 +37,10 @@ positive_sum hops [] h = refl
 positive_sum hops (e ∷ walk) h =
     let k : transit_sum hops walk ≡ 0ℚ = positive_sum hops walk h.1 in
     let j : transit_of hops e ≡ 0ℚ = h.0 in
-    linear_eq (transit_of hops e ∷ transit_sum hops walk ∷ []) (eq j ∷ eq k ∷ []) (search reading_of depth 12) tt tt
+    linear_eq (transit_of hops e ∷ transit_sum hops walk ∷ []) (eq j ∷ eq k ∷ []) (search reading_of) tt tt
 
 not_both : (x : ℚ) → x ≡ 0ℚ → 0ℚ <ℚ x → ⊥
-not_both x e h = linear_false (x ∷ []) (eq e ∷ lt h ∷ []) (search reading_of depth 12) tt
+not_both x e h = linear_false (x ∷ []) (eq e ∷ lt h ∷ []) (search reading_of) tt
 
 module _ (n : Named) (h : IsNamed n) where
   count_is : length n.node_names ≡ n.net.nodes

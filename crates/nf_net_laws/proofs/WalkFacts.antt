@@ -114,10 +114,10 @@ starts_with_one (i ∷ rest) k e = (i, rest, refl)
 -- ---- sums of transit times that aren't negative
 
 none_left : (a b : ℚ) → 0ℚ ≤ℚ a → 0ℚ ≤ℚ b → a +ℚ b ≤ℚ 0ℚ → a ≡ 0ℚ
-none_left a b h k s = ≤ℚ_antisymm a 0ℚ (linear_le (a ∷ b ∷ []) (le k ∷ le s ∷ []) (search reading_of depth 12) tt) h
+none_left a b h k s = ≤ℚ_antisymm a 0ℚ (linear_le (a ∷ b ∷ []) (le k ∷ le s ∷ []) (search reading_of) tt) h
 
 rest_left : (a b : ℚ) → 0ℚ ≤ℚ a → 0ℚ ≤ℚ b → a +ℚ b ≤ℚ 0ℚ → b ≤ℚ 0ℚ
-rest_left a b h k s = linear_le (a ∷ b ∷ []) (le h ∷ le s ∷ []) (search reading_of depth 12) tt
+rest_left a b h k s = linear_le (a ∷ b ∷ []) (le h ∷ le s ∷ []) (search reading_of) tt
 
 module _ (hops : List Hop) (positive : (e : ℕ) (hop : Hop) → IsHop hops e hop → 0ℚ ≤ℚ hop.transit) where
   transit_nn : (e : ℕ) (hop : Hop) → IsHop hops e hop → 0ℚ ≤ℚ transit_of hops e

@@ -73,13 +73,13 @@ module _ (slacks slopes : List ℚ) where
 
 -- ---- the next change of the inflow rate
 fits : (t x y l : ℚ) → x ≤ℚ y → l ≤ℚ x -ℚ t → (t +ℚ l) ≤ℚ y
-fits t x y l h k = linear_le (t ∷ x ∷ y ∷ l ∷ []) (le h ∷ le k ∷ []) (search reading_of depth 12) tt
+fits t x y l h k = linear_le (t ∷ x ∷ y ∷ l ∷ []) (le h ∷ le k ∷ []) (search reading_of) tt
 
 room : (t x l : ℚ) → (t +ℚ l) ≤ℚ x → l ≤ℚ x -ℚ t
-room t x l h = linear_le (t ∷ x ∷ l ∷ []) (le h ∷ []) (search reading_of depth 12) tt
+room t x l h = linear_le (t ∷ x ∷ l ∷ []) (le h ∷ []) (search reading_of) tt
 
 not_before : (t x : ℚ) → x ≤ℚ t → t <ℚ x → ⊥
-not_before t x h k = linear_false (t ∷ x ∷ []) (le h ∷ lt k ∷ []) (search reading_of depth 12) tt
+not_before t x h k = linear_false (t ∷ x ∷ []) (le h ∷ lt k ∷ []) (search reading_of) tt
 
 -- Each of these pieces starts at this time or later.
 abbrev EachFrom : ℚ → List Piece → Type 0

@@ -50,10 +50,10 @@ end_amount : (c : LinkCurves) (last : Point) → LastPoint c.inflow.points last 
 end_amount c last l = ap (λ (ps : List Point). option_map_or (λ (p : Point). p.1) (last_or None ps) 0ℚ) l.same ∙ ap (λ (o : Option Point). option_map_or (λ (p : Point). p.1) o 0ℚ) (last-append None l.front last)
 
 turn_label : (a b t l : ℚ) → b ≡ a → a +ℚ t *ℚ l ≡ b +ℚ l *ℚ t
-turn_label a b t l e = linear_eq (a ∷ b ∷ t ∷ l ∷ []) (eq e ∷ []) (search reading_of depth 12) tt tt
+turn_label a b t l e = linear_eq (a ∷ b ∷ t ∷ l ∷ []) (eq e ∷ []) (search reading_of) tt tt
 
 time_line : (a y t r : ℚ) → r *ℚ ((a +ℚ t) -ℚ a) ≡ (y +ℚ r *ℚ t) -ℚ y
-time_line a y t r = linear_eq (a ∷ y ∷ t ∷ r ∷ []) [] (search reading_of depth 12) tt tt
+time_line a y t r = linear_eq (a ∷ y ∷ t ∷ r ∷ []) [] (search reading_of) tt tt
 
 module _ (passes : Passing) (net : Network) (good : IsNetwork net) (horizon : ℚ) (s : Standing) (pattern : Pattern) (flows slopes : List ℚ) (step : PhaseStep)
     (well : WellRun net s) (below : s.time <ℚ horizon) (listed : IsListedIn net (sets_at net s.labels) pattern)
@@ -118,7 +118,7 @@ module _ (passes : Passing) (net : Network) (good : IsNetwork net) (horizon : �
         (later s.time step.length some) (time_line s.time (label_now v) step.length (number_at slopes v)) (same_point _ _ _ _ refl (moved_is v h))
       where
         later : (a t : ℚ) → 0ℚ <ℚ t → a <ℚ a +ℚ t
-        later a t k = linear_lt (a ∷ t ∷ []) (lt k ∷ []) (search reading_of depth 12) tt
+        later a t k = linear_lt (a ∷ t ∷ []) (lt k ∷ []) (search reading_of) tt
 
     label_goes : GoesOnTo (curves.labels v) (curves'.labels v) (s.time, label_now v) (s.time +ℚ step.length, label_now v +ℚ number_at slopes v *ℚ step.length)
     label_goes = subst (λ (ps : List Point). GoesOnTo (curves.labels v) ps (s.time, label_now v) (s.time +ℚ step.length, label_now v +ℚ number_at slopes v *ℚ step.length))

@@ -26,14 +26,14 @@ times-quotient : (c m : ℚ) → 0ℚ <ℚ c → c *ℚ m /ℚ c ≡ m
 times-quotient c m h = same_from_times c _ m h (turn (c *ℚ m /ℚ c) c (c *ℚ m) (quotient-times (c *ℚ m) c h))
   where
     turn : (q c p : ℚ) → q *ℚ c ≡ p → c *ℚ q ≡ p
-    turn q c p e = linear_eq (q ∷ c ∷ p ∷ []) (eq e ∷ []) (search reading_of depth 12) tt tt
+    turn q c p e = linear_eq (q ∷ c ∷ p ∷ []) (eq e ∷ []) (search reading_of) tt tt
 
 pub waiting-by_slack : (capacity : Option ℚ) (s : ℚ) → IsPositive capacity → (capacity ≡ None → s ≤ℚ 0ℚ) → waiting capacity (queue_by_slack capacity s) ≡ max_ℚ 0ℚ s
 waiting-by_slack None s c h = sym (max0_none s (h refl))
 waiting-by_slack (Some rate) s c h = times-quotient rate (max_ℚ 0ℚ s) (c rate refl)
 
 times_none : (c m : ℚ) → m ≡ 0ℚ → c *ℚ m ≡ 0ℚ
-times_none c m e = linear_eq (c ∷ m ∷ []) (eq_times c e ∷ []) (search reading_of depth 12) tt tt
+times_none c m e = linear_eq (c ∷ m ∷ []) (eq_times c e ∷ []) (search reading_of) tt tt
 
 pub queue_by_slack-low : (capacity : Option ℚ) (s : ℚ) → s ≤ℚ 0ℚ → queue_by_slack capacity s ≡ 0ℚ
 queue_by_slack-low None s h = refl
@@ -41,10 +41,10 @@ queue_by_slack-low (Some rate) s h = times_none rate _ (max0_none s h)
 
 -- ---- where nothing enters, an empty queue stays empty
 empties : (c z a : ℚ) → 0ℚ ≤ℚ c → a ≤ℚ z → 0ℚ +ℚ (0ℚ -ℚ c) *ℚ (z -ℚ a) ≤ℚ 0ℚ
-empties c z a h k = linear_le (c ∷ z ∷ a ∷ []) (le_times h k ∷ []) (search reading_of depth 12) tt
+empties c z a h k = linear_le (c ∷ z ∷ a ∷ []) (le_times h k ∷ []) (search reading_of) tt
 
 level : (y z a t : ℚ) → y ≡ z → y ≡ z +ℚ 0ℚ *ℚ (t -ℚ a)
-level y z a t e = linear_eq (y ∷ z ∷ a ∷ t ∷ []) (eq e ∷ []) (search reading_of depth 12) tt tt
+level y z a t e = linear_eq (y ∷ z ∷ a ∷ t ∷ []) (eq e ∷ []) (search reading_of) tt tt
 
 pub IsQueue-stays_empty : (capacity : Option ℚ) (amount : ℚ → ℚ) (start time : ℚ) → IsPositive capacity → start ≤ℚ time
     → ((t : ℚ) → start ≤ℚ t → t ≤ℚ time → amount t ≡ amount start) → IsQueue capacity amount start 0ℚ → IsQueue capacity amount time 0ℚ

@@ -33,7 +33,7 @@ queue_moves link true flow slope step h = refl
 queue_moves link false flow slope step h = absurd (none_some step h)
 
 further : (x t r : ℚ) → 0ℚ <ℚ t *ℚ r → x <ℚ x +ℚ t *ℚ r
-further x t r h = linear_lt (x ∷ (t *ℚ r) ∷ []) (lt h ∷ []) (search reading_of depth 12) tt
+further x t r h = linear_lt (x ∷ (t *ℚ r) ∷ []) (lt h ∷ []) (search reading_of) tt
 
 -- ---- one phase
 module _ (passes : Passing) (net : Network) (s : Standing) (pattern : Pattern) (flows slopes : List ℚ) (step : PhaseStep) (parts : PhaseParts passes net s pattern flows slopes step)

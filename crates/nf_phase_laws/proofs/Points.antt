@@ -27,7 +27,7 @@ same_of_test x y e = let both : (le_ℚ x y ≡ true) × (le_ℚ y x ≡ true) =
 
 -- ---- the slope from one point to another
 same_times : (a n r x : ℚ) → n *ℚ a ≡ x → r *ℚ a ≡ x → a *ℚ n ≡ a *ℚ r
-same_times a n r x e f = linear_eq (a ∷ n ∷ r ∷ x ∷ []) (eq e ∷ eq f ∷ []) (search reading_of depth 12) tt tt
+same_times a n r x e f = linear_eq (a ∷ n ∷ r ∷ x ∷ []) (eq e ∷ eq f ∷ []) (search reading_of) tt tt
 
 pub slope_is : (p q : Point) (r : ℚ) → p.0 <ℚ q.0 → r *ℚ (q.0 -ℚ p.0) ≡ q.1 -ℚ p.1 → slope p q ≡ r
 slope_is p q r h e = same_from_times (q.0 -ℚ p.0) (slope p q) r (less_ps p.0 q.0 h) (same_times (q.0 -ℚ p.0) (slope p q) r _ (slope-times p q h) e)
@@ -36,7 +36,7 @@ add_times : (p0 p1 q0 q1 s0 s1 m n r : ℚ) → m *ℚ (q0 -ℚ p0) ≡ q1 -ℚ 
 add_times p0 p1 q0 q1 s0 s1 m n r e f g h = added (subst (λ (z : ℚ). z *ℚ (q0 -ℚ p0) ≡ q1 -ℚ p1) g e) (subst (λ (z : ℚ). z *ℚ (s0 -ℚ q0) ≡ s1 -ℚ q1) h f)
   where
     added : r *ℚ (q0 -ℚ p0) ≡ q1 -ℚ p1 → r *ℚ (s0 -ℚ q0) ≡ s1 -ℚ q1 → r *ℚ (s0 -ℚ p0) ≡ s1 -ℚ p1
-    added e f = linear_eq (p0 ∷ p1 ∷ q0 ∷ q1 ∷ s0 ∷ s1 ∷ r ∷ []) (eq e ∷ eq f ∷ []) (search reading_of depth 12) tt tt
+    added e f = linear_eq (p0 ∷ p1 ∷ q0 ∷ q1 ∷ s0 ∷ s1 ∷ r ∷ []) (eq e ∷ eq f ∷ []) (search reading_of) tt tt
 
 slope-joined : (p q s : Point) (r : ℚ) → p.0 <ℚ q.0 → q.0 <ℚ s.0 → p.0 <ℚ s.0 → slope p q ≡ r → slope q s ≡ r → slope p s ≡ r
 slope-joined p q s r h k l e f = slope_is p s r l (add_times p.0 p.1 q.0 q.1 s.0 s.1 (slope p q) (slope q s) r (slope-times p q h) (slope-times q s k) e f)

@@ -21,31 +21,31 @@ pub record KeepsSide (slack change length : ℚ) : Type 0 where
 
 -- ---- over plain numbers
 never_less : (x : ℚ) → x <ℚ 0ℚ → 0ℚ <ℚ x → ⊥
-never_less x h k = linear_false (x ∷ []) (lt h ∷ lt k ∷ []) (search reading_of depth 12) tt
+never_less x h k = linear_false (x ∷ []) (lt h ∷ lt k ∷ []) (search reading_of) tt
 
 stays_below : (s c w : ℚ) → s <ℚ 0ℚ → c ≤ℚ 0ℚ → 0ℚ ≤ℚ w → (s +ℚ w *ℚ c) ≤ℚ 0ℚ
-stays_below s c w h k p = linear_le (s ∷ c ∷ w ∷ []) (lt h ∷ le_times p k ∷ []) (search reading_of depth 12) tt
+stays_below s c w h k p = linear_le (s ∷ c ∷ w ∷ []) (lt h ∷ le_times p k ∷ []) (search reading_of) tt
 
 stays_above : (s c w : ℚ) → 0ℚ <ℚ s → 0ℚ ≤ℚ c → 0ℚ ≤ℚ w → 0ℚ ≤ℚ (s +ℚ w *ℚ c)
-stays_above s c w h k p = linear_le (s ∷ c ∷ w ∷ []) (lt h ∷ le_times p k ∷ []) (search reading_of depth 12) tt
+stays_above s c w h k p = linear_le (s ∷ c ∷ w ∷ []) (lt h ∷ le_times p k ∷ []) (search reading_of) tt
 
 module _ (s c x : ℚ) (meets : x *ℚ c ≡ 0ℚ -ℚ s) where
   -- a slack below 0 that rises
   rising_positive : s <ℚ 0ℚ → 0ℚ <ℚ c → 0ℚ <ℚ x
   rising_positive below rises = ⊎_elim
       (λ (h : 0ℚ <ℚ x). h)
-      (λ (h : x ≤ℚ 0ℚ). absurd (linear_false (s ∷ c ∷ x ∷ []) (lt below ∷ eq meets ∷ le_times (weak c rises) h ∷ []) (search reading_of depth 12) tt))
+      (λ (h : x ≤ℚ 0ℚ). absurd (linear_false (s ∷ c ∷ x ∷ []) (lt below ∷ eq meets ∷ le_times (weak c rises) h ∷ []) (search reading_of) tt))
       (lt_or_le_ℚ 0ℚ x)
     where
       weak : (c : ℚ) → 0ℚ <ℚ c → 0ℚ ≤ℚ c
-      weak c h = linear_le (c ∷ []) (lt h ∷ []) (search reading_of depth 12) tt
+      weak c h = linear_le (c ∷ []) (lt h ∷ []) (search reading_of) tt
 
   rising_within : (w : ℚ) → 0ℚ ≤ℚ c → w ≤ℚ x → (s +ℚ w *ℚ c) ≤ℚ 0ℚ
-  rising_within w rises h = linear_le (s ∷ c ∷ x ∷ w ∷ []) (eq meets ∷ le_times rises h ∷ []) (search reading_of depth 12) tt
+  rising_within w rises h = linear_le (s ∷ c ∷ x ∷ w ∷ []) (eq meets ∷ le_times rises h ∷ []) (search reading_of) tt
 
   rising_bound : (w : ℚ) → 0ℚ <ℚ c → (s +ℚ w *ℚ c) ≤ℚ 0ℚ → w ≤ℚ x
   rising_bound w rises h = ⊎_elim
-      (λ (k : x <ℚ w). absurd (linear_false (s ∷ c ∷ x ∷ w ∷ []) (eq meets ∷ le h ∷ lt (ps_times (w -ℚ x) c (less_ps x w k) rises) ∷ []) (search reading_of depth 12) tt))
+      (λ (k : x <ℚ w). absurd (linear_false (s ∷ c ∷ x ∷ w ∷ []) (eq meets ∷ le h ∷ lt (ps_times (w -ℚ x) c (less_ps x w k) rises) ∷ []) (search reading_of) tt))
       (λ (k : w ≤ℚ x). k)
       (lt_or_le_ℚ x w)
 
@@ -53,21 +53,21 @@ module _ (s c x : ℚ) (meets : x *ℚ c ≡ 0ℚ -ℚ s) where
   falling_positive : 0ℚ <ℚ s → c <ℚ 0ℚ → 0ℚ <ℚ x
   falling_positive above falls = ⊎_elim
       (λ (h : 0ℚ <ℚ x). h)
-      (λ (h : x ≤ℚ 0ℚ). absurd (linear_false (s ∷ c ∷ x ∷ []) (lt above ∷ eq meets ∷ le_times (weak c falls) h ∷ []) (search reading_of depth 12) tt))
+      (λ (h : x ≤ℚ 0ℚ). absurd (linear_false (s ∷ c ∷ x ∷ []) (lt above ∷ eq meets ∷ le_times (weak c falls) h ∷ []) (search reading_of) tt))
       (lt_or_le_ℚ 0ℚ x)
     where
       weak : (c : ℚ) → c <ℚ 0ℚ → 0ℚ ≤ℚ 0ℚ -ℚ c
-      weak c h = linear_le (c ∷ []) (lt h ∷ []) (search reading_of depth 12) tt
+      weak c h = linear_le (c ∷ []) (lt h ∷ []) (search reading_of) tt
 
   falling_within : (w : ℚ) → c <ℚ 0ℚ → w ≤ℚ x → 0ℚ ≤ℚ (s +ℚ w *ℚ c)
-  falling_within w falls h = linear_le (s ∷ c ∷ x ∷ w ∷ []) (eq meets ∷ le_times (weak c falls) h ∷ []) (search reading_of depth 12) tt
+  falling_within w falls h = linear_le (s ∷ c ∷ x ∷ w ∷ []) (eq meets ∷ le_times (weak c falls) h ∷ []) (search reading_of) tt
     where
       weak : (c : ℚ) → c <ℚ 0ℚ → 0ℚ ≤ℚ 0ℚ -ℚ c
-      weak c h = linear_le (c ∷ []) (lt h ∷ []) (search reading_of depth 12) tt
+      weak c h = linear_le (c ∷ []) (lt h ∷ []) (search reading_of) tt
 
   falling_bound : (w : ℚ) → c <ℚ 0ℚ → 0ℚ ≤ℚ (s +ℚ w *ℚ c) → w ≤ℚ x
   falling_bound w falls h = ⊎_elim
-      (λ (k : x <ℚ w). absurd (linear_false (s ∷ c ∷ x ∷ w ∷ []) (eq meets ∷ le h ∷ lt (ps_times (w -ℚ x) (0ℚ -ℚ c) (less_ps x w k) (less_ps c 0ℚ falls)) ∷ []) (search reading_of depth 12) tt))
+      (λ (k : x <ℚ w). absurd (linear_false (s ∷ c ∷ x ∷ w ∷ []) (eq meets ∷ le h ∷ lt (ps_times (w -ℚ x) (0ℚ -ℚ c) (less_ps x w k) (less_ps c 0ℚ falls)) ∷ []) (search reading_of) tt))
       (λ (k : w ≤ℚ x). k)
       (lt_or_le_ℚ x w)
 
@@ -123,10 +123,10 @@ keeps_at_zero s c e length h = record {
 }
   where
     not_less : s ≡ 0ℚ → s <ℚ 0ℚ → ⊥
-    not_less e h = linear_false (s ∷ []) (eq e ∷ lt h ∷ []) (search reading_of depth 12) tt
+    not_less e h = linear_false (s ∷ []) (eq e ∷ lt h ∷ []) (search reading_of) tt
 
     not_more : s ≡ 0ℚ → 0ℚ <ℚ s → ⊥
-    not_more e h = linear_false (s ∷ []) (eq e ∷ lt h ∷ []) (search reading_of depth 12) tt
+    not_more e h = linear_false (s ∷ []) (eq e ∷ lt h ∷ []) (search reading_of) tt
 
 pub keeps_away : (s c : ℚ) → are_opposite s c ≡ false → HoldsAlways (KeepsSide s c)
 keeps_away s c e length h = record {
@@ -162,7 +162,7 @@ module _ (s c : ℚ) where
   }
     where
       apart : c ≡ 0ℚ → ⊥
-      apart e = linear_false (c ∷ []) (eq e ∷ lt falls ∷ []) (search reading_of depth 12) tt
+      apart e = linear_false (c ∷ []) (eq e ∷ lt falls ∷ []) (search reading_of) tt
 
       x : ℚ
       x = (0ℚ -ℚ s) /ℚ c

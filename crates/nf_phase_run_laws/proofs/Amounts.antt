@@ -35,7 +35,7 @@ with-amount true points p = ap (λ (o : Option Point). option_map_or (λ (p : Po
 with-amount false points p = ap (λ (o : Option Point). option_map_or (λ (p : Point). p.1) o 0ℚ) (last-append None points p)
 
 none_more : (x l f : ℚ) → f ≡ 0ℚ → x ≡ x +ℚ l *ℚ f
-none_more x l f e = linear_eq (x ∷ l ∷ f ∷ []) (eq_times l e ∷ []) (search reading_of depth 12) tt tt
+none_more x l f e = linear_eq (x ∷ l ∷ f ∷ []) (eq_times l e ∷ []) (search reading_of) tt tt
 
 module _ (passes : Passing) (net : Network) (good : IsNetwork net) (s : Standing) (pattern : Pattern) (flows slopes : List ℚ) (step : PhaseStep) (well : WellRun net s)
     (not_negative : (v : ℕ) → 0ℚ ≤ℚ number_at slopes v) (still : (e : ℕ) (link : Link) → IsLink net e link → number_at slopes link.tail ≡ 0ℚ → number_at flows e ≡ 0ℚ)

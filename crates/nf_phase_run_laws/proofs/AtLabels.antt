@@ -44,7 +44,7 @@ module _ (net : Network) (amount by_label : ℕ → ℚ → ℚ) (until departur
   slack-is e link p = same_slack _ _ _ _ link.transit (are link.head (good.heads e link p)) (are link.tail (good.tails e link p))
     where
       same_slack : (b a d c r : ℚ) → b ≡ d → a ≡ c → b -ℚ (a +ℚ r) ≡ d -ℚ (c +ℚ r)
-      same_slack b a d c r e f = linear_eq (b ∷ a ∷ d ∷ c ∷ r ∷ []) (eq e ∷ eq f ∷ []) (search reading_of depth 12) tt tt
+      same_slack b a d c r e f = linear_eq (b ∷ a ∷ d ∷ c ∷ r ∷ []) (eq e ∷ eq f ∷ []) (search reading_of) tt tt
 
   entered : EachIsEntered net (sets_at net labels)
   entered v h other =

@@ -105,7 +105,7 @@ module _ (passes : Passing) (net : Network) where
       standing = restored passes net good a b c.before last c.after c.well c.knows c.goes c.whole c.short
 
       sooner : (t l m : ℚ) → l <ℚ m → t +ℚ l <ℚ t +ℚ m
-      sooner t l m h = linear_lt (t ∷ l ∷ m ∷ []) (lt h ∷ []) (search reading_of depth 12) tt
+      sooner t l m h = linear_lt (t ∷ l ∷ m ∷ []) (lt h ∷ []) (search reading_of) tt
 
       not_there : standing.time ≡ r.horizon → ⊥
       not_there e = not_both_ℚ _ _ (<_≤_trans _ _ _ (sooner c.before.time c.goes.step.length c.whole.step.length c.short)

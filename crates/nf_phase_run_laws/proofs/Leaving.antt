@@ -13,21 +13,21 @@ use Rattle.nf_model_laws.specs.Capacity.{IsPositive}
 
 -- ---- over plain numbers
 since_then : (time transit : ℚ) → transit ≤ℚ time → 0ℚ ≤ℚ time -ℚ transit
-since_then time transit h = linear_le (time ∷ transit ∷ []) (le h ∷ []) (search reading_of depth 12) tt
+since_then time transit h = linear_le (time ∷ transit ∷ []) (le h ∷ []) (search reading_of) tt
 
 less_transit : (s t transit : ℚ) → s ≤ℚ t → s -ℚ transit ≤ℚ t -ℚ transit
-less_transit s t transit h = linear_le (s ∷ t ∷ transit ∷ []) (le h ∷ []) (search reading_of depth 12) tt
+less_transit s t transit h = linear_le (s ∷ t ∷ transit ∷ []) (le h ∷ []) (search reading_of) tt
 
 served : (a c u t : ℚ) → 0ℚ ≤ℚ a → 0ℚ <ℚ c → t ≤ℚ u → 0ℚ ≤ℚ a +ℚ c *ℚ (u -ℚ t)
-served a c u t h k l = linear_le (a ∷ c ∷ u ∷ t ∷ []) (le h ∷ le_times (≤ℚ_of_lt _ _ k) l ∷ []) (search reading_of depth 12) tt
+served a c u t h k l = linear_le (a ∷ c ∷ u ∷ t ∷ []) (le h ∷ le_times (≤ℚ_of_lt _ _ k) l ∷ []) (search reading_of) tt
 
 -- served since the same time, up to an earlier one and a later one
 served_longer : (y z a c u v t : ℚ) → y ≤ℚ a +ℚ c *ℚ (u -ℚ t) → a +ℚ c *ℚ (v -ℚ t) ≡ z → u ≤ℚ v → 0ℚ <ℚ c → y ≤ℚ z
-served_longer y z a c u v t h e l k = linear_le (y ∷ z ∷ a ∷ c ∷ u ∷ v ∷ t ∷ []) (le h ∷ eq e ∷ le_times (≤ℚ_of_lt _ _ k) l ∷ []) (search reading_of depth 12) tt
+served_longer y z a c u v t h e l k = linear_le (y ∷ z ∷ a ∷ c ∷ u ∷ v ∷ t ∷ []) (le h ∷ eq e ∷ le_times (≤ℚ_of_lt _ _ k) l ∷ []) (search reading_of) tt
 
 -- a has entered by u, and b by the later time t
 served_later : (y z a b c u v t : ℚ) → y ≤ℚ a +ℚ c *ℚ (u -ℚ u) → a ≤ℚ b → b +ℚ c *ℚ (v -ℚ t) ≡ z → t ≤ℚ v → 0ℚ <ℚ c → y ≤ℚ z
-served_later y z a b c u v t h i e l k = linear_le (y ∷ z ∷ a ∷ b ∷ c ∷ u ∷ v ∷ t ∷ []) (le h ∷ le i ∷ eq e ∷ le_times (≤ℚ_of_lt _ _ k) l ∷ []) (search reading_of depth 12) tt
+served_later y z a b c u v t h i e l k = linear_le (y ∷ z ∷ a ∷ b ∷ c ∷ u ∷ v ∷ t ∷ []) (le h ∷ le i ∷ eq e ∷ le_times (≤ℚ_of_lt _ _ k) l ∷ []) (search reading_of) tt
 
 module _ (transit : ℚ) (amount : ℚ → ℚ) (rises : NeverFalls amount) (starts : amount 0ℚ ≡ 0ℚ) where
   amount_nn : (t : ℚ) → 0ℚ ≤ℚ t → 0ℚ ≤ℚ amount t

@@ -78,7 +78,7 @@ module _ (net : Network) (horizon time time' : ℚ) (labels labels' : List ℚ) 
   some = IsPhaseLength-some net (slacks_of (hops net) labels) phase.slopes time horizon phase.length phase.before phase.is_length
 
   later : (a d : ℚ) → 0ℚ <ℚ d → a <ℚ a +ℚ d
-  later a d h = linear_lt (a ∷ d ∷ []) (lt h ∷ []) (search reading_of depth 12) tt
+  later a d h = linear_lt (a ∷ d ∷ []) (lt h ∷ []) (search reading_of) tt
 
   -- Each label curve is extended by a point, and each inflow is if the label of its tail rises.
   abbrev new_labels : ℕ → List Point

@@ -46,7 +46,7 @@ rate-within net slacks slopes time whole done lasts some short =
     (lt_or_le_ℚ (time +ℚ done) piece.start))
   where
     later : (t d : ℚ) → 0ℚ ≤ℚ d → t ≤ℚ t +ℚ d
-    later t d h = linear_le (t ∷ d ∷ []) (le h ∷ []) (search reading_of depth 12) tt
+    later t d h = linear_le (t ∷ d ∷ []) (le h ∷ []) (search reading_of) tt
 
     too_soon : (t d w x : ℚ) → d <ℚ w → t +ℚ w ≤ℚ x → x ≤ℚ t +ℚ d → ⊥
-    too_soon t d w x h k l = linear_false (t ∷ d ∷ w ∷ x ∷ []) (lt h ∷ le k ∷ le l ∷ []) (search reading_of depth 12) tt
+    too_soon t d w x h k l = linear_false (t ∷ d ∷ w ∷ x ∷ []) (lt h ∷ le k ∷ le l ∷ []) (search reading_of) tt

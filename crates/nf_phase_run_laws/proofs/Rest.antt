@@ -58,16 +58,16 @@ min-left H t l x = ⊎_elim
     (min_ℚ_cases (H -ℚ (t +ℚ l)) (x -ℚ l))
   where
     to_horizon : l +ℚ (H -ℚ (t +ℚ l)) ≡ H -ℚ t
-    to_horizon = linear_eq (H ∷ t ∷ l ∷ []) [] (search reading_of depth 12) tt tt
+    to_horizon = linear_eq (H ∷ t ∷ l ∷ []) [] (search reading_of) tt tt
 
     to_end : l +ℚ (x -ℚ l) ≡ x
-    to_end = linear_eq (x ∷ l ∷ []) [] (search reading_of depth 12) tt tt
+    to_end = linear_eq (x ∷ l ∷ []) [] (search reading_of) tt tt
 
     sooner : H -ℚ (t +ℚ l) ≤ℚ x -ℚ l → x <ℚ H -ℚ t → ⊥
-    sooner h k = linear_false (H ∷ t ∷ l ∷ x ∷ []) (le h ∷ lt k ∷ []) (search reading_of depth 12) tt
+    sooner h k = linear_false (H ∷ t ∷ l ∷ x ∷ []) (le h ∷ lt k ∷ []) (search reading_of) tt
 
     later : x -ℚ l <ℚ H -ℚ (t +ℚ l) → H -ℚ t ≤ℚ x → ⊥
-    later h k = linear_false (H ∷ t ∷ l ∷ x ∷ []) (lt h ∷ le k ∷ []) (search reading_of depth 12) tt
+    later h k = linear_false (H ∷ t ∷ l ∷ x ∷ []) (lt h ∷ le k ∷ []) (search reading_of) tt
 
 below_min : (l a x m : ℚ) → l <ℚ m → m ≡ min_ℚ a x → l <ℚ x
 below_min l a x m h e = <_≤_trans _ _ _ (subst (λ (z : ℚ). l <ℚ z) e h) (min_right a x)
@@ -139,7 +139,7 @@ module _ (passes : Passing) (net : Network) (good : IsNetwork net) (a b : Bounds
       long
     where
       over_0 : (d l : ℚ) → 0ℚ <ℚ d → d <ℚ l → 0ℚ <ℚ l
-      over_0 d l h k = linear_lt (d ∷ l ∷ []) (lt h ∷ lt k ∷ []) (search reading_of depth 12) tt
+      over_0 d l h k = linear_lt (d ∷ l ∷ []) (lt h ∷ lt k ∷ []) (search reading_of) tt
 
   pub opened : IsOpen net restored
   opened = IsOpen-cut net good s.labels slopes s.time done pattern listed.states count not_negative restored first.labels refl refl longer.most longer.lasts some longer.beyond
@@ -230,10 +230,10 @@ module _ (passes : Passing) (net : Network) (good : IsNetwork net) (a b : Bounds
         long
       where
         both : (d m : ℚ) → 0ℚ ≤ℚ d → 0ℚ ≤ℚ m → 0ℚ ≤ℚ d +ℚ m
-        both d m h k = linear_le (d ∷ m ∷ []) (le h ∷ le k ∷ []) (search reading_of depth 12) tt
+        both d m h k = linear_le (d ∷ m ∷ []) (le h ∷ le k ∷ []) (search reading_of) tt
 
         all_left : (d H t : ℚ) → d +ℚ (H -ℚ (t +ℚ d)) ≡ H -ℚ t
-        all_left d H t = linear_eq (d ∷ H ∷ t ∷ []) [] (search reading_of depth 12) tt tt
+        all_left d H t = linear_eq (d ∷ H ∷ t ∷ []) [] (search reading_of) tt tt
 
     -- ---- the result
     labels_are : k.step.labels ≡ h.step.labels
@@ -243,7 +243,7 @@ module _ (passes : Passing) (net : Network) (good : IsNetwork net) (a b : Bounds
     time_is = together s.time done k.step.length h.step.length lengths
       where
         together : (t d l w : ℚ) → d +ℚ l ≡ w → (t +ℚ d) +ℚ l ≡ t +ℚ w
-        together t d l w e = linear_eq (t ∷ d ∷ l ∷ w ∷ []) (eq e ∷ []) (search reading_of depth 12) tt tt
+        together t d l w e = linear_eq (t ∷ d ∷ l ∷ w ∷ []) (eq e ∷ []) (search reading_of) tt tt
 
     labels_long : length g.step.labels ≡ length h.step.labels
     labels_long = ap length first.labels ∙ moved-length s.labels slopes done h.step.length ∙ sym (ap length whole.labels)

@@ -44,10 +44,10 @@ cut-ends net slacks slopes time a b l m (inl p) (inr q) h = absurd (IsExtension-
 cut-ends net slacks slopes time a b l m (inr p) q h = p.1
 
 ends_there : (t a l : ℚ) → l ≡ a -ℚ t → t +ℚ l ≡ a
-ends_there t a l e = linear_eq (t ∷ a ∷ l ∷ []) (eq e ∷ []) (search reading_of depth 12) tt tt
+ends_there t a l e = linear_eq (t ∷ a ∷ l ∷ []) (eq e ∷ []) (search reading_of) tt tt
 
 longer_ends : (t l m : ℚ) → l <ℚ m → t +ℚ l <ℚ t +ℚ m
-longer_ends t l m h = linear_lt (t ∷ l ∷ m ∷ []) (lt h ∷ []) (search reading_of depth 12) tt
+longer_ends t l m h = linear_lt (t ∷ l ∷ m ∷ []) (lt h ∷ []) (search reading_of) tt
 
 pub some_cause : (c : Cause ℚ) (o : Option (Cause ℚ)) → o ≡ Some c → o ≡ None → ⊥
 some_cause c o e f = none-some c (sym f ∙ e)

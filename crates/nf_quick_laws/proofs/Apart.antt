@@ -64,13 +64,13 @@ IsResidualWalk-split net flows (step ∷ walk) more u w p =
 
 -- ---- numbers
 without_less : (a b c s : ℚ) → 0ℚ ≤ℚ b → s ≡ a +ℚ (b +ℚ c) → a +ℚ c ≤ℚ s
-without_less a b c s h e = linear_le (a ∷ b ∷ c ∷ s ∷ []) (le h ∷ eq e ∷ []) (search reading_of depth 12) tt
+without_less a b c s h e = linear_le (a ∷ b ∷ c ∷ s ∷ []) (le h ∷ eq e ∷ []) (search reading_of) tt
 
 front_less : (a b c s t : ℚ) → s ≡ a +ℚ c → t ≡ b +ℚ c → s ≤ℚ t → a ≤ℚ b
-front_less a b c s t e f h = linear_le (a ∷ b ∷ c ∷ s ∷ t ∷ []) (eq e ∷ eq f ∷ le h ∷ []) (search reading_of depth 12) tt
+front_less a b c s t e f h = linear_le (a ∷ b ∷ c ∷ s ∷ t ∷ []) (eq e ∷ eq f ∷ le h ∷ []) (search reading_of) tt
 
 one_on : (a l s : ℚ) → s ≡ a +ℚ (l +ℚ 0ℚ) → s ≡ a +ℚ l
-one_on a l s e = linear_eq (a ∷ l ∷ s ∷ []) (eq e ∷ []) (search reading_of depth 12) tt tt
+one_on a l s e = linear_eq (a ∷ l ∷ s ∷ []) (eq e ∷ []) (search reading_of) tt tt
 
 module _ (net : Network) (flows : List ℚ) (from to : ℕ) (all : List Step) (closed : (walk : List Step) (v : ℕ) → IsResidualWalk net flows walk v v → 0ℚ ≤ℚ walk_length net walk)
     (first : IsFirstWalk net flows from to all) where

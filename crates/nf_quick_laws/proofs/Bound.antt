@@ -18,7 +18,7 @@ use Rattle.nf_quick_laws.proofs.Amounts.{link_bound}
 use Rattle.nf_rational_laws.proofs.Chains.{≤ℚ_refl, ≤ℚ_trans}
 
 add_le : (a b c d : ℚ) → a ≤ℚ b → c ≤ℚ d → a +ℚ c ≤ℚ b +ℚ d
-add_le a b c d h k = linear_le (a ∷ b ∷ c ∷ d ∷ []) (le h ∷ le k ∷ []) (search reading_of depth 12) tt
+add_le a b c d h k = linear_le (a ∷ b ∷ c ∷ d ∷ []) (le h ∷ le k ∷ []) (search reading_of) tt
 
 -- link by link
 pub across-le : (links : List Link) (f g : ℕ → ℕ → ℚ) (cut : List ℚ)
@@ -28,10 +28,10 @@ across-le [] f g cut h = ≤ℚ_refl 0ℚ
 across-le (link ∷ links) f g cut h = add_le _ _ _ _ (h 0 link refl) (across-le links (λ e. f (suc e)) (λ e. g (suc e)) cut (λ e l p. h (suc e) l p))
 
 less_nn : (a b : ℚ) → b ≤ℚ a → 0ℚ ≤ℚ a -ℚ b
-less_nn a b h = linear_le (a ∷ b ∷ []) (le h ∷ []) (search reading_of depth 12) tt
+less_nn a b h = linear_le (a ∷ b ∷ []) (le h ∷ []) (search reading_of) tt
 
 both_none : (a b : ℚ) → a ≡ 0ℚ → b ≡ 0ℚ → 0ℚ ≤ℚ a -ℚ b
-both_none a b e f = linear_le (a ∷ b ∷ []) (eq e ∷ eq f ∷ []) (search reading_of depth 12) tt
+both_none a b e f = linear_le (a ∷ b ∷ []) (eq e ∷ eq f ∷ []) (search reading_of) tt
 
 module _ (net : Network) (entered left : ℕ → ℚ → ℚ) (time : ℚ) (cut : List ℚ) (good : IsNetwork net) (feasible : IsFeasible net entered left) (is_cut : IsCut net time cut) where
   abbrev out_at : ℕ → ℕ → ℚ

@@ -18,13 +18,13 @@ use Rattle.std.proofs.lemmas.Option.{same_Some}
 
 -- ---- link by link
 none_and : (a b : ℚ) → a ≡ 0ℚ → b ≡ 0ℚ → a +ℚ b ≡ 0ℚ
-none_and a b e f = linear_eq (a ∷ b ∷ []) (eq e ∷ eq f ∷ []) (search reading_of depth 12) tt tt
+none_and a b e f = linear_eq (a ∷ b ∷ []) (eq e ∷ eq f ∷ []) (search reading_of) tt tt
 
 one_and : (a b c : ℚ) → a ≡ c → b ≡ 0ℚ → a +ℚ b ≡ c
-one_and a b c e f = linear_eq (a ∷ b ∷ c ∷ []) (eq e ∷ eq f ∷ []) (search reading_of depth 12) tt tt
+one_and a b c e f = linear_eq (a ∷ b ∷ c ∷ []) (eq e ∷ eq f ∷ []) (search reading_of) tt tt
 
 none_on : (a b c : ℚ) → a ≡ 0ℚ → b ≡ c → a +ℚ b ≡ c
-none_on a b c e f = linear_eq (a ∷ b ∷ c ∷ []) (eq e ∷ eq f ∷ []) (search reading_of depth 12) tt tt
+none_on a b c e f = linear_eq (a ∷ b ∷ c ∷ []) (eq e ∷ eq f ∷ []) (search reading_of) tt tt
 
 pub choose : (b : Bool) (x y : ℚ) → b ≡ true → (if b then x else y) ≡ x
 choose true x y e = refl
@@ -65,15 +65,15 @@ crossed-cases P (step ∷ walk) e apart each = ⊎_elim
 
 -- ---- sums with one term, and sums of sums
 if_one : (b : Bool) (a s : ℚ) → s ≡ 0ℚ → (if b then a +ℚ s else s) ≡ (if b then a else 0ℚ)
-if_one true a s e = linear_eq (a ∷ s ∷ []) (eq e ∷ []) (search reading_of depth 12) tt tt
+if_one true a s e = linear_eq (a ∷ s ∷ []) (eq e ∷ []) (search reading_of) tt tt
 if_one false a s e = e
 
 if_none : (b : Bool) (a s t : ℚ) → a ≡ 0ℚ → s ≡ t → (if b then a +ℚ s else s) ≡ t
-if_none true a s t e f = linear_eq (a ∷ s ∷ t ∷ []) (eq e ∷ eq f ∷ []) (search reading_of depth 12) tt tt
+if_none true a s t e f = linear_eq (a ∷ s ∷ t ∷ []) (eq e ∷ eq f ∷ []) (search reading_of) tt tt
 if_none false a s t e f = f
 
 if_plus : (b : Bool) (a c s t u : ℚ) → s ≡ t +ℚ u → (if b then (a +ℚ c) +ℚ s else s) ≡ (if b then a +ℚ t else t) +ℚ (if b then c +ℚ u else u)
-if_plus true a c s t u e = linear_eq (a ∷ c ∷ s ∷ t ∷ u ∷ []) (eq e ∷ []) (search reading_of depth 12) tt tt
+if_plus true a c s t u e = linear_eq (a ∷ c ∷ s ∷ t ∷ u ∷ []) (eq e ∷ []) (search reading_of) tt tt
 if_plus false a c s t u e = e
 
 zero_other : (e : ℕ) → zero ≢ suc e
@@ -102,22 +102,22 @@ sum_in-only (l ∷ links) f zero link v p h =
 sum_in-only (l ∷ links) f (suc k) link v p h = if_none (eqb l.head v) (f 0) _ _ (h 0 (suc_first k)) (sum_in-only links (λ e. f (suc e)) k link v p (λ e other. h (suc e) (suc_other k e other)))
 
 pub sum_out-plus : (links : List Link) (f g : ℕ → ℚ) (v : ℕ) → sum_out links (λ e. f e +ℚ g e) v ≡ sum_out links f v +ℚ sum_out links g v
-sum_out-plus [] f g v = linear_eq [] [] (search reading_of depth 12) tt tt
+sum_out-plus [] f g v = linear_eq [] [] (search reading_of) tt tt
 sum_out-plus (link ∷ links) f g v = if_plus (eqb link.tail v) (f 0) (g 0) _ _ _ (sum_out-plus links (λ e. f (suc e)) (λ e. g (suc e)) v)
 
 pub sum_in-plus : (links : List Link) (f g : ℕ → ℚ) (v : ℕ) → sum_in links (λ e. f e +ℚ g e) v ≡ sum_in links f v +ℚ sum_in links g v
-sum_in-plus [] f g v = linear_eq [] [] (search reading_of depth 12) tt tt
+sum_in-plus [] f g v = linear_eq [] [] (search reading_of) tt tt
 sum_in-plus (link ∷ links) f g v = if_plus (eqb link.head v) (f 0) (g 0) _ _ _ (sum_in-plus links (λ e. f (suc e)) (λ e. g (suc e)) v)
 
 -- the same of costs
 cost_none : (r a s : ℚ) → a ≡ 0ℚ → s ≡ 0ℚ → r *ℚ a +ℚ s ≡ 0ℚ
-cost_none r a s e f = linear_eq (r ∷ a ∷ s ∷ []) (eq_times r e ∷ eq f ∷ []) (search reading_of depth 12) tt tt
+cost_none r a s e f = linear_eq (r ∷ a ∷ s ∷ []) (eq_times r e ∷ eq f ∷ []) (search reading_of) tt tt
 
 cost_first : (r a s : ℚ) → s ≡ 0ℚ → r *ℚ a +ℚ s ≡ r *ℚ a
-cost_first r a s f = linear_eq (r ∷ a ∷ s ∷ []) (eq f ∷ []) (search reading_of depth 12) tt tt
+cost_first r a s f = linear_eq (r ∷ a ∷ s ∷ []) (eq f ∷ []) (search reading_of) tt tt
 
 cost_later : (r a s t : ℚ) → a ≡ 0ℚ → s ≡ t → r *ℚ a +ℚ s ≡ t
-cost_later r a s t e f = linear_eq (r ∷ a ∷ s ∷ t ∷ []) (eq_times r e ∷ eq f ∷ []) (search reading_of depth 12) tt tt
+cost_later r a s t e f = linear_eq (r ∷ a ∷ s ∷ t ∷ []) (eq_times r e ∷ eq f ∷ []) (search reading_of) tt tt
 
 pub cost_from-none : (links : List Link) (f : ℕ → ℚ) → ((e : ℕ) → f e ≡ 0ℚ) → cost_from links f ≡ 0ℚ
 cost_from-none [] f h = refl
@@ -130,24 +130,24 @@ cost_from-only (l ∷ links) f zero link p h =
 cost_from-only (l ∷ links) f (suc k) link p h = cost_later l.transit (f 0) _ _ (h 0 (suc_first k)) (cost_from-only links (λ e. f (suc e)) k link p (λ e other. h (suc e) (suc_other k e other)))
 
 cost_plus : (r a c s t u : ℚ) → s ≡ t +ℚ u → r *ℚ (a +ℚ c) +ℚ s ≡ (r *ℚ a +ℚ t) +ℚ (r *ℚ c +ℚ u)
-cost_plus r a c s t u e = linear_eq (r ∷ a ∷ c ∷ s ∷ t ∷ u ∷ []) (eq e ∷ []) (search reading_of depth 12) tt tt
+cost_plus r a c s t u e = linear_eq (r ∷ a ∷ c ∷ s ∷ t ∷ u ∷ []) (eq e ∷ []) (search reading_of) tt tt
 
 pub cost_from-plus : (links : List Link) (f g : ℕ → ℚ) → cost_from links (λ e. f e +ℚ g e) ≡ cost_from links f +ℚ cost_from links g
-cost_from-plus [] f g = linear_eq [] [] (search reading_of depth 12) tt tt
+cost_from-plus [] f g = linear_eq [] [] (search reading_of) tt tt
 cost_from-plus (link ∷ links) f g = cost_plus link.transit (f 0) (g 0) _ _ _ (cost_from-plus links (λ e. f (suc e)) (λ e. g (suc e)))
 
 cost_times : (r a s t c : ℚ) → s ≡ t *ℚ c → r *ℚ (a *ℚ c) +ℚ s ≡ (r *ℚ a +ℚ t) *ℚ c
-cost_times r a s t c e = linear_eq (r ∷ a ∷ s ∷ t ∷ c ∷ []) (eq e ∷ []) (search reading_of depth 12) tt tt
+cost_times r a s t c e = linear_eq (r ∷ a ∷ s ∷ t ∷ c ∷ []) (eq e ∷ []) (search reading_of) tt tt
 
 no_times : (c : ℚ) → 0ℚ ≡ 0ℚ *ℚ c
-no_times c = linear_eq (c ∷ []) [] (search reading_of depth 12) tt tt
+no_times c = linear_eq (c ∷ []) [] (search reading_of) tt tt
 
 pub cost_from-times : (links : List Link) (f : ℕ → ℚ) (c : ℚ) → cost_from links (λ e. f e *ℚ c) ≡ cost_from links f *ℚ c
 cost_from-times [] f c = no_times c
 cost_from-times (link ∷ links) f c = cost_times link.transit (f 0) _ _ c (cost_from-times links (λ e. f (suc e)) c)
 
 same_cost : (r a b s t : ℚ) → a ≡ b → s ≡ t → r *ℚ a +ℚ s ≡ r *ℚ b +ℚ t
-same_cost r a b s t e f = linear_eq (r ∷ a ∷ b ∷ s ∷ t ∷ []) (eq_times r e ∷ eq f ∷ []) (search reading_of depth 12) tt tt
+same_cost r a b s t e f = linear_eq (r ∷ a ∷ b ∷ s ∷ t ∷ []) (eq_times r e ∷ eq f ∷ []) (search reading_of) tt tt
 
 pub cost_from-same : (links : List Link) (f g : ℕ → ℚ) → ((e : ℕ) → f e ≡ g e) → cost_from links f ≡ cost_from links g
 cost_from-same [] f g h = refl
@@ -170,10 +170,10 @@ stepped-else step e h = ⊎_elim
 sign_balance : (d s t : Bool) → (if s then signed d 1ℚ else 0ℚ) -ℚ (if t then signed d 1ℚ else 0ℚ)
     ≡ (if (if d then s else t) then 1ℚ else 0ℚ) -ℚ (if (if d then t else s) then 1ℚ else 0ℚ)
 sign_balance true s t = refl
-sign_balance false true true = linear_eq [] [] (search reading_of depth 12) tt tt
-sign_balance false true false = linear_eq [] [] (search reading_of depth 12) tt tt
-sign_balance false false true = linear_eq [] [] (search reading_of depth 12) tt tt
-sign_balance false false false = linear_eq [] [] (search reading_of depth 12) tt tt
+sign_balance false true true = linear_eq [] [] (search reading_of) tt tt
+sign_balance false true false = linear_eq [] [] (search reading_of) tt tt
+sign_balance false false true = linear_eq [] [] (search reading_of) tt tt
+sign_balance false false false = linear_eq [] [] (search reading_of) tt tt
 
 at_ends : (d : Bool) (link : Link) (v : ℕ) → (if (if d then eqb link.tail v else eqb link.head v) then 1ℚ else 0ℚ) -ℚ (if (if d then eqb link.head v else eqb link.tail v) then 1ℚ else 0ℚ)
     ≡ only_at (begin_of d link) 1ℚ v -ℚ only_at (end_of d link) 1ℚ v
@@ -181,7 +181,7 @@ at_ends true link v = refl
 at_ends false link v = refl
 
 less_same : (a b c d : ℚ) → a ≡ c → b ≡ d → a -ℚ b ≡ c -ℚ d
-less_same a b c d e f = linear_eq (a ∷ b ∷ c ∷ d ∷ []) (eq e ∷ eq f ∷ []) (search reading_of depth 12) tt tt
+less_same a b c d e f = linear_eq (a ∷ b ∷ c ∷ d ∷ []) (eq e ∷ eq f ∷ []) (search reading_of) tt tt
 
 if_value : (b : Bool) (x y : ℚ) → x ≡ y → (if b then x else 0ℚ) ≡ (if b then y else 0ℚ)
 if_value b x y e = ap (λ (z : ℚ). if b then z else 0ℚ) e
@@ -195,8 +195,8 @@ stepped-balance net flows step x y v l =
     ∙ less_same _ _ _ _ (ap (λ (k : ℕ). only_at k 1ℚ v) l.begins) (ap (λ (k : ℕ). only_at k 1ℚ v) l.ends)
 
 times_sign : (d : Bool) (r : ℚ) → r *ℚ signed d 1ℚ ≡ signed d r
-times_sign true r = linear_eq (r ∷ []) [] (search reading_of depth 12) tt tt
-times_sign false r = linear_eq (r ∷ []) [] (search reading_of depth 12) tt tt
+times_sign true r = linear_eq (r ∷ []) [] (search reading_of) tt tt
+times_sign false r = linear_eq (r ∷ []) [] (search reading_of) tt tt
 
 stepped-cost : (net : Network) (flows : List ℚ) (step : Step) (x y : ℕ) → Leads net flows step x y → cost_from net.links (stepped step) ≡ step_length net step
 stepped-cost net flows step x y l =
@@ -206,13 +206,13 @@ stepped-cost net flows step x y l =
 
 -- ---- a walk
 less_plus : (a b c d : ℚ) (s t : ℚ) → s ≡ a +ℚ b → t ≡ c +ℚ d → s -ℚ t ≡ (a -ℚ c) +ℚ (b -ℚ d)
-less_plus a b c d s t e f = linear_eq (a ∷ b ∷ c ∷ d ∷ s ∷ t ∷ []) (eq e ∷ eq f ∷ []) (search reading_of depth 12) tt tt
+less_plus a b c d s t e f = linear_eq (a ∷ b ∷ c ∷ d ∷ s ∷ t ∷ []) (eq e ∷ eq f ∷ []) (search reading_of) tt tt
 
 chain : (p q x y z : ℚ) → p ≡ x -ℚ y → q ≡ y -ℚ z → p +ℚ q ≡ x -ℚ z
-chain p q x y z e f = linear_eq (p ∷ q ∷ x ∷ y ∷ z ∷ []) (eq e ∷ eq f ∷ []) (search reading_of depth 12) tt tt
+chain p q x y z e f = linear_eq (p ∷ q ∷ x ∷ y ∷ z ∷ []) (eq e ∷ eq f ∷ []) (search reading_of) tt tt
 
 itself : (x y : ℚ) → x ≡ y → 0ℚ -ℚ 0ℚ ≡ x -ℚ y
-itself x y e = linear_eq (x ∷ y ∷ []) (eq e ∷ []) (search reading_of depth 12) tt tt
+itself x y e = linear_eq (x ∷ y ∷ []) (eq e ∷ []) (search reading_of) tt tt
 
 -- At each node: the crossings out of it minus the crossings into it.
 pub crossed-balance : (net : Network) (flows : List ℚ) (walk : List Step) (x y v : ℕ) → IsResidualWalk net flows walk x y
@@ -223,7 +223,7 @@ crossed-balance net flows (step ∷ walk) x y v p =
     ∙ chain _ _ _ (only_at p.0 1ℚ v) _ (stepped-balance net flows step x p.0 v p.1) (crossed-balance net flows walk p.0 y v p.2)
 
 both_same : (a b c d : ℚ) → a ≡ c → b ≡ d → a +ℚ b ≡ c +ℚ d
-both_same a b c d e f = linear_eq (a ∷ b ∷ c ∷ d ∷ []) (eq e ∷ eq f ∷ []) (search reading_of depth 12) tt tt
+both_same a b c d e f = linear_eq (a ∷ b ∷ c ∷ d ∷ []) (eq e ∷ eq f ∷ []) (search reading_of) tt tt
 
 pub crossed-cost : (net : Network) (flows : List ℚ) (walk : List Step) (x y : ℕ) → IsResidualWalk net flows walk x y → cost_from net.links (crossed walk) ≡ walk_length net walk
 crossed-cost net flows [] x y p = cost_from-none net.links (λ _. 0ℚ) (λ _. refl)

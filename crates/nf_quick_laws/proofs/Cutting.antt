@@ -132,7 +132,7 @@ module _ (net : Network) (flows : List ℚ) (u w : ℕ) (good : IsNetwork net) w
     pub fewer : (short ≡ walk) ⊎ (length short < length walk)
 
   without_less : (a b c s t : ℚ) → 0ℚ ≤ℚ b → s ≡ a +ℚ (b +ℚ c) → t ≡ a +ℚ c → t ≤ℚ s
-  without_less a b c s t h e f = linear_le (a ∷ b ∷ c ∷ s ∷ t ∷ []) (le h ∷ eq e ∷ eq f ∷ []) (search reading_of depth 12) tt
+  without_less a b c s t h e f = linear_le (a ∷ b ∷ c ∷ s ∷ t ∷ []) (le h ∷ eq e ∷ eq f ∷ []) (search reading_of) tt
 
   module _ (closed : (walk : List Step) (v : ℕ) → IsResidualWalk net flows walk v v → 0ℚ ≤ℚ walk_length net walk) (inside : u < net.nodes) where
     fewer_steps : (walk : List Step) (c : HasClosed net flows u w walk) → length (c.front ++ c.rest) < length walk

@@ -60,7 +60,7 @@ longer net b step = record { distance = b.distance +ℚ step_length net step; st
 
 by_sign : (d : Bool) (x r : ℚ) → result_of (op_of d) x r ≡ x +ℚ signed d r
 by_sign true x r = refl
-by_sign false x r = linear_eq (x ∷ r ∷ []) [] (search reading_of depth 12) tt tt
+by_sign false x r = linear_eq (x ∷ r ∷ []) [] (search reading_of) tt tt
 
 pub extended-is : (net : Network) (b : Reach) (step : Step) (link : Link) → IsLink net step.link link → extended b step link ≡ longer net b step
 extended-is net b step link p = ap (λ (z : ℚ). record { distance = z; steps = b.steps ++ step ∷ [] })
@@ -146,10 +146,10 @@ known_at-none (suc n) zero q e = absurd (cc)
 known_at-none (suc n) (suc v) q e = known_at-none n v q e
 
 pub last_sum : (x y l s : ℚ) → x ≡ y → s ≡ y +ℚ (l +ℚ 0ℚ) → x +ℚ l ≡ s
-last_sum x y l s e f = linear_eq (x ∷ y ∷ l ∷ s ∷ []) (eq e ∷ eq f ∷ []) (search reading_of depth 12) tt tt
+last_sum x y l s e f = linear_eq (x ∷ y ∷ l ∷ s ∷ []) (eq e ∷ eq f ∷ []) (search reading_of) tt tt
 
 sum_last : (y l s : ℚ) → s ≡ y +ℚ (l +ℚ 0ℚ) → s ≡ y +ℚ l
-sum_last y l s f = linear_eq (y ∷ l ∷ s ∷ []) (eq f ∷ []) (search reading_of depth 12) tt tt
+sum_last y l s f = linear_eq (y ∷ l ∷ s ∷ []) (eq f ∷ []) (search reading_of) tt tt
 
 module _ (net : Network) (flows : List ℚ) (from : ℕ) (good : IsNetwork net) (inside : from < net.nodes) where
   pub HasBest-first : HasBest net flows from 0 (first_known net.nodes from)

@@ -136,10 +136,10 @@ are_fewer-false p q e =
 -- ---- shorter first
 
 lt_eq : (a b c : ℚ) → a <ℚ b → b ≡ c → a <ℚ c
-lt_eq a b c h e = linear_lt (a ∷ b ∷ c ∷ []) (lt h ∷ eq e ∷ []) (search reading_of depth 12) tt
+lt_eq a b c h e = linear_lt (a ∷ b ∷ c ∷ []) (lt h ∷ eq e ∷ []) (search reading_of) tt
 
 eq_lt : (a b c : ℚ) → a ≡ b → b <ℚ c → a <ℚ c
-eq_lt a b c e h = linear_lt (a ∷ b ∷ c ∷ []) (lt h ∷ eq e ∷ []) (search reading_of depth 12) tt
+eq_lt a b c e h = linear_lt (a ∷ b ∷ c ∷ []) (lt h ∷ eq e ∷ []) (search reading_of) tt
 
 pub IsAtMost-refl : (a : Reach) → IsAtMost a a
 IsAtMost-refl a = inr (refl, inr (refl, AreFirst-refl a.steps))
@@ -152,10 +152,10 @@ IsAtMost-trans a b c (inr f) (inr g) = inr (f.0 ∙ g.0, AreFewerOrFirst-trans a
 
 -- One more step, whose length adds l to each.
 lt_plus : (a b l x y : ℚ) → a <ℚ b → x ≡ a +ℚ l → y ≡ b +ℚ l → x <ℚ y
-lt_plus a b l x y h e f = linear_lt (a ∷ b ∷ l ∷ x ∷ y ∷ []) (lt h ∷ eq e ∷ eq f ∷ []) (search reading_of depth 12) tt
+lt_plus a b l x y h e f = linear_lt (a ∷ b ∷ l ∷ x ∷ y ∷ []) (lt h ∷ eq e ∷ eq f ∷ []) (search reading_of) tt
 
 eq_plus : (a b l x y : ℚ) → a ≡ b → x ≡ a +ℚ l → y ≡ b +ℚ l → x ≡ y
-eq_plus a b l x y h e f = linear_eq (a ∷ b ∷ l ∷ x ∷ y ∷ []) (eq h ∷ eq e ∷ eq f ∷ []) (search reading_of depth 12) tt tt
+eq_plus a b l x y h e f = linear_eq (a ∷ b ∷ l ∷ x ∷ y ∷ []) (eq h ∷ eq e ∷ eq f ∷ []) (search reading_of) tt tt
 
 pub IsAtMost-more : (a b : Reach) (step : Step) (l x y : ℚ) → x ≡ a.distance +ℚ l → y ≡ b.distance +ℚ l → IsAtMost a b
     → IsAtMost (record { distance = x; steps = a.steps ++ step ∷ [] }) (record { distance = y; steps = b.steps ++ step ∷ [] })

@@ -40,20 +40,20 @@ number_at-else (y ∷ xs) (suc v) (suc w) x h = number_at-else xs v w x (λ e. h
 
 -- ---- a push
 moved : (d : Bool) (x a : ℚ) → result_of (op_of d) x a ≡ x +ℚ signed d 1ℚ *ℚ a
-moved true x a = linear_eq (x ∷ a ∷ []) [] (search reading_of depth 12) tt tt
-moved false x a = linear_eq (x ∷ a ∷ []) [] (search reading_of depth 12) tt tt
+moved true x a = linear_eq (x ∷ a ∷ []) [] (search reading_of) tt tt
+moved false x a = linear_eq (x ∷ a ∷ []) [] (search reading_of) tt tt
 
 none_moved : (x a s : ℚ) → s ≡ 0ℚ → x ≡ x +ℚ s *ℚ a
-none_moved x a s e = linear_eq (x ∷ a ∷ s ∷ []) (eq_times a e ∷ []) (search reading_of depth 12) tt tt
+none_moved x a s e = linear_eq (x ∷ a ∷ s ∷ []) (eq_times a e ∷ []) (search reading_of) tt tt
 
 same_moved : (x a s t : ℚ) → s ≡ t → x +ℚ t *ℚ a ≡ x +ℚ s *ℚ a
 same_moved x a s t e = ap (λ (z : ℚ). x +ℚ z *ℚ a) (sym e)
 
 one_more : (x y z s c a : ℚ) → y ≡ x +ℚ s *ℚ a → z ≡ y +ℚ c *ℚ a → z ≡ x +ℚ (s +ℚ c) *ℚ a
-one_more x y z s c a e f = linear_eq (x ∷ y ∷ z ∷ s ∷ c ∷ a ∷ []) (eq e ∷ eq f ∷ []) (search reading_of depth 12) tt tt
+one_more x y z s c a e f = linear_eq (x ∷ y ∷ z ∷ s ∷ c ∷ a ∷ []) (eq e ∷ eq f ∷ []) (search reading_of) tt tt
 
 no_more : (x a : ℚ) → x ≡ x +ℚ 0ℚ *ℚ a
-no_more x a = linear_eq (x ∷ a ∷ []) [] (search reading_of depth 12) tt tt
+no_more x a = linear_eq (x ∷ a ∷ []) [] (search reading_of) tt tt
 
 module _ (passes : Passing) (amount : ℚ) where
   after_step : (flows : List ℚ) (step : Step) (z : ℚ) → step.link < length flows → z ≡ result_of (op_of step.forward) (number_at flows step.link) amount → (e : ℕ)
@@ -132,13 +132,13 @@ lesser-above None x h k = k
 lesser-above (Some l) x h k = min_keeps (λ z. 0ℚ <ℚ z) l x h k
 
 left_room : (c x a m : ℚ) → m ≤ℚ c -ℚ x → a ≤ℚ m → x +ℚ a ≤ℚ c
-left_room c x a m h k = linear_le (c ∷ x ∷ a ∷ m ∷ []) (le h ∷ le k ∷ []) (search reading_of depth 12) tt
+left_room c x a m h k = linear_le (c ∷ x ∷ a ∷ m ∷ []) (le h ∷ le k ∷ []) (search reading_of) tt
 
 room_left : (c x a : ℚ) → x +ℚ a ≤ℚ c → a ≤ℚ c -ℚ x
-room_left c x a h = linear_le (c ∷ x ∷ a ∷ []) (le h ∷ []) (search reading_of depth 12) tt
+room_left c x a h = linear_le (c ∷ x ∷ a ∷ []) (le h ∷ []) (search reading_of) tt
 
 left_some : (c x : ℚ) → x <ℚ c → 0ℚ <ℚ c -ℚ x
-left_some c x h = linear_lt (c ∷ x ∷ []) (lt h ∷ []) (search reading_of depth 12) tt
+left_some c x h = linear_lt (c ∷ x ∷ []) (lt h ∷ []) (search reading_of) tt
 
 module _ (passes : Passing) (net : Network) (flows : List ℚ) where
   capacity_is : (step : Step) (link : Link) → IsLink net step.link link → capacity_of net step.link ≡ link.capacity

@@ -9,10 +9,10 @@ use Rattle.nf_quick_def.specs.Steps.{Step, begin_of, end_of, Leads, IsResidualWa
 
 -- ---- concatenation
 no_more : (b : ℚ) → b ≡ 0ℚ +ℚ b
-no_more b = linear_eq (b ∷ []) [] (search reading_of depth 12) tt tt
+no_more b = linear_eq (b ∷ []) [] (search reading_of) tt tt
 
 one_more : (a s p q : ℚ) → s ≡ p +ℚ q → a +ℚ s ≡ (a +ℚ p) +ℚ q
-one_more a s p q e = linear_eq (a ∷ s ∷ p ∷ q ∷ []) (eq e ∷ []) (search reading_of depth 12) tt tt
+one_more a s p q e = linear_eq (a ∷ s ∷ p ∷ q ∷ []) (eq e ∷ []) (search reading_of) tt tt
 
 pub walk_length-append : (net : Network) (walk more : List Step) → walk_length net (walk ++ more) ≡ walk_length net walk +ℚ walk_length net more
 walk_length-append net [] more = no_more _

@@ -19,7 +19,7 @@ use Rattle.nf_rational_laws.proofs.Chains.{≤ℚ_trans}
 use Rattle.nf_rational_laws.proofs.Extremes.{max_left, max_right, max_keeps}
 
 times_none : (c : ℚ) → 0ℚ ≡ c *ℚ 0ℚ
-times_none c = linear_eq (c ∷ []) [] (search reading_of depth 12) tt tt
+times_none c = linear_eq (c ∷ []) [] (search reading_of) tt tt
 
 pub number_at-scaled : (c : ℚ) (cut : List ℚ) (v : ℕ) → number_at (scaled c cut) v ≡ c *ℚ number_at cut v
 number_at-scaled c cut v = ap (λ (o : Option ℚ). unwrap_or o 0ℚ) (slice_get-map (λ a. c *ℚ a) cut v) ∙ by_entry (slice_get cut v)
@@ -31,19 +31,19 @@ number_at-scaled c cut v = ap (λ (o : Option ℚ). unwrap_or o 0ℚ) (slice_get
 -- ---- if t is at most s + r, then c t is at most c s + r, for a factor c from 0 to 1
 -- For a factor from 0 to 1, scaling shortens the time that the transit time leaves.
 shorter : (c s t r x y : ℚ) → 0ℚ ≤ℚ c → c ≤ℚ 1ℚ → 0ℚ ≤ℚ r → x ≡ c *ℚ s → y ≡ c *ℚ t → t ≤ℚ s +ℚ r → y ≤ℚ x +ℚ r
-shorter c s t r x y n m h e f k = linear_le (c ∷ s ∷ t ∷ r ∷ x ∷ y ∷ []) (le_times n k ∷ le_times h m ∷ eq e ∷ eq f ∷ []) (search reading_of depth 12) tt
+shorter c s t r x y n m h e f k = linear_le (c ∷ s ∷ t ∷ r ∷ x ∷ y ∷ []) (le_times n k ∷ le_times h m ∷ eq e ∷ eq f ∷ []) (search reading_of) tt
 
 gap_below : (c s t r x y m : ℚ) → 0ℚ ≤ℚ c → c ≤ℚ 1ℚ → 0ℚ ≤ℚ r → x ≡ c *ℚ s → y ≡ c *ℚ t → t -ℚ r -ℚ s ≤ℚ m → y -ℚ r -ℚ x ≤ℚ c *ℚ m
-gap_below c s t r x y m n l h e f k = linear_le (c ∷ s ∷ t ∷ r ∷ x ∷ y ∷ m ∷ []) (le_times n k ∷ le_times h l ∷ eq e ∷ eq f ∷ []) (search reading_of depth 12) tt
+gap_below c s t r x y m n l h e f k = linear_le (c ∷ s ∷ t ∷ r ∷ x ∷ y ∷ m ∷ []) (le_times n k ∷ le_times h l ∷ eq e ∷ eq f ∷ []) (search reading_of) tt
 
 times_nn : (c m : ℚ) → 0ℚ ≤ℚ c → 0ℚ ≤ℚ m → 0ℚ ≤ℚ c *ℚ m
-times_nn c m h k = linear_le (c ∷ m ∷ []) (le_times h k ∷ []) (search reading_of depth 12) tt
+times_nn c m h k = linear_le (c ∷ m ∷ []) (le_times h k ∷ []) (search reading_of) tt
 
 most : (x y : ℚ) → 0ℚ ≤ℚ y → x ≤ℚ y → max_ℚ 0ℚ x ≤ℚ y
 most x y h k = max_keeps (λ (z : ℚ). z ≤ℚ y) 0ℚ x h k
 
 times_rate : (q c m a : ℚ) → 0ℚ ≤ℚ q → a ≤ℚ c *ℚ m → q *ℚ a ≤ℚ c *ℚ (q *ℚ m)
-times_rate q c m a n h = linear_le (q ∷ c ∷ m ∷ a ∷ []) (le_times n h ∷ []) (search reading_of depth 12) tt
+times_rate q c m a n h = linear_le (q ∷ c ∷ m ∷ a ∷ []) (le_times n h ∷ []) (search reading_of) tt
 
 let_through-scaled : (capacity : Option ℚ) (c r s t x y : ℚ) → ((rate : ℚ) → capacity ≡ Some rate → 0ℚ <ℚ rate) → 0ℚ ≤ℚ c → c ≤ℚ 1ℚ → 0ℚ ≤ℚ r → x ≡ c *ℚ s → y ≡ c *ℚ t
     → let_through capacity r x y ≤ℚ c *ℚ let_through capacity r s t
@@ -53,7 +53,7 @@ let_through-scaled (Some rate) c r s t x y some n m h e f =
     (most _ _ (times_nn c _ n (max_left 0ℚ _)) (gap_below c s t r x y _ n m h e f (max_right 0ℚ _)))
 
 add_scaled : (c a b p q : ℚ) → a ≤ℚ c *ℚ p → b ≤ℚ c *ℚ q → a +ℚ b ≤ℚ c *ℚ (p +ℚ q)
-add_scaled c a b p q h k = linear_le (c ∷ a ∷ b ∷ p ∷ q ∷ []) (le h ∷ le k ∷ []) (search reading_of depth 12) tt
+add_scaled c a b p q h k = linear_le (c ∷ a ∷ b ∷ p ∷ q ∷ []) (le h ∷ le k ∷ []) (search reading_of) tt
 
 cut_sum-scaled : (links : List Link) (c : ℚ) (cut : List ℚ) → ((e : ℕ) (link : Link) (rate : ℚ) → slice_get links e ≡ Some link → link.capacity ≡ Some rate → 0ℚ <ℚ rate)
     → ((e : ℕ) (link : Link) → slice_get links e ≡ Some link → 0ℚ ≤ℚ link.transit) → 0ℚ ≤ℚ c → c ≤ℚ 1ℚ → cut_sum links (scaled c cut) ≤ℚ c *ℚ cut_sum links cut
@@ -77,7 +77,7 @@ cut_value-scaled net c cut good n m = cut_sum-scaled net.links c cut (λ e link 
 -- ---- no earlier time
 at_most_one : (c u t : ℚ) → 0ℚ <ℚ t → c *ℚ t ≡ u → u <ℚ t → c ≤ℚ 1ℚ
 at_most_one c u t h e k = ⊎_elim
-    (λ (l : 1ℚ <ℚ c). absurd (linear_false (c ∷ u ∷ t ∷ []) (le_times (≤ℚ_of_lt _ _ h) (≤ℚ_of_lt _ _ l) ∷ eq e ∷ lt k ∷ []) (search reading_of depth 12) tt))
+    (λ (l : 1ℚ <ℚ c). absurd (linear_false (c ∷ u ∷ t ∷ []) (le_times (≤ℚ_of_lt _ _ h) (≤ℚ_of_lt _ _ l) ∷ eq e ∷ lt k ∷ []) (search reading_of) tt))
     (λ (l : c ≤ℚ 1ℚ). l)
     (lt_or_le_ℚ 1ℚ c)
 
@@ -85,16 +85,16 @@ at_most_one c u t h e k = ⊎_elim
 not_enough : (c u t amount : ℚ) → 0ℚ <ℚ t → c *ℚ t ≡ u → u <ℚ t → 0ℚ <ℚ amount → amount ≤ℚ c *ℚ amount → ⊥
 not_enough c u t amount h e k some g = ⊎_elim
     (λ (l : c <ℚ 1ℚ). too_little c amount l some g)
-    (λ (l : 1ℚ ≤ℚ c). linear_false (c ∷ u ∷ t ∷ []) (le_times (≤ℚ_of_lt _ _ h) l ∷ eq e ∷ lt k ∷ []) (search reading_of depth 12) tt)
+    (λ (l : 1ℚ ≤ℚ c). linear_false (c ∷ u ∷ t ∷ []) (le_times (≤ℚ_of_lt _ _ h) l ∷ eq e ∷ lt k ∷ []) (search reading_of) tt)
     (lt_or_le_ℚ c 1ℚ)
   where
     too_little : (c a : ℚ) → c <ℚ 1ℚ → 0ℚ <ℚ a → a ≤ℚ c *ℚ a → ⊥
     too_little c a l some g =
         not_both_ℚ _ _ (ps_times _ _ (less_ps c 1ℚ l) some)
-        (linear_le (c ∷ a ∷ []) (le g ∷ []) (search reading_of depth 12) tt)
+        (linear_le (c ∷ a ∷ []) (le g ∷ []) (search reading_of) tt)
 
 before_positive : (u t : ℚ) → 0ℚ ≤ℚ u → u <ℚ t → 0ℚ <ℚ t
-before_positive u t h k = linear_lt (u ∷ t ∷ []) (le h ∷ lt k ∷ []) (search reading_of depth 12) tt
+before_positive u t h k = linear_lt (u ∷ t ∷ []) (le h ∷ lt k ∷ []) (search reading_of) tt
 
 module _ (net : Network) (amount time : ℚ) (cut : List ℚ) (good : IsNetwork net) (some : 0ℚ <ℚ amount) (is_cut : IsCut net time cut) (full : cut_value net cut ≡ amount) where
   none_earlier : (entered left : ℕ → ℚ → ℚ) (other : ℚ) → 0ℚ ≤ℚ other → Delivers net entered left amount other → other <ℚ time → ⊥

@@ -38,7 +38,7 @@ module _ (net : Network) (good : IsNetwork net) where
   no_way_back false capacity x e g = absurd (not_above x e (less_of_test 0ℚ x g))
     where
       not_above : (x : ℚ) → x ≡ 0ℚ → 0ℚ <ℚ x → ⊥
-      not_above x e h = linear_false (x ∷ []) (eq e ∷ lt h ∷ []) (search reading_of depth 12) tt
+      not_above x e h = linear_false (x ∷ []) (eq e ∷ lt h ∷ []) (search reading_of) tt
 
   pub walk_nn : (walk : List Step) (v w : ℕ) → IsResidualWalk net zeros walk v w → 0ℚ ≤ℚ walk_length net walk
   walk_nn [] v w p = ≤ℚ_refl 0ℚ

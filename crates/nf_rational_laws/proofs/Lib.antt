@@ -8,6 +8,7 @@ pub mod Field
 pub mod Order
 pub mod Signs
 pub mod Linear
+pub mod Facts
 pub mod Chains
 pub mod Quotient
 pub mod Tests

@@ -4,12 +4,8 @@ use Rattle.std.specs.Prelude.{◌||◌}
 use Rattle.nf_rational.specs.Rational.{ℚ}
 use Rattle.nf_rational.specs.Operations.{0ℚ}
 use Rattle.nf_rational.specs.Order.{◌≤ℚ◌, ◌<ℚ◌, lt_ℚ}
-use Rattle.nf_rational_laws.proofs.Order.{<ℚ_irrefl}
-use Rattle.nf_rational_laws.proofs.Tests.{lt_ℚ_cases}
+use Rattle.nf_rational_laws.proofs.Tests.{not_less_itself}
 use Rattle.nf_rational.specs.Signs.{is_positive, are_opposite}
-
-not_below : (x : ℚ) → lt_ℚ x x ≡ false
-not_below x = ⊎_elim (λ (w : (lt_ℚ x x ≡ true) × (x <ℚ x)). absurd (<ℚ_irrefl x w.1)) (λ (w : (lt_ℚ x x ≡ false) × (x ≤ℚ x)). w.0) (lt_ℚ_cases x x)
 
 neither : (a b c d : Bool) → c ≡ false → d ≡ false → ((a && c) || (b && d)) ≡ true → ⊥
 neither true true false false p q e = cc
@@ -21,7 +17,7 @@ neither a b false true p q e = cc
 
 pub opposite_apart : (x y : ℚ) → are_opposite x y ≡ true → y ≢ 0ℚ
 opposite_apart x y e same = neither (lt_ℚ x 0ℚ) (lt_ℚ 0ℚ x) (lt_ℚ 0ℚ y) (lt_ℚ y 0ℚ)
-    (ap (λ (z : ℚ). lt_ℚ 0ℚ z) same ∙ not_below 0ℚ) (ap (λ (z : ℚ). lt_ℚ z 0ℚ) same ∙ not_below 0ℚ) e
+    (ap (λ (z : ℚ). lt_ℚ 0ℚ z) same ∙ not_less_itself 0ℚ) (ap (λ (z : ℚ). lt_ℚ z 0ℚ) same ∙ not_less_itself 0ℚ) e
 
 pub positive_apart : (x : ℚ) → is_positive x ≡ true → x ≢ 0ℚ
-positive_apart x e same = let f : lt_ℚ 0ℚ x ≡ false = ap (λ (z : ℚ). lt_ℚ 0ℚ z) same ∙ not_below 0ℚ in cc
+positive_apart x e same = let f : lt_ℚ 0ℚ x ≡ false = ap (λ (z : ℚ). lt_ℚ 0ℚ z) same ∙ not_less_itself 0ℚ in cc

@@ -26,43 +26,43 @@ use Rattle.nf_rational_laws.proofs.Chains.{≤ℚ_refl, ≤ℚ_trans}
 
 -- ---- over plain numbers: a and b the labels at the tail and the head, r the transit time, x the exit, q the queue, c the capacity
 no_slack : (a b r x : ℚ) → x ≡ a +ℚ r +ℚ 0ℚ → b ≤ℚ x → b -ℚ (a +ℚ r) ≤ℚ 0ℚ
-no_slack a b r x e h = linear_le (a ∷ b ∷ r ∷ x ∷ []) (eq e ∷ le h ∷ []) (search reading_of depth 12) tt
+no_slack a b r x e h = linear_le (a ∷ b ∷ r ∷ x ∷ []) (eq e ∷ le h ∷ []) (search reading_of) tt
 
 slack_nn : (a b r : ℚ) → a +ℚ r ≤ℚ b → 0ℚ ≤ℚ b -ℚ (a +ℚ r)
-slack_nn a b r h = linear_le (a ∷ b ∷ r ∷ []) (le h ∷ []) (search reading_of depth 12) tt
+slack_nn a b r h = linear_le (a ∷ b ∷ r ∷ []) (le h ∷ []) (search reading_of) tt
 
 wait_is : (a b r w : ℚ) → b ≡ a +ℚ r +ℚ w → b -ℚ (a +ℚ r) ≡ w
-wait_is a b r w e = linear_eq (a ∷ b ∷ r ∷ w ∷ []) (eq e ∷ []) (search reading_of depth 12) tt tt
+wait_is a b r w e = linear_eq (a ∷ b ∷ r ∷ w ∷ []) (eq e ∷ []) (search reading_of) tt tt
 
 none_waits : (c m : ℚ) → m ≡ 0ℚ → 0ℚ ≡ c *ℚ m
-none_waits c m e = linear_eq (c ∷ m ∷ []) (eq_times c e ∷ []) (search reading_of depth 12) tt tt
+none_waits c m e = linear_eq (c ∷ m ∷ []) (eq_times c e ∷ []) (search reading_of) tt tt
 
 all_waits : (c q w m : ℚ) → w *ℚ c ≡ q → m ≡ w → q ≡ c *ℚ m
-all_waits c q w m e f = linear_eq (c ∷ q ∷ w ∷ m ∷ []) (eq e ∷ eq_times c f ∷ []) (search reading_of depth 12) tt tt
+all_waits c q w m e f = linear_eq (c ∷ q ∷ w ∷ m ∷ []) (eq e ∷ eq_times c f ∷ []) (search reading_of) tt tt
 
 no_wait : (c w q : ℚ) → w *ℚ c ≡ q → q ≡ 0ℚ → c *ℚ w ≡ c *ℚ 0ℚ
-no_wait c w q e f = linear_eq (c ∷ w ∷ q ∷ []) (eq e ∷ eq f ∷ []) (search reading_of depth 12) tt tt
+no_wait c w q e f = linear_eq (c ∷ w ∷ q ∷ []) (eq e ∷ eq f ∷ []) (search reading_of) tt tt
 
 in_time : (a b r : ℚ) → b -ℚ (a +ℚ r) ≤ℚ 0ℚ → b -ℚ r ≤ℚ a
-in_time a b r h = linear_le (a ∷ b ∷ r ∷ []) (le h ∷ []) (search reading_of depth 12) tt
+in_time a b r h = linear_le (a ∷ b ∷ r ∷ []) (le h ∷ []) (search reading_of) tt
 
 since' : (r t : ℚ) → r ≤ℚ t → 0ℚ ≤ℚ t -ℚ r
-since' r t h = linear_le (r ∷ t ∷ []) (le h ∷ []) (search reading_of depth 12) tt
+since' r t h = linear_le (r ∷ t ∷ []) (le h ∷ []) (search reading_of) tt
 
 back_again : (b r : ℚ) → b ≡ (b -ℚ r) +ℚ r
-back_again b r = linear_eq (b ∷ r ∷ []) [] (search reading_of depth 12) tt tt
+back_again b r = linear_eq (b ∷ r ∷ []) [] (search reading_of) tt tt
 
 all_but_none : (f g : ℚ) → f ≡ g → f -ℚ g ≡ 0ℚ
-all_but_none f g e = linear_eq (f ∷ g ∷ []) (eq e ∷ []) (search reading_of depth 12) tt tt
+all_but_none f g e = linear_eq (f ∷ g ∷ []) (eq e ∷ []) (search reading_of) tt tt
 
 less_none : (s t : ℚ) → s +ℚ 0ℚ ≡ t +ℚ 0ℚ → s ≡ t
-less_none s t e = linear_eq (s ∷ t ∷ []) (eq e ∷ []) (search reading_of depth 12) tt tt
+less_none s t e = linear_eq (s ∷ t ∷ []) (eq e ∷ []) (search reading_of) tt tt
 
 more_in : (s u t : ℚ) → s +ℚ u ≡ t +ℚ 0ℚ → s +ℚ u ≡ t
-more_in s u t e = linear_eq (s ∷ u ∷ t ∷ []) (eq e ∷ []) (search reading_of depth 12) tt tt
+more_in s u t e = linear_eq (s ∷ u ∷ t ∷ []) (eq e ∷ []) (search reading_of) tt tt
 
 more_out : (s u t : ℚ) → s +ℚ 0ℚ ≡ t +ℚ u → s ≡ t +ℚ u
-more_out s u t e = linear_eq (s ∷ u ∷ t ∷ []) (eq e ∷ []) (search reading_of depth 12) tt tt
+more_out s u t e = linear_eq (s ∷ u ∷ t ∷ []) (eq e ∷ []) (search reading_of) tt tt
 
 -- A curve attains each value between two of its values.
 takes : (points : List (ℚ × ℚ)) (last y : ℚ) → IsCurve points → 0ℚ ≤ℚ last → value points 0ℚ ≤ℚ y → y ≤ℚ value points last → (u : ℚ) × Within 0ℚ last u × (value points u ≡ y)
@@ -202,7 +202,7 @@ module _ (net : Network) (flow : Flow) (good : IsNetwork net) (is : Equilibrium 
   }
     where
       along : (a b c d : ℚ) → a ≡ c → b ≡ d → a <ℚ b → c <ℚ d
-      along a b c d e f h = linear_lt (a ∷ b ∷ c ∷ d ∷ []) (eq e ∷ eq f ∷ lt h ∷ []) (search reading_of depth 12) tt
+      along a b c d e f h = linear_lt (a ∷ b ∷ c ∷ d ∷ []) (eq e ∷ eq f ∷ lt h ∷ []) (search reading_of) tt
 
   -- ---- the equilibrium describes its links
   pub DescribesLinks-equilibrium : DescribesLinks net F l (outflow flow) (queue flow) flow.reached

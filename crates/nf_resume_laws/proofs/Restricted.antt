@@ -101,22 +101,22 @@ module _ (net : Network) (good : IsNetwork net) (labels labels' slopes flows : L
 
   -- The side to which a link with slack 0 moves, by its state.
   flat : (z c d y : ℚ) → y ≡ z +ℚ d *ℚ c → z ≡ 0ℚ → c ≡ 0ℚ → y ≡ 0ℚ
-  flat z c d y e f g = linear_eq (z ∷ c ∷ d ∷ y ∷ []) (eq e ∷ eq f ∷ eq_times d g ∷ []) (search reading_of depth 12) tt tt
+  flat z c d y e f g = linear_eq (z ∷ c ∷ d ∷ y ∷ []) (eq e ∷ eq f ∷ eq_times d g ∷ []) (search reading_of) tt tt
 
   up : (z c d y : ℚ) → y ≡ z +ℚ d *ℚ c → z ≡ 0ℚ → 0ℚ ≤ℚ c → 0ℚ <ℚ d → 0ℚ ≤ℚ y
-  up z c d y e f g h = let n : 0ℚ ≤ℚ d = ≤ℚ_of_lt _ _ h in linear_le (z ∷ c ∷ d ∷ y ∷ []) (eq e ∷ eq f ∷ le_times n g ∷ []) (search reading_of depth 12) tt
+  up z c d y e f g h = let n : 0ℚ ≤ℚ d = ≤ℚ_of_lt _ _ h in linear_le (z ∷ c ∷ d ∷ y ∷ []) (eq e ∷ eq f ∷ le_times n g ∷ []) (search reading_of) tt
 
   down : (z c d y : ℚ) → y ≡ z +ℚ d *ℚ c → z ≡ 0ℚ → c ≤ℚ 0ℚ → 0ℚ <ℚ d → y ≤ℚ 0ℚ
-  down z c d y e f g h = let n : 0ℚ ≤ℚ d = ≤ℚ_of_lt _ _ h in linear_le (z ∷ c ∷ d ∷ y ∷ []) (eq e ∷ eq f ∷ le_times n g ∷ []) (search reading_of depth 12) tt
+  down z c d y e f g h = let n : 0ℚ ≤ℚ d = ≤ℚ_of_lt _ _ h in linear_le (z ∷ c ∷ d ∷ y ∷ []) (eq e ∷ eq f ∷ le_times n g ∷ []) (search reading_of) tt
 
   nn_gap : (a b : ℚ) → a ≤ℚ b → 0ℚ ≤ℚ b -ℚ a
-  nn_gap a b h = linear_le (a ∷ b ∷ []) (le h ∷ []) (search reading_of depth 12) tt
+  nn_gap a b h = linear_le (a ∷ b ∷ []) (le h ∷ []) (search reading_of) tt
 
   np_gap : (a b : ℚ) → b ≤ℚ a → b -ℚ a ≤ℚ 0ℚ
-  np_gap a b h = linear_le (a ∷ b ∷ []) (le h ∷ []) (search reading_of depth 12) tt
+  np_gap a b h = linear_le (a ∷ b ∷ []) (le h ∷ []) (search reading_of) tt
 
   no_gap : (a b : ℚ) → b ≡ a → b -ℚ a ≡ 0ℚ
-  no_gap a b e = linear_eq (a ∷ b ∷ []) (eq e ∷ []) (search reading_of depth 12) tt tt
+  no_gap a b e = linear_eq (a ∷ b ∷ []) (eq e ∷ []) (search reading_of) tt tt
 
   -- A link without a state at the interruption: the base has none there.
   no_state : (e : ℕ) (b : Option State) → slice_get base e ≡ Some b → (NeedsState (sets_at net labels') e → ⊥) → b ≡ None

@@ -27,21 +27,21 @@ use Rattle.nf_rational_laws.proofs.Chains.{≤ℚ_refl, ≤ℚ_trans}
 
 -- ---- sums over routes and positions
 if_same : (b : Bool) (x y s t : ℚ) → (b ≡ true → x ≡ y) → s ≡ t → (if b then x +ℚ s else s) ≡ (if b then y +ℚ t else t)
-if_same true x y s t e f = let d = e refl in linear_eq (x ∷ y ∷ s ∷ t ∷ []) (eq d ∷ eq f ∷ []) (search reading_of depth 12) tt tt
+if_same true x y s t e f = let d = e refl in linear_eq (x ∷ y ∷ s ∷ t ∷ []) (eq d ∷ eq f ∷ []) (search reading_of) tt tt
 if_same false x y s t e f = f
 
 if_le : (b : Bool) (x y s t : ℚ) → (b ≡ true → x ≤ℚ y) → s ≤ℚ t → (if b then x +ℚ s else s) ≤ℚ (if b then y +ℚ t else t)
-if_le true x y s t e f = let d = e refl in linear_le (x ∷ y ∷ s ∷ t ∷ []) (le d ∷ le f ∷ []) (search reading_of depth 12) tt
+if_le true x y s t e f = let d = e refl in linear_le (x ∷ y ∷ s ∷ t ∷ []) (le d ∷ le f ∷ []) (search reading_of) tt
 if_le false x y s t e f = f
 
 plus_le : (x y s t : ℚ) → x ≤ℚ y → s ≤ℚ t → x +ℚ s ≤ℚ y +ℚ t
-plus_le x y s t e f = linear_le (x ∷ y ∷ s ∷ t ∷ []) (le e ∷ le f ∷ []) (search reading_of depth 12) tt
+plus_le x y s t e f = linear_le (x ∷ y ∷ s ∷ t ∷ []) (le e ∷ le f ∷ []) (search reading_of) tt
 
 plus_same : (x y s t : ℚ) → x ≡ y → s ≡ t → x +ℚ s ≡ y +ℚ t
-plus_same x y s t e f = linear_eq (x ∷ y ∷ s ∷ t ∷ []) (eq e ∷ eq f ∷ []) (search reading_of depth 12) tt tt
+plus_same x y s t e f = linear_eq (x ∷ y ∷ s ∷ t ∷ []) (eq e ∷ eq f ∷ []) (search reading_of) tt tt
 
 if_none : (b : Bool) (x s : ℚ) → (b ≡ true → x ≡ 0ℚ) → s ≡ 0ℚ → (if b then x +ℚ s else s) ≡ 0ℚ
-if_none true x s e f = let d = e refl in linear_eq (x ∷ s ∷ []) (eq d ∷ eq f ∷ []) (search reading_of depth 12) tt tt
+if_none true x s e f = let d = e refl in linear_eq (x ∷ s ∷ []) (eq d ∷ eq f ∷ []) (search reading_of) tt tt
 if_none false x s e f = f
 
 along-same : (f g : ℕ → ℚ) (e : ℕ) (links : List ℕ) → ((place : ℕ) → slice_get links place ≡ Some e → f place ≡ g place) → sent_along f e links ≡ sent_along g e links
@@ -72,7 +72,7 @@ routes-none f e [] h = refl
 routes-none f e (route ∷ routes) h = none_both _ _ (along-none (f 0) e route.links (λ p k. h 0 p route refl k)) (routes-none (λ r. f (suc r)) e routes (λ r p x k l. h (suc r) p x k l))
   where
     none_both : (x y : ℚ) → x ≡ 0ℚ → y ≡ 0ℚ → x +ℚ y ≡ 0ℚ
-    none_both x y e f = linear_eq (x ∷ y ∷ []) (eq e ∷ eq f ∷ []) (search reading_of depth 12) tt tt
+    none_both x y e f = linear_eq (x ∷ y ∷ []) (eq e ∷ eq f ∷ []) (search reading_of) tt tt
 
 -- a curve takes each value between two that it has
 pub takes : (points : List (ℚ × ℚ)) (last y : ℚ) → IsCurve points → 0ℚ ≤ℚ last → value points 0ℚ ≤ℚ y → y ≤ℚ value points last → (u : ℚ) × Within 0ℚ last u × (value points u ≡ y)
@@ -130,7 +130,7 @@ module _ (net : Network) (routes : List Route) (horizon : ℚ) (routed : Routed)
   exit-forward e link t p w = on t link.transit (X e t) (good.transits e link p) (IsExit-after link.transit link.capacity (inflow_by routes routed e) t (X e t) (IsPositive-link net e link good p) (exits e link t p w))
     where
       on : (t r x : ℚ) → 0ℚ ≤ℚ r → t +ℚ r ≤ℚ x → t ≤ℚ x
-      on t r x h k = linear_le (t ∷ r ∷ x ∷ []) (le h ∷ le k ∷ []) (search reading_of depth 12) tt
+      on t r x h k = linear_le (t ∷ r ∷ x ∷ []) (le h ∷ le k ∷ []) (search reading_of) tt
 
   -- each time between two exits is an exit
   entry_of : (e : ℕ) (link : Link) (z : ℚ) → IsLink net e link → X e 0ℚ ≤ℚ z → z ≤ℚ X e (E e) → (t : ℚ) × Within 0ℚ (E e) t × (X e t ≡ z)

@@ -105,7 +105,7 @@ module _ (passes : Passing) (net : Network) (routes : List Route) (horizon : ℚ
     }
 
     nothing_first : (x y : ℚ) → x ≡ 0ℚ +ℚ y → x ≡ y
-    nothing_first x y h = linear_eq (x ∷ y ∷ []) (eq h ∷ []) (search reading_of depth 12) tt tt
+    nothing_first x y h = linear_eq (x ∷ y ∷ []) (eq h ∷ []) (search reading_of) tt tt
 
     sum : IsSumWith ((0ℚ, 0ℚ) ∷ []) (λ t. sent_by_routes (λ r place. sent_by all r place t) e routes) step.inflow
     sum = sum-is passes e ((0ℚ, 0ℚ) ∷ []) routes step.begun (λ r place t. sent_by all r place t) step.inflow (refl, tt) enters step.sums
@@ -148,7 +148,7 @@ module _ (passes : Passing) (net : Network) (routes : List Route) (horizon : ℚ
     exits_after t w = on t step.link.transit (value exit t) waits_0 (IsExit-after step.link.transit step.link.capacity (inflow_by routes all e) t (value exit t) positive (exit_is t w))
       where
         on : (t r x : ℚ) → 0ℚ ≤ℚ r → t +ℚ r ≤ℚ x → t ≤ℚ x
-        on t r x h k = linear_le (t ∷ r ∷ x ∷ []) (le h ∷ le k ∷ []) (search reading_of depth 12) tt
+        on t r x h k = linear_le (t ∷ r ∷ x ∷ []) (le h ∷ le k ∷ []) (search reading_of) tt
 
     -- ---- the routes share
     can : (r place : ℕ) (route : Route) → slice_get routes r ≡ Some route → slice_get route.links place ≡ Some e → CanShare exit (entry_at all r place) end

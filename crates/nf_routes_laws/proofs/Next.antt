@@ -29,22 +29,22 @@ use Rattle.nf_rational_laws.proofs.Results.{same_Ok}
 
 -- ---- numbers: on an interval from a to b, exits have the rate e and entries the rate r; n is the slope of entries by exits
 on_line : (n e r d x y z v w : ℚ) → n *ℚ (w -ℚ x) ≡ z -ℚ y → w ≡ x +ℚ e *ℚ d → z ≡ y +ℚ r *ℚ d → 0ℚ <ℚ d → n *ℚ e ≡ r
-on_line n e r d x y z v w f g h k = same_from_times d (n *ℚ e) r k (linear_eq (n ∷ e ∷ r ∷ d ∷ x ∷ y ∷ z ∷ w ∷ []) (eq f ∷ eq_times n g ∷ eq h ∷ []) (search reading_of depth 12) tt tt)
+on_line n e r d x y z v w f g h k = same_from_times d (n *ℚ e) r k (linear_eq (n ∷ e ∷ r ∷ d ∷ x ∷ y ∷ z ∷ w ∷ []) (eq f ∷ eq_times n g ∷ eq h ∷ []) (search reading_of) tt tt)
 
 at_part : (n e r t x y u v : ℚ) → n *ℚ e ≡ r → u ≡ x +ℚ e *ℚ t → v ≡ y +ℚ r *ℚ t → y +ℚ n *ℚ (u -ℚ x) ≡ v
-at_part n e r t x y u v f g h = linear_eq (n ∷ e ∷ r ∷ t ∷ x ∷ y ∷ u ∷ v ∷ []) (eq_times t f ∷ eq_times n g ∷ eq h ∷ []) (search reading_of depth 12) tt tt
+at_part n e r t x y u v f g h = linear_eq (n ∷ e ∷ r ∷ t ∷ x ∷ y ∷ u ∷ v ∷ []) (eq_times t f ∷ eq_times n g ∷ eq h ∷ []) (search reading_of) tt tt
 
 gap : (a b : ℚ) → a <ℚ b → 0ℚ <ℚ b -ℚ a
-gap a b h = linear_lt (a ∷ b ∷ []) (lt h ∷ []) (search reading_of depth 12) tt
+gap a b h = linear_lt (a ∷ b ∷ []) (lt h ∷ []) (search reading_of) tt
 
 strictly : (x y : ℚ) → x ≤ℚ y → x ≢ y → x <ℚ y
 strictly x y h n = ⊎_elim (λ (l : x <ℚ y). l) (λ (l : y ≤ℚ x). absurd (n (≤ℚ_antisymm x y h l))) (lt_or_le_ℚ x y)
 
 no_slope : (n x : ℚ) → n *ℚ (x -ℚ 0ℚ) ≡ 0ℚ -ℚ 0ℚ → 0ℚ <ℚ x → n ≡ 0ℚ
-no_slope n x e h = same_from_times x n 0ℚ h (linear_eq (n ∷ x ∷ []) (eq e ∷ []) (search reading_of depth 12) tt tt)
+no_slope n x e h = same_from_times x n 0ℚ h (linear_eq (n ∷ x ∷ []) (eq e ∷ []) (search reading_of) tt tt)
 
 level : (n z : ℚ) → n ≡ 0ℚ → 0ℚ +ℚ n *ℚ (z -ℚ 0ℚ) ≡ 0ℚ
-level n z e = linear_eq (n ∷ z ∷ []) (eq_times z e ∷ []) (search reading_of depth 12) tt tt
+level n z e = linear_eq (n ∷ z ∷ []) (eq_times z e ∷ []) (search reading_of) tt tt
 
 -- ---- times of points
 beyond-none : (points : List Point) (last t : ℚ) → NoneBeyond points last → IsOne t (times_of points) → t ≤ℚ last

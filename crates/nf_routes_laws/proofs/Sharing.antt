@@ -23,11 +23,11 @@ same_some x y e = cc
 
 -- ---- two sums that are equal, of which no term of the one exceeds that of the other
 if_first : (b : Bool) (x y s t : ℚ) → b ≡ true → s ≤ℚ t → (if b then y +ℚ t else t) ≤ℚ (if b then x +ℚ s else s) → y ≤ℚ x
-if_first true x y s t e h k = linear_le (x ∷ y ∷ s ∷ t ∷ []) (le h ∷ le k ∷ []) (search reading_of depth 12) tt
+if_first true x y s t e h k = linear_le (x ∷ y ∷ s ∷ t ∷ []) (le h ∷ le k ∷ []) (search reading_of) tt
 if_first false x y s t e h k = absurd (cc)
 
 if_rest : (b : Bool) (x y s t : ℚ) → (b ≡ true → x ≤ℚ y) → (if b then y +ℚ t else t) ≤ℚ (if b then x +ℚ s else s) → t ≤ℚ s
-if_rest true x y s t e k = let h = e refl in linear_le (x ∷ y ∷ s ∷ t ∷ []) (le h ∷ le k ∷ []) (search reading_of depth 12) tt
+if_rest true x y s t e k = let h = e refl in linear_le (x ∷ y ∷ s ∷ t ∷ []) (le h ∷ le k ∷ []) (search reading_of) tt
 if_rest false x y s t e k = k
 
 along-each : (f g : ℕ → ℚ) (e : ℕ) (links : List ℕ) → ((place : ℕ) → slice_get links place ≡ Some e → f place ≤ℚ g place) → sent_along g e links ≤ℚ sent_along f e links
@@ -38,10 +38,10 @@ along-each f g e (l ∷ links) h k (suc place) at =
     along-each (λ p. f (suc p)) (λ p. g (suc p)) e links (λ p j. h (suc p) j) (if_rest (eqb l e) (f 0) (g 0) _ _ (λ t. h 0 (ap (λ (x : ℕ). Some x) (eqb-true l e t))) k) place at
 
 first_le : (a b c d : ℚ) → c ≤ℚ d → b +ℚ d ≤ℚ a +ℚ c → b ≤ℚ a
-first_le a b c d h k = linear_le (a ∷ b ∷ c ∷ d ∷ []) (le h ∷ le k ∷ []) (search reading_of depth 12) tt
+first_le a b c d h k = linear_le (a ∷ b ∷ c ∷ d ∷ []) (le h ∷ le k ∷ []) (search reading_of) tt
 
 rest_le : (a b c d : ℚ) → a ≤ℚ b → b +ℚ d ≤ℚ a +ℚ c → d ≤ℚ c
-rest_le a b c d h k = linear_le (a ∷ b ∷ c ∷ d ∷ []) (le h ∷ le k ∷ []) (search reading_of depth 12) tt
+rest_le a b c d h k = linear_le (a ∷ b ∷ c ∷ d ∷ []) (le h ∷ le k ∷ []) (search reading_of) tt
 
 abbrev Each : List Route → ℕ → (ℕ → ℕ → Type 0) → Type 0
 Each routes e P = (r place : ℕ) (route : Route) → slice_get routes r ≡ Some route → slice_get route.links place ≡ Some e → P r place

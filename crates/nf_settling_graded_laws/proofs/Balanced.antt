@@ -28,7 +28,7 @@ use Rattle.nf_settling_graded_laws.proofs.Lowers.{lower}
 use Rattle.nf_settling_graded_laws.proofs.Leasts.{IsLeast, least_supply}
 
 no_spare : (i o d : ℚ) → 0ℚ ≤ℚ i -ℚ (o +ℚ d) → i -ℚ (o +ℚ d) ≤ℚ 0ℚ → o -ℚ i ≡ 0ℚ -ℚ d
-no_spare i o d h k = linear_eq (i ∷ o ∷ d ∷ []) (le h ∷ le k ∷ []) (search reading_of depth 12) tt tt
+no_spare i o d h k = linear_eq (i ∷ o ∷ d ∷ []) (le h ∷ le k ∷ []) (search reading_of) tt tt
 
 -- A static flow that fits the levels, for these capacities.
 pub record IsGradedBy (net : Network) (cap : Link → Option ℚ) (rate : ℚ) (flows levels : ℕ → ℚ) : Type 0 where
@@ -73,7 +73,7 @@ module _ (net : Network) (cap : Link → Option ℚ) (rate : ℚ) (good : IsNetw
     inner v h s t = nothing _ _ (balance v h s) (demand_else v t)
       where
         nothing : (y d : ℚ) → y ≡ 0ℚ -ℚ d → d ≡ 0ℚ → y ≡ 0ℚ
-        nothing y d e f = linear_eq (y ∷ d ∷ []) (eq e ∷ eq f ∷ []) (search reading_of depth 12) tt tt
+        nothing y d e f = linear_eq (y ∷ d ∷ []) (eq e ∷ eq f ∷ []) (search reading_of) tt tt
 
     source : out_less_in net.links flows net.source ≡ rate
     source = gives _ _ _ (two_cancel net.nodes net.source net.sink (out_less_in net.links flows) good.source good.sink good.apart inner
@@ -81,7 +81,7 @@ module _ (net : Network) (cap : Link → Option ℚ) (rate : ℚ) (good : IsNetw
         (balance net.sink good.sink (λ e. good.apart (sym e))) demand_sink
       where
         gives : (y z d : ℚ) → y +ℚ z ≡ 0ℚ → z ≡ 0ℚ -ℚ d → d ≡ rate → y ≡ rate
-        gives y z d e f g = linear_eq (y ∷ z ∷ d ∷ rate ∷ []) (eq e ∷ eq f ∷ eq g ∷ []) (search reading_of depth 12) tt tt
+        gives y z d e f g = linear_eq (y ∷ z ∷ d ∷ rate ∷ []) (eq e ∷ eq f ∷ eq g ∷ []) (search reading_of) tt tt
 
     -- A shut link leads to no higher level.
     shut_down : (e : ℕ) (link : Link) → IsLink net e link → (IsOpen net link → ⊥) → levels link.head ≤ℚ levels link.tail
@@ -146,30 +146,30 @@ module _ (net : Network) (cap : Link → Option ℚ) (rate : ℚ) (good : IsNetw
             spare_nn v l other = spare_of_enough _ _ _ (least.over.enough v l other)
 
             taken : (s t a : ℚ) → t ≡ s +ℚ (0ℚ -ℚ a) → a ≤ℚ s → 0ℚ ≤ℚ t
-            taken s t a e h = linear_le (s ∷ t ∷ a ∷ []) (eq e ∷ le h ∷ []) (search reading_of depth 12) tt
+            taken s t a e h = linear_le (s ∷ t ∷ a ∷ []) (eq e ∷ le h ∷ []) (search reading_of) tt
 
             given : (s t a : ℚ) → t ≡ s -ℚ (0ℚ -ℚ a) → 0ℚ ≤ℚ s → 0ℚ <ℚ a → 0ℚ ≤ℚ t
-            given s t a e h k = linear_le (s ∷ t ∷ a ∷ []) (eq e ∷ le h ∷ lt k ∷ []) (search reading_of depth 12) tt
+            given s t a e h k = linear_le (s ∷ t ∷ a ∷ []) (eq e ∷ le h ∷ lt k ∷ []) (search reading_of) tt
 
         new_supply : IsSupply net cap rate new levels
         new_supply = IsSupply-pushed net cap rate flows levels good positive least.over e link p d is_open level (less_flow (flows e) a part.1.most)
             (λ c k. still_most (flows e) a _ part.1.above ((least.over.fits e link p is_open).most c k)) left
           where
             less_flow : (x a : ℚ) → a ≤ℚ x → 0ℚ ≤ℚ x +ℚ (0ℚ -ℚ a)
-            less_flow x a h = linear_le (x ∷ a ∷ []) (le h ∷ []) (search reading_of depth 12) tt
+            less_flow x a h = linear_le (x ∷ a ∷ []) (le h ∷ []) (search reading_of) tt
 
             still_most : (x a y : ℚ) → 0ℚ <ℚ a → x ≤ℚ y → x +ℚ (0ℚ -ℚ a) ≤ℚ y
-            still_most x a y h k = linear_le (x ∷ a ∷ y ∷ []) (lt h ∷ le k ∷ []) (search reading_of depth 12) tt
+            still_most x a y h k = linear_le (x ∷ a ∷ y ∷ []) (lt h ∷ le k ∷ []) (search reading_of) tt
 
         less_inflow : sum_to net.nodes (sum_in net.links new) <ℚ sum_to net.nodes (sum_in net.links flows)
         less_inflow = sum_to-lt net.nodes (sum_in net.links new) (sum_in net.links flows) (λ v _. no_more v) link.head (good.heads e link p)
             (less (sum_in net.links flows link.head) _ _ a (only_at-here link.head 1ℚ) (in-pushed net rate flows e link p d link.head) part.1.above)
           where
             less : (x y b a : ℚ) → b ≡ 1ℚ → y ≡ x +ℚ b *ℚ (0ℚ -ℚ a) → 0ℚ <ℚ a → y <ℚ x
-            less x y b a e f h = linear_lt (x ∷ y ∷ b ∷ a ∷ []) (eq_times a e ∷ eq f ∷ lt h ∷ []) (search reading_of depth 12) tt
+            less x y b a e f h = linear_lt (x ∷ y ∷ b ∷ a ∷ []) (eq_times a e ∷ eq f ∷ lt h ∷ []) (search reading_of) tt
 
             same : (x y b a : ℚ) → b ≡ 0ℚ → y ≡ x +ℚ b *ℚ (0ℚ -ℚ a) → y ≤ℚ x
-            same x y b a e f = linear_le (x ∷ y ∷ b ∷ a ∷ []) (eq_times a e ∷ eq f ∷ []) (search reading_of depth 12) tt
+            same x y b a e f = linear_le (x ∷ y ∷ b ∷ a ∷ []) (eq_times a e ∷ eq f ∷ []) (search reading_of) tt
 
             no_more : (v : ℕ) → sum_in net.links new v ≤ℚ sum_in net.links flows v
             no_more v = ⊎_elim

@@ -21,28 +21,28 @@ use Rattle.nf_settling_graded_laws.proofs.Supplies.{IsOpen, open_or_not, IsSuppl
 
 -- ---- numbers
 left_over : (s t a : ℚ) → t ≡ s -ℚ a → a <ℚ s → 0ℚ <ℚ t
-left_over s t a e h = linear_lt (s ∷ t ∷ a ∷ []) (eq e ∷ lt h ∷ []) (search reading_of depth 12) tt
+left_over s t a e h = linear_lt (s ∷ t ∷ a ∷ []) (eq e ∷ lt h ∷ []) (search reading_of) tt
 
 gained : (s t a : ℚ) → t ≡ s +ℚ a → 0ℚ ≤ℚ s → 0ℚ <ℚ a → 0ℚ <ℚ t
-gained s t a e h k = linear_lt (s ∷ t ∷ a ∷ []) (eq e ∷ le h ∷ lt k ∷ []) (search reading_of depth 12) tt
+gained s t a e h k = linear_lt (s ∷ t ∷ a ∷ []) (eq e ∷ le h ∷ lt k ∷ []) (search reading_of) tt
 
 taken : (s t a : ℚ) → t ≡ s +ℚ (0ℚ -ℚ a) → a ≤ℚ s → 0ℚ ≤ℚ t
-taken s t a e h = linear_le (s ∷ t ∷ a ∷ []) (eq e ∷ le h ∷ []) (search reading_of depth 12) tt
+taken s t a e h = linear_le (s ∷ t ∷ a ∷ []) (eq e ∷ le h ∷ []) (search reading_of) tt
 
 more_flow : (x a : ℚ) → 0ℚ ≤ℚ x → 0ℚ <ℚ a → 0ℚ ≤ℚ x +ℚ a
-more_flow x a h k = linear_le (x ∷ a ∷ []) (le h ∷ lt k ∷ []) (search reading_of depth 12) tt
+more_flow x a h k = linear_le (x ∷ a ∷ []) (le h ∷ lt k ∷ []) (search reading_of) tt
 
 less_flow : (x a : ℚ) → a ≤ℚ x → 0ℚ ≤ℚ x +ℚ (0ℚ -ℚ a)
-less_flow x a h = linear_le (x ∷ a ∷ []) (le h ∷ []) (search reading_of depth 12) tt
+less_flow x a h = linear_le (x ∷ a ∷ []) (le h ∷ []) (search reading_of) tt
 
 still_most : (x a y : ℚ) → 0ℚ <ℚ a → x ≤ℚ y → x +ℚ (0ℚ -ℚ a) ≤ℚ y
-still_most x a y h k = linear_le (x ∷ a ∷ y ∷ []) (lt h ∷ le k ∷ []) (search reading_of depth 12) tt
+still_most x a y h k = linear_le (x ∷ a ∷ y ∷ []) (lt h ∷ le k ∷ []) (search reading_of) tt
 
 plus_less : (s t a : ℚ) → t ≡ s +ℚ (0ℚ -ℚ a) → t ≡ s -ℚ a
-plus_less s t a e = linear_eq (s ∷ t ∷ a ∷ []) (eq e ∷ []) (search reading_of depth 12) tt tt
+plus_less s t a e = linear_eq (s ∷ t ∷ a ∷ []) (eq e ∷ []) (search reading_of) tt tt
 
 less_less : (s t a : ℚ) → t ≡ s -ℚ (0ℚ -ℚ a) → t ≡ s +ℚ a
-less_less s t a e = linear_eq (s ∷ t ∷ a ∷ []) (eq e ∷ []) (search reading_of depth 12) tt tt
+less_less s t a e = linear_eq (s ∷ t ∷ a ∷ []) (eq e ∷ []) (search reading_of) tt tt
 
 -- A supply whose nodes with excess have levels above 1.
 pub record IsLifted (net : Network) (cap : Link → Option ℚ) (rate : ℚ) (levels flows : ℕ → ℚ) : Type 0 where

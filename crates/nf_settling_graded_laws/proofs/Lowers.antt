@@ -40,10 +40,10 @@ pub record IsSmall (net : Network) (cap : Link → Option ℚ) (rate : ℚ) (flo
   pub paid : (v : ℕ) → v < net.nodes → HasSpare net rate flows v → sum_in net.links (capacity_at net cap) v *ℚ h ≤ℚ spare net rate flows v
 
 enough_by_rest : (o d i p q k : ℚ) → p ≤ℚ o → i ≤ℚ q +ℚ k → k ≤ℚ i -ℚ (o +ℚ d) → p +ℚ d ≤ℚ q
-enough_by_rest o d i p q k h l m = linear_le (o ∷ d ∷ i ∷ p ∷ q ∷ k ∷ []) (le h ∷ le l ∷ le m ∷ []) (search reading_of depth 12) tt
+enough_by_rest o d i p q k h l m = linear_le (o ∷ d ∷ i ∷ p ∷ q ∷ k ∷ []) (le h ∷ le l ∷ le m ∷ []) (search reading_of) tt
 
 enough_by_same : (o d i p q : ℚ) → p ≤ℚ o → q ≡ i → o +ℚ d ≤ℚ i → p +ℚ d ≤ℚ q
-enough_by_same o d i p q h e m = linear_le (o ∷ d ∷ i ∷ p ∷ q ∷ []) (le h ∷ eq e ∷ le m ∷ []) (search reading_of depth 12) tt
+enough_by_same o d i p q h e m = linear_le (o ∷ d ∷ i ∷ p ∷ q ∷ []) (le h ∷ eq e ∷ le m ∷ []) (search reading_of) tt
 
 module _ (net : Network) (cap : Link → Option ℚ) (rate : ℚ) (flows levels : ℕ → ℚ) (good : IsNetwork net)
     (positive : (e : ℕ) (link : Link) → IsLink net e link → IsPositive (cap link))
@@ -132,7 +132,7 @@ module _ (net : Network) (cap : Link → Option ℚ) (rate : ℚ) (flows levels 
         (lowered-cases v)
       where
         left : (x y : ℚ) → y ≡ x -ℚ h → h ≤ℚ x -ℚ 1ℚ → 1ℚ ≤ℚ y
-        left x y e k = linear_le (x ∷ y ∷ h ∷ []) (eq e ∷ le k ∷ []) (search reading_of depth 12) tt
+        left x y e k = linear_le (x ∷ y ∷ h ∷ []) (eq e ∷ le k ∷ []) (search reading_of) tt
 
     lowered-not_negative : (v : ℕ) → v < net.nodes → 0ℚ ≤ℚ lowered v
     lowered-not_negative v l = above_0 (lowered v) (lowered-keeps_up v l)
@@ -220,7 +220,7 @@ module _ (net : Network) (cap : Link → Option ℚ) (rate : ℚ) (flows levels 
     lowered-less v l s k = sum_to-lt net.nodes lowered levels (λ u _. lowered-le u) v l (less (levels v) (lowered v) (lowered-is v s))
       where
         less : (x y : ℚ) → y ≡ x -ℚ h → y <ℚ x
-        less x y e = linear_lt (x ∷ y ∷ h ∷ []) (eq e ∷ lt k ∷ []) (search reading_of depth 12) tt
+        less x y e = linear_lt (x ∷ y ∷ h ∷ []) (eq e ∷ lt k ∷ []) (search reading_of) tt
 
   -- If a node has excess, there is a supply with a smaller sum of levels.
   pub lower : (v : ℕ) → v < net.nodes → HasSpare net rate flows v

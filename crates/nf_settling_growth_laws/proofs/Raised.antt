@@ -64,7 +64,7 @@ module _ (n c p q x s t y z : ℚ) (n_nn : 0ℚ ≤ℚ n) (n_le : n ≤ℚ c) (p
   m_gap = max_right 0ℚ (q -ℚ p)
 
   c_nn : 0ℚ ≤ℚ c
-  c_nn = linear_le (n ∷ c ∷ []) (le n_nn ∷ le n_le ∷ []) (search reading_of depth 12) tt
+  c_nn = linear_le (n ∷ c ∷ []) (le n_nn ∷ le n_le ∷ []) (search reading_of) tt
 
   abbrev Done : ℚ → Type 0
   Done k = Raises n c p q x s t y z k
@@ -80,15 +80,15 @@ module _ (n c p q x s t y z : ℚ) (n_nn : 0ℚ ≤ℚ n) (n_le : n ≤ℚ c) (p
   }
     where
       flow_ge : n *ℚ t ≤ℚ x → (n *ℚ q) *ℚ z ≤ℚ x
-      flow_ge h = linear_le (n ∷ q ∷ z ∷ x ∷ t ∷ []) (le h ∷ eq_times n head ∷ []) (search reading_of depth 12) tt
+      flow_ge h = linear_le (n ∷ q ∷ z ∷ x ∷ t ∷ []) (le h ∷ eq_times n head ∷ []) (search reading_of) tt
 
       flow_le : x ≤ℚ n *ℚ t → x ≤ℚ (n *ℚ q) *ℚ z
-      flow_le h = linear_le (n ∷ q ∷ z ∷ x ∷ t ∷ []) (le h ∷ eq_times n head ∷ []) (search reading_of depth 12) tt
+      flow_le h = linear_le (n ∷ q ∷ z ∷ x ∷ t ∷ []) (le h ∷ eq_times n head ∷ []) (search reading_of) tt
 
       paid : (g : ℚ) → 0ℚ ≤ℚ g → q -ℚ p ≤ℚ g → n *ℚ (t -ℚ s) ≤ℚ (n *ℚ q) *ℚ (z -ℚ y) +ℚ 1ℚ *ℚ ((c *ℚ g) *ℚ y)
       paid g h k =
-          let w : n *ℚ (q -ℚ p) ≤ℚ c *ℚ g = linear_le (n ∷ q ∷ p ∷ c ∷ g ∷ []) (le_times n_nn k ∷ le_times h n_le ∷ []) (search reading_of depth 12) tt in
-          linear_le (n ∷ q ∷ p ∷ c ∷ g ∷ s ∷ t ∷ y ∷ z ∷ []) (le_times y_nn w ∷ eq_times n head ∷ eq_times n tail ∷ []) (search reading_of depth 14) tt
+          let w : n *ℚ (q -ℚ p) ≤ℚ c *ℚ g = linear_le (n ∷ q ∷ p ∷ c ∷ g ∷ []) (le_times n_nn k ∷ le_times h n_le ∷ []) (search reading_of) tt in
+          linear_le (n ∷ q ∷ p ∷ c ∷ g ∷ s ∷ t ∷ y ∷ z ∷ []) (le_times y_nn w ∷ eq_times n head ∷ eq_times n tail ∷ []) (search reading_of) tt
 
   steep_case : n ≡ 0ℚ → p <ℚ q → s ≡ t → Done (c *ℚ q)
   steep_case e up same = record {
@@ -98,32 +98,32 @@ module _ (n c p q x s t y z : ℚ) (n_nn : 0ℚ ≤ℚ n) (n_le : n ≤ℚ c) (p
     where
       lower : q *ℚ z ≤ℚ q *ℚ y
       lower = let l : p ≤ℚ q = ≤ℚ_of_lt _ _ up in linear_le (p ∷ q ∷ y ∷ z ∷ s ∷ t ∷ []) (eq tail ∷ eq head ∷ eq same ∷ le_times y_nn l ∷ [])
-          (search reading_of depth 12) tt
+          (search reading_of) tt
 
       flow_le : x ≤ℚ c *ℚ t → x ≤ℚ (c *ℚ q) *ℚ z
-      flow_le h = linear_le (c ∷ q ∷ z ∷ x ∷ t ∷ []) (le h ∷ eq_times c head ∷ []) (search reading_of depth 12) tt
+      flow_le h = linear_le (c ∷ q ∷ z ∷ x ∷ t ∷ []) (le h ∷ eq_times c head ∷ []) (search reading_of) tt
 
       paid : (g : ℚ) → q -ℚ p ≤ℚ g → n *ℚ (t -ℚ s) ≤ℚ (c *ℚ q) *ℚ (z -ℚ y) +ℚ 1ℚ *ℚ ((c *ℚ g) *ℚ y)
       paid g k =
-          let w : c *ℚ (q -ℚ p) ≤ℚ c *ℚ g = linear_le (c ∷ q ∷ p ∷ g ∷ []) (le_times c_nn k ∷ []) (search reading_of depth 12) tt in
+          let w : c *ℚ (q -ℚ p) ≤ℚ c *ℚ g = linear_le (c ∷ q ∷ p ∷ g ∷ []) (le_times c_nn k ∷ []) (search reading_of) tt in
           linear_le (n ∷ q ∷ p ∷ c ∷ g ∷ s ∷ t ∷ y ∷ z ∷ [])
-          (le_times y_nn w ∷ eq_times (t -ℚ s) e ∷ eq_times c tail ∷ eq_times c head ∷ eq_times c same ∷ []) (search reading_of depth 14) tt
+          (le_times y_nn w ∷ eq_times (t -ℚ s) e ∷ eq_times c tail ∷ eq_times c head ∷ eq_times c same ∷ []) (search reading_of) tt
 
   nothing_paid : n ≡ 0ℚ → n *ℚ (t -ℚ s) ≤ℚ 0ℚ *ℚ (z -ℚ y) +ℚ 1ℚ *ℚ ((c *ℚ m) *ℚ y)
   nothing_paid e = paid m (nn_times c m c_nn m_nn)
     where
       paid : (g : ℚ) → 0ℚ ≤ℚ c *ℚ g → n *ℚ (t -ℚ s) ≤ℚ 0ℚ *ℚ (z -ℚ y) +ℚ 1ℚ *ℚ ((c *ℚ g) *ℚ y)
-      paid g h = linear_le (n ∷ c ∷ g ∷ s ∷ t ∷ y ∷ z ∷ []) (le_times y_nn h ∷ eq_times (t -ℚ s) e ∷ []) (search reading_of depth 14) tt
+      paid g h = linear_le (n ∷ c ∷ g ∷ s ∷ t ∷ y ∷ z ∷ []) (le_times y_nn h ∷ eq_times (t -ℚ s) e ∷ []) (search reading_of) tt
 
   none_up : 0ℚ *ℚ z ≤ℚ x
-  none_up = linear_le (z ∷ x ∷ []) (le x_nn ∷ []) (search reading_of depth 12) tt
+  none_up = linear_le (z ∷ x ∷ []) (le x_nn ∷ []) (search reading_of) tt
 
   zero_nn : 0ℚ ≤ℚ 0ℚ
-  zero_nn = linear_le [] [] (search reading_of depth 12) tt
+  zero_nn = linear_le [] [] (search reading_of) tt
 
   empty_case : n ≡ 0ℚ → x ≡ 0ℚ → Done 0ℚ
   empty_case e f = record {
-    bears = record { not_negative = zero_nn; up = inr none_up; down = inr (linear_le (z ∷ x ∷ []) (eq f ∷ []) (search reading_of depth 12) tt) };
+    bears = record { not_negative = zero_nn; up = inr none_up; down = inr (linear_le (z ∷ x ∷ []) (eq f ∷ []) (search reading_of) tt) };
     pays = nothing_paid e;
   }
 
@@ -134,7 +134,7 @@ module _ (n c p q x s t y z : ℚ) (n_nn : 0ℚ ≤ℚ n) (n_le : n ≤ℚ c) (p
   }
     where
       higher : p *ℚ y ≤ℚ p *ℚ z
-      higher = linear_le (p ∷ q ∷ y ∷ z ∷ s ∷ t ∷ []) (eq tail ∷ eq head ∷ eq same ∷ le_times z_nn down ∷ []) (search reading_of depth 12) tt
+      higher = linear_le (p ∷ q ∷ y ∷ z ∷ s ∷ t ∷ []) (eq tail ∷ eq head ∷ eq same ∷ le_times z_nn down ∷ []) (search reading_of) tt
 
   pub raises : Kind n x s t → Raises n c p q x s t y z (raised n x c p q)
   raises (inl (some, e)) = subst Done (sym (raised-full n x c p q some)) (full e)

@@ -29,10 +29,10 @@ module _ (net : Network) (good : IsNetwork net) (rate : ℚ) (flows : ℕ → �
       (eqb_tells v net.source)
     where
       at_sink : (a b y : ℚ) → a ≡ b → (a -ℚ b) *ℚ y ≡ 0ℚ
-      at_sink a b y e = linear_eq (a ∷ b ∷ y ∷ []) (eq_times y e ∷ []) (search reading_of depth 12) tt tt
+      at_sink a b y e = linear_eq (a ∷ b ∷ y ∷ []) (eq_times y e ∷ []) (search reading_of) tt tt
 
       at_inner : (a y : ℚ) → y ≡ 0ℚ → a *ℚ y ≡ 0ℚ
-      at_inner a y e = linear_eq (a ∷ y ∷ []) (eq_times a e ∷ []) (search reading_of depth 12) tt tt
+      at_inner a y e = linear_eq (a ∷ y ∷ []) (eq_times a e ∷ []) (search reading_of) tt tt
 
       elsewhere : v ≢ net.source → shifted v *ℚ out_less_in net.links flows v ≡ 0ℚ
       elsewhere other = ⊎_elim
@@ -48,4 +48,4 @@ module _ (net : Network) (good : IsNetwork net) (rate : ℚ) (flows : ℕ → �
       ∙ sum_to-only net.nodes net.source sent good.source) ∙ turned (w net.source) (w net.sink)
     where
       turned : (a b : ℚ) → 0ℚ -ℚ (a -ℚ b) *ℚ rate ≡ rate *ℚ (b -ℚ a)
-      turned a b = linear_eq (a ∷ b ∷ rate ∷ []) [] (search reading_of depth 12) tt tt
+      turned a b = linear_eq (a ∷ b ∷ rate ∷ []) [] (search reading_of) tt tt

@@ -34,13 +34,13 @@ change net sets rate slopes = link_sum net.links (λ e link. filled sets slopes 
 
 -- ---- over plain numbers
 less_of_le : (f c : ℚ) → f ≤ℚ c → f -ℚ c ≤ℚ 0ℚ
-less_of_le f c h = linear_le (f ∷ c ∷ []) (le h ∷ []) (search reading_of depth 12) tt
+less_of_le f c h = linear_le (f ∷ c ∷ []) (le h ∷ []) (search reading_of) tt
 
 less_of_lt : (f c : ℚ) → f <ℚ c → f -ℚ c <ℚ 0ℚ
-less_of_lt f c h = linear_lt (f ∷ c ∷ []) (lt h ∷ []) (search reading_of depth 12) tt
+less_of_lt f c h = linear_lt (f ∷ c ∷ []) (lt h ∷ []) (search reading_of) tt
 
 ≤_<_trans : (s t a : ℚ) → s ≤ℚ a → a <ℚ t → s <ℚ t
-≤_<_trans s t a h k = linear_lt (s ∷ t ∷ a ∷ []) (le h ∷ lt k ∷ []) (search reading_of depth 12) tt
+≤_<_trans s t a h k = linear_lt (s ∷ t ∷ a ∷ []) (le h ∷ lt k ∷ []) (search reading_of) tt
 
 le_or_not : (x y : ℚ) → Decided (x ≤ℚ y)
 le_or_not x y = ⊎_elim (λ (h : y <ℚ x). inr (λ k. not_both_ℚ _ _ h k)) (λ (h : x ≤ℚ y). inl h) (lt_or_le_ℚ y x)
@@ -51,8 +51,8 @@ Bears-kind n x s t (inl (some, full)) =
     record { not_negative = ≤ℚ_of_lt _ _ some; up = inr (≤ℚ_of_same _ _ (sym full)); down = inr (≤ℚ_of_same _ _ full) }
 Bears-kind n x s t (inr (none, inl empty)) = record {
   not_negative = ≤ℚ_of_same _ _ (sym none);
-  up = inr (linear_le (n ∷ x ∷ t ∷ []) (eq_times t none ∷ eq empty ∷ []) (search reading_of depth 12) tt);
-  down = inr (linear_le (n ∷ x ∷ t ∷ []) (eq_times t none ∷ eq empty ∷ []) (search reading_of depth 12) tt);
+  up = inr (linear_le (n ∷ x ∷ t ∷ []) (eq_times t none ∷ eq empty ∷ []) (search reading_of) tt);
+  down = inr (linear_le (n ∷ x ∷ t ∷ []) (eq_times t none ∷ eq empty ∷ []) (search reading_of) tt);
 }
 Bears-kind n x s t (inr (none, inr level)) =
     record { not_negative = ≤ℚ_of_same _ _ (sym none); up = inl (≤ℚ_of_same _ _ (sym level)); down = inl (≤ℚ_of_same _ _ level) }

@@ -74,7 +74,7 @@ kind_of false true true (Some c) x s t p n m e off law =
     ⊎_elim
     (λ (k : t ≤ℚ s). absurd (not_both_ℚ _ _ up k))
     (λ (k : c *ℚ t ≤ℚ x).
-    let head : 0ℚ <ℚ t = linear_lt (s ∷ t ∷ []) (le m ∷ lt up ∷ []) (search reading_of depth 12) tt in
+    let head : 0ℚ <ℚ t = linear_lt (s ∷ t ∷ []) (le m ∷ lt up ∷ []) (search reading_of) tt in
     inl (p c refl, ≤ℚ_antisymm _ _ ((law refl).used refl (<_≤_trans _ _ _ (ps_times c t (p c refl) head) k)).1 k))
     ((law refl).upper refl)
 kind_of false true false None x s t p n m e off law = inr (refl, used_level x s t n (law refl).used)

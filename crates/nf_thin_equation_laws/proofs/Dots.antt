@@ -18,31 +18,31 @@ dot f (u ∷ us) (x ∷ xs) = f u *ℚ x +ℚ dot f us xs
 
 -- ---- equations of rationals
 none_first : (a : ℚ) → a ≡ 0ℚ +ℚ a
-none_first a = linear_eq (a ∷ []) [] (search reading_of depth 12) tt tt
+none_first a = linear_eq (a ∷ []) [] (search reading_of) tt tt
 
 regroup : (a d u v : ℚ) → d ≡ u +ℚ v → a +ℚ d ≡ (a +ℚ u) +ℚ v
-regroup a d u v e = linear_eq (a ∷ d ∷ u ∷ v ∷ []) (eq e ∷ []) (search reading_of depth 12) tt tt
+regroup a d u v e = linear_eq (a ∷ d ∷ u ∷ v ∷ []) (eq e ∷ []) (search reading_of) tt tt
 
 nothing : 0ℚ ≡ 0ℚ +ℚ 0ℚ
-nothing = linear_eq [] [] (search reading_of depth 12) tt tt
+nothing = linear_eq [] [] (search reading_of) tt tt
 
 term_gone : (f x d : ℚ) → f ≡ 0ℚ → d ≡ 0ℚ → f *ℚ x +ℚ d ≡ 0ℚ
-term_gone f x d e h = linear_eq (f ∷ x ∷ d ∷ []) (eq_times x e ∷ eq h ∷ []) (search reading_of depth 12) tt tt
+term_gone f x d e h = linear_eq (f ∷ x ∷ d ∷ []) (eq_times x e ∷ eq h ∷ []) (search reading_of) tt tt
 
 term_skipped : (f x d y : ℚ) → f ≡ 0ℚ → d ≡ y → f *ℚ x +ℚ d ≡ y
-term_skipped f x d y e h = linear_eq (f ∷ x ∷ d ∷ y ∷ []) (eq_times x e ∷ eq h ∷ []) (search reading_of depth 12) tt tt
+term_skipped f x d y e h = linear_eq (f ∷ x ∷ d ∷ y ∷ []) (eq_times x e ∷ eq h ∷ []) (search reading_of) tt tt
 
 term_only : (f c x d : ℚ) → f ≡ c → d ≡ 0ℚ → f *ℚ x +ℚ d ≡ c *ℚ x
-term_only f c x d e h = linear_eq (f ∷ c ∷ x ∷ d ∷ []) (eq_times x e ∷ eq h ∷ []) (search reading_of depth 12) tt tt
+term_only f c x d e h = linear_eq (f ∷ c ∷ x ∷ d ∷ []) (eq_times x e ∷ eq h ∷ []) (search reading_of) tt tt
 
 terms_less : (f g h x d a b : ℚ) → f ≡ g -ℚ h → d ≡ a -ℚ b → f *ℚ x +ℚ d ≡ (g *ℚ x +ℚ a) -ℚ (h *ℚ x +ℚ b)
-terms_less f g h x d a b e k = linear_eq (f ∷ g ∷ h ∷ x ∷ d ∷ a ∷ b ∷ []) (eq_times x e ∷ eq k ∷ []) (search reading_of depth 12) tt tt
+terms_less f g h x d a b e k = linear_eq (f ∷ g ∷ h ∷ x ∷ d ∷ a ∷ b ∷ []) (eq_times x e ∷ eq k ∷ []) (search reading_of) tt tt
 
 none_less : 0ℚ ≡ 0ℚ -ℚ 0ℚ
-none_less = linear_eq [] [] (search reading_of depth 12) tt tt
+none_less = linear_eq [] [] (search reading_of) tt tt
 
 times_none : (c : ℚ) → 0ℚ ≡ c *ℚ 0ℚ
-times_none c = linear_eq (c ∷ []) [] (search reading_of depth 12) tt tt
+times_none c = linear_eq (c ∷ []) [] (search reading_of) tt tt
 
 -- ---- a row of a table
 module _ {A : Type 0} (f : A → ℚ) where
@@ -126,15 +126,15 @@ active-only (false ∷ active) k (suc i) e c xs same l = active-only active (suc
 
 -- ---- at a node
 both_ends : (a b : Bool) (f x so si d : ℚ) → f ≡ one_if a -ℚ one_if b → d ≡ so -ℚ si → f *ℚ x +ℚ d ≡ (if a then x +ℚ so else so) -ℚ (if b then x +ℚ si else si)
-both_ends true true f x so si d e h = linear_eq (f ∷ x ∷ so ∷ si ∷ d ∷ []) (eq_times x e ∷ eq h ∷ []) (search reading_of depth 12) tt tt
-both_ends true false f x so si d e h = linear_eq (f ∷ x ∷ so ∷ si ∷ d ∷ []) (eq_times x e ∷ eq h ∷ []) (search reading_of depth 12) tt tt
-both_ends false true f x so si d e h = linear_eq (f ∷ x ∷ so ∷ si ∷ d ∷ []) (eq_times x e ∷ eq h ∷ []) (search reading_of depth 12) tt tt
-both_ends false false f x so si d e h = linear_eq (f ∷ x ∷ so ∷ si ∷ d ∷ []) (eq_times x e ∷ eq h ∷ []) (search reading_of depth 12) tt tt
+both_ends true true f x so si d e h = linear_eq (f ∷ x ∷ so ∷ si ∷ d ∷ []) (eq_times x e ∷ eq h ∷ []) (search reading_of) tt tt
+both_ends true false f x so si d e h = linear_eq (f ∷ x ∷ so ∷ si ∷ d ∷ []) (eq_times x e ∷ eq h ∷ []) (search reading_of) tt tt
+both_ends false true f x so si d e h = linear_eq (f ∷ x ∷ so ∷ si ∷ d ∷ []) (eq_times x e ∷ eq h ∷ []) (search reading_of) tt tt
+both_ends false false f x so si d e h = linear_eq (f ∷ x ∷ so ∷ si ∷ d ∷ []) (eq_times x e ∷ eq h ∷ []) (search reading_of) tt tt
 
 no_flow : (a b : Bool) (so si d : ℚ) → d ≡ so -ℚ si → d ≡ (if a then 0ℚ +ℚ so else so) -ℚ (if b then 0ℚ +ℚ si else si)
-no_flow true true so si d h = linear_eq (so ∷ si ∷ d ∷ []) (eq h ∷ []) (search reading_of depth 12) tt tt
-no_flow true false so si d h = linear_eq (so ∷ si ∷ d ∷ []) (eq h ∷ []) (search reading_of depth 12) tt tt
-no_flow false true so si d h = linear_eq (so ∷ si ∷ d ∷ []) (eq h ∷ []) (search reading_of depth 12) tt tt
+no_flow true true so si d h = linear_eq (so ∷ si ∷ d ∷ []) (eq h ∷ []) (search reading_of) tt tt
+no_flow true false so si d h = linear_eq (so ∷ si ∷ d ∷ []) (eq h ∷ []) (search reading_of) tt tt
+no_flow false true so si d h = linear_eq (so ∷ si ∷ d ∷ []) (eq h ∷ []) (search reading_of) tt tt
 no_flow false false so si d h = h
 
 pub node-dot : (links : List Link) (active : List Bool) (k : ℕ) (h : ℕ → ℚ) (xs : List ℚ) (v : ℕ) → length active ≡ length links → length xs ≡ length (active_from k active)

@@ -17,16 +17,16 @@ use Rattle.nf_thin_equation_laws.proofs.Dots.{dot, dot-append, dot-zero, dot-les
 use Rattle.nf_thin_equation_laws.proofs.Packed.{front-length, rest-length}
 
 first_only : (a b c : ℚ) → a ≡ c → b ≡ 0ℚ → a +ℚ b ≡ c
-first_only a b c e h = linear_eq (a ∷ b ∷ c ∷ []) (eq e ∷ eq h ∷ []) (search reading_of depth 12) tt tt
+first_only a b c e h = linear_eq (a ∷ b ∷ c ∷ []) (eq e ∷ eq h ∷ []) (search reading_of) tt tt
 
 second_only : (a b c : ℚ) → a ≡ 0ℚ → b ≡ c → a +ℚ b ≡ c
-second_only a b c e h = linear_eq (a ∷ b ∷ c ∷ []) (eq e ∷ eq h ∷ []) (search reading_of depth 12) tt tt
+second_only a b c e h = linear_eq (a ∷ b ∷ c ∷ []) (eq e ∷ eq h ∷ []) (search reading_of) tt tt
 
 once : (x : ℚ) → 1ℚ *ℚ x ≡ x
-once x = linear_eq (x ∷ []) [] (search reading_of depth 12) tt tt
+once x = linear_eq (x ∷ []) [] (search reading_of) tt tt
 
 both_once : (x y : ℚ) → 1ℚ *ℚ x -ℚ 1ℚ *ℚ y ≡ x -ℚ y
-both_once x y = linear_eq (x ∷ y ∷ []) [] (search reading_of depth 12) tt tt
+both_once x y = linear_eq (x ∷ y ∷ []) [] (search reading_of) tt tt
 
 -- ---- the unknowns
 module _ (net : Network) (sets : Sets) where

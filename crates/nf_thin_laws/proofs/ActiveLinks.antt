@@ -45,13 +45,13 @@ AreSets-sets_at net labels = record {
 
 -- ---- along active links, labels grow by the transit times
 pub along_none : (a b : ℚ) → a ≡ b → a +ℚ 0ℚ ≤ℚ b
-along_none a b e = linear_le (a ∷ b ∷ []) (eq e ∷ []) (search reading_of depth 12) tt
+along_none a b e = linear_le (a ∷ b ∷ []) (eq e ∷ []) (search reading_of) tt
 
 pub along_more : (a b c r s l : ℚ) → 0ℚ ≤ℚ b -ℚ (a +ℚ r) → s ≡ r → b +ℚ l ≤ℚ c → a +ℚ (s +ℚ l) ≤ℚ c
-along_more a b c r s l h e k = linear_le (a ∷ b ∷ c ∷ r ∷ s ∷ l ∷ []) (le h ∷ eq e ∷ le k ∷ []) (search reading_of depth 12) tt
+along_more a b c r s l h e k = linear_le (a ∷ b ∷ c ∷ r ∷ s ∷ l ∷ []) (le h ∷ eq e ∷ le k ∷ []) (search reading_of) tt
 
 pub along_closed : (a l : ℚ) → a +ℚ l ≤ℚ a → 0ℚ <ℚ l → ⊥
-along_closed a l h k = linear_false (a ∷ l ∷ []) (le h ∷ lt k ∷ []) (search reading_of depth 12) tt
+along_closed a l h k = linear_false (a ∷ l ∷ []) (le h ∷ lt k ∷ []) (search reading_of) tt
 
 pub IsWalk-active : (net : Network) (sets : Sets) (walk : List ℕ) (v w : ℕ) → IsActiveWalk net sets walk v w → IsWalk (hops net) walk v w
 IsWalk-active net sets [] v w t = t

@@ -13,7 +13,7 @@ use Rattle.nf_rational_laws.proofs.Chains.{≤ℚ_trans}
 use Rattle.nf_rational_laws.proofs.Extremes.{max_is_right, max_is_left, max_left}
 
 swapped : (x c q : ℚ) → q *ℚ c ≡ x → c *ℚ q ≡ x
-swapped x c q e = linear_eq (x ∷ c ∷ q ∷ []) (eq e ∷ []) (search reading_of depth 12) tt tt
+swapped x c q e = linear_eq (x ∷ c ∷ q ∷ []) (eq e ∷ []) (search reading_of) tt tt
 
 quotient_is : (x c t : ℚ) → 0ℚ <ℚ c → x ≡ c *ℚ t → x /ℚ c ≡ t
 quotient_is x c t h e = same_from_times c (x /ℚ c) t h (swapped x c (x /ℚ c) (quotient-times x c h) ∙ e)

@@ -44,7 +44,7 @@ module _ (links : List Link) (d : ℕ → ℚ) (v : ℕ) (balanced : out_less_in
   out_some = subst (λ (z : ℚ). z ≤ℚ sum_out links d v) (sum_out-none links v) (sum_out-order links (λ _. 0ℚ) d v none_back)
 
   forth : (o i x : ℚ) → o -ℚ i ≡ 0ℚ → i ≤ℚ 0ℚ → 0ℚ <ℚ x → x ≤ℚ o → ⊥
-  forth o i x e h k l = linear_false (o ∷ i ∷ x ∷ []) (eq e ∷ le h ∷ lt k ∷ le l ∷ []) (search reading_of depth 12) tt
+  forth o i x e h k l = linear_false (o ∷ i ∷ x ∷ []) (eq e ∷ le h ∷ lt k ∷ le l ∷ []) (search reading_of) tt
 
   none_leaves_forward : (e : ℕ) (link : Link) → slice_get links e ≡ Some link → link.tail ≡ v → 0ℚ <ℚ d e → ⊥
   none_leaves_forward e link p at h = forth _ _ _ balanced in_none h
@@ -56,10 +56,10 @@ module _ (links : List Link) (d : ℕ → ℚ) (v : ℕ) (balanced : out_less_in
   backward k = 0ℚ +ℚ d k *ℚ (0ℚ -ℚ 1ℚ)
 
   backward_nn : (x : ℚ) → x ≤ℚ 0ℚ → 0ℚ ≤ℚ 0ℚ +ℚ x *ℚ (0ℚ -ℚ 1ℚ)
-  backward_nn x h = linear_le (x ∷ []) (le h ∷ []) (search reading_of depth 12) tt
+  backward_nn x h = linear_le (x ∷ []) (le h ∷ []) (search reading_of) tt
 
   back_sum : (o i n x s : ℚ) → o -ℚ i ≡ 0ℚ → 0ℚ ≤ℚ o → x <ℚ 0ℚ → n ≡ 0ℚ → s ≡ n +ℚ i *ℚ (0ℚ -ℚ 1ℚ) → 0ℚ +ℚ x *ℚ (0ℚ -ℚ 1ℚ) ≤ℚ s → ⊥
-  back_sum o i n x s e h k f g l = linear_false (o ∷ i ∷ n ∷ x ∷ s ∷ []) (eq e ∷ le h ∷ lt k ∷ eq f ∷ eq g ∷ le l ∷ []) (search reading_of depth 12) tt
+  back_sum o i n x s e h k f g l = linear_false (o ∷ i ∷ n ∷ x ∷ s ∷ []) (eq e ∷ le h ∷ lt k ∷ eq f ∷ eq g ∷ le l ∷ []) (search reading_of) tt
 
   none_leaves_backward : (e : ℕ) (link : Link) → slice_get links e ≡ Some link → link.head ≡ v → d e <ℚ 0ℚ → ⊥
   unfolding backward

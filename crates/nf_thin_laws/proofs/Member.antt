@@ -221,7 +221,7 @@ solves = record {
 }
 
 lone_flow : (x : ℚ) → (x +ℚ 0ℚ) -ℚ 0ℚ ≡ n 1 → x ≡ n 1
-lone_flow x e = linear_eq (x ∷ []) (eq e ∷ []) (search reading_of depth 12) tt tt
+lone_flow x e = linear_eq (x ∷ []) (eq e ∷ []) (search reading_of) tt tt
 
 only : (fs ss : List ℚ) → Solves net one_active (n 1) tight fs ss → (fs ≡ flows) × (ss ≡ slopes)
 only [] ss h = absurd (let count = h.flow_count in omega arith)

@@ -52,7 +52,7 @@ module _ (transit : ℚ) (capacity : Option ℚ) (pieces : List Piece) where
 
   -- ---- the first labels: the slack is 0
   no_slack : (t : ℚ) → t -ℚ (0ℚ +ℚ t) ≡ 0ℚ
-  no_slack t = linear_eq (t ∷ []) [] (search reading_of depth 12) tt tt
+  no_slack t = linear_eq (t ∷ []) [] (search reading_of) tt tt
 
   slacks_are : slacks_of (hops net) (first_labels transit) ≡ 0ℚ ∷ []
   slacks_are = ap (λ (s : ℚ). s ∷ []) (no_slack transit)
@@ -132,7 +132,7 @@ module _ (transit : ℚ) (capacity : Option ℚ) (pieces : List Piece) where
 
   -- ---- solutions
   all_out : (r : ℚ) → (r +ℚ 0ℚ) -ℚ 0ℚ ≡ r
-  all_out r = linear_eq (r ∷ []) [] (search reading_of depth 12) tt tt
+  all_out r = linear_eq (r ∷ []) [] (search reading_of) tt tt
 
   solves : (state : State) (rate slope : ℚ) → Equation (Some state) false capacity rate 1ℚ slope → Solves net first_sets rate (Some state ∷ []) (rate ∷ []) (1ℚ ∷ slope ∷ [])
   solves state rate slope e = record {
@@ -187,7 +187,7 @@ module _ (transit : ℚ) (capacity : Option ℚ) (pieces : List Piece) where
 
     -- ---- the link is Tight
     at_one : (x c : ℚ) → x ≤ℚ c → x ≤ℚ c *ℚ 1ℚ
-    at_one x c h = linear_le (x ∷ c ∷ []) (le h ∷ []) (search reading_of depth 12) tt
+    at_one x c h = linear_le (x ∷ c ∷ []) (le h ∷ []) (search reading_of) tt
 
     tight_is_listed : IsListedIn net first_sets (Some Tight ∷ [])
     tight_is_listed = listed Tight not_full (inl refl)
@@ -215,10 +215,10 @@ module _ (transit : ℚ) (capacity : Option ℚ) (pieces : List Piece) where
         nn = ≤ℚ_trans _ _ _ (≤ℚ_of_lt _ _ positive) k
 
         turned : (x c q : ℚ) → q *ℚ c ≡ x → x ≡ c *ℚ q
-        turned x c q e = linear_eq (x ∷ c ∷ q ∷ []) (eq e ∷ []) (search reading_of depth 12) tt tt
+        turned x c q e = linear_eq (x ∷ c ∷ q ∷ []) (eq e ∷ []) (search reading_of) tt tt
 
         at_least : (c x q : ℚ) → c ≤ℚ x → q *ℚ c ≡ x → c *ℚ 1ℚ ≤ℚ c *ℚ q
-        at_least c x q h e = linear_le (c ∷ x ∷ q ∷ []) (le h ∷ eq e ∷ []) (search reading_of depth 12) tt
+        at_least c x q h e = linear_le (c ∷ x ∷ q ∷ []) (le h ∷ eq e ∷ []) (search reading_of) tt
 
         bounded : (o : Option ℚ) → o ≡ Some most → slice_get (is_none o ∷ []) 0 ≡ Some true → ⊥
         bounded None e u = none most e
@@ -232,7 +232,7 @@ module _ (transit : ℚ) (capacity : Option ℚ) (pieces : List Piece) where
 
     -- ---- a phase
     zero_plus : (t : ℚ) → t ≡ 0ℚ +ℚ t
-    zero_plus t = linear_eq (t ∷ []) [] (search reading_of depth 12) tt tt
+    zero_plus t = linear_eq (t ∷ []) [] (search reading_of) tt tt
 
     labels : AreTransitLabels net (number_at (first_labels transit))
     labels = record {
@@ -279,7 +279,7 @@ module _ (transit : ℚ) (capacity : Option ℚ) (pieces : List Piece) where
     )
       where
         less_none : (t : ℚ) → t ≡ t -ℚ 0ℚ
-        less_none t = linear_eq (t ∷ []) [] (search reading_of depth 12) tt tt
+        less_none t = linear_eq (t ∷ []) [] (search reading_of) tt tt
 
 -- ---- at one rate from time 0 on
 by_piece : (rate : ℚ) (P : Piece → Type 0) (i : ℕ) (piece : Piece) → IsPiece (at_rate rate []) i piece → P (record { start = 0ℚ; rate = rate }) → P piece

@@ -62,22 +62,22 @@ rate-stays (p ∷ rest) before t u h none = ⊎_elim
 
 -- ---- over plain numbers: x and y are values of lines, k and m slopes
 one_slope : (x y k m t a : ℚ) → x ≡ y +ℚ k *ℚ (t -ℚ a) → x ≡ y +ℚ m *ℚ (t -ℚ a) → (t -ℚ a) *ℚ k ≡ (t -ℚ a) *ℚ m
-one_slope x y k m t a e f = linear_eq (x ∷ y ∷ k ∷ m ∷ t ∷ a ∷ []) (eq e ∷ eq f ∷ []) (search reading_of depth 12) tt tt
+one_slope x y k m t a e f = linear_eq (x ∷ y ∷ k ∷ m ∷ t ∷ a ∷ []) (eq e ∷ eq f ∷ []) (search reading_of) tt tt
 
 farther : (x y z k m t a b : ℚ) → x ≡ y +ℚ k *ℚ (b -ℚ a) → k ≡ m → y ≡ z +ℚ (a -ℚ t) *ℚ m → x ≡ z +ℚ (b -ℚ t) *ℚ m
-farther x y z k m t a b e f g = linear_eq (x ∷ y ∷ z ∷ k ∷ m ∷ t ∷ a ∷ b ∷ []) (eq e ∷ eq_times (b -ℚ a) f ∷ eq g ∷ []) (search reading_of depth 12) tt tt
+farther x y z k m t a b e f g = linear_eq (x ∷ y ∷ z ∷ k ∷ m ∷ t ∷ a ∷ b ∷ []) (eq e ∷ eq_times (b -ℚ a) f ∷ eq g ∷ []) (search reading_of) tt tt
 
 not_yet : (x z m t : ℚ) → x ≡ z → x ≡ z +ℚ (t -ℚ t) *ℚ m
-not_yet x z m t e = linear_eq (x ∷ z ∷ m ∷ t ∷ []) (eq e ∷ []) (search reading_of depth 12) tt tt
+not_yet x z m t e = linear_eq (x ∷ z ∷ m ∷ t ∷ []) (eq e ∷ []) (search reading_of) tt tt
 
 since : (t u : ℚ) → t ≤ℚ u → 0ℚ ≤ℚ u -ℚ t
-since t u h = linear_le (t ∷ u ∷ []) (le h ∷ []) (search reading_of depth 12) tt
+since t u h = linear_le (t ∷ u ∷ []) (le h ∷ []) (search reading_of) tt
 
 within_length : (t u l : ℚ) → u <ℚ t +ℚ l → u -ℚ t <ℚ l
-within_length t u l h = linear_lt (t ∷ u ∷ l ∷ []) (lt h ∷ []) (search reading_of depth 12) tt
+within_length t u l h = linear_lt (t ∷ u ∷ l ∷ []) (lt h ∷ []) (search reading_of) tt
 
 whole_length : (t u l : ℚ) → u ≡ t +ℚ l → u -ℚ t ≡ l
-whole_length t u l e = linear_eq (t ∷ u ∷ l ∷ []) (eq e ∷ []) (search reading_of depth 12) tt tt
+whole_length t u l e = linear_eq (t ∷ u ∷ l ∷ []) (eq e ∷ []) (search reading_of) tt tt
 
 -- A phase ends no earlier than it begins.
 phase-later : (net : Network) (horizon : ℚ) (old new : ℚ × List ℚ) → IsPhase net horizon old new → old.0 ≤ℚ new.0
@@ -166,7 +166,7 @@ module _ (net : Network) (good : IsNetwork net) (flow : Flow) (is : Equilibrium 
           (lt_or_le_ℚ a old.0)
         where
           <_trans : (x y z : ℚ) → x <ℚ y → y <ℚ z → x <ℚ z
-          <_trans x y z h k = linear_lt (x ∷ y ∷ z ∷ []) (lt h ∷ lt k ∷ []) (search reading_of depth 12) tt
+          <_trans x y z h k = linear_lt (x ∷ y ∷ z ∷ []) (lt h ∷ lt k ∷ []) (search reading_of) tt
 
       pub phase-labels : LabelsAre net (label flow) departure (moved old.1 phase.slopes (departure -ℚ old.0))
       phase-labels = along_times SameFrom departure (all_times flow.labels) over_stretch (all_times flow.labels) old.0 departure begins w.0 (≤ℚ_refl departure) (λ t x _ _. x) (λ _. same-first) w.0

@@ -17,17 +17,17 @@ below_between s c d y h i j k = ⊎_elim
     (λ (l : s +ℚ d *ℚ c <ℚ 0ℚ). l)
     (λ (l : 0ℚ ≤ℚ s +ℚ d *ℚ c).
     let y_nn : 0ℚ ≤ℚ y = ≤ℚ_trans _ _ _ i (≤ℚ_of_lt _ _ j) in
-    let below : 0ℚ <ℚ 0ℚ -ℚ s = linear_lt (s ∷ []) (lt h ∷ []) (search reading_of depth 12) tt in
+    let below : 0ℚ <ℚ 0ℚ -ℚ s = linear_lt (s ∷ []) (lt h ∷ []) (search reading_of) tt in
     let some : 0ℚ <ℚ (y -ℚ d) *ℚ (0ℚ -ℚ s) = ps_times (y -ℚ d) (0ℚ -ℚ s) (less_ps d y j) below in
-    absurd (linear_false (s ∷ c ∷ d ∷ y ∷ []) (le_times y_nn l ∷ le_times i k ∷ lt some ∷ []) (search reading_of depth 12) tt))
+    absurd (linear_false (s ∷ c ∷ d ∷ y ∷ []) (le_times y_nn l ∷ le_times i k ∷ lt some ∷ []) (search reading_of) tt))
     (lt_or_le_ℚ (s +ℚ d *ℚ c) 0ℚ)
 
 pub above_between : (s c d y : ℚ) → 0ℚ <ℚ s → 0ℚ ≤ℚ d → d <ℚ y → 0ℚ ≤ℚ s +ℚ y *ℚ c → 0ℚ <ℚ s +ℚ d *ℚ c
 above_between s c d y h i j k =
-    let below : 0ℚ -ℚ s <ℚ 0ℚ = linear_lt (s ∷ []) (lt h ∷ []) (search reading_of depth 12) tt in
-    let under : (0ℚ -ℚ s) +ℚ y *ℚ (0ℚ -ℚ c) ≤ℚ 0ℚ = linear_le (s ∷ c ∷ y ∷ []) (le k ∷ []) (search reading_of depth 12) tt in
+    let below : 0ℚ -ℚ s <ℚ 0ℚ = linear_lt (s ∷ []) (lt h ∷ []) (search reading_of) tt in
+    let under : (0ℚ -ℚ s) +ℚ y *ℚ (0ℚ -ℚ c) ≤ℚ 0ℚ = linear_le (s ∷ c ∷ y ∷ []) (le k ∷ []) (search reading_of) tt in
     let m : (0ℚ -ℚ s) +ℚ d *ℚ (0ℚ -ℚ c) <ℚ 0ℚ = below_between (0ℚ -ℚ s) (0ℚ -ℚ c) d y below i j under in
-    linear_lt (s ∷ c ∷ d ∷ []) (lt m ∷ []) (search reading_of depth 12) tt
+    linear_lt (s ∷ c ∷ d ∷ []) (lt m ∷ []) (search reading_of) tt
 
 -- ---- if the head's label rises faster than the tail's, its slope is that of the filled link
 pub reset_least : (capacity : Option ℚ) (x l m : ℚ) → l <ℚ m → m ≤ℚ exit_slope false capacity x l → m ≤ℚ exit_slope true capacity x l

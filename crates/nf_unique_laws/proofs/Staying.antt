@@ -25,14 +25,14 @@ use Rattle.nf_unique_laws.proofs.Sides.{below_between, above_between, reset_leas
 gets_above : (z c d w : ℚ) → w ≡ z +ℚ d *ℚ c → 0ℚ <ℚ w → z ≤ℚ 0ℚ → 0ℚ ≤ℚ d → 0ℚ <ℚ c
 gets_above z c d w e h i j = ⊎_elim
     (λ (k : 0ℚ <ℚ c). k)
-    (λ (k : c ≤ℚ 0ℚ). absurd (linear_false (z ∷ c ∷ d ∷ w ∷ []) (eq e ∷ lt h ∷ le i ∷ le_times j k ∷ []) (search reading_of depth 12) tt))
+    (λ (k : c ≤ℚ 0ℚ). absurd (linear_false (z ∷ c ∷ d ∷ w ∷ []) (eq e ∷ lt h ∷ le i ∷ le_times j k ∷ []) (search reading_of) tt))
     (lt_or_le_ℚ 0ℚ c)
 
 keeps_up : (z l m d w : ℚ) → w ≡ z +ℚ d *ℚ (m -ℚ l) → 0ℚ ≤ℚ z → 0ℚ ≤ℚ d → l ≤ℚ m → 0ℚ ≤ℚ w
-keeps_up z l m d w e i j k = linear_le (z ∷ l ∷ m ∷ d ∷ w ∷ []) (eq e ∷ le i ∷ le_times j k ∷ []) (search reading_of depth 12) tt
+keeps_up z l m d w e i j k = linear_le (z ∷ l ∷ m ∷ d ∷ w ∷ []) (eq e ∷ le i ∷ le_times j k ∷ []) (search reading_of) tt
 
 faster : (l m : ℚ) → 0ℚ <ℚ m -ℚ l → l <ℚ m
-faster l m h = linear_lt (l ∷ m ∷ []) (lt h ∷ []) (search reading_of depth 12) tt
+faster l m h = linear_lt (l ∷ m ∷ []) (lt h ∷ []) (search reading_of) tt
 
 module _ (net : Network) (good : IsNetwork net) (rate : ℚ) (labels flows slopes : List ℚ) (thin : IsThinFlow net (sets_at net labels) rate flows slopes)
     (count : length labels ≡ length slopes) (time whole done : ℚ) (lasts : Lasts net (slacks_of (hops net) labels) slopes time whole) (done_nn : 0ℚ ≤ℚ done) (short : done <ℚ whole) where

@@ -96,10 +96,10 @@ time_in-later start [] time h = refl
 time_in-later start (next ∷ rest) time h = ap (λ (t : ℚ). max_ℚ 0ℚ (t -ℚ start)) (min_is_left time next.start (h 0 next refl))
 
 gap_none : (s t : ℚ) → t ≤ℚ s → t -ℚ s ≤ℚ 0ℚ
-gap_none s t h = linear_le (s ∷ t ∷ []) (le h ∷ []) (search reading_of depth 12) tt
+gap_none s t h = linear_le (s ∷ t ∷ []) (le h ∷ []) (search reading_of) tt
 
 nothing_more : (r x y : ℚ) → x ≡ 0ℚ → y ≡ 0ℚ → r *ℚ x +ℚ y ≡ 0ℚ
-nothing_more r x y e f = linear_eq (r ∷ x ∷ y ∷ []) (eq_times r e ∷ eq f ∷ []) (search reading_of depth 12) tt tt
+nothing_more r x y e f = linear_eq (r ∷ x ∷ y ∷ []) (eq_times r e ∷ eq f ∷ []) (search reading_of) tt tt
 
 supplied-later : (pieces : List Piece) (time : ℚ) → StartFrom pieces time → supplied pieces time ≡ 0ℚ
 supplied-later [] time h = refl
@@ -108,7 +108,7 @@ supplied-later (p ∷ rest) time h = nothing_more p.rate _ _
     (supplied-later rest time (rest-from p rest time h))
 
 both_parts : (r a b x y : ℚ) → a ≡ b → x ≡ y → r *ℚ a +ℚ x ≡ r *ℚ b +ℚ y
-both_parts r a b x y e f = linear_eq (r ∷ a ∷ b ∷ x ∷ y ∷ []) (eq_times r e ∷ eq f ∷ []) (search reading_of depth 12) tt tt
+both_parts r a b x y e f = linear_eq (r ∷ a ∷ b ∷ x ∷ y ∷ []) (eq_times r e ∷ eq f ∷ []) (search reading_of) tt tt
 
 supplied-front : (front back others : List Piece) (time : ℚ) → StartFrom back time → StartFrom others time → supplied (front ++ back) time ≡ supplied (front ++ others) time
 supplied-front [] back others time h k = supplied-later back time h ∙ sym (supplied-later others time k)
