@@ -5,6 +5,7 @@ use Rattle.nf_rational.specs.Operations.{0ℚ, ◌+ℚ◌, ◌-ℚ◌, ◌*ℚ�
 use Rattle.nf_rational.specs.Order.{◌≤ℚ◌}
 use Rattle.nf_rational_laws.proofs.Polynomial.{reading_of}
 use Rattle.nf_rational_laws.proofs.Linear.{le, eq, eq_times, linear_le, linear_eq}
+use Rattle.nf_rational_laws.proofs.Facts.{zero_plus}
 use Rattle.nf_model.specs.Network.{Link, sum_in, sum_out}
 use Rattle.nf_model_laws.proofs.Potential.{sum_to}
 use Rattle.nf_complete_laws.proofs.Turned.{turned, sum_in-turned}
@@ -16,9 +17,6 @@ pub record Affine (f : (ℕ → ℚ) → ℚ) : Type 0 where
   pub rest : ℚ
   pub is : (x : ℕ → ℚ) → f x ≡ form_value form x +ℚ rest
 
-constant_is : (a : ℚ) → a ≡ 0ℚ +ℚ a
-constant_is a = linear_eq (a ∷ []) [] (search reading_of) tt tt
-
 variable_is : (a b : ℚ) → b ≡ a → a ≡ b +ℚ 0ℚ
 variable_is a b e = linear_eq (a ∷ b ∷ []) (eq e ∷ []) (search reading_of) tt tt
 
@@ -29,7 +27,7 @@ times_is : (c f a r m : ℚ) → f ≡ a +ℚ r → m ≡ c *ℚ a → c *ℚ f 
 times_is c f a r m d e = linear_eq (c ∷ f ∷ a ∷ r ∷ m ∷ []) (eq_times c d ∷ eq e ∷ []) (search reading_of) tt tt
 
 pub Affine-constant : (a : ℚ) → Affine (λ x. a)
-Affine-constant a = record { form = []; rest = a; is = λ x. constant_is a }
+Affine-constant a = record { form = []; rest = a; is = λ x. zero_plus a }
 
 pub Affine-variable : (i : ℕ) → Affine (λ x. x i)
 Affine-variable i = record { form = variable i; rest = 0ℚ; is = λ x. variable_is (x i) _ (form_value-variable i x) }

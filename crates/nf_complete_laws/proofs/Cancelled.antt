@@ -9,8 +9,8 @@ use Rattle.nf_rational.specs.Rational.{ℚ}
 use Rattle.nf_rational.specs.Operations.{0ℚ, 1ℚ, ◌+ℚ◌, ◌-ℚ◌, ◌*ℚ◌}
 use Rattle.nf_rational.specs.Order.{◌≤ℚ◌, ◌<ℚ◌}
 use Rattle.nf_rational_laws.proofs.Polynomial.{reading_of}
-use Rattle.nf_rational_laws.proofs.Order.{≤ℚ_of_same, ≤ℚ_of_lt, not_both_ℚ}
-use Rattle.nf_rational_laws.proofs.Linear.{le, lt, eq, eq_times, linear_le, linear_lt, linear_eq}
+use Rattle.nf_rational_laws.proofs.Order.{≤ℚ_of_same, ≤ℚ_of_lt, not_both_ℚ, less_ps}
+use Rattle.nf_rational_laws.proofs.Linear.{le, eq, eq_times, linear_le, linear_eq}
 use Rattle.nf_rational_laws.proofs.Chains.{≤ℚ_refl}
 use Rattle.nf_frac_def.specs.Passing.{Passing, result_of}
 use Rattle.nf_frac_def.specs.Checked.{checked, each}
@@ -102,9 +102,6 @@ grown_most x a y f e h = linear_le (x ∷ a ∷ y ∷ f ∷ []) (eq e ∷ le h �
 
 shrunk_most : (x a y f : ℚ) → y ≡ x +ℚ (0ℚ -ℚ 1ℚ) *ℚ a → 0ℚ ≤ℚ a → x ≤ℚ f → y ≤ℚ f
 shrunk_most x a y f e h k = linear_le (x ∷ a ∷ y ∷ f ∷ []) (eq e ∷ le h ∷ le k ∷ []) (search reading_of) tt
-
-gap : (x f : ℚ) → x <ℚ f → 0ℚ <ℚ f -ℚ x
-gap x f h = linear_lt (x ∷ f ∷ []) (lt h ∷ []) (search reading_of) tt
 
 emptied : (x a y : ℚ) → y ≡ x +ℚ (0ℚ -ℚ 1ℚ) *ℚ a → x ≡ a → y ≡ 0ℚ
 emptied x a y e f = linear_eq (x ∷ a ∷ y ∷ []) (eq e ∷ eq f ∷ []) (search reading_of) tt tt
@@ -238,7 +235,7 @@ module _ (passes : Passing) (net : Network) (sets : Sets) (rate : ℚ) (flows sl
 
   room_positive : (e : ℕ) (x y : ℚ) → slice_get flows e ≡ Some x → Room e x y → 0ℚ <ℚ y
   room_positive e x y p (back h k) = subst (λ (z : ℚ). 0ℚ <ℚ z) (number-of flows e x p ∙ k) (interior e false h).some
-  room_positive e x y p (forth link c h l k s) = subst (λ (z : ℚ). 0ℚ <ℚ z) s (gap x _ (subst (λ (z : ℚ). z <ℚ c *ℚ number_at slopes link.head) (number-of flows e x p) (interior_most e (interior e true h) link c l k)))
+  room_positive e x y p (forth link c h l k s) = subst (λ (z : ℚ). 0ℚ <ℚ z) s (less_ps x _ (subst (λ (z : ℚ). z <ℚ c *ℚ number_at slopes link.head) (number-of flows e x p) (interior_most e (interior e true h) link c l k)))
 
   count_rooms : length rooms ≡ length flows
   count_rooms = each-length (room_at passes steps fulls) flows 0 rooms parts.1

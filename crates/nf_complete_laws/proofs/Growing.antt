@@ -9,6 +9,7 @@ use Rattle.nf_rational_laws.proofs.Order.{≤ℚ_of_lt}
 use Rattle.nf_rational_laws.proofs.Quotient.{/ℚ-times, ps_apart}
 use Rattle.nf_rational_laws.proofs.Linear.{le, lt, eq, linear_le, linear_lt, linear_eq, linear_false}
 use Rattle.nf_rational_laws.proofs.Extremes.{min_left, min_right, min_keeps}
+use Rattle.nf_rational_laws.proofs.Facts.{nn_after_less, nn_less_part, less_some_le}
 use Rattle.nf_model.specs.Entries.{Has}
 use Rattle.nf_model.specs.Network.{Link, Network, IsLink, IsNetwork, sum_out}
 use Rattle.nf_model.specs.ThinFlow.{Sets}
@@ -74,17 +75,8 @@ left_over s t a e h = linear_lt (s ∷ t ∷ a ∷ []) (eq e ∷ lt h ∷ []) (s
 gained : (s t a : ℚ) → t ≡ s +ℚ a → 0ℚ ≤ℚ s → 0ℚ <ℚ a → 0ℚ <ℚ t
 gained s t a e h k = linear_lt (s ∷ t ∷ a ∷ []) (eq e ∷ le h ∷ lt k ∷ []) (search reading_of) tt
 
-taken : (s t a : ℚ) → t ≡ s +ℚ (0ℚ -ℚ a) → a ≤ℚ s → 0ℚ ≤ℚ t
-taken s t a e h = linear_le (s ∷ t ∷ a ∷ []) (eq e ∷ le h ∷ []) (search reading_of) tt
-
 more_flow : (x a : ℚ) → 0ℚ ≤ℚ x → 0ℚ <ℚ a → 0ℚ ≤ℚ x +ℚ a
 more_flow x a h k = linear_le (x ∷ a ∷ []) (le h ∷ lt k ∷ []) (search reading_of) tt
-
-less_flow : (x a : ℚ) → a ≤ℚ x → 0ℚ ≤ℚ x +ℚ (0ℚ -ℚ a)
-less_flow x a h = linear_le (x ∷ a ∷ []) (le h ∷ []) (search reading_of) tt
-
-still_most : (x a y : ℚ) → 0ℚ <ℚ a → x ≤ℚ y → x +ℚ (0ℚ -ℚ a) ≤ℚ y
-still_most x a y h k = linear_le (x ∷ a ∷ y ∷ []) (lt h ∷ le k ∷ []) (search reading_of) tt
 
 plus_less : (s t a : ℚ) → t ≡ s +ℚ (0ℚ -ℚ a) → t ≡ s -ℚ a
 plus_less s t a e = linear_eq (s ∷ t ∷ a ∷ []) (eq e ∷ []) (search reading_of) tt tt
@@ -193,15 +185,15 @@ module _ (net : Network) (sets : Sets) (rate : ℚ) (slopes : ℕ → ℚ) (good
         d = 0ℚ -ℚ a
 
         less : 0ℚ ≤ℚ flows e +ℚ d
-        less = less_flow (flows e) a part.1.most
+        less = nn_less_part (flows e) a part.1.most
 
         at_most : IsAtMost link.capacity (flows e +ℚ d) (slopes link.head)
-        at_most c k = still_most (flows e) a _ part.1.above ((f.over.others e link p needs).most c k)
+        at_most c k = less_some_le (flows e) a _ part.1.above ((f.over.others e link p needs).most c k)
 
         left : link.tail ≡ net.source → (v : ℕ) → v < net.nodes → v ≢ net.source → 0ℚ ≤ℚ spare net rate (pushed net rate flows e link p d) v
         left at v l other = ⊎_elim
             (λ (k : v ≡ link.head). subst (λ (j : ℕ). 0ℚ ≤ℚ spare net rate (pushed net rate flows e link p d) j) (sym k)
-            (taken (spare net rate flows link.head) _ a (spare-head net rate flows e link p d apart) (≤ℚ_of_lt _ _ part.1.less)))
+            (nn_after_less (spare net rate flows link.head) _ a (spare-head net rate flows e link p d apart) (≤ℚ_of_lt _ _ part.1.less)))
             (λ (k : v ≢ link.head). subst (λ (z : ℚ). 0ℚ ≤ℚ z) (sym (spare-else net rate flows e link p d v k (λ t. other (t ∙ at)))) (spare-not_negative v l other))
             (same_node v link.head)
 

@@ -10,10 +10,11 @@ use Rattle.nf_rational_laws.proofs.Polynomial.{reading_of}
 use Rattle.nf_rational_laws.proofs.Order.{≤ℚ_of_lt, nn_times}
 use Rattle.nf_rational_laws.proofs.Linear.{linear_le}
 use Rattle.nf_rational_laws.proofs.Chains.{≤ℚ_refl}
+use Rattle.nf_rational_laws.proofs.Facts.{times_le}
 use Rattle.nf_model.specs.Pattern.{Fills}
 use Rattle.nf_model_laws.specs.Capacity.{IsPositive}
 use Rattle.nf_complete_laws.specs.Oversupply.{Fits}
-use Rattle.nf_complete_laws.proofs.Powers.{power, power-nn, power-rises, room, times_le}
+use Rattle.nf_complete_laws.proofs.Powers.{power, power-nn, power-rises, room}
 
 -- The exponent of the head's slope that the link allows.
 abbrev pub bound : Bool → Option ℚ → ℕ → ℕ → ℕ

@@ -19,6 +19,7 @@ use Rattle.nf_model_laws.proofs.Potential.{sum_to}
 use Rattle.nf_thin_laws.specs.ActiveLinks.{AreSets, HoldNoCycle}
 use Rattle.nf_thin_laws.proofs.ActiveLinks.{none_first}
 use Rattle.nf_rational_laws.proofs.Naturals.{before_or_at}
+use Rattle.nf_rational_laws.proofs.Facts.{sum_le, sum_lt_le, sum_le_lt}
 use Rattle.nf_complete_laws.specs.Oversupply.{Fits, demand, IsOversupply, ResetsAreBounded}
 use Rattle.nf_complete_laws.proofs.Deciding.{Decided}
 use Rattle.nf_complete_laws.proofs.Small.{Small, Small-map, Small-both, Small-when, Small-at_most, Small-apart, Small-times, Small-to, Small-links}
@@ -29,23 +30,14 @@ use Rattle.nf_complete_laws.proofs.Spare.{spare, HasSpare, spare_or_not, kind_of
 -- ---- sums of numbers of which none grows and at least one falls
 pub sum_to-le : (n : ℕ) (f g : ℕ → ℚ) → ((k : ℕ) → k < n → f k ≤ℚ g k) → sum_to n f ≤ℚ sum_to n g
 sum_to-le zero f g h = ≤ℚ_refl 0ℚ
-sum_to-le (suc n) f g h = add (sum_to n f) (sum_to n g) (f n) (g n) (sum_to-le n f g (λ k l. h k (omega arith))) (h n (omega arith))
-  where
-    add : (a b c d : ℚ) → a ≤ℚ b → c ≤ℚ d → a +ℚ c ≤ℚ b +ℚ d
-    add a b c d p q = linear_le (a ∷ b ∷ c ∷ d ∷ []) (le p ∷ le q ∷ []) (search reading_of) tt
+sum_to-le (suc n) f g h = sum_le (sum_to n f) (sum_to n g) (f n) (g n) (sum_to-le n f g (λ k l. h k (omega arith))) (h n (omega arith))
 
 pub sum_to-lt : (n : ℕ) (f g : ℕ → ℚ) → ((k : ℕ) → k < n → f k ≤ℚ g k) → (v : ℕ) → v < n → f v <ℚ g v → sum_to n f <ℚ sum_to n g
 sum_to-lt zero f g h v l k = absurd (omega arith)
 sum_to-lt (suc n) f g h v l k = ⊎_elim
-    (λ (b : v < n). left (sum_to n f) (sum_to n g) (f n) (g n) (sum_to-lt n f g (λ k l. h k (omega arith)) v b k) (h n (omega arith)))
-    (λ (e : v ≡ n). right (sum_to n f) (sum_to n g) (f n) (g n) (sum_to-le n f g (λ k l. h k (omega arith))) (subst (λ (j : ℕ). f j <ℚ g j) e k))
+    (λ (b : v < n). sum_lt_le (sum_to n f) (sum_to n g) (f n) (g n) (sum_to-lt n f g (λ k l. h k (omega arith)) v b k) (h n (omega arith)))
+    (λ (e : v ≡ n). sum_le_lt (sum_to n f) (sum_to n g) (f n) (g n) (sum_to-le n f g (λ k l. h k (omega arith))) (subst (λ (j : ℕ). f j <ℚ g j) e k))
     (before_or_at v n (omega arith))
-  where
-    left : (a b c d : ℚ) → a <ℚ b → c ≤ℚ d → a +ℚ c <ℚ b +ℚ d
-    left a b c d p q = linear_lt (a ∷ b ∷ c ∷ d ∷ []) (lt p ∷ le q ∷ []) (search reading_of) tt
-
-    right : (a b c d : ℚ) → a ≤ℚ b → c <ℚ d → a +ℚ c <ℚ b +ℚ d
-    right a b c d p q = linear_lt (a ∷ b ∷ c ∷ d ∷ []) (le p ∷ lt q ∷ []) (search reading_of) tt
 
 -- ---- a number lowered by h, if a property holds
 abbrev pub low_by : {A : Type 0} → Decided A → ℚ → ℚ → ℚ

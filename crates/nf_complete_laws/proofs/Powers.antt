@@ -9,6 +9,7 @@ use Rattle.nf_rational_laws.proofs.Polynomial.{reading_of}
 use Rattle.nf_rational_laws.proofs.Order.{≤ℚ_of_lt, nn_plus, nn_times, ps_whole}
 use Rattle.nf_rational_laws.proofs.Linear.{le, eq, le_times, linear_le}
 use Rattle.nf_rational_laws.proofs.Chains.{≤ℚ_refl}
+use Rattle.nf_rational_laws.proofs.Facts.{nn_of_one, times_le}
 use Rattle.nf_model.specs.Network.{Link, sum_out}
 use Rattle.nf_model_laws.specs.Capacity.{IsPositive}
 use Rattle.nf_model_laws.proofs.Affine.{nn-quotient, quotient-times}
@@ -19,14 +20,8 @@ abbrev pub power : ℚ → ℕ → ℚ
 power k zero = 1ℚ
 power k (suc n) = k *ℚ power k n
 
-pub nn_of_one : (k : ℚ) → 1ℚ ≤ℚ k → 0ℚ ≤ℚ k
-nn_of_one k h = linear_le (k ∷ []) (le h ∷ []) (search reading_of) tt
-
 one_times_one : (k p : ℚ) → 1ℚ ≤ℚ k → 1ℚ ≤ℚ p → 1ℚ ≤ℚ k *ℚ p
 one_times_one k p h l = linear_le (k ∷ p ∷ []) (le_times (nn_of_one p l) h ∷ le l ∷ []) (search reading_of) tt
-
-pub times_le : (k a b : ℚ) → 0ℚ ≤ℚ k → a ≤ℚ b → k *ℚ a ≤ℚ k *ℚ b
-times_le k a b h p = linear_le (k ∷ a ∷ b ∷ []) (le_times h p ∷ []) (search reading_of) tt
 
 module _ (k : ℚ) (one : 1ℚ ≤ℚ k) where
   pub power-one : (n : ℕ) → 1ℚ ≤ℚ power k n

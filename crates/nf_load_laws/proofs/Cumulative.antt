@@ -26,6 +26,7 @@ use Rattle.nf_curve_laws.proofs.Values.{follows-curve, follows-values}
 use Rattle.nf_rational_laws.proofs.Chains.{≤ℚ_refl, ≤ℚ_trans}
 use Rattle.nf_rational_laws.proofs.Extremes.{min_is_left, min_is_right, min_left, min_keeps}
 use Rattle.nf_rational_laws.proofs.Results.{same_Ok}
+use Rattle.nf_rational_laws.proofs.Facts.{zero_plus}
 
 -- ---- points after time 0
 after_0 : (t y : ℚ) → 0ℚ <ℚ t → point_if_after_0 t y ≡ (t, y) ∷ []
@@ -184,9 +185,6 @@ module _ (passes : Passing) (pieces : List Piece) (last : ℚ) (good : ArePieces
   flat_0 : (t : ℚ) → 0ℚ ≡ 0ℚ +ℚ 0ℚ *ℚ (t -ℚ 0ℚ)
   flat_0 t = linear_eq (t ∷ []) [] (search reading_of) tt tt
 
-  plus_0 : (x : ℚ) → x ≡ 0ℚ +ℚ x
-  plus_0 x = linear_eq (x ∷ []) [] (search reading_of) tt tt
-
   -- before the first start nothing is supplied
   none_up_to : (end : ℚ) → NextFrom pieces end → IsAffine (λ t. supplied pieces t) 0ℚ end 0ℚ
   none_up_to end n = record {
@@ -195,7 +193,7 @@ module _ (passes : Passing) (pieces : List Piece) (last : ℚ) (good : ArePieces
 
   goes_from_0 : (l : List Piece) → l ≡ pieces → GoesOn passes (λ t. supplied pieces t) last 0ℚ l
   goes_from_0 [] e = tt
-  goes_from_0 (piece ∷ later) e = λ t i. subst (λ (l : List Piece). supplied l t ≡ 0ℚ +ℚ supplied (piece ∷ later) t) e (plus_0 (supplied (piece ∷ later) t))
+  goes_from_0 (piece ∷ later) e = λ t i. subst (λ (l : List Piece). supplied l t ≡ 0ℚ +ℚ supplied (piece ∷ later) t) e (zero_plus (supplied (piece ∷ later) t))
 
   starts_nn : (l : List Piece) (piece : Piece) (later : List Piece) → l ≡ pieces → l ≡ piece ∷ later → 0ℚ ≤ℚ piece.start
   starts_nn l piece later e f = let a : ArePieces (piece ∷ later) = subst (λ (m : List Piece). ArePieces m) (sym e ∙ f) good in a.starts 0 piece refl

@@ -7,6 +7,7 @@ use Rattle.nf_rational.specs.Order.{◌≤ℚ◌}
 use Rattle.nf_rational_laws.proofs.Polynomial.{reading_of}
 use Rattle.nf_rational_laws.proofs.Order.{≤ℚ_of_same}
 use Rattle.nf_rational_laws.proofs.Linear.{le, eq, linear_le, linear_eq}
+use Rattle.nf_rational_laws.proofs.Facts.{zero_plus}
 use Rattle.nf_model.specs.Walk.{Hop, IsHop, transit_of, transit_sum, IsLeastTransit}
 use Rattle.nf_model.specs.Network.{Link, Network, IsNetwork, IsLink, hop_of, hops}
 use Rattle.nf_model_laws.specs.EarliestLaws.{AreTransitLabels}
@@ -42,18 +43,15 @@ sum-comes hops (f ∷ walk) t a e = (t +ℚ transit_of hops f, refl, sum-comes h
     by_sum : (t a r l : ℚ) → a ≡ t +ℚ (r +ℚ l) → a ≡ (t +ℚ r) +ℚ l
     by_sum t a r l e = linear_eq (t ∷ a ∷ r ∷ l ∷ []) (eq e ∷ []) (search reading_of) tt tt
 
-zero_sum : (l : ℚ) → l ≡ 0ℚ +ℚ l
-zero_sum l = linear_eq (l ∷ []) [] (search reading_of) tt tt
-
 IsLeastTransit-first : (hops : List Hop) (source v : ℕ) (least : ℚ) → IsFirst hops source (Takes hops) v 0ℚ least → IsLeastTransit hops source v least
 IsLeastTransit-first hops source v least f = record {
   taken = (f.taken.0, f.taken.1, from_none _ _ (Comes-sum hops f.taken.0 0ℚ least f.taken.2));
-  bound = λ walk w. f.least walk (transit_sum hops walk) w (sum-comes hops walk 0ℚ (transit_sum hops walk) (zero_sum _));
+  bound = λ walk w. f.least walk (transit_sum hops walk) w (sum-comes hops walk 0ℚ (transit_sum hops walk) (zero_plus _));
 }
 
 IsFirst-least : (hops : List Hop) (source v : ℕ) (least : ℚ) → IsLeastTransit hops source v least → IsFirst hops source (Takes hops) v 0ℚ least
 IsFirst-least hops source v least d = record {
-  taken = (d.taken.0, d.taken.1, sum-comes hops d.taken.0 0ℚ least (sym d.taken.2 ∙ zero_sum _));
+  taken = (d.taken.0, d.taken.1, sum-comes hops d.taken.0 0ℚ least (sym d.taken.2 ∙ zero_plus _));
   least = λ walk other w c. subst (λ (x : ℚ). least ≤ℚ x) (from_none _ _ (Comes-sum hops walk 0ℚ other c)) (d.bound walk w);
 }
 

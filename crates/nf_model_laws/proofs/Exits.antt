@@ -15,6 +15,7 @@ use Rattle.nf_model_laws.proofs.Affine.{nn-quotient, quotient-times}
 use Rattle.nf_model_laws.proofs.Queues.{IsQueue-some, IsQueue-nn, IsGreatest-order, IsQueue-unique, IsOutflow-from_IsQueue}
 use Rattle.nf_model_laws.proofs.Step.{IsQueue-at_0}
 use Rattle.nf_rational_laws.proofs.Chains.{≤ℚ_trans}
+use Rattle.nf_rational_laws.proofs.Facts.{less_zero}
 
 -- ---- when what entered at a time leaves the queue, the queue is just what has entered since
 -- over plain numbers: a entered by x, b by the time t, d by z, which is x and the wait w
@@ -53,9 +54,6 @@ IsQueue-served rate amount time later queue c rises p e = IsQueue-some rate amou
 all_but : (a d : ℚ) → d -ℚ (d -ℚ a) ≡ a
 all_but a d = linear_eq (a ∷ d ∷ []) [] (search reading_of) tt tt
 
-less_none : (a q : ℚ) → q ≡ 0ℚ → a -ℚ q ≡ a
-less_none a q e = linear_eq (a ∷ q ∷ []) (eq e ∷ []) (search reading_of) tt tt
-
 no_wait : (t r x : ℚ) → x ≡ t +ℚ r +ℚ 0ℚ → x ≡ t +ℚ r
 no_wait t r x e = linear_eq (t ∷ r ∷ x ∷ []) (eq e ∷ []) (search reading_of) tt tt
 
@@ -65,7 +63,7 @@ wait_first t r w x e = linear_eq (t ∷ r ∷ w ∷ x ∷ []) (eq e ∷ []) (sea
 pub IsOutflow-at_exit : (transit : ℚ) (capacity : Option ℚ) (amount : ℚ → ℚ) (time exit : ℚ) → IsPositive capacity → NeverFalls amount → 0ℚ ≤ℚ time → IsExit transit capacity amount time exit
     → IsOutflow transit capacity amount exit (amount time)
 IsOutflow-at_exit transit None amount time exit c rises h p =
-    subst (λ (y : ℚ). IsOutflow transit None amount exit y) (less_none (amount time) p.queue (p.is_queue.unbounded refl))
+    subst (λ (y : ℚ). IsOutflow transit None amount exit y) (less_zero (amount time) p.queue (p.is_queue.unbounded refl))
     (IsOutflow-from_IsQueue transit None amount time exit p.queue (no_wait time transit exit p.is_sum) h p.is_queue)
 IsOutflow-at_exit transit (Some rate) amount time exit c rises h p =
     subst (λ (y : ℚ). IsOutflow transit (Some rate) amount exit y) (all_but (amount time) (amount later))

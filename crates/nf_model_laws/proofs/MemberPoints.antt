@@ -6,6 +6,8 @@ use Rattle.nf_rational.specs.Order.{◌≤ℚ◌, ◌<ℚ◌}
 use Rattle.nf_rational_laws.proofs.Polynomial.{reading_of}
 use Rattle.nf_rational_laws.proofs.Order.{≤ℚ_of_lt, ps_times, not_both_ℚ}
 use Rattle.nf_rational_laws.proofs.Linear.{lt, eq, le_times, eq_times, linear_le, linear_lt, linear_eq}
+use Rattle.nf_rational_laws.proofs.Facts.{without_zero, zero_of_zero_times}
+use Rattle.nf_rational_laws.proofs.Signs.{times_one}
 use Rattle.nf_model.specs.Curve.{Within, slope as slope_of, value, IsCurve, AreSlopes}
 use Rattle.nf_model.specs.Network.{Piece, ArePieces}
 use Rattle.nf_model.specs.Equilibrium.{Trace, Flow, points_at, points_of, HasShape, Equilibrium}
@@ -39,12 +41,9 @@ value-from_0 v h w k t l e b = to_0 v _ k t (value-two (0ℚ, v) (h, w) k t l (f
 starts_0 : (w a : ℚ) → w ≡ a → w ≡ 0ℚ +ℚ a
 starts_0 w a e = linear_eq (w ∷ a ∷ []) (eq e ∷ []) (search reading_of) tt tt
 
-ends_0 : (w a : ℚ) → w ≡ 0ℚ +ℚ a → w ≡ a
-ends_0 w a e = linear_eq (w ∷ a ∷ []) (eq e ∷ []) (search reading_of) tt tt
-
 -- from (0, 0)
 value-from_none : (h w k t : ℚ) → 0ℚ <ℚ h → w ≡ k *ℚ h → t ≤ℚ h → value ((0ℚ, 0ℚ) ∷ (h, w) ∷ []) t ≡ k *ℚ t
-value-from_none h w k t l e b = ends_0 _ _ (value-from_0 0ℚ h w k t l (starts_0 w _ e) b)
+value-from_none h w k t l e b = without_zero _ _ (value-from_0 0ℚ h w k t l (starts_0 w _ e) b)
 
 one_time : (h t : ℚ) → h ≡ 0ℚ +ℚ 1ℚ *ℚ h
 one_time h t = linear_eq (h ∷ []) [] (search reading_of) tt tt
@@ -194,18 +193,12 @@ pub Equilibrium-tight : (transit : ℚ) (capacity : Option ℚ) (rate horizon ar
     → amount ≡ rate *ℚ horizon → arrival ≡ transit +ℚ horizon → IsOutTrace transit arrival amount rate trace
     → Equilibrium (one_link transit capacity (at_rate rate later)) (steady_flow transit rate horizon arrival amount 0ℚ trace)
 Equilibrium-tight transit capacity rate horizon arrival amount later trace l c under h p alone enters at out =
-    Equilibrium-steady transit capacity later rate 1ℚ 0ℚ horizon arrival amount 0ℚ trace (p.rates 0 _ refl) h arrives enters (none horizon)
-    (IsOut-trace transit 1ℚ rate rate horizon arrival amount h state.slope_ps (same rate) arrives enters trace out)
+    Equilibrium-steady transit capacity later rate 1ℚ 0ℚ horizon arrival amount 0ℚ trace (p.rates 0 _ refl) h arrives enters (zero_of_zero_times horizon)
+    (IsOut-trace transit 1ℚ rate rate horizon arrival amount h state.slope_ps (times_one rate) arrives enters trace out)
     l c p alone state
   where
     state : IsState capacity rate 1ℚ 0ℚ
     state = IsState-tight capacity rate under
-
-    none : (t : ℚ) → 0ℚ ≡ 0ℚ *ℚ t
-    none t = linear_eq (t ∷ []) [] (search reading_of) tt tt
-
-    same : (r : ℚ) → r *ℚ 1ℚ ≡ r
-    same r = linear_eq (r ∷ []) [] (search reading_of) tt tt
 
     arrives : arrival ≡ transit +ℚ 1ℚ *ℚ horizon
     arrives = linear_eq (arrival ∷ transit ∷ horizon ∷ []) (eq at ∷ []) (search reading_of) tt tt

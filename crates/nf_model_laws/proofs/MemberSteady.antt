@@ -21,6 +21,7 @@ use Rattle.nf_model_laws.proofs.Supply.{supplied-goes_on, supplied-begins}
 use Rattle.nf_model_laws.proofs.Step.{IsQueue-after, IsQueue-at_0}
 use Rattle.nf_model_laws.proofs.Exits.{IsOutflow-at_exit, waiting-none}
 use Rattle.nf_rational_laws.proofs.Chains.{≤ℚ_refl, ≤ℚ_trans}
+use Rattle.nf_rational_laws.proofs.Field.{zero-*ℚ}
 
 -- ---- the supply
 
@@ -175,9 +176,6 @@ IsState-full capacity rate slope c h e = record {
 loses : (r c t : ℚ) → r ≤ℚ c → 0ℚ ≤ℚ t → 0ℚ +ℚ (r -ℚ c) *ℚ t ≤ℚ 0ℚ
 loses r c t h k = linear_le (r ∷ c ∷ t ∷ []) (le_times k h ∷ []) (search reading_of) tt
 
-none_ever : (t : ℚ) → 0ℚ *ℚ t ≡ 0ℚ
-none_ever t = linear_eq (t ∷ []) [] (search reading_of) tt tt
-
 at_once : (t w : ℚ) → w ≡ 0ℚ → t +ℚ w ≡ 1ℚ *ℚ t
 at_once t w e = linear_eq (t ∷ w ∷ []) (eq e ∷ []) (search reading_of) tt tt
 
@@ -188,6 +186,6 @@ stays_empty (Some bound) rate t h n = max0_none _ (loses rate bound t (h bound r
 pub IsState-tight : (capacity : Option ℚ) (rate : ℚ) → ((bound : ℚ) → capacity ≡ Some bound → rate ≤ℚ bound) → IsState capacity rate 1ℚ 0ℚ
 IsState-tight capacity rate h = record {
   slope_ps = ps_whole 0;
-  queue_is = λ t n. stays_empty capacity rate t h n ∙ sym (none_ever t);
-  exit_is = λ t. at_once t _ (ap (λ (q : ℚ). waiting capacity q) (none_ever t) ∙ waiting-none capacity);
+  queue_is = λ t n. stays_empty capacity rate t h n ∙ sym (zero-*ℚ t);
+  exit_is = λ t. at_once t _ (ap (λ (q : ℚ). waiting capacity q) (zero-*ℚ t) ∙ waiting-none capacity);
 }

@@ -7,6 +7,7 @@ use Rattle.nf_rational.specs.Order.{◌≤ℚ◌}
 use Rattle.nf_rational_laws.proofs.Polynomial.{reading_of}
 use Rattle.nf_rational_laws.proofs.Order.{≤ℚ_antisymm}
 use Rattle.nf_rational_laws.proofs.Linear.{le, eq, linear_le, linear_eq}
+use Rattle.nf_rational_laws.proofs.Facts.{first_and_zero, sum_le}
 use Rattle.nf_model.specs.Network.{Link, sum_in, sum_out}
 
 -- the sum of f below n
@@ -39,21 +40,18 @@ only_at-else v a k h = ⊎_elim
     (λ (w : (eqb v k ≡ true) × (v ≡ k)). absurd (h w.1))
     (λ (w : (eqb v k ≡ false) × (v ≢ k)). ap (λ (b : Bool). if b then a else 0ℚ) w.0) (eqb_tells v k)
 
-plus_none : (s a b : ℚ) → s ≡ a → b ≡ 0ℚ → s +ℚ b ≡ a
-plus_none s a b e f = linear_eq (s ∷ a ∷ b ∷ []) (eq e ∷ eq f ∷ []) (search reading_of) tt tt
-
 none_plus : (s a b : ℚ) → s ≡ 0ℚ → b ≡ a → s +ℚ b ≡ a
 none_plus s a b e f = linear_eq (s ∷ a ∷ b ∷ []) (eq e ∷ eq f ∷ []) (search reading_of) tt tt
 
 sum_to-none : (n v : ℕ) (a : ℚ) → n ≤ v → sum_to n (only_at v a) ≡ 0ℚ
 sum_to-none zero v a h = refl
-sum_to-none (suc n) v a h = plus_none _ 0ℚ _ (sum_to-none n v a (omega arith)) (only_at-else v a n (λ e. absurd (omega arith)))
+sum_to-none (suc n) v a h = first_and_zero _ _ 0ℚ (sum_to-none n v a (omega arith)) (only_at-else v a n (λ e. absurd (omega arith)))
 
 pub sum_to-only : (n v : ℕ) (a : ℚ) → v < n → sum_to n (only_at v a) ≡ a
 sum_to-only zero v a h = absurd (omega arith)
 sum_to-only (suc n) v a h = ⊎_elim
     (λ (w : (eqb v n ≡ true) × (v ≡ n)). none_plus _ a _ (sum_to-none n v a (omega arith)) (subst (λ (k : ℕ). only_at v a k ≡ a) w.1 (only_at-here v a)))
-    (λ (w : (eqb v n ≡ false) × (v ≢ n)). plus_none _ a _ (sum_to-only n v a (omega arith)) (only_at-else v a n w.1)) (eqb_tells v n)
+    (λ (w : (eqb v n ≡ false) × (v ≢ n)). first_and_zero _ _ a (sum_to-only n v a (omega arith)) (only_at-else v a n w.1)) (eqb_tells v n)
 
 -- the sum over the links of what each carries times the fall of the potential along it
 abbrev pub fall : (ℕ → ℚ) → Link → ℚ
@@ -79,7 +77,7 @@ one_link w o i a false false = linear_eq (w ∷ o ∷ i ∷ a ∷ []) [] (search
 
 pub sum_to-zero : (n : ℕ) (f : ℕ → ℚ) → ((k : ℕ) → k < n → f k ≡ 0ℚ) → sum_to n f ≡ 0ℚ
 sum_to-zero zero f e = refl
-sum_to-zero (suc n) f e = plus_none _ 0ℚ _ (sum_to-zero n f (λ k h. e k (omega arith))) (e n (omega arith))
+sum_to-zero (suc n) f e = first_and_zero _ _ 0ℚ (sum_to-zero n f (λ k h. e k (omega arith))) (e n (omega arith))
 
 sum_to-at : (n v : ℕ) (g : ℕ → ℚ) → v < n → sum_to n (λ k. if eqb v k then g k else 0ℚ) ≡ g v
 sum_to-at n v g h = sum_to-same n (λ k. if eqb v k then g k else 0ℚ) (only_at v (g v)) (λ k _. same k) ∙ sum_to-only n v (g v) h
@@ -108,13 +106,10 @@ carried-is n w (link ∷ links) f b =
     ∙ ap (λ (s : ℚ). sum_to n (λ v. if eqb link.tail v then w v *ℚ f 0 else 0ℚ) +ℚ s) (sum_to-plus n _ (λ v. if eqb link.head v then 0ℚ -ℚ w v *ℚ f 0 else 0ℚ) (λ v. w v *ℚ out_less_in links rest v) (λ v. refl)))
 
 -- ---- two flows compared link by link
-add_le : (a b c d : ℚ) → a ≤ℚ b → c ≤ℚ d → a +ℚ c ≤ℚ b +ℚ d
-add_le a b c d h k = linear_le (a ∷ b ∷ c ∷ d ∷ []) (le h ∷ le k ∷ []) (search reading_of) tt
-
 pub carried-le : (w : ℕ → ℚ) (links : List Link) (x y : ℕ → ℚ)
     → ((e : ℕ) (link : Link) → slice_get links e ≡ Some link → x e *ℚ fall w link ≤ℚ y e *ℚ fall w link) → carried w links x ≤ℚ carried w links y
 carried-le w [] x y h = linear_le [] [] (search reading_of) tt
-carried-le w (link ∷ links) x y h = add_le _ _ _ _ (h 0 link refl) (carried-le w links (λ e. x (suc e)) (λ e. y (suc e)) (λ e l s. h (suc e) l s))
+carried-le w (link ∷ links) x y h = sum_le _ _ _ _ (h 0 link refl) (carried-le w links (λ e. x (suc e)) (λ e. y (suc e)) (λ e l s. h (suc e) l s))
 
 first_le : (a b c d : ℚ) → c ≤ℚ d → b +ℚ d ≤ℚ a +ℚ c → b ≤ℚ a
 first_le a b c d h k = linear_le (a ∷ b ∷ c ∷ d ∷ []) (le h ∷ le k ∷ []) (search reading_of) tt

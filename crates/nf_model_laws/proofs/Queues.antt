@@ -4,13 +4,15 @@ use Rattle.nf_rational.specs.Rational.{ℚ}
 use Rattle.nf_rational.specs.Operations.{0ℚ, ◌+ℚ◌, ◌-ℚ◌, ◌*ℚ◌}
 use Rattle.nf_rational.specs.Order.{◌≤ℚ◌, ◌<ℚ◌}
 use Rattle.nf_rational_laws.proofs.Polynomial.{reading_of}
-use Rattle.nf_rational_laws.proofs.Order.{≤ℚ_of_same, ≤ℚ_antisymm, lt_or_le_ℚ, not_both_ℚ}
+use Rattle.nf_rational_laws.proofs.Order.{≤ℚ_of_same, ≤ℚ_antisymm, lt_or_le_ℚ, not_both_ℚ, less_nn}
 use Rattle.nf_rational_laws.proofs.Linear.{le, eq, eq_times, linear_le, linear_eq}
 use Rattle.nf_model.specs.Curve.{Within, IsGreatest, IsLeast, NeverFalls}
 use Rattle.nf_model.specs.Queue.{IsQueue, IsExit, IsOutflow, waiting}
 use Rattle.nf_model_laws.specs.Capacity.{IsPositive}
 use Rattle.nf_model_laws.proofs.Affine.{nn-quotient, quotient-times, le_from_times}
 use Rattle.nf_rational_laws.proofs.Chains.{≤ℚ_refl, ≤ℚ_trans}
+use Rattle.nf_rational_laws.proofs.Facts.{less_zero}
+use Rattle.nf_rational_laws.proofs.Signs.{zero_from_same}
 use Rattle.std.proofs.lemmas.Option.{same_Some}
 
 -- ---- at most one value
@@ -94,9 +96,6 @@ turned_le a b c x z r t y e f = linear_le (a ∷ b ∷ c ∷ x ∷ z ∷ r ∷ t
 later_by : (x z r : ℚ) → z ≡ x +ℚ r → 0ℚ ≤ℚ x → r ≤ℚ z
 later_by x z r e h = linear_le (x ∷ z ∷ r ∷ []) (eq e ∷ le h ∷ []) (search reading_of) tt
 
-less_none : (a y : ℚ) → y ≡ 0ℚ → a -ℚ y ≡ a
-less_none a y e = linear_eq (a ∷ y ∷ []) (eq e ∷ []) (search reading_of) tt tt
-
 pub IsOutflow-early : (transit : ℚ) (capacity : Option ℚ) (amount : ℚ → ℚ) (time : ℚ) → time <ℚ transit → IsOutflow transit capacity amount time 0ℚ
 IsOutflow-early transit capacity amount time l = record {
   early = λ _. refl;
@@ -108,7 +107,7 @@ pub IsOutflow-from_IsQueue : (transit : ℚ) (capacity : Option ℚ) (amount : �
     → IsOutflow transit capacity amount later (amount time -ℚ y)
 IsOutflow-from_IsQueue transit capacity amount time later y e h p = record {
   early = λ l. absurd (not_both_ℚ _ _ l (later_by time later transit e h));
-  unbounded = λ _ none. less_none (amount time) y (p.unbounded none) ∙ ap amount (back time later transit e);
+  unbounded = λ _ none. less_zero (amount time) y (p.unbounded none) ∙ ap amount (back time later transit e);
   bounded = λ rate _ some.
       let g : IsGreatest (λ since. amount time -ℚ amount since -ℚ rate *ℚ (time -ℚ since)) 0ℚ time y = p.bounded rate some in
       record {
@@ -123,13 +122,10 @@ turned_back a b c x z r t y e f = linear_eq (a ∷ b ∷ c ∷ x ∷ z ∷ r ∷
 turned_back_le : (a b c x z r t y : ℚ) → z ≡ x +ℚ r → y ≤ℚ b +ℚ c *ℚ (z -ℚ r -ℚ t) → a -ℚ b -ℚ c *ℚ (x -ℚ t) ≤ℚ a -ℚ y
 turned_back_le a b c x z r t y e f = linear_le (a ∷ b ∷ c ∷ x ∷ z ∷ r ∷ t ∷ y ∷ []) (eq_times c e ∷ le f ∷ []) (search reading_of) tt
 
-all_out : (a y : ℚ) → y ≡ a → a -ℚ y ≡ 0ℚ
-all_out a y e = linear_eq (a ∷ y ∷ []) (eq e ∷ []) (search reading_of) tt tt
-
 pub IsQueue-from_IsOutflow : (transit : ℚ) (capacity : Option ℚ) (amount : ℚ → ℚ) (time later y : ℚ) → later ≡ time +ℚ transit → 0ℚ ≤ℚ time → IsOutflow transit capacity amount later y
     → IsQueue capacity amount time (amount time -ℚ y)
 IsQueue-from_IsOutflow transit capacity amount time later y e h p = record {
-  unbounded = λ none. all_out (amount time) y (p.unbounded (later_by time later transit e h) none ∙ ap amount (sym (back time later transit e)));
+  unbounded = λ none. zero_from_same y (amount time) (p.unbounded (later_by time later transit e h) none ∙ ap amount (sym (back time later transit e)));
   bounded = λ rate some.
       let l : IsLeast (λ since. amount since +ℚ rate *ℚ (later -ℚ transit -ℚ since)) 0ℚ (later -ℚ transit) y = p.bounded rate (later_by time later transit e h) some in
       record {
@@ -196,13 +192,10 @@ IsQueue-same capacity f g time y e p = record {
 pub IsExit-same : (transit : ℚ) (capacity : Option ℚ) (f g : ℚ → ℚ) (time exit : ℚ) → ((t : ℚ) → Within 0ℚ time t → f t ≡ g t) → IsExit transit capacity f time exit → IsExit transit capacity g time exit
 IsExit-same transit capacity f g time exit e p = record { queue = p.queue; is_queue = IsQueue-same capacity f g time p.queue e p.is_queue; is_sum = p.is_sum }
 
-in_time : (t r : ℚ) → r ≤ℚ t → 0ℚ ≤ℚ t -ℚ r
-in_time t r h = linear_le (t ∷ r ∷ []) (le h ∷ []) (search reading_of) tt
-
 pub IsOutflow-same : (transit : ℚ) (capacity : Option ℚ) (f g : ℚ → ℚ) (time out : ℚ) → ((t : ℚ) → Within 0ℚ (time -ℚ transit) t → f t ≡ g t)
     → IsOutflow transit capacity f time out → IsOutflow transit capacity g time out
 IsOutflow-same transit capacity f g time out e p = record {
   early = p.early;
-  unbounded = λ l none. p.unbounded l none ∙ e (time -ℚ transit) (in_time time transit l, ≤ℚ_refl _);
+  unbounded = λ l none. p.unbounded l none ∙ e (time -ℚ transit) (less_nn transit time l, ≤ℚ_refl _);
   bounded = λ rate l some. IsLeast-same _ _ 0ℚ (time -ℚ transit) out (λ t w. ap (λ (x : ℚ). x +ℚ rate *ℚ (time -ℚ transit -ℚ t)) (e t w)) (p.bounded rate l some);
 }

@@ -12,6 +12,7 @@ use Rattle.nf_model.specs.Network.{Piece, ArePieces, time_in, supplied, rate_fro
 use Rattle.nf_model_laws.specs.SupplyLaws.{NoStartBetween}
 use Rattle.nf_rational_laws.proofs.Chains.{≤ℚ_refl, ≤ℚ_trans}
 use Rattle.nf_rational_laws.proofs.Extremes.{min_left, max_left, min_is_left, min_is_right, max_keeps, min_right, max_right, min_keeps}
+use Rattle.nf_rational_laws.proofs.Facts.{gap_np, term_and_zero, less_le}
 
 -- each piece starts later than the one before
 abbrev pub StartsRise : List Piece → Type 0
@@ -35,9 +36,6 @@ time_in-before : (start : ℚ) (rest : List Piece) (time : ℚ) → NextFrom res
 time_in-before start [] time n = refl
 time_in-before start (q ∷ rest) time n = ap (λ (t : ℚ). max_ℚ 0ℚ (t -ℚ start)) (min_is_left time q.start n)
 
-gap_none : (s t : ℚ) → t ≤ℚ s → t -ℚ s ≤ℚ 0ℚ
-gap_none s t h = linear_le (s ∷ t ∷ []) (le h ∷ []) (search reading_of) tt
-
 -- before the first piece nothing is supplied
 next_after : (p : Piece) (rest : List Piece) (time : ℚ) → StartsRise (p ∷ rest) → time ≤ℚ p.start → NextFrom rest time
 next_after p [] time s h = tt
@@ -47,13 +45,10 @@ StartsRise-rest : (p : Piece) (rest : List Piece) → StartsRise (p ∷ rest) �
 StartsRise-rest p [] s = tt
 StartsRise-rest p (q ∷ rest) s = s.1
 
-nothing_of : (r x y : ℚ) → x ≡ 0ℚ → y ≡ 0ℚ → r *ℚ x +ℚ y ≡ 0ℚ
-nothing_of r x y e f = linear_eq (r ∷ x ∷ y ∷ []) (eq_times r e ∷ eq f ∷ []) (search reading_of) tt tt
-
 pub supplied-none : (pieces : List Piece) (time : ℚ) → StartsRise pieces → NextFrom pieces time → supplied pieces time ≡ 0ℚ
 supplied-none [] time s n = refl
-supplied-none (p ∷ rest) time s n = nothing_of p.rate _ _
-    (time_in-before p.start rest time (next_after p rest time s n) ∙ max0_none _ (gap_none p.start time n))
+supplied-none (p ∷ rest) time s n = term_and_zero p.rate _ _
+    (time_in-before p.start rest time (next_after p rest time s n) ∙ max0_none _ (gap_np time p.start n))
     (supplied-none rest time (StartsRise-rest p rest s) (next_after p rest time s n))
 
 rate_from-before : (before : ℚ) (pieces : List Piece) (time later : ℚ) → time <ℚ later → NextFrom pieces later → rate_from before pieces time ≡ before
@@ -154,12 +149,9 @@ max0_order x y h = max_keeps (λ (z : ℚ). z ≤ℚ max_ℚ 0ℚ y) 0ℚ x (max
 min_order : (x y z : ℚ) → x ≤ℚ y → min_ℚ x z ≤ℚ min_ℚ y z
 min_order x y z h = min_keeps (λ (u : ℚ). min_ℚ x z ≤ℚ u) y z (≤ℚ_trans _ _ _ (min_left x z) h) (min_right x z)
 
-less_order : (x y s : ℚ) → x ≤ℚ y → x -ℚ s ≤ℚ y -ℚ s
-less_order x y s h = linear_le (x ∷ y ∷ s ∷ []) (le h ∷ []) (search reading_of) tt
-
 time_in-rises : (start : ℚ) (rest : List Piece) (s t : ℚ) → s ≤ℚ t → time_in start rest s ≤ℚ time_in start rest t
-time_in-rises start [] s t h = max0_order _ _ (less_order s t start h)
-time_in-rises start (q ∷ rest) s t h = max0_order _ _ (less_order _ _ start (min_order s t q.start h))
+time_in-rises start [] s t h = max0_order _ _ (less_le s t start h)
+time_in-rises start (q ∷ rest) s t h = max0_order _ _ (less_le _ _ start (min_order s t q.start h))
 
 sum_order : (r x y u v : ℚ) → 0ℚ ≤ℚ r → x ≤ℚ y → u ≤ℚ v → r *ℚ x +ℚ u ≤ℚ r *ℚ y +ℚ v
 sum_order r x y u v n h k = linear_le (r ∷ x ∷ y ∷ u ∷ v ∷ []) (le_times n h ∷ le k ∷ []) (search reading_of) tt

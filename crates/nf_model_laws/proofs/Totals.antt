@@ -7,6 +7,7 @@ use Rattle.nf_rational.specs.Order.{◌≤ℚ◌}
 use Rattle.nf_rational_laws.proofs.Polynomial.{reading_of}
 use Rattle.nf_rational_laws.proofs.Linear.{eq, linear_eq, le, linear_le}
 use Rattle.nf_rational_laws.proofs.Chains.{≤ℚ_refl}
+use Rattle.nf_rational_laws.proofs.Facts.{same_sums, sum_le}
 use Rattle.nf_model.specs.Entries.{number_at}
 use Rattle.nf_model.specs.Network.{Link, Network, IsNetwork, sum_in, sum_out}
 use Rattle.nf_model.specs.ThinFlow.{Sets, surplus, IsThinFlow}
@@ -72,28 +73,22 @@ if_split : (b : Bool) (a s : ℚ) → (if b then a +ℚ s else s) ≡ (if b then
 if_split true a s = refl
 if_split false a s = linear_eq (s ∷ []) [] (search reading_of) tt tt
 
-both_same : (a b c d : ℚ) → a ≡ c → b ≡ d → a +ℚ b ≡ c +ℚ d
-both_same a b c d e f = linear_eq (a ∷ b ∷ c ∷ d ∷ []) (eq e ∷ eq f ∷ []) (search reading_of) tt tt
-
 pub total_in : (n : ℕ) (links : List Link) (f : ℕ → ℚ) → EndsBelow n links → sum_to n (sum_in links f) ≡ total links f
 total_in n [] f below = sum_to-zero n (λ v. 0ℚ) (λ k low. refl)
 total_in n (link ∷ links) f below =
     sum_to-plus n (sum_in (link ∷ links) f) (only_at link.head (f 0)) (sum_in links (λ e. f (suc e))) (λ v. if_split (eqb link.head v) (f 0) (sum_in links (λ e. f (suc e)) v))
-    ∙ both_same _ _ _ _ (sum_to-only n link.head (f 0) (below 0 link refl).1) (total_in n links (λ e. f (suc e)) (λ e l p. below (suc e) l p))
+    ∙ same_sums _ _ _ _ (sum_to-only n link.head (f 0) (below 0 link refl).1) (total_in n links (λ e. f (suc e)) (λ e l p. below (suc e) l p))
 
 pub total_out : (n : ℕ) (links : List Link) (f : ℕ → ℚ) → EndsBelow n links → sum_to n (sum_out links f) ≡ total links f
 total_out n [] f below = sum_to-zero n (λ v. 0ℚ) (λ k low. refl)
 total_out n (link ∷ links) f below =
     sum_to-plus n (sum_out (link ∷ links) f) (only_at link.tail (f 0)) (sum_out links (λ e. f (suc e))) (λ v. if_split (eqb link.tail v) (f 0) (sum_out links (λ e. f (suc e)) v))
-    ∙ both_same _ _ _ _ (sum_to-only n link.tail (f 0) (below 0 link refl).0) (total_out n links (λ e. f (suc e)) (λ e l p. below (suc e) l p))
+    ∙ same_sums _ _ _ _ (sum_to-only n link.tail (f 0) (below 0 link refl).0) (total_out n links (λ e. f (suc e)) (λ e l p. below (suc e) l p))
 
 -- ---- link by link
-add_le : (a b c d : ℚ) → a ≤ℚ b → c ≤ℚ d → a +ℚ c ≤ℚ b +ℚ d
-add_le a b c d h k = linear_le (a ∷ b ∷ c ∷ d ∷ []) (le h ∷ le k ∷ []) (search reading_of) tt
-
 pub total-order : (links : List Link) (f g : ℕ → ℚ) → ((e : ℕ) (link : Link) → slice_get links e ≡ Some link → f e ≤ℚ g e) → total links f ≤ℚ total links g
 total-order [] f g h = ≤ℚ_refl 0ℚ
-total-order (link ∷ links) f g h = add_le _ _ _ _ (h 0 link refl) (total-order links (λ e. f (suc e)) (λ e. g (suc e)) (λ e l p. h (suc e) l p))
+total-order (link ∷ links) f g h = sum_le _ _ _ _ (h 0 link refl) (total-order links (λ e. f (suc e)) (λ e. g (suc e)) (λ e l p. h (suc e) l p))
 
 first_le : (a b c d : ℚ) → d ≤ℚ c → a +ℚ c ≤ℚ b +ℚ d → a ≤ℚ b
 first_le a b c d h k = linear_le (a ∷ b ∷ c ∷ d ∷ []) (le h ∷ le k ∷ []) (search reading_of) tt

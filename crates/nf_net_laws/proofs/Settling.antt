@@ -1,7 +1,7 @@
 -- Least transit sums exist: nodes are settled one by one, each time at the cheapest hop that leads out of the settled ones.
 use Rattle.std.proofs.Common.{◌≡◌, ℕ, zero, suc, ◌+◌, ◌<◌, ◌≤◌, ◌⊎◌, ◌==◌, ◌&&◌, ◌||◌, ◌++◌, Bool, true, false, not, if◌then◌else◌, List, [], ◌∷◌, length, slice_get, Some, refl, sym, ◌∙◌, ap, subst, inl, inr, arith}
 use Rattle.std.specs.List.{AllByRecursion, list_all}
-use Rattle.std.proofs.lemmas.Bool.{and_parts, eqb-true, eq-eqb}
+use Rattle.std.proofs.lemmas.Bool.{and_parts, eqb-true, eq-eqb, or_left, or_right}
 use Rattle.nf_rational.specs.Rational.{ℚ}
 use Rattle.nf_rational.specs.Operations.{0ℚ, ◌+ℚ◌}
 use Rattle.nf_rational.specs.Order.{◌≤ℚ◌}
@@ -10,7 +10,6 @@ use Rattle.nf_rational_laws.proofs.Order.{lt_or_le_ℚ, ≤ℚ_of_lt, ≤ℚ_of_
 use Rattle.nf_rational_laws.proofs.Linear.{le, eq, linear_le, linear_eq}
 use Rattle.nf_model.specs.Walk.{Hop, IsHop, IsWalk, transit_of, transit_sum, IsLeastTransit}
 use Rattle.nf_net_laws.proofs.WalkFacts.{walk_push, entry_all, transit_sum_nn}
-use Rattle.nf_net_laws.proofs.DraftKept.{or_left, or_right}
 use Rattle.nf_net_laws.proofs.Reaching.{heads_in, at_most_all, stays_in, one_more_head, stays_closed}
 use Rattle.nf_rational_laws.proofs.Chains.{≤ℚ_trans}
 use Rattle.nf_model_laws.proofs.Networks.{transit_of-hop}

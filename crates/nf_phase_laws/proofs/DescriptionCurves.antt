@@ -18,6 +18,7 @@ use Rattle.nf_phase_laws.specs.CurveSteps.{LastPoint, GoesOnTo, at}
 use Rattle.nf_phase_laws.specs.DescriptionCurves.{DescriptionStands, DescriptionCurvesGoOn}
 use Rattle.nf_phase_laws.proofs.CurveSteps.{ends_at, GoesOnTo-slope, LastPoint-at}
 use Rattle.nf_rational_laws.proofs.Chains.{≤ℚ_refl}
+use Rattle.nf_rational_laws.proofs.Facts.{same_slacks}
 
 -- ---- an extended curve while time increases: from a on for l d, to the value z
 module _ (points points' : List Point) (a z l d : ℚ) (not_back : 0ℚ ≤ℚ l) (stand : LastPoint points (a, value points a))
@@ -81,17 +82,14 @@ module _ (net : Network) (amount label amount' label' : ℕ → ℚ → ℚ) (un
   whole : Within 0ℚ length length
   whole = (≤ℚ_of_lt _ _ some, ≤ℚ_refl length)
 
-  -- If the tail's label is constant, the queue is constant.
-  slack_now : (b a d c r : ℚ) → b ≡ d → a ≡ c → b -ℚ (a +ℚ r) ≡ d -ℚ (c +ℚ r)
-  slack_now b a d c r e f = linear_eq (b ∷ a ∷ d ∷ c ∷ r ∷ []) (eq e ∷ eq f ∷ []) (search reading_of) tt tt
-
   same_end : (a l y : ℚ) → y ≡ a +ℚ l *ℚ length → l ≡ 0ℚ → y ≡ a
   same_end a l y e f = linear_eq (a ∷ l ∷ y ∷ length ∷ []) (eq e ∷ eq_times length f ∷ []) (search reading_of) tt tt
 
+  -- If the tail's label is constant, the queue is constant.
   queue_still : (e : ℕ) (link : Link) → IsLink net e link → slope link.tail ≡ 0ℚ → at queues e (label link.tail until) ≡ queue_by_slack link.capacity (link_slack label' link (until +ℚ length))
   queue_still e link p z =
       let tail_same : label' link.tail until ≡ label link.tail until = goes.label_before link.tail until (good.tails e link p) now in
-      let slack_same : link_slack label' link until ≡ link_slack label link until = slack_now _ _ _ _ link.transit (goes.label_before link.head until (good.heads e link p) now) tail_same in
+      let slack_same : link_slack label' link until ≡ link_slack label link until = same_slacks _ _ _ _ link.transit (goes.label_before link.head until (good.heads e link p) now) tail_same in
       let at_end : label' link.tail (until +ℚ length) ≡ label link.tail until = same_end _ (slope link.tail) _ (goes.label_after link.tail length (good.tails e link p) whole) z in
       describes.queues e link until p now ∙ ap (queue_by_slack link.capacity) (sym slack_same)
       ∙ IsQueue-unique link.capacity (amount' e) (label link.tail until) _ _

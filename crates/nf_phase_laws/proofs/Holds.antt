@@ -22,6 +22,7 @@ use Rattle.nf_model_laws.proofs.Sums.{sum_out-same, sum_in-none, sum_out-none}
 use Rattle.nf_phase_laws.specs.Invariant.{link_slack, queue_by_slack, tail_or, sent, HoldsUpTo}
 use Rattle.nf_phase_laws.proofs.Idle.{max0_cases, waiting-by_slack, IsQueue-before_any}
 use Rattle.nf_rational_laws.proofs.Chains.{≤ℚ_refl, ≤ℚ_trans}
+use Rattle.nf_rational_laws.proofs.Facts.{in_time}
 
 -- The amount sent into a link, by its tail.
 pub sent-is : (net : Network) (amount label : ℕ → ℚ → ℚ) (e : ℕ) (link : Link) (departure : ℚ) → IsLink net e link → sent net amount label e departure ≡ amount e (label link.tail departure)
@@ -115,9 +116,6 @@ module _ (net : Network) (amount label : ℕ → ℚ → ℚ) (until : ℚ) (goo
 
   back_again : (b r : ℚ) → b ≡ (b -ℚ r) +ℚ r
   back_again b r = linear_eq (b ∷ r ∷ []) [] (search reading_of) tt tt
-
-  in_time : (a b r : ℚ) → b -ℚ (a +ℚ r) ≤ℚ 0ℚ → b -ℚ r ≤ℚ a
-  in_time a b r h = linear_le (a ∷ b ∷ r ∷ []) (le h ∷ []) (search reading_of) tt
 
   too_early : (b r : ℚ) → b -ℚ r <ℚ 0ℚ → b <ℚ r
   too_early b r h = linear_lt (b ∷ r ∷ []) (lt h ∷ []) (search reading_of) tt

@@ -25,6 +25,7 @@ use Rattle.nf_phase_laws.proofs.Thin.{IsThinBy}
 use Rattle.nf_phase_laws.proofs.QueueCases.{LinkStep, IsQueue-by_slack, unused_below, unbounded_below}
 use Rattle.nf_phase_laws.proofs.Rising.{NeverFalls-goes_on}
 use Rattle.nf_rational_laws.proofs.Chains.{≤ℚ_refl, ≤ℚ_trans}
+use Rattle.nf_rational_laws.proofs.Facts.{same_slacks, in_time, less_le}
 
 -- Facts on a phase.
 pub record PhaseStep (net : Network) (amount label : ℕ → ℚ → ℚ) (until length rate : ℚ) (x slope : ℕ → ℚ) (amount' label' : ℕ → ℚ → ℚ) : Type 0 where
@@ -49,9 +50,6 @@ line_order a l s t h k = linear_le (a ∷ l ∷ s ∷ t ∷ []) (le_times h k �
 
 slack_line : (b b' a a' r l m t : ℚ) → b' ≡ b +ℚ m *ℚ t → a' ≡ a +ℚ l *ℚ t → b' -ℚ (a' +ℚ r) ≡ b -ℚ (a +ℚ r) +ℚ (m -ℚ l) *ℚ t
 slack_line b b' a a' r l m t e f = linear_eq (b ∷ b' ∷ a ∷ a' ∷ r ∷ l ∷ m ∷ t ∷ []) (eq e ∷ eq f ∷ []) (search reading_of) tt tt
-
-slack_same : (b b' a a' r : ℚ) → b' ≡ b → a' ≡ a → b' -ℚ (a' +ℚ r) ≡ b -ℚ (a +ℚ r)
-slack_same b b' a a' r e f = linear_eq (b ∷ b' ∷ a ∷ a' ∷ r ∷ []) (eq e ∷ eq f ∷ []) (search reading_of) tt tt
 
 from_zero : (a l u : ℚ) → a +ℚ l *ℚ u ≡ a +ℚ l *ℚ (u -ℚ 0ℚ)
 from_zero a l u = linear_eq (a ∷ l ∷ u ∷ []) [] (search reading_of) tt tt
@@ -79,12 +77,6 @@ at_the_end a b r z h i j = linear_eq (a ∷ b ∷ r ∷ z ∷ []) (le h ∷ le i
 
 sooner : (b b' r z : ℚ) → b ≤ℚ b' → b' -ℚ r ≤ℚ z → b -ℚ r ≤ℚ z
 sooner b b' r z h i = linear_le (b ∷ b' ∷ r ∷ z ∷ []) (le h ∷ le i ∷ []) (search reading_of) tt
-
-in_time : (a b r : ℚ) → b -ℚ (a +ℚ r) ≤ℚ 0ℚ → b -ℚ r ≤ℚ a
-in_time a b r h = linear_le (a ∷ b ∷ r ∷ []) (le h ∷ []) (search reading_of) tt
-
-less_transit : (b b' r : ℚ) → b ≤ℚ b' → b -ℚ r ≤ℚ b' -ℚ r
-less_transit b b' r h = linear_le (b ∷ b' ∷ r ∷ []) (le h ∷ []) (search reading_of) tt
 
 same_time : (a b r : ℚ) → b -ℚ (a +ℚ r) ≤ℚ 0ℚ → 0ℚ ≤ℚ b -ℚ (a +ℚ r) → a ≡ b -ℚ r
 same_time a b r h k = linear_eq (a ∷ b ∷ r ∷ []) (le h ∷ le k ∷ []) (search reading_of) tt tt
@@ -173,7 +165,7 @@ module _ (net : Network) (amount label : ℕ → ℚ → ℚ) (until length rate
   rises_on v time h w = step.holds.label_rises v time until h w.0 w.1 (≤ℚ_refl until)
 
   pub slack_before : (e : ℕ) (link : Link) (time : ℚ) → IsLink net e link → Within 0ℚ until time → link_slack label' link time ≡ link_slack label link time
-  slack_before e link time p w = slack_same _ _ _ _ link.transit (step.goes.label_before link.head time (heads e link p) w) (step.goes.label_before link.tail time (tails e link p) w)
+  slack_before e link time p w = same_slacks _ _ _ _ link.transit (step.goes.label_before link.head time (heads e link p) w) (step.goes.label_before link.tail time (tails e link p) w)
 
   pub slack_after : (e : ℕ) (link : Link) (t : ℚ) → IsLink net e link → Within 0ℚ length t → link_slack label' link (until +ℚ t) ≡ link_slack label link until +ℚ (slope link.head -ℚ slope link.tail) *ℚ t
   slack_after e link t p w = slack_line _ _ _ _ link.transit _ _ t (step.goes.label_after link.head t (heads e link p) w) (step.goes.label_after link.tail t (tails e link p) w)
@@ -350,7 +342,7 @@ module _ (net : Network) (amount label : ℕ → ℚ → ℚ) (until length rate
 
   empty_unused : (e : ℕ) (link : Link) (t : ℚ) → IsLink net e link → Within 0ℚ length t → (link_slack label link until ≤ℚ 0ℚ) × (x e ≡ 0ℚ) → EmptyAt e link (until +ℚ t)
   empty_unused e link t p w u s h =
-      let k : label link.head until -ℚ link.transit ≤ℚ label' link.head (until +ℚ t) -ℚ link.transit = less_transit _ _ link.transit (head_rises e link t p w) in
+      let k : label link.head until -ℚ link.transit ≤ℚ label' link.head (until +ℚ t) -ℚ link.transit = less_le _ _ link.transit (head_rises e link t p w) in
       let j : label' link.head (until +ℚ t) -ℚ link.transit ≤ℚ label link.tail until +ℚ slope link.tail *ℚ t =
       subst (λ (a : ℚ). label' link.head (until +ℚ t) -ℚ link.transit ≤ℚ a) (step.goes.label_after link.tail t (tails e link p) w) (in_time _ _ link.transit s) in
       ⊎_elim

@@ -17,6 +17,7 @@ use Rattle.nf_phase_laws.specs.Invariant.{queue_by_slack}
 use Rattle.nf_phase_laws.proofs.Thin.{LinkLaw}
 use Rattle.nf_rational_laws.proofs.Chains.{≤ℚ_trans}
 use Rattle.nf_rational_laws.proofs.Tests.{max0_none, max0_of}
+use Rattle.nf_rational_laws.proofs.Facts.{times_second_zero}
 
 queue_goal : (r c l x q t y : ℚ) → r *ℚ l ≡ x → y ≡ q +ℚ (x -ℚ c *ℚ l) *ℚ t → (a : ℚ) → y ≡ q +ℚ (r -ℚ c) *ℚ ((a +ℚ l *ℚ t) -ℚ a)
 queue_goal r c l x q t y e f a = linear_eq (r ∷ c ∷ l ∷ x ∷ q ∷ t ∷ y ∷ a ∷ []) (eq_times t e ∷ eq f ∷ []) (search reading_of) tt tt
@@ -86,14 +87,11 @@ queue_case c s n x l m t k = ⊎_elim
     (λ (h : 0ℚ <ℚ s). subst (λ (y : ℚ). QueueCase c l x (c *ℚ y) t n) (sym (max0_of s (≤ℚ_of_lt _ _ h)))
     (queue_resetting c s l m x t n ((k.law (≤ℚ_of_lt _ _ h)).full c refl h) k.moves (k.above h)))
     (λ (h : s ≤ℚ 0ℚ). ⊎_elim
-    (λ (i : s <ℚ 0ℚ). queue_inactive c _ l x t n (≤ℚ_of_lt _ _ (k.positive c refl)) k.slope_nn k.time_nn (no_queue c _ (max0_none s h)) (k.inactive i) (k.below i))
+    (λ (i : s <ℚ 0ℚ). queue_inactive c _ l x t n (≤ℚ_of_lt _ _ (k.positive c refl)) k.slope_nn k.time_nn (times_second_zero c _ (max0_none s h)) (k.inactive i) (k.below i))
     (λ (i : 0ℚ ≤ℚ s). subst (λ (y : ℚ). QueueCase c l x (c *ℚ y) t n) (sym (max0_of s i))
     (queue_tight c s l m x t n (k.positive c refl) k.slope_nn k.time_nn k.flow_nn (≤ℚ_antisymm _ _ h i) k.moves (k.law i)))
     (lt_or_le_ℚ s 0ℚ))
     (lt_or_le_ℚ 0ℚ s)
-  where
-    no_queue : (c y : ℚ) → y ≡ 0ℚ → c *ℚ y ≡ 0ℚ
-    no_queue c y e = linear_eq (c ∷ y ∷ []) (eq_times c e ∷ []) (search reading_of) tt tt
 
 by_case : (c : ℚ) (f : ℚ → ℚ) (a end r l x t q n : ℚ) → 0ℚ <ℚ c → r *ℚ l ≡ x → IsAffine f a end r → a ≤ℚ a +ℚ l *ℚ t → a +ℚ l *ℚ t ≤ℚ end
     → IsQueue (Some c) f a q → QueueCase c l x q t n → IsQueue (Some c) f (a +ℚ l *ℚ t) (c *ℚ max_ℚ 0ℚ n)

@@ -1,6 +1,6 @@
 -- Curves in short form stay in short form when extended by a point: no inner point has equal slopes on both sides.
 use Rattle.std.proofs.Common.{◌≡◌, List, [], ◌∷◌, ◌++◌, length, Bool, true, false, sym, ap, subst, refl, ◌∙◌, append_assoc}
-use Rattle.std.specs.Prelude.{◌-◌, ◌&&◌, Option, Some, None, take}
+use Rattle.std.specs.Prelude.{◌-◌, Option, Some, None, take}
 use Rattle.std.specs.List.{last_or}
 use Rattle.std.proofs.lemmas.Option.{same_Some}
 use Rattle.nf_rational.specs.Rational.{ℚ}
@@ -14,7 +14,7 @@ use Rattle.nf_thin_def.specs.ReportCurves.{GrowingCurve, keeps_slope, with_point
 use Rattle.nf_thin_def.specs.CurveList.{QueueStep}
 use Rattle.nf_phase_laws.proofs.Points.{same_of_test, taken, EndsWithSlope, LastSlope, LastSlope-rates}
 use Rattle.nf_rational_laws.proofs.Entries.{last-append}
-use Rattle.std.proofs.lemmas.Bool.{false≢true}
+use Rattle.std.proofs.lemmas.Bool.{false≢true, and_from}
 
 -- ---- the slope of the last two points
 abbrev last_slope : List Point → Option ℚ
@@ -48,13 +48,8 @@ IsShort-replaced (p ∷ q ∷ s ∷ front) before last new h e = (h.0, IsShort-r
 
 -- ---- other slopes by the test
 
-both : (a b : Bool) → a ≡ true → b ≡ true → (a && b) ≡ true
-both true true h k = refl
-both true false h k = k
-both false b h k = h
-
 is_same-refl : (x : ℚ) → is_same x x ≡ true
-is_same-refl x = let e : le_ℚ x x ≡ true = test_of_le x x (≤ℚ_of_same x x refl) in both (le_ℚ x x) (le_ℚ x x) e e
+is_same-refl x = let e : le_ℚ x x ≡ true = test_of_le x x (≤ℚ_of_same x x refl) in and_from (le_ℚ x x) (le_ℚ x x) e e
 
 differ_of_test : (x y : ℚ) → is_same x y ≡ false → x ≡ y → ⊥
 differ_of_test x y h e = false≢true (sym h ∙ ap (is_same x) (sym e) ∙ is_same-refl x)

@@ -1,5 +1,5 @@
 -- The time for which a link stays on its side: inactive with slack at most 0, or resetting with slack at least 0.
-use Rattle.std.proofs.Common.{◌≡◌, [], ◌∷◌, ◌⊎◌, inl, inr, ⊎_elim, Bool, true, false, sym, ◌∙◌, refl}
+use Rattle.std.proofs.Common.{◌≡◌, [], ◌∷◌, ◌⊎◌, inl, inr, ⊎_elim, Bool, true, false, sym, refl}
 use Rattle.std.specs.Prelude.{◌&&◌, ◌||◌}
 use Rattle.nf_rational.specs.Rational.{ℚ}
 use Rattle.nf_rational.specs.Operations.{0ℚ, ◌+ℚ◌, ◌-ℚ◌, ◌*ℚ◌, ◌/ℚ◌}
@@ -8,12 +8,12 @@ use Rattle.nf_rational_laws.proofs.Polynomial.{reading_of}
 use Rattle.nf_rational_laws.proofs.Linear.{le, lt, eq, le_times, linear_le, linear_false}
 use Rattle.nf_rational_laws.proofs.Order.{lt_or_le_ℚ, ps_times, less_ps, ≤ℚ_antisymm, ≤ℚ_of_lt}
 use Rattle.nf_rational_laws.proofs.Quotient.{ps_apart, /ℚ-times}
-use Rattle.nf_rational_laws.proofs.Tests.{le_of_test, lt_ℚ_cases, less_of_test, test_of_less}
+use Rattle.nf_rational_laws.proofs.Tests.{le_of_test, less_of_test, test_of_less, not_less_of_test}
 use Rattle.nf_model.specs.Curve.{Within}
 use Rattle.nf_rational.specs.Signs.{is_zero, are_opposite}
 use Rattle.nf_phase_laws.proofs.Limits.{HoldsUpTo, HoldsAlways}
 use Rattle.nf_rational_laws.proofs.Chains.{≤ℚ_refl, ≤ℚ_trans}
-use Rattle.std.proofs.lemmas.Bool.{and_parts, false≢true}
+use Rattle.std.proofs.lemmas.Bool.{and_parts, false≢true, or_cases}
 
 pub record KeepsSide (slack change length : ℚ) : Type 0 where
   pub inactive : (while : ℚ) → slack <ℚ 0ℚ → Within 0ℚ length while → (slack +ℚ while *ℚ change) ≤ℚ 0ℚ
@@ -83,10 +83,6 @@ pub record Away (s c : ℚ) : Type 0 where
 
 -- ---- by the tests
 
-one_of : (a b : Bool) → (a || b) ≡ true → (a ≡ true) ⊎ (b ≡ true)
-one_of true b e = inl refl
-one_of false b e = inr e
-
 none_of_first : (a b c : Bool) → ((a && b) || c) ≡ false → a ≡ true → b ≡ false
 none_of_first true true c e h = e
 none_of_first true false c e h = refl
@@ -97,19 +93,16 @@ none_of_second true b c e h = absurd (false≢true (sym e))
 none_of_second false true c e h = e
 none_of_second false false c e h = absurd (false≢true h)
 
-pub lt_false : (x y : ℚ) → lt_ℚ x y ≡ false → y ≤ℚ x
-lt_false x y e = ⊎_elim (λ (w : (lt_ℚ x y ≡ true) × (x <ℚ y)). absurd (false≢true (sym e ∙ w.0))) (λ (w : (lt_ℚ x y ≡ false) × (y ≤ℚ x)). w.1) (lt_ℚ_cases x y)
-
 opposite_of : (s c : ℚ) → are_opposite s c ≡ true → Opposite s c
 opposite_of s c e = ⊎_elim
     (λ (h : (lt_ℚ s 0ℚ && lt_ℚ 0ℚ c) ≡ true). inl (less_of_test s 0ℚ (and_parts _ _ h).0, less_of_test 0ℚ c (and_parts _ _ h).1))
     (λ (h : (lt_ℚ 0ℚ s && lt_ℚ c 0ℚ) ≡ true). inr (less_of_test 0ℚ s (and_parts _ _ h).0, less_of_test c 0ℚ (and_parts _ _ h).1))
-    (one_of (lt_ℚ s 0ℚ && lt_ℚ 0ℚ c) (lt_ℚ 0ℚ s && lt_ℚ c 0ℚ) e)
+    (or_cases (lt_ℚ s 0ℚ && lt_ℚ 0ℚ c) (lt_ℚ 0ℚ s && lt_ℚ c 0ℚ) e)
 
 away_of : (s c : ℚ) → are_opposite s c ≡ false → Away s c
 away_of s c e = record {
-  below = λ h. lt_false 0ℚ c (none_of_first (lt_ℚ s 0ℚ) (lt_ℚ 0ℚ c) (lt_ℚ 0ℚ s && lt_ℚ c 0ℚ) e (test_of_less s 0ℚ h));
-  above = λ h. lt_false c 0ℚ (none_of_second (lt_ℚ s 0ℚ && lt_ℚ 0ℚ c) (lt_ℚ 0ℚ s) (lt_ℚ c 0ℚ) e (test_of_less 0ℚ s h));
+  below = λ h. not_less_of_test 0ℚ c (none_of_first (lt_ℚ s 0ℚ) (lt_ℚ 0ℚ c) (lt_ℚ 0ℚ s && lt_ℚ c 0ℚ) e (test_of_less s 0ℚ h));
+  above = λ h. not_less_of_test c 0ℚ (none_of_second (lt_ℚ s 0ℚ && lt_ℚ 0ℚ c) (lt_ℚ 0ℚ s) (lt_ℚ c 0ℚ) e (test_of_less 0ℚ s h));
 }
 
 zero_of : (s : ℚ) → is_zero s ≡ true → s ≡ 0ℚ

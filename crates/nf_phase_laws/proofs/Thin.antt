@@ -26,6 +26,7 @@ use Rattle.nf_phase_laws.specs.Invariant.{link_slack, HoldsUpTo}
 use Rattle.nf_phase_laws.proofs.Holds.{labels_earliest}
 use Rattle.nf_rational_laws.proofs.Chains.{≤ℚ_refl}
 use Rattle.nf_rational_laws.proofs.Extremes.{max_left}
+use Rattle.nf_rational_laws.proofs.Facts.{plus_zero_le}
 use Rattle.std.proofs.lemmas.Option.{same_Some}
 
 -- ---- an active link: s is its slack, x its flow, l and m the slopes at its tail and its head
@@ -99,10 +100,8 @@ pub record IsThinBy (net : Network) (slack : Link → ℚ) (rate : ℚ) (x slope
 
 -- ---- a walk takes at least its transit times
 Arrives-after : (net : Network) (amount : ℕ → ℚ → ℚ) → IsNetwork net → (walk : List ℕ) (time arrival : ℚ) → Arrives net amount walk time arrival → time +ℚ transit_sum (hops net) walk ≤ℚ arrival
-Arrives-after net amount good [] time arrival a = none time arrival a
-  where
-    none : (t a : ℚ) → t ≡ a → t +ℚ 0ℚ ≤ℚ a
-    none t a e = linear_le (t ∷ a ∷ []) (eq e ∷ []) (search reading_of) tt
+Arrives-after net amount good [] time arrival a = plus_zero_le time arrival a
+
 Arrives-after net amount good (e ∷ walk) time arrival (link, p, exit, is_exit, rest) =
     more time exit arrival link.transit _ _ (transit_of-is net e link p) (IsExit-after link.transit link.capacity (amount e) time exit (IsPositive-link net e link good p) is_exit) (Arrives-after net amount good walk exit arrival rest)
   where

@@ -7,6 +7,7 @@ use Rattle.nf_rational_laws.proofs.Polynomial.{reading_of}
 use Rattle.nf_rational_laws.proofs.Order.{≤ℚ_of_lt, lt_or_le_ℚ, ps_whole}
 use Rattle.nf_rational_laws.proofs.Chains.{≤ℚ_refl, ≤ℚ_trans}
 use Rattle.nf_rational_laws.proofs.Linear.{le, lt, eq, le_times, linear_le, linear_lt, linear_eq, linear_false}
+use Rattle.nf_rational_laws.proofs.Facts.{later_by}
 use Rattle.nf_model.specs.Curve.{Point, slope, value, IsCurve}
 use Rattle.nf_model_laws.proofs.Affine.{quotient-times}
 use Rattle.nf_model_laws.proofs.Curves.{value-before, value-after}
@@ -44,9 +45,6 @@ some_while x y n d h e k = ⊎_elim
     (λ (l : 0ℚ <ℚ d). l)
     (λ (l : d ≤ℚ 0ℚ). absurd (linear_false (x ∷ y ∷ n ∷ d ∷ []) (eq e ∷ lt k ∷ le_times (≤ℚ_of_lt 0ℚ n h) l ∷ []) (search reading_of) tt))
     (lt_or_le_ℚ 0ℚ d)
-
-later_by : (s d : ℚ) → 0ℚ <ℚ d → s <ℚ s +ℚ d
-later_by s d h = linear_lt (s ∷ d ∷ []) (lt h ∷ []) (search reading_of) tt
 
 risen : (x y n d s t : ℚ) → 0ℚ <ℚ n → d *ℚ n ≡ y -ℚ x → t ≤ℚ s +ℚ d → x +ℚ n *ℚ (t -ℚ s) ≤ℚ y
 risen x y n d s t h e l = linear_le (x ∷ y ∷ n ∷ d ∷ s ∷ t ∷ []) (eq e ∷ le_times (≤ℚ_of_lt 0ℚ n h) l ∷ []) (search reading_of) tt

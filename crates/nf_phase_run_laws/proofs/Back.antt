@@ -1,7 +1,7 @@
 -- Restoring a run from its report gives the run's state.
 use Rattle.std.proofs.Common.{◌≡◌, ℕ, suc, ◌<◌, List, [], ◌∷◌, ◌++◌, length, Option, Some, None, slice_get, map, sym, ap, subst, refl, ◌∙◌, arith}
 use Rattle.std.specs.Prelude.{Result, Ok}
-use Rattle.std.proofs.lemmas.Option.{slice_get_within}
+use Rattle.std.proofs.lemmas.Option.{slice_get_within, same_Some}
 use Rattle.std.proofs.lemmas.List.{length-map}
 use Rattle.nf_rational.specs.Rational.{ℚ}
 use Rattle.nf_frac_def.specs.Passing.{Passing}
@@ -31,9 +31,6 @@ use Rattle.nf_phase_run_laws.specs.ResumedLaws.{with_made}
 use Rattle.nf_phase_run_laws.proofs.Kept.{cut_short-same, cut_trace-same}
 
 -- ---- lists
-pub same_some : {A : Type 0} (x y : A) → ◌≡◌ {A = Option A} (Some x) (Some y) → x ≡ y
-same_some x y e = cc
-
 -- A list each of whose entries maps to itself.
 each_same : {A E : Type 0} (f : A → Result A E) (xs ys : List A) → ((i : ℕ) (x y : A) → slice_get xs i ≡ Some x → f x ≡ Ok y → y ≡ x) → each f xs ≡ Ok ys → ys ≡ xs
 each_same f [] ys same e = sym (same_Ok _ _ e)
@@ -136,7 +133,7 @@ module _ (passes : Passing) (net : Network) (good : IsNetwork net) (s : Standing
   labels-same cuts e = each_same (cut_short passes s.time) (flow_of s).labels cuts (λ v points cut at f.
       let h : v < net.nodes = (let w = slice_get_within (flow_of s).labels v points at in let n = well.label_count in let m = length-map s.label_curves (λ (c : GrowingCurve). c.points) in omega arith) in
       let c : (c : GrowingCurve) × (slice_get s.label_curves v ≡ Some c) = label_curve v h in
-      let is : points ≡ c.0.points = same_some points c.0.points (sym at ∙ slice_get-image (λ (c : GrowingCurve). c.points) s.label_curves v c.0 c.1) in
+      let is : points ≡ c.0.points = same_Some points c.0.points (sym at ∙ slice_get-image (λ (c : GrowingCurve). c.points) s.label_curves v c.0 c.1) in
       cut_short-same passes points cut (s.time, label_now v) (subst (λ (l : List Point). LastPoint l (s.time, label_now v)) (sym is) (label_ends v c.0 h c.1))
       (subst IsShort (sym is) (short.labels v c.0 c.1).short) f) e
 
@@ -210,7 +207,7 @@ module _ (passes : Passing) (net : Network) (good : IsNetwork net) (s : Standing
   -- ---- the run state
   label_curves-back : (curves : List GrowingCurve) → each (growing passes) (flow_of s).labels ≡ Ok curves → curves ≡ s.label_curves
   label_curves-back curves e = each_are (growing passes) (flow_of s).labels curves s.label_curves (length-map s.label_curves (λ (c : GrowingCurve). c.points)) (λ v points found c at there f.
-      let is : points ≡ c.points = same_some points c.points (sym at ∙ slice_get-image (λ (c : GrowingCurve). c.points) s.label_curves v c there) in
+      let is : points ≡ c.points = same_Some points c.points (sym at ∙ slice_get-image (λ (c : GrowingCurve). c.points) s.label_curves v c there) in
       growing-back passes c found (well.label_slopes v c there) (short.labels v c there).one (ap (growing passes) (sym is) ∙ f)) e
 
   abbrev queue_of : LinkCurves → GrowingCurve
@@ -219,8 +216,8 @@ module _ (passes : Passing) (net : Network) (good : IsNetwork net) (s : Standing
   queues-back : (curves : List GrowingCurve) → each (growing passes) (flow_of s).queues ≡ Ok curves → curves ≡ map queue_of s.link_curves
   queues-back curves e = each_are (growing passes) (flow_of s).queues curves (map queue_of s.link_curves) (many (λ c. c.queue.points) ∙ sym (many queue_of)) (λ n points found q at there f.
       let c : (c : LinkCurves) × (slice_get s.link_curves n ≡ Some c) = entry s.link_curves n (let w = slice_get_within (map queue_of s.link_curves) n q there in let m = many queue_of in let k = well.link_count in omega arith) in
-      let queue : q ≡ c.0.queue = same_some q c.0.queue (sym there ∙ slice_get-image queue_of s.link_curves n c.0 c.1) in
-      let is : points ≡ c.0.queue.points = same_some points c.0.queue.points (sym at ∙ slice_get-image (λ (c : LinkCurves). c.queue.points) s.link_curves n c.0 c.1) in
+      let queue : q ≡ c.0.queue = same_Some q c.0.queue (sym there ∙ slice_get-image queue_of s.link_curves n c.0 c.1) in
+      let is : points ≡ c.0.queue.points = same_Some points c.0.queue.points (sym at ∙ slice_get-image (λ (c : LinkCurves). c.queue.points) s.link_curves n c.0 c.1) in
       growing-back passes c.0.queue found (well.queue_slopes n c.0 c.1) (short.links n c.0 c.1).queue.one (ap (growing passes) (sym is) ∙ f) ∙ sym queue) e
 
   link_curves-back : (curves : List LinkCurves) → link_curves_of (map (λ c. c.inflow) curves) (map (λ c. c.outflow) curves) (map queue_of curves) ≡ curves

@@ -5,10 +5,10 @@ use Rattle.std.proofs.lemmas.Option.{slice_get_within}
 use Rattle.nf_rational.specs.Rational.{ℚ}
 use Rattle.nf_rational.specs.Operations.{0ℚ, ◌+ℚ◌, ◌-ℚ◌, ◌*ℚ◌}
 use Rattle.nf_rational.specs.Order.{◌≤ℚ◌, ◌<ℚ◌, min_ℚ}
-use Rattle.nf_rational_laws.proofs.Order.{≤ℚ_of_lt}
+use Rattle.nf_rational_laws.proofs.Order.{≤ℚ_of_lt, nn_plus}
 use Rattle.nf_rational_laws.proofs.Tests.{min_ℚ_cases}
 use Rattle.nf_rational_laws.proofs.Polynomial.{reading_of}
-use Rattle.nf_rational_laws.proofs.Linear.{le, lt, eq, linear_le, linear_lt, linear_eq, linear_false}
+use Rattle.nf_rational_laws.proofs.Linear.{le, lt, eq, linear_lt, linear_eq, linear_false}
 use Rattle.nf_rational_laws.proofs.Extremes.{min_right}
 use Rattle.nf_frac_def.specs.Passing.{Passing}
 use Rattle.nf_model.specs.declared.State.{State}
@@ -225,13 +225,10 @@ module _ (passes : Passing) (net : Network) (good : IsNetwork net) (a b : Bounds
         ∙ min-left b.horizon s.time done v.0 ∙ sym v.2)
         (λ (v : IsUnending net slacks slopes s.time × (h.step.length ≡ b.horizon -ℚ s.time)).
         ap (λ (z : ℚ). done +ℚ z) (IsPhaseLength-unique net (slacks_of (hops net) restored.labels) slopes restored.time b.horizon k.step.length (b.horizon -ℚ restored.time) left
-        (inr ((λ more nn. Lasts-left net good s.labels slopes s.time done pattern listed.states count not_negative restored first.labels refl refl more nn (v.0 (done +ℚ more) (both done more not_negative nn))), refl)))
+        (inr ((λ more nn. Lasts-left net good s.labels slopes s.time done pattern listed.states count not_negative restored first.labels refl refl more nn (v.0 (done +ℚ more) (nn_plus done more not_negative nn))), refl)))
         ∙ all_left done b.horizon s.time ∙ sym v.1)
         long
       where
-        both : (d m : ℚ) → 0ℚ ≤ℚ d → 0ℚ ≤ℚ m → 0ℚ ≤ℚ d +ℚ m
-        both d m h k = linear_le (d ∷ m ∷ []) (le h ∷ le k ∷ []) (search reading_of) tt
-
         all_left : (d H t : ℚ) → d +ℚ (H -ℚ (t +ℚ d)) ≡ H -ℚ t
         all_left d H t = linear_eq (d ∷ H ∷ t ∷ []) [] (search reading_of) tt tt
 

@@ -138,10 +138,6 @@ module _ (net : Network) (flows : List ℚ) (from to : ℕ) (all : List Step) (c
         (subst (λ (k : ℕ). IsResidualWalk net flows (front ++ step ∷ []) from k) e (front_more front step v w p l))
         (subst (λ (k : ℕ). IsResidualWalk net flows rest k to) e r);
   }
-    where
-      append_none : (xs : List Step) → xs ++ [] ≡ xs
-      append_none [] = refl
-      append_none (x ∷ xs) = ap (λ (l : List Step). x ∷ l) (append_none xs)
 
   pub all_fine : (front rest : List Step) (v : ℕ) → all ≡ front ++ rest → IsResidualWalk net flows front from v → IsResidualWalk net flows rest v to → EachStep IsFine rest
   all_fine front [] v split p r = tt

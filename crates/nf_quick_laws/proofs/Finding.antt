@@ -1,7 +1,7 @@
 -- Round by round: after k rounds the known path of each node is a residual walk, and is at most each walk of at most k steps.
 use Rattle.std.proofs.Common.{◌≡◌, ◌≢◌, ℕ, zero, suc, ◌+◌, ◌<◌, ◌≤◌, List, [], ◌∷◌, ◌++◌, length, ◌⊎◌, inl, inr, ⊎_elim, Bool, true, false, eqb, Option, Some, None, slice_get, Ok, replicate, sym, ap, subst, refl, ◌∙◌, arith}
 use Rattle.std.proofs.lemmas.Bool.Decides.{eqb_tells}
-use Rattle.std.proofs.lemmas.List.{length-set}
+use Rattle.std.proofs.lemmas.List.{length-set, length-replicate}
 use Rattle.nf_rational.specs.Rational.{ℚ}
 use Rattle.nf_rational.specs.Operations.{0ℚ, ◌+ℚ◌}
 use Rattle.nf_rational_laws.proofs.Polynomial.{reading_of}
@@ -135,10 +135,6 @@ last_step (step ∷ walk) = ⊎_elim
     (λ (e : walk ≡ []). inr (record { front = []; step = step; split = ap (λ (w : List Step). step ∷ w) e }))
     (λ (w : EndsWith walk). inr (record { front = step ∷ w.front; step = w.step; split = ap (λ (x : List Step). step ∷ x) w.split }))
     (last_step walk)
-
-length-replicate : {A : Type 0} (n : ℕ) (x : A) → length (replicate n x) ≡ n
-length-replicate zero x = refl
-length-replicate (suc n) x = ap suc (length-replicate n x)
 
 known_at-none : (n v : ℕ) (q : Reach) → known_at (replicate n None) v ≡ Some q → ⊥
 known_at-none zero v q e = absurd (cc)

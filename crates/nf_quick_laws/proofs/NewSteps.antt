@@ -1,11 +1,14 @@
 -- A push along the first residual walk, of an amount for which it has room, keeps a flow sound.
-use Rattle.std.proofs.Common.{◌≡◌, ◌≢◌, ℕ, ◌<◌, List, [], ◌∷◌, ◌++◌, ◌⊎◌, inl, inr, ⊎_elim, Bool, true, false, Option, Some, None, sym, ap, subst, refl, ◌∙◌}
+use Rattle.std.proofs.Common.{◌≡◌, ◌≢◌, ℕ, ◌<◌, List, [], ◌∷◌, ◌⊎◌, inl, inr, ⊎_elim, Bool, true, false, Option, Some, None, sym, ap, subst, refl, ◌∙◌}
+use Rattle.std.proofs.lemmas.Option.{same_Some}
+use Rattle.std.proofs.lemmas.List.{append-nil}
 use Rattle.nf_rational.specs.Rational.{ℚ}
 use Rattle.nf_rational.specs.Operations.{0ℚ, 1ℚ, ◌+ℚ◌, ◌-ℚ◌, ◌*ℚ◌}
 use Rattle.nf_rational.specs.Order.{◌≤ℚ◌, ◌<ℚ◌, lt_ℚ}
 use Rattle.nf_rational_laws.proofs.Polynomial.{reading_of}
 use Rattle.nf_rational_laws.proofs.Tests.{less_of_test}
-use Rattle.nf_rational_laws.proofs.Linear.{le, lt, eq, eq_times, linear_le, linear_eq, linear_false}
+use Rattle.nf_rational_laws.proofs.Linear.{le, lt, eq, eq_times, linear_le, linear_eq}
+use Rattle.nf_rational_laws.proofs.Facts.{moved_by_zero, zero_not_above}
 use Rattle.nf_model.specs.Entries.{number_at}
 use Rattle.nf_model.specs.Network.{Link, Network, IsLink, IsNetwork, hops, sum_in, sum_out}
 use Rattle.nf_model.specs.Walk.{transit_of}
@@ -24,9 +27,6 @@ use Rattle.nf_quick_laws.proofs.Crossings.{IsTaken, crossed-cases, crossed-balan
 -- A successful test gives a fact.
 
 -- ---- numbers: y is the new flow, x the old one, c the crossings of the link
-stays : (x y c a : ℚ) → c ≡ 0ℚ → y ≡ x +ℚ c *ℚ a → y ≡ x
-stays x y c a e f = linear_eq (x ∷ y ∷ c ∷ a ∷ []) (eq_times a e ∷ eq f ∷ []) (search reading_of) tt tt
-
 grows : (x y c a : ℚ) → c ≡ 1ℚ → y ≡ x +ℚ c *ℚ a → y ≡ x +ℚ a
 grows x y c a e f = linear_eq (x ∷ y ∷ c ∷ a ∷ []) (eq_times a e ∷ eq f ∷ []) (search reading_of) tt tt
 
@@ -59,10 +59,7 @@ new_nn false capacity x y c a h k e f room = less_nn x y a room (shrinks x y c a
 new_within : (d : Bool) (capacity : Option ℚ) (x y c a most : ℚ) → capacity ≡ Some most → x ≤ℚ most → 0ℚ <ℚ a → c ≡ signed d 1ℚ → y ≡ x +ℚ c *ℚ a → HasRoomAlong d capacity x a
     → y ≤ℚ most
 new_within true None x y c a most p h k e f room = absurd (cc)
-new_within true (Some capacity) x y c a most p h k e f room = more_within x y a most (subst (λ (m : ℚ). x +ℚ a ≤ℚ m) (same capacity most p) room) (grows x y c a e f)
-  where
-    same : (m n : ℚ) → Some m ≡ Some n → m ≡ n
-    same m n p = cc
+new_within true (Some capacity) x y c a most p h k e f room = more_within x y a most (subst (λ (m : ℚ). x +ℚ a ≤ℚ m) (same_Some capacity most p) room) (grows x y c a e f)
 new_within false capacity x y c a most p h k e f room = less_within x y a most h k (shrinks x y c a e f)
 
 same_ways : (c d : Bool) → (c ≡ d) ⊎ (c ≡ d → ⊥)
@@ -125,13 +122,13 @@ module _ (net : Network) (flows new : List ℚ) (walk : List Step) (amount : ℚ
 
   at_least : (e : ℕ) → 0ℚ ≤ℚ number_at new e
   at_least e = ⊎_elim
-      (λ (z : crossed walk e ≡ 0ℚ). same_nn _ _ (sound.flow.at_least e) (stays _ _ _ amount z (pushed.flow e)))
+      (λ (z : crossed walk e ≡ 0ℚ). same_nn _ _ (sound.flow.at_least e) (moved_by_zero _ _ _ amount z (pushed.flow e)))
       (λ (t : Taken e). new_nn t.step.forward t.holds.0.leads.link.capacity (number_at flows e) (number_at new e) (crossed walk e) amount (sound.flow.at_least e) some t.once (pushed.flow e) (taken_room e t))
       (taken_or_not e)
 
   at_most : (e : ℕ) (link : Link) (capacity : ℚ) → IsLink net e link → link.capacity ≡ Some capacity → number_at new e ≤ℚ capacity
   at_most e link capacity p c = ⊎_elim
-      (λ (z : crossed walk e ≡ 0ℚ). same_within _ _ capacity (sound.flow.at_most e link capacity p c) (stays _ _ _ amount z (pushed.flow e)))
+      (λ (z : crossed walk e ≡ 0ℚ). same_within _ _ capacity (sound.flow.at_most e link capacity p c) (moved_by_zero _ _ _ amount z (pushed.flow e)))
       (λ (t : Taken e). new_within t.step.forward t.holds.0.leads.link.capacity (number_at flows e) (number_at new e) (crossed walk e) amount capacity
       (ap (λ (l : Link). l.capacity) (same_link e t.holds.0.leads.link link (taken_link e t) p) ∙ c) (sound.flow.at_most e link capacity p c) some t.once (pushed.flow e) (taken_room e t))
       (taken_or_not e)
@@ -166,7 +163,7 @@ module _ (net : Network) (flows new : List ℚ) (walk : List Step) (amount : ℚ
         is_link = l.is_link;
         begins = l.begins;
         ends = l.ends;
-        goes = ap (λ (x : ℚ). can_go step.forward l.link.capacity x) (sym (stays _ _ _ amount z (pushed.flow step.link))) ∙ l.goes;
+        goes = ap (λ (x : ℚ). can_go step.forward l.link.capacity x) (sym (moved_by_zero _ _ _ amount z (pushed.flow step.link))) ∙ l.goes;
       }))
       (λ (t : Taken step.link). ⊎_elim
       (λ (e : t.step.forward ≡ step.forward). inl (record {
@@ -245,9 +242,6 @@ module _ (net : Network) (flows new : List ℚ) (walk : List Step) (amount : ℚ
   -- ---- no flow into the source, and none out of the sink
   no_flow_back : (x : ℚ) → x ≡ 0ℚ → lt_ℚ 0ℚ x ≡ true → ⊥
   no_flow_back x e t = zero_not_above x e (less_of_test 0ℚ x t)
-    where
-      zero_not_above : (x : ℚ) → x ≡ 0ℚ → 0ℚ <ℚ x → ⊥
-      zero_not_above x e h = linear_false (x ∷ []) (eq e ∷ lt h ∷ []) (search reading_of) tt
 
   -- A backward step along the link would need flow.
   only_along : (e : ℕ) (t : Taken e) → number_at flows e ≡ 0ℚ → t.step.forward ≡ true
@@ -257,10 +251,10 @@ module _ (net : Network) (flows new : List ℚ) (walk : List Step) (amount : ℚ
       by_way true capacity g = refl
       by_way false capacity g = absurd (no_flow_back _ (ap (λ (k : ℕ). number_at flows k) t.link ∙ z) g)
 
-  -- A link without flow that the walk can not take stays without flow.
+  -- A link without flow that the walk can not take moved_by_zero without flow.
   not_taken : (e : ℕ) → number_at flows e ≡ 0ℚ → (Taken e → ⊥) → number_at new e ≡ 0ℚ
   not_taken e z none = ⊎_elim
-      (λ (c : crossed walk e ≡ 0ℚ). stays _ _ _ amount c (pushed.flow e) ∙ z)
+      (λ (c : crossed walk e ≡ 0ℚ). moved_by_zero _ _ _ amount c (pushed.flow e) ∙ z)
       (λ (t : Taken e). absurd (none t))
       (taken_or_not e)
 
@@ -306,11 +300,7 @@ module _ (net : Network) (flows new : List ℚ) (walk : List Step) (amount : ℚ
   at_source = front_least net flows net.source net.sink walk sound.closed first [] walk net.source refl refl first.is_walk
 
   at_sink : At net.sink (walk_length net walk)
-  at_sink = front_least net flows net.source net.sink walk sound.closed first walk [] net.sink (sym (append_none walk)) first.is_walk refl
-    where
-      append_none : (xs : List Step) → xs ++ [] ≡ xs
-      append_none [] = refl
-      append_none (x ∷ xs) = ap (λ (l : List Step). x ∷ l) (append_none xs)
+  at_sink = front_least net flows net.source net.sink walk sound.closed first walk [] net.sink (sym (append-nil walk)) first.is_walk refl
 
   from_zero : (a b : ℚ) → a ≤ℚ 0ℚ +ℚ b → a ≤ℚ b
   from_zero a b h = linear_le (a ∷ b ∷ []) (le h ∷ []) (search reading_of) tt

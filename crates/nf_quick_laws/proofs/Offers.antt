@@ -12,7 +12,7 @@ use Rattle.nf_quick_def.specs.Steps.{Step, begin_of, end_of, can_go}
 use Rattle.nf_quick_def.specs.Order.{Reach, IsAtMost, is_better}
 use Rattle.nf_quick_def.specs.Rounds.{Known, known_at, better_of, offered, op_of, along, along_step}
 use Rattle.nf_quick_laws.proofs.Orders.{IsAtMost-refl, IsAtMost-trans, is_better-true, is_better-false}
-use Rattle.std.proofs.lemmas.Option.{same_Some}
+use Rattle.std.proofs.lemmas.Option.{same_Some, none-some}
 use Rattle.nf_rational_laws.proofs.Results.{same_Ok}
 
 -- ---- a checked operation that doesn't pass has its exact value
@@ -154,10 +154,7 @@ module _ (passes : Passing) (flows : List ℚ) (before : Known) where
       × (◌≡◌ {A = Checked Known} (Ok (offered so_far (end_of step.forward link) (record { distance = z; steps = b.steps ++ step ∷ [] }))) (Ok next)) =
       bind-ok (checked passes (op_of step.forward) b.distance link.transit) (λ z. Ok (offered so_far (end_of step.forward link) (record { distance = z; steps = b.steps ++ step ∷ [] }))) next e in
       done step link so_far next b w.0 h g p w.1 w.2
-  by_step true None step link so_far next g p h e = idle step link so_far next e (λ b _ q. none_some b (sym p ∙ q))
-    where
-      none_some : (b : Reach) → None ≡ Some b → ⊥
-      none_some b e = cc
+  by_step true None step link so_far next g p h e = idle step link so_far next e (λ b _ q. none-some b (sym p ∙ q))
   by_step false known step link so_far next g p h e = idle step link so_far next e (λ b t _. false_true (sym g ∙ t))
     where
       false_true : false ≡ true → ⊥

@@ -7,7 +7,7 @@ use Rattle.nf_rational.specs.Operations.{0ℚ, 1ℚ, ◌+ℚ◌, ◌-ℚ◌, ◌
 use Rattle.nf_rational.specs.Order.{◌≤ℚ◌, ◌<ℚ◌}
 use Rattle.nf_rational_laws.proofs.Polynomial.{reading_of}
 use Rattle.nf_rational_laws.proofs.Tests.{less_of_test}
-use Rattle.nf_rational_laws.proofs.Linear.{le, lt, eq, eq_times, linear_le, linear_lt, linear_eq}
+use Rattle.nf_rational_laws.proofs.Linear.{le, eq, eq_times, linear_le, linear_eq}
 use Rattle.nf_frac_def.specs.Passing.{Passing, result_of}
 use Rattle.nf_frac_def.specs.Checked.{Checked, checked, fold_checked}
 use Rattle.nf_frac_def.specs.declared.Op.TheVariants.{Difference}
@@ -24,6 +24,8 @@ use Rattle.nf_quick_laws.proofs.Offers.{bind-ok, checked-ok}
 use Rattle.nf_rational_laws.proofs.Chains.{≤ℚ_refl, ≤ℚ_trans}
 use Rattle.nf_rational_laws.proofs.Extremes.{min_left, min_right, min_keeps}
 use Rattle.nf_rational_laws.proofs.Results.{same_Ok}
+use Rattle.nf_rational_laws.proofs.Facts.{plus_zero_times}
+use Rattle.nf_rational_laws.proofs.Order.{less_ps}
 
 -- ---- entries
 pub number_at-set : (xs : List ℚ) (v : ℕ) (x : ℚ) → v < length xs → number_at (set xs v x) v ≡ x
@@ -52,9 +54,6 @@ same_moved x a s t e = ap (λ (z : ℚ). x +ℚ z *ℚ a) (sym e)
 one_more : (x y z s c a : ℚ) → y ≡ x +ℚ s *ℚ a → z ≡ y +ℚ c *ℚ a → z ≡ x +ℚ (s +ℚ c) *ℚ a
 one_more x y z s c a e f = linear_eq (x ∷ y ∷ z ∷ s ∷ c ∷ a ∷ []) (eq e ∷ eq f ∷ []) (search reading_of) tt tt
 
-no_more : (x a : ℚ) → x ≡ x +ℚ 0ℚ *ℚ a
-no_more x a = linear_eq (x ∷ a ∷ []) [] (search reading_of) tt tt
-
 module _ (passes : Passing) (amount : ℚ) where
   after_step : (flows : List ℚ) (step : Step) (z : ℚ) → step.link < length flows → z ≡ result_of (op_of step.forward) (number_at flows step.link) amount → (e : ℕ)
       → number_at (set flows step.link z) e ≡ number_at flows e +ℚ (if eqb step.link e then signed step.forward 1ℚ else 0ℚ) *ℚ amount
@@ -66,7 +65,7 @@ module _ (passes : Passing) (amount : ℚ) where
       (eqb_tells step.link e)
 
   pub IsPushed-fold : (walk : List Step) (flows new : List ℚ) → EachStep (λ step. step.link < length flows) walk → fold_checked (push_step passes amount) flows walk ≡ Ok new → IsPushed flows walk amount new
-  IsPushed-fold [] flows new each e = subst (λ (k : List ℚ). IsPushed flows [] amount k) (same_Ok flows new e) (record { count = refl; flow = λ k. no_more (number_at flows k) amount })
+  IsPushed-fold [] flows new each e = subst (λ (k : List ℚ). IsPushed flows [] amount k) (same_Ok flows new e) (record { count = refl; flow = λ k. plus_zero_times (number_at flows k) amount })
   IsPushed-fold (step ∷ walk) flows new each e =
       let w : (mid : List ℚ) × (push_step passes amount flows step ≡ Ok mid) × (fold_checked (push_step passes amount) mid walk ≡ Ok new) =
       bind-ok (push_step passes amount flows step) (λ mid. fold_checked (push_step passes amount) mid walk) new e in
@@ -137,9 +136,6 @@ left_room c x a m h k = linear_le (c ∷ x ∷ a ∷ m ∷ []) (le h ∷ le k �
 room_left : (c x a : ℚ) → x +ℚ a ≤ℚ c → a ≤ℚ c -ℚ x
 room_left c x a h = linear_le (c ∷ x ∷ a ∷ []) (le h ∷ []) (search reading_of) tt
 
-left_some : (c x : ℚ) → x <ℚ c → 0ℚ <ℚ c -ℚ x
-left_some c x h = linear_lt (c ∷ x ∷ []) (lt h ∷ []) (search reading_of) tt
-
 module _ (passes : Passing) (net : Network) (flows : List ℚ) where
   capacity_is : (step : Step) (link : Link) → IsLink net step.link link → capacity_of net step.link ≡ link.capacity
   capacity_is step link p = ap (λ (o : Option Link). unwrap_or (option_map (λ (l : Link). l.capacity) o) None) p
@@ -166,7 +162,7 @@ module _ (passes : Passing) (net : Network) (flows : List ℚ) where
         lesser-within least z.0,
         (λ a h. left_room c x a _ bound h),
         (λ a h r. lesser-greatest least z.0 a h (subst (λ (y : ℚ). a ≤ℚ y) (sym is) (room_left c x a r))),
-        lesser-above least z.0 above (subst (λ (y : ℚ). 0ℚ <ℚ y) (sym is) (left_some c x (less_of_test x c goes))),
+        lesser-above least z.0 above (subst (λ (y : ℚ). 0ℚ <ℚ y) (sym is) (less_ps x c (less_of_test x c goes))),
       )
   by_way false capacity x least mid above goes e =
       inr (

@@ -1,5 +1,5 @@
 -- Short facts on sums, differences and products, each by one call of the solver.
-use Rattle.std.proofs.Common.{◌≡◌, ◌≢◌, [], ◌∷◌, refl}
+use Rattle.std.proofs.Common.{◌≡◌, ◌≢◌, [], ◌∷◌}
 use Rattle.nf_rational.specs.Rational.{ℚ}
 use Rattle.nf_rational.specs.Operations.{0ℚ, 1ℚ, ◌+ℚ◌, ◌-ℚ◌, ◌*ℚ◌}
 use Rattle.nf_rational.specs.Order.{◌≤ℚ◌, ◌<ℚ◌}
@@ -35,14 +35,14 @@ pub less_zero : (x y : ℚ) → y ≡ 0ℚ → x -ℚ y ≡ x
 less_zero x y e = linear_eq (x ∷ y ∷ []) (eq e ∷ []) (search reading_of) tt tt
 
 pub same_sums : (a b c d : ℚ) → a ≡ c → b ≡ d → a +ℚ b ≡ c +ℚ d
-same_sums a b c d refl refl = refl
+same_sums a b c d e f = cc
 
 pub same_differences : (a b c d : ℚ) → a ≡ c → b ≡ d → a -ℚ b ≡ c -ℚ d
-same_differences a b c d refl refl = refl
+same_differences a b c d e f = cc
 
 -- the slack of a hop with the transit time r
 pub same_slacks : (b a d c r : ℚ) → b ≡ d → a ≡ c → b -ℚ (a +ℚ r) ≡ d -ℚ (c +ℚ r)
-same_slacks b a d c r refl refl = refl
+same_slacks b a d c r e f = cc
 
 pub sum_of_sum : (a s p q : ℚ) → s ≡ p +ℚ q → a +ℚ s ≡ (a +ℚ p) +ℚ q
 sum_of_sum a s p q e = linear_eq (a ∷ s ∷ p ∷ q ∷ []) (eq e ∷ []) (search reading_of) tt tt
@@ -70,7 +70,7 @@ pub moved_by_zero : (x y k t : ℚ) → k ≡ 0ℚ → y ≡ x +ℚ k *ℚ t →
 moved_by_zero x y k t e f = linear_eq (x ∷ y ∷ k ∷ t ∷ []) (eq_times t e ∷ eq f ∷ []) (search reading_of) tt tt
 
 pub same_terms : (k x y a b : ℚ) → x ≡ y → a ≡ b → k *ℚ x +ℚ a ≡ k *ℚ y +ℚ b
-same_terms k x y a b refl refl = refl
+same_terms k x y a b e f = cc
 
 pub term_and_zero : (k x y : ℚ) → x ≡ 0ℚ → y ≡ 0ℚ → k *ℚ x +ℚ y ≡ 0ℚ
 term_and_zero k x y e f = linear_eq (k ∷ x ∷ y ∷ []) (eq_times k e ∷ eq f ∷ []) (search reading_of) tt tt

@@ -5,8 +5,7 @@ use Rattle.std.proofs.lemmas.List.{map-append}
 use Rattle.std.proofs.lemmas.Grind.{flat_map-append}
 use Rattle.nf_rational.specs.Rational.{ℚ}
 use Rattle.nf_rational.specs.Operations.{0ℚ}
-use Rattle.nf_rational.specs.Order.{◌<ℚ◌, le_ℚ, lt_ℚ}
-use Rattle.nf_rational_laws.proofs.Tests.{lt_of_test}
+use Rattle.nf_rational_laws.proofs.Tests.{less_of_test}
 use Rattle.nf_model.specs.Curve.{Point, TimesRise, IsCurve}
 use Rattle.nf_frac_words.specs.Printed.{printed}
 use Rattle.nf_net_def.specs.Names.{Name}
@@ -28,17 +27,9 @@ use Rattle.nf_rational_laws.proofs.Results.{not_both, same_Ok}
 use Rattle.std.proofs.lemmas.Bool.{not-false}
 
 -- ---- times that rise
-before_of_test : (x y : ℚ) → lt_ℚ x y ≡ true → x <ℚ y
-unfolding lt_ℚ
-before_of_test x y e = lt_of_test y x (flip (le_ℚ y x) e)
-  where
-    flip : (b : Bool) → not b ≡ true → b ≡ false
-    flip true e = absurd (cc)
-    flip false e = refl
-
 rises_on : (p : Point) (points : List Point) → InTime (Some p) points → TimesRise (p ∷ points)
 rises_on p [] h = tt
-rises_on p (q ∷ points) h = (before_of_test p.0 q.0 h.0, rises_on q points h.1)
+rises_on p (q ∷ points) h = (less_of_test p.0 q.0 h.0, rises_on q points h.1)
 
 in_time_more : (before : Option Point) (points : List Point) (p : Point) → InTime before points → comes_after (last_or before points) p.0 ≡ true → InTime before (points ++ p ∷ [])
 in_time_more before [] p h t = (t, tt)

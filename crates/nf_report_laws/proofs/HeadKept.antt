@@ -2,8 +2,8 @@
 use Rattle.std.proofs.Common.{◌≡◌, ◌↔◌, ℕ, Bool, true, false, not, ◌||◌, List, [], ◌∷◌, Option, Some, None, is_none, Ok, refl, sym, ap, subst, ◌∙◌, codes, bytes_eq}
 use Rattle.nf_rational.specs.Rational.{ℚ}
 use Rattle.nf_rational.specs.Operations.{0ℚ}
-use Rattle.nf_rational.specs.Order.{◌≤ℚ◌, le_ℚ, lt_ℚ}
-use Rattle.nf_rational_laws.proofs.Tests.{le_of_test}
+use Rattle.nf_rational.specs.Order.{◌≤ℚ◌, lt_ℚ}
+use Rattle.nf_rational_laws.proofs.Tests.{not_less_of_test}
 use Rattle.nf_frac_words.specs.Digits.{digits_of}
 use Rattle.nf_frac_words.specs.Printed.{printed}
 use Rattle.nf_net_def.specs.declared.Cause.{Cause}
@@ -25,14 +25,6 @@ use Rattle.nf_report_laws.proofs.ReportBack.{same_test, same_of_test, after_head
 use Rattle.nf_report_laws.proofs.BodyKept.{in_stage}
 use Rattle.std.proofs.lemmas.Bool.{and_parts, or_parts}
 use Rattle.nf_rational_laws.proofs.Results.{same_Ok}
-
-not_below : (x y : ℚ) → lt_ℚ y x ≡ false → x ≤ℚ y
-unfolding lt_ℚ
-not_below x y e = le_of_test x y (flip (le_ℚ x y) e)
-  where
-    flip : (b : Bool) → not b ≡ false → b ≡ true
-    flip true e = refl
-    flip false e = absurd (cc)
 
 -- ---- the words of each line
 version_is : (n : Named) (words : List (List ℕ)) → is_version n words ≡ true → words ≡ codes "report" ∷ digits_of n.version ∷ []
@@ -87,8 +79,8 @@ reached_is draft words next e =
       reached = v.between;
       words_are = behind_is (codes "reached") words w.between w.first ∙ ap (λ rest. codes "reached" ∷ rest) k.0;
       fraction = k.1;
-      starts = not_below 0ℚ v.between s.0;
-      ends = not_below v.between draft.horizon s.1;
+      starts = not_less_of_test v.between 0ℚ s.0;
+      ends = not_less_of_test draft.horizon v.between s.1;
       is = sym (same_Ok _ next t.1);
     }
 

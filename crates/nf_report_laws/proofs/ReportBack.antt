@@ -28,7 +28,6 @@ use Rattle.nf_report_def.specs.ReportCauses.{or_rule}
 use Rattle.nf_report_def.specs.ReportLines.{OfLabel, OfNever, CurveKey, key_of, curve_keys, AtHorizon, AtReached, AtCause, InBody, AtEnd, ReadCurve, ReportDraft, empty_report, are_alike, with_current, state_of_link, capacity_of, capacity_at}
 use Rattle.nf_report_def.specs.ReportFile.{report_draft, report_of_draft, if_at_end, report_by_bytes, report_in}
 use Rattle.nf_report_laws.specs.Readable.{IsCount, IsReadableCause}
-use Rattle.nf_report_laws.proofs.Outcomes.{and_true}
 use Rattle.nf_report_laws.proofs.NumbersBack.{number_back}
 use Rattle.nf_report_laws.proofs.CausesBack.{cause_back}
 use Rattle.nf_report_laws.proofs.ReportShape.{curve_lines, curves_from, AreRead, state_lines_of, end_lines, head_lines, lines_by_curves, gives_flow}
@@ -37,7 +36,7 @@ use Rattle.nf_report_laws.proofs.CurvesBack.{Adjacent, in_body, curves_read}
 use Rattle.nf_report_laws.proofs.KeysBack.{all-append, link_keys, keys_from, keys_adjacent, curves_are, curves_allowed}
 use Rattle.nf_report_laws.proofs.StatesBack.{in_states, states_read, states_behind}
 use Rattle.nf_report_laws.proofs.PlainReport.{IsShortLine, are_words, are_short, curves_short, states_short, end_short, head_short}
-use Rattle.std.proofs.lemmas.Bool.{and_parts}
+use Rattle.std.proofs.lemmas.Bool.{and_parts, and_from}
 use Rattle.nf_rational_laws.proofs.Chains.{≤ℚ_trans}
 
 -- ---- tests
@@ -47,7 +46,7 @@ unfolding lt_ℚ
 not_above x y h = ap not (test_of_le x y h)
 
 pub same_test : (x y : ℚ) → x ≡ y → is_same x y ≡ true
-same_test x y e = and_true (le_ℚ x y) (le_ℚ y x) (test_of_le x y (≤ℚ_of_same x y e)) (test_of_le y x (≤ℚ_of_same y x (sym e)))
+same_test x y e = and_from (le_ℚ x y) (le_ℚ y x) (test_of_le x y (≤ℚ_of_same x y e)) (test_of_le y x (≤ℚ_of_same y x (sym e)))
 
 pub same_of_test : (x y : ℚ) → is_same x y ≡ true → x ≡ y
 same_of_test x y e = let w = and_parts (le_ℚ x y) (le_ℚ y x) e in ≤ℚ_antisymm x y (le_of_test x y w.0) (le_of_test y x w.1)

@@ -3,7 +3,7 @@ use Rattle.std.proofs.Common.{◌≡◌, ℕ, zero, suc, ◌<◌, ◌≤◌, Lis
 use Rattle.std.specs.Prelude.{Result, Ok}
 use Rattle.std.specs.List.{last_or}
 use Rattle.std.specs.Option.{option_map_or}
-use Rattle.std.proofs.lemmas.Option.{slice_get_within, slice_get_cases, slice_get-map}
+use Rattle.std.proofs.lemmas.Option.{slice_get_within, slice_get_cases, slice_get-map, same_Some}
 use Rattle.std.proofs.lemmas.List.{length-map}
 use Rattle.nf_rational.specs.Rational.{ℚ}
 use Rattle.nf_rational.specs.Operations.{0ℚ}
@@ -25,15 +25,12 @@ use Rattle.nf_rational_laws.proofs.Chains.{≤ℚ_refl}
 use Rattle.nf_rational_laws.proofs.Results.{same_Ok}
 
 -- ---- lists, entry by entry
-same_some : {A : Type 0} (x y : A) → ◌≡◌ {A = Option A} (Some x) (Some y) → x ≡ y
-same_some x y e = cc
-
 pub each_at : {A B E : Type 0} (f : A → Result B E) (xs : List A) (ys : List B) (i : ℕ) (x : A) → each f xs ≡ Ok ys → slice_get xs i ≡ Some x → (y : B) × (slice_get ys i ≡ Some y) × (f x ≡ Ok y)
 each_at f [] ys i x e h = absurd (cc)
 each_at f (w ∷ xs) ys zero x e h =
     let k = then_ok (f w) _ ys e in
     let l = then_ok (each f xs) _ ys k.next in
-    (k.between, ap (λ (l : List _). slice_get l 0) (sym (same_Ok _ _ l.next)), ap f (sym (same_some w x h)) ∙ k.first)
+    (k.between, ap (λ (l : List _). slice_get l 0) (sym (same_Ok _ _ l.next)), ap f (sym (same_Some w x h)) ∙ k.first)
 each_at f (w ∷ xs) ys (suc i) x e h =
     let k = then_ok (f w) _ ys e in
     let l = then_ok (each f xs) _ ys k.next in
@@ -228,7 +225,7 @@ module _ (passes : Passing) (net : Network) (old : Flow) (good : IsNetwork net) 
         let within : e < length (map f cuts) = slice_get_within (map f cuts) e trace h in
         let link : (link : Link) × IsLink net e link = entry_within net.links e (let c = cut_count in let d = length-map cuts f in omega arith) in
         let a : At e link.0 = at_link e link.0 link.1 in
-        let same : f a.cut ≡ trace = same_some (f a.cut) trace (sym (entry_of f cuts e a.cut a.is_cut) ∙ h) in
+        let same : f a.cut ≡ trace = same_Some (f a.cut) trace (sym (entry_of f cuts e a.cut a.is_cut) ∙ h) in
         subst (λ (t : Trace). AreSlopes t.points t.rates) same (each_link e link.0 link.1)
 
     pub IsCutFlow-each : IsCutFlow net old new

@@ -21,13 +21,11 @@ use Rattle.nf_thin_def.specs.PhaseRun.{Standing}
 use Rattle.nf_phase_laws.proofs.Length.{Lasts-some}
 use Rattle.nf_resume_def.specs.Open.{IsOpen}
 use Rattle.nf_rational_laws.proofs.Chains.{≤ℚ_refl, ≤ℚ_trans}
+use Rattle.nf_rational_laws.proofs.Facts.{back_and_forth}
 
 -- ---- over plain numbers: a slack s that changes at c, d and w lengths
 on_line : (s c d w z : ℚ) → z ≡ s +ℚ d *ℚ c → s +ℚ (d +ℚ w) *ℚ c ≡ z +ℚ w *ℚ c
 on_line s c d w z e = linear_eq (s ∷ c ∷ d ∷ w ∷ z ∷ []) (eq e ∷ []) (search reading_of) tt tt
-
-beyond : (d w : ℚ) → d +ℚ (w -ℚ d) ≡ w
-beyond d w = linear_eq (d ∷ w ∷ []) [] (search reading_of) tt tt
 
 -- A line that is below 0 at first and at most 0 later is below 0 between.
 below_between : (s c d y : ℚ) → s <ℚ 0ℚ → 0ℚ ≤ℚ d → d <ℚ y → s +ℚ y *ℚ c ≤ℚ 0ℚ → s +ℚ d *ℚ c <ℚ 0ℚ
@@ -188,7 +186,7 @@ module _ (net : Network) (good : IsNetwork net) (labels slopes : List ℚ) (time
       other e link p apart same = opened.apart e link p (ap (λ (l : Pattern). slice_get l e) last_is ∙ stateless e link p apart) (sym (slack_at net s.labels e link p) ∙ same)
 
       later : (e : ℕ) (link : Link) (while : ℚ) → IsLink net e link → slack_after slacks slopes e link while ≡ slack_after slacks' slopes e link (while -ℚ done)
-      later e link while p = ap (λ (w : ℚ). slack_after slacks slopes e link w) (sym (beyond done while)) ∙ after_while e link (while -ℚ done) p
+      later e link while p = ap (λ (w : ℚ). slack_after slacks slopes e link w) (sym (back_and_forth done while)) ∙ after_while e link (while -ℚ done) p
 
       rest : (while : ℚ) → done ≤ℚ while → while ≤ℚ done +ℚ more → Within 0ℚ more (while -ℚ done)
       rest while h k = (linear_le (done ∷ while ∷ []) (le h ∷ []) (search reading_of) tt, linear_le (done ∷ while ∷ more ∷ []) (le k ∷ []) (search reading_of) tt)
@@ -250,7 +248,7 @@ module _ (net : Network) (good : IsNetwork net) (labels slopes : List ℚ) (time
   pub IsExtension-left : (whole : ℚ) → IsOpen net s → done ≤ℚ whole → IsExtension net slacks slopes time whole → IsExtension net slacks' slopes s.time (whole -ℚ done)
   IsExtension-left whole opened short extension = record {
     lasts = Lasts-left (whole -ℚ done) (linear_le (done ∷ whole ∷ []) (le short ∷ []) (search reading_of) tt)
-        (subst (λ (w : ℚ). Lasts net slacks slopes time w) (sym (beyond done whole)) extension.lasts);
+        (subst (λ (w : ℚ). Lasts net slacks slopes time w) (sym (back_and_forth done whole)) extension.lasts);
     greatest = λ other lasts. most done other whole (extension.greatest (done +ℚ other) (Lasts-pasted other opened made lasts));
   }
     where

@@ -31,6 +31,7 @@ use Rattle.nf_resume_laws.proofs.Sent.{BalancedAt, into, into-is, out-balances, 
 use Rattle.nf_resume_laws.proofs.Repeating.{Repeats, none_by_repeating}
 use Rattle.nf_rational_laws.proofs.Chains.{≤ℚ_refl, ≤ℚ_trans}
 use Rattle.nf_rational_laws.proofs.Extremes.{min_left, min_right, min_is_left, min_keeps}
+use Rattle.nf_rational_laws.proofs.Facts.{first_of_sum}
 
 -- The head of a link.
 abbrev pub head_or : Option Link → ℕ
@@ -80,11 +81,8 @@ module _ (net : Network) (flow : Flow) (good : IsNetwork net) (is : Equilibrium 
   pub exit-at : (e : ℕ) (link : Link) (time : ℚ) → IsLink net e link → 0ℚ ≤ℚ time → (exit : ℚ) × IsExit link.transit link.capacity (F e) time exit
   exit-at e link time p h = HasExit-curve link.transit link.capacity _ time (is.shape.inflows.each e (slice_get_within net.links e link p)) h
 
-  forward : (t r x : ℚ) → 0ℚ ≤ℚ r → t +ℚ r ≤ℚ x → t ≤ℚ x
-  forward t r x h k = linear_le (t ∷ r ∷ x ∷ []) (le h ∷ le k ∷ []) (search reading_of) tt
-
   exit-forward : (e : ℕ) (link : Link) (time exit : ℚ) → IsLink net e link → IsExit link.transit link.capacity (F e) time exit → time ≤ℚ exit
-  exit-forward e link time exit p x = forward time link.transit exit (good.transits e link p) (IsExit-after link.transit link.capacity (F e) time exit (IsPositive-link net e link good p) x)
+  exit-forward e link time exit p x = first_of_sum time link.transit exit (good.transits e link p) (IsExit-after link.transit link.capacity (F e) time exit (IsPositive-link net e link good p) x)
 
   -- No label is later than the exit of the inflow at the tail's label; this includes the source's label.
   pub not_undercut : (e : ℕ) (link : Link) (departure : ℚ) → IsLink net e link → Within 0ℚ flow.reached departure

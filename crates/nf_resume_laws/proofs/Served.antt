@@ -13,12 +13,10 @@ use Rattle.nf_model_laws.specs.Capacity.{IsPositive}
 use Rattle.nf_model_laws.proofs.Affine.{ps-times_gap, quotient-times}
 use Rattle.nf_model_laws.proofs.Exits.{IsOutflow-at_exit}
 use Rattle.nf_rational_laws.proofs.Chains.{≤ℚ_refl, ≤ℚ_trans}
+use Rattle.nf_rational_laws.proofs.Facts.{less_le}
 
 since : (r t : ℚ) → r ≤ℚ t → 0ℚ ≤ℚ t -ℚ r
 since r t h = linear_le (r ∷ t ∷ []) (le h ∷ []) (search reading_of) tt
-
-sooner : (r s t : ℚ) → s ≤ℚ t → s -ℚ r ≤ℚ t -ℚ r
-sooner r s t h = linear_le (r ∷ s ∷ t ∷ []) (le h ∷ []) (search reading_of) tt
 
 -- ---- over plain numbers: f entered by the time u, at least 0, and c the capacity
 nn_later : (f c z r u y : ℚ) → 0ℚ ≤ℚ f → 0ℚ <ℚ c → u ≤ℚ z -ℚ r → f +ℚ c *ℚ (z -ℚ r -ℚ u) ≡ y → 0ℚ ≤ℚ y
@@ -67,7 +65,7 @@ module _ (transit : ℚ) (capacity : Option ℚ) (amount : ℚ → ℚ) (positiv
     where
       by : (c : Option ℚ) → capacity ≡ c → transit ≤ℚ earlier → x ≤ℚ y
       by None e l = subst (λ (z : ℚ). x ≤ℚ z) (sym (q.unbounded (≤ℚ_trans _ _ _ l h) e))
-          (subst (λ (z : ℚ). z ≤ℚ amount (later -ℚ transit)) (sym (p.unbounded l e)) (rises _ _ (since transit earlier l) (sooner transit earlier later h)))
+          (subst (λ (z : ℚ). z ≤ℚ amount (later -ℚ transit)) (sym (p.unbounded l e)) (rises _ _ (since transit earlier l) (less_le earlier later transit h)))
       by (Some rate) e l =
           let f : IsLeast (λ since. amount since +ℚ rate *ℚ (earlier -ℚ transit -ℚ since)) 0ℚ (earlier -ℚ transit) x = p.bounded rate l e in
           let g : IsLeast (λ since. amount since +ℚ rate *ℚ (later -ℚ transit -ℚ since)) 0ℚ (later -ℚ transit) y = q.bounded rate (≤ℚ_trans _ _ _ l h) e in

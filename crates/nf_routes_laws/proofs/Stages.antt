@@ -16,10 +16,6 @@ use Rattle.nf_routes_laws.proofs.Ordering.{taken-in, in-taken, In}
 use Rattle.nf_rational_laws.proofs.Results.{same_Ok}
 
 -- ---- entries of lists
-pub none_more : {A : Type 0} (xs : List A) → xs ++ [] ≡ xs
-none_more [] = refl
-none_more {A} (x ∷ xs) = ap (λ (l : List A). x ∷ l) (none_more xs)
-
 pub nothing_before : {A : Type 0} (xs ys : List A) → length xs ≡ 0 → ys ≡ xs ++ ys
 nothing_before [] ys h = refl
 nothing_before (x ∷ xs) ys h = absurd (omega arith)

@@ -6,7 +6,7 @@ use Rattle.nf_rational.specs.Rational.{ℚ}
 use Rattle.nf_rational.specs.Operations.{0ℚ, 1ℚ, ◌+ℚ◌, ◌-ℚ◌, ◌*ℚ◌}
 use Rattle.nf_rational.specs.Order.{◌≤ℚ◌, ◌<ℚ◌, lt_ℚ}
 use Rattle.nf_rational_laws.proofs.Polynomial.{reading_of}
-use Rattle.nf_rational_laws.proofs.Order.{≤ℚ_of_lt, ≤ℚ_of_same, ≤ℚ_antisymm, lt_or_le_ℚ, not_both_ℚ, <ℚ_irrefl, nn_times}
+use Rattle.nf_rational_laws.proofs.Order.{≤ℚ_of_lt, ≤ℚ_of_same, ≤ℚ_antisymm, lt_or_le_ℚ, not_both_ℚ, <ℚ_irrefl, nn_times, less_nn}
 use Rattle.nf_rational_laws.proofs.Chains.{≤ℚ_refl, ≤ℚ_trans}
 use Rattle.nf_rational_laws.proofs.Tests.{lt_ℚ_cases}
 use Rattle.nf_rational_laws.proofs.Linear.{le, le_times, eq_times, linear_le, linear_lt}
@@ -101,11 +101,8 @@ module _ (net : Network) (good : IsNetwork net) (rate : ℚ) (nn : 0ℚ ≤ℚ r
           empty : (x r : ℚ) → x ≤ℚ 0ℚ → 0ℚ ≤ℚ x → 0ℚ ≤ℚ x *ℚ r
           empty x r h k = subst (λ (z : ℚ). 0ℚ ≤ℚ z *ℚ r) (sym (≤ℚ_antisymm x 0ℚ h k)) (linear_le (r ∷ []) [] (search reading_of) tt)
 
-          less_nn_of : (x y : ℚ) → x ≤ℚ y → 0ℚ ≤ℚ y -ℚ x
-          less_nn_of x y h = linear_le (x ∷ y ∷ []) (le h ∷ []) (search reading_of) tt
-
           rises : levels link.tail ≤ℚ levels link.head → 0ℚ ≤ℚ rise side link
-          rises up = less_nn_of _ _ (⊎_elim
+          rises up = less_nn _ _ (⊎_elim
               (λ (h : a <ℚ levels link.head). subst (λ (z : ℚ). side link.tail ≤ℚ z) (sym (high_side link.head h)) (side_le link.tail))
               (λ (h : levels link.head ≤ℚ a). ≤ℚ_trans _ _ _ (≤ℚ_of_same _ _ (low_side link.tail (≤ℚ_trans _ _ _ up h))) (side_nn link.head))
               (lt_or_le_ℚ a (levels link.head)))

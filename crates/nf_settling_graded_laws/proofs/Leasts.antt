@@ -7,6 +7,7 @@ use Rattle.nf_rational.specs.Operations.{0ℚ, 1ℚ, ◌+ℚ◌, ◌-ℚ◌, ◌
 use Rattle.nf_rational.specs.Order.{◌≤ℚ◌}
 use Rattle.nf_rational_laws.proofs.Order.{nn_plus}
 use Rattle.nf_rational_laws.proofs.Chains.{≤ℚ_refl}
+use Rattle.nf_rational_laws.proofs.Facts.{nn_of_one}
 use Rattle.nf_model.specs.Network.{Link, Network, IsNetwork, IsLink, sum_in, sum_out}
 use Rattle.nf_model_laws.specs.Capacity.{IsPositive}
 use Rattle.nf_model_laws.proofs.Potential.{sum_to}
@@ -19,7 +20,7 @@ use Rattle.nf_complete_laws.proofs.LinkSums.{sum_in-not_negative}
 use Rattle.nf_complete_laws.proofs.Affine.{Affine, Affine-value, Affine-form, Affine-floor, Affine-constant, Affine-variable, Affine-plus, Affine-times, Affine-sum_to, Affine-sum_in, Affine-sum_out}
 use Rattle.nf_complete_laws.proofs.Described.{Described, Described-as, Described-always, Described-never, Described-both, Described-either, Described-when, Described-le, Described-same, Described-to, Described-links, EachLink}
 use Rattle.nf_complete_laws.proofs.Assigned.{even, slopes_of, flows_of, joined, slopes_of-joined, flows_of-joined}
-use Rattle.nf_settling_graded_laws.proofs.Supplies.{IsOpen, open_or_not, IsSupply, above_0, flow_nn}
+use Rattle.nf_settling_graded_laws.proofs.Supplies.{IsOpen, open_or_not, IsSupply, flow_nn}
 
 -- ---- conditions of a supply
 slope : (v : ℕ) → Affine (λ x. slopes_of x v)
@@ -161,7 +162,7 @@ module _ (net : Network) (cap : Link → Option ℚ) (rate : ℚ) where
   module _ (good : IsNetwork net) (positive : (e : ℕ) (link : Link) → IsLink net e link → IsPositive (cap link)) where
     slope_floor : (x : ℕ → ℚ) → MeetsOne supply_described.systems x → 0ℚ -ℚ slope_sum.rest ≤ℚ form_value slope_sum.form x
     slope_floor x h = Affine-floor (λ x. sum_to net.nodes (slopes_of x)) slope_sum x 0ℚ
-        (sum_to-not_negative net.nodes (slopes_of x) (λ v l. above_0 _ ((supply_described.out x h).keeps_up v l)))
+        (sum_to-not_negative net.nodes (slopes_of x) (λ v l. nn_of_one _ ((supply_described.out x h).keeps_up v l)))
 
     inflow_floor : (x : ℕ → ℚ) → MeetsOne supply_described.systems x → 0ℚ -ℚ inflow_sum.rest ≤ℚ form_value inflow_sum.form x
     inflow_floor x h = Affine-floor (λ x. sum_to net.nodes (sum_in net.links (flows_of x))) inflow_sum x 0ℚ

@@ -7,6 +7,7 @@ use Rattle.nf_rational.specs.Order.{◌≤ℚ◌, ◌<ℚ◌}
 use Rattle.nf_rational_laws.proofs.Polynomial.{reading_of}
 use Rattle.nf_rational_laws.proofs.Order.{≤ℚ_of_lt, ≤ℚ_of_same, not_both_ℚ}
 use Rattle.nf_rational_laws.proofs.Linear.{le, lt, eq, linear_le, linear_lt, linear_eq}
+use Rattle.nf_rational_laws.proofs.Facts.{nn_less_part, less_some_le}
 use Rattle.nf_model.specs.Network.{Link, Network, IsLink, IsNetwork}
 use Rattle.nf_model_laws.specs.Capacity.{IsPositive}
 use Rattle.nf_complete_laws.proofs.Deciding.{Decided, both, same_or_not, NoLink}
@@ -26,17 +27,8 @@ left_over s t a e h = linear_lt (s ∷ t ∷ a ∷ []) (eq e ∷ lt h ∷ []) (s
 gained : (s t a : ℚ) → t ≡ s +ℚ a → 0ℚ ≤ℚ s → 0ℚ <ℚ a → 0ℚ <ℚ t
 gained s t a e h k = linear_lt (s ∷ t ∷ a ∷ []) (eq e ∷ le h ∷ lt k ∷ []) (search reading_of) tt
 
-taken : (s t a : ℚ) → t ≡ s +ℚ (0ℚ -ℚ a) → a ≤ℚ s → 0ℚ ≤ℚ t
-taken s t a e h = linear_le (s ∷ t ∷ a ∷ []) (eq e ∷ le h ∷ []) (search reading_of) tt
-
 more_flow : (x a : ℚ) → 0ℚ ≤ℚ x → 0ℚ <ℚ a → 0ℚ ≤ℚ x +ℚ a
 more_flow x a h k = linear_le (x ∷ a ∷ []) (le h ∷ lt k ∷ []) (search reading_of) tt
-
-less_flow : (x a : ℚ) → a ≤ℚ x → 0ℚ ≤ℚ x +ℚ (0ℚ -ℚ a)
-less_flow x a h = linear_le (x ∷ a ∷ []) (le h ∷ []) (search reading_of) tt
-
-still_most : (x a y : ℚ) → 0ℚ <ℚ a → x ≤ℚ y → x +ℚ (0ℚ -ℚ a) ≤ℚ y
-still_most x a y h k = linear_le (x ∷ a ∷ y ∷ []) (lt h ∷ le k ∷ []) (search reading_of) tt
 
 plus_less : (s t a : ℚ) → t ≡ s +ℚ (0ℚ -ℚ a) → t ≡ s -ℚ a
 plus_less s t a e = linear_eq (s ∷ t ∷ a ∷ []) (eq e ∷ []) (search reading_of) tt tt
@@ -152,10 +144,10 @@ module _ (net : Network) (cap : Link → Option ℚ) (rate : ℚ) (levels : ℕ 
         d = 0ℚ -ℚ a
 
         less : 0ℚ ≤ℚ flows e +ℚ d
-        less = less_flow (flows e) a part.1.most
+        less = nn_less_part (flows e) a part.1.most
 
         at_most : IsAtMost (cap link) (flows e +ℚ d) (levels link.head)
-        at_most c k = still_most (flows e) a _ part.1.above ((f.over.fits e link p needs).most c k)
+        at_most c k = less_some_le (flows e) a _ part.1.above ((f.over.fits e link p needs).most c k)
 
         -- The link does not leave the source, whose level is 1.
         from_source : link.tail ≢ net.source

@@ -8,6 +8,7 @@ use Rattle.nf_rational_laws.proofs.Polynomial.{reading_of}
 use Rattle.nf_rational_laws.proofs.Order.{≤ℚ_of_lt, lt_or_le_ℚ, not_both_ℚ, less_ps}
 use Rattle.nf_rational_laws.proofs.Chains.{≤ℚ_refl}
 use Rattle.nf_rational_laws.proofs.Linear.{le, lt, eq, linear_le, linear_lt}
+use Rattle.nf_rational_laws.proofs.Facts.{nn_of_one}
 use Rattle.nf_model.specs.Network.{Link, Network, IsLink, IsNetwork, sum_in, sum_out}
 use Rattle.nf_model_laws.specs.Capacity.{IsPositive}
 use Rattle.nf_model_laws.proofs.Sums.{sum_in-same, sum_in-line, sum_in-order, sum_out-order}
@@ -18,7 +19,7 @@ use Rattle.nf_complete_laws.proofs.LinkSums.{sum_in-not_negative}
 use Rattle.nf_complete_laws.proofs.Fitting.{IsAtMost, IsFilled, HasRoom, filled_or_room, capped, capped-le, capped-same, capped-none, capped-near, Fits-capped, fits_used, ordered-low}
 use Rattle.nf_complete_laws.proofs.Spare.{spare, HasSpare, spare_or_not}
 use Rattle.nf_complete_laws.proofs.Lowering.{sum_to-lt, low_by, low_by-cases, low_by-le, low_by-near, low_by-is, low_by-not}
-use Rattle.nf_settling_graded_laws.proofs.Supplies.{IsOpen, IsSupply, above_0, flow_most}
+use Rattle.nf_settling_graded_laws.proofs.Supplies.{IsOpen, IsSupply, flow_most}
 use Rattle.nf_settling_graded_laws.proofs.Lifting.{IsClosed}
 
 abbrev pub capacity_by : (Link → Option ℚ) → Option Link → ℚ
@@ -135,7 +136,7 @@ module _ (net : Network) (cap : Link → Option ℚ) (rate : ℚ) (flows levels 
         left x y e k = linear_le (x ∷ y ∷ h ∷ []) (eq e ∷ le k ∷ []) (search reading_of) tt
 
     lowered-not_negative : (v : ℕ) → v < net.nodes → 0ℚ ≤ℚ lowered v
-    lowered-not_negative v l = above_0 (lowered v) (lowered-keeps_up v l)
+    lowered-not_negative v l = nn_of_one (lowered v) (lowered-keeps_up v l)
 
     -- Levels keep their order along a link with flow, and against a link with room.
     rises : (e : ℕ) (link : Link) → IsLink net e link → IsOpen net link → 0ℚ <ℚ flows e → lowered link.tail ≤ℚ lowered link.head

@@ -9,6 +9,7 @@ use Rattle.nf_rational_laws.proofs.Order.{≤ℚ_of_lt, lt_or_le_ℚ, less_nn, <
 use Rattle.nf_rational_laws.proofs.Chains.{≤ℚ_refl, ≤ℚ_trans}
 use Rattle.nf_rational_laws.proofs.Extremes.{max_left, max_right, max_keeps}
 use Rattle.nf_rational_laws.proofs.Linear.{le, lt, eq, le_times, eq_times, linear_le, linear_lt}
+use Rattle.nf_rational_laws.proofs.Facts.{nn_of_one}
 use Rattle.nf_model.specs.Entries.{number_at}
 use Rattle.nf_model.specs.Network.{Piece, Network, IsNetwork, IsPiece}
 use Rattle.nf_model.specs.ThinFlow.{Sets, sets_at, IsThinFlow}
@@ -131,10 +132,7 @@ module _ (net : Network) (good : IsNetwork net) (flows levels : ℕ → ℚ) (gr
   growth = levels net.sink
 
   growth_nn : 0ℚ ≤ℚ levels net.sink
-  growth_nn = one_nn (levels net.sink) (graded.keeps_up net.sink good.sink)
-    where
-      one_nn : (x : ℚ) → 1ℚ ≤ℚ x → 0ℚ ≤ℚ x
-      one_nn x h = linear_le (x ∷ []) (le h ∷ []) (search reading_of) tt
+  growth_nn = nn_of_one (levels net.sink) (graded.keeps_up net.sink good.sink)
 
   latest : ℚ
   latest = label_bound net good (last_start net.pieces)

@@ -5,8 +5,8 @@ use Rattle.nf_rational.specs.Rational.{ℚ}
 use Rattle.nf_rational.specs.Operations.{0ℚ, 1ℚ, ◌+ℚ◌, ◌-ℚ◌, ◌*ℚ◌}
 use Rattle.nf_rational.specs.Order.{◌≤ℚ◌, ◌<ℚ◌, lt_ℚ, max_ℚ}
 use Rattle.nf_rational_laws.proofs.Polynomial.{reading_of}
-use Rattle.nf_rational_laws.proofs.Order.{≤ℚ_of_lt, ≤ℚ_of_same, ≤ℚ_antisymm, lt_or_le_ℚ, not_both_ℚ, nn_times}
-use Rattle.nf_rational_laws.proofs.Tests.{lt_ℚ_cases, test_of_less}
+use Rattle.nf_rational_laws.proofs.Order.{≤ℚ_of_lt, ≤ℚ_of_same, ≤ℚ_antisymm, lt_or_le_ℚ, nn_times}
+use Rattle.nf_rational_laws.proofs.Tests.{test_of_less, test_of_not_less}
 use Rattle.nf_rational_laws.proofs.Extremes.{max_left, max_right}
 use Rattle.nf_rational_laws.proofs.Linear.{le, eq, le_times, eq_times, linear_le}
 use Rattle.nf_model_laws.proofs.Affine.{le_from_times}
@@ -24,12 +24,6 @@ pub record Raises (n c p q x s t y z m : ℚ) : Type 0 where
   pub bears : Bears m x y z
   pub pays : n *ℚ (t -ℚ s) ≤ℚ m *ℚ (z -ℚ y) +ℚ 1ℚ *ℚ (steepness c p q *ℚ y)
 
-not_less : (x y : ℚ) → y ≤ℚ x → lt_ℚ x y ≡ false
-not_less x y h = ⊎_elim
-    (λ (w : (lt_ℚ x y ≡ true) × (x <ℚ y)). absurd (not_both_ℚ _ _ w.1 h))
-    (λ (w : (lt_ℚ x y ≡ false) × (y ≤ℚ x)). w.0)
-    (lt_ℚ_cases x y)
-
 raised-by : (a b d : Bool) (n x c p q : ℚ) → lt_ℚ 0ℚ n ≡ a → lt_ℚ p q ≡ b → lt_ℚ 0ℚ x ≡ d
     → raised n x c p q ≡ (if a then n *ℚ q else (if b then (if d then c *ℚ q else 0ℚ) else 0ℚ))
 raised-by a b d n x c p q e f g = cc
@@ -38,19 +32,19 @@ raised-full : (n x c p q : ℚ) → 0ℚ <ℚ n → raised n x c p q ≡ n *ℚ 
 raised-full n x c p q h = ap (λ (k : Bool). if k then n *ℚ q else (if lt_ℚ p q then (if lt_ℚ 0ℚ x then c *ℚ q else 0ℚ) else 0ℚ)) (test_of_less 0ℚ n h)
 
 raised-steep : (n x c p q : ℚ) → n ≡ 0ℚ → p <ℚ q → 0ℚ <ℚ x → raised n x c p q ≡ c *ℚ q
-raised-steep n x c p q e h k = raised-by false true true n x c p q (not_less 0ℚ n (≤ℚ_of_same _ _ e)) (test_of_less p q h) (test_of_less 0ℚ x k)
+raised-steep n x c p q e h k = raised-by false true true n x c p q (test_of_not_less 0ℚ n (≤ℚ_of_same _ _ e)) (test_of_less p q h) (test_of_less 0ℚ x k)
 
 raised-empty : (n x c p q : ℚ) → n ≡ 0ℚ → x ≡ 0ℚ → raised n x c p q ≡ 0ℚ
 raised-empty n x c p q e f = by (lt_ℚ p q) refl
   where
     by : (b : Bool) → lt_ℚ p q ≡ b → raised n x c p q ≡ 0ℚ
-    by true g = raised-by false true false n x c p q (not_less 0ℚ n (≤ℚ_of_same _ _ e)) g (not_less 0ℚ x (≤ℚ_of_same _ _ f))
-    by false g = raised-by false false false n x c p q (not_less 0ℚ n (≤ℚ_of_same _ _ e)) g (not_less 0ℚ x (≤ℚ_of_same _ _ f))
+    by true g = raised-by false true false n x c p q (test_of_not_less 0ℚ n (≤ℚ_of_same _ _ e)) g (test_of_not_less 0ℚ x (≤ℚ_of_same _ _ f))
+    by false g = raised-by false false false n x c p q (test_of_not_less 0ℚ n (≤ℚ_of_same _ _ e)) g (test_of_not_less 0ℚ x (≤ℚ_of_same _ _ f))
 
 raised-level : (n x c p q : ℚ) → n ≡ 0ℚ → q ≤ℚ p → raised n x c p q ≡ 0ℚ
-raised-level n x c p q e h = ap (λ (k : Bool). if k then n *ℚ q else (if lt_ℚ p q then (if lt_ℚ 0ℚ x then c *ℚ q else 0ℚ) else 0ℚ)) (not_less 0ℚ n
+raised-level n x c p q e h = ap (λ (k : Bool). if k then n *ℚ q else (if lt_ℚ p q then (if lt_ℚ 0ℚ x then c *ℚ q else 0ℚ) else 0ℚ)) (test_of_not_less 0ℚ n
     (≤ℚ_of_same _ _ e))
-    ∙ ap (λ (k : Bool). if k then (if lt_ℚ 0ℚ x then c *ℚ q else 0ℚ) else 0ℚ) (not_less p q h)
+    ∙ ap (λ (k : Bool). if k then (if lt_ℚ 0ℚ x then c *ℚ q else 0ℚ) else 0ℚ) (test_of_not_less p q h)
 
 module _ (n c p q x s t y z : ℚ) (n_nn : 0ℚ ≤ℚ n) (n_le : n ≤ℚ c) (p_ps : 0ℚ <ℚ p) (q_ps : 0ℚ <ℚ q) (x_nn : 0ℚ ≤ℚ x) (y_nn : 0ℚ ≤ℚ y) (z_nn : 0ℚ ≤ℚ z)
     (tail : s ≡ p *ℚ y) (head : t ≡ q *ℚ z) (at_most : p <ℚ q → x ≤ℚ c *ℚ t) where

@@ -10,6 +10,8 @@ use Rattle.nf_rational_laws.proofs.Chains.{≤ℚ_trans}
 use Rattle.nf_rational_laws.proofs.Tests.{max0_of, max0_none}
 use Rattle.nf_rational_laws.proofs.Extremes.{max_left, max_right, max_keeps}
 use Rattle.nf_rational_laws.proofs.Linear.{le, eq, le_times, eq_times, linear_le, linear_eq}
+use Rattle.nf_rational_laws.proofs.Field.{zero-*ℚ}
+use Rattle.nf_rational_laws.proofs.Facts.{gap_np}
 use Rattle.nf_model.specs.Entries.{number_at}
 use Rattle.nf_model.specs.Network.{Link, Network, IsNetwork, IsLink}
 use Rattle.nf_model.specs.ThinFlow.{Sets}
@@ -68,19 +70,13 @@ dry_le x c y z r m k n j mm e o =
     linear_le (x ∷ c ∷ y ∷ z ∷ r ∷ m ∷ k ∷ []) (eq_times (z -ℚ y) e ∷ eq_times r e ∷ eq_times c ky ∷ le_times n mm ∷ le_times n j ∷ [])
     (search reading_of) tt
 
-zero_times : (k : ℚ) → 0ℚ *ℚ k ≡ 0ℚ
-zero_times k = linear_eq (k ∷ []) [] (search reading_of) tt tt
-
-gap_np : (p q : ℚ) → q ≤ℚ p → q -ℚ p ≤ℚ 0ℚ
-gap_np p q h = linear_le (p ∷ q ∷ []) (le h ∷ []) (search reading_of) tt
-
 link_bears : (capacity : Option ℚ) (x p q y z a b r : ℚ) → IsPositive capacity → Fits capacity x p q → 1ℚ ≤ℚ p → a ≡ p *ℚ y → b ≡ q *ℚ z → 0ℚ ≤ℚ r
     → (capacity ≡ None → b -ℚ (a +ℚ r) ≤ℚ 0ℚ)
     → x *ℚ (z -ℚ y) +ℚ 1ℚ *ℚ (steepness (capacity_or_0 capacity) p q *ℚ y) ≤ℚ queue_by_slack capacity
     (b -ℚ (a +ℚ r)) +ℚ 1ℚ *ℚ ((capacity_or_0 capacity +ℚ x) *ℚ r)
 link_bears None x p q y z a b r positive fits one e f n free = ⊎_elim
-    (λ (k : x ≤ℚ 0ℚ). none_le x z y _ r (≤ℚ_antisymm _ _ k fits.no_negative) (zero_times _))
-    (λ (up : p ≤ℚ q). free_le x p z y r _ fits.no_negative one n (slow (≤ℚ_antisymm _ _ up down)) (zero_times _))
+    (λ (k : x ≤ℚ 0ℚ). none_le x z y _ r (≤ℚ_antisymm _ _ k fits.no_negative) (zero-*ℚ _))
+    (λ (up : p ≤ℚ q). free_le x p z y r _ fits.no_negative one n (slow (≤ℚ_antisymm _ _ up down)) (zero-*ℚ _))
     fits.used
   where
     down : q ≤ℚ p
@@ -92,12 +88,12 @@ link_bears (Some c) x p q y z a b r positive fits one e f n free = ⊎_elim
     (λ (up : p <ℚ q). up_le x c p q y z a b r _ _ c_nn fits.no_negative n (≤ℚ_antisymm _ _ (fits.most c refl) (fills up)) e f (max_right 0ℚ _)
     (max0_of _ (less_nn p q (≤ℚ_of_lt _ _ up))))
     (λ (down : q ≤ℚ p). ⊎_elim
-    (λ (k : x ≤ℚ 0ℚ). dry_le x c y z r _ _ c_nn n (max_left 0ℚ _) (≤ℚ_antisymm _ _ k fits.no_negative) (max0_none _ (gap_np p q down)))
+    (λ (k : x ≤ℚ 0ℚ). dry_le x c y z r _ _ c_nn n (max_left 0ℚ _) (≤ℚ_antisymm _ _ k fits.no_negative) (max0_none _ (gap_np q p down)))
     (λ (up : p ≤ℚ q).
     let same : q ≡ p = ≤ℚ_antisymm _ _ down up in
     flat_le x c p y z a b r _ _ c_nn fits.no_negative n (max_left 0ℚ _)
     (subst (λ (t : ℚ). x ≤ℚ c *ℚ t) same (fits.most c refl)) e (f ∙ ap (λ (t : ℚ). t *ℚ z) same) (max_right 0ℚ _)
-    (max0_none _ (gap_np p q down)))
+    (max0_none _ (gap_np q p down)))
     fits.used)
     (lt_or_le_ℚ p q)
   where

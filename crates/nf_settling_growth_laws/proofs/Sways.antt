@@ -10,6 +10,7 @@ use Rattle.nf_rational_laws.proofs.Chains.{≤ℚ_trans}
 use Rattle.nf_rational_laws.proofs.Extremes.{max_left, max_keeps}
 use Rattle.nf_rational_laws.proofs.Tests.{max0_of, max0_none}
 use Rattle.nf_rational_laws.proofs.Linear.{le, eq, le_times, eq_times, linear_le, linear_eq}
+use Rattle.nf_rational_laws.proofs.Facts.{nn_plus_one, gap_np, times_le}
 use Rattle.nf_model.specs.Entries.{number_at}
 use Rattle.nf_model.specs.Network.{Network, IsNetwork}
 use Rattle.nf_model.specs.Equilibrium.{Flow, label, Equilibrium}
@@ -97,10 +98,7 @@ module _ (net : Network) (good : IsNetwork net) (flows levels : ℕ → ℚ) (gr
     most_steep = steepest net good flows levels graded nothing +ℚ 1ℚ
 
     steep_nn : 0ℚ ≤ℚ most_steep
-    steep_nn = more _ (steepest_nn net good flows levels graded nothing)
-      where
-        more : (s : ℚ) → 0ℚ ≤ℚ s → 0ℚ ≤ℚ s +ℚ 1ℚ
-        more s h = linear_le (s ∷ []) (le h ∷ []) (search reading_of) tt
+    steep_nn = nn_plus_one _ (steepest_nn net good flows levels graded nothing)
 
     until_nn : 0ℚ ≤ℚ until
     until_nn = (settles net good flows levels graded nothing).1.not_negative
@@ -183,10 +181,7 @@ module _ (net : Network) (good : IsNetwork net) (flows levels : ℕ → ℚ) (gr
           early t k = max0_of _ (less_nn t until (≤ℚ_of_lt _ _ k))
 
           late : (t : ℚ) → until ≤ℚ t → max_ℚ 0ℚ (until -ℚ t) ≡ 0ℚ
-          late t k = max0_none _ (over until t k)
-            where
-              over : (u t : ℚ) → u ≤ℚ t → u -ℚ t ≤ℚ 0ℚ
-              over u t h = linear_le (u ∷ t ∷ []) (le h ∷ []) (search reading_of) tt
+          late t k = max0_none _ (gap_np until t k)
 
           before : (x a b : ℚ) → a ≡ until -ℚ c → b ≡ until -ℚ t → x ≤ℚ most_steep *ℚ (t -ℚ c) → x ≤ℚ most_steep *ℚ a -ℚ most_steep *ℚ b
           before x a b e f h = by most_steep until e f h
@@ -220,13 +215,10 @@ module _ (net : Network) (good : IsNetwork net) (flows levels : ℕ → ℚ) (gr
           (sways_none later t (≤ℚ_trans _ _ _ n o.0) o.1 (later_supply net c t o.0 started) o.2)
 
       left_le : (c : ℚ) → 0ℚ ≤ℚ c → left c ≤ℚ most_steep *ℚ until
-      left_le c n = times most_steep _ until steep_nn (max_keeps (λ z. z ≤ℚ until) 0ℚ (until -ℚ c) until_nn (less until c n))
+      left_le c n = times_le most_steep _ until steep_nn (max_keeps (λ z. z ≤ℚ until) 0ℚ (until -ℚ c) until_nn (less until c n))
         where
           less : (u c : ℚ) → 0ℚ ≤ℚ c → u -ℚ c ≤ℚ u
           less u c h = linear_le (u ∷ c ∷ []) (le h ∷ []) (search reading_of) tt
-
-          times : (m a b : ℚ) → 0ℚ ≤ℚ m → a ≤ℚ b → m *ℚ a ≤ℚ m *ℚ b
-          times m a b h k = linear_le (m ∷ a ∷ b ∷ []) (le_times h k ∷ []) (search reading_of) tt
 
     steadies-none : (bound : ℚ) × SwaysAtMost net (levels net.sink) bound
     steadies-none = (

@@ -10,6 +10,7 @@ use Rattle.nf_rational_laws.proofs.Chains.{≤ℚ_refl, ≤ℚ_trans}
 use Rattle.nf_rational_laws.proofs.Tests.{lt_ℚ_cases}
 use Rattle.nf_rational_laws.proofs.Extremes.{min_is_left, min_is_right}
 use Rattle.nf_rational_laws.proofs.Linear.{le, lt, eq, le_times, eq_times, linear_le, linear_lt, linear_eq}
+use Rattle.nf_rational_laws.proofs.Facts.{gap_np, gap_ng, same_differences}
 use Rattle.nf_model.specs.Entries.{number_at}
 use Rattle.nf_model.specs.Network.{Link, Network, IsNetwork, IsLink}
 use Rattle.nf_model_laws.proofs.Affine.{ps-times_gap}
@@ -44,12 +45,6 @@ new_lt : (a b g k l : ℚ) → a <ℚ b → g ≤ℚ 0ℚ → l <ℚ 0ℚ → k 
 new_lt a b g k l o h i e =
     let more : 0ℚ <ℚ (b -ℚ a) *ℚ (0ℚ -ℚ l) = ps-times_gap (b -ℚ a) l 0ℚ (less_ps a b o) i in
     linear_lt (a ∷ b ∷ g ∷ k ∷ l ∷ []) (eq e ∷ le h ∷ lt more ∷ []) (search reading_of) tt
-
-less_of_le : (f c : ℚ) → f ≤ℚ c → f -ℚ c ≤ℚ 0ℚ
-less_of_le f c h = linear_le (f ∷ c ∷ []) (le h ∷ []) (search reading_of) tt
-
-less_of_lt : (f c : ℚ) → f <ℚ c → f -ℚ c <ℚ 0ℚ
-less_of_lt f c h = linear_lt (f ∷ c ∷ []) (lt h ∷ []) (search reading_of) tt
 
 le_of_less : (f c d : ℚ) → f -ℚ c ≤ℚ 0ℚ → c ≡ d → f ≤ℚ d
 le_of_less f c d h e = linear_le (f ∷ c ∷ d ∷ []) (le h ∷ eq e ∷ []) (search reading_of) tt
@@ -127,24 +122,21 @@ module _ (net : Network) (good : IsNetwork net) (rate : ℚ) (x : ℕ → ℚ) (
           (min_is_right _ _ (borne.not_negative link.head))
 
   gain_last : gain (capped last) ≡ gain at
-  gain_last = both_same _ _ _ _
+  gain_last = same_differences _ _ _ _
       (link_sum-same net.links (λ e link. n e link *ℚ rise (capped last) link) (λ e link. n e link *ℚ rise at link)
       (λ e link _. ap (λ (r : ℚ). n e link *ℚ r) (same link)))
       (link_sum-same net.links (λ e link. x e *ℚ rise (capped last) link) (λ e link. x e *ℚ rise at link) (λ e link _. ap (λ (r : ℚ). x e *ℚ r) (same link)))
     where
-      both_same : (a b c d : ℚ) → a ≡ b → c ≡ d → a -ℚ c ≡ b -ℚ d
-      both_same a b c d e f = cc
-
       node : (v : ℕ) → capped last v ≡ at v
       node v = min_is_left _ _ (≤ℚ_of_lt _ _ (below_last v))
 
       same : (link : Link) → rise (capped last) link ≡ rise at link
-      same link = both_same _ _ _ _ (node link.head) (node link.tail)
+      same link = same_differences _ _ _ _ (node link.head) (node link.tail)
 
   -- ---- one level
   module _ (a b : ℚ) (first : 0ℚ ≤ℚ a) (o : a <ℚ b) (none : NoneBetween values a b) where
     level_le : gain (above a values) ≤ℚ 0ℚ
-    level_le = less_of_le _ _ (⊎_elim
+    level_le = gap_np _ _ (⊎_elim
         (λ (h : a <ℚ 1ℚ). low_level net good rate x n values borne a b first o (jump net rate x n values a b borne none)
         (up_to_1 net rate x n values a b good borne none h))
         (λ (h : 1ℚ ≤ℚ a). high_level net good rate x n values borne a b first o (jump net rate x n values a b borne none) h)
@@ -205,7 +197,7 @@ module _ (net : Network) (good : IsNetwork net) (rate : ℚ) (x : ℕ → ℚ) (
             (λ (l : from ≤ℚ a).
             let same : from ≡ a = ≤ℚ_antisymm _ _ l k in
             new_lt a b _ _ _ o g.0 (subst (λ (z : ℚ). gain (above z values) <ℚ 0ℚ) same
-            (less_of_lt _ _ (strict b past (subst (λ (z : ℚ). NoneBetween values z b) (sym same) none)))) (gain_step a b first o none))
+            (gap_ng _ _ (strict b past (subst (λ (z : ℚ). NoneBetween values z b) (sym same) none)))) (gain_step a b first o none))
             (lt_or_le_ℚ a from))
             (lt_or_le_ℚ from a),
       )

@@ -175,9 +175,6 @@ module _ (net : Network) (good : IsNetwork net) (from : ℚ) (slopes : List ℚ)
         (λ (k : slope link.tail ≤ℚ slope link.head). k)
         (lt_or_le_ℚ (slope link.head) (slope link.tail));
   }
-    where
-      falls : (a b : ℚ) → a <ℚ b → a -ℚ b <ℚ 0ℚ
-      falls a b h = linear_lt (a ∷ b ∷ []) (lt h ∷ []) (search reading_of) tt
 
   pub GrowsByCuts-linear : GrowsByCuts net (last_rate net) slopes
   unfolding late

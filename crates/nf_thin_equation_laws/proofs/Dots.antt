@@ -6,6 +6,7 @@ use Rattle.nf_rational.specs.Rational.{ℚ}
 use Rattle.nf_rational.specs.Operations.{0ℚ, ◌+ℚ◌, ◌-ℚ◌, ◌*ℚ◌}
 use Rattle.nf_rational_laws.proofs.Polynomial.{reading_of}
 use Rattle.nf_rational_laws.proofs.Linear.{eq, eq_times, linear_eq}
+use Rattle.nf_rational_laws.proofs.Facts.{zero_plus, sum_of_sum, zero_of_times_zero}
 use Rattle.nf_model.specs.Entries.{number_at}
 use Rattle.nf_model.specs.Network.{Link, sum_in, sum_out}
 use Rattle.nf_thin_def.specs.Equations.{active_from, one_if, leaves_less_enters, onto_links}
@@ -17,12 +18,6 @@ dot f (u ∷ us) [] = 0ℚ
 dot f (u ∷ us) (x ∷ xs) = f u *ℚ x +ℚ dot f us xs
 
 -- ---- equations of rationals
-none_first : (a : ℚ) → a ≡ 0ℚ +ℚ a
-none_first a = linear_eq (a ∷ []) [] (search reading_of) tt tt
-
-regroup : (a d u v : ℚ) → d ≡ u +ℚ v → a +ℚ d ≡ (a +ℚ u) +ℚ v
-regroup a d u v e = linear_eq (a ∷ d ∷ u ∷ v ∷ []) (eq e ∷ []) (search reading_of) tt tt
-
 nothing : 0ℚ ≡ 0ℚ +ℚ 0ℚ
 nothing = linear_eq [] [] (search reading_of) tt tt
 
@@ -40,9 +35,6 @@ terms_less f g h x d a b e k = linear_eq (f ∷ g ∷ h ∷ x ∷ d ∷ a ∷ b 
 
 none_less : 0ℚ ≡ 0ℚ -ℚ 0ℚ
 none_less = linear_eq [] [] (search reading_of) tt tt
-
-times_none : (c : ℚ) → 0ℚ ≡ c *ℚ 0ℚ
-times_none c = linear_eq (c ∷ []) [] (search reading_of) tt tt
 
 -- ---- a row of a table
 module _ {A : Type 0} (f : A → ℚ) where
@@ -65,9 +57,9 @@ module _ {A : Type 0} (f : A → ℚ) where
   dot-none (u ∷ us) = refl
 
   pub dot-append : (us vs : List A) (xs : List ℚ) → dot f (us ++ vs) xs ≡ dot f us (take (length us) xs) +ℚ dot f vs (drop (length us) xs)
-  dot-append [] vs xs = none_first (dot f vs xs)
+  dot-append [] vs xs = zero_plus (dot f vs xs)
   dot-append (u ∷ us) vs [] = nothing ∙ ap (λ (s : ℚ). 0ℚ +ℚ s) (sym (dot-none vs))
-  dot-append (u ∷ us) vs (x ∷ xs) = regroup (f u *ℚ x) _ _ _ (dot-append us vs xs)
+  dot-append (u ∷ us) vs (x ∷ xs) = sum_of_sum (f u *ℚ x) _ _ _ (dot-append us vs xs)
 
   pub dot-zero : ((u : A) → f u ≡ 0ℚ) → (us : List A) (xs : List ℚ) → dot f us xs ≡ 0ℚ
   dot-zero h [] xs = refl
@@ -117,11 +109,11 @@ active-before (false ∷ active) k e c xs h = active-before active (suc k) e c x
 
 pub active-only : (active : List Bool) (k i e : ℕ) (c : ℚ) (xs : List ℚ) → e ≡ k + i → length xs ≡ length (active_from k active)
     → dot (only e c) (active_from k active) xs ≡ c *ℚ number_at (onto_links active xs) i
-active-only [] k i e c xs same l = times_none c
+active-only [] k i e c xs same l = zero_of_times_zero c
 active-only (true ∷ active) k i e c [] same l = absurd (cc)
 active-only (true ∷ active) k zero e c (x ∷ xs) same l = term_only (only e c k) c x _ (only-here e c k (omega arith)) (active-before active (suc k) e c xs (omega arith))
 active-only (true ∷ active) k (suc i) e c (x ∷ xs) same l = term_skipped (only e c k) x _ (c *ℚ number_at (onto_links active xs) i) (only-else e c k (λ s. absurd (omega arith))) (active-only active (suc k) i e c xs (omega arith) (cc))
-active-only (false ∷ active) k zero e c xs same l = active-before active (suc k) e c xs (omega arith) ∙ times_none c
+active-only (false ∷ active) k zero e c xs same l = active-before active (suc k) e c xs (omega arith) ∙ zero_of_times_zero c
 active-only (false ∷ active) k (suc i) e c xs same l = active-only active (suc k) i e c xs (omega arith) l
 
 -- ---- at a node

@@ -6,6 +6,7 @@ use Rattle.nf_rational.specs.Operations.{0ℚ, 1ℚ, ◌+ℚ◌, ◌-ℚ◌, ◌
 use Rattle.nf_rational.specs.Order.{◌≤ℚ◌}
 use Rattle.nf_rational_laws.proofs.Polynomial.{reading_of}
 use Rattle.nf_rational_laws.proofs.Linear.{le, eq, eq_times, linear_le, linear_eq}
+use Rattle.nf_rational_laws.proofs.Facts.{less_itself}
 use Rattle.nf_model.specs.Network.{Link, Network, IsNetwork}
 use Rattle.nf_model_laws.proofs.Potential.{carried, carried-is, EndsBelow, out_less_in, sum_to-same}
 
@@ -38,9 +39,6 @@ EndsBelow-net net good e link p = (good.tails e link p, good.heads e link p)
 
 no_product : (w a b : ℚ) → w ≡ 0ℚ → w *ℚ a ≡ w *ℚ b
 no_product w a b e = linear_eq (w ∷ a ∷ b ∷ []) (eq_times a e ∷ eq_times b e ∷ []) (search reading_of) tt tt
-
-less_itself : (a : ℚ) → a -ℚ a ≡ 0ℚ
-less_itself a = linear_eq (a ∷ []) [] (search reading_of) tt tt
 
 module _ (net : Network) (w x y : ℕ → ℚ) (good : IsNetwork net) (same : (v : ℕ) → v < net.nodes → v ≢ net.sink → out_less_in net.links x v ≡ out_less_in net.links y v) where
   abbrev shifted : ℕ → ℚ

@@ -1,5 +1,6 @@
 -- Exit slopes of links in each state. Here x is the flow of a link, and s and t are the slopes of its tail and its head.
 use Rattle.std.proofs.Common.{◌≡◌, [], ◌∷◌, true, false, Option, Some, None, sym, ap, subst, refl, ◌∙◌}
+use Rattle.std.proofs.lemmas.Option.{none-some}
 use Rattle.nf_rational.specs.Rational.{ℚ}
 use Rattle.nf_rational.specs.Operations.{0ℚ, ◌*ℚ◌, ◌/ℚ◌}
 use Rattle.nf_rational.specs.Order.{◌≤ℚ◌, ◌<ℚ◌, max_ℚ}
@@ -30,10 +31,8 @@ exit_resetting (Some c) x s t positive f = quotient_is x c t (positive c refl) (
     same_rate a b e = cc
 
 pub exit_full : (capacity : Option ℚ) (x s t : ℚ) → IsPositive capacity → Fills capacity x t → s ≤ℚ t → exit_slope false capacity x s ≡ t
-exit_full None x s t positive f h = absurd (none f.0 f.1)
-  where
-    none : (c : ℚ) → None ≡ Some c → ⊥
-    none c e = cc
+exit_full None x s t positive f h = absurd (none-some f.0 f.1)
+
 exit_full (Some c) x s t positive f h =
     let q : x /ℚ c ≡ t = exit_resetting (Some c) x s t positive f in
     ap (max_ℚ s) q ∙ max_is_right s t h

@@ -1,11 +1,11 @@
 -- A flow on a forest with surplus 0 at each node is 0. If a link carries flow, some link carries as much into the node where it starts,
 -- and so on. These links, each crossed in the direction of its flow, close a trail.
-use Rattle.std.proofs.Common.{◌≡◌, ◌≢◌, ℕ, zero, suc, ◌+◌, ◌<◌, ◌≤◌, List, [], ◌∷◌, length, map, ◌⊎◌, inl, inr, ⊎_elim, Bool, true, false, if◌then◌else◌, ◌||◌, eqb, Some, slice_get, sym, ap, subst, refl, ◌∙◌, arith}
+use Rattle.std.proofs.Common.{◌≡◌, ◌≢◌, ℕ, zero, suc, ◌+◌, ◌<◌, ◌≤◌, List, [], ◌∷◌, length, map, ◌⊎◌, inl, inr, ⊎_elim, Bool, true, false, if◌then◌else◌, eqb, Some, slice_get, sym, ap, subst, refl, ◌∙◌, arith}
 use Rattle.std.specs.Prelude.{Contains}
 use Rattle.std.specs.List.{IsDistinct, list_any}
 use Rattle.std.proofs.lemmas.Bool.Decides.{eqb_tells}
 use Rattle.std.proofs.lemmas.Map.Steps.{length-le_from_distinct_below}
-use Rattle.std.proofs.lemmas.Option.{slice_get_within}
+use Rattle.std.proofs.lemmas.Option.{slice_get_within, same_Some}
 use Rattle.std.proofs.lemmas.List.{length-map}
 use Rattle.nf_rational.specs.Rational.{ℚ}
 use Rattle.nf_rational.specs.Operations.{0ℚ, 1ℚ, ◌+ℚ◌, ◌-ℚ◌, ◌*ℚ◌}
@@ -14,6 +14,7 @@ use Rattle.nf_rational_laws.proofs.Polynomial.{reading_of}
 use Rattle.nf_rational_laws.proofs.Order.{≤ℚ_antisymm, ≤ℚ_of_lt, lt_or_le_ℚ, not_both_ℚ}
 use Rattle.nf_rational_laws.proofs.Linear.{le, lt, eq, linear_le, linear_false}
 use Rattle.nf_rational_laws.proofs.Extremes.{max_is_right, max_left}
+use Rattle.nf_rational_laws.proofs.Results.{or_rest}
 use Rattle.nf_model.specs.Network.{Link, Network, IsLink, IsNetwork, hop_of, hops, sum_in, sum_out}
 use Rattle.nf_model.specs.Pattern.{IsTrail, AllDiffer, IsForest}
 use Rattle.nf_model_laws.proofs.Networks.{hop_at, IsLink-unique}
@@ -84,11 +85,8 @@ find_link (l ∷ links) P test = ⊎_elim
     (find_link links (λ e link. P (suc e) link) (λ e link. test (suc e) link)))
     (test 0 l)
   where
-    same_first : (a b : Link) → Some a ≡ Some b → a ≡ b
-    same_first a b e = cc
-
     apart : (P 0 l → ⊥) → ((e : ℕ) (link : Link) → slice_get links e ≡ Some link → P (suc e) link → ⊥) → (e : ℕ) (link : Link) → slice_get (l ∷ links) e ≡ Some link → P e link → ⊥
-    apart n m zero link p q = n (subst (λ (k : Link). P 0 k) (sym (same_first l link p)) q)
+    apart n m zero link p q = n (subst (λ (k : Link). P 0 k) (sym (same_Some l link p)) q)
     apart n m (suc e) link p q = m e link p q
 
 module _ (net : Network) (d : ℕ → ℚ) where
@@ -185,12 +183,8 @@ module _ (net : Network) (d : ℕ → ℚ) where
   edges_below [] u w t q e = absurd (cc)
   edges_below ((e, forward) ∷ steps) u w (v, dart, t) q h = ⊎_elim
       (λ (k : (eqb q e ≡ true) × (q ≡ e)). subst (λ (i : ℕ). i < length net.links) (sym k.1) (slice_get_within net.links e dart.link dart.is_link))
-      (λ (k : (eqb q e ≡ false) × (q ≢ e)). edges_below steps v w t q (rest _ _ k.0 h))
+      (λ (k : (eqb q e ≡ false) × (q ≢ e)). edges_below steps v w t q (or_rest _ _ k.0 h))
       (eqb_tells q e)
-    where
-      rest : (a b : Bool) → a ≡ false → (a || b) ≡ true → b ≡ true
-      rest true b p e = absurd (cc)
-      rest false b p e = e
 
   -- The beginning of a trail, up to the first step along link f, which starts at u; or the trail does not cross f.
   record Before (f : ℕ) (steps : List (ℕ × Bool)) (v u : ℕ) : Type 0 where

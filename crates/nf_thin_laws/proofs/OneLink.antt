@@ -30,6 +30,7 @@ use Rattle.nf_thin_laws.proofs.Flags.{flag}
 use Rattle.nf_thin_laws.proofs.ActiveLinks.{AreSets-sets_at, HoldNoCycle-sets_at}
 use Rattle.nf_thin_laws.proofs.Singular.{IsSolution-met}
 use Rattle.nf_rational_laws.proofs.Chains.{≤ℚ_refl, ≤ℚ_trans}
+use Rattle.nf_rational_laws.proofs.Facts.{zero_plus}
 
 -- A property of the one entry of a list is a property of each entry.
 only_entry : {A : Type 0} (P : ℕ → A → Type 0) (x : A) (e : ℕ) (y : A) → slice_get (x ∷ []) e ≡ Some y → P 0 x → P e y
@@ -221,19 +222,13 @@ module _ (transit : ℚ) (capacity : Option ℚ) (pieces : List Piece) where
         at_least c x q h e = linear_le (c ∷ x ∷ q ∷ []) (le h ∷ eq e ∷ []) (search reading_of) tt
 
         bounded : (o : Option ℚ) → o ≡ Some most → slice_get (is_none o ∷ []) 0 ≡ Some true → ⊥
-        bounded None e u = none most e
-          where
-            none : (x : ℚ) → None ≡ Some x → ⊥
-            none x e = cc
+        bounded None e u = none-some most e
         bounded (Some x) e u = apart_some false true refl refl u
 
         full_is_listed : IsListedIn net first_sets (Some Full ∷ [])
         full_is_listed = listed Full (λ _ u. bounded capacity e u) (inr refl)
 
     -- ---- a phase
-    zero_plus : (t : ℚ) → t ≡ 0ℚ +ℚ t
-    zero_plus t = linear_eq (t ∷ []) [] (search reading_of) tt tt
-
     labels : AreTransitLabels net (number_at (first_labels transit))
     labels = record {
       source = refl;
@@ -311,7 +306,4 @@ rate_at-once transit capacity rate = ap (λ (b : Bool). if b then rate else 0ℚ
 pub OneLink-full : (transit most : ℚ) (pieces : List Piece) (rate : ℚ) → 0ℚ ≤ℚ transit → 0ℚ <ℚ most → ArePieces pieces → most ≤ℚ rate
     → IsListedIn (one_link transit (Some most) pieces) first_sets (Some Full ∷ [])
     × IsSolution (one_link transit (Some most) pieces) first_sets rate (Some Full ∷ []) (rate ∷ []) (1ℚ ∷ rate /ℚ most ∷ [])
-OneLink-full transit most pieces rate h c q k = OneLink-full_at transit (Some most) pieces h (λ r e. subst (λ (z : ℚ). 0ℚ <ℚ z) (same most r e) c) q most rate refl k
-  where
-    same : (a b : ℚ) → Some a ≡ Some b → a ≡ b
-    same a b e = cc
+OneLink-full transit most pieces rate h c q k = OneLink-full_at transit (Some most) pieces h (λ r e. subst (λ (z : ℚ). 0ℚ <ℚ z) (same_Some most r e) c) q most rate refl k

@@ -5,7 +5,7 @@ use Rattle.nf_rational.specs.Operations.{0ℚ, ◌+ℚ◌, ◌-ℚ◌, ◌*ℚ�
 use Rattle.nf_rational.specs.Order.{◌≤ℚ◌, ◌<ℚ◌}
 use Rattle.nf_rational_laws.proofs.Polynomial.{reading_of}
 use Rattle.nf_rational_laws.proofs.Order.{≤ℚ_of_lt, ≤ℚ_of_same, ≤ℚ_antisymm, lt_or_le_ℚ}
-use Rattle.nf_rational_laws.proofs.Linear.{le, lt, eq, le_times, linear_le, linear_lt, linear_eq}
+use Rattle.nf_rational_laws.proofs.Linear.{le, lt, eq, le_times, linear_le, linear_eq}
 use Rattle.nf_rational_laws.proofs.Chains.{≤ℚ_refl, ≤ℚ_trans}
 use Rattle.nf_model.specs.Curve.{Within, IsLeast, NeverFalls}
 use Rattle.nf_model.specs.Queue.{IsOutflow}
@@ -222,9 +222,6 @@ module _ (transit : ℚ) (capacity : Option ℚ) (amount : ℚ → ℚ) (tail_la
               (lt_or_le_ℚ t (head_last -ℚ transit));
         };
   }
-    where
-      before : (s t r : ℚ) → s ≤ℚ t → t <ℚ r → s <ℚ r
-      before s t r h l = linear_lt (s ∷ t ∷ r ∷ []) (le h ∷ lt l ∷ []) (search reading_of) tt
 
   pub left-queue : (time : ℚ) → 0ℚ ≤ℚ time → IsOutflow transit capacity entered time (left time)
   left-queue time n = ⊎_elim
