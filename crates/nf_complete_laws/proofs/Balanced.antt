@@ -25,7 +25,7 @@ use Rattle.nf_complete_laws.proofs.Fitting.{fits_exit, fits_least, fits_used}
 use Rattle.nf_complete_laws.proofs.Numbers.{numbers, length-numbers, number_at-numbers, number_at-past}
 use Rattle.nf_complete_laws.proofs.Spare.{spare, HasSpare, spare_of_enough, not_negative}
 
-no_spare : (i o d : ℚ) → 0ℚ ≤ℚ i -ℚ (o +ℚ d) → i -ℚ (o +ℚ d) ≤ℚ 0ℚ → o -ℚ i ≡ 0ℚ -ℚ d
+pub no_spare : (i o d : ℚ) → 0ℚ ≤ℚ i -ℚ (o +ℚ d) → i -ℚ (o +ℚ d) ≤ℚ 0ℚ → o -ℚ i ≡ 0ℚ -ℚ d
 no_spare i o d h k = linear_eq (i ∷ o ∷ d ∷ []) (le h ∷ le k ∷ []) (search reading_of) tt tt
 
 module _ (net : Network) (sets : Sets) (rate : ℚ) (flows slopes : ℕ → ℚ) (good : IsNetwork net) (are : AreSets net sets) (over : IsOversupply net sets rate flows slopes)

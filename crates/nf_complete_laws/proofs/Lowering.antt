@@ -79,7 +79,7 @@ capacity_by (Some link) = unwrap_or link.capacity 0ℚ
 abbrev pub capacity_at : Network → ℕ → ℚ
 capacity_at net e = capacity_by (slice_get net.links e)
 
-unwrapped-not_negative : (capacity : Option ℚ) → IsPositive capacity → 0ℚ ≤ℚ unwrap_or capacity 0ℚ
+pub unwrapped-not_negative : (capacity : Option ℚ) → IsPositive capacity → 0ℚ ≤ℚ unwrap_or capacity 0ℚ
 unwrapped-not_negative None positive = ≤ℚ_refl 0ℚ
 unwrapped-not_negative (Some c) positive = ≤ℚ_of_lt _ _ (positive c refl)
 
@@ -96,10 +96,10 @@ pub record IsSmall (net : Network) (rate : ℚ) (flows slopes : ℕ → ℚ) (h 
 no_positive : (x c t : ℚ) → 0ℚ <ℚ x → x ≤ℚ c *ℚ t → 0ℚ <ℚ c → t ≤ℚ 0ℚ → ⊥
 no_positive x c t h k p n = let low : 0ℚ ≤ℚ c = ≤ℚ_of_lt _ _ p in linear_false (x ∷ c ∷ t ∷ []) (lt h ∷ le k ∷ le_times low n ∷ []) (search reading_of) tt
 
-enough_by_rest : (o d i p q k : ℚ) → p ≤ℚ o → i ≤ℚ q +ℚ k → k ≤ℚ i -ℚ (o +ℚ d) → p +ℚ d ≤ℚ q
+pub enough_by_rest : (o d i p q k : ℚ) → p ≤ℚ o → i ≤ℚ q +ℚ k → k ≤ℚ i -ℚ (o +ℚ d) → p +ℚ d ≤ℚ q
 enough_by_rest o d i p q k h l m = linear_le (o ∷ d ∷ i ∷ p ∷ q ∷ k ∷ []) (le h ∷ le l ∷ le m ∷ []) (search reading_of) tt
 
-enough_by_same : (o d i p q : ℚ) → p ≤ℚ o → q ≡ i → o +ℚ d ≤ℚ i → p +ℚ d ≤ℚ q
+pub enough_by_same : (o d i p q : ℚ) → p ≤ℚ o → q ≡ i → o +ℚ d ≤ℚ i → p +ℚ d ≤ℚ q
 enough_by_same o d i p q h e m = linear_le (o ∷ d ∷ i ∷ p ∷ q ∷ []) (le h ∷ eq e ∷ le m ∷ []) (search reading_of) tt
 
 module _ (net : Network) (sets : Sets) (rate : ℚ) (flows slopes : ℕ → ℚ) (good : IsNetwork net) (are : AreSets net sets) (acyclic : HoldNoCycle net sets) (bounded : ResetsAreBounded net sets)

@@ -15,9 +15,10 @@ use Rattle.nf_model.specs.ThinFlow.{Sets}
 use Rattle.nf_model.specs.Pattern.{IsTrail, AllDiffer}
 use Rattle.nf_model_laws.proofs.Potential.{out_less_in}
 use Rattle.nf_model_laws.proofs.Sums.{sum_in-line, sum_out-line}
+use Rattle.nf_model_laws.proofs.Contained.{contains_more, contains_first}
 use Rattle.nf_thin_laws.proofs.Forests.{Carries, forest-none}
 use Rattle.nf_complete_def.specs.Interior.{IsInterior, links_of, turn_of, IsNextCycle}
-use Rattle.nf_complete_laws.proofs.Trails.{contains_more, contains_first, signed, carried_by, turn-contains, trail-allowed, carried-closed}
+use Rattle.nf_complete_laws.proofs.Trails.{signed, carried_by, turn-contains, trail-allowed, carried-closed}
 use Rattle.nf_complete_laws.proofs.Deciding.{same_or_not}
 
 pub weaker : (hops : List Hop) (Allowed Other : ℕ → Type 0) (steps : List (ℕ × Bool)) (v w : ℕ) → IsTrail hops Allowed steps v w → ((e : ℕ) → Contains (links_of steps) e → Allowed e → Other e) → IsTrail hops Other steps v w

@@ -7,14 +7,13 @@ use Rattle.nf_rational.specs.Operations.{0ℚ, 1ℚ, ◌-ℚ◌, ◌*ℚ◌}
 use Rattle.nf_rational.specs.Order.{◌≤ℚ◌, ◌<ℚ◌, lt_ℚ}
 use Rattle.nf_rational_laws.proofs.Polynomial.{reading_of}
 use Rattle.nf_rational_laws.proofs.Order.{≤ℚ_of_lt, ≤ℚ_antisymm, not_both_ℚ, nn_times}
-use Rattle.nf_rational_laws.proofs.Chains.{≤ℚ_trans, ≤_<_trans}
+use Rattle.nf_rational_laws.proofs.Chains.{≤ℚ_trans, ≤_<_trans, <_≤_trans}
 use Rattle.nf_rational_laws.proofs.Tests.{less_of_test, test_of_less, not_less_of_test, not_less_itself}
 use Rattle.nf_rational_laws.proofs.Linear.{le, le_times, eq_times, linear_le}
 use Rattle.nf_rational_laws.proofs.Results.{not_both, true_or_false}
 use Rattle.nf_rational_laws.proofs.Facts.{nn_of_one}
 use Rattle.nf_model.specs.Entries.{number_at}
 use Rattle.nf_model.specs.Network.{Link, Network, IsNetwork, IsLink}
-use Rattle.nf_model_laws.proofs.Affine.{<_≤_trans}
 use Rattle.nf_model_laws.proofs.Earliest.{IsPositive-link}
 use Rattle.nf_model_laws.proofs.Potential.{fall, out_less_in}
 use Rattle.nf_complete_laws.specs.Oversupply.{Fits}

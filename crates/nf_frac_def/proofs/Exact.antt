@@ -37,6 +37,15 @@ one_at : (b c : Bool) (p : Passed ℚ) (v : ℚ) → (b ≡ false → c ≡ fals
 one_at true c p v h x e = cc
 one_at false c p v h x e = rw (h refl) e
 
+-- The value of an operation that doesn't pass.
+pub one_value : (b : Bool) (p : Passed ℚ) (v x : ℚ) → (if b then Err p else Ok v) ≡ Ok x → x ≡ v
+one_value true p v x e = absurd (cc)
+one_value false p v x e = cc
+
+pub checked-is : (passes : Passing) (op : Op) (x y z : ℚ) → checked passes op x y ≡ Ok z → z ≡ result_of op x y
+unfolding checked
+checked-is passes op x y z h = one_value (passes op x y) _ (result_of op x y) z h
+
 -- Each operation that passes by `fewer` also passes by `passes`.
 abbrev pub PassesFewer : Passing → Passing → Type 0
 PassesFewer passes fewer = (op : Op) (x y : ℚ) → passes op x y ≡ false → fewer op x y ≡ false

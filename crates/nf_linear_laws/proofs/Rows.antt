@@ -50,7 +50,7 @@ entries_exact f [] row = refl
 entries_exact f (p ∷ pivot_row) [] = refl
 entries_exact f (p ∷ pivot_row) (x ∷ row) = bind_ok _ _ _ _ (less_exact (is_zero p) f p x) (bind_ok _ _ _ _ (entries_exact f pivot_row row) refl)
 
-quotient_exact : (x y : ℚ) → checked never Quotient x y ≡ Ok (x /ℚ y)
+pub quotient_exact : (x y : ℚ) → checked never Quotient x y ≡ Ok (x /ℚ y)
 unfolding checked
 quotient_exact x y = refl
 

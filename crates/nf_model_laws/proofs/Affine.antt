@@ -9,6 +9,7 @@ use Rattle.nf_rational_laws.proofs.Quotient.{/ℚ_is, /ℚ-times, ps_apart, ps_i
 use Rattle.nf_rational_laws.proofs.Linear.{le, lt, eq, le_times, eq_times, linear_le, linear_lt, linear_eq, linear_false}
 use Rattle.nf_model_laws.specs.Affine.{IsAffine}
 use Rattle.nf_rational_laws.proofs.Chains.{≤ℚ_refl, ≤ℚ_trans}
+pub use Rattle.nf_rational_laws.proofs.Chains.{<_≤_trans}
 
 -- ---- quotients
 pub nn-quotient : (x y : ℚ) → 0ℚ ≤ℚ x → 0ℚ <ℚ y → 0ℚ ≤ℚ x /ℚ y
@@ -24,9 +25,6 @@ pub nn-slope : (s v u w : ℚ) → s <ℚ u → v ≤ℚ w → 0ℚ ≤ℚ (w -�
 nn-slope s v u w h k = nn-quotient _ _ (linear_le (v ∷ w ∷ []) (le k ∷ []) (search reading_of) tt) (linear_lt (s ∷ u ∷ []) (lt h ∷ []) (search reading_of) tt)
 
 -- ---- orders
-
-pub <_≤_trans : (x y z : ℚ) → x <ℚ y → y ≤ℚ z → x <ℚ z
-<_≤_trans x y z h k = linear_lt (x ∷ y ∷ z ∷ []) (lt h ∷ le k ∷ []) (search reading_of) tt
 
 -- ---- a line through v at s with the slope n
 pub line_end : (s v u w n : ℚ) → n *ℚ (u -ℚ s) ≡ w -ℚ v → v +ℚ n *ℚ (u -ℚ s) ≡ w

@@ -8,11 +8,11 @@ use Rattle.nf_rational_laws.proofs.Order.{≤ℚ_of_lt, ≤ℚ_antisymm, lt_or_l
 use Rattle.nf_rational_laws.proofs.Quotient.{/ℚ-unique, ps_apart}
 use Rattle.nf_rational_laws.proofs.Linear.{le, lt, eq, le_times, eq_times, linear_le, linear_lt, linear_eq}
 use Rattle.nf_rational_laws.proofs.Tests.{lt_ℚ_cases}
-use Rattle.nf_model.specs.Curve.{slope, value, TimesRise, IsCurve, NeverFalls}
+use Rattle.nf_model.specs.Curve.{Within, slope, value, TimesRise, IsCurve, NeverFalls}
 use Rattle.nf_model_laws.specs.Affine.{IsAffine}
 use Rattle.nf_model_laws.specs.CurveLaws.{ValuesRise}
-use Rattle.nf_model_laws.proofs.Affine.{quotient-times, le_from_times, quotient-gap, nn-slope, <_≤_trans, line_end, line_start, line_rises}
-use Rattle.nf_rational_laws.proofs.Chains.{≤ℚ_refl, ≤ℚ_trans}
+use Rattle.nf_model_laws.proofs.Affine.{quotient-times, le_from_times, quotient-gap, nn-slope, line_end, line_start, line_rises}
+use Rattle.nf_rational_laws.proofs.Chains.{≤ℚ_refl, ≤ℚ_trans, <_≤_trans}
 
 -- where t lies before the second point, and where it does not
 pub by_first : {P : Type 0} (p q : ℚ × ℚ) (rest : List (ℚ × ℚ)) (t : ℚ)
@@ -53,7 +53,7 @@ TimesRise-rest [] p rest r = r
 TimesRise-rest (x ∷ []) p rest r = r.1
 TimesRise-rest (x ∷ y ∷ front) p rest r = TimesRise-rest (y ∷ front) p rest r.1
 
-first_before : (x : ℚ × ℚ) (front : List (ℚ × ℚ)) (p : ℚ × ℚ) (rest : List (ℚ × ℚ)) → TimesRise (x ∷ front ++ p ∷ rest) → x.0 <ℚ p.0
+pub first_before : (x : ℚ × ℚ) (front : List (ℚ × ℚ)) (p : ℚ × ℚ) (rest : List (ℚ × ℚ)) → TimesRise (x ∷ front ++ p ∷ rest) → x.0 <ℚ p.0
 first_before x [] p rest r = r.0
 first_before x (y ∷ front) p rest r = linear_lt (x.0 ∷ y.0 ∷ p.0 ∷ []) (lt r.0 ∷ lt (first_before y front p rest r.1) ∷ []) (search reading_of) tt
 
@@ -208,6 +208,14 @@ value-takes p (q ∷ rest) t y r h k l = ⊎_elim
 
     later : (u : ℚ) × (q.0 ≤ℚ u) × (u ≤ℚ t) × (value (q ∷ rest) u ≡ y) → (u : ℚ) × (p.0 ≤ℚ u) × (u ≤ℚ t) × (value (p ∷ q ∷ rest) u ≡ y)
     later w = (w.0, ≤ℚ_trans _ _ _ (≤ℚ_of_lt _ _ r.0) w.1, w.2, value-after p q rest w.0 w.1 ∙ w.3)
+
+-- A curve attains each value between two of its values.
+pub value-takes_between : (points : List (ℚ × ℚ)) (last y : ℚ) → IsCurve points → 0ℚ ≤ℚ last → value points 0ℚ ≤ℚ y → y ≤ℚ value points last → (u : ℚ) × Within 0ℚ last u × (value points u ≡ y)
+value-takes_between [] last y c h i j = absurd c
+value-takes_between (p ∷ rest) last y c h i j =
+    let w : (u : ℚ) × (p.0 ≤ℚ u) × (u ≤ℚ last) × (value (p ∷ rest) u ≡ y) = value-takes p rest last y c.1 (subst (λ (z : ℚ). z ≤ℚ last) (sym c.0) h)
+    (subst (λ (z : ℚ). z ≤ℚ y) (ap (value (p ∷ rest)) (sym c.0) ∙ value-first p rest c.1) i) j in
+    (w.0, (subst (λ (z : ℚ). z ≤ℚ w.0) c.0 w.1, w.2), w.3)
 
 -- ---- a curve with its last point
 pub record EndsAt (points : List (ℚ × ℚ)) (p : ℚ × ℚ) : Type 0 where

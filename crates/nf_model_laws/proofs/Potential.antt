@@ -5,7 +5,7 @@ use Rattle.nf_rational.specs.Rational.{ℚ}
 use Rattle.nf_rational.specs.Operations.{0ℚ, ◌+ℚ◌, ◌-ℚ◌, ◌*ℚ◌}
 use Rattle.nf_rational.specs.Order.{◌≤ℚ◌}
 use Rattle.nf_rational_laws.proofs.Polynomial.{reading_of}
-use Rattle.nf_rational_laws.proofs.Order.{≤ℚ_antisymm}
+use Rattle.nf_rational_laws.proofs.Order.{nn_plus, ≤ℚ_of_same, ≤ℚ_antisymm}
 use Rattle.nf_rational_laws.proofs.Linear.{le, eq, linear_le, linear_eq}
 use Rattle.nf_rational_laws.proofs.Facts.{first_and_zero, sum_le}
 use Rattle.nf_model.specs.Network.{Link, sum_in, sum_out}
@@ -14,6 +14,10 @@ use Rattle.nf_model.specs.Network.{Link, sum_in, sum_out}
 abbrev pub sum_to : ℕ → (ℕ → ℚ) → ℚ
 sum_to zero f = 0ℚ
 sum_to (suc n) f = sum_to n f +ℚ f n
+
+pub sum_to-nn : (n : ℕ) (f : ℕ → ℚ) → ((k : ℕ) → k < n → 0ℚ ≤ℚ f k) → 0ℚ ≤ℚ sum_to n f
+sum_to-nn zero f h = ≤ℚ_of_same 0ℚ 0ℚ refl
+sum_to-nn (suc n) f h = nn_plus _ _ (sum_to-nn n f (λ k l. h k (omega arith))) (h n (omega arith))
 
 pub sum_to-same : (n : ℕ) (f g : ℕ → ℚ) → ((k : ℕ) → k < n → f k ≡ g k) → sum_to n f ≡ sum_to n g
 sum_to-same zero f g e = refl

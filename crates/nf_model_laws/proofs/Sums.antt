@@ -12,7 +12,7 @@ use Rattle.nf_rational_laws.proofs.Order.{lt_or_le_ℚ, <ℚ_irrefl}
 use Rattle.std.proofs.lemmas.Option.{same_Some}
 
 -- ---- the same terms
-if_same : (b : Bool) (a c s t : ℚ) → (b ≡ true → a ≡ c) → s ≡ t → (if b then a +ℚ s else s) ≡ (if b then c +ℚ t else t)
+pub if_same : (b : Bool) (a c s t : ℚ) → (b ≡ true → a ≡ c) → s ≡ t → (if b then a +ℚ s else s) ≡ (if b then c +ℚ t else t)
 if_same true a c s t e f = let d : a ≡ c = e refl in cc
 if_same false a c s t e f = f
 
@@ -51,7 +51,7 @@ sum_out-line [] f g t v = linear_eq (t ∷ []) [] (search reading_of) tt tt
 sum_out-line (link ∷ links) f g t v = if_line (eqb link.tail v) (f 0) (g 0) _ _ _ t (sum_out-line links (λ e. f (suc e)) (λ e. g (suc e)) t v)
 
 -- ---- order
-if_order : (b : Bool) (a c s t : ℚ) → (b ≡ true → a ≤ℚ c) → s ≤ℚ t → (if b then a +ℚ s else s) ≤ℚ (if b then c +ℚ t else t)
+pub if_order : (b : Bool) (a c s t : ℚ) → (b ≡ true → a ≤ℚ c) → s ≤ℚ t → (if b then a +ℚ s else s) ≤ℚ (if b then c +ℚ t else t)
 if_order true a c s t h k = let l : a ≤ℚ c = h refl in linear_le (a ∷ c ∷ s ∷ t ∷ []) (le l ∷ le k ∷ []) (search reading_of) tt
 if_order false a c s t h k = k
 

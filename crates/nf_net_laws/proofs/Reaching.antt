@@ -147,7 +147,7 @@ stays_closed hops S closed (e ∷ walk) a b h w =
     each : (rest : List Hop) → list_all (stays_in S) rest ≡ true → AllByRecursion (λ hop. stays_in S hop ≡ true) rest
     each rest c = all_tests (stays_in S) rest c
 
--- for each node it is true_or_false whether a walk leads to it
+-- for each node it is decided whether a walk leads to it
 pub reaching : (hops : List Hop) (u v : ℕ) → Decides ((closure hops u).set v) ((walk : List ℕ) × IsWalk hops walk u v)
 reaching hops u v = ((λ e. (closure hops u).sound.walks v e), λ w. stays_closed hops (closure hops u).set (closure hops u).closed w.0 u v (closure hops u).sound.start w.1)
 

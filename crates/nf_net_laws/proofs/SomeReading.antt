@@ -33,7 +33,7 @@ use Rattle.nf_rational_laws.proofs.Entries.{slice_get-image}
 use Rattle.nf_rational_laws.proofs.Results.{true_or_false}
 use Rattle.nf_model_laws.proofs.Networks.{transit_of-hop}
 
--- ---- the first of some rules that are true_or_false
+-- ---- the first of some rules that are decided
 decide_first : (P : NetRule → Type 0) → ((rule : NetRule) → P rule ⊎ (¬ P rule)) → (rules : List NetRule) → ((first : NetRule) × IsFirst P rules first) ⊎ AllByRecursion (λ rule. ¬ P rule) rules
 decide_first P decide [] = inr tt
 decide_first P decide (rule ∷ rules) = join (decide rule) (decide_first P decide rules)

@@ -11,8 +11,8 @@ use Rattle.nf_model.specs.Entries.{number_at}
 use Rattle.nf_model.specs.Curve.{Within}
 use Rattle.nf_model.specs.Network.{Link, Piece, Network}
 use Rattle.nf_model.specs.Phases.{Lasts, IsExtension, IsPhaseLength, IsPhase}
-use Rattle.nf_model_laws.proofs.Affine.{<_≤_trans, quotient-times}
-use Rattle.nf_rational_laws.proofs.Chains.{≤ℚ_trans}
+use Rattle.nf_model_laws.proofs.Affine.{quotient-times}
+use Rattle.nf_rational_laws.proofs.Chains.{≤ℚ_trans, <_≤_trans}
 use Rattle.nf_rational_laws.proofs.Extremes.{min_left, min_right, min_keeps}
 
 -- ---- if each entry of a list allows some time, some time is allowed by all of them

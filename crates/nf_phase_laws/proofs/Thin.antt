@@ -101,7 +101,6 @@ pub record IsThinBy (net : Network) (slack : Link → ℚ) (rate : ℚ) (x slope
 -- ---- a walk takes at least its transit times
 Arrives-after : (net : Network) (amount : ℕ → ℚ → ℚ) → IsNetwork net → (walk : List ℕ) (time arrival : ℚ) → Arrives net amount walk time arrival → time +ℚ transit_sum (hops net) walk ≤ℚ arrival
 Arrives-after net amount good [] time arrival a = plus_zero_le time arrival a
-
 Arrives-after net amount good (e ∷ walk) time arrival (link, p, exit, is_exit, rest) =
     more time exit arrival link.transit _ _ (transit_of-is net e link p) (IsExit-after link.transit link.capacity (amount e) time exit (IsPositive-link net e link good p) is_exit) (Arrives-after net amount good walk exit arrival rest)
   where

@@ -6,6 +6,7 @@ use Rattle.std.proofs.lemmas.List.{length-map}
 use Rattle.nf_rational.specs.Rational.{ℚ}
 use Rattle.nf_frac_def.specs.Passing.{Passing}
 use Rattle.nf_frac_def.specs.Checked.{each}
+use Rattle.nf_frac_def.proofs.Each.{each_at, each_length}
 use Rattle.nf_model.specs.Curve.{Point, slope, IsShort}
 use Rattle.nf_model.specs.Network.{Link, Network, IsNetwork, IsLink}
 use Rattle.nf_model.specs.Equilibrium.{Flow, points_at, label}
@@ -24,7 +25,7 @@ use Rattle.nf_phase_laws.proofs.WellRun.{WellRun, number_is, label_points, inflo
 use Rattle.nf_resume_def.specs.Restoring.{value_at_end, link_curves_of, standing_of, last_slope, growing, restore_list}
 use Rattle.nf_resume_def.specs.Resuming.{OfLink, CutLink, links_with, cut_short, cut_trace, cut_link, cut_flow_of, cut_flow}
 use Rattle.nf_resume_laws.proofs.CutShort.{rest_of}
-use Rattle.nf_resume_laws.proofs.CutFlow.{each_at, each_length, entry_within, of_link, links_with-at, links_with-length, value_at_end-is}
+use Rattle.nf_resume_laws.proofs.CutFlow.{of_link, links_with-at, links_with-length, value_at_end-is}
 use Rattle.nf_rational_laws.proofs.Entries.{slice_get-image, entry}
 use Rattle.nf_rational_laws.proofs.Results.{same_Ok}
 use Rattle.nf_phase_run_laws.specs.ResumedLaws.{with_made}
@@ -173,7 +174,7 @@ module _ (passes : Passing) (net : Network) (good : IsNetwork net) (s : Standing
       ∙ links_with-length net.links (flow_of s).inflows (flow_of s).outflows (flow_of s).queues (many (λ c. c.inflow)) (many (λ c. c.outflow)) (many (λ c. c.queue.points)))
       (many same_link)
       (λ n h.
-      let link : (link : Link) × (slice_get net.links n ≡ Some link) = entry_within net.links n h in
+      let link : (link : Link) × (slice_get net.links n ≡ Some link) = entry net.links n h in
       let c : (c : LinkCurves) × (slice_get s.link_curves n ≡ Some c) = link_curve n link.0 link.1 in
       let there : slice_get all_links n ≡ Some (of_link link.0 c.0.inflow c.0.outflow c.0.queue.points) =
       links_with-at net.links (flow_of s).inflows (flow_of s).outflows (flow_of s).queues n link.0 c.0.inflow c.0.outflow c.0.queue.points link.1

@@ -5,12 +5,11 @@ use Rattle.nf_rational.specs.Rational.{ℚ}
 use Rattle.nf_rational.specs.Order.{◌≤ℚ◌, ◌<ℚ◌, lt_ℚ}
 use Rattle.nf_rational_laws.proofs.Order.{≤ℚ_of_lt, ≤ℚ_of_same, not_both_ℚ}
 use Rattle.nf_rational_laws.proofs.Tests.{test_of_not_less, test_of_less}
-use Rattle.nf_rational_laws.proofs.Chains.{≤ℚ_refl, ≤ℚ_trans}
+use Rattle.nf_rational_laws.proofs.Chains.{≤ℚ_refl, ≤ℚ_trans, <_≤_trans}
 use Rattle.nf_frac_def.specs.Passing.{Passing}
 use Rattle.nf_frac_def.specs.Checked.{Checked, ◌>>=◌}
 use Rattle.nf_model.specs.Curve.{Point, slope, TimesRise, IsShort, AreSlopes}
 use Rattle.nf_model.specs.Equilibrium.{Trace}
-use Rattle.nf_model_laws.proofs.Affine.{<_≤_trans}
 use Rattle.nf_rational.specs.Signs.{is_same}
 use Rattle.nf_curve_def.specs.Lines.{checked_line}
 use Rattle.nf_curve_def.specs.Values.{points_before, value_from, checked_value, checked_cut}

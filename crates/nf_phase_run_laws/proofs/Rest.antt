@@ -10,6 +10,8 @@ use Rattle.nf_rational_laws.proofs.Tests.{min_ℚ_cases}
 use Rattle.nf_rational_laws.proofs.Polynomial.{reading_of}
 use Rattle.nf_rational_laws.proofs.Linear.{le, lt, eq, linear_lt, linear_eq, linear_false}
 use Rattle.nf_rational_laws.proofs.Extremes.{min_right}
+use Rattle.nf_rational_laws.proofs.Chains.{<_≤_trans}
+use Rattle.nf_rational_laws.proofs.Entries.{entry}
 use Rattle.nf_frac_def.specs.Passing.{Passing}
 use Rattle.nf_model.specs.declared.State.{State}
 use Rattle.nf_model.specs.Entries.{number_at}
@@ -18,7 +20,6 @@ use Rattle.nf_model.specs.ThinFlow.{slack, slacks_of, sets_at}
 use Rattle.nf_model.specs.Pattern.{Pattern, IsListedIn, IsBase, IsSolution}
 use Rattle.nf_model.specs.Phases.{moved, Lasts, IsExtension, IsUnending, IsPhaseLength}
 use Rattle.nf_model_laws.proofs.OneValue.{IsPhaseLength-unique}
-use Rattle.nf_model_laws.proofs.Affine.{<_≤_trans}
 use Rattle.nf_thin_def.specs.Accepted.{IsAccepted}
 use Rattle.nf_thin_def.specs.Listing.{IsListingIn}
 use Rattle.nf_thin_def.specs.CurveList.{is_filled, curve_list}
@@ -33,7 +34,6 @@ use Rattle.nf_phase_laws.proofs.Run.{WellRun-goes, parts_of}
 use Rattle.nf_phase_laws.proofs.Goes.{thin}
 use Rattle.nf_resume_def.specs.Open.{IsOpen, with_last}
 use Rattle.nf_resume_def.specs.Meanings.{NonePassesIn}
-use Rattle.nf_resume_laws.proofs.CutFlow.{entry_within}
 use Rattle.nf_resume_laws.proofs.CutPhase.{IsOpen-cut, IsExtension-left, Lasts-left, stays-below, stays-above, slack-moves}
 use Rattle.nf_resume_laws.proofs.Restricted.{resets, filled-same, goes-on, IsSolution-restricted, IsListed-restricted}
 use Rattle.nf_resume_laws.proofs.FirstPlace.{base-first, pattern-base, flows-same, slopes-same}
@@ -259,8 +259,8 @@ module _ (passes : Passing) (net : Network) (good : IsNetwork net) (a b : Bounds
     filled : (e : ℕ) (link : Link) → IsLink net e link
         → is_filled (unwrap_or (slice_get pattern e) None) (resets (sets_at net s.labels) e) ≡ is_filled (unwrap_or (slice_get base e) None) (resets (sets_at net restored.labels) e)
     filled e link p =
-        let o : (o : Option State) × (slice_get pattern e ≡ Some o) = entry_within pattern e (let n = slice_get_within net.links e link p in let c = same_count in omega arith) in
-        let v : (v : Option State) × (slice_get base e ≡ Some v) = entry_within base e (let n = slice_get_within net.links e link p in let c = base_count in omega arith) in
+        let o : (o : Option State) × (slice_get pattern e ≡ Some o) = entry pattern e (let n = slice_get_within net.links e link p in let c = same_count in omega arith) in
+        let v : (v : Option State) × (slice_get base e ≡ Some v) = entry base e (let n = slice_get_within net.links e link p in let c = base_count in omega arith) in
         ap (λ (x : Option (Option State)). is_filled (unwrap_or x None) (resets (sets_at net s.labels) e)) o.1
         ∙ filled-same (resets (sets_at net s.labels) e) (resets (sets_at net restored.labels) e) o.0 v.0
         (goes-on net good s.labels restored.labels slopes flows (rate_at net s.time) done pattern base some moves below above listed solution base_count same_count based e link p o.0 v.0 o.1 v.1)

@@ -251,7 +251,7 @@ module _ (net : Network) (flows new : List ℚ) (walk : List Step) (amount : ℚ
       by_way true capacity g = refl
       by_way false capacity g = absurd (no_flow_back _ (ap (λ (k : ℕ). number_at flows k) t.link ∙ z) g)
 
-  -- A link without flow that the walk can not take moved_by_zero without flow.
+  -- A link without flow that the walk can not take stays without flow.
   not_taken : (e : ℕ) → number_at flows e ≡ 0ℚ → (Taken e → ⊥) → number_at new e ≡ 0ℚ
   not_taken e z none = ⊎_elim
       (λ (c : crossed walk e ≡ 0ℚ). moved_by_zero _ _ _ amount c (pushed.flow e) ∙ z)

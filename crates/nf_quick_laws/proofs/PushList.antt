@@ -11,6 +11,7 @@ use Rattle.nf_rational_laws.proofs.Linear.{le, eq, eq_times, linear_le, linear_e
 use Rattle.nf_frac_def.specs.Passing.{Passing, result_of}
 use Rattle.nf_frac_def.specs.Checked.{Checked, checked, fold_checked}
 use Rattle.nf_frac_def.specs.declared.Op.TheVariants.{Difference}
+use Rattle.nf_frac_def.proofs.Exact.{checked-is}
 use Rattle.nf_model.specs.Entries.{number_at}
 use Rattle.nf_model.specs.Network.{Link, Network, IsLink}
 use Rattle.nf_quick_def.specs.Steps.{Step, begin_of, end_of, signed, can_go, IsResidualWalk, IsUnboundedWalk}
@@ -20,7 +21,7 @@ use Rattle.nf_quick_def.specs.Pushes.{push_step, push_list}
 use Rattle.nf_quick_def.specs.Pushed.{IsPushed}
 use Rattle.nf_quick_laws.proofs.Apart.{EachStep}
 use Rattle.nf_quick_laws.proofs.Crossings.{choose, choose_not}
-use Rattle.nf_quick_laws.proofs.Offers.{bind-ok, checked-ok}
+use Rattle.nf_quick_laws.proofs.Offers.{bind-ok}
 use Rattle.nf_rational_laws.proofs.Chains.{≤ℚ_refl, ≤ℚ_trans}
 use Rattle.nf_rational_laws.proofs.Extremes.{min_left, min_right, min_keeps}
 use Rattle.nf_rational_laws.proofs.Results.{same_Ok}
@@ -76,7 +77,7 @@ module _ (passes : Passing) (amount : ℚ) where
       let more : IsPushed w.0 walk amount new = IsPushed-fold walk w.0 new (each_same walk (length flows) (length w.0) (sym count) each.1) w.2 in
       record {
         count = more.count ∙ count;
-        flow = λ k. one_more _ _ _ _ _ amount (ap (λ (l : List ℚ). number_at l k) (sym mid_is) ∙ after_step flows step z.0 each.0 (checked-ok passes (op_of step.forward) (number_at flows step.link) amount z.0 z.1) k)
+        flow = λ k. one_more _ _ _ _ _ amount (ap (λ (l : List ℚ). number_at l k) (sym mid_is) ∙ after_step flows step z.0 each.0 (checked-is passes (op_of step.forward) (number_at flows step.link) amount z.0 z.1) k)
             (more.flow k);
       }
     where
@@ -118,7 +119,7 @@ lesser-within : (least : Option ℚ) (x : ℚ) → IsWithin least (lesser least 
 lesser-within None x = tt
 lesser-within (Some l) x = min_left l x
 
-lesser-most : (least : Option ℚ) (x : ℚ) → lesser least x ≤ℚ x
+pub lesser-most : (least : Option ℚ) (x : ℚ) → lesser least x ≤ℚ x
 lesser-most None x = ≤ℚ_refl x
 lesser-most (Some l) x = min_right l x
 
@@ -154,7 +155,7 @@ module _ (passes : Passing) (net : Network) (flows : List ℚ) where
   by_way true (Some c) x least mid above goes e =
       let z : (z : ℚ) × (checked passes Difference c x ≡ Ok z) × (◌≡◌ {A = Checked (Option ℚ)} (Ok (Some (lesser least z))) (Ok mid)) =
       bind-ok (checked passes Difference c x) (λ z. Ok (Some (lesser least z))) mid e in
-      let is : z.0 ≡ c -ℚ x = checked-ok passes Difference c x z.0 z.1 in
+      let is : z.0 ≡ c -ℚ x = checked-is passes Difference c x z.0 z.1 in
       let bound : lesser least z.0 ≤ℚ c -ℚ x = subst (λ (y : ℚ). lesser least z.0 ≤ℚ y) is (lesser-most least z.0) in
       inr (
         lesser least z.0,

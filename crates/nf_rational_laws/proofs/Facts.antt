@@ -1,9 +1,11 @@
 -- Short facts on sums, differences and products, each by one call of the solver.
-use Rattle.std.proofs.Common.{◌≡◌, ◌≢◌, [], ◌∷◌}
+use Rattle.std.proofs.Common.{◌≡◌, ◌≢◌, [], ◌∷◌, ⊎_elim}
 use Rattle.nf_rational.specs.Rational.{ℚ}
 use Rattle.nf_rational.specs.Operations.{0ℚ, 1ℚ, ◌+ℚ◌, ◌-ℚ◌, ◌*ℚ◌}
 use Rattle.nf_rational.specs.Order.{◌≤ℚ◌, ◌<ℚ◌}
 use Rattle.nf_rational_laws.proofs.Polynomial.{reading_of}
+use Rattle.nf_rational_laws.proofs.Order.{≤ℚ_of_lt, lt_or_le_ℚ, less_ps, ps_times}
+use Rattle.nf_rational_laws.proofs.Chains.{≤ℚ_trans}
 use Rattle.nf_rational_laws.proofs.Linear.{le, lt, eq, le_times, eq_times, linear_le, linear_lt, linear_eq, linear_false}
 
 -- ---- equations
@@ -149,3 +151,21 @@ nn_of_one x h = linear_le (x ∷ []) (le h ∷ []) (search reading_of) tt
 
 pub nn_plus_one : (x : ℚ) → 0ℚ ≤ℚ x → 0ℚ ≤ℚ x +ℚ 1ℚ
 nn_plus_one x h = linear_le (x ∷ []) (le h ∷ []) (search reading_of) tt
+
+-- ---- a slack s that changes at c: if it is below 0 at first and at most 0 at y, it is below 0 at d between
+pub below_between : (s c d y : ℚ) → s <ℚ 0ℚ → 0ℚ ≤ℚ d → d <ℚ y → s +ℚ y *ℚ c ≤ℚ 0ℚ → s +ℚ d *ℚ c <ℚ 0ℚ
+below_between s c d y h i j k = ⊎_elim
+    (λ (l : s +ℚ d *ℚ c <ℚ 0ℚ). l)
+    (λ (l : 0ℚ ≤ℚ s +ℚ d *ℚ c).
+    let y_nn : 0ℚ ≤ℚ y = ≤ℚ_trans _ _ _ i (≤ℚ_of_lt _ _ j) in
+    let below : 0ℚ <ℚ 0ℚ -ℚ s = linear_lt (s ∷ []) (lt h ∷ []) (search reading_of) tt in
+    let some : 0ℚ <ℚ (y -ℚ d) *ℚ (0ℚ -ℚ s) = ps_times (y -ℚ d) (0ℚ -ℚ s) (less_ps d y j) below in
+    absurd (linear_false (s ∷ c ∷ d ∷ y ∷ []) (le_times y_nn l ∷ le_times i k ∷ lt some ∷ []) (search reading_of) tt))
+    (lt_or_le_ℚ (s +ℚ d *ℚ c) 0ℚ)
+
+pub above_between : (s c d y : ℚ) → 0ℚ <ℚ s → 0ℚ ≤ℚ d → d <ℚ y → 0ℚ ≤ℚ s +ℚ y *ℚ c → 0ℚ <ℚ s +ℚ d *ℚ c
+above_between s c d y h i j k =
+    let below : 0ℚ -ℚ s <ℚ 0ℚ = linear_lt (s ∷ []) (lt h ∷ []) (search reading_of) tt in
+    let under : (0ℚ -ℚ s) +ℚ y *ℚ (0ℚ -ℚ c) ≤ℚ 0ℚ = linear_le (s ∷ c ∷ y ∷ []) (le k ∷ []) (search reading_of) tt in
+    let m : (0ℚ -ℚ s) +ℚ d *ℚ (0ℚ -ℚ c) <ℚ 0ℚ = below_between (0ℚ -ℚ s) (0ℚ -ℚ c) d y below i j under in
+    linear_lt (s ∷ c ∷ d ∷ []) (lt m ∷ []) (search reading_of) tt

@@ -8,8 +8,8 @@ pub mod Field
 pub mod Order
 pub mod Signs
 pub mod Linear
-pub mod Facts
 pub mod Chains
+pub mod Facts
 pub mod Quotient
 pub mod Tests
 pub mod Samples

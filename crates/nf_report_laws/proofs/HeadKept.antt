@@ -21,10 +21,11 @@ use Rattle.nf_report_laws.proofs.NumbersBack.{number_is}
 use Rattle.nf_report_laws.proofs.CausesBack.{cause_is}
 use Rattle.nf_report_laws.proofs.ReportShape.{head_lines}
 use Rattle.nf_report_laws.proofs.ReportSteps.{next_of, Reads}
-use Rattle.nf_report_laws.proofs.ReportBack.{same_test, same_of_test, after_head}
+use Rattle.nf_report_laws.proofs.ReportBack.{after_head}
 use Rattle.nf_report_laws.proofs.BodyKept.{in_stage}
 use Rattle.std.proofs.lemmas.Bool.{and_parts, or_parts}
 use Rattle.nf_rational_laws.proofs.Results.{same_Ok}
+use Rattle.nf_rational_laws.proofs.SignTests.{test_of_same, same_of_test}
 
 -- ---- the words of each line
 version_is : (n : Named) (words : List (List ℕ)) → is_version n words ≡ true → words ≡ codes "report" ∷ digits_of n.version ∷ []
@@ -86,7 +87,7 @@ reached_is draft words next e =
 
 stop_is : (stop : Option (Cause ℚ)) (reached horizon : ℚ) → are_alike (is_none stop) (is_same reached horizon) ≡ true → (stop ≡ None) ↔ (reached ≡ horizon)
 stop_is None reached horizon e = (λ _. same_of_test reached horizon e, λ _. refl)
-stop_is (Some cause) reached horizon e = (λ none. absurd (cc), λ same. absurd (no (is_same reached horizon) e (same_test reached horizon same)))
+stop_is (Some cause) reached horizon e = (λ none. absurd (cc), λ same. absurd (no (is_same reached horizon) e (test_of_same reached horizon same)))
   where
     no : (b : Bool) → not b ≡ true → b ≡ true → ⊥
     no true e f = absurd (cc)

@@ -21,33 +21,11 @@ use Rattle.nf_thin_def.specs.PhaseRun.{Standing}
 use Rattle.nf_phase_laws.proofs.Length.{Lasts-some}
 use Rattle.nf_resume_def.specs.Open.{IsOpen}
 use Rattle.nf_rational_laws.proofs.Chains.{≤ℚ_refl, ≤ℚ_trans}
-use Rattle.nf_rational_laws.proofs.Facts.{back_and_forth}
+use Rattle.nf_rational_laws.proofs.Facts.{back_and_forth, below_between, above_between}
 
 -- ---- over plain numbers: a slack s that changes at c, d and w lengths
 on_line : (s c d w z : ℚ) → z ≡ s +ℚ d *ℚ c → s +ℚ (d +ℚ w) *ℚ c ≡ z +ℚ w *ℚ c
 on_line s c d w z e = linear_eq (s ∷ c ∷ d ∷ w ∷ z ∷ []) (eq e ∷ []) (search reading_of) tt tt
-
--- A line that is below 0 at first and at most 0 later is below 0 between.
-below_between : (s c d y : ℚ) → s <ℚ 0ℚ → 0ℚ ≤ℚ d → d <ℚ y → s +ℚ y *ℚ c ≤ℚ 0ℚ → s +ℚ d *ℚ c <ℚ 0ℚ
-below_between s c d y h i j k = ⊎_elim
-    (λ (l : c <ℚ 0ℚ). linear_lt (s ∷ c ∷ d ∷ []) (lt h ∷ le_times i (≤ℚ_of_lt _ _ l) ∷ []) (search reading_of) tt)
-    (λ (l : 0ℚ ≤ℚ c). ⊎_elim
-    (λ (m : 0ℚ <ℚ c). ⊎_elim
-    (λ (n : s +ℚ d *ℚ c <ℚ 0ℚ). n)
-    (λ (n : 0ℚ ≤ℚ s +ℚ d *ℚ c). absurd (too_far m n))
-    (lt_or_le_ℚ (s +ℚ d *ℚ c) 0ℚ))
-    (λ (m : c ≤ℚ 0ℚ). linear_lt (s ∷ c ∷ d ∷ []) (lt h ∷ le_times i m ∷ []) (search reading_of) tt)
-    (lt_or_le_ℚ 0ℚ c))
-    (lt_or_le_ℚ c 0ℚ)
-  where
-    too_far : 0ℚ <ℚ c → 0ℚ ≤ℚ s +ℚ d *ℚ c → ⊥
-    too_far m n = not_both_ℚ _ _ (Rattle.nf_model_laws.proofs.Affine.ps-times_gap c d y m j) (linear_le (s ∷ c ∷ d ∷ y ∷ []) (le n ∷ le k ∷ []) (search reading_of) tt)
-
-above_between : (s c d y : ℚ) → 0ℚ <ℚ s → 0ℚ ≤ℚ d → d <ℚ y → 0ℚ ≤ℚ s +ℚ y *ℚ c → 0ℚ <ℚ s +ℚ d *ℚ c
-above_between s c d y h i j k =
-    let m : (0ℚ -ℚ s) +ℚ d *ℚ (0ℚ -ℚ c) <ℚ 0ℚ = below_between (0ℚ -ℚ s) (0ℚ -ℚ c) d y (linear_lt (s ∷ []) (lt h ∷ []) (search reading_of) tt) i j
-    (linear_le (s ∷ c ∷ y ∷ []) (le k ∷ []) (search reading_of) tt) in
-    linear_lt (s ∷ c ∷ d ∷ []) (lt m ∷ []) (search reading_of) tt
 
 falls_on : (s c d w z : ℚ) → z ≡ s +ℚ d *ℚ c → s ≡ 0ℚ → z <ℚ 0ℚ → 0ℚ ≤ℚ d → 0ℚ ≤ℚ w → z +ℚ w *ℚ c ≤ℚ 0ℚ
 falls_on s c d w z e f h i j = ⊎_elim

@@ -1,18 +1,18 @@
 -- Any equilibrium satisfies the invariant of phases up to the departure that it reached.
-use Rattle.std.proofs.Common.{◌≡◌, ℕ, ◌<◌, List, [], ◌∷◌, ⊎_elim, Option, Some, None, sym, ap, subst, refl, ◌∙◌}
+use Rattle.std.proofs.Common.{◌≡◌, ℕ, ◌<◌, [], ◌∷◌, ⊎_elim, Option, Some, None, sym, ap, subst, refl, ◌∙◌}
 use Rattle.nf_rational.specs.Rational.{ℚ}
 use Rattle.nf_rational.specs.Operations.{0ℚ, ◌+ℚ◌, ◌-ℚ◌, ◌*ℚ◌, ◌/ℚ◌}
 use Rattle.nf_rational.specs.Order.{◌≤ℚ◌, ◌<ℚ◌, max_ℚ}
 use Rattle.nf_rational_laws.proofs.Polynomial.{reading_of}
 use Rattle.nf_rational_laws.proofs.Order.{≤ℚ_of_lt, ≤ℚ_antisymm, lt_or_le_ℚ, not_both_ℚ, less_nn}
 use Rattle.nf_rational_laws.proofs.Linear.{le, lt, eq, eq_times, linear_le, linear_lt, linear_eq}
-use Rattle.nf_model.specs.Curve.{Within, value, IsCurve}
+use Rattle.nf_model.specs.Curve.{Within}
 use Rattle.nf_model.specs.Network.{Link, Network, IsNetwork, IsLink, sum_in, sum_out, supply}
 use Rattle.nf_model.specs.Queue.{IsQueue, IsExit, IsOutflow, waiting}
 use Rattle.nf_model.specs.Equilibrium.{Flow, label, inflow, outflow, queue, points_at, Balances, Equilibrium}
 use Rattle.nf_model_laws.specs.Capacity.{IsPositive}
 use Rattle.nf_model_laws.proofs.Affine.{nn-quotient, quotient-times, same_from_times}
-use Rattle.nf_model_laws.proofs.Curves.{value-takes, value-first}
+use Rattle.nf_model_laws.proofs.Curves.{value-takes_between}
 use Rattle.nf_model_laws.proofs.Queues.{IsQueue-none, IsQueue-nn, IsQueue-unique, IsQueue-from_IsOutflow, IsOutflow-unique, IsExit-after}
 use Rattle.nf_model_laws.proofs.Earliest.{IsPositive-link}
 use Rattle.nf_model_laws.proofs.Sums.{sum_in-same, sum_out-same}
@@ -58,14 +58,6 @@ more_in s u t e = linear_eq (s ∷ u ∷ t ∷ []) (eq e ∷ []) (search reading
 
 more_out : (s u t : ℚ) → s +ℚ 0ℚ ≡ t +ℚ u → s ≡ t +ℚ u
 more_out s u t e = linear_eq (s ∷ u ∷ t ∷ []) (eq e ∷ []) (search reading_of) tt tt
-
--- A curve attains each value between two of its values.
-takes : (points : List (ℚ × ℚ)) (last y : ℚ) → IsCurve points → 0ℚ ≤ℚ last → value points 0ℚ ≤ℚ y → y ≤ℚ value points last → (u : ℚ) × Within 0ℚ last u × (value points u ≡ y)
-takes [] last y c h i j = absurd c
-takes (p ∷ rest) last y c h i j =
-    let w : (u : ℚ) × (p.0 ≤ℚ u) × (u ≤ℚ last) × (value (p ∷ rest) u ≡ y) = value-takes p rest last y c.1 (subst (λ (z : ℚ). z ≤ℚ last) (sym c.0) h)
-    (subst (λ (z : ℚ). z ≤ℚ y) (ap (value (p ∷ rest)) (sym c.0) ∙ value-first p rest c.1) i) j in
-    (w.0, (subst (λ (z : ℚ). z ≤ℚ w.0) c.0 w.1, w.2), w.3)
 
 module _ (net : Network) (flow : Flow) (good : IsNetwork net) (is : Equilibrium net flow) where
   abbrev F : ℕ → ℚ → ℚ
@@ -176,7 +168,7 @@ module _ (net : Network) (flow : Flow) (good : IsNetwork net) (is : Equilibrium 
     begun = is.reached;
     source = source-at net flow good is;
     label_rises = label-order net flow good is;
-    label_takes = λ v time h i j. takes (points_at flow.labels v) flow.reached time (is.shape.labels.each v h) is.reached i j;
+    label_takes = λ v time h i j. value-takes_between (points_at flow.labels v) flow.reached time (is.shape.labels.each v h) is.reached i j;
     label_not_negative = λ v h. label-nn net flow good is v 0ℚ h (first net flow good is);
     amount_rises = is.nash.rises;
     amount_starts = is.nash.starts;

@@ -5,6 +5,7 @@ use Rattle.std.proofs.lemmas.Option.{same_Some}
 use Rattle.nf_rational.specs.Rational.{ℚ}
 use Rattle.nf_frac_def.specs.Passing.{Passing}
 use Rattle.nf_frac_def.specs.Checked.{each}
+use Rattle.nf_frac_def.proofs.Each.{each_length}
 use Rattle.nf_model.specs.Curve.{Point}
 use Rattle.nf_model.specs.Network.{Network, IsNetwork}
 use Rattle.nf_model.specs.Pattern.{Pattern}
@@ -18,7 +19,7 @@ use Rattle.nf_phase_laws.proofs.CurveRun.{Grown}
 use Rattle.nf_phase_laws.proofs.Points.{EndsWithSlope, LastSlope}
 use Rattle.nf_phase_laws.proofs.WellRun.{WellRun}
 use Rattle.nf_resume_def.specs.Restoring.{value_at_end, link_curves_of, standing_of, last_slope, growing}
-use Rattle.nf_resume_laws.proofs.CutFlow.{each_length, IsCutFlow}
+use Rattle.nf_resume_laws.proofs.CutFlow.{IsCutFlow}
 use Rattle.nf_resume_laws.proofs.Restarted.{Grown-cut}
 use Rattle.nf_rational_laws.proofs.Results.{same_Ok}
 use Rattle.nf_rational_laws.proofs.Entries.{slice_get-image}

@@ -8,6 +8,7 @@ use Rattle.nf_rational_laws.proofs.Polynomial.{reading_of}
 use Rattle.nf_rational_laws.proofs.Order.{≤ℚ_of_lt, ≤ℚ_of_same, ≤ℚ_antisymm, lt_or_le_ℚ, not_both_ℚ, less_nn}
 use Rattle.nf_rational_laws.proofs.Linear.{eq, eq_times, le_times, linear_le, linear_eq}
 use Rattle.nf_rational_laws.proofs.Facts.{gap_np}
+use Rattle.nf_rational_laws.proofs.Entries.{entry}
 use Rattle.nf_model.specs.declared.State.{State}
 use Rattle.nf_model.specs.declared.State.TheVariants.{Tight, Full, Zero}
 use Rattle.nf_model.specs.Entries.{number_at, Has}
@@ -18,7 +19,6 @@ use Rattle.nf_model.specs.Pattern.{Pattern, HasState, NeedsState, IsTrail, IsLis
 use Rattle.nf_model_laws.proofs.Networks.{by_link, hop_at}
 use Rattle.nf_model_laws.proofs.Slacks.{active_of_slack, slack_of_active, resetting_of_slack, slack_of_resetting}
 use Rattle.nf_thin_def.specs.CurveList.{is_filled}
-use Rattle.nf_resume_laws.proofs.CutFlow.{entry_within}
 
 -- ---- the state of a link in the remainder: o before and b after; r and t say whether it is resetting before and after
 pub data GoesOn (r t : Bool) : Option State → Option State → Type 0 where
@@ -170,10 +170,10 @@ module _ (net : Network) (good : IsNetwork net) (labels labels' slopes flows : L
         (lt_or_le_ℚ (slack labels (hop_of link)) 0ℚ)
 
   entry_before : (e : ℕ) (link : Link) → IsLink net e link → (o : Option State) × (slice_get pattern e ≡ Some o)
-  entry_before e link p = entry_within pattern e (let h = slice_get_within net.links e link p in let c = same_count in omega arith)
+  entry_before e link p = entry pattern e (let h = slice_get_within net.links e link p in let c = same_count in omega arith)
 
   entry_after : (e : ℕ) (link : Link) → IsLink net e link → (b : Option State) × (slice_get base e ≡ Some b)
-  entry_after e link p = entry_within base e (let h = slice_get_within net.links e link p in let c = count in omega arith)
+  entry_after e link p = entry base e (let h = slice_get_within net.links e link p in let c = count in omega arith)
 
   -- ---- the same solutions
   -- The equations of the nodes are those of any pattern.
@@ -204,7 +204,7 @@ module _ (net : Network) (good : IsNetwork net) (labels labels' slopes flows : L
 
   -- ---- the pattern is listed: its states are states of the pattern
   link_of : (e : ℕ) (state : State) → HasState base e state → (link : Link) × IsLink net e link
-  link_of e state h = entry_within net.links e (let k = slice_get_within base e (Some state) h in let c = count in omega arith)
+  link_of e state h = entry net.links e (let k = slice_get_within base e (Some state) h in let c = count in omega arith)
 
   from_pattern : (e : ℕ) (state : State) → HasState base e state → HasState pattern e state
   from_pattern e state h =

@@ -9,17 +9,18 @@ use Rattle.nf_rational.specs.Operations.{0ℚ, ◌+ℚ◌}
 use Rattle.nf_rational.specs.Order.{◌≤ℚ◌, ◌<ℚ◌}
 use Rattle.nf_rational_laws.proofs.Polynomial.{reading_of}
 use Rattle.nf_rational_laws.proofs.Order.{≤ℚ_of_lt, ≤ℚ_antisymm, lt_or_le_ℚ}
-use Rattle.nf_rational_laws.proofs.Linear.{le, eq, linear_le, linear_eq}
-use Rattle.nf_model.specs.Curve.{Within, NeverFalls, value, IsCurve}
+use Rattle.nf_rational_laws.proofs.Linear.{eq, linear_eq}
+use Rattle.nf_model.specs.Curve.{Within, NeverFalls, value}
 use Rattle.nf_model.specs.Entries.{number_at}
 use Rattle.nf_model.specs.Walk.{IsWalk}
 use Rattle.nf_model.specs.Network.{Link, Network, IsNetwork, IsLink, hops, supplied}
 use Rattle.nf_model.specs.Queue.{IsExit, IsOutflow}
-use Rattle.nf_model_laws.proofs.Curves.{value-takes, value-first}
+use Rattle.nf_model_laws.proofs.Curves.{value-takes_between}
 use Rattle.nf_model_laws.proofs.Earliest.{IsPositive-link}
 use Rattle.nf_model_laws.proofs.Exits.{IsOutflow-at_exit, IsExit-at_0}
 use Rattle.nf_model_laws.proofs.Networks.{link_at}
 use Rattle.nf_model_laws.proofs.Queues.{IsExit-after, IsExit-monotone, IsOutflow-early}
+use Rattle.nf_model_laws.proofs.Sums.{if_same, if_order}
 use Rattle.nf_routes_def.specs.Routes.{Route, AreRoutes}
 use Rattle.nf_routes_def.specs.RoutesList.{Routed}
 use Rattle.nf_routes_def.specs.Meanings.{link_loaded, exit_by, stages_at, arrival_at, travel_at, sent_by, sent_along, sent_by_routes, inflow_by, exits_along, IsRouted, RoutesArrive}
@@ -27,14 +28,6 @@ use Rattle.nf_rational_laws.proofs.Chains.{≤ℚ_refl, ≤ℚ_trans}
 use Rattle.nf_rational_laws.proofs.Facts.{sum_le, same_sums, both_are_zero, first_of_sum}
 
 -- ---- sums over routes and positions
-if_same : (b : Bool) (x y s t : ℚ) → (b ≡ true → x ≡ y) → s ≡ t → (if b then x +ℚ s else s) ≡ (if b then y +ℚ t else t)
-if_same true x y s t e f = let d = e refl in linear_eq (x ∷ y ∷ s ∷ t ∷ []) (eq d ∷ eq f ∷ []) (search reading_of) tt tt
-if_same false x y s t e f = f
-
-if_le : (b : Bool) (x y s t : ℚ) → (b ≡ true → x ≤ℚ y) → s ≤ℚ t → (if b then x +ℚ s else s) ≤ℚ (if b then y +ℚ t else t)
-if_le true x y s t e f = let d = e refl in linear_le (x ∷ y ∷ s ∷ t ∷ []) (le d ∷ le f ∷ []) (search reading_of) tt
-if_le false x y s t e f = f
-
 if_none : (b : Bool) (x s : ℚ) → (b ≡ true → x ≡ 0ℚ) → s ≡ 0ℚ → (if b then x +ℚ s else s) ≡ 0ℚ
 if_none true x s e f = let d = e refl in linear_eq (x ∷ s ∷ []) (eq d ∷ eq f ∷ []) (search reading_of) tt tt
 if_none false x s e f = f
@@ -45,7 +38,7 @@ along-same f g e (l ∷ links) h = if_same (eqb l e) (f 0) (g 0) _ _ (λ t. h 0 
 
 pub along-le : (f g : ℕ → ℚ) (e : ℕ) (links : List ℕ) → ((place : ℕ) → slice_get links place ≡ Some e → f place ≤ℚ g place) → sent_along f e links ≤ℚ sent_along g e links
 along-le f g e [] h = ≤ℚ_refl 0ℚ
-along-le f g e (l ∷ links) h = if_le (eqb l e) (f 0) (g 0) _ _ (λ t. h 0 (ap (λ (x : ℕ). Some x) (eqb-true l e t))) (along-le (λ p. f (suc p)) (λ p. g (suc p)) e links (λ p k. h (suc p) k))
+along-le f g e (l ∷ links) h = if_order (eqb l e) (f 0) (g 0) _ _ (λ t. h 0 (ap (λ (x : ℕ). Some x) (eqb-true l e t))) (along-le (λ p. f (suc p)) (λ p. g (suc p)) e links (λ p k. h (suc p) k))
 
 pub along-none : (f : ℕ → ℚ) (e : ℕ) (links : List ℕ) → ((place : ℕ) → slice_get links place ≡ Some e → f place ≡ 0ℚ) → sent_along f e links ≡ 0ℚ
 along-none f e [] h = refl
@@ -65,14 +58,6 @@ routes-le f g e (route ∷ routes) h = sum_le _ _ _ _ (along-le (f 0) (g 0) e ro
 pub routes-none : (f : ℕ → ℕ → ℚ) (e : ℕ) (routes : List Route) → Each routes e (λ r place. f r place ≡ 0ℚ) → sent_by_routes f e routes ≡ 0ℚ
 routes-none f e [] h = refl
 routes-none f e (route ∷ routes) h = both_are_zero _ _ (along-none (f 0) e route.links (λ p k. h 0 p route refl k)) (routes-none (λ r. f (suc r)) e routes (λ r p x k l. h (suc r) p x k l))
-
--- a curve takes each value between two that it has
-pub takes : (points : List (ℚ × ℚ)) (last y : ℚ) → IsCurve points → 0ℚ ≤ℚ last → value points 0ℚ ≤ℚ y → y ≤ℚ value points last → (u : ℚ) × Within 0ℚ last u × (value points u ≡ y)
-takes [] last y c h i j = absurd c
-takes (p ∷ rest) last y c h i j =
-    let w : (u : ℚ) × (p.0 ≤ℚ u) × (u ≤ℚ last) × (value (p ∷ rest) u ≡ y) = value-takes p rest last y c.1 (subst (λ (z : ℚ). z ≤ℚ last) (sym c.0) h)
-    (subst (λ (z : ℚ). z ≤ℚ y) (ap (value (p ∷ rest)) (sym c.0) ∙ value-first p rest c.1) i) j in
-    (w.0, (subst (λ (z : ℚ). z ≤ℚ w.0) c.0 w.1, w.2), w.3)
 
 none-beyond : {A : Type 0} (xs : List A) (i : ℕ) → length xs ≤ i → slice_get xs i ≡ None
 none-beyond [] zero h = refl
@@ -120,7 +105,7 @@ module _ (net : Network) (routes : List Route) (horizon : ℚ) (routed : Routed)
 
   -- each time between two exits is an exit
   entry_of : (e : ℕ) (link : Link) (z : ℚ) → IsLink net e link → X e 0ℚ ≤ℚ z → z ≤ℚ X e (E e) → (t : ℚ) × Within 0ℚ (E e) t × (X e t ≡ z)
-  entry_of e link z p h k = takes (link_loaded routed e).exit (E e) z (is.link_curves e (within e link p)).1.1 (E-nn e link p) h k
+  entry_of e link z p h k = value-takes_between (link_loaded routed e).exit (E e) z (is.link_curves e (within e link p)).1.1 (E-nn e link p) h k
 
   -- ---- one route
   module _ (r : ℕ) (route : Route) (here : slice_get routes r ≡ Some route) where

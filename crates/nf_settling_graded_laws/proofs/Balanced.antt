@@ -23,13 +23,11 @@ use Rattle.nf_complete_laws.proofs.Spare.{spare, HasSpare, spare_or_not, spare_o
 use Rattle.nf_complete_laws.proofs.Pushing.{pushed, in-pushed, spare-else, spare-head, spare-tail}
 use Rattle.nf_complete_laws.proofs.Growing.{IsPart, part_of}
 use Rattle.nf_complete_laws.proofs.Lowering.{sum_to-lt}
+use Rattle.nf_complete_laws.proofs.Balanced.{no_spare}
 use Rattle.nf_settling_graded_laws.proofs.Supplies.{IsOpen, open_or_not, IsSupply, flow_open, spare_comes, IsSupply-pushed}
 use Rattle.nf_settling_graded_laws.proofs.Lifting.{Grown, grow}
 use Rattle.nf_settling_graded_laws.proofs.Lowers.{lower}
 use Rattle.nf_settling_graded_laws.proofs.Leasts.{IsLeast, least_supply}
-
-no_spare : (i o d : ℚ) → 0ℚ ≤ℚ i -ℚ (o +ℚ d) → i -ℚ (o +ℚ d) ≤ℚ 0ℚ → o -ℚ i ≡ 0ℚ -ℚ d
-no_spare i o d h k = linear_eq (i ∷ o ∷ d ∷ []) (le h ∷ le k ∷ []) (search reading_of) tt tt
 
 -- A static flow that fits the levels, for these capacities.
 pub record IsGradedBy (net : Network) (cap : Link → Option ℚ) (rate : ℚ) (flows levels : ℕ → ℚ) : Type 0 where

@@ -9,11 +9,11 @@ use Rattle.nf_rational_laws.proofs.Order.{≤ℚ_antisymm, lt_or_le_ℚ, not_bot
 use Rattle.nf_rational_laws.proofs.Results.{not_both}
 use Rattle.nf_rational_laws.proofs.Tests.{less_of_test, not_less_of_test}
 use Rattle.nf_rational_laws.proofs.Linear.{le, lt, linear_lt}
+use Rattle.nf_rational_laws.proofs.Chains.{<_≤_trans}
 use Rattle.nf_model.specs.Entries.{number_at, Has}
 use Rattle.nf_model.specs.Network.{Link, Network, IsNetwork, IsLink}
 use Rattle.nf_model.specs.ThinFlow.{Sets, IsThinFlow}
 use Rattle.nf_model_laws.specs.Capacity.{IsPositive}
-use Rattle.nf_model_laws.proofs.Affine.{<_≤_trans}
 use Rattle.nf_model_laws.proofs.Earliest.{IsPositive-link}
 use Rattle.nf_thin_laws.specs.ActiveLinks.{AreSets, HoldNoCycle}
 use Rattle.nf_thin_laws.proofs.Flags.{flag, flag-cases}

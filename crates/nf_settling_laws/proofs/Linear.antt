@@ -7,7 +7,7 @@ use Rattle.nf_rational.specs.Operations.{0ℚ, 1ℚ, ◌+ℚ◌, ◌-ℚ◌, ◌
 use Rattle.nf_rational.specs.Order.{◌≤ℚ◌, ◌<ℚ◌, max_ℚ}
 use Rattle.nf_rational_laws.proofs.Polynomial.{reading_of}
 use Rattle.nf_rational_laws.proofs.Order.{≤ℚ_of_lt, lt_or_le_ℚ, less_ps, not_both_ℚ}
-use Rattle.nf_rational_laws.proofs.Chains.{≤ℚ_refl, ≤ℚ_trans}
+use Rattle.nf_rational_laws.proofs.Chains.{≤ℚ_refl, ≤ℚ_trans, <_≤_trans}
 use Rattle.nf_rational_laws.proofs.Entries.{entry, same_entries}
 use Rattle.nf_rational_laws.proofs.Extremes.{max_left, max_right}
 use Rattle.nf_rational_laws.proofs.Linear.{le, lt, eq, le_times, linear_le, linear_lt, linear_eq}
@@ -15,7 +15,7 @@ use Rattle.nf_model.specs.Entries.{number_at}
 use Rattle.nf_model.specs.Network.{Link, Network, IsNetwork, IsLink, hop_of, rate_at}
 use Rattle.nf_model.specs.ThinFlow.{slack, sets_at}
 use Rattle.nf_model.specs.Equilibrium.{Flow, label, Equilibrium}
-use Rattle.nf_model_laws.proofs.Affine.{<_≤_trans, quotient-times, same_from_times}
+use Rattle.nf_model_laws.proofs.Affine.{quotient-times, same_from_times}
 use Rattle.nf_model_laws.proofs.Slacks.{active_of_slack, slack_of_resetting}
 use Rattle.nf_phase_laws.specs.Invariant.{link_slack}
 use Rattle.nf_thin_laws.proofs.ActiveLinks.{HoldNoCycle-sets_at}

@@ -32,7 +32,6 @@ exit_resetting (Some c) x s t positive f = quotient_is x c t (positive c refl) (
 
 pub exit_full : (capacity : Option ℚ) (x s t : ℚ) → IsPositive capacity → Fills capacity x t → s ≤ℚ t → exit_slope false capacity x s ≡ t
 exit_full None x s t positive f h = absurd (none-some f.0 f.1)
-
 exit_full (Some c) x s t positive f h =
     let q : x /ℚ c ≡ t = exit_resetting (Some c) x s t positive f in
     ap (max_ℚ s) q ∙ max_is_right s t h

@@ -21,15 +21,9 @@ use Rattle.nf_model_laws.proofs.Networks.{hop_at, IsLink-unique}
 use Rattle.nf_model_laws.proofs.Sums.{sum_in-same, sum_out-same, sum_in-none, sum_out-none, sum_in-line, sum_in-order, sum_out-order, sum_in-each, sum_out-each}
 use Rattle.nf_model_laws.proofs.Potential.{out_less_in}
 use Rattle.nf_model_laws.proofs.Ways.{distinct_more, distinct_none}
-use Rattle.nf_model_laws.proofs.Contained.{contains_none, contains_cases, not_any}
+use Rattle.nf_model_laws.proofs.Contained.{contains_none, contains_cases, not_any, contains_more, contains_first}
 
 -- ---- elements of lists
-contains_more : (y : ℕ) (ys : List ℕ) (x : ℕ) → Contains ys x → Contains (y ∷ ys) x
-contains_more y ys x (k, h, e) = (suc k, omega arith, e)
-
-contains_first : (y : ℕ) (ys : List ℕ) (x : ℕ) → y ≡ x → Contains (y ∷ ys) x
-contains_first y ys x e = (zero, omega arith, e)
-
 IsDistinct-differ : (xs : List ℕ) → AllDiffer xs → IsDistinct eqb xs
 IsDistinct-differ [] a = distinct_none
 IsDistinct-differ (x ∷ xs) a = distinct_more x xs (not_any x xs a.0) (IsDistinct-differ xs a.1)

@@ -10,7 +10,7 @@ use Rattle.nf_rational_laws.proofs.Polynomial.{reading_of}
 use Rattle.nf_rational_laws.proofs.Order.{≤ℚ_of_lt, ≤ℚ_of_same, ≤ℚ_antisymm, lt_or_le_ℚ, less_ps, not_both_ℚ, less_nn}
 use Rattle.nf_rational_laws.proofs.Tests.{le_ℚ_cases}
 use Rattle.nf_rational_laws.proofs.Linear.{lt, eq, eq_times, linear_lt, linear_eq}
-use Rattle.nf_rational_laws.proofs.Chains.{≤ℚ_refl, ≤ℚ_trans, <ℚ_trans}
+use Rattle.nf_rational_laws.proofs.Chains.{≤ℚ_refl, ≤ℚ_trans, <ℚ_trans, <_≤_trans}
 use Rattle.nf_model.specs.Entries.{number_at}
 use Rattle.nf_model.specs.Curve.{Within}
 use Rattle.nf_model.specs.Network.{Piece, Network, IsNetwork, IsPiece, hops, rate_at, rate_from}
@@ -18,7 +18,7 @@ use Rattle.nf_model.specs.ThinFlow.{slacks_of, sets_at, IsThinFlow}
 use Rattle.nf_model.specs.Phases.{AreStartLabels, Lasts, moved, IsPhase, PhasesFrom, IsPhaseSequence}
 use Rattle.nf_model.specs.Equilibrium.{Flow, label, inflow, points_at, Equilibrium}
 use Rattle.nf_model_laws.specs.Affine.{IsAffine}
-use Rattle.nf_model_laws.proofs.Affine.{<_≤_trans, same_from_times}
+use Rattle.nf_model_laws.proofs.Affine.{same_from_times}
 use Rattle.nf_model_laws.proofs.OneValue.{IsLeastTransit-unique}
 use Rattle.nf_model_laws.proofs.Slacks.{moved-at, length-moved}
 use Rattle.nf_curve_laws.proofs.Turning.{affine_between}

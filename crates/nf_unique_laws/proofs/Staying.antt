@@ -9,7 +9,7 @@ use Rattle.nf_rational_laws.proofs.Polynomial.{reading_of}
 use Rattle.nf_rational_laws.proofs.Order.{≤ℚ_of_lt, ≤ℚ_antisymm, lt_or_le_ℚ, not_both_ℚ}
 use Rattle.nf_rational_laws.proofs.Linear.{le, lt, eq, le_times, linear_le, linear_false}
 use Rattle.nf_rational_laws.proofs.Chains.{≤ℚ_refl}
-use Rattle.nf_rational_laws.proofs.Facts.{lt_of_gap}
+use Rattle.nf_rational_laws.proofs.Facts.{lt_of_gap, below_between, above_between}
 use Rattle.nf_model.specs.Entries.{number_at, Has}
 use Rattle.nf_model.specs.Network.{Link, Network, IsNetwork, IsLink, hops, hop_of}
 use Rattle.nf_model.specs.ThinFlow.{Sets, slack, slacks_of, sets_at, Enters, exit_slope, exit_slope_at, IsThinFlow}
@@ -20,7 +20,7 @@ use Rattle.nf_phase_laws.proofs.Thin.{exit_slope-tail}
 use Rattle.nf_thin_laws.proofs.ActiveLinks.{AreSets-sets_at, HoldNoCycle-sets_at}
 use Rattle.nf_thin_laws.proofs.Flags.{flag, flag-cases}
 use Rattle.nf_thin_laws.proofs.Slopes.{NoneEntersSource-thin}
-use Rattle.nf_unique_laws.proofs.Sides.{below_between, above_between, reset_least, reset_equal}
+use Rattle.nf_unique_laws.proofs.Sides.{reset_least, reset_equal}
 
 -- ---- a slack z, at first 0, that changes at c is w later
 gets_above : (z c d w : ℚ) → w ≡ z +ℚ d *ℚ c → 0ℚ <ℚ w → z ≤ℚ 0ℚ → 0ℚ ≤ℚ d → 0ℚ <ℚ c
