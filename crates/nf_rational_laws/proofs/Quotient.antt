@@ -11,7 +11,6 @@ use Rattle.nf_rational.specs.Order.{◌<ℚ◌}
 use Rattle.nf_rational_laws.proofs.Ratio.{Is-self, Is-same, Is-times, Is-whole, Is-ratio}
 use Rattle.nf_rational_laws.proofs.Field.{rationals}
 use Rattle.nf_rational_laws.proofs.Order.{ps_in, ps_out, <ℚ_irrefl}
-use Rattle.nf_rational_laws.proofs.Linear.{lt}
 
 -- ---- one over x
 pub abs_positive : (n : ℤ) → n ≢ pos 0 → 0 < nat_abs n

@@ -1,10 +1,10 @@
 -- A slack that moves towards 0 changes, and a number above 0 is not 0.
-use Rattle.std.proofs.Common.{◌≡◌, ◌≢◌, ⊎_elim, Bool, true, false, ◌&&◌, sym, ap, refl, ◌∙◌}
+use Rattle.std.proofs.Common.{◌≡◌, ◌≢◌, Bool, true, false, ◌&&◌, sym, ap, refl, ◌∙◌}
 use Rattle.std.proofs.lemmas.Bool.{and_parts, and_from}
 use Rattle.std.specs.Prelude.{◌||◌}
 use Rattle.nf_rational.specs.Rational.{ℚ}
 use Rattle.nf_rational.specs.Operations.{0ℚ}
-use Rattle.nf_rational.specs.Order.{◌≤ℚ◌, ◌<ℚ◌, le_ℚ, lt_ℚ}
+use Rattle.nf_rational.specs.Order.{le_ℚ, lt_ℚ}
 use Rattle.nf_rational_laws.proofs.Tests.{le_of_test, test_of_le, not_less_itself}
 use Rattle.nf_rational.specs.Signs.{is_positive, are_opposite, is_same}
 use Rattle.nf_rational_laws.proofs.Order.{≤ℚ_of_same, ≤ℚ_antisymm}

@@ -1,15 +1,13 @@
 -- If no operation of a sequence passes, its value is also that of the sequence in which fewer operations can pass.
 -- So it is the exact value: that of the sequence in which no operation can pass.
 use Rattle.std.proofs.Common.{◌≡◌, ℕ, zero, suc, ◌+◌, List, [], ◌∷◌, Bool, true, false, length, refl, sym, ap, ◌∙◌, arith}
-use Rattle.std.specs.Prelude.{◌==◌, ◌||◌, if◌then◌else◌, Option, Some, None, Result, Ok, Err, drop, map, slice_get, unwrap_or}
+use Rattle.std.specs.Prelude.{Option, Some, None, Ok, map, slice_get, unwrap_or}
 use Rattle.std.specs.List.{enumerate_from}
 use Rattle.nf_rational.specs.Rational.{ℚ}
 use Rattle.nf_rational.specs.Operations.{0ℚ, ◌+ℚ◌, ◌-ℚ◌, ◌*ℚ◌}
-use Rattle.nf_frac_def.specs.declared.Op.{Op}
 use Rattle.nf_frac_def.specs.declared.Op.TheVariants.{Sum, Difference, Product, Quotient}
-use Rattle.nf_frac_def.specs.declared.Passed.{Passed}
 use Rattle.nf_frac_def.specs.Passing.{Passing, never}
-use Rattle.nf_frac_def.specs.Checked.{Checked, checked, each, fold_checked, ◌>>=◌}
+use Rattle.nf_frac_def.specs.Checked.{Checked, checked, each, ◌>>=◌}
 use Rattle.nf_frac_def.proofs.Exact.{GivesAs, PassesFewer, bind, each_as, fold_as, same, same_value, one, none_passes, each_exact}
 use Rattle.nf_model.specs.declared.State.{State}
 use Rattle.nf_model.specs.declared.State.TheVariants.{Tight, Full, Zero}
