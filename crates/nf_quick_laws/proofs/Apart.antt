@@ -1,6 +1,7 @@
 -- The first of all residual walks visits no node twice, so it uses no link twice. Its prefixes are shortest walks. It doesn't leave its
 -- last node, nor return to its first one.
 use Rattle.std.proofs.Common.{◌≡◌, ◌≢◌, ℕ, ◌+◌, ◌<◌, ◌≤◌, List, [], ◌∷◌, ◌++◌, length, ◌⊎◌, inl, inr, ⊎_elim, Bool, true, false, sym, ap, subst, refl, ◌∙◌, append_assoc, arith}
+use Rattle.std.proofs.lemmas.List.{append-nil}
 use Rattle.nf_rational.specs.Rational.{ℚ}
 use Rattle.nf_rational.specs.Operations.{0ℚ, ◌+ℚ◌}
 use Rattle.nf_rational.specs.Order.{◌≤ℚ◌, ◌<ℚ◌}
@@ -132,7 +133,7 @@ module _ (net : Network) (flows : List ℚ) (from to : ℕ) (all : List Step) (c
     at_begin = front_least front (step ∷ rest) v split p (w, l, r);
     at_end = subst (λ (x : ℚ). IsLeastLength net flows from w x) (one_on _ _ _ (walk_length-append net front (step ∷ [])))
         (front_least (front ++ step ∷ []) rest w (one_more front step rest split) (front_more front step v w p l) r);
-    begin_other = λ e. no_return front (step ∷ rest) [] v (omega arith) (split ∙ ap (λ (x : List Step). front ++ x) (sym (append_none (step ∷ rest)))) p
+    begin_other = λ e. no_return front (step ∷ rest) [] v (omega arith) (split ∙ ap (λ (x : List Step). front ++ x) (sym (append-nil (step ∷ rest)))) p
         (w, l, subst (λ (k : ℕ). IsResidualWalk net flows rest w k) (sym e) r) e;
     end_other = λ e. no_return [] (front ++ step ∷ []) rest from (some_at front step) (one_more front step rest split) refl
         (subst (λ (k : ℕ). IsResidualWalk net flows (front ++ step ∷ []) from k) e (front_more front step v w p l))

@@ -11,6 +11,7 @@ use Rattle.nf_rational_laws.proofs.Chains.{≤ℚ_refl, ≤ℚ_trans, <_≤_tran
 use Rattle.nf_rational_laws.proofs.Entries.{entry, same_entries}
 use Rattle.nf_rational_laws.proofs.Extremes.{max_left, max_right}
 use Rattle.nf_rational_laws.proofs.Linear.{le, lt, eq, le_times, linear_le, linear_lt, linear_eq}
+use Rattle.nf_rational_laws.proofs.Facts.{gap_ng}
 use Rattle.nf_model.specs.Entries.{number_at}
 use Rattle.nf_model.specs.Network.{Link, Network, IsNetwork, IsLink, hop_of, rate_at}
 use Rattle.nf_model.specs.ThinFlow.{slack, sets_at}
@@ -171,7 +172,7 @@ module _ (net : Network) (good : IsNetwork net) (from : ℚ) (slopes : List ℚ)
         (lt_or_le_ℚ (slope link.tail) (slope link.head));
     resetting = λ e link p has. ⊎_elim
         (λ (down : slope link.head <ℚ slope link.tail). absurd (not_both_ℚ _ _ (slack_of_resetting net (labels_at net flow late) e link p has)
-        (subst (λ (z : ℚ). z ≤ℚ 0ℚ) (sym (slack_is e link p)) (≤ℚ_of_lt _ _ ((settled_at e link p).1 (falls _ _ down))))))
+        (subst (λ (z : ℚ). z ≤ℚ 0ℚ) (sym (slack_is e link p)) (≤ℚ_of_lt _ _ ((settled_at e link p).1 (gap_ng _ _ down))))))
         (λ (k : slope link.tail ≤ℚ slope link.head). k)
         (lt_or_le_ℚ (slope link.head) (slope link.tail));
   }

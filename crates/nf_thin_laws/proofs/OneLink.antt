@@ -293,7 +293,7 @@ starts_at_once rate i piece p = by_piece rate (λ q. q.start ≡ 0ℚ) i piece p
 pub ArePieces-rate : (rate : ℚ) → 0ℚ ≤ℚ rate → ArePieces (at_rate rate [])
 ArePieces-rate rate n = record {
   starts = λ i piece p. ≤ℚ_of_same _ _ (sym (starts_at_once rate i piece p));
-  rise = λ i piece next p q. absurd (none next q);
+  rise = λ i piece next p q. absurd (none-some next q);
   rates = λ i piece p. by_piece rate (λ q. 0ℚ ≤ℚ q.rate) i piece p n;
 }
   where

@@ -33,7 +33,7 @@ FillBoth-of capacity x t y v positive f g = record {
   rate = f.0;
   positive = positive f.0 f.1;
   first = f.2;
-  second = g.2 ∙ ap (λ (z : ℚ). z *ℚ v) (same_rate g.0 f.0 (sym g.1 ∙ f.1));
+  second = g.2 ∙ ap (λ (z : ℚ). z *ℚ v) (same_Some g.0 f.0 (sym g.1 ∙ f.1));
 }
 
 -- The cases of a link in a pattern: it has a state, is resetting, or is neither active nor resetting.

@@ -6,7 +6,7 @@ use Rattle.nf_rational.specs.Order.{◌≤ℚ◌, ◌<ℚ◌}
 use Rattle.nf_rational_laws.proofs.Polynomial.{reading_of}
 use Rattle.nf_rational_laws.proofs.Order.{≤ℚ_of_lt, ≤ℚ_of_same, ≤ℚ_antisymm, lt_or_le_ℚ}
 use Rattle.nf_rational_laws.proofs.Linear.{le, lt, eq, le_times, linear_le, linear_eq}
-use Rattle.nf_rational_laws.proofs.Chains.{≤ℚ_refl, ≤ℚ_trans}
+use Rattle.nf_rational_laws.proofs.Chains.{≤ℚ_refl, ≤ℚ_trans, ≤_<_trans}
 use Rattle.nf_model.specs.Curve.{Within, IsLeast, NeverFalls}
 use Rattle.nf_model.specs.Queue.{IsOutflow}
 use Rattle.nf_model_laws.specs.Capacity.{IsPositive}
@@ -204,7 +204,7 @@ module _ (transit : ℚ) (capacity : Option ℚ) (amount : ℚ → ℚ) (tail_la
   -- and after it
   last-queue : (time : ℚ) → head_last ≤ℚ time → IsOutflow transit capacity entered time (amount tail_last)
   last-queue time h = record {
-    early = λ l. all_out.early (before head_last time transit h l);
+    early = λ l. all_out.early (≤_<_trans head_last time transit h l);
     unbounded = λ l none. sym (settled (time -ℚ transit) (since transit time l) (sooner transit head_last time h));
     bounded = λ rate l some.
         let k : 0ℚ ≤ℚ rate = ≤ℚ_of_lt _ _ (positive rate some) in
