@@ -91,10 +91,10 @@ queue_by_slack-steadily (Some c) s m l d below above = ⊎_elim
 
 -- ---- two lines that agree at both ends: y and w at the time t and at the end d, by the rate r; z and w by k
 on_rate : (v q a l t r x f : ℚ) → f ≡ v +ℚ r *ℚ ((a +ℚ l *ℚ t) -ℚ a) → v ≡ q → r *ℚ l ≡ x → f ≡ q +ℚ x *ℚ t
-on_rate v q a l t r x f e i g = linear_eq (v ∷ q ∷ a ∷ l ∷ t ∷ r ∷ x ∷ f ∷ []) (eq e ∷ eq i ∷ eq_times t g ∷ []) (search reading_of) tt tt
+on_rate v q a l t r x f e i g = linear_eq (v ∷ q ∷ a ∷ l ∷ t ∷ r ∷ x ∷ f ∷ []) (eq e ∷ eq i ∷ eq_times t g ∷ []) (search reading_of depth 12) tt tt
 
 same_rates : (r l k d q a w : ℚ) → 0ℚ <ℚ d → w ≡ q +ℚ r *ℚ ((a +ℚ l *ℚ d) -ℚ a) → w ≡ q +ℚ k *ℚ d → r *ℚ l ≡ k
-same_rates r l k d q a w h e f = same_from_times d _ _ h (linear_eq (r ∷ l ∷ k ∷ d ∷ q ∷ a ∷ w ∷ []) (eq e ∷ eq f ∷ []) (search reading_of) tt tt)
+same_rates r l k d q a w h e f = same_from_times d _ _ h (linear_eq (r ∷ l ∷ k ∷ d ∷ q ∷ a ∷ w ∷ []) (eq e ∷ eq f ∷ []) (search reading_of depth 12) tt tt)
 
 agree : (y z w v q a l t d r k : ℚ) → 0ℚ ≤ℚ t → t ≤ℚ d → v ≡ q → y ≡ v +ℚ r *ℚ ((a +ℚ l *ℚ t) -ℚ a) → w ≡ v +ℚ r *ℚ ((a +ℚ l *ℚ d) -ℚ a) → w ≡ q +ℚ k *ℚ d → z ≡ q +ℚ k *ℚ t → y ≡ z
 agree y z w v q a l t d r k h j i e f g o = ⊎_elim
@@ -105,7 +105,7 @@ agree y z w v q a l t d r k h j i e f g o = ⊎_elim
     (lt_or_le_ℚ 0ℚ d)
   where
     at_q : w ≡ v +ℚ r *ℚ ((a +ℚ l *ℚ d) -ℚ a) → w ≡ q +ℚ r *ℚ ((a +ℚ l *ℚ d) -ℚ a)
-    at_q e = linear_eq (w ∷ v ∷ q ∷ r ∷ a ∷ l ∷ d ∷ []) (eq e ∷ eq i ∷ []) (search reading_of) tt tt
+    at_q e = linear_eq (w ∷ v ∷ q ∷ r ∷ a ∷ l ∷ d ∷ []) (eq e ∷ eq i ∷ []) (search reading_of depth 12) tt tt
 
 past : (a l t : ℚ) → 0ℚ ≤ℚ l → 0ℚ ≤ℚ t → a ≤ℚ a +ℚ l *ℚ t
 past a l t h k = linear_le (a ∷ l ∷ t ∷ []) (le_times h k ∷ []) (search reading_of) tt

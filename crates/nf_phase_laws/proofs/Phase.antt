@@ -55,7 +55,7 @@ from_zero : (a l u : ℚ) → a +ℚ l *ℚ u ≡ a +ℚ l *ℚ (u -ℚ 0ℚ)
 from_zero a l u = linear_eq (a ∷ l ∷ u ∷ []) [] (search reading_of) tt tt
 
 on_the_line : (f v a l t r x y : ℚ) → f ≡ v +ℚ r *ℚ ((a +ℚ l *ℚ t) -ℚ a) → v ≡ y → r *ℚ l ≡ x → f ≡ y +ℚ x *ℚ t
-on_the_line f v a l t r x y e i g = linear_eq (f ∷ v ∷ a ∷ l ∷ t ∷ r ∷ x ∷ y ∷ []) (eq e ∷ eq i ∷ eq_times t g ∷ []) (search reading_of) tt tt
+on_the_line f v a l t r x y e i g = linear_eq (f ∷ v ∷ a ∷ l ∷ t ∷ r ∷ x ∷ y ∷ []) (eq e ∷ eq i ∷ eq_times t g ∷ []) (search reading_of depth 12) tt tt
 
 still_nn : (s m l t : ℚ) → 0ℚ ≤ℚ s → l ≤ℚ m → 0ℚ ≤ℚ t → 0ℚ ≤ℚ s +ℚ (m -ℚ l) *ℚ t
 still_nn s m l t h k j = linear_le (s ∷ m ∷ l ∷ t ∷ []) (le h ∷ le_times j k ∷ []) (search reading_of) tt

@@ -20,10 +20,10 @@ use Rattle.nf_rational_laws.proofs.Tests.{max0_none, max0_of}
 use Rattle.nf_rational_laws.proofs.Facts.{times_second_zero}
 
 queue_goal : (r c l x q t y : ℚ) → r *ℚ l ≡ x → y ≡ q +ℚ (x -ℚ c *ℚ l) *ℚ t → (a : ℚ) → y ≡ q +ℚ (r -ℚ c) *ℚ ((a +ℚ l *ℚ t) -ℚ a)
-queue_goal r c l x q t y e f a = linear_eq (r ∷ c ∷ l ∷ x ∷ q ∷ t ∷ y ∷ a ∷ []) (eq_times t e ∷ eq f ∷ []) (search reading_of) tt tt
+queue_goal r c l x q t y e f a = linear_eq (r ∷ c ∷ l ∷ x ∷ q ∷ t ∷ y ∷ a ∷ []) (eq_times t e ∷ eq f ∷ []) (search reading_of depth 12) tt tt
 
 queue_goal_le : (r c l x q t : ℚ) → r *ℚ l ≡ x → q +ℚ (x -ℚ c *ℚ l) *ℚ t ≤ℚ 0ℚ → (a : ℚ) → q +ℚ (r -ℚ c) *ℚ ((a +ℚ l *ℚ t) -ℚ a) ≤ℚ 0ℚ
-queue_goal_le r c l x q t e f a = linear_le (r ∷ c ∷ l ∷ x ∷ q ∷ t ∷ a ∷ []) (eq_times t e ∷ le f ∷ []) (search reading_of) tt
+queue_goal_le r c l x q t e f a = linear_le (r ∷ c ∷ l ∷ x ∷ q ∷ t ∷ a ∷ []) (eq_times t e ∷ le f ∷ []) (search reading_of depth 12) tt
 
 -- The queue q changes by x - c l and is c n, at least 0; or it is 0, and n is at most 0.
 data QueueCase (c l x q t n : ℚ) : Type 0 where

@@ -208,4 +208,4 @@ module _ (net : Network) (good : IsNetwork net) (rate : ℚ) (flows levels : ℕ
           → (ub -ℚ tb) -ℚ rate *ℚ (zb -ℚ yb) ≡ ((ua -ℚ ta) -ℚ rate *ℚ (za -ℚ ya)) +ℚ w *ℚ ((f -ℚ t) -ℚ rate *ℚ (z -ℚ y))
       joined ub ua f tb ta t zb za z yb ya y e g h i =
           linear_eq (ub ∷ ua ∷ f ∷ tb ∷ ta ∷ t ∷ zb ∷ za ∷ z ∷ yb ∷ ya ∷ y ∷ w ∷ rate ∷ []) (eq e ∷ eq g ∷ eq_times rate h ∷ eq_times rate i ∷ [])
-          (search reading_of) tt tt
+          (search reading_of depth 12) tt tt
