@@ -101,7 +101,7 @@ agree y z w v q a l t d r k h j i e f g o = ⊎_elim
     (λ (n : 0ℚ <ℚ d). on_rate v q a l t r k y e i (same_rates r l k d q a w n (at_q f) g) ∙ sym o)
     (λ (n : d ≤ℚ 0ℚ).
     let s : t ≡ 0ℚ = ≤ℚ_antisymm _ _ (≤ℚ_trans _ _ _ j n) h in
-    linear_eq (y ∷ z ∷ v ∷ q ∷ a ∷ l ∷ t ∷ r ∷ k ∷ []) (eq e ∷ eq i ∷ eq o ∷ eq_times (r *ℚ l) s ∷ eq_times k s ∷ []) (search reading_of) tt tt)
+    linear_eq (y ∷ z ∷ v ∷ q ∷ a ∷ l ∷ t ∷ r ∷ k ∷ []) (eq e ∷ eq i ∷ eq o ∷ eq_times (r *ℚ l) s ∷ eq_times k s ∷ []) (search reading_of depth 12) tt tt)
     (lt_or_le_ℚ 0ℚ d)
   where
     at_q : w ≡ v +ℚ r *ℚ ((a +ℚ l *ℚ d) -ℚ a) → w ≡ q +ℚ r *ℚ ((a +ℚ l *ℚ d) -ℚ a)
