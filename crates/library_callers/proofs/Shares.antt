@@ -8,7 +8,7 @@ use Rattle.nf_rational_laws.proofs.Polynomial.{reading_of}
 use Rattle.nf_rational_laws.proofs.Linear.{lt, eq, eq_times, linear_lt, linear_eq}
 use Rattle.nf_rational_laws.proofs.Quotient.{/ℚ-times, /ℚ-unique, ps_apart}
 use Rattle.nf_model.specs.Entries.{number_at}
-use Rattle.nf_thin_def.specs.Table.{row_at}
+use Rattle.nf_linear_def.specs.Table.{row_at}
 use Rattle.nf_linear_laws.specs.Solution.{left_side, Solves, IsOnlySolution}
 
 -- the two flows add to the rate, and the first times the second capacity is the second times the first

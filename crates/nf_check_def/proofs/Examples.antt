@@ -15,7 +15,8 @@ use Rattle.nf_frac_def.specs.declared.Op.TheVariants.{Sum, Quotient}
 use Rattle.nf_model.specs.Curve.{Point}
 use Rattle.nf_model.specs.Network.{Network, Piece}
 use Rattle.nf_model.specs.Equilibrium.{Trace, Flow}
-use Rattle.nf_thin_def.proofs.Examples.{n, L, in_127_bits, link, Parts, parts_of, i}
+use Rattle.nf_frac_def.proofs.Examples.{n, in_127_bits, Parts, parts_of}
+use Rattle.nf_thin_def.proofs.Examples.{L, link, i}
 use Rattle.nf_thin_def.proofs.Runs.{points_in, two_links}
 use Rattle.nf_curve_def.specs.Lines.{checked_slope, checked_line, checked_inverse, checked_cross}
 use Rattle.nf_curve_def.specs.Values.{checked_value, checked_cut}

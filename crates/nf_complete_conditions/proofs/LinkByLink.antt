@@ -9,7 +9,7 @@ use Rattle.nf_frac_def.specs.declared.PassedAt.{PassedAt}
 use Rattle.nf_frac_def.specs.Checked.{Checked, fold_checked, at_part}
 use Rattle.nf_model.specs.Network.{Link, Network, IsLink}
 use Rattle.nf_rational_laws.proofs.Entries.{entry}
-use Rattle.nf_thin_laws.proofs.Numbered.{part_ok}
+use Rattle.nf_frac_def.proofs.AtPart.{part_ok}
 use Rattle.nf_complete_conditions.proofs.Folds.{FoldsOn, folds_more, fold_stops, fold_ends}
 use Rattle.nf_complete_conditions.proofs.Telling.{numbered_at}
 

@@ -10,7 +10,8 @@ use Rattle.nf_frac_def.specs.declared.Op.{Op}
 use Rattle.nf_frac_def.specs.declared.Op.TheVariants.{Difference}
 use Rattle.nf_model.specs.Network.{Network}
 use Rattle.nf_model.specs.ThinFlow.{Sets}
-use Rattle.nf_thin_def.proofs.Examples.{n, L, in_127_bits, link, Parts, parts_of, i}
+use Rattle.nf_frac_def.proofs.Examples.{n, in_127_bits, Parts, parts_of}
+use Rattle.nf_thin_def.proofs.Examples.{L, link, i}
 use Rattle.nf_complete_def.specs.Cancelling.{fulls_list, cancel_list}
 use Rattle.nf_complete_def.specs.ThinList.{Sums, thin_list}
 

@@ -9,7 +9,8 @@ use Rattle.nf_frac_words.specs.Numbers.{parts_of as number_parts, number_of}
 use Rattle.nf_frac_words.specs.Printed.{printed, printed_parts}
 use Rattle.nf_model.specs.declared.State.TheVariants.{Tight, Zero}
 use Rattle.nf_net_def.specs.Named.{Named}
-use Rattle.nf_thin_def.proofs.Examples.{n, Parts, parts_of, i}
+use Rattle.nf_frac_def.proofs.Examples.{n, Parts, parts_of}
+use Rattle.nf_thin_def.proofs.Examples.{i}
 use Rattle.nf_complete_def.specs.declared.FlowsRule.{FlowsRule}
 use Rattle.nf_complete_def.specs.declared.FlowsRule.TheVariants.{S1, S3, S4, S5, S6, S7, S8, S9, S10, S11}
 use Rattle.nf_complete_def.specs.FlowsFile.{FlowsBroken, GivenFlows, flows_in}

@@ -5,6 +5,7 @@ use Rattle.nf_rational.specs.Operations.{0ℚ, ◌+ℚ◌, ◌-ℚ◌, ◌*ℚ�
 use Rattle.nf_rational.specs.Order.{◌≤ℚ◌}
 use Rattle.nf_rational_laws.proofs.Polynomial.{reading_of}
 use Rattle.nf_rational_laws.proofs.Linear.{le, eq, eq_times, linear_le, linear_eq}
+use Rattle.nf_rational_laws.proofs.Facts.{zero_plus}
 use Rattle.nf_model.specs.Network.{Link, sum_in, sum_out}
 use Rattle.nf_model_laws.proofs.Potential.{sum_to}
 use Rattle.nf_complete_laws.proofs.Turned.{turned, sum_in-turned}
@@ -16,20 +17,17 @@ pub record Affine (f : (ℕ → ℚ) → ℚ) : Type 0 where
   pub rest : ℚ
   pub is : (x : ℕ → ℚ) → f x ≡ form_value form x +ℚ rest
 
-constant_is : (a : ℚ) → a ≡ 0ℚ +ℚ a
-constant_is a = linear_eq (a ∷ []) [] (search reading_of depth 12) tt tt
-
 variable_is : (a b : ℚ) → b ≡ a → a ≡ b +ℚ 0ℚ
-variable_is a b e = linear_eq (a ∷ b ∷ []) (eq e ∷ []) (search reading_of depth 12) tt tt
+variable_is a b e = linear_eq (a ∷ b ∷ []) (eq e ∷ []) (search reading_of) tt tt
 
 plus_is : (f g a b r s m : ℚ) → f ≡ a +ℚ r → g ≡ b +ℚ s → m ≡ a +ℚ b → f +ℚ g ≡ m +ℚ (r +ℚ s)
-plus_is f g a b r s m d e h = linear_eq (f ∷ g ∷ a ∷ b ∷ r ∷ s ∷ m ∷ []) (eq d ∷ eq e ∷ eq h ∷ []) (search reading_of depth 12) tt tt
+plus_is f g a b r s m d e h = linear_eq (f ∷ g ∷ a ∷ b ∷ r ∷ s ∷ m ∷ []) (eq d ∷ eq e ∷ eq h ∷ []) (search reading_of) tt tt
 
 times_is : (c f a r m : ℚ) → f ≡ a +ℚ r → m ≡ c *ℚ a → c *ℚ f ≡ m +ℚ c *ℚ r
-times_is c f a r m d e = linear_eq (c ∷ f ∷ a ∷ r ∷ m ∷ []) (eq_times c d ∷ eq e ∷ []) (search reading_of depth 12) tt tt
+times_is c f a r m d e = linear_eq (c ∷ f ∷ a ∷ r ∷ m ∷ []) (eq_times c d ∷ eq e ∷ []) (search reading_of) tt tt
 
 pub Affine-constant : (a : ℚ) → Affine (λ x. a)
-Affine-constant a = record { form = []; rest = a; is = λ x. constant_is a }
+Affine-constant a = record { form = []; rest = a; is = λ x. zero_plus a }
 
 pub Affine-variable : (i : ℕ) → Affine (λ x. x i)
 Affine-variable i = record { form = variable i; rest = 0ℚ; is = λ x. variable_is (x i) _ (form_value-variable i x) }
@@ -54,13 +52,13 @@ Affine-if false f g p q = q
 
 -- ---- order: of values and of forms
 value_order : (a b c d r : ℚ) → a ≡ c +ℚ r → b ≡ d +ℚ r → c ≤ℚ d → a ≤ℚ b
-value_order a b c d r e f h = linear_le (a ∷ b ∷ c ∷ d ∷ r ∷ []) (eq e ∷ eq f ∷ le h ∷ []) (search reading_of depth 12) tt
+value_order a b c d r e f h = linear_le (a ∷ b ∷ c ∷ d ∷ r ∷ []) (eq e ∷ eq f ∷ le h ∷ []) (search reading_of) tt
 
 form_order : (a b c d r : ℚ) → a ≡ c +ℚ r → b ≡ d +ℚ r → a ≤ℚ b → c ≤ℚ d
-form_order a b c d r e f h = linear_le (a ∷ b ∷ c ∷ d ∷ r ∷ []) (eq e ∷ eq f ∷ le h ∷ []) (search reading_of depth 12) tt
+form_order a b c d r e f h = linear_le (a ∷ b ∷ c ∷ d ∷ r ∷ []) (eq e ∷ eq f ∷ le h ∷ []) (search reading_of) tt
 
 form_floor : (a c l r : ℚ) → a ≡ c +ℚ r → l ≤ℚ a → l -ℚ r ≤ℚ c
-form_floor a c l r e h = linear_le (a ∷ c ∷ l ∷ r ∷ []) (eq e ∷ le h ∷ []) (search reading_of depth 12) tt
+form_floor a c l r e h = linear_le (a ∷ c ∷ l ∷ r ∷ []) (eq e ∷ le h ∷ []) (search reading_of) tt
 
 pub Affine-value : (f : (ℕ → ℚ) → ℚ) (p : Affine f) (x y : ℕ → ℚ) → form_value p.form x ≤ℚ form_value p.form y → f x ≤ℚ f y
 Affine-value f p x y h = value_order (f x) (f y) _ _ p.rest (p.is x) (p.is y) h

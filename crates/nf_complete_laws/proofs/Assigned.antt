@@ -1,17 +1,15 @@
 -- Systems describe oversupplies. So there is an oversupply with the least sum of slopes, and among those, one with the least flow out of
 -- the source.
-use Rattle.std.proofs.Common.{◌≡◌, ◌≢◌, ℕ, zero, suc, ◌<◌, ◌⊎◌, Option, Some, None, sym, ap, subst, refl, ◌∙◌, arith}
+use Rattle.std.proofs.Common.{◌≡◌, ◌≢◌, ℕ, zero, suc, ◌<◌, ◌⊎◌, Option, Some, None, sym, ap, subst, refl, ◌∙◌}
 use Rattle.std.proofs.lemmas.Option.{none-some, same_Some}
 use Rattle.nf_rational.specs.Rational.{ℚ}
 use Rattle.nf_rational.specs.Operations.{0ℚ, 1ℚ, ◌+ℚ◌, ◌-ℚ◌, ◌*ℚ◌}
 use Rattle.nf_rational.specs.Order.{◌≤ℚ◌}
-use Rattle.nf_rational_laws.proofs.Order.{nn_plus}
-use Rattle.nf_rational_laws.proofs.Chains.{≤ℚ_refl}
 use Rattle.nf_model.specs.Entries.{Has}
 use Rattle.nf_model.specs.Network.{Link, Network, IsNetwork, sum_in, sum_out}
 use Rattle.nf_model.specs.ThinFlow.{Sets, Enters}
 use Rattle.nf_model.specs.Pattern.{NeedsState, Fills}
-use Rattle.nf_model_laws.proofs.Potential.{sum_to}
+use Rattle.nf_model_laws.proofs.Potential.{sum_to, sum_to-nn}
 use Rattle.nf_linear_laws.specs.Systems.{form_value}
 use Rattle.nf_linear_laws.proofs.Choices.{MeetsOne, LeastOfTwo, least_of_two}
 use Rattle.nf_complete_laws.specs.Oversupply.{Fits, demand, IsOversupply}
@@ -54,16 +52,16 @@ pub flows_of-joined : (flows slopes : ℕ → ℚ) → flows_of (joined flows sl
 flows_of-joined flows slopes = λ i e. joined-odd e flows slopes i
 
 -- ---- conditions of an oversupply
-slope : (v : ℕ) → Affine (λ x. slopes_of x v)
+pub slope : (v : ℕ) → Affine (λ x. slopes_of x v)
 slope v = Affine-variable (even v)
 
-flow : (e : ℕ) → Affine (λ x. flows_of x e)
+pub flow : (e : ℕ) → Affine (λ x. flows_of x e)
 flow e = Affine-variable (suc (even e))
 
 abbrev FillsAt : ℕ → Option ℚ → ℕ → (ℕ → ℚ) → Type 0
 FillsAt e capacity head x = Fills capacity (flows_of x e) (slopes_of x head)
 
-abbrev FitsAt : ℕ → Option ℚ → ℕ → ℕ → (ℕ → ℚ) → Type 0
+abbrev pub FitsAt : ℕ → Option ℚ → ℕ → ℕ → (ℕ → ℚ) → Type 0
 FitsAt e capacity tail head x = Fits capacity (flows_of x e) (slopes_of x tail) (slopes_of x head)
 
 fills_described : (e : ℕ) (capacity : Option ℚ) (head : ℕ) → Described (FillsAt e capacity head)
@@ -90,7 +88,7 @@ filled_described e (Some a) head = Described-as (λ x. a *ℚ slopes_of x head �
     (λ x h. (a, refl, h)) (λ x f. subst (λ (b : ℚ). b *ℚ slopes_of x head ≤ℚ flows_of x e) (sym (same_Some a f.0 f.1)) f.2)
     (Described-le (λ x. a *ℚ slopes_of x head) (λ x. flows_of x e) (Affine-times a (λ x. slopes_of x head) (slope head)) (flow e))
 
-fits_described : (e : ℕ) (capacity : Option ℚ) (tail head : ℕ) → Described (FitsAt e capacity tail head)
+pub fits_described : (e : ℕ) (capacity : Option ℚ) (tail head : ℕ) → Described (FitsAt e capacity tail head)
 fits_described e capacity tail head = Described-as (λ x. (N x × M x) × (U x × V x)) (FitsAt e capacity tail head)
     (λ x h. record { no_negative = h.0.0; most = h.0.1; used = h.1.0; upper = h.1.1 })
     (λ x f. ((f.no_negative, f.most), (f.used, f.upper)))
@@ -120,10 +118,6 @@ pub record IsLeast (net : Network) (sets : Sets) (rate : ℚ) (flows slopes : �
   pub slopes_least : (other_flows other_slopes : ℕ → ℚ) → IsOversupply net sets rate other_flows other_slopes → sum_to net.nodes slopes ≤ℚ sum_to net.nodes other_slopes
   pub flows_least : (other_flows other_slopes : ℕ → ℚ) → IsOversupply net sets rate other_flows other_slopes → sum_to net.nodes other_slopes ≤ℚ sum_to net.nodes slopes
       → sum_out net.links flows net.source ≤ℚ sum_out net.links other_flows net.source
-
-sum_to-not_negative : (n : ℕ) (f : ℕ → ℚ) → ((k : ℕ) → k < n → 0ℚ ≤ℚ f k) → 0ℚ ≤ℚ sum_to n f
-sum_to-not_negative zero f h = ≤ℚ_refl 0ℚ
-sum_to-not_negative (suc n) f h = nn_plus _ _ (sum_to-not_negative n f (λ k l. h k (omega arith))) (h n (omega arith))
 
 module _ (net : Network) (sets : Sets) (rate : ℚ) where
   abbrev IsAssigned : (ℕ → ℚ) → Type 0
@@ -229,7 +223,7 @@ module _ (net : Network) (sets : Sets) (rate : ℚ) where
   module _ (good : IsNetwork net) where
     slope_floor : (x : ℕ → ℚ) → MeetsOne oversupply_described.systems x → 0ℚ -ℚ slope_sum.rest ≤ℚ form_value slope_sum.form x
     slope_floor x h = Affine-floor (λ x. sum_to net.nodes (slopes_of x)) slope_sum x 0ℚ
-        (sum_to-not_negative net.nodes (slopes_of x) (oversupply_described.out x h).no_negative_slope)
+        (sum_to-nn net.nodes (slopes_of x) (oversupply_described.out x h).no_negative_slope)
 
     sent_floor : (x : ℕ → ℚ) → MeetsOne oversupply_described.systems x → 0ℚ -ℚ sent_out.rest ≤ℚ form_value sent_out.form x
     sent_floor x h = Affine-floor (λ x. sum_out net.links (flows_of x) net.source) sent_out x 0ℚ

@@ -25,8 +25,8 @@ use Rattle.nf_complete_laws.proofs.Fitting.{fits_exit, fits_least, fits_used}
 use Rattle.nf_complete_laws.proofs.Numbers.{numbers, length-numbers, number_at-numbers, number_at-past}
 use Rattle.nf_complete_laws.proofs.Spare.{spare, HasSpare, spare_of_enough, not_negative}
 
-no_spare : (i o d : ℚ) → 0ℚ ≤ℚ i -ℚ (o +ℚ d) → i -ℚ (o +ℚ d) ≤ℚ 0ℚ → o -ℚ i ≡ 0ℚ -ℚ d
-no_spare i o d h k = linear_eq (i ∷ o ∷ d ∷ []) (le h ∷ le k ∷ []) (search reading_of depth 12) tt tt
+pub no_spare : (i o d : ℚ) → 0ℚ ≤ℚ i -ℚ (o +ℚ d) → i -ℚ (o +ℚ d) ≤ℚ 0ℚ → o -ℚ i ≡ 0ℚ -ℚ d
+no_spare i o d h k = linear_eq (i ∷ o ∷ d ∷ []) (le h ∷ le k ∷ []) (search reading_of) tt tt
 
 module _ (net : Network) (sets : Sets) (rate : ℚ) (flows slopes : ℕ → ℚ) (good : IsNetwork net) (are : AreSets net sets) (over : IsOversupply net sets rate flows slopes)
     (level : (v : ℕ) → v < net.nodes → HasSpare net rate flows v → ⊥) where
@@ -47,7 +47,7 @@ module _ (net : Network) (sets : Sets) (rate : ℚ) (flows slopes : ℕ → ℚ)
   surplus_is v = same (sum_out-same net.links (number_at flow_list) flows v (λ e link p _. flow_at e link p)) (sum_in-same net.links (number_at flow_list) flows v (λ e link p _. flow_at e link p))
     where
       same : {a b c d : ℚ} → a ≡ b → c ≡ d → a -ℚ c ≡ b -ℚ d
-      same {a = a} {b = b} {c = c} {d = d} e f = linear_eq (a ∷ b ∷ c ∷ d ∷ []) (eq e ∷ eq f ∷ []) (search reading_of depth 12) tt tt
+      same {a = a} {b = b} {c = c} {d = d} e f = linear_eq (a ∷ b ∷ c ∷ d ∷ []) (eq e ∷ eq f ∷ []) (search reading_of) tt tt
 
   balance : (v : ℕ) → v < net.nodes → v ≢ net.source → out_less_in net.links flows v ≡ 0ℚ -ℚ demand net rate v
   balance v h other = no_spare (sum_in net.links flows v) (sum_out net.links flows v) (demand net rate v) (spare_of_enough _ _ _ (over.enough v h other)) (⊎_elim
@@ -71,14 +71,14 @@ module _ (net : Network) (sets : Sets) (rate : ℚ) (flows slopes : ℕ → ℚ)
   inner v h s t = none _ _ (balance v h s) (demand_else v t)
     where
       none : (y d : ℚ) → y ≡ 0ℚ -ℚ d → d ≡ 0ℚ → y ≡ 0ℚ
-      none y d e f = linear_eq (y ∷ d ∷ []) (eq e ∷ eq f ∷ []) (search reading_of depth 12) tt tt
+      none y d e f = linear_eq (y ∷ d ∷ []) (eq e ∷ eq f ∷ []) (search reading_of) tt tt
 
   source : out_less_in net.links flows net.source ≡ rate
   source = gives _ _ _ (two_cancel net.nodes net.source net.sink (out_less_in net.links flows) good.source good.sink good.apart inner (all_zero net.nodes net.links flows (EndsBelow-net net good)))
       (balance net.sink good.sink (λ e. good.apart (sym e))) demand_sink
     where
       gives : (y z d : ℚ) → y +ℚ z ≡ 0ℚ → z ≡ 0ℚ -ℚ d → d ≡ rate → y ≡ rate
-      gives y z d e f g = linear_eq (y ∷ z ∷ d ∷ rate ∷ []) (eq e ∷ eq f ∷ eq g ∷ []) (search reading_of depth 12) tt tt
+      gives y z d e f g = linear_eq (y ∷ z ∷ d ∷ rate ∷ []) (eq e ∷ eq f ∷ eq g ∷ []) (search reading_of) tt tt
 
   -- ---- exit slopes
   abbrev exit_of : ℕ → Link → ℚ

@@ -36,10 +36,10 @@ module _ (net : Network) (sets : Sets) (rate : ℚ) (flows slopes : List ℚ) (g
         (flagged sets.active e)) ∙ sum_in-none net.links v
 
     by_sums : (o i r : ℚ) → o -ℚ i ≡ 0ℚ -ℚ r → i ≡ 0ℚ → 0ℚ ≤ℚ r → o ≤ℚ 0ℚ
-    by_sums o i r e f k = linear_le (o ∷ i ∷ r ∷ []) (eq e ∷ eq f ∷ le k ∷ []) (search reading_of depth 12) tt
+    by_sums o i r e f k = linear_le (o ∷ i ∷ r ∷ []) (eq e ∷ eq f ∷ le k ∷ []) (search reading_of) tt
 
     balanced : (o i : ℚ) → o -ℚ i ≡ 0ℚ → i ≡ 0ℚ → o ≤ℚ 0ℚ
-    balanced o i e f = linear_le (o ∷ i ∷ []) (eq e ∷ eq f ∷ []) (search reading_of depth 12) tt
+    balanced o i e f = linear_le (o ∷ i ∷ []) (eq e ∷ eq f ∷ []) (search reading_of) tt
 
     none_out : sum_out net.links (number_at flows) v ≤ℚ 0ℚ
     none_out = ⊎_elim

@@ -1,7 +1,7 @@
 -- Cancelling one cycle: the flows stay a thin flow with the same slopes, no link becomes interior, and at least one link stops being
 -- interior.
 use Rattle.std.proofs.Common.{◌≡◌, ◌≢◌, ℕ, ◌+◌, ◌<◌, ◌≤◌, List, [], ◌∷◌, length, ◌⊎◌, inl, inr, ⊎_elim, Bool, true, false, if◌then◌else◌, eqb, Option, Some, None, slice_get, unwrap_or, sym, ap, subst, refl, ◌∙◌, arith}
-use Rattle.std.specs.Prelude.{Contains, Ok, Err}
+use Rattle.std.specs.Prelude.{Contains, Ok}
 use Rattle.std.specs.List.{enumerate_from}
 use Rattle.std.proofs.lemmas.Option.{same_Some, slice_get_within}
 use Rattle.std.proofs.lemmas.Bool.Decides.{eqb_tells}
@@ -9,21 +9,20 @@ use Rattle.nf_rational.specs.Rational.{ℚ}
 use Rattle.nf_rational.specs.Operations.{0ℚ, 1ℚ, ◌+ℚ◌, ◌-ℚ◌, ◌*ℚ◌}
 use Rattle.nf_rational.specs.Order.{◌≤ℚ◌, ◌<ℚ◌}
 use Rattle.nf_rational_laws.proofs.Polynomial.{reading_of}
-use Rattle.nf_rational_laws.proofs.Order.{≤ℚ_of_same, ≤ℚ_of_lt, not_both_ℚ}
-use Rattle.nf_rational_laws.proofs.Linear.{le, lt, eq, eq_times, linear_le, linear_lt, linear_eq}
+use Rattle.nf_rational_laws.proofs.Order.{≤ℚ_of_same, ≤ℚ_of_lt, not_both_ℚ, less_ps}
+use Rattle.nf_rational_laws.proofs.Linear.{le, eq, eq_times, linear_le, linear_eq}
 use Rattle.nf_rational_laws.proofs.Chains.{≤ℚ_refl}
-use Rattle.nf_frac_def.specs.Passing.{Passing, result_of}
+use Rattle.nf_frac_def.specs.Passing.{Passing}
 use Rattle.nf_frac_def.specs.Checked.{checked, each}
 use Rattle.nf_frac_def.proofs.Binding.{bind_ok}
-use Rattle.nf_frac_def.specs.declared.Op.{Op}
 use Rattle.nf_frac_def.specs.declared.Op.TheVariants.{Sum, Difference, Product}
-use Rattle.nf_frac_def.specs.declared.Passed.{Passed}
+use Rattle.nf_frac_def.proofs.Exact.{checked-is}
 use Rattle.nf_model.specs.Entries.{number_at, Has}
 use Rattle.nf_model.specs.Walk.{Hop}
 use Rattle.nf_model.specs.Network.{Link, Network, IsLink, IsNetwork, hops, sum_in, sum_out}
 use Rattle.nf_model.specs.ThinFlow.{Sets, surplus, IsThinFlow}
 use Rattle.nf_model.specs.Pattern.{IsTrail, AllDiffer}
-use Rattle.nf_model_laws.proofs.Networks.{IsLink-unique, link_at}
+use Rattle.nf_model_laws.proofs.Networks.{IsLink-unique, link_at, number_at-is}
 use Rattle.nf_model_laws.proofs.Sums.{sum_in-same, sum_out-same, sum_in-line, sum_out-line}
 use Rattle.nf_thin_laws.specs.ActiveLinks.{HoldNoCycle, IsActiveWalk}
 use Rattle.nf_rational_laws.proofs.Entries.{entry}
@@ -38,14 +37,6 @@ use Rattle.nf_complete_laws.proofs.Changing.{IsLevel, IsThinFlow-changed}
 use Rattle.nf_complete_laws.proofs.Levels.{interior-level}
 
 -- ---- computations that end with a value
-checked_by : (b : Bool) (e : Passed ℚ) (x y : ℚ) → (if b then Err e else Ok x) ≡ Ok y → y ≡ x
-checked_by true e x y h = cc
-checked_by false e x y h = cc
-
-checked-is : (passes : Passing) (op : Op) (x y z : ℚ) → checked passes op x y ≡ Ok z → z ≡ result_of op x y
-unfolding checked
-checked-is passes op x y z h = checked_by (passes op x y) _ (result_of op x y) z h
-
 some_not_none : {A : Type 0} (x : A) → Some x ≡ None → ⊥
 some_not_none x e = cc
 
@@ -77,43 +68,37 @@ change-is : (passes : Passing) (o : Option Bool) (a x y : ℚ) → change_on pas
 change-is passes None a x y h = same (same_Ok x y h)
   where
     same : x ≡ y → y ≡ x +ℚ 0ℚ *ℚ a
-    same e = linear_eq (x ∷ y ∷ a ∷ []) (eq e ∷ []) (search reading_of depth 12) tt tt
+    same e = linear_eq (x ∷ y ∷ a ∷ []) (eq e ∷ []) (search reading_of) tt tt
 change-is passes (Some true) a x y h = more (checked-is passes Sum x a y h)
   where
     more : y ≡ x +ℚ a → y ≡ x +ℚ 1ℚ *ℚ a
-    more e = linear_eq (x ∷ y ∷ a ∷ []) (eq e ∷ []) (search reading_of depth 12) tt tt
+    more e = linear_eq (x ∷ y ∷ a ∷ []) (eq e ∷ []) (search reading_of) tt tt
 change-is passes (Some false) a x y h = less (checked-is passes Difference x a y h)
   where
     less : y ≡ x -ℚ a → y ≡ x +ℚ (0ℚ -ℚ 1ℚ) *ℚ a
-    less e = linear_eq (x ∷ y ∷ a ∷ []) (eq e ∷ []) (search reading_of depth 12) tt tt
+    less e = linear_eq (x ∷ y ∷ a ∷ []) (eq e ∷ []) (search reading_of) tt tt
 
 -- ---- numbers
 plus_none : (x a : ℚ) → x +ℚ 0ℚ *ℚ a ≡ x
-plus_none x a = linear_eq (x ∷ a ∷ []) [] (search reading_of depth 12) tt tt
+plus_none x a = linear_eq (x ∷ a ∷ []) [] (search reading_of) tt tt
 
 grown_nn : (x a y : ℚ) → y ≡ x +ℚ 1ℚ *ℚ a → 0ℚ ≤ℚ x → 0ℚ ≤ℚ a → 0ℚ ≤ℚ y
-grown_nn x a y e h k = linear_le (x ∷ a ∷ y ∷ []) (eq e ∷ le h ∷ le k ∷ []) (search reading_of depth 12) tt
+grown_nn x a y e h k = linear_le (x ∷ a ∷ y ∷ []) (eq e ∷ le h ∷ le k ∷ []) (search reading_of) tt
 
 shrunk_nn : (x a y : ℚ) → y ≡ x +ℚ (0ℚ -ℚ 1ℚ) *ℚ a → a ≤ℚ x → 0ℚ ≤ℚ y
-shrunk_nn x a y e h = linear_le (x ∷ a ∷ y ∷ []) (eq e ∷ le h ∷ []) (search reading_of depth 12) tt
+shrunk_nn x a y e h = linear_le (x ∷ a ∷ y ∷ []) (eq e ∷ le h ∷ []) (search reading_of) tt
 
 grown_most : (x a y f : ℚ) → y ≡ x +ℚ 1ℚ *ℚ a → a ≤ℚ f -ℚ x → y ≤ℚ f
-grown_most x a y f e h = linear_le (x ∷ a ∷ y ∷ f ∷ []) (eq e ∷ le h ∷ []) (search reading_of depth 12) tt
+grown_most x a y f e h = linear_le (x ∷ a ∷ y ∷ f ∷ []) (eq e ∷ le h ∷ []) (search reading_of) tt
 
 shrunk_most : (x a y f : ℚ) → y ≡ x +ℚ (0ℚ -ℚ 1ℚ) *ℚ a → 0ℚ ≤ℚ a → x ≤ℚ f → y ≤ℚ f
-shrunk_most x a y f e h k = linear_le (x ∷ a ∷ y ∷ f ∷ []) (eq e ∷ le h ∷ le k ∷ []) (search reading_of depth 12) tt
-
-gap : (x f : ℚ) → x <ℚ f → 0ℚ <ℚ f -ℚ x
-gap x f h = linear_lt (x ∷ f ∷ []) (lt h ∷ []) (search reading_of depth 12) tt
+shrunk_most x a y f e h k = linear_le (x ∷ a ∷ y ∷ f ∷ []) (eq e ∷ le h ∷ le k ∷ []) (search reading_of) tt
 
 emptied : (x a y : ℚ) → y ≡ x +ℚ (0ℚ -ℚ 1ℚ) *ℚ a → x ≡ a → y ≡ 0ℚ
-emptied x a y e f = linear_eq (x ∷ a ∷ y ∷ []) (eq e ∷ eq f ∷ []) (search reading_of depth 12) tt tt
+emptied x a y e f = linear_eq (x ∷ a ∷ y ∷ []) (eq e ∷ eq f ∷ []) (search reading_of) tt tt
 
 filled : (x a y f : ℚ) → y ≡ x +ℚ 1ℚ *ℚ a → f -ℚ x ≡ a → y ≡ f
-filled x a y f e g = linear_eq (x ∷ a ∷ y ∷ f ∷ []) (eq e ∷ eq g ∷ []) (search reading_of depth 12) tt tt
-
-number-of : (xs : List ℚ) (e : ℕ) (x : ℚ) → slice_get xs e ≡ Some x → number_at xs e ≡ x
-number-of xs e x h = ap (λ (o : Option ℚ). unwrap_or o 0ℚ) h
+filled x a y f e g = linear_eq (x ∷ a ∷ y ∷ f ∷ []) (eq e ∷ eq g ∷ []) (search reading_of) tt tt
 
 -- ---- a closed trail uses some link backward, since active links hold no cycle
 module _ (net : Network) (sets : Sets) (slopes flows : List ℚ) where
@@ -237,8 +222,8 @@ module _ (passes : Passing) (net : Network) (sets : Sets) (rate : ℚ) (flows sl
   interior_most e i link c p k = subst (λ (l : Link). (c : ℚ) → l.capacity ≡ Some c → number_at flows e <ℚ c *ℚ number_at slopes l.head) (IsLink-unique net e i.link link i.is_link p) i.not_full c k
 
   room_positive : (e : ℕ) (x y : ℚ) → slice_get flows e ≡ Some x → Room e x y → 0ℚ <ℚ y
-  room_positive e x y p (back h k) = subst (λ (z : ℚ). 0ℚ <ℚ z) (number-of flows e x p ∙ k) (interior e false h).some
-  room_positive e x y p (forth link c h l k s) = subst (λ (z : ℚ). 0ℚ <ℚ z) s (gap x _ (subst (λ (z : ℚ). z <ℚ c *ℚ number_at slopes link.head) (number-of flows e x p) (interior_most e (interior e true h) link c l k)))
+  room_positive e x y p (back h k) = subst (λ (z : ℚ). 0ℚ <ℚ z) (number_at-is flows e x p ∙ k) (interior e false h).some
+  room_positive e x y p (forth link c h l k s) = subst (λ (z : ℚ). 0ℚ <ℚ z) s (less_ps x _ (subst (λ (z : ℚ). z <ℚ c *ℚ number_at slopes link.head) (number_at-is flows e x p) (interior_most e (interior e true h) link c l k)))
 
   count_rooms : length rooms ≡ length flows
   count_rooms = each-length (room_at passes steps fulls) flows 0 rooms parts.1
@@ -269,7 +254,7 @@ module _ (passes : Passing) (net : Network) (sets : Sets) (rate : ℚ) (flows sl
 
   new_is : (e : ℕ) → e < length net.links → number_at new e ≡ number_at flows e +ℚ signed (turn_of steps e) *ℚ amount
   new_is e h = let x = entry flows e (let c = thin.flow_count in omega arith) in let n = new_here e x.0 x.1 in
-      number-of new e n.0 n.1 ∙ n.2 ∙ ap (λ (z : ℚ). z +ℚ signed (turn_of steps e) *ℚ amount) (sym (number-of flows e x.0 x.1))
+      number_at-is new e n.0 n.1 ∙ n.2 ∙ ap (λ (z : ℚ). z +ℚ signed (turn_of steps e) *ℚ amount) (sym (number_at-is flows e x.0 x.1))
 
   below : (e : ℕ) (b : Bool) → turn_of steps e ≡ Some b → e < length net.links
   below e b h = let i = interior e b h in slice_get_within net.links e i.link i.is_link
@@ -294,7 +279,7 @@ module _ (passes : Passing) (net : Network) (sets : Sets) (rate : ℚ) (flows sl
 
   turned_room : (e : ℕ) → turn_of steps e ≡ Some false → amount ≤ℚ number_at flows e
   turned_room e h = let x = entry flows e (let b = below e false h in let c = thin.flow_count in omega arith) in
-      subst (λ (z : ℚ). amount ≤ℚ z) (sym (number-of flows e x.0 x.1)) (amount_bound e x.0 (room_back e x.0 x.1 h))
+      subst (λ (z : ℚ). amount ≤ℚ z) (sym (number_at-is flows e x.0 x.1)) (amount_bound e x.0 (room_back e x.0 x.1 h))
 
   new_nn : (e : ℕ) → 0ℚ ≤ℚ number_at new e
   new_nn e = by (turn_of steps e) refl
@@ -307,7 +292,7 @@ module _ (passes : Passing) (net : Network) (sets : Sets) (rate : ℚ) (flows sl
   new_most : (e : ℕ) (b : Bool) → turn_of steps e ≡ Some b → (link : Link) (c : ℚ) → IsLink net e link → link.capacity ≡ Some c → number_at new e ≤ℚ c *ℚ number_at slopes link.head
   new_most e true h link c p k = let x = entry flows e (let b = below e true h in let n = thin.flow_count in omega arith) in
       grown_most (number_at flows e) amount _ _ (moved_by e true h)
-      (subst (λ (z : ℚ). amount ≤ℚ c *ℚ number_at slopes link.head -ℚ z) (sym (number-of flows e x.0 x.1)) (amount_bound e _ (room_forth e x.0 link c x.1 h p (interior e true h).needs.0 k)))
+      (subst (λ (z : ℚ). amount ≤ℚ c *ℚ number_at slopes link.head -ℚ z) (sym (number_at-is flows e x.0 x.1)) (amount_bound e _ (room_forth e x.0 link c x.1 h p (interior e true h).needs.0 k)))
   new_most e false h link c p k = shrunk_most (number_at flows e) amount _ _ (moved_by e false h) amount_nn (≤ℚ_of_lt _ _ (interior_most e (interior e false h) link c p k))
 
   same_or_level : (e : ℕ) → (number_at new e ≡ number_at flows e) ⊎ (Has sets.active e × ((link : Link) → IsLink net e link → IsLevel net sets slopes e link (number_at new e)))
@@ -325,7 +310,7 @@ module _ (passes : Passing) (net : Network) (sets : Sets) (rate : ℚ) (flows sl
       )
 
   node_line : (o p i j r s a : ℚ) → o ≡ p +ℚ r *ℚ a → i ≡ j +ℚ s *ℚ a → r -ℚ s ≡ 0ℚ → o -ℚ i ≡ p -ℚ j
-  node_line o p i j r s a e f g = linear_eq (o ∷ p ∷ i ∷ j ∷ r ∷ s ∷ a ∷ []) (eq e ∷ eq f ∷ eq_times a g ∷ []) (search reading_of depth 12) tt tt
+  node_line o p i j r s a e f g = linear_eq (o ∷ p ∷ i ∷ j ∷ r ∷ s ∷ a ∷ []) (eq e ∷ eq f ∷ eq_times a g ∷ []) (search reading_of) tt tt
 
   same_surplus : (v : ℕ) → v < net.nodes → surplus net new v ≡ surplus net flows v
   same_surplus v h = node_line _ _ _ _ (sum_out net.links (carried_by steps) v) (sum_in net.links (carried_by steps) v) amount
@@ -354,13 +339,13 @@ module _ (passes : Passing) (net : Network) (sets : Sets) (rate : ℚ) (flows sl
   Ended = (e : ℕ) × IsInterior net sets slopes flows e × (IsInterior net sets slopes new e → ⊥)
 
   ended_by : (e : ℕ) (x a : ℚ) → slice_get flows e ≡ Some x → amount ≡ a → Room e x a → Ended
-  ended_by e x a p s (back h k) = (e, interior e false h, λ i. not_both_ℚ _ _ i.some (≤ℚ_of_same _ _ (emptied (number_at flows e) amount _ (moved_by e false h) (number-of flows e x p ∙ k ∙ sym s))))
+  ended_by e x a p s (back h k) = (e, interior e false h, λ i. not_both_ℚ _ _ i.some (≤ℚ_of_same _ _ (emptied (number_at flows e) amount _ (moved_by e false h) (number_at-is flows e x p ∙ k ∙ sym s))))
   ended_by e x a p s (forth link c h l k g) = (
     e,
     interior e true h,
     λ i. not_both_ℚ _ _
         (subst (λ (m : Link). (c : ℚ) → m.capacity ≡ Some c → number_at new e <ℚ c *ℚ number_at slopes m.head) (IsLink-unique net e i.link link i.is_link l) i.not_full c k)
-        (≤ℚ_of_same _ _ (sym (filled (number_at flows e) amount _ (c *ℚ number_at slopes link.head) (moved_by e true h) (ap (λ (z : ℚ). c *ℚ number_at slopes link.head -ℚ z) (number-of flows e x p) ∙ g ∙ sym s)))),
+        (≤ℚ_of_same _ _ (sym (filled (number_at flows e) amount _ (c *ℚ number_at slopes link.head) (moved_by e true h) (ap (λ (z : ℚ). c *ℚ number_at slopes link.head -ℚ z) (number_at-is flows e x p) ∙ g ∙ sym s)))),
   )
 
   pub one-ended : Ended

@@ -2,13 +2,14 @@
 use Rattle.std.proofs.Common.{◌≡◌, ◌≢◌, ℕ, ◌<◌, List, [], ◌∷◌, ◌⊎◌, inl, inr, ⊎_elim, Bool, true, false, Option, Some, None, slice_get, sym, ap, subst, refl, ◌∙◌}
 use Rattle.std.specs.Prelude.{is_none}
 use Rattle.std.specs.Option.{option_map}
-use Rattle.std.proofs.lemmas.Option.{same_Some, slice_get-map}
+use Rattle.std.proofs.lemmas.Option.{same_Some, slice_get-map, none-some}
 use Rattle.nf_rational.specs.Rational.{ℚ}
 use Rattle.nf_rational.specs.Operations.{0ℚ, ◌*ℚ◌}
 use Rattle.nf_rational.specs.Order.{◌≤ℚ◌, ◌<ℚ◌}
 use Rattle.nf_rational_laws.proofs.Polynomial.{reading_of}
-use Rattle.nf_rational_laws.proofs.Order.{≤ℚ_of_same, ≤ℚ_of_lt, ≤ℚ_antisymm, lt_or_le_ℚ, nn_times, not_both_ℚ}
+use Rattle.nf_rational_laws.proofs.Order.{≤ℚ_of_lt, ≤ℚ_antisymm, lt_or_le_ℚ, nn_times}
 use Rattle.nf_rational_laws.proofs.Linear.{le, eq, linear_le}
+use Rattle.nf_rational_laws.proofs.Facts.{above_not_zero}
 use Rattle.nf_model.specs.declared.State.{State}
 use Rattle.nf_model.specs.declared.State.TheVariants.{Tight, Full, Zero}
 use Rattle.nf_model.specs.Entries.{number_at, Has}
@@ -33,10 +34,7 @@ use Rattle.nf_complete_laws.proofs.Bare.{flagged, Brings, brings_or_not, IsBare-
 
 -- ---- plain numbers: x is the flow of a link, s and t the slopes of its tail and its head
 pub fills_or_not : (capacity : Option ℚ) (x t : ℚ) → Decided (Fills capacity x t)
-fills_or_not None x t = inr (λ f. absurd (none f.0 f.1))
-  where
-    none : (c : ℚ) → None ≡ Some c → ⊥
-    none c e = cc
+fills_or_not None x t = inr (λ f. absurd (none-some f.0 f.1))
 fills_or_not (Some c) x t = ⊎_elim
     (λ (e : x ≡ c *ℚ t). inl (c, refl, e))
     (λ (n : x ≡ c *ℚ t → ⊥). inr (λ f. n (f.2 ∙ ap (λ (z : ℚ). z *ℚ t) (same c f.0 f.1))))
@@ -61,26 +59,23 @@ empty_slopes (Some c) x s t p l e n = ⊎_elim
     (l.upper refl)
   where
     zero : c *ℚ t ≤ℚ x → c *ℚ t ≤ℚ c *ℚ 0ℚ
-    zero w = linear_le (c ∷ t ∷ x ∷ []) (le w ∷ eq e ∷ []) (search reading_of depth 12) tt
+    zero w = linear_le (c ∷ t ∷ x ∷ []) (le w ∷ eq e ∷ []) (search reading_of) tt
 
     below : t ≤ℚ 0ℚ → t ≤ℚ s
-    below w = linear_le (s ∷ t ∷ []) (le w ∷ le n ∷ []) (search reading_of depth 12) tt
+    below w = linear_le (s ∷ t ∷ []) (le w ∷ le n ∷ []) (search reading_of) tt
 
 empty_exit : (capacity : Option ℚ) (x s : ℚ) → IsPositive capacity → x ≡ 0ℚ → 0ℚ ≤ℚ s → exit_slope false capacity x s ≡ s
 empty_exit capacity x s p e n = exit_tight capacity x s s p refl (λ c h. at_most c (≤ℚ_of_lt _ _ (p c h)))
   where
     at_most : (c : ℚ) → 0ℚ ≤ℚ c → x ≤ℚ c *ℚ s
-    at_most c h = let w : 0ℚ ≤ℚ c *ℚ s = nn_times c s h n in linear_le (x ∷ c ∷ s ∷ []) (eq e ∷ le w ∷ []) (search reading_of depth 12) tt
+    at_most c h = let w : 0ℚ ≤ℚ c *ℚ s = nn_times c s h n in linear_le (x ∷ c ∷ s ∷ []) (eq e ∷ le w ∷ []) (search reading_of) tt
 
 reset_fills : (capacity : Option ℚ) (x s t : ℚ) → (capacity ≡ None → ⊥) → LinkLaw true capacity x s t → Fills capacity x t
 reset_fills None x s t n l = absurd (n refl)
 reset_fills (Some c) x s t n l = (c, refl, l.full refl)
 
 full_up : (capacity : Option ℚ) (x s t : ℚ) → LinkLaw false capacity x s t → 0ℚ <ℚ x → Fills capacity x t → s ≤ℚ t
-full_up None x s t l h f = absurd (none f.0 f.1)
-  where
-    none : (c : ℚ) → None ≡ Some c → ⊥
-    none c e = cc
+full_up None x s t l h f = absurd (none-some f.0 f.1)
 full_up (Some c) x s t l h f = (l.used refl h).0
 
 module _ (net : Network) (sets : Sets) (rate : ℚ) (flows slopes : List ℚ) (pattern : Pattern) (good : AreGoodSets net sets) (thin : IsThinFlow net sets rate flows slopes)
@@ -101,16 +96,13 @@ module _ (net : Network) (sets : Sets) (rate : ℚ) (flows slopes : List ℚ) (p
     full : HasState pattern e Full → 0ℚ <ℚ x e → Fills link.capacity (x e) (l link.head) → Class e link
     between : HasState pattern e Tight → IsInterior net sets slopes flows e → Class e link
 
-  not_zero : (y : ℚ) → 0ℚ <ℚ y → y ≢ 0ℚ
-  not_zero y h e = not_both_ℚ _ _ h (≤ℚ_of_same _ _ e)
-
   pub class : (e : ℕ) (link : Link) → IsLink net e link → NeedsState sets e → Class e link
   class e link p n = ⊎_elim
       (λ (w : LeadsToBare net sets flows slopes e link). led (settled.led e link p n w) w)
       (λ (w : LeadsToBare net sets flows slopes e link → ⊥). ⊎_elim
       (λ (h : 0ℚ <ℚ x e). ⊎_elim
-      (λ (f : Fills link.capacity (x e) (l link.head)). full (settled.full e link p n (not_zero (x e) h) f) h f)
-      (λ (f : Fills link.capacity (x e) (l link.head) → ⊥). between (settled.tight e link p n (not_zero (x e) h) f)
+      (λ (f : Fills link.capacity (x e) (l link.head)). full (settled.full e link p n (above_not_zero (x e) h) f) h f)
+      (λ (f : Fills link.capacity (x e) (l link.head) → ⊥). between (settled.tight e link p n (above_not_zero (x e) h) f)
       (record { link = link; is_link = p; needs = n; some = h; not_full = below_full link.capacity _ _ _ (law e link p n) h f }))
       (fills_or_not link.capacity (x e) (l link.head)))
       (λ (z : x e ≡ 0ℚ). empty (settled.zero e link p n z w) z)
@@ -155,7 +147,7 @@ module _ (net : Network) (sets : Sets) (rate : ℚ) (flows slopes : List ℚ) (p
       (some_or_none y n))
     where
       zero : y ≡ 0ℚ → 0ℚ ≤ℚ d → y ≤ℚ d *ℚ t
-      zero h k = let q : 0ℚ ≤ℚ d *ℚ t = nn_times d t k m in linear_le (y ∷ d ∷ t ∷ []) (eq h ∷ le q ∷ []) (search reading_of depth 12) tt
+      zero h k = let q : 0ℚ ≤ℚ d *ℚ t = nn_times d t k m in linear_le (y ∷ d ∷ t ∷ []) (eq h ∷ le q ∷ []) (search reading_of) tt
 
   known-inequality : (e : ℕ) (link : Link) → IsLink net e link → NeedsState sets e → (state : State) → Known e link state → Inequality (Some state) link.capacity (x e) (l link.tail) (l link.head)
   known-inequality e link p n Tight k = at_most link.capacity (x e) (l link.tail) (l link.head) (IsPositive-link net e link good.network p) (law e link p n) (thin.no_negative_flow e) (thin.no_negative_slope link.head)
@@ -219,10 +211,7 @@ module _ (net : Network) (sets : Sets) (rate : ℚ) (flows slopes : List ℚ) (p
       no_full e u h = by (slice_get net.links e) refl
         where
           filled : (link : Link) → IsLink net e link → (0ℚ <ℚ x e) × Fills link.capacity (x e) (l link.head) → ⊥
-          filled link p k = clash_some k.1.0 (sym (unbounded_none e link p u) ∙ k.1.1)
-            where
-              clash_some : (c : ℚ) → None ≡ Some c → ⊥
-              clash_some c e = cc
+          filled link p k = none-some k.1.0 (sym (unbounded_none e link p u) ∙ k.1.1)
 
           beyond : slice_get net.links e ≡ None → ⊥
           beyond k = none_set (sym (slice_get-map (λ (m : Link). is_none m.capacity) net.links e ∙ ap (option_map (λ (m : Link). is_none m.capacity)) k) ∙ u)

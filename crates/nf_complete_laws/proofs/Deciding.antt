@@ -1,5 +1,6 @@
 -- Decidable properties of a network's links.
 use Rattle.std.proofs.Common.{◌≡◌, ℕ, zero, suc, ◌<◌, List, [], ◌∷◌, ◌⊎◌, inl, inr, ⊎_elim, Some, slice_get, sym, subst, refl, arith}
+use Rattle.std.proofs.lemmas.Option.{same_Some}
 use Rattle.nf_rational.specs.Rational.{ℚ}
 use Rattle.nf_rational.specs.Operations.{0ℚ}
 use Rattle.nf_rational.specs.Order.{◌≤ℚ◌, ◌<ℚ◌}
@@ -51,14 +52,11 @@ first_or_none (l ∷ links) P test = ⊎_elim
     (first_or_none links (λ e link. P (suc e) link) (λ e link. test (suc e) link)))
     (test 0 l)
   where
-    same_first : (a b : Link) → Some a ≡ Some b → a ≡ b
-    same_first a b e = cc
-
     apart : (P 0 l → ⊥) → NoLink links (λ e link. P (suc e) link) → (e : ℕ) (link : Link) → slice_get (l ∷ links) e ≡ Some link → P e link → ⊥
-    apart n m zero link p q = n (subst (λ (k : Link). P 0 k) (sym (same_first l link p)) q)
+    apart n m zero link p q = n (subst (λ (k : Link). P 0 k) (sym (same_Some l link p)) q)
     apart n m (suc e) link p q = m e link p q
 
     none_before : (P 0 l → ⊥) → (e : ℕ) → ((k : ℕ) (before : Link) → k < e → slice_get links k ≡ Some before → P (suc k) before → ⊥)
         → (k : ℕ) (before : Link) → k < suc e → slice_get (l ∷ links) k ≡ Some before → P k before → ⊥
-    none_before n e m zero before h p q = n (subst (λ (j : Link). P 0 j) (sym (same_first l before p)) q)
+    none_before n e m zero before h p q = n (subst (λ (j : Link). P 0 j) (sym (same_Some l before p)) q)
     none_before n e m (suc k) before h p q = m k before (omega arith) p q

@@ -103,10 +103,10 @@ Described-decided A d = ⊎_elim (λ (a : A). Described-always (λ x. A) (λ x. 
 
 -- ---- inequalities and equations of affine numbers
 there : (f g a b r s m : ℚ) → f ≡ a +ℚ r → g ≡ b +ℚ s → m ≡ a -ℚ b → f ≤ℚ g → m ≤ℚ s -ℚ r
-there f g a b r s m d e h k = linear_le (f ∷ g ∷ a ∷ b ∷ r ∷ s ∷ m ∷ []) (eq d ∷ eq e ∷ eq h ∷ le k ∷ []) (search reading_of depth 12) tt
+there f g a b r s m d e h k = linear_le (f ∷ g ∷ a ∷ b ∷ r ∷ s ∷ m ∷ []) (eq d ∷ eq e ∷ eq h ∷ le k ∷ []) (search reading_of) tt
 
 back : (f g a b r s m : ℚ) → f ≡ a +ℚ r → g ≡ b +ℚ s → m ≡ a -ℚ b → m ≤ℚ s -ℚ r → f ≤ℚ g
-back f g a b r s m d e h k = linear_le (f ∷ g ∷ a ∷ b ∷ r ∷ s ∷ m ∷ []) (eq d ∷ eq e ∷ eq h ∷ le k ∷ []) (search reading_of depth 12) tt
+back f g a b r s m d e h k = linear_le (f ∷ g ∷ a ∷ b ∷ r ∷ s ∷ m ∷ []) (eq d ∷ eq e ∷ eq h ∷ le k ∷ []) (search reading_of) tt
 
 pub Described-le : (f g : (ℕ → ℚ) → ℚ) → Affine f → Affine g → Described (λ x. f x ≤ℚ g x)
 Described-le f g p q = record {

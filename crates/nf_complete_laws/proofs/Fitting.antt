@@ -77,17 +77,17 @@ capped-none capacity x t positive e n = ≤ℚ_antisymm _ _ (≤ℚ_trans _ _ _ 
 
 -- If the slope of the head falls by at most h, at most h times the capacity is cut off.
 pub capped-near : (capacity : Option ℚ) (x t u h : ℚ) → IsPositive capacity → 0ℚ ≤ℚ h → IsAtMost capacity x t → t -ℚ h ≤ℚ u → x ≤ℚ capped capacity x u +ℚ unwrap_or capacity 0ℚ *ℚ h
-capped-near None x t u h positive n m k = linear_le (x ∷ h ∷ []) [] (search reading_of depth 12) tt
+capped-near None x t u h positive n m k = linear_le (x ∷ h ∷ []) [] (search reading_of) tt
 capped-near (Some c) x t u h positive n m k = min_keeps (λ (z : ℚ). x ≤ℚ z +ℚ c *ℚ h) x (c *ℚ u)
-    (linear_le (x ∷ c ∷ h ∷ []) (le_times low n ∷ []) (search reading_of depth 12) tt)
-    (linear_le (x ∷ c ∷ t ∷ u ∷ h ∷ []) (le_times low k ∷ le (m c refl) ∷ []) (search reading_of depth 12) tt)
+    (linear_le (x ∷ c ∷ h ∷ []) (le_times low n ∷ []) (search reading_of) tt)
+    (linear_le (x ∷ c ∷ t ∷ u ∷ h ∷ []) (le_times low k ∷ le (m c refl) ∷ []) (search reading_of) tt)
   where
     low : 0ℚ ≤ℚ c
     low = ≤ℚ_of_lt _ _ (positive c refl)
 
 -- A filled link is still filled.
 filled_by : (c x t u : ℚ) → 0ℚ ≤ℚ c → c *ℚ t ≤ℚ x → u ≤ℚ t → c *ℚ u ≤ℚ x
-filled_by c x t u n h k = linear_le (c ∷ x ∷ t ∷ u ∷ []) (le_times n k ∷ le h ∷ []) (search reading_of depth 12) tt
+filled_by c x t u n h k = linear_le (c ∷ x ∷ t ∷ u ∷ []) (le_times n k ∷ le h ∷ []) (search reading_of) tt
 
 pub capped-filled : (capacity : Option ℚ) (x t u : ℚ) → IsPositive capacity → IsFilled capacity x t → u ≤ℚ t → IsFilled capacity (capped capacity x u) u
 capped-filled None x t u positive f k = absurd (none-some f.0 f.1)
@@ -135,7 +135,7 @@ fits_used capacity x s t fits h = ⊎_elim (λ (k : x ≤ℚ 0ℚ). absurd (not_
 
 -- ---- slopes that fall by h, or stay, keep their order for small h
 pub ordered-low : (s t r u h : ℚ) → s ≤ℚ t → r ≤ℚ s → (u ≡ t) ⊎ ((u ≡ t -ℚ h) × ((s <ℚ t → h ≤ℚ t -ℚ s) × (s ≡ t → r ≡ s -ℚ h))) → r ≤ℚ u
-ordered-low s t r u h l k (inl e) = linear_le (s ∷ t ∷ r ∷ u ∷ []) (le l ∷ le k ∷ eq e ∷ []) (search reading_of depth 12) tt
+ordered-low s t r u h l k (inl e) = linear_le (s ∷ t ∷ r ∷ u ∷ []) (le l ∷ le k ∷ eq e ∷ []) (search reading_of) tt
 ordered-low s t r u h l k (inr w) = ⊎_elim
     (λ (m : s <ℚ t). below (w.1.0 m))
     (λ (m : t ≤ℚ s). same (≤ℚ_antisymm _ _ l m))
@@ -145,7 +145,7 @@ ordered-low s t r u h l k (inr w) = ⊎_elim
     e = w.0
 
     below : h ≤ℚ t -ℚ s → r ≤ℚ u
-    below g = linear_le (s ∷ t ∷ r ∷ u ∷ h ∷ []) (le g ∷ le k ∷ eq e ∷ []) (search reading_of depth 12) tt
+    below g = linear_le (s ∷ t ∷ r ∷ u ∷ h ∷ []) (le g ∷ le k ∷ eq e ∷ []) (search reading_of) tt
 
     same : s ≡ t → r ≤ℚ u
-    same f = let g : r ≡ s -ℚ h = w.1.1 f in linear_le (s ∷ t ∷ r ∷ u ∷ h ∷ []) (eq f ∷ eq g ∷ eq e ∷ []) (search reading_of depth 12) tt
+    same f = let g : r ≡ s -ℚ h = w.1.1 f in linear_le (s ∷ t ∷ r ∷ u ∷ h ∷ []) (eq f ∷ eq g ∷ eq e ∷ []) (search reading_of) tt

@@ -9,6 +9,7 @@ use Rattle.nf_rational_laws.proofs.Order.{≤ℚ_of_lt}
 use Rattle.nf_rational_laws.proofs.Quotient.{/ℚ-times, ps_apart}
 use Rattle.nf_rational_laws.proofs.Linear.{le, lt, eq, linear_le, linear_lt, linear_eq, linear_false}
 use Rattle.nf_rational_laws.proofs.Extremes.{min_left, min_right, min_keeps}
+use Rattle.nf_rational_laws.proofs.Facts.{nn_after_less, nn_less_part, less_some_le}
 use Rattle.nf_model.specs.Entries.{Has}
 use Rattle.nf_model.specs.Network.{Link, Network, IsLink, IsNetwork, sum_out}
 use Rattle.nf_model.specs.ThinFlow.{Sets}
@@ -32,11 +33,11 @@ pub record IsPart (b x a : ℚ) : Type 0 where
   pub most : a ≤ℚ x
 
 half_of : (b q : ℚ) → 0ℚ <ℚ b → q *ℚ (1ℚ +ℚ 1ℚ) ≡ b → (0ℚ <ℚ q) × (q <ℚ b)
-half_of b q h e = (linear_lt (b ∷ q ∷ []) (lt h ∷ eq e ∷ []) (search reading_of depth 12) tt, linear_lt (b ∷ q ∷ []) (lt h ∷ eq e ∷ []) (search reading_of depth 12) tt)
+half_of b q h e = (linear_lt (b ∷ q ∷ []) (lt h ∷ eq e ∷ []) (search reading_of) tt, linear_lt (b ∷ q ∷ []) (lt h ∷ eq e ∷ []) (search reading_of) tt)
 
 pub half : (b : ℚ) → 0ℚ <ℚ b → (q : ℚ) × (0ℚ <ℚ q) × (q <ℚ b)
 half b h =
-    let two : 0ℚ <ℚ 1ℚ +ℚ 1ℚ = linear_lt [] [] (search reading_of depth 12) tt in
+    let two : 0ℚ <ℚ 1ℚ +ℚ 1ℚ = linear_lt [] [] (search reading_of) tt in
     let w : (0ℚ <ℚ b /ℚ (1ℚ +ℚ 1ℚ)) × (b /ℚ (1ℚ +ℚ 1ℚ) <ℚ b) = half_of b (b /ℚ (1ℚ +ℚ 1ℚ)) h (/ℚ-times b (1ℚ +ℚ 1ℚ) (ps_apart _ two)) in
     (b /ℚ (1ℚ +ℚ 1ℚ), w.0, w.1)
 
@@ -52,7 +53,7 @@ part_of b x h k =
     )
   where
     below : (y q : ℚ) → y ≤ℚ q → q <ℚ b → y <ℚ b
-    below y q l m = linear_lt (y ∷ q ∷ b ∷ []) (le l ∷ lt m ∷ []) (search reading_of depth 12) tt
+    below y q l m = linear_lt (y ∷ q ∷ b ∷ []) (le l ∷ lt m ∷ []) (search reading_of) tt
 
 -- The same for the room on a link.
 pub part_of_room : (capacity : Option ℚ) (x t b : ℚ) → 0ℚ <ℚ b → HasRoom capacity x t → (a : ℚ) × (0ℚ <ℚ a) × (a <ℚ b) × IsAtMost capacity (x +ℚ a) t
@@ -62,38 +63,29 @@ part_of_room (Some c) x t b h r =
     (w.0, w.1.above, w.1.less, λ d e. subst (λ (k : ℚ). x +ℚ w.0 ≤ℚ k *ℚ t) (same_Some c d e) (within w.0 w.1.most))
   where
     gap : x <ℚ c *ℚ t → 0ℚ <ℚ c *ℚ t -ℚ x
-    gap l = linear_lt (x ∷ c ∷ t ∷ []) (lt l ∷ []) (search reading_of depth 12) tt
+    gap l = linear_lt (x ∷ c ∷ t ∷ []) (lt l ∷ []) (search reading_of) tt
 
     within : (a : ℚ) → a ≤ℚ c *ℚ t -ℚ x → x +ℚ a ≤ℚ c *ℚ t
-    within a l = linear_le (x ∷ c ∷ t ∷ a ∷ []) (le l ∷ []) (search reading_of depth 12) tt
+    within a l = linear_le (x ∷ c ∷ t ∷ a ∷ []) (le l ∷ []) (search reading_of) tt
 
 -- ---- numbers
-left_over : (s t a : ℚ) → t ≡ s -ℚ a → a <ℚ s → 0ℚ <ℚ t
-left_over s t a e h = linear_lt (s ∷ t ∷ a ∷ []) (eq e ∷ lt h ∷ []) (search reading_of depth 12) tt
+pub left_over : (s t a : ℚ) → t ≡ s -ℚ a → a <ℚ s → 0ℚ <ℚ t
+left_over s t a e h = linear_lt (s ∷ t ∷ a ∷ []) (eq e ∷ lt h ∷ []) (search reading_of) tt
 
-gained : (s t a : ℚ) → t ≡ s +ℚ a → 0ℚ ≤ℚ s → 0ℚ <ℚ a → 0ℚ <ℚ t
-gained s t a e h k = linear_lt (s ∷ t ∷ a ∷ []) (eq e ∷ le h ∷ lt k ∷ []) (search reading_of depth 12) tt
+pub gained : (s t a : ℚ) → t ≡ s +ℚ a → 0ℚ ≤ℚ s → 0ℚ <ℚ a → 0ℚ <ℚ t
+gained s t a e h k = linear_lt (s ∷ t ∷ a ∷ []) (eq e ∷ le h ∷ lt k ∷ []) (search reading_of) tt
 
-taken : (s t a : ℚ) → t ≡ s +ℚ (0ℚ -ℚ a) → a ≤ℚ s → 0ℚ ≤ℚ t
-taken s t a e h = linear_le (s ∷ t ∷ a ∷ []) (eq e ∷ le h ∷ []) (search reading_of depth 12) tt
+pub more_flow : (x a : ℚ) → 0ℚ ≤ℚ x → 0ℚ <ℚ a → 0ℚ ≤ℚ x +ℚ a
+more_flow x a h k = linear_le (x ∷ a ∷ []) (le h ∷ lt k ∷ []) (search reading_of) tt
 
-more_flow : (x a : ℚ) → 0ℚ ≤ℚ x → 0ℚ <ℚ a → 0ℚ ≤ℚ x +ℚ a
-more_flow x a h k = linear_le (x ∷ a ∷ []) (le h ∷ lt k ∷ []) (search reading_of depth 12) tt
+pub plus_less : (s t a : ℚ) → t ≡ s +ℚ (0ℚ -ℚ a) → t ≡ s -ℚ a
+plus_less s t a e = linear_eq (s ∷ t ∷ a ∷ []) (eq e ∷ []) (search reading_of) tt tt
 
-less_flow : (x a : ℚ) → a ≤ℚ x → 0ℚ ≤ℚ x +ℚ (0ℚ -ℚ a)
-less_flow x a h = linear_le (x ∷ a ∷ []) (le h ∷ []) (search reading_of depth 12) tt
-
-still_most : (x a y : ℚ) → 0ℚ <ℚ a → x ≤ℚ y → x +ℚ (0ℚ -ℚ a) ≤ℚ y
-still_most x a y h k = linear_le (x ∷ a ∷ y ∷ []) (lt h ∷ le k ∷ []) (search reading_of depth 12) tt
-
-plus_less : (s t a : ℚ) → t ≡ s +ℚ (0ℚ -ℚ a) → t ≡ s -ℚ a
-plus_less s t a e = linear_eq (s ∷ t ∷ a ∷ []) (eq e ∷ []) (search reading_of depth 12) tt tt
-
-less_less : (s t a : ℚ) → t ≡ s -ℚ (0ℚ -ℚ a) → t ≡ s +ℚ a
-less_less s t a e = linear_eq (s ∷ t ∷ a ∷ []) (eq e ∷ []) (search reading_of depth 12) tt tt
+pub less_less : (s t a : ℚ) → t ≡ s -ℚ (0ℚ -ℚ a) → t ≡ s +ℚ a
+less_less s t a e = linear_eq (s ∷ t ∷ a ∷ []) (eq e ∷ []) (search reading_of) tt tt
 
 no_less_than : (o q a : ℚ) → q ≡ o +ℚ (0ℚ -ℚ a) → o ≤ℚ q → 0ℚ <ℚ a → ⊥
-no_less_than o q a e h k = linear_false (o ∷ q ∷ a ∷ []) (eq e ∷ le h ∷ lt k ∷ []) (search reading_of depth 12) tt
+no_less_than o q a e h k = linear_false (o ∷ q ∷ a ∷ []) (eq e ∷ le h ∷ lt k ∷ []) (search reading_of) tt
 
 -- ---- an oversupply with these slopes that sends the least out of the source
 pub record IsLeastFlow (net : Network) (sets : Sets) (rate : ℚ) (slopes flows : ℕ → ℚ) : Type 0 where
@@ -193,15 +185,15 @@ module _ (net : Network) (sets : Sets) (rate : ℚ) (slopes : ℕ → ℚ) (good
         d = 0ℚ -ℚ a
 
         less : 0ℚ ≤ℚ flows e +ℚ d
-        less = less_flow (flows e) a part.1.most
+        less = nn_less_part (flows e) a part.1.most
 
         at_most : IsAtMost link.capacity (flows e +ℚ d) (slopes link.head)
-        at_most c k = still_most (flows e) a _ part.1.above ((f.over.others e link p needs).most c k)
+        at_most c k = less_some_le (flows e) a _ part.1.above ((f.over.others e link p needs).most c k)
 
         left : link.tail ≡ net.source → (v : ℕ) → v < net.nodes → v ≢ net.source → 0ℚ ≤ℚ spare net rate (pushed net rate flows e link p d) v
         left at v l other = ⊎_elim
             (λ (k : v ≡ link.head). subst (λ (j : ℕ). 0ℚ ≤ℚ spare net rate (pushed net rate flows e link p d) j) (sym k)
-            (taken (spare net rate flows link.head) _ a (spare-head net rate flows e link p d apart) (≤ℚ_of_lt _ _ part.1.less)))
+            (nn_after_less (spare net rate flows link.head) _ a (spare-head net rate flows e link p d apart) (≤ℚ_of_lt _ _ part.1.less)))
             (λ (k : v ≢ link.head). subst (λ (z : ℚ). 0ℚ ≤ℚ z) (sym (spare-else net rate flows e link p d v k (λ t. other (t ∙ at)))) (spare-not_negative v l other))
             (same_node v link.head)
 

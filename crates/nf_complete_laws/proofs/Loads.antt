@@ -10,10 +10,11 @@ use Rattle.nf_rational_laws.proofs.Polynomial.{reading_of}
 use Rattle.nf_rational_laws.proofs.Order.{≤ℚ_of_lt, nn_times}
 use Rattle.nf_rational_laws.proofs.Linear.{linear_le}
 use Rattle.nf_rational_laws.proofs.Chains.{≤ℚ_refl}
+use Rattle.nf_rational_laws.proofs.Facts.{times_le}
 use Rattle.nf_model.specs.Pattern.{Fills}
 use Rattle.nf_model_laws.specs.Capacity.{IsPositive}
 use Rattle.nf_complete_laws.specs.Oversupply.{Fits}
-use Rattle.nf_complete_laws.proofs.Powers.{power, power-nn, power-rises, room, times_le}
+use Rattle.nf_complete_laws.proofs.Powers.{power, power-nn, power-rises, room}
 
 -- The exponent of the head's slope that the link allows.
 abbrev pub bound : Bool → Option ℚ → ℕ → ℕ → ℕ
@@ -35,10 +36,10 @@ pub record Load (k : ℚ) (resets : Bool) (capacity : Option ℚ) (a b t : ℕ) 
   pub least : b ≡ bound resets capacity a t → room capacity *ℚ power k t ≤ℚ flow
 
 one_is : (p : ℚ) → p ≤ℚ 1ℚ *ℚ p
-one_is p = linear_le (p ∷ []) [] (search reading_of depth 12) tt
+one_is p = linear_le (p ∷ []) [] (search reading_of) tt
 
 is_one : (p : ℚ) → 1ℚ *ℚ p ≤ℚ p
-is_one p = linear_le (p ∷ []) [] (search reading_of depth 12) tt
+is_one p = linear_le (p ∷ []) [] (search reading_of) tt
 
 same_capacity : (x c s d : ℚ) → x ≤ℚ c *ℚ s → Some c ≡ Some d → x ≤ℚ d *ℚ s
 same_capacity x c s d h e = subst (λ (z : ℚ). x ≤ℚ z *ℚ s) (same_Some c d e) h

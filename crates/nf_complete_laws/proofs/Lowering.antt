@@ -19,6 +19,7 @@ use Rattle.nf_model_laws.proofs.Potential.{sum_to}
 use Rattle.nf_thin_laws.specs.ActiveLinks.{AreSets, HoldNoCycle}
 use Rattle.nf_thin_laws.proofs.ActiveLinks.{none_first}
 use Rattle.nf_rational_laws.proofs.Naturals.{before_or_at}
+use Rattle.nf_rational_laws.proofs.Facts.{sum_le, sum_lt_le, sum_le_lt}
 use Rattle.nf_complete_laws.specs.Oversupply.{Fits, demand, IsOversupply, ResetsAreBounded}
 use Rattle.nf_complete_laws.proofs.Deciding.{Decided}
 use Rattle.nf_complete_laws.proofs.Small.{Small, Small-map, Small-both, Small-when, Small-at_most, Small-apart, Small-times, Small-to, Small-links}
@@ -29,23 +30,14 @@ use Rattle.nf_complete_laws.proofs.Spare.{spare, HasSpare, spare_or_not, kind_of
 -- ---- sums of numbers of which none grows and at least one falls
 pub sum_to-le : (n : ℕ) (f g : ℕ → ℚ) → ((k : ℕ) → k < n → f k ≤ℚ g k) → sum_to n f ≤ℚ sum_to n g
 sum_to-le zero f g h = ≤ℚ_refl 0ℚ
-sum_to-le (suc n) f g h = add (sum_to n f) (sum_to n g) (f n) (g n) (sum_to-le n f g (λ k l. h k (omega arith))) (h n (omega arith))
-  where
-    add : (a b c d : ℚ) → a ≤ℚ b → c ≤ℚ d → a +ℚ c ≤ℚ b +ℚ d
-    add a b c d p q = linear_le (a ∷ b ∷ c ∷ d ∷ []) (le p ∷ le q ∷ []) (search reading_of depth 12) tt
+sum_to-le (suc n) f g h = sum_le (sum_to n f) (sum_to n g) (f n) (g n) (sum_to-le n f g (λ k l. h k (omega arith))) (h n (omega arith))
 
 pub sum_to-lt : (n : ℕ) (f g : ℕ → ℚ) → ((k : ℕ) → k < n → f k ≤ℚ g k) → (v : ℕ) → v < n → f v <ℚ g v → sum_to n f <ℚ sum_to n g
 sum_to-lt zero f g h v l k = absurd (omega arith)
 sum_to-lt (suc n) f g h v l k = ⊎_elim
-    (λ (b : v < n). left (sum_to n f) (sum_to n g) (f n) (g n) (sum_to-lt n f g (λ k l. h k (omega arith)) v b k) (h n (omega arith)))
-    (λ (e : v ≡ n). right (sum_to n f) (sum_to n g) (f n) (g n) (sum_to-le n f g (λ k l. h k (omega arith))) (subst (λ (j : ℕ). f j <ℚ g j) e k))
+    (λ (b : v < n). sum_lt_le (sum_to n f) (sum_to n g) (f n) (g n) (sum_to-lt n f g (λ k l. h k (omega arith)) v b k) (h n (omega arith)))
+    (λ (e : v ≡ n). sum_le_lt (sum_to n f) (sum_to n g) (f n) (g n) (sum_to-le n f g (λ k l. h k (omega arith))) (subst (λ (j : ℕ). f j <ℚ g j) e k))
     (before_or_at v n (omega arith))
-  where
-    left : (a b c d : ℚ) → a <ℚ b → c ≤ℚ d → a +ℚ c <ℚ b +ℚ d
-    left a b c d p q = linear_lt (a ∷ b ∷ c ∷ d ∷ []) (lt p ∷ le q ∷ []) (search reading_of depth 12) tt
-
-    right : (a b c d : ℚ) → a ≤ℚ b → c <ℚ d → a +ℚ c <ℚ b +ℚ d
-    right a b c d p q = linear_lt (a ∷ b ∷ c ∷ d ∷ []) (le p ∷ lt q ∷ []) (search reading_of depth 12) tt
 
 -- ---- a number lowered by h, if a property holds
 abbrev pub low_by : {A : Type 0} → Decided A → ℚ → ℚ → ℚ
@@ -57,12 +49,12 @@ low_by-cases (inl a) h x = inl (a, refl)
 low_by-cases (inr n) h x = inr (n, refl)
 
 pub low_by-le : {A : Type 0} (d : Decided A) (h x : ℚ) → 0ℚ ≤ℚ h → low_by d h x ≤ℚ x
-low_by-le (inl a) h x n = linear_le (h ∷ x ∷ []) (le n ∷ []) (search reading_of depth 12) tt
+low_by-le (inl a) h x n = linear_le (h ∷ x ∷ []) (le n ∷ []) (search reading_of) tt
 low_by-le (inr m) h x n = ≤ℚ_refl x
 
 pub low_by-near : {A : Type 0} (d : Decided A) (h x : ℚ) → 0ℚ ≤ℚ h → x -ℚ h ≤ℚ low_by d h x
 low_by-near (inl a) h x n = ≤ℚ_refl _
-low_by-near (inr m) h x n = linear_le (h ∷ x ∷ []) (le n ∷ []) (search reading_of depth 12) tt
+low_by-near (inr m) h x n = linear_le (h ∷ x ∷ []) (le n ∷ []) (search reading_of) tt
 
 pub low_by-is : {A : Type 0} (d : Decided A) (h x : ℚ) → A → low_by d h x ≡ x -ℚ h
 low_by-is (inl a) h x b = refl
@@ -87,7 +79,7 @@ capacity_by (Some link) = unwrap_or link.capacity 0ℚ
 abbrev pub capacity_at : Network → ℕ → ℚ
 capacity_at net e = capacity_by (slice_get net.links e)
 
-unwrapped-not_negative : (capacity : Option ℚ) → IsPositive capacity → 0ℚ ≤ℚ unwrap_or capacity 0ℚ
+pub unwrapped-not_negative : (capacity : Option ℚ) → IsPositive capacity → 0ℚ ≤ℚ unwrap_or capacity 0ℚ
 unwrapped-not_negative None positive = ≤ℚ_refl 0ℚ
 unwrapped-not_negative (Some c) positive = ≤ℚ_of_lt _ _ (positive c refl)
 
@@ -102,13 +94,13 @@ pub record IsSmall (net : Network) (rate : ℚ) (flows slopes : ℕ → ℚ) (h 
   pub paid : (v : ℕ) → v < net.nodes → HasSpare net rate flows v → sum_in net.links (capacity_at net) v *ℚ h ≤ℚ spare net rate flows v
 
 no_positive : (x c t : ℚ) → 0ℚ <ℚ x → x ≤ℚ c *ℚ t → 0ℚ <ℚ c → t ≤ℚ 0ℚ → ⊥
-no_positive x c t h k p n = let low : 0ℚ ≤ℚ c = ≤ℚ_of_lt _ _ p in linear_false (x ∷ c ∷ t ∷ []) (lt h ∷ le k ∷ le_times low n ∷ []) (search reading_of depth 12) tt
+no_positive x c t h k p n = let low : 0ℚ ≤ℚ c = ≤ℚ_of_lt _ _ p in linear_false (x ∷ c ∷ t ∷ []) (lt h ∷ le k ∷ le_times low n ∷ []) (search reading_of) tt
 
-enough_by_rest : (o d i p q k : ℚ) → p ≤ℚ o → i ≤ℚ q +ℚ k → k ≤ℚ i -ℚ (o +ℚ d) → p +ℚ d ≤ℚ q
-enough_by_rest o d i p q k h l m = linear_le (o ∷ d ∷ i ∷ p ∷ q ∷ k ∷ []) (le h ∷ le l ∷ le m ∷ []) (search reading_of depth 12) tt
+pub enough_by_rest : (o d i p q k : ℚ) → p ≤ℚ o → i ≤ℚ q +ℚ k → k ≤ℚ i -ℚ (o +ℚ d) → p +ℚ d ≤ℚ q
+enough_by_rest o d i p q k h l m = linear_le (o ∷ d ∷ i ∷ p ∷ q ∷ k ∷ []) (le h ∷ le l ∷ le m ∷ []) (search reading_of) tt
 
-enough_by_same : (o d i p q : ℚ) → p ≤ℚ o → q ≡ i → o +ℚ d ≤ℚ i → p +ℚ d ≤ℚ q
-enough_by_same o d i p q h e m = linear_le (o ∷ d ∷ i ∷ p ∷ q ∷ []) (le h ∷ eq e ∷ le m ∷ []) (search reading_of depth 12) tt
+pub enough_by_same : (o d i p q : ℚ) → p ≤ℚ o → q ≡ i → o +ℚ d ≤ℚ i → p +ℚ d ≤ℚ q
+enough_by_same o d i p q h e m = linear_le (o ∷ d ∷ i ∷ p ∷ q ∷ []) (le h ∷ eq e ∷ le m ∷ []) (search reading_of) tt
 
 module _ (net : Network) (sets : Sets) (rate : ℚ) (flows slopes : ℕ → ℚ) (good : IsNetwork net) (are : AreSets net sets) (acyclic : HoldNoCycle net sets) (bounded : ResetsAreBounded net sets)
     (rate_nn : 0ℚ ≤ℚ rate) (over : IsOversupply net sets rate flows slopes) (closed : IsClosed net sets rate flows slopes) where
@@ -233,7 +225,7 @@ module _ (net : Network) (sets : Sets) (rate : ℚ) (flows slopes : ℕ → ℚ)
         (lowered-cases v)
       where
         left : (x y : ℚ) → y ≡ x -ℚ h → h ≤ℚ x → 0ℚ ≤ℚ y
-        left x y e k = linear_le (x ∷ y ∷ h ∷ []) (eq e ∷ le k ∷ []) (search reading_of depth 12) tt
+        left x y e k = linear_le (x ∷ y ∷ h ∷ []) (eq e ∷ le k ∷ []) (search reading_of) tt
 
     -- Slopes keep their order along a link with flow, and against a link with room.
     rises : (e : ℕ) (link : Link) → IsLink net e link → NeedsState sets e → 0ℚ <ℚ flows e → lowered link.tail ≤ℚ lowered link.head
@@ -343,7 +335,7 @@ module _ (net : Network) (sets : Sets) (rate : ℚ) (flows slopes : ℕ → ℚ)
     lowered-less v l s k = sum_to-lt net.nodes lowered slopes (λ u _. lowered-le u) v l (less (slopes v) (lowered v) (lowered-is v s))
       where
         less : (x y : ℚ) → y ≡ x -ℚ h → y <ℚ x
-        less x y e = linear_lt (x ∷ y ∷ h ∷ []) (eq e ∷ lt k ∷ []) (search reading_of depth 12) tt
+        less x y e = linear_lt (x ∷ y ∷ h ∷ []) (eq e ∷ lt k ∷ []) (search reading_of) tt
 
   -- If a node has excess, there is an oversupply with a smaller sum of slopes.
   pub lower : (v : ℕ) → v < net.nodes → HasSpare net rate flows v

@@ -15,9 +15,10 @@ use Rattle.nf_model.specs.ThinFlow.{Sets}
 use Rattle.nf_model.specs.Pattern.{IsTrail, AllDiffer}
 use Rattle.nf_model_laws.proofs.Potential.{out_less_in}
 use Rattle.nf_model_laws.proofs.Sums.{sum_in-line, sum_out-line}
+use Rattle.nf_model_laws.proofs.Contained.{contains_more, contains_first}
 use Rattle.nf_thin_laws.proofs.Forests.{Carries, forest-none}
 use Rattle.nf_complete_def.specs.Interior.{IsInterior, links_of, turn_of, IsNextCycle}
-use Rattle.nf_complete_laws.proofs.Trails.{contains_more, contains_first, signed, carried_by, turn-contains, trail-allowed, carried-closed}
+use Rattle.nf_complete_laws.proofs.Trails.{signed, carried_by, turn-contains, trail-allowed, carried-closed}
 use Rattle.nf_complete_laws.proofs.Deciding.{same_or_not}
 
 pub weaker : (hops : List Hop) (Allowed Other : ℕ → Type 0) (steps : List (ℕ × Bool)) (v w : ℕ) → IsTrail hops Allowed steps v w → ((e : ℕ) → Contains (links_of steps) e → Allowed e → Other e) → IsTrail hops Other steps v w
@@ -40,13 +41,13 @@ taken_by ((f, b) ∷ steps) e c = ⊎_elim
 -- the flow carried determines the direction
 same_turn : (a b : Option Bool) → signed a ≡ signed b → a ≡ b
 same_turn None None e = refl
-same_turn None (Some true) e = absurd (linear_false [] (eq e ∷ []) (search reading_of depth 12) tt)
-same_turn None (Some false) e = absurd (linear_false [] (eq e ∷ []) (search reading_of depth 12) tt)
-same_turn (Some true) None e = absurd (linear_false [] (eq e ∷ []) (search reading_of depth 12) tt)
+same_turn None (Some true) e = absurd (linear_false [] (eq e ∷ []) (search reading_of) tt)
+same_turn None (Some false) e = absurd (linear_false [] (eq e ∷ []) (search reading_of) tt)
+same_turn (Some true) None e = absurd (linear_false [] (eq e ∷ []) (search reading_of) tt)
 same_turn (Some true) (Some true) e = refl
-same_turn (Some true) (Some false) e = absurd (linear_false [] (eq e ∷ []) (search reading_of depth 12) tt)
-same_turn (Some false) None e = absurd (linear_false [] (eq e ∷ []) (search reading_of depth 12) tt)
-same_turn (Some false) (Some true) e = absurd (linear_false [] (eq e ∷ []) (search reading_of depth 12) tt)
+same_turn (Some true) (Some false) e = absurd (linear_false [] (eq e ∷ []) (search reading_of) tt)
+same_turn (Some false) None e = absurd (linear_false [] (eq e ∷ []) (search reading_of) tt)
+same_turn (Some false) (Some true) e = absurd (linear_false [] (eq e ∷ []) (search reading_of) tt)
 same_turn (Some false) (Some false) e = refl
 
 module _ (net : Network) (sets : Sets) (slopes flows : List ℚ) (good : IsNetwork net) where
@@ -85,7 +86,7 @@ module _ (net : Network) (sets : Sets) (slopes flows : List ℚ) (good : IsNetwo
       mixed e = carried_by steps e +ℚ carried_by others e *ℚ by
 
       both_none : (x y : ℚ) → x ≡ 0ℚ → y ≡ 0ℚ → x +ℚ y *ℚ by ≡ 0ℚ
-      both_none x y h k = linear_eq (x ∷ y ∷ by ∷ []) (eq h ∷ eq_times by k ∷ []) (search reading_of depth 12) tt tt
+      both_none x y h k = linear_eq (x ∷ y ∷ by ∷ []) (eq h ∷ eq_times by k ∷ []) (search reading_of) tt tt
 
       -- a link on which the combined flow is not 0 is interior, and comes before the last
       inside : (e : ℕ) → (mixed e ≡ 0ℚ → ⊥) → (e < s.last) × Interior e
@@ -104,7 +105,7 @@ module _ (net : Network) (sets : Sets) (slopes flows : List ℚ) (good : IsNetwo
       not_level false z h e = not_both_ℚ _ _ h (≤ℚ_of_same _ _ (sym e))
 
       node_line : (o p i j r q : ℚ) → o ≡ p +ℚ r *ℚ by → i ≡ j +ℚ q *ℚ by → p -ℚ j ≡ 0ℚ → r -ℚ q ≡ 0ℚ → o -ℚ i ≡ 0ℚ
-      node_line o p i j r q e f g h = linear_eq (o ∷ p ∷ i ∷ j ∷ r ∷ q ∷ by ∷ []) (eq e ∷ eq f ∷ eq g ∷ eq_times by h ∷ []) (search reading_of depth 12) tt tt
+      node_line o p i j r q e f g h = linear_eq (o ∷ p ∷ i ∷ j ∷ r ∷ q ∷ by ∷ []) (eq e ∷ eq f ∷ eq g ∷ eq_times by h ∷ []) (search reading_of) tt tt
 
       balanced : (v : ℕ) → v < net.nodes → out_less_in net.links mixed v ≡ 0ℚ
       balanced v _ = node_line _ _ _ _ _ _ (sum_out-line net.links (carried_by steps) (carried_by others) by v) (sum_in-line net.links (carried_by steps) (carried_by others) by v)
@@ -118,10 +119,10 @@ module _ (net : Network) (sets : Sets) (slopes flows : List ℚ) (good : IsNetwo
 
     -- ---- the same direction at the last link
     same_sign : (x y : ℚ) → x ≡ y → x +ℚ y *ℚ (0ℚ -ℚ 1ℚ) ≡ 0ℚ
-    same_sign x y h = linear_eq (x ∷ y ∷ []) (eq h ∷ []) (search reading_of depth 12) tt tt
+    same_sign x y h = linear_eq (x ∷ y ∷ []) (eq h ∷ []) (search reading_of) tt tt
 
     same_back : (x y : ℚ) → x +ℚ y *ℚ (0ℚ -ℚ 1ℚ) ≡ 0ℚ → x ≡ y
-    same_back x y h = linear_eq (x ∷ y ∷ []) (eq h ∷ []) (search reading_of depth 12) tt tt
+    same_back x y h = linear_eq (x ∷ y ∷ []) (eq h ∷ []) (search reading_of) tt tt
 
     same_turns : turn_of steps s.last ≡ turn_of others s.last → (e : ℕ) → turn_of steps e ≡ turn_of others e
     same_turns h e = same_turn _ _ (same_back (carried_by steps e) (carried_by others e) (mixed_all (0ℚ -ℚ 1ℚ) (same_sign _ _ (ap signed h)) e))
@@ -131,13 +132,13 @@ module _ (net : Network) (sets : Sets) (slopes flows : List ℚ) (good : IsNetwo
     turned e h k = same_turn (turn_of others e) (Some false) (other (signed (turn_of others e)) (subst (λ (o : Option Bool). signed o +ℚ signed (turn_of others e) *ℚ 1ℚ ≡ 0ℚ) k h))
       where
         other : (y : ℚ) → 1ℚ +ℚ y *ℚ 1ℚ ≡ 0ℚ → y ≡ 0ℚ -ℚ 1ℚ
-        other y e = linear_eq (y ∷ []) (eq e ∷ []) (search reading_of depth 12) tt tt
+        other y e = linear_eq (y ∷ []) (eq e ∷ []) (search reading_of) tt tt
 
     turned_back : (e : ℕ) → signed (turn_of steps e) +ℚ signed (turn_of others e) *ℚ 1ℚ ≡ 0ℚ → turn_of others e ≡ Some true → turn_of steps e ≡ Some false
     turned_back e h k = same_turn (turn_of steps e) (Some false) (other (signed (turn_of steps e)) (subst (λ (o : Option Bool). signed (turn_of steps e) +ℚ signed o *ℚ 1ℚ ≡ 0ℚ) k h))
       where
         other : (x : ℚ) → x +ℚ 1ℚ *ℚ 1ℚ ≡ 0ℚ → x ≡ 0ℚ -ℚ 1ℚ
-        other x e = linear_eq (x ∷ []) (eq e ∷ []) (search reading_of depth 12) tt tt
+        other x e = linear_eq (x ∷ []) (eq e ∷ []) (search reading_of) tt tt
 
     true_false : Some true ≡ Some false → ⊥
     true_false h = cc
@@ -152,10 +153,10 @@ module _ (net : Network) (sets : Sets) (slopes flows : List ℚ) (good : IsNetwo
         true_false (sym t.grows ∙ ap (turn_of others) (sym e) ∙ f)
 
     cancel_out : (x y : ℚ) → x ≡ 1ℚ → y ≡ 0ℚ -ℚ 1ℚ → x +ℚ y *ℚ 1ℚ ≡ 0ℚ
-    cancel_out x y h k = linear_eq (x ∷ y ∷ []) (eq h ∷ eq k ∷ []) (search reading_of depth 12) tt tt
+    cancel_out x y h k = linear_eq (x ∷ y ∷ []) (eq h ∷ eq k ∷ []) (search reading_of) tt tt
 
     cancel_back : (x y : ℚ) → x ≡ 0ℚ -ℚ 1ℚ → y ≡ 1ℚ → x +ℚ y *ℚ 1ℚ ≡ 0ℚ
-    cancel_back x y h k = linear_eq (x ∷ y ∷ []) (eq h ∷ eq k ∷ []) (search reading_of depth 12) tt tt
+    cancel_back x y h k = linear_eq (x ∷ y ∷ []) (eq h ∷ eq k ∷ []) (search reading_of) tt tt
 
     pub one_cycle : (e : ℕ) → turn_of steps e ≡ turn_of others e
     one_cycle = by a.0 b.0 a.1 b.1

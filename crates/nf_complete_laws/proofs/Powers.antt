@@ -9,6 +9,7 @@ use Rattle.nf_rational_laws.proofs.Polynomial.{reading_of}
 use Rattle.nf_rational_laws.proofs.Order.{≤ℚ_of_lt, nn_plus, nn_times, ps_whole}
 use Rattle.nf_rational_laws.proofs.Linear.{le, eq, le_times, linear_le}
 use Rattle.nf_rational_laws.proofs.Chains.{≤ℚ_refl}
+use Rattle.nf_rational_laws.proofs.Facts.{nn_of_one, times_le}
 use Rattle.nf_model.specs.Network.{Link, sum_out}
 use Rattle.nf_model_laws.specs.Capacity.{IsPositive}
 use Rattle.nf_model_laws.proofs.Affine.{nn-quotient, quotient-times}
@@ -19,14 +20,8 @@ abbrev pub power : ℚ → ℕ → ℚ
 power k zero = 1ℚ
 power k (suc n) = k *ℚ power k n
 
-pub nn_of_one : (k : ℚ) → 1ℚ ≤ℚ k → 0ℚ ≤ℚ k
-nn_of_one k h = linear_le (k ∷ []) (le h ∷ []) (search reading_of depth 12) tt
-
 one_times_one : (k p : ℚ) → 1ℚ ≤ℚ k → 1ℚ ≤ℚ p → 1ℚ ≤ℚ k *ℚ p
-one_times_one k p h l = linear_le (k ∷ p ∷ []) (le_times (nn_of_one p l) h ∷ le l ∷ []) (search reading_of depth 12) tt
-
-pub times_le : (k a b : ℚ) → 0ℚ ≤ℚ k → a ≤ℚ b → k *ℚ a ≤ℚ k *ℚ b
-times_le k a b h p = linear_le (k ∷ a ∷ b ∷ []) (le_times h p ∷ []) (search reading_of depth 12) tt
+one_times_one k p h l = linear_le (k ∷ p ∷ []) (le_times (nn_of_one p l) h ∷ le l ∷ []) (search reading_of) tt
 
 module _ (k : ℚ) (one : 1ℚ ≤ℚ k) where
   pub power-one : (n : ℕ) → 1ℚ ≤ℚ power k n
@@ -60,24 +55,24 @@ rooms-nn (link ∷ links) p = nn_plus (room link.capacity) (rooms links) (≤ℚ
 
 -- The flow out of a node, if each link carries at most its room times p.
 within : (b : Bool) (a r s t p : ℚ) → (b ≡ true → a ≤ℚ r *ℚ p) → 0ℚ ≤ℚ r → 0ℚ ≤ℚ p → s ≤ℚ t *ℚ p → (if b then a +ℚ s else s) ≤ℚ (r +ℚ t) *ℚ p
-within true a r s t p h n m k = let l : a ≤ℚ r *ℚ p = h refl in linear_le (a ∷ r ∷ s ∷ t ∷ p ∷ []) (le l ∷ le k ∷ []) (search reading_of depth 12) tt
-within false a r s t p h n m k = let l : 0ℚ ≤ℚ r *ℚ p = nn_times r p n m in linear_le (r ∷ s ∷ t ∷ p ∷ []) (le l ∷ le k ∷ []) (search reading_of depth 12) tt
+within true a r s t p h n m k = let l : a ≤ℚ r *ℚ p = h refl in linear_le (a ∷ r ∷ s ∷ t ∷ p ∷ []) (le l ∷ le k ∷ []) (search reading_of) tt
+within false a r s t p h n m k = let l : 0ℚ ≤ℚ r *ℚ p = nn_times r p n m in linear_le (r ∷ s ∷ t ∷ p ∷ []) (le l ∷ le k ∷ []) (search reading_of) tt
 
 pub sum_out-within : (links : List Link) (f : ℕ → ℚ) (v : ℕ) (p : ℚ) → 0ℚ ≤ℚ p → ((e : ℕ) (link : Link) → slice_get links e ≡ Some link → 0ℚ <ℚ room link.capacity)
     → ((e : ℕ) (link : Link) → slice_get links e ≡ Some link → link.tail ≡ v → f e ≤ℚ room link.capacity *ℚ p) → sum_out links f v ≤ℚ rooms links *ℚ p
-sum_out-within [] f v p m n h = linear_le (p ∷ []) [] (search reading_of depth 12) tt
+sum_out-within [] f v p m n h = linear_le (p ∷ []) [] (search reading_of) tt
 sum_out-within (link ∷ links) f v p m n h = within (eqb link.tail v) (f 0) (room link.capacity) _ (rooms links) p (λ e. h 0 link refl (eqb-true link.tail v e))
     (≤ℚ_of_lt _ _ (n 0 link refl)) m (sum_out-within links (λ e. f (suc e)) v p m (λ e l q. n (suc e) l q) (λ e l q. h (suc e) l q))
 
 -- ---- a number k so great that k times the room of each link is at least d
 wide_more : (k q : ℚ) → 1ℚ ≤ℚ k → 0ℚ ≤ℚ q → 1ℚ ≤ℚ k +ℚ q
-wide_more k q h n = linear_le (k ∷ q ∷ []) (le h ∷ le n ∷ []) (search reading_of depth 12) tt
+wide_more k q h n = linear_le (k ∷ q ∷ []) (le h ∷ le n ∷ []) (search reading_of) tt
 
 wide_first : (r k q d : ℚ) → 0ℚ ≤ℚ r → 1ℚ ≤ℚ k → q *ℚ r ≡ d → d ≤ℚ r *ℚ (k +ℚ q)
-wide_first r k q d n h e = linear_le (r ∷ k ∷ q ∷ d ∷ []) (eq e ∷ le_times n (nn_of_one k h) ∷ []) (search reading_of depth 12) tt
+wide_first r k q d n h e = linear_le (r ∷ k ∷ q ∷ d ∷ []) (eq e ∷ le_times n (nn_of_one k h) ∷ []) (search reading_of) tt
 
 wide_rest : (r k q d : ℚ) → 0ℚ ≤ℚ r → 0ℚ ≤ℚ q → d ≤ℚ r *ℚ k → d ≤ℚ r *ℚ (k +ℚ q)
-wide_rest r k q d n m h = let l : 0ℚ ≤ℚ r *ℚ q = nn_times r q n m in linear_le (r ∷ k ∷ q ∷ d ∷ []) (le h ∷ le l ∷ []) (search reading_of depth 12) tt
+wide_rest r k q d n m h = let l : 0ℚ ≤ℚ r *ℚ q = nn_times r q n m in linear_le (r ∷ k ∷ q ∷ d ∷ []) (le h ∷ le l ∷ []) (search reading_of) tt
 
 abbrev pub IsWide : List Link → ℚ → ℚ → Type 0
 IsWide links d k = (e : ℕ) (link : Link) → slice_get links e ≡ Some link → d ≤ℚ room link.capacity *ℚ k

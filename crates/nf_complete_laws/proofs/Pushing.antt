@@ -6,6 +6,7 @@ use Rattle.nf_rational.specs.Order.{◌≤ℚ◌}
 use Rattle.nf_rational_laws.proofs.Polynomial.{reading_of}
 use Rattle.nf_rational_laws.proofs.Order.{≤ℚ_of_same}
 use Rattle.nf_rational_laws.proofs.Linear.{eq, eq_times, linear_eq}
+use Rattle.nf_rational_laws.proofs.Facts.{moved_by_zero, same_differences}
 use Rattle.nf_model.specs.Entries.{Has}
 use Rattle.nf_model.specs.Network.{Link, Network, IsLink, sum_in, sum_out}
 use Rattle.nf_model.specs.ThinFlow.{Sets}
@@ -19,26 +20,20 @@ use Rattle.nf_complete_laws.proofs.Fitting.{IsAtMost}
 use Rattle.nf_complete_laws.proofs.Spare.{spare, enough_of_spare}
 
 more_by : (x y a d : ℚ) → a ≡ 1ℚ → y ≡ x +ℚ a *ℚ d → y ≡ x +ℚ d
-more_by x y a d e f = linear_eq (x ∷ y ∷ a ∷ d ∷ []) (eq_times d e ∷ eq f ∷ []) (search reading_of depth 12) tt tt
-
-same_by : (x y a d : ℚ) → a ≡ 0ℚ → y ≡ x +ℚ a *ℚ d → y ≡ x
-same_by x y a d e f = linear_eq (x ∷ y ∷ a ∷ d ∷ []) (eq_times d e ∷ eq f ∷ []) (search reading_of depth 12) tt tt
+more_by x y a d e f = linear_eq (x ∷ y ∷ a ∷ d ∷ []) (eq_times d e ∷ eq f ∷ []) (search reading_of) tt tt
 
 -- Inflows and outflows change by multiples of d.
 spare_by : (i o m j p a b d : ℚ) → j ≡ i +ℚ a *ℚ d → p ≡ o +ℚ b *ℚ d → j -ℚ (p +ℚ m) ≡ (i -ℚ (o +ℚ m)) +ℚ (a -ℚ b) *ℚ d
-spare_by i o m j p a b d e f = linear_eq (i ∷ o ∷ m ∷ j ∷ p ∷ a ∷ b ∷ d ∷ []) (eq e ∷ eq f ∷ []) (search reading_of depth 14) tt tt
+spare_by i o m j p a b d e f = linear_eq (i ∷ o ∷ m ∷ j ∷ p ∷ a ∷ b ∷ d ∷ []) (eq e ∷ eq f ∷ []) (search reading_of) tt tt
 
 less_by : (x y a b d : ℚ) → a ≡ 0ℚ → b ≡ 1ℚ → y ≡ x +ℚ (a -ℚ b) *ℚ d → y ≡ x -ℚ d
-less_by x y a b d e f g = linear_eq (x ∷ y ∷ a ∷ b ∷ d ∷ []) (eq_times d e ∷ eq_times d f ∷ eq g ∷ []) (search reading_of depth 12) tt tt
-
-gap_is : (a b x y : ℚ) → a ≡ x → b ≡ y → a -ℚ b ≡ x -ℚ y
-gap_is a b x y e f = linear_eq (a ∷ b ∷ x ∷ y ∷ []) (eq e ∷ eq f ∷ []) (search reading_of depth 12) tt tt
+less_by x y a b d e f g = linear_eq (x ∷ y ∷ a ∷ b ∷ d ∷ []) (eq_times d e ∷ eq_times d f ∷ eq g ∷ []) (search reading_of) tt tt
 
 one_less_none : 1ℚ -ℚ 0ℚ ≡ 1ℚ
-one_less_none = linear_eq [] [] (search reading_of depth 12) tt tt
+one_less_none = linear_eq [] [] (search reading_of) tt tt
 
 none_less_none : 0ℚ -ℚ 0ℚ ≡ 0ℚ
-none_less_none = linear_eq [] [] (search reading_of depth 12) tt tt
+none_less_none = linear_eq [] [] (search reading_of) tt tt
 
 module _ (net : Network) (rate : ℚ) (flows : ℕ → ℚ) (e : ℕ) (link : Link) (p : IsLink net e link) (d : ℚ) where
   abbrev pub pushed : ℕ → ℚ
@@ -47,7 +42,7 @@ module _ (net : Network) (rate : ℚ) (flows : ℕ → ℚ) (e : ℕ) (link : Li
   pub pushed-cases : (k : ℕ) → ((k ≡ e) × (pushed k ≡ flows e +ℚ d)) ⊎ ((k ≢ e) × (pushed k ≡ flows k))
   pushed-cases k = ⊎_elim
       (λ (w : (k ≡ e) × (at_place e 1ℚ k ≡ 1ℚ)). inl (w.0, more_by (flows k) _ (at_place e 1ℚ k) d w.1 refl ∙ ap (λ (j : ℕ). flows j +ℚ d) w.0))
-      (λ (w : (k ≢ e) × (at_place e 1ℚ k ≡ 0ℚ)). inr (w.0, same_by (flows k) _ (at_place e 1ℚ k) d w.1 refl))
+      (λ (w : (k ≢ e) × (at_place e 1ℚ k ≡ 0ℚ)). inr (w.0, moved_by_zero (flows k) _ (at_place e 1ℚ k) d w.1 refl))
       (at_place-cases e 1ℚ k)
 
   pub in-pushed : (v : ℕ) → sum_in net.links pushed v ≡ sum_in net.links flows v +ℚ only_at link.head 1ℚ v *ℚ d
@@ -60,18 +55,18 @@ module _ (net : Network) (rate : ℚ) (flows : ℕ → ℚ) (e : ℕ) (link : Li
   out-here v h = more_by _ _ (only_at link.tail 1ℚ v) d (subst (λ (k : ℕ). only_at link.tail 1ℚ k ≡ 1ℚ) h (only_at-here link.tail 1ℚ)) (out-pushed v)
 
   pub out-else : (v : ℕ) → link.tail ≢ v → sum_out net.links pushed v ≡ sum_out net.links flows v
-  out-else v h = same_by _ _ (only_at link.tail 1ℚ v) d (only_at-else link.tail 1ℚ v h) (out-pushed v)
+  out-else v h = moved_by_zero _ _ (only_at link.tail 1ℚ v) d (only_at-else link.tail 1ℚ v h) (out-pushed v)
 
   spare-moved : (v : ℕ) → spare net rate pushed v ≡ spare net rate flows v +ℚ (only_at link.head 1ℚ v -ℚ only_at link.tail 1ℚ v) *ℚ d
   spare-moved v = spare_by (sum_in net.links flows v) (sum_out net.links flows v) (demand net rate v) _ _ (only_at link.head 1ℚ v) (only_at link.tail 1ℚ v) d (in-pushed v) (out-pushed v)
 
   pub spare-else : (v : ℕ) → v ≢ link.head → v ≢ link.tail → spare net rate pushed v ≡ spare net rate flows v
-  spare-else v h t = same_by _ _ (only_at link.head 1ℚ v -ℚ only_at link.tail 1ℚ v) d
-      (gap_is _ _ 0ℚ 0ℚ (only_at-else link.head 1ℚ v (λ k. h (sym k))) (only_at-else link.tail 1ℚ v (λ k. t (sym k))) ∙ none_less_none) (spare-moved v)
+  spare-else v h t = moved_by_zero _ _ (only_at link.head 1ℚ v -ℚ only_at link.tail 1ℚ v) d
+      (same_differences _ _ 0ℚ 0ℚ (only_at-else link.head 1ℚ v (λ k. h (sym k))) (only_at-else link.tail 1ℚ v (λ k. t (sym k))) ∙ none_less_none) (spare-moved v)
 
   pub spare-head : link.head ≢ link.tail → spare net rate pushed link.head ≡ spare net rate flows link.head +ℚ d
   spare-head h = more_by _ _ (only_at link.head 1ℚ link.head -ℚ only_at link.tail 1ℚ link.head) d
-      (gap_is _ _ 1ℚ 0ℚ (only_at-here link.head 1ℚ) (only_at-else link.tail 1ℚ link.head (λ k. h (sym k))) ∙ one_less_none) (spare-moved link.head)
+      (same_differences _ _ 1ℚ 0ℚ (only_at-here link.head 1ℚ) (only_at-else link.tail 1ℚ link.head (λ k. h (sym k))) ∙ one_less_none) (spare-moved link.head)
 
   pub spare-tail : link.head ≢ link.tail → spare net rate pushed link.tail ≡ spare net rate flows link.tail -ℚ d
   spare-tail h = less_by _ _ (only_at link.head 1ℚ link.tail) (only_at link.tail 1ℚ link.tail) d (only_at-else link.head 1ℚ link.tail h) (only_at-here link.tail 1ℚ) (spare-moved link.tail)

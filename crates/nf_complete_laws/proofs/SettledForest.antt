@@ -142,7 +142,7 @@ module _ (net : Network) (sets : Sets) (rate : ℚ) (flows slopes : List ℚ) (p
       onward_or_not f m = both (same_node m.tail v) (⊎_elim (λ (z : d f ≡ 0ℚ). inr (λ n. n z)) (λ (n : d f ≡ 0ℚ → ⊥). inl n) (same_or_not (d f) 0ℚ))
 
       no_sum : (o i y : ℚ) → o -ℚ i ≡ 0ℚ → i ≡ y → o ≡ 0ℚ → y ≡ 0ℚ
-      no_sum o i y a b c = linear_eq (o ∷ i ∷ y ∷ []) (eq a ∷ eq b ∷ eq c ∷ []) (search reading_of depth 12) tt tt
+      no_sum o i y a b c = linear_eq (o ∷ i ∷ y ∷ []) (eq a ∷ eq b ∷ eq c ∷ []) (search reading_of) tt tt
 
       stuck : NoLink net.links Onward → ⊥
       stuck none = some (no_sum _ _ (d e) (balance v) in_is (sum_out-same net.links d (λ _. 0ℚ) v (λ f m p s. ⊎_elim
@@ -179,8 +179,8 @@ module _ (net : Network) (sets : Sets) (rate : ℚ) (flows slopes : List ℚ) (p
         (tight_by e dart.link dart.is_link (d_tight e (not_level forward (d e) dart.carries)))
 
     some_first : (b : Bool) → signed (Some b) ≡ 0ℚ → ⊥
-    some_first true e = linear_false [] (eq e ∷ []) (search reading_of depth 12) tt
-    some_first false e = linear_false [] (eq e ∷ []) (search reading_of depth 12) tt
+    some_first true e = linear_false [] (eq e ∷ []) (search reading_of) tt
+    some_first false e = linear_false [] (eq e ∷ []) (search reading_of) tt
 
     pub closed-none : ⊥
     closed-none =

@@ -23,7 +23,7 @@ pub record Small (P : ℚ → Type 0) : Type 0 where
   pub holds : (h : ℚ) → 0ℚ ≤ℚ h → h ≤ℚ bound → P h
 
 pub Small-always : (P : ℚ → Type 0) → ((h : ℚ) → P h) → Small P
-Small-always P f = record { bound = 1ℚ; positive = linear_lt [] [] (search reading_of depth 12) tt; holds = λ h n k. f h }
+Small-always P f = record { bound = 1ℚ; positive = linear_lt [] [] (search reading_of) tt; holds = λ h n k. f h }
 
 pub Small-map : (P Q : ℚ → Type 0) → ((h : ℚ) → P h → Q h) → Small P → Small Q
 Small-map P Q f p = record { bound = p.bound; positive = p.positive; holds = λ h n k. f h (p.holds h n k) }
@@ -46,13 +46,13 @@ Small-at_most a p = record { bound = a; positive = p; holds = λ h n k. k }
 
 -- At most the gap between two numbers, if there is one.
 pub Small-apart : (s t : ℚ) → Small (λ h. s <ℚ t → h ≤ℚ t -ℚ s)
-Small-apart s t = Small-when (s <ℚ t) (λ h. h ≤ℚ t -ℚ s) (less_or_not s t) (λ l. Small-at_most (t -ℚ s) (linear_lt (s ∷ t ∷ []) (lt l ∷ []) (search reading_of depth 12) tt))
+Small-apart s t = Small-when (s <ℚ t) (λ h. h ≤ℚ t -ℚ s) (less_or_not s t) (λ l. Small-at_most (t -ℚ s) (linear_lt (s ∷ t ∷ []) (lt l ∷ []) (search reading_of) tt))
 
 pub Small-times : (a c : ℚ) → 0ℚ <ℚ a → 0ℚ ≤ℚ c → Small (λ h. c *ℚ h ≤ℚ a)
 Small-times a c p n = record { bound = q; positive = above; holds = λ h m k. within h k }
   where
     some : 0ℚ <ℚ c +ℚ 1ℚ
-    some = linear_lt (c ∷ []) (le n ∷ []) (search reading_of depth 12) tt
+    some = linear_lt (c ∷ []) (le n ∷ []) (search reading_of) tt
 
     q : ℚ
     q = a /ℚ (c +ℚ 1ℚ)
@@ -64,7 +64,7 @@ Small-times a c p n = record { bound = q; positive = above; holds = λ h m k. wi
     shares = /ℚ-times a (c +ℚ 1ℚ) (ps_apart _ some)
 
     within : (h : ℚ) → h ≤ℚ q → c *ℚ h ≤ℚ a
-    within h k = linear_le (a ∷ c ∷ h ∷ q ∷ []) (le_times n k ∷ lt above ∷ eq shares ∷ []) (search reading_of depth 12) tt
+    within h k = linear_le (a ∷ c ∷ h ∷ q ∷ []) (le_times n k ∷ lt above ∷ eq shares ∷ []) (search reading_of) tt
 
 pub Small-to : (n : ℕ) (P : ℕ → ℚ → Type 0) → ((k : ℕ) → k < n → Small (P k)) → Small (λ h. (k : ℕ) → k < n → P k h)
 Small-to zero P s = Small-always (λ h. (k : ℕ) → k < 0 → P k h) (λ h k l. absurd (omega arith))

@@ -31,10 +31,10 @@ pub spare_or_not : (net : Network) (rate : ℚ) (flows : ℕ → ℚ) (v : ℕ) 
 spare_or_not net rate flows v = both (not_so (same_node v net.source)) (less_or_not 0ℚ (spare net rate flows v))
 
 pub enough_of_spare : (i o d : ℚ) → 0ℚ ≤ℚ i -ℚ (o +ℚ d) → o +ℚ d ≤ℚ i
-enough_of_spare i o d h = linear_le (i ∷ o ∷ d ∷ []) (le h ∷ []) (search reading_of depth 12) tt
+enough_of_spare i o d h = linear_le (i ∷ o ∷ d ∷ []) (le h ∷ []) (search reading_of) tt
 
 pub spare_of_enough : (i o d : ℚ) → o +ℚ d ≤ℚ i → 0ℚ ≤ℚ i -ℚ (o +ℚ d)
-spare_of_enough i o d h = linear_le (i ∷ o ∷ d ∷ []) (le h ∷ []) (search reading_of depth 12) tt
+spare_of_enough i o d h = linear_le (i ∷ o ∷ d ∷ []) (le h ∷ []) (search reading_of) tt
 
 pub demand-not_negative : (net : Network) (rate : ℚ) (v : ℕ) → 0ℚ ≤ℚ rate → 0ℚ ≤ℚ demand net rate v
 demand-not_negative net rate v n = by_sink (v == net.sink)
@@ -77,4 +77,4 @@ module _ (net : Network) (sets : Sets) (rate : ℚ) (flows slopes : ℕ → ℚ)
   spare-brings n v h = sum_in-some net.links flows v (some _ _ _ (sum_out-not_negative net.links flows v not_negative) (demand-not_negative net rate v n) h)
     where
       some : (i o d : ℚ) → 0ℚ ≤ℚ o → 0ℚ ≤ℚ d → 0ℚ <ℚ i -ℚ (o +ℚ d) → 0ℚ <ℚ i
-      some i o d p q r = linear_lt (i ∷ o ∷ d ∷ []) (le p ∷ le q ∷ lt r ∷ []) (search reading_of depth 12) tt
+      some i o d p q r = linear_lt (i ∷ o ∷ d ∷ []) (le p ∷ le q ∷ lt r ∷ []) (search reading_of) tt

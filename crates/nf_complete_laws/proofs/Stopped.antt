@@ -1,6 +1,6 @@
 -- If a phase run stopped because no pattern was left, there is no thin flow there.
 use Rattle.std.proofs.Common.{◌≡◌, ℕ, suc, ◌<◌, List, length, get_or, Option, Some, None, unwrap_or, sym, ap, subst, ◌∙◌, arith}
-use Rattle.std.proofs.lemmas.Option.{none-some, slice_get-get_or}
+use Rattle.std.proofs.lemmas.Option.{none-some, slice_get-get_or, same_Some}
 use Rattle.std.proofs.lemmas.List.FromFn.{length-map-range_with_len, get_or-map-range_with_len}
 use Rattle.nf_rational.specs.Rational.{ℚ}
 use Rattle.nf_rational.specs.Operations.{0ℚ}
@@ -48,9 +48,6 @@ labels_are net good s well = same_entries 0ℚ (labels_reached net (flow_of s)) 
     at v h = number_get (labels_reached net (flow_of s)) v (let m = many in omega arith) ∙ get_or-map-range_with_len (λ v. label (flow_of s) v s.time) 0 net.nodes v v 0ℚ h (omega arith)
         ∙ (grown_at net good s well).stands.same v h
 
-same_cause : (c d : Cause ℚ) → Some c ≡ Some d → c ≡ d
-same_cause c d h = cc
-
 -- no thin flow continues from a run state
 abbrev pub NoneGoesOn : Network → Standing → Type 0
 NoneGoesOn net s = (flows slopes : List ℚ) → IsThinFlow net (sets_at net s.labels) (rate_at net s.time) flows slopes → ⊥
@@ -77,8 +74,8 @@ module _ (passes : Passing) (net : Network) (good : IsNetwork net) (bounds : Bou
   no_answer : (s : Standing) (phase : ℕ) (a : SearchAnswer) → Seeks passes net bounds.horizon bounds.patterns s a → cause_of_search (suc s.made) bounds.patterns a ≡ Some (Cause.NoPattern phase) → WellRun net s
       → NoneGoesOn net s
   no_answer s phase (Found place pattern f l) k h well flows slopes thin = none-some _ h
-  no_answer s phase OverBudget k h well flows slopes thin = over_other (suc s.made) bounds.patterns phase (same_cause _ _ h)
-  no_answer s phase (PassesAt place at) k h well flows slopes thin = passed_other (suc s.made) (Some place) at phase (same_cause _ _ h)
+  no_answer s phase OverBudget k h well flows slopes thin = over_other (suc s.made) bounds.patterns phase (same_Some _ _ h)
+  no_answer s phase (PassesAt place at) k h well flows slopes thin = passed_other (suc s.made) (Some place) at phase (same_Some _ _ h)
   no_answer s phase NoPattern k h well flows slopes thin =
       none-search passes net (sets_at net s.labels) (rate_at net s.time) k.search.base bounds.patterns flows slopes (AreGoodSets-well net good s well) (rate_from-not_negative net.pieces s.time good.pieces) k.search.is_search thin
 
@@ -92,10 +89,10 @@ module _ (passes : Passing) (net : Network) (good : IsNetwork net) (bounds : Bou
   horizon_ends s well = record { well = well; none = λ phase e. absurd (none-some _ e) }
 
   pub phases_end : (s : Standing) → WellRun net s → EndsForNone net s (Some (Cause.Phases s.made))
-  phases_end s well = record { well = well; none = λ phase e. absurd (phases_other _ phase (same_cause _ _ e)) }
+  phases_end s well = record { well = well; none = λ phase e. absurd (phases_other _ phase (same_Some _ _ e)) }
 
   pub failing_ends : (s : Standing) (c : Cause ℚ) → WellRun net s → Fails passes net bounds.horizon bounds.patterns s c → EndsForNone net s (Some c)
-  failing_ends s c well f = record { well = well; none = λ phase e. none_fails s c phase (same_cause c (Cause.NoPattern phase) e) well f }
+  failing_ends s c well f = record { well = well; none = λ phase e. none_fails s c phase (same_Some c (Cause.NoPattern phase) e) well f }
 
   run_ends : (s last : Standing) (stop : Option (Cause ℚ)) → WellRun net s → Runs passes net bounds s last stop → EndsForNone net last stop
   run_ends s last stop well (at_horizon h) = horizon_ends s well

@@ -9,6 +9,8 @@ use Rattle.nf_rational_laws.proofs.Polynomial.{reading_of}
 use Rattle.nf_rational_laws.proofs.Order.{≤ℚ_of_lt, nn_plus, nn_times}
 use Rattle.nf_rational_laws.proofs.Linear.{le, le_times, linear_le}
 use Rattle.nf_rational_laws.proofs.Chains.{≤ℚ_refl, ≤ℚ_trans}
+use Rattle.nf_rational_laws.proofs.Facts.{times_le}
+use Rattle.nf_rational_laws.proofs.Results.{not_both}
 use Rattle.nf_model.specs.Entries.{Has}
 use Rattle.nf_model.specs.Network.{Link, Network, IsLink, IsNetwork, sum_in, sum_out}
 use Rattle.nf_model.specs.ThinFlow.{Sets, Enters}
@@ -17,7 +19,7 @@ use Rattle.nf_model_laws.proofs.Sums.{sum_in-each}
 use Rattle.nf_thin_laws.specs.ActiveLinks.{AreSets, HoldNoCycle, EachIsEntered}
 use Rattle.nf_thin_laws.proofs.Flags.{flag, flag-cases}
 use Rattle.nf_complete_laws.specs.Oversupply.{Fits, demand, IsOversupply, ResetsAreBounded}
-use Rattle.nf_complete_laws.proofs.Powers.{power, power-one, power-nn, power-rises, times_le, room, room-positive, rooms, rooms-nn, sum_out-within, IsWide, wide}
+use Rattle.nf_complete_laws.proofs.Powers.{power, power-one, power-nn, power-rises, room, room-positive, rooms, rooms-nn, sum_out-within, IsWide, wide}
 use Rattle.nf_complete_laws.proofs.Loads.{bound, bound-tail, Load, load}
 use Rattle.nf_complete_laws.proofs.Heights.{Heights, heights}
 
@@ -37,7 +39,7 @@ demand_at_most false rate n = n
 
 enough_by : (o b i rate r x c k p : ℚ) → o ≤ℚ c *ℚ p → b ≤ℚ rate → 0ℚ ≤ℚ rate → 1ℚ ≤ℚ p → 0ℚ ≤ℚ p → c +ℚ rate ≤ℚ r *ℚ k → r *ℚ (k *ℚ p) ≤ℚ x → x ≤ℚ i → o +ℚ b ≤ℚ i
 enough_by o b i rate r x c k p h j n one m w f g =
-    linear_le (o ∷ b ∷ i ∷ rate ∷ r ∷ x ∷ c ∷ k ∷ p ∷ []) (le h ∷ le j ∷ le_times n one ∷ le_times m w ∷ le f ∷ le g ∷ []) (search reading_of depth 12) tt
+    linear_le (o ∷ b ∷ i ∷ rate ∷ r ∷ x ∷ c ∷ k ∷ p ∷ []) (le h ∷ le j ∷ le_times n one ∷ le_times m w ∷ le f ∷ le g ∷ []) (search reading_of) tt
 
 zero_at_most : (x y : ℚ) → x ≡ 0ℚ → 0ℚ ≤ℚ y → x ≤ℚ y
 zero_at_most x y e h = subst (λ (z : ℚ). z ≤ℚ y) (sym e) h
@@ -86,11 +88,8 @@ module _ (net : Network) (sets : Sets) (rate : ℚ) (good : IsNetwork net) (are 
       resets : flag sets.resetting e ≡ true → Has sets.resetting e
       resets r = ⊎_elim
           (λ (w : (flag sets.resetting e ≡ true) × Has sets.resetting e). w.1)
-          (λ (w : (flag sets.resetting e ≡ false) × (Has sets.resetting e → ⊥)). absurd (both _ r w.0))
+          (λ (w : (flag sets.resetting e ≡ false) × (Has sets.resetting e → ⊥)). absurd (not_both _ r w.0))
           (flag-cases sets.resetting e)
-        where
-          both : (b : Bool) → b ≡ true → b ≡ false → ⊥
-          both b e f = absurd (cc)
 
   carried : (e : ℕ) (link : Link) → IsLink net e link → (x : ℚ) × Carries e link x
   carried e link p = ⊎_elim

@@ -45,13 +45,13 @@ no_cycle e walk v w =
     zero_one (o.0 ∙ w.2 ∙ sym (from_sink walk v (subst (λ (h : ℕ). IsWalk (hops two_links) walk h v) o.1 w.3)))
 
 zero_one_ℚ : 0ℚ ≤ℚ 1ℚ
-zero_one_ℚ = linear_le [] [] (search reading_of depth 12) tt
+zero_one_ℚ = linear_le [] [] (search reading_of) tt
 
 one_positive : 0ℚ <ℚ 1ℚ
-one_positive = linear_lt [] [] (search reading_of depth 12) tt
+one_positive = linear_lt [] [] (search reading_of) tt
 
 zero_zero : 0ℚ ≤ℚ 0ℚ
-zero_zero = linear_le [] [] (search reading_of depth 12) tt
+zero_zero = linear_le [] [] (search reading_of) tt
 
 IsNetwork-two_links : IsNetwork two_links
 IsNetwork-two_links = record {
@@ -74,13 +74,13 @@ IsNetwork-two_links = record {
 
 -- ---- the slacks: 1 of the bounded link, and 0 of the other
 first_slack : 0ℚ <ℚ slack queue_labels (hop_of bounded_link)
-first_slack = linear_lt [] [] (search reading_of depth 12) tt
+first_slack = linear_lt [] [] (search reading_of) tt
 
 second_slack : 0ℚ ≤ℚ slack queue_labels (hop_of unbounded_link)
-second_slack = linear_le [] [] (search reading_of depth 12) tt
+second_slack = linear_le [] [] (search reading_of) tt
 
 second_not_above : slack queue_labels (hop_of unbounded_link) ≤ℚ 0ℚ
-second_not_above = linear_le [] [] (search reading_of depth 12) tt
+second_not_above = linear_le [] [] (search reading_of) tt
 
 second_active : Has queue_sets.active 1
 second_active = active_of_slack two_links queue_labels 1 unbounded_link refl second_slack

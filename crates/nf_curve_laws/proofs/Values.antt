@@ -51,7 +51,7 @@ module _ (passes : Passing) where
 
   -- ---- the cut
   still : (x t s z : ℚ) → z ≡ x → x ≡ z +ℚ 0ℚ *ℚ (t -ℚ s)
-  still x t s z e = linear_eq (x ∷ t ∷ s ∷ z ∷ []) (eq e ∷ []) (search reading_of depth 12) tt tt
+  still x t s z e = linear_eq (x ∷ t ∷ s ∷ z ∷ []) (eq e ∷ []) (search reading_of) tt tt
 
   -- up to a time of the first piece
   first_piece : (f : ℚ → ℚ) (p q : Point) (rest : List Point) (b : ℚ) → TimesRise (p ∷ q ∷ rest) → b ≤ℚ q.0 → ((t : ℚ) → p.0 ≤ℚ t → f t ≡ value (p ∷ q ∷ rest) t) → IsAffine f p.0 b (slope p q)

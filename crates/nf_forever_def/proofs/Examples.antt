@@ -8,7 +8,8 @@ use Rattle.nf_rational.specs.Order.{le_ℚ, lt_ℚ, min_ℚ, max_ℚ}
 use Rattle.nf_frac_def.specs.Passing.{beyond}
 use Rattle.nf_frac_def.specs.Checked.{checked, Checked}
 use Rattle.nf_model.specs.Equilibrium.{Trace, Flow}
-use Rattle.nf_thin_def.proofs.Examples.{n, in_127_bits, Parts, parts_of, i}
+use Rattle.nf_frac_def.proofs.Examples.{n, in_127_bits, Parts, parts_of}
+use Rattle.nf_thin_def.proofs.Examples.{i}
 use Rattle.nf_thin_def.proofs.Runs.{points_in, two_links}
 use Rattle.nf_thin_def.specs.Extend.{extend_list}
 use Rattle.nf_forever_def.specs.Tails.{Tail}

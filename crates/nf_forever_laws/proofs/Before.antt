@@ -3,11 +3,9 @@
 use Rattle.std.proofs.Common.{ℕ, ◌<◌, List, [], ◌∷◌, ⊎_elim, subst}
 use Rattle.std.proofs.lemmas.Option.{slice_get_within}
 use Rattle.nf_rational.specs.Rational.{ℚ}
-use Rattle.nf_rational.specs.Operations.{0ℚ, ◌+ℚ◌}
+use Rattle.nf_rational.specs.Operations.{0ℚ}
 use Rattle.nf_rational.specs.Order.{◌≤ℚ◌, ◌<ℚ◌}
-use Rattle.nf_rational_laws.proofs.Polynomial.{reading_of}
 use Rattle.nf_rational_laws.proofs.Order.{≤ℚ_of_lt, lt_or_le_ℚ}
-use Rattle.nf_rational_laws.proofs.Linear.{le, lt, linear_le, linear_lt}
 use Rattle.nf_model.specs.Curve.{Within}
 use Rattle.nf_model.specs.Network.{Link, Network, IsNetwork, IsLink}
 use Rattle.nf_model.specs.Earliest.{Arrives, IsEarliest}
@@ -16,7 +14,8 @@ use Rattle.nf_model_laws.proofs.Queues.{IsExit-after}
 use Rattle.nf_model_laws.proofs.Earliest.{IsPositive-link}
 use Rattle.nf_forever_def.specs.Extended.{up_to}
 use Rattle.nf_check_laws.proofs.Rising.{label-rises}
-use Rattle.nf_rational_laws.proofs.Chains.{≤ℚ_refl, ≤ℚ_trans}
+use Rattle.nf_rational_laws.proofs.Chains.{≤ℚ_refl, ≤ℚ_trans, <_≤_trans}
+use Rattle.nf_rational_laws.proofs.Facts.{nn_above_sum}
 
 module _ (net : Network) (flow : Flow) (until : ℚ) (good : IsNetwork net) (eq : Equilibrium net flow) (from_0 : 0ℚ ≤ℚ until) (earlier : until ≤ℚ flow.reached) where
   within : (departure : ℚ) → Within 0ℚ until departure → Within 0ℚ flow.reached departure
@@ -28,16 +27,10 @@ module _ (net : Network) (flow : Flow) (until : ℚ) (good : IsNetwork net) (eq 
   label_within : (v : ℕ) (time : ℚ) → v < net.nodes → Within 0ℚ (label flow v until) time → Within 0ℚ (label flow v flow.reached) time
   label_within v time h w = (w.0, ≤ℚ_trans time (label flow v until) (label flow v flow.reached) w.1 (rises v until flow.reached h from_0 earlier (≤ℚ_refl flow.reached)))
 
-  then_later : (a b c : ℚ) → a <ℚ b → b ≤ℚ c → a <ℚ c
-  then_later a b c h k = linear_lt (a ∷ b ∷ c ∷ []) (lt h ∷ le k ∷ []) (search reading_of depth 12) tt
-
-  later_nn : (s r x : ℚ) → 0ℚ ≤ℚ s → 0ℚ ≤ℚ r → s +ℚ r ≤ℚ x → 0ℚ ≤ℚ x
-  later_nn s r x h k l = linear_le (s ∷ r ∷ x ∷ []) (le h ∷ le k ∷ le l ∷ []) (search reading_of depth 12) tt
-
   arrives_nn : (walk : List ℕ) (t a : ℚ) → 0ℚ ≤ℚ t → Arrives net (inflow flow) walk t a → 0ℚ ≤ℚ a
   arrives_nn [] t a h w = subst (λ (z : ℚ). 0ℚ ≤ℚ z) w h
   arrives_nn (e ∷ walk) t a h w = arrives_nn walk w.2 a
-      (later_nn t w.0.transit w.2 h (good.transits e w.0 w.1) (IsExit-after w.0.transit w.0.capacity (inflow flow e) t w.2 (IsPositive-link net e w.0 good w.1) w.3)) w.4
+      (nn_above_sum t w.0.transit w.2 h (good.transits e w.0 w.1) (IsExit-after w.0.transit w.0.capacity (inflow flow e) t w.2 (IsPositive-link net e w.0 good w.1) w.3)) w.4
 
   label_nn : (v : ℕ) (d : ℚ) → v < net.nodes → Within 0ℚ flow.reached d → 0ℚ ≤ℚ label flow v d
   label_nn v d h w = let p : IsEarliest net (inflow flow) v d (label flow v d) = eq.nash.labels v d h w in arrives_nn p.taken.0 d (label flow v d) w.0 p.taken.2
@@ -45,7 +38,7 @@ module _ (net : Network) (flow : Flow) (until : ℚ) (good : IsNetwork net) (eq 
   takes : (e : ℕ) (link : Link) (departure : ℚ) → IsLink net e link → 0ℚ ≤ℚ departure → departure <ℚ until → TakesFlow (inflow flow) (label flow) until e link.tail departure
       → TakesFlow (inflow flow) (label flow) flow.reached e link.tail departure
   takes e link d p i j t later k l = ⊎_elim
-      (λ (h : until <ℚ later). then_later _ _ _ (t until j (≤ℚ_refl until))
+      (λ (h : until <ℚ later). <_≤_trans _ _ _ (t until j (≤ℚ_refl until))
       (eq.nash.rises e (slice_get_within net.links e link p) _ _ (label_nn link.tail until (good.tails e link p) (from_0, earlier))
       (rises link.tail until later (good.tails e link p) from_0 (≤ℚ_of_lt _ _ h) l)))
       (λ (h : later ≤ℚ until). t later k h)
@@ -65,7 +58,7 @@ module _ (net : Network) (flow : Flow) (until : ℚ) (good : IsNetwork net) (eq 
         sink_early = eq.nash.conserves.sink_early;
         sink = λ departure w. eq.nash.conserves.sink departure (within departure w);
       };
-      only_shortest = λ e link departure p i j t. eq.nash.only_shortest e link departure p i (then_later departure until flow.reached j earlier) (takes e link departure p i j t);
+      only_shortest = λ e link departure p i j t. eq.nash.only_shortest e link departure p i (<_≤_trans departure until flow.reached j earlier) (takes e link departure p i j t);
     };
     inflow_rates = eq.inflow_rates;
     outflow_rates = eq.outflow_rates;

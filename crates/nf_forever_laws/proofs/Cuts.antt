@@ -19,6 +19,7 @@ use Rattle.nf_model_laws.proofs.Earliest.{IsPositive-link}
 use Rattle.nf_model_laws.proofs.Potential.{sum_to-same, sum_to-only, only_at, only_at-here, only_at-else, carried, carried-is, fall, out_less_in}
 use Rattle.nf_thin_laws.proofs.Cuts.{EndsBelow-net}
 use Rattle.nf_rational_laws.proofs.Results.{not_both}
+use Rattle.nf_rational_laws.proofs.Facts.{times_first_zero, times_second_zero, first_and_zero}
 use Rattle.nf_forever_laws.specs.Cuts.{Cut, LeadsOut, IsStaticCut, outward_capacity, capacity_sum, cut_capacity, IsLeastCapacity}
 
 -- ---- the outward capacity of a link
@@ -54,13 +55,7 @@ abbrev pub one_in : Cut → ℕ → ℚ
 one_in cut v = one_if (cut v)
 
 one_times : (w y r : ℚ) → w ≡ 1ℚ → y ≡ r → w *ℚ y ≡ r
-one_times w y r e f = linear_eq (w ∷ y ∷ r ∷ []) (eq_times y e ∷ eq f ∷ []) (search reading_of depth 12) tt tt
-
-none_times : (w y : ℚ) → w ≡ 0ℚ → w *ℚ y ≡ 0ℚ
-none_times w y e = linear_eq (w ∷ y ∷ []) (eq_times y e ∷ []) (search reading_of depth 12) tt tt
-
-times_none : (w y : ℚ) → y ≡ 0ℚ → w *ℚ y ≡ 0ℚ
-times_none w y e = linear_eq (w ∷ y ∷ []) (eq_times w e ∷ []) (search reading_of depth 12) tt tt
+one_times w y r e f = linear_eq (w ∷ y ∷ r ∷ []) (eq_times y e ∷ eq f ∷ []) (search reading_of) tt tt
 
 -- The net flow of a static flow out of a set with the source and without the sink is its value.
 module _ (net : Network) (good : IsNetwork net) (cut : Cut) (inside : cut net.source ≡ true) (outside : cut net.sink ≡ false) (f : ℕ → ℚ) (rate : ℚ)
@@ -75,8 +70,8 @@ module _ (net : Network) (good : IsNetwork net) (cut : Cut) (inside : cut net.so
     where
       elsewhere : v ≢ net.source → one_in cut v *ℚ out_less_in net.links f v ≡ 0ℚ
       elsewhere other = ⊎_elim
-          (λ (t : (eqb v net.sink ≡ true) × (v ≡ net.sink)). none_times (one_in cut v) (out_less_in net.links f v) (ap one_if (ap cut t.1 ∙ outside)))
-          (λ (t : (eqb v net.sink ≡ false) × (v ≢ net.sink)). times_none (one_in cut v) (out_less_in net.links f v) (inner v h other t.1))
+          (λ (t : (eqb v net.sink ≡ true) × (v ≡ net.sink)). times_first_zero (one_in cut v) (out_less_in net.links f v) (ap one_if (ap cut t.1 ∙ outside)))
+          (λ (t : (eqb v net.sink ≡ false) × (v ≢ net.sink)). times_second_zero (one_in cut v) (out_less_in net.links f v) (inner v h other t.1))
           (eqb_tells v net.sink)
 
   pub carried_out : carried (one_in cut) net.links f ≡ rate
@@ -87,21 +82,21 @@ module _ (net : Network) (good : IsNetwork net) (cut : Cut) (inside : cut net.so
 -- ---- bounds of the net flow, link by link: w is the indicator of the set, and s is a factor
 module _ (w : ℕ → ℚ) (cut : Cut) (s : ℚ) where
   more_below : (a b c d : ℚ) → a ≤ℚ s *ℚ c → b ≤ℚ s *ℚ d → a +ℚ b ≤ℚ s *ℚ (c +ℚ d)
-  more_below a b c d h k = linear_le (a ∷ b ∷ c ∷ d ∷ s ∷ []) (le h ∷ le k ∷ []) (search reading_of depth 12) tt
+  more_below a b c d h k = linear_le (a ∷ b ∷ c ∷ d ∷ s ∷ []) (le h ∷ le k ∷ []) (search reading_of) tt
 
   more_above : (a b c d : ℚ) → s *ℚ c ≤ℚ a → s *ℚ d ≤ℚ b → s *ℚ (c +ℚ d) ≤ℚ a +ℚ b
-  more_above a b c d h k = linear_le (a ∷ b ∷ c ∷ d ∷ s ∷ []) (le h ∷ le k ∷ []) (search reading_of depth 12) tt
+  more_above a b c d h k = linear_le (a ∷ b ∷ c ∷ d ∷ s ∷ []) (le h ∷ le k ∷ []) (search reading_of) tt
 
   pub carried-below : (links : List Link) (f : ℕ → ℚ) → ((e : ℕ) (link : Link) → slice_get links e ≡ Some link → f e *ℚ fall w link ≤ℚ s *ℚ outward cut link)
       → carried w links f ≤ℚ s *ℚ capacity_sum links cut
-  carried-below [] f h = linear_le (s ∷ []) [] (search reading_of depth 12) tt
+  carried-below [] f h = linear_le (s ∷ []) [] (search reading_of) tt
   carried-below (link ∷ links) f h =
       more_below (f 0 *ℚ fall w link) (carried w links (λ e. f (suc e))) (outward cut link) (capacity_sum links cut) (h 0 link refl)
       (carried-below links (λ e. f (suc e)) (λ e l p. h (suc e) l p))
 
   pub carried-above : (links : List Link) (f : ℕ → ℚ) → ((e : ℕ) (link : Link) → slice_get links e ≡ Some link → s *ℚ outward cut link ≤ℚ f e *ℚ fall w link)
       → s *ℚ capacity_sum links cut ≤ℚ carried w links f
-  carried-above [] f h = linear_le (s ∷ []) [] (search reading_of depth 12) tt
+  carried-above [] f h = linear_le (s ∷ []) [] (search reading_of) tt
   carried-above (link ∷ links) f h =
       more_above (f 0 *ℚ fall w link) (carried w links (λ e. f (suc e))) (outward cut link) (capacity_sum links cut) (h 0 link refl)
       (carried-above links (λ e. f (suc e)) (λ e l p. h (suc e) l p))
@@ -154,15 +149,12 @@ module _ (net : Network) (cut : Cut) (is : IsStaticCut net cut) where
       has_capacity e link p out (Some c) some = subst (λ (z : ℚ). 0ℚ <ℚ z) (sym (outward_capacity-is (cut link.tail) (cut link.head) link.capacity c out.tail out.head some)) (good.capacities e link c p some)
 
 -- ---- the network of one link
-plus_none : (a b c : ℚ) → a ≡ c → b ≡ 0ℚ → a +ℚ b ≡ c
-plus_none a b c e f = linear_eq (a ∷ b ∷ c ∷ []) (eq e ∷ eq f ∷ []) (search reading_of depth 12) tt tt
-
 module _ (transit : ℚ) (pieces : List Piece) where
   abbrev link_of : Option ℚ → Link
   link_of capacity = record { tail = 0; head = 1; transit = transit; capacity = capacity }
 
   one_capacity : (capacity : ℚ) (cut : Cut) → cut 0 ≡ true → cut 1 ≡ false → cut_capacity (one_link transit (Some capacity) pieces) cut ≡ capacity
-  one_capacity capacity cut e f = plus_none _ 0ℚ capacity (outward_capacity-is (cut 0) (cut 1) (Some capacity) capacity e f refl) refl
+  one_capacity capacity cut e f = first_and_zero _ 0ℚ capacity (outward_capacity-is (cut 0) (cut 1) (Some capacity) capacity e f refl) refl
 
   abbrev at_source : Cut
   at_source v = eqb v 0

@@ -7,13 +7,13 @@ use Rattle.nf_rational.specs.Operations.{0ℚ, 1ℚ, ◌-ℚ◌, ◌*ℚ◌}
 use Rattle.nf_rational.specs.Order.{◌≤ℚ◌, ◌<ℚ◌, lt_ℚ}
 use Rattle.nf_rational_laws.proofs.Polynomial.{reading_of}
 use Rattle.nf_rational_laws.proofs.Order.{≤ℚ_of_lt, ≤ℚ_antisymm, not_both_ℚ, nn_times}
-use Rattle.nf_rational_laws.proofs.Chains.{≤ℚ_refl, ≤ℚ_trans}
-use Rattle.nf_rational_laws.proofs.Tests.{lt_ℚ_cases, less_of_test, test_of_less}
-use Rattle.nf_rational_laws.proofs.Linear.{le, lt, le_times, eq_times, linear_le, linear_lt}
-use Rattle.nf_rational_laws.proofs.Results.{not_both}
+use Rattle.nf_rational_laws.proofs.Chains.{≤ℚ_trans, ≤_<_trans, <_≤_trans}
+use Rattle.nf_rational_laws.proofs.Tests.{less_of_test, test_of_less, not_less_of_test, not_less_itself}
+use Rattle.nf_rational_laws.proofs.Linear.{le, le_times, eq_times, linear_le}
+use Rattle.nf_rational_laws.proofs.Results.{not_both, true_or_false}
+use Rattle.nf_rational_laws.proofs.Facts.{nn_of_one}
 use Rattle.nf_model.specs.Entries.{number_at}
 use Rattle.nf_model.specs.Network.{Link, Network, IsNetwork, IsLink}
-use Rattle.nf_model_laws.proofs.Affine.{<_≤_trans}
 use Rattle.nf_model_laws.proofs.Earliest.{IsPositive-link}
 use Rattle.nf_model_laws.proofs.Potential.{fall, out_less_in}
 use Rattle.nf_complete_laws.specs.Oversupply.{Fits}
@@ -32,47 +32,28 @@ pub record FitsSlopes (net : Network) (rate : ℚ) (flows : ℕ → ℚ) (slopes
 -- ---- arithmetic: x is the flow of a link, a and b are the indicator at its tail and its head, r is its outward capacity, and s is the slope of
 -- the sink
 fall_none : (x a b s r : ℚ) → a ≡ b → 0ℚ ≤ℚ s *ℚ r → x *ℚ (a -ℚ b) ≤ℚ s *ℚ r
-fall_none x a b s r e h = linear_le (x ∷ a ∷ b ∷ s ∷ r ∷ []) (eq_times x e ∷ le h ∷ []) (search reading_of depth 12) tt
+fall_none x a b s r e h = linear_le (x ∷ a ∷ b ∷ s ∷ r ∷ []) (eq_times x e ∷ le h ∷ []) (search reading_of) tt
 
 fall_in : (x a b s r : ℚ) → a ≡ 0ℚ → b ≡ 1ℚ → 0ℚ ≤ℚ x → 0ℚ ≤ℚ s *ℚ r → x *ℚ (a -ℚ b) ≤ℚ s *ℚ r
-fall_in x a b s r e f n h = linear_le (x ∷ a ∷ b ∷ s ∷ r ∷ []) (eq_times x e ∷ eq_times x f ∷ le n ∷ le h ∷ []) (search reading_of depth 12) tt
+fall_in x a b s r e f n h = linear_le (x ∷ a ∷ b ∷ s ∷ r ∷ []) (eq_times x e ∷ eq_times x f ∷ le n ∷ le h ∷ []) (search reading_of) tt
 
 fall_out : (x a b s r : ℚ) → a ≡ 1ℚ → b ≡ 0ℚ → x ≤ℚ s *ℚ r → x *ℚ (a -ℚ b) ≤ℚ s *ℚ r
-fall_out x a b s r e f h = linear_le (x ∷ a ∷ b ∷ s ∷ r ∷ []) (eq_times x e ∷ eq_times x f ∷ le h ∷ []) (search reading_of depth 12) tt
+fall_out x a b s r e f h = linear_le (x ∷ a ∷ b ∷ s ∷ r ∷ []) (eq_times x e ∷ eq_times x f ∷ le h ∷ []) (search reading_of) tt
 
 rise_none : (x a b s r : ℚ) → a ≡ b → r ≡ 0ℚ → s *ℚ r ≤ℚ x *ℚ (a -ℚ b)
-rise_none x a b s r e f = linear_le (x ∷ a ∷ b ∷ s ∷ r ∷ []) (eq_times x e ∷ eq_times s f ∷ []) (search reading_of depth 12) tt
+rise_none x a b s r e f = linear_le (x ∷ a ∷ b ∷ s ∷ r ∷ []) (eq_times x e ∷ eq_times s f ∷ []) (search reading_of) tt
 
 rise_in : (x a b s r : ℚ) → a ≡ 0ℚ → b ≡ 1ℚ → x ≤ℚ 0ℚ → r ≡ 0ℚ → s *ℚ r ≤ℚ x *ℚ (a -ℚ b)
-rise_in x a b s r e f n h = linear_le (x ∷ a ∷ b ∷ s ∷ r ∷ []) (eq_times x e ∷ eq_times x f ∷ le n ∷ eq_times s h ∷ []) (search reading_of depth 12) tt
+rise_in x a b s r e f n h = linear_le (x ∷ a ∷ b ∷ s ∷ r ∷ []) (eq_times x e ∷ eq_times x f ∷ le n ∷ eq_times s h ∷ []) (search reading_of) tt
 
 rise_out : (x a b s r : ℚ) → a ≡ 1ℚ → b ≡ 0ℚ → s *ℚ r ≤ℚ x → s *ℚ r ≤ℚ x *ℚ (a -ℚ b)
-rise_out x a b s r e f h = linear_le (x ∷ a ∷ b ∷ s ∷ r ∷ []) (eq_times x e ∷ eq_times x f ∷ le h ∷ []) (search reading_of depth 12) tt
+rise_out x a b s r e f h = linear_le (x ∷ a ∷ b ∷ s ∷ r ∷ []) (eq_times x e ∷ eq_times x f ∷ le h ∷ []) (search reading_of) tt
 
 let_by : (x c t s r : ℚ) → 0ℚ ≤ℚ c → x ≤ℚ c *ℚ t → t ≤ℚ s → r ≡ c → x ≤ℚ s *ℚ r
-let_by x c t s r n h k e = linear_le (x ∷ c ∷ t ∷ s ∷ r ∷ []) (le h ∷ le_times n k ∷ eq_times s e ∷ []) (search reading_of depth 12) tt
+let_by x c t s r n h k e = linear_le (x ∷ c ∷ t ∷ s ∷ r ∷ []) (le h ∷ le_times n k ∷ eq_times s e ∷ []) (search reading_of) tt
 
 filled_by : (x c t s r : ℚ) → 0ℚ ≤ℚ c → c *ℚ t ≤ℚ x → s ≤ℚ t → r ≡ c → s *ℚ r ≤ℚ x
-filled_by x c t s r n h k e = linear_le (x ∷ c ∷ t ∷ s ∷ r ∷ []) (le h ∷ le_times n k ∷ eq_times s e ∷ []) (search reading_of depth 12) tt
-
-below_both : (a b c : ℚ) → a ≤ℚ b → b <ℚ c → a <ℚ c
-below_both a b c h k = linear_lt (a ∷ b ∷ c ∷ []) (le h ∷ lt k ∷ []) (search reading_of depth 12) tt
-
-not_less : (x y : ℚ) → lt_ℚ x y ≡ false → y ≤ℚ x
-not_less x y e = ⊎_elim
-    (λ (w : (lt_ℚ x y ≡ true) × (x <ℚ y)). absurd (not_both (lt_ℚ x y) w.0 e))
-    (λ (w : (lt_ℚ x y ≡ false) × (y ≤ℚ x)). w.1)
-    (lt_ℚ_cases x y)
-
-not_less_itself : (x : ℚ) → lt_ℚ x x ≡ false
-not_less_itself x = ⊎_elim
-    (λ (w : (lt_ℚ x x ≡ true) × (x <ℚ x)). absurd (not_both_ℚ x x w.1 (≤ℚ_refl x)))
-    (λ (w : (lt_ℚ x x ≡ false) × (x ≤ℚ x)). w.0)
-    (lt_ℚ_cases x x)
-
-pub true_or_false : (b : Bool) → (b ≡ true) ⊎ (b ≡ false)
-true_or_false true = inl refl
-true_or_false false = inr refl
+filled_by x c t s r n h k e = linear_le (x ∷ c ∷ t ∷ s ∷ r ∷ []) (le h ∷ le_times n k ∷ eq_times s e ∷ []) (search reading_of) tt
 
 pub capacity_or_none : (capacity : Option ℚ) → ((c : ℚ) × (capacity ≡ Some c)) ⊎ (capacity ≡ None)
 capacity_or_none None = inr refl
@@ -86,10 +67,7 @@ module _ (net : Network) (good : IsNetwork net) (rate : ℚ) (flow : ℕ → ℚ
   sink_slope = number_at slopes net.sink
 
   sink_nn : 0ℚ ≤ℚ sink_slope
-  sink_nn = one_nn sink_slope (fit.keeps_up net.sink good.sink)
-    where
-      one_nn : (x : ℚ) → 1ℚ ≤ℚ x → 0ℚ ≤ℚ x
-      one_nn x h = linear_le (x ∷ []) (le h ∷ []) (search reading_of depth 12) tt
+  sink_nn = nn_of_one sink_slope (fit.keeps_up net.sink good.sink)
 
   no_flow_down : (e : ℕ) (link : Link) → IsLink net e link → slope link.head <ℚ slope link.tail → flow e ≤ℚ 0ℚ
   no_flow_down e link p down = ⊎_elim
@@ -120,7 +98,7 @@ module _ (net : Network) (good : IsNetwork net) (rate : ℚ) (flow : ℕ → ℚ
     outside : (v : ℕ) → wide v ≡ false → (cut v ≡ false) × (slope v ≤ℚ sink_slope)
     outside v h = ⊎_elim
         (λ (e : cut v ≡ true). absurd (not_both (wide v) (wide_inside v e) h))
-        (λ (e : cut v ≡ false). (e, not_less sink_slope (slope v) (sym (wide_outside v e) ∙ h)))
+        (λ (e : cut v ≡ false). (e, not_less_of_test sink_slope (slope v) (sym (wide_outside v e) ∙ h)))
         (true_or_false (cut v))
 
     wide_sink : wide net.sink ≡ false
@@ -143,7 +121,7 @@ module _ (net : Network) (good : IsNetwork net) (rate : ℚ) (flow : ℕ → ℚ
 
         from_greater : cut link.tail ≡ false → flow e ≤ℚ sink_slope *ℚ outward cut link
         from_greater tail = ≤ℚ_trans _ _ _
-            (no_flow_down e link p (below_both (slope link.head) sink_slope (slope link.tail) head.1
+            (no_flow_down e link p (≤_<_trans (slope link.head) sink_slope (slope link.tail) head.1
             (less_of_test sink_slope (slope link.tail) (sym (wide_outside link.tail tail) ∙ inside))))
             (outward-not_negative cut e link p)
 
@@ -185,7 +163,7 @@ module _ (net : Network) (good : IsNetwork net) (rate : ℚ) (flow : ℕ → ℚ
     -- A link that leaves the slower nodes leads to a greater slope.
     out_up : (link : Link) → LeadsOut slower link → slope link.tail <ℚ slope link.head
     out_up link out = <_≤_trans (slope link.tail) sink_slope (slope link.head) (less_of_test (slope link.tail) sink_slope out.tail)
-        (not_less (slope link.head) sink_slope out.head)
+        (not_less_of_test (slope link.head) sink_slope out.head)
 
     -- It is bounded and full.
     filled_up : (e : ℕ) (link : Link) → IsLink net e link → LeadsOut slower link → (c : ℚ) × (link.capacity ≡ Some c) × (c *ℚ slope link.head ≤ℚ flow e)
@@ -205,7 +183,7 @@ module _ (net : Network) (good : IsNetwork net) (rate : ℚ) (flow : ℕ → ℚ
     out_filled : (e : ℕ) (link : Link) → IsLink net e link → LeadsOut slower link → sink_slope *ℚ outward slower link ≤ℚ flow e
     out_filled e link p out = let w : (c : ℚ) × (link.capacity ≡ Some c) × (c *ℚ slope link.head ≤ℚ flow e) = filled_up e link p out in
         filled_by (flow e) w.0 (slope link.head) sink_slope (outward slower link) (≤ℚ_of_lt _ _ (good.capacities e link w.0 p w.1)) w.2
-        (not_less (slope link.head) sink_slope out.head)
+        (not_less_of_test (slope link.head) sink_slope out.head)
         (outward_capacity-is (slower link.tail) (slower link.head) link.capacity w.0 out.tail out.head w.1)
 
     each_above : (e : ℕ) (link : Link) → IsLink net e link → sink_slope *ℚ outward slower link ≤ℚ flow e *ℚ fall (one_in slower) link
@@ -222,7 +200,7 @@ module _ (net : Network) (good : IsNetwork net) (rate : ℚ) (flow : ℕ → ℚ
         (λ (b : slower link.head ≡ true). rise_in (flow e) (one_in slower link.tail) (one_in slower link.head) sink_slope (outward slower link)
         (ap one_if a) (ap one_if b)
         (no_flow_down e link p (<_≤_trans (slope link.head) sink_slope (slope link.tail) (less_of_test (slope link.head) sink_slope b)
-        (not_less (slope link.tail) sink_slope a)))
+        (not_less_of_test (slope link.tail) sink_slope a)))
         (outward_capacity-outside (slower link.tail) (slower link.head) link.capacity a))
         (λ (b : slower link.head ≡ false). rise_none (flow e) (one_in slower link.tail) (one_in slower link.head) sink_slope (outward slower link)
         (ap one_if (a ∙ sym b))

@@ -1,14 +1,12 @@
 -- A thin flow whose slopes keep its sets fits its slopes on each link. So its slopes grow by the cuts.
-use Rattle.std.proofs.Common.{◌≡◌, ◌≢◌, ℕ, ◌<◌, List, [], ◌∷◌, ◌⊎◌, inl, inr, ⊎_elim, Bool, true, false, Option, Some, None, sym, ap, subst, refl, ◌∙◌}
+use Rattle.std.proofs.Common.{◌≡◌, ◌≢◌, ℕ, ◌<◌, List, ◌⊎◌, inl, inr, ⊎_elim, Bool, true, false, Option, Some, None, sym, ap, subst, refl, ◌∙◌}
 use Rattle.std.proofs.lemmas.Option.{none-some, same_Some}
 use Rattle.nf_rational.specs.Rational.{ℚ}
 use Rattle.nf_rational.specs.Operations.{0ℚ, 1ℚ, ◌*ℚ◌, ◌/ℚ◌}
 use Rattle.nf_rational.specs.Order.{◌≤ℚ◌, ◌<ℚ◌}
-use Rattle.nf_rational_laws.proofs.Polynomial.{reading_of}
 use Rattle.nf_rational_laws.proofs.Order.{≤ℚ_of_same, ≤ℚ_of_lt, lt_or_le_ℚ, not_both_ℚ, nn_times}
-use Rattle.nf_rational_laws.proofs.Chains.{≤ℚ_trans}
+use Rattle.nf_rational_laws.proofs.Chains.{≤ℚ_trans, ≤_<_trans}
 use Rattle.nf_rational_laws.proofs.Extremes.{max_left}
-use Rattle.nf_rational_laws.proofs.Linear.{le, lt, linear_lt}
 use Rattle.nf_model.specs.Entries.{number_at, Has}
 use Rattle.nf_model.specs.Network.{Link, Network, IsNetwork, IsLink}
 use Rattle.nf_model.specs.ThinFlow.{Sets, exit_slope, exit_slope_at, Enters, IsThinFlow}
@@ -60,9 +58,6 @@ enough_of resets (Some d) x c s t e law h = subst (λ (k : ℚ). k *ℚ t ≤ℚ
 never_up : (resets : Bool) (capacity : Option ℚ) (x s t : ℚ) → capacity ≡ None → LinkLaw resets capacity x s t → t ≤ℚ s
 never_up resets None x s t e law = law.upper
 never_up resets (Some c) x s t e law = absurd (none-some c (sym e))
-
-below_both : (a b c : ℚ) → a ≤ℚ b → b <ℚ c → a <ℚ c
-below_both a b c h k = linear_lt (a ∷ b ∷ c ∷ []) (le h ∷ lt k ∷ []) (search reading_of depth 12) tt
 
 module _ (net : Network) (sets : Sets) (rate : ℚ) (flows slopes : List ℚ) (good : IsNetwork net) (acyclic : HoldNoCycle net sets)
     (thin : IsThinFlow net sets rate flows slopes) (keeps : KeepsSets net sets slopes) where
@@ -134,7 +129,7 @@ module _ (net : Network) (sets : Sets) (rate : ℚ) (flows slopes : List ℚ) (g
   below_1 : (v : ℕ) → v < net.nodes → slope v <ℚ 1ℚ → (e : ℕ) × (link : Link) × Enters net sets v e link × (slope link.tail <ℚ 1ℚ)
   below_1 v h low =
       let t : (e : ℕ) × (link : Link) × Enters net sets v e link × (exit_slope_at sets flows slopes e link ≡ slope v) = thin.taken v h other in
-      (t.0, t.1, t.2, below_both (slope t.1.tail) (slope v) 1ℚ (led_up v t.0 t.1 t.2 t.3) low)
+      (t.0, t.1, t.2, ≤_<_trans (slope t.1.tail) (slope v) 1ℚ (led_up v t.0 t.1 t.2 t.3) low)
     where
       other : v ≢ net.source
       other e = not_both_ℚ (slope v) 1ℚ low (≤ℚ_of_same 1ℚ (slope v) (sym thin.starts ∙ ap (number_at slopes) (sym e)))

@@ -28,7 +28,7 @@ still : (x y a b s : ℚ) → x ≡ y → a ≡ b → x ≡ y +ℚ (a -ℚ b) *�
 still x y a b s e f = e ∙ none y a b s f
   where
     none : (y a b s : ℚ) → a ≡ b → y ≡ y +ℚ (a -ℚ b) *ℚ s
-    none y a b s f = subst (λ (z : ℚ). y ≡ y +ℚ (a -ℚ z) *ℚ s) f (linear_eq (y ∷ a ∷ s ∷ []) [] (search reading_of depth 12) tt tt)
+    none y a b s f = subst (λ (z : ℚ). y ≡ y +ℚ (a -ℚ z) *ℚ s) f (linear_eq (y ∷ a ∷ s ∷ []) [] (search reading_of) tt tt)
 
 module _ (net : Network) (flow : Flow) (tail : Tail) (v : ℕ) (h : v < net.nodes) (curves : length flow.labels ≡ net.nodes) (slopes : length tail.slopes ≡ net.nodes)
     (ends : LastPoint (points_at flow.labels v) (flow.reached, label flow v flow.reached)) where

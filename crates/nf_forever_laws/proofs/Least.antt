@@ -16,23 +16,23 @@ use Rattle.nf_forever_laws.proofs.Cuts.{cut_capacity-positive}
 
 -- Arithmetic: r is the supply rate, s is the slope of the sink, and c and d are capacities of cuts.
 let_at_1 : (r s c : ℚ) → s ≡ 1ℚ → r ≤ℚ s *ℚ c → r ≤ℚ c
-let_at_1 r s c e h = linear_le (r ∷ s ∷ c ∷ []) (eq_times c e ∷ le h ∷ []) (search reading_of depth 12) tt
+let_at_1 r s c e h = linear_le (r ∷ s ∷ c ∷ []) (eq_times c e ∷ le h ∷ []) (search reading_of) tt
 
 too_small : (r s c : ℚ) → 0ℚ <ℚ c *ℚ (s -ℚ 1ℚ) → r ≡ s *ℚ c → r ≤ℚ c → ⊥
-too_small r s c h e k = linear_false (r ∷ s ∷ c ∷ []) (lt h ∷ eq e ∷ le k ∷ []) (search reading_of depth 12) tt
+too_small r s c h e k = linear_false (r ∷ s ∷ c ∷ []) (lt h ∷ eq e ∷ le k ∷ []) (search reading_of) tt
 
 no_less : (r s c d : ℚ) → r ≡ s *ℚ c → r ≤ℚ s *ℚ d → s *ℚ c ≤ℚ s *ℚ d
-no_less r s c d e h = linear_le (r ∷ s ∷ c ∷ d ∷ []) (eq e ∷ le h ∷ []) (search reading_of depth 12) tt
+no_less r s c d e h = linear_le (r ∷ s ∷ c ∷ d ∷ []) (eq e ∷ le h ∷ []) (search reading_of) tt
 
 -- Here d is the least capacity, and q is the supply rate over d.
 same_times : (r s c d q : ℚ) → 0ℚ ≤ℚ s → r ≡ s *ℚ c → d ≤ℚ c → r ≤ℚ s *ℚ d → q *ℚ d ≡ r → d *ℚ q ≡ d *ℚ s
-same_times r s c d q n e h k f = linear_eq (r ∷ s ∷ c ∷ d ∷ q ∷ []) (eq e ∷ le_times n h ∷ le k ∷ eq f ∷ []) (search reading_of depth 12) tt tt
+same_times r s c d q n e h k f = linear_eq (r ∷ s ∷ c ∷ d ∷ q ∷ []) (eq e ∷ le_times n h ∷ le k ∷ eq f ∷ []) (search reading_of) tt tt
 
 at_most_1 : (r s d q : ℚ) → s ≡ 1ℚ → r ≤ℚ s *ℚ d → q *ℚ d ≡ r → d *ℚ q ≤ℚ d *ℚ 1ℚ
-at_most_1 r s d q e h f = linear_le (r ∷ s ∷ d ∷ q ∷ []) (eq_times d e ∷ le h ∷ eq f ∷ []) (search reading_of depth 12) tt
+at_most_1 r s d q e h f = linear_le (r ∷ s ∷ d ∷ q ∷ []) (eq_times d e ∷ le h ∷ eq f ∷ []) (search reading_of) tt
 
 above_0 : (s : ℚ) → 1ℚ <ℚ s → 0ℚ <ℚ s
-above_0 s h = linear_lt (s ∷ []) (lt h ∷ []) (search reading_of depth 12) tt
+above_0 s h = linear_lt (s ∷ []) (lt h ∷ []) (search reading_of) tt
 
 module _ (net : Network) (rate : ℚ) (slopes : List ℚ) (good : IsNetwork net) (grows : GrowsByCuts net rate slopes) where
   abbrev s : ℚ

@@ -8,9 +8,9 @@ use Rattle.nf_rational.specs.Order.{◌≤ℚ◌, ◌<ℚ◌}
 use Rattle.nf_rational_laws.proofs.Order.{≤ℚ_of_same, ≤ℚ_of_lt, lt_or_le_ℚ}
 use Rattle.nf_rational_laws.proofs.Chains.{≤ℚ_trans}
 use Rattle.nf_model.specs.Network.{Link, Network, IsNetwork}
-use Rattle.nf_rational_laws.proofs.Results.{not_both}
+use Rattle.nf_rational_laws.proofs.Results.{not_both, true_or_false}
 use Rattle.nf_forever_laws.specs.Cuts.{Cut, LeadsOut, IsStaticCut, outward_capacity, capacity_sum, cut_capacity, IsLeastCapacity}
-use Rattle.nf_forever_laws.proofs.Fitting.{true_or_false, capacity_or_none}
+use Rattle.nf_forever_laws.proofs.Fitting.{capacity_or_none}
 
 -- ---- it is decidable whether a set is a static cut
 -- The link is bounded, or it does not leave the set.

@@ -38,7 +38,7 @@ ends_later passes net slacks slopes time end pieces h = by b.0 b.1 b.2
     b = bind_ok (extend_list passes net slacks slopes time) (end_after passes time) (Some end) h
 
     later : (e l : ℚ) → 0ℚ <ℚ l → e ≡ time +ℚ l → time <ℚ e
-    later e l k f = linear_lt (time ∷ e ∷ l ∷ []) (lt k ∷ eq f ∷ []) (search reading_of depth 12) tt
+    later e l k f = linear_lt (time ∷ e ∷ l ∷ []) (lt k ∷ eq f ∷ []) (search reading_of) tt
 
     by : (x : Option ℚ) → extend_list passes net slacks slopes time ≡ Ok x → end_after passes time x ≡ Ok (Some end) → time <ℚ end
     by None e k = absurd (no_end end k)

@@ -7,7 +7,7 @@ use Rattle.nf_rational.specs.Rational.{ℚ}
 use Rattle.nf_rational.specs.Operations.{0ℚ, ◌+ℚ◌, ◌-ℚ◌, ◌*ℚ◌}
 use Rattle.nf_rational.specs.Order.{◌<ℚ◌}
 use Rattle.nf_rational_laws.proofs.Polynomial.{reading_of}
-use Rattle.nf_rational_laws.proofs.Linear.{lt, eq, linear_lt, linear_eq}
+use Rattle.nf_rational_laws.proofs.Linear.{linear_eq}
 use Rattle.nf_model.specs.Entries.{number_at}
 use Rattle.nf_model.specs.Curve.{Point, AreSlopes}
 use Rattle.nf_model.specs.Network.{Link, Network, IsNetwork, IsLink, hop_of, hops, rate_at}
@@ -30,22 +30,15 @@ use Rattle.nf_forever_laws.proofs.Entries.{labels_then_at, labels_with_end_at, l
 use Rattle.nf_forever_laws.proofs.Steps.{last_point-is, TraceStep-last, CurveStep, CurveStep-last}
 use Rattle.nf_rational_laws.proofs.Chains.{≤ℚ_refl}
 use Rattle.nf_rational_laws.proofs.Entries.{slice_get-image, entry}
+use Rattle.nf_rational_laws.proofs.Facts.{back_and_forth, same_slacks, later_by}
+use Rattle.nf_rational_laws.proofs.Order.{less_ps}
 
 queue_same : (capacity : Option ℚ) (s : ℚ) → queue_then capacity s ≡ queue_by_slack capacity s
 queue_same None s = refl
 queue_same (Some c) s = refl
 
 same_value : (p q : Point) (w r : ℚ) → p ≡ q → p.1 +ℚ w *ℚ r ≡ q.1 +ℚ r *ℚ w
-same_value p q w r e = ap (λ (p : Point). p.1 +ℚ w *ℚ r) e ∙ linear_eq (q.1 ∷ w ∷ r ∷ []) [] (search reading_of depth 12) tt tt
-
-rest_of : (a b : ℚ) → a +ℚ (b -ℚ a) ≡ b
-rest_of a b = linear_eq (a ∷ b ∷ []) [] (search reading_of depth 12) tt tt
-
-gap : (a b : ℚ) → a <ℚ b → 0ℚ <ℚ b -ℚ a
-gap a b h = linear_lt (a ∷ b ∷ []) (lt h ∷ []) (search reading_of depth 12) tt
-
-same_slack : (a b c d t : ℚ) → a ≡ b → c ≡ d → a -ℚ (c +ℚ t) ≡ b -ℚ (d +ℚ t)
-same_slack a b c d t e f = linear_eq (a ∷ b ∷ c ∷ d ∷ t ∷ []) (eq e ∷ eq f ∷ []) (search reading_of depth 12) tt tt
+same_value p q w r e = ap (λ (p : Point). p.1 +ℚ w *ℚ r) e ∙ linear_eq (q.1 ∷ w ∷ r ∷ []) [] (search reading_of) tt tt
 
 module _ (net : Network) (flow : Flow) (tail : Tail) (until : ℚ) (labels : List ℚ) (good : IsNetwork net) (grown : Grown net flow.reached labels (curves_of flow))
     (shape : HasShape net flow) (inflow_rates : HasSlopes flow.inflows) (outflow_rates : HasSlopes flow.outflows)
@@ -74,12 +67,12 @@ module _ (net : Network) (flow : Flow) (tail : Tail) (until : ℚ) (labels : Lis
     thin = thin;
     length = while;
     is_length = inr (unending, refl);
-    time = sym (rest_of flow.reached until);
+    time = sym (back_and_forth flow.reached until);
     labels = refl;
   }
 
   some : 0ℚ <ℚ while
-  some = gap flow.reached until below
+  some = less_ps flow.reached until below
 
   abbrev label_now : ℕ → ℚ
   label_now v = at curves.labels v flow.reached
@@ -107,11 +100,8 @@ module _ (net : Network) (flow : Flow) (tail : Tail) (until : ℚ) (labels : Lis
 
     label_goes : GoesOnTo (curves.labels v) (curves'.labels v) (flow.reached, label_now v) (flow.reached +ℚ while, label_now v +ℚ number_at tail.slopes v *ℚ while)
     label_goes = subst (λ (ps : List Point). GoesOnTo (curves.labels v) ps (flow.reached, label_now v) (flow.reached +ℚ while, label_now v +ℚ number_at tail.slopes v *ℚ while))
-        (ap (λ (p : Point). curves.labels v ++ p ∷ []) (sym (same_point until (flow.reached +ℚ while) (number_at then v) (label_now v +ℚ number_at tail.slopes v *ℚ while) (sym (rest_of flow.reached until)) then_is)) ∙ sym label_new)
-        (GoesOnTo-appended (curves.labels v) (flow.reached, label_now v) (flow.reached +ℚ while, label_now v +ℚ number_at tail.slopes v *ℚ while) ends (later flow.reached while some))
-      where
-        later : (a t : ℚ) → 0ℚ <ℚ t → a <ℚ a +ℚ t
-        later a t k = linear_lt (a ∷ t ∷ []) (lt k ∷ []) (search reading_of depth 12) tt
+        (ap (λ (p : Point). curves.labels v ++ p ∷ []) (sym (same_point until (flow.reached +ℚ while) (number_at then v) (label_now v +ℚ number_at tail.slopes v *ℚ while) (sym (back_and_forth flow.reached until)) then_is)) ∙ sym label_new)
+        (GoesOnTo-appended (curves.labels v) (flow.reached, label_now v) (flow.reached +ℚ while, label_now v +ℚ number_at tail.slopes v *ℚ while) ends (later_by flow.reached while some))
 
     new_at : at curves'.labels v (flow.reached +ℚ while) ≡ number_at then v
     new_at = EndsAt-value (curves'.labels v) (flow.reached +ℚ while, label_now v +ℚ number_at tail.slopes v *ℚ while) (flow.reached +ℚ while)
@@ -187,7 +177,7 @@ module _ (net : Network) (flow : Flow) (tail : Tail) (until : ℚ) (labels : Lis
 
     size_is : queue_then link.capacity (slack then (hop_of link)) ≡ queue_by_slack link.capacity (link_slack (at curves'.labels) link (flow.reached +ℚ while))
     size_is = queue_same link.capacity (slack then (hop_of link)) ∙ ap (queue_by_slack link.capacity)
-        (same_slack (number_at then link.head) _ (number_at then link.tail) _ link.transit (sym (new_at link.head head_in)) (sym (new_at link.tail tail_in)))
+        (same_slacks (number_at then link.head) (number_at then link.tail) _ _ link.transit (sym (new_at link.head head_in)) (sym (new_at link.tail tail_in)))
 
     queue_step : CurveStep (curves.queues e) (queue_new while tail.slopes then link (curves.queues e)) (label_now link.tail) (at curves.queues e (label_now link.tail)) while (number_at tail.slopes link.tail)
         (queue_by_slack link.capacity (link_slack (at curves'.labels) link (flow.reached +ℚ while)))

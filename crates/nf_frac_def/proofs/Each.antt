@@ -1,7 +1,10 @@
 -- A loop over a list, one value at a time: what is there so far stands before what comes of the rest.
-use Rattle.std.specs.Prelude.{◌≡◌, List, [], ◌∷◌, ◌++◌, Result, Ok, Err, refl}
-use Rattle.std.proofs.Common.{sym, ap, ◌∙◌, append_assoc}
+use Rattle.std.specs.Prelude.{◌≡◌, List, [], ◌∷◌, ◌++◌, Result, Ok, Err, Some, slice_get, refl}
+use Rattle.std.proofs.Common.{ℕ, zero, suc, length, sym, ap, ◌∙◌, append_assoc}
+use Rattle.std.proofs.lemmas.Option.{same_Some}
 use Rattle.nf_frac_def.specs.Checked.{each, fold_checked, ◌>>=◌}
+use Rattle.nf_frac_def.proofs.Binding.{bind_ok}
+use Rattle.nf_frac_def.proofs.Exact.{same_value}
 
 -- a list's front before what comes of the rest
 abbrev pub with_front : {B E : Type 0} → List B → Result (List B) E → Result (List B) E
@@ -25,3 +28,23 @@ module _ {A B E : Type 0} (f : B → A → Result B E) where
 
   pub fold_err : (so_far : B) (x : A) (rest : List A) (p : E) → f so_far x ≡ Err p → fold_checked f so_far (x ∷ rest) ≡ Err p
   fold_err so_far x rest p e = ap (λ r. r >>= λ y. fold_checked f y rest) e
+
+-- ---- the values of a loop that ends
+pub each_length : {A B E : Type 0} (f : A → Result B E) (xs : List A) (ys : List B) → each f xs ≡ Ok ys → length ys ≡ length xs
+each_length f [] ys e = ap length (sym (same_value _ [] ys refl e))
+each_length f (x ∷ xs) ys e =
+    let first = bind_ok (f x) _ ys e in
+    let rest = bind_ok (each f xs) _ ys first.2 in
+    ap length (sym (same_value _ _ ys refl rest.2)) ∙ ap suc (each_length f xs rest.0 rest.1)
+
+pub each_at : {A B E : Type 0} (f : A → Result B E) (xs : List A) (ys : List B) (i : ℕ) (x : A) → each f xs ≡ Ok ys → slice_get xs i ≡ Some x → (y : B) × (slice_get ys i ≡ Some y) × (f x ≡ Ok y)
+each_at f [] ys i x e h = absurd (cc)
+each_at f (w ∷ xs) ys zero x e h =
+    let first = bind_ok (f w) _ ys e in
+    let rest = bind_ok (each f xs) _ ys first.2 in
+    (first.0, ap (λ (l : List _). slice_get l 0) (sym (same_value _ _ ys refl rest.2)), ap f (sym (same_Some w x h)) ∙ first.1)
+each_at f (w ∷ xs) ys (suc i) x e h =
+    let first = bind_ok (f w) _ ys e in
+    let rest = bind_ok (each f xs) _ ys first.2 in
+    let y = each_at f xs rest.0 i x rest.1 h in
+    (y.0, ap (λ (l : List _). slice_get l (suc i)) (sym (same_value _ _ ys refl rest.2)) ∙ y.1, y.2)

@@ -1,5 +1,5 @@
 -- Exact results of operations, and which operations pass a bound on the parts of fractions.
-use Rattle.std.specs.Prelude.{ℕ, ◌-◌, ◌*◌, ◌/◌, ◌^◌, min, max, Bool, ◌||◌, nat_lt, pos, ◌+ℤ◌, ◌*ℤ◌, nat_abs}
+use Rattle.std.specs.Prelude.{ℕ, ◌-◌, ◌*◌, ◌/◌, ◌^◌, min, max, Bool, false, ◌||◌, nat_lt, pos, ◌+ℤ◌, ◌*ℤ◌, nat_abs}
 use Rattle.nf_rational.specs.Gcd.{gcd}
 use Rattle.nf_rational.specs.Rational.{ℚ}
 use Rattle.nf_rational.specs.Operations.{neg_ℚ, ◌+ℚ◌, ◌-ℚ◌, ◌*ℚ◌, ◌/ℚ◌}
@@ -44,3 +44,7 @@ beyond bound Quotient x y = is_wide bound (x /ℚ y)
 -- the operations on fractions with parts of at most 127 bits that pass
 abbrev pub passes_Q : Passing
 passes_Q = beyond (bound_of 127)
+
+-- No operation passes.
+abbrev pub never : Passing
+never op x y = false

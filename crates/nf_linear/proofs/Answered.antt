@@ -6,7 +6,7 @@ use Rattle.nf_frac_def.specs.Passing.{Passing}
 use Rattle.nf_frac_def.specs.declared.Halt.{Halt}
 use Rattle.nf_frac_def.specs.declared.Part.TheVariants as Part
 use Rattle.nf_frac_def.specs.Checked.{Checked, Stops, at_part, ◌>>=◌}
-use Rattle.nf_thin_def.specs.Table.{Row, Eliminated, eliminate_from, if_some, solution_from, solution_of, table_list}
+use Rattle.nf_linear_def.specs.Table.{Row, Eliminated, eliminate_from, if_some, solution_from, solution_of, table_list}
 use Rattle.nf_linear_laws.specs.Solution.{IsSquare, IsOnlySolution}
 use Rattle.nf_linear_laws.proofs.Solutions.{one_solution, not_one_solution}
 use Rattle.nf_linear.specs.Pivots.{eliminated}

@@ -3,7 +3,7 @@ use Rattle.std.proofs.Common.{◌≡◌, ℕ, zero, suc, ◌<◌, Bool, true, fa
 use Rattle.std.proofs.Math.ListN.{length-set, length-map}
 use Rattle.nf_rational.specs.Rational.{ℚ}
 use Rattle.nf_model.specs.Entries.{number_at}
-use Rattle.nf_thin_def.specs.Table.{Row, row_at}
+use Rattle.nf_linear_def.specs.Table.{Row, row_at}
 use Rattle.nf_linear_laws.specs.Solution.{IsSquare}
 use Rattle.nf_rational.specs.Signs.{is_zero}
 use Rattle.nf_linear.specs.Rows.{some_flags}

@@ -11,8 +11,8 @@ use Rattle.nf_frac_def.specs.Checked.{Checked, at_part, ◌>>=◌}
 use Rattle.nf_frac_def.proofs.Each.{with_front}
 use Rattle.nf_model.specs.Entries.{number_at}
 use Rattle.nf_rational.specs.Signs.{is_zero}
-use Rattle.nf_thin_def.specs.Table as Lists
-use Rattle.nf_thin_def.specs.Table.{Row, row_at}
+use Rattle.nf_linear_def.specs.Table as Lists
+use Rattle.nf_linear_def.specs.Table.{Row, row_at}
 use Rattle.nf_linear_laws.specs.Solution.{IsSquare}
 use Rattle.nf_linear.specs.Rows.{some_from, clear_unless, clear_each}
 use Rattle.nf_linear.proofs.Fronts.{take_set, drop_set, take_whole, first_before, one_before, stopped, stopped_before}

@@ -5,9 +5,9 @@ use Rattle.nf_rational.specs.Rational.{ℚ}
 use Rattle.nf_frac_def.specs.declared.Part.TheVariants as Part
 use Rattle.nf_frac_def.specs.Passing.{passes_Q}
 use Rattle.nf_frac_def.specs.Checked.{at_part}
-use Rattle.nf_thin_def.specs.Table.{Row, table_list}
-use Rattle.nf_thin_laws.proofs.Exact.{table_list_under}
-use Rattle.nf_thin_laws.proofs.Numbered.{part_ok}
+use Rattle.nf_linear_def.specs.Table.{Row, table_list}
+use Rattle.nf_linear_laws.proofs.Exact.{table_list_under}
+use Rattle.nf_frac_def.proofs.AtPart.{part_ok}
 use Rattle.nf_frac.proofs.Passing.{short_passes_first}
 use Rattle.nf_linear.specs.SmallTables.{passes_small}
 

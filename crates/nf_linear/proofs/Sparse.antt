@@ -8,7 +8,7 @@ use Rattle.nf_frac_def.specs.declared.Op.TheVariants.{Quotient}
 use Rattle.nf_frac_def.specs.Checked.{Checked, checked, fold_checked, ◌>>=◌}
 use Rattle.nf_model.specs.Entries.{number_at}
 use Rattle.nf_rational.specs.Signs.{is_zero}
-use Rattle.nf_thin_def.specs.Table.{Row, less_unless, entries_less, cleared_row}
+use Rattle.nf_linear_def.specs.Table.{Row, less_unless, entries_less, cleared_row}
 use Rattle.nf_linear.proofs.Fronts.{take_set, drop_set, take_whole}
 use Rattle.nf_linear.specs.Rows.{some_from, entry_less, clear_row}
 

@@ -8,9 +8,9 @@ use Rattle.nf_frac_def.specs.declared.Halt.{Halt}
 use Rattle.nf_frac_def.specs.declared.Part.TheVariants as Part
 use Rattle.nf_frac_def.specs.Checked.{Checked, Stops, at_part, ◌>>=◌}
 use Rattle.nf_model.specs.Entries.{number_at}
-use Rattle.nf_thin_def.specs.Table.{Row, Eliminated, row_at, pivot_of, clear_rows, eliminate_at, eliminate_column, eliminate_from, if_some}
-use Rattle.nf_thin_laws.specs.ListLaws.{never}
-use Rattle.nf_thin_laws.proofs.Exact.{rows_as}
+use Rattle.nf_linear_def.specs.Table.{Row, Eliminated, row_at, pivot_of, clear_rows, eliminate_at, eliminate_column, eliminate_from, if_some}
+use Rattle.nf_frac_def.specs.Passing.{never}
+use Rattle.nf_linear_laws.proofs.Exact.{rows_as}
 use Rattle.nf_linear_laws.specs.Solution.{IsSquare}
 use Rattle.nf_linear_laws.proofs.Pivots.{IsPivot, is_pivot, some_tested}
 use Rattle.nf_linear_laws.proofs.Rows.{rows_after, rows_exact}

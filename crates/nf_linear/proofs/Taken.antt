@@ -11,7 +11,7 @@ use Rattle.nf_frac_def.specs.declared.Part.{Part}
 use Rattle.nf_frac_def.specs.declared.PassedAt.{PassedAt}
 use Rattle.nf_frac_def.specs.Checked.{Checked, at_part, fold_checked, ◌>>=◌}
 use Rattle.nf_frac_def.proofs.Each.{fold_ok}
-use Rattle.nf_thin_def.specs.Table.{less_unless}
+use Rattle.nf_linear_def.specs.Table.{less_unless}
 use Rattle.nf_model.specs.Entries.{number_at}
 use Rattle.nf_rational.specs.Signs.{is_zero}
 use Rattle.nf_linear_laws.proofs.Pivots.{zero_tested, is_zero-at}

@@ -12,7 +12,7 @@ use Rattle.nf_frac_def.specs.declared.PassedAt.{PassedAt}
 use Rattle.nf_frac_def.specs.Checked.{Checked, checked, checked_at, at_part, ◌>>=◌}
 use Rattle.nf_frac_def.proofs.Each.{with_front}
 use Rattle.nf_model.specs.Entries.{number_at}
-use Rattle.nf_thin_def.specs.Table.{Row, row_at, solution_from}
+use Rattle.nf_linear_def.specs.Table.{Row, row_at, solution_from}
 use Rattle.nf_linear.proofs.Fronts.{first_before, one_before, stopped, stopped_before}
 use Rattle.nf_linear.proofs.Taken.{ok_of_part}
 

@@ -3,7 +3,7 @@ use Rattle.std.specs.Prelude.{◌≡◌, ◌≢◌, ℕ, ◌<◌, ◌==◌, Bool
 use Rattle.std.specs.List.{list_any}
 use Rattle.nf_rational.specs.Operations.{0ℚ}
 use Rattle.nf_model.specs.Entries.{number_at}
-use Rattle.nf_thin_def.specs.Table.{Row, Eliminated, row_at}
+use Rattle.nf_linear_def.specs.Table.{Row, Eliminated, row_at}
 use Rattle.nf_linear_laws.specs.Solution.{IsSquare}
 
 -- of each row, whether it is one of these pivot rows

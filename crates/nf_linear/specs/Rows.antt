@@ -7,7 +7,7 @@ use Rattle.nf_frac_def.specs.Checked.{Checked, checked, fold_checked, ◌>>=◌}
 use Rattle.nf_frac_def.specs.declared.Op.TheVariants.{Quotient}
 use Rattle.nf_model.specs.Entries.{number_at}
 use Rattle.nf_rational.specs.Signs.{is_zero}
-use Rattle.nf_thin_def.specs.Table.{Row, less_unless}
+use Rattle.nf_linear_def.specs.Table.{Row, less_unless}
 
 -- of each number, whether it is other than 0
 abbrev pub some_flags : Row → List Bool

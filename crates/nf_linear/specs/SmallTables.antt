@@ -1,7 +1,7 @@
 -- Tables that are solved over small numbers alone.
 use Rattle.std.specs.Prelude.{List, IsErr}
 use Rattle.nf_frac_def.specs.Passing.{Passing, bound_of, beyond}
-use Rattle.nf_thin_def.specs.Table.{Row, table_list}
+use Rattle.nf_linear_def.specs.Table.{Row, table_list}
 
 -- the operations that pass where no part may have more than 63 bits
 abbrev pub passes_small : Passing

@@ -1,7 +1,7 @@
 -- What is found of a system.
 use Rattle.std.specs.Prelude.{List, map, Option, Some, None}
 use Rattle.nf_rational.specs.Rational.{ℚ}
-use Rattle.nf_thin_def.specs.Table.{Row}
+use Rattle.nf_linear_def.specs.Table.{Row}
 use Rattle.nf_linear_laws.specs.Solution.{IsOnlySolution}
 use Rattle.nf_linear.specs.declared.solution.Solved.{Solved}
 use Rattle.nf_linear.specs.declared.solution.Solved.TheVariants.{One, NotOne}

@@ -4,7 +4,7 @@ ghost use Rattle.nf_rational.specs.Operations.{0ℚ};
 ghost use Rattle.nf_frac_def.specs.declared.Part.TheVariants as Part;
 ghost use Rattle.nf_frac_def.specs.Passing.{passes_Q};
 ghost use Rattle.nf_frac_def.specs.Checked.{at_part, seen_at};
-ghost use Rattle.nf_thin_def.specs.Table.{row_at, table_list};
+ghost use Rattle.nf_linear_def.specs.Table.{row_at, table_list};
 ghost use Rattle.nf_linear_laws.specs.Solution.{IsSquare};
 ghost use Rattle.nf_linear.specs.Grids.{values_if, IsTrueWith};
 

@@ -8,7 +8,7 @@ ghost use Rattle.nf_frac_def.specs.declared.Op.TheVariants.{Quotient};
 ghost use Rattle.nf_frac_def.specs.Checked.{at_part, checked_at, fold_checked, seen_at};
 ghost use Rattle.nf_model.specs.Entries.{number_at};
 ghost use Rattle.nf_rational.specs.Signs as Signs;
-ghost use Rattle.nf_thin_def.specs.Table.{less_unless};
+ghost use Rattle.nf_linear_def.specs.Table.{less_unless};
 ghost use Rattle.nf_linear.specs.Rows.{meant, some_from, entry_less, clear_row};
 
 use nf_frac::{Part, PassedAt, Scalar};

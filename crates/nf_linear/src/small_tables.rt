@@ -1,7 +1,7 @@
 // Systems of small numbers, solved over small numbers alone.
 ghost use Rattle.std.specs.Prelude.{◌≡◌, Ok, IfOk, IfSome, MatchOption};
 ghost use Rattle.nf_frac_def.specs.Passing.{passes_Q};
-ghost use Rattle.nf_thin_def.specs.Table.{table_list};
+ghost use Rattle.nf_linear_def.specs.Table.{table_list};
 ghost use Rattle.nf_linear.specs.Solved.{values_of};
 ghost use Rattle.nf_linear.specs.SmallTables.{passes_small, PassesSmall};
 

@@ -2,7 +2,7 @@
 ghost use Rattle.std.specs.Prelude.{◌≡◌, ◌≤◌, [], length, map, IfOk};
 ghost use Rattle.nf_frac_def.specs.declared.Part.TheVariants as Part;
 ghost use Rattle.nf_frac_def.specs.Checked.{at_part, seen_at, Gives};
-ghost use Rattle.nf_thin_def.specs.Table.{solution_from, table_list};
+ghost use Rattle.nf_linear_def.specs.Table.{solution_from, table_list};
 ghost use Rattle.nf_linear_laws.specs.Solution.{IsSquare};
 ghost use Rattle.nf_linear.specs.Pivots.{AreTaken, HasPivots};
 ghost use Rattle.nf_linear.specs.Grids.{values_if, IsTrueWith};

@@ -1,7 +1,7 @@
 // What the equations of a system are written into.
 ghost use Rattle.std.specs.Prelude.{◌≡◌, ◌<◌, length, set, List, Bool, true, IsTrue};
 ghost use Rattle.nf_rational.specs.Rational.{ℚ};
-ghost use Rattle.nf_thin_def.specs.Table.{row_at};
+ghost use Rattle.nf_linear_def.specs.Table.{row_at};
 ghost use Rattle.nf_linear.specs.Holding.{HoldsUnits, any_holds, takes_small, small_units};
 
 use crate::grid::Grid;

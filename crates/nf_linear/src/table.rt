@@ -1,7 +1,7 @@
 // Tables of linear systems.
 ghost use Rattle.std.specs.Prelude.{◌≡◌, ℕ, ◌+◌, ◌<◌, ◌≤◌, length, set, replicate, IfOk};
 ghost use Rattle.nf_rational.specs.Operations.{0ℚ};
-ghost use Rattle.nf_thin_def.specs.Table.{row_at};
+ghost use Rattle.nf_linear_def.specs.Table.{row_at};
 ghost use Rattle.nf_linear_laws.specs.Solution.{IsSquare};
 
 use crate::row::Row;

@@ -23,10 +23,10 @@ AreBelow (l ∷ lowers) x v = (form_value l.form x ≤ℚ v +ℚ l.bound) × Are
 
 -- ---- at another number, and at an assignment that agrees
 falls : (v w f b : ℚ) → w ≤ℚ v → v +ℚ f ≤ℚ b → w +ℚ f ≤ℚ b
-falls v w f b h k = linear_le (v ∷ w ∷ f ∷ b ∷ []) (le h ∷ le k ∷ []) (search reading_of depth 12) tt
+falls v w f b h k = linear_le (v ∷ w ∷ f ∷ b ∷ []) (le h ∷ le k ∷ []) (search reading_of) tt
 
 rises : (v w f b : ℚ) → v ≤ℚ w → f ≤ℚ v +ℚ b → f ≤ℚ w +ℚ b
-rises v w f b h k = linear_le (v ∷ w ∷ f ∷ b ∷ []) (le h ∷ le k ∷ []) (search reading_of depth 12) tt
+rises v w f b h k = linear_le (v ∷ w ∷ f ∷ b ∷ []) (le h ∷ le k ∷ []) (search reading_of) tt
 
 pub AreAbove-less : (uppers : List AtMost) (x : ℕ → ℚ) (v w : ℚ) → w ≤ℚ v → AreAbove uppers x v → AreAbove uppers x w
 AreAbove-less [] x v w h k = tt
@@ -67,7 +67,7 @@ pairs-within n [] lowers w v = tt
 pairs-within n (u ∷ uppers) lowers w v = AreWithin-append n (joined_all u lowers) (pairs uppers lowers) (joined_all-within n u lowers (w.0, tt) v) (pairs-within n uppers lowers w.1 v)
 
 cancelled : (v f g a b s : ℚ) → s ≡ f +ℚ g → v +ℚ f ≤ℚ a → g ≤ℚ v +ℚ b → s ≤ℚ a +ℚ b
-cancelled v f g a b s e h k = linear_le (v ∷ f ∷ g ∷ a ∷ b ∷ s ∷ []) (eq e ∷ le h ∷ le k ∷ []) (search reading_of depth 12) tt
+cancelled v f g a b s e h k = linear_le (v ∷ f ∷ g ∷ a ∷ b ∷ s ∷ []) (eq e ∷ le h ∷ le k ∷ []) (search reading_of) tt
 
 joined_all-in : (u : AtMost) (lowers : List AtMost) (x : ℕ → ℚ) (v : ℚ) → v +ℚ form_value u.form x ≤ℚ u.bound → AreBelow lowers x v → MeetsAll (joined_all u lowers) x
 joined_all-in u [] x v h k = tt
@@ -80,7 +80,7 @@ pairs-in (u ∷ uppers) lowers x v h k = MeetsAll-append (joined_all u lowers) (
 
 -- ---- the greatest from below
 room : (f g a b s : ℚ) → s ≡ f +ℚ g → s ≤ℚ a +ℚ b → g ≤ℚ (a -ℚ f) +ℚ b
-room f g a b s e h = linear_le (f ∷ g ∷ a ∷ b ∷ s ∷ []) (eq e ∷ le h ∷ []) (search reading_of depth 12) tt
+room f g a b s e h = linear_le (f ∷ g ∷ a ∷ b ∷ s ∷ []) (eq e ∷ le h ∷ []) (search reading_of) tt
 
 joined_all-out : (u : AtMost) (lowers : List AtMost) (x : ℕ → ℚ) → MeetsAll (joined_all u lowers) x → AreBelow lowers x (u.bound -ℚ form_value u.form x)
 joined_all-out u [] x h = tt
@@ -92,13 +92,13 @@ abbrev pub Greatest : List AtMost → (ℕ → ℚ) → Type 0
 Greatest lowers x = (v : ℚ) × AreBelow lowers x v × ((w : ℚ) → AreBelow lowers x w → v ≤ℚ w)
 
 reached : (f b : ℚ) → f ≤ℚ (f -ℚ b) +ℚ b
-reached f b = linear_le (f ∷ b ∷ []) [] (search reading_of depth 12) tt
+reached f b = linear_le (f ∷ b ∷ []) [] (search reading_of) tt
 
 needed : (f b w : ℚ) → f ≤ℚ w +ℚ b → f -ℚ b ≤ℚ w
-needed f b w h = linear_le (f ∷ b ∷ w ∷ []) (le h ∷ []) (search reading_of depth 12) tt
+needed f b w h = linear_le (f ∷ b ∷ w ∷ []) (le h ∷ []) (search reading_of) tt
 
 passed : (f b v : ℚ) → f -ℚ b ≤ℚ v → f ≤ℚ v +ℚ b
-passed f b v h = linear_le (f ∷ b ∷ v ∷ []) (le h ∷ []) (search reading_of depth 12) tt
+passed f b v h = linear_le (f ∷ b ∷ v ∷ []) (le h ∷ []) (search reading_of) tt
 
 greater_of : (l : AtMost) (lowers : List AtMost) (x : ℕ → ℚ) (g : Greatest lowers x) → (g.0 <ℚ form_value l.form x -ℚ l.bound) ⊎ (form_value l.form x -ℚ l.bound ≤ℚ g.0)
     → Greatest (l ∷ lowers) x
@@ -115,7 +115,7 @@ greatest l (m ∷ lowers) x = let g : Greatest (m ∷ lowers) x = greatest m low
     greater_of l (m ∷ lowers) x g (lt_or_le_ℚ g.0 (form_value l.form x -ℚ l.bound))
 
 stays_under : (v f b : ℚ) → v ≤ℚ b -ℚ f → v +ℚ f ≤ℚ b
-stays_under v f b h = linear_le (v ∷ f ∷ b ∷ []) (le h ∷ []) (search reading_of depth 12) tt
+stays_under v f b h = linear_le (v ∷ f ∷ b ∷ []) (le h ∷ []) (search reading_of) tt
 
 above_all : (uppers lowers : List AtMost) (x : ℕ → ℚ) (v : ℚ) → ((w : ℚ) → AreBelow lowers x w → v ≤ℚ w) → MeetsAll (pairs uppers lowers) x → AreAbove uppers x v
 above_all [] lowers x v p h = tt
@@ -129,7 +129,7 @@ abbrev Under : List AtMost → (ℕ → ℚ) → Type 0
 Under uppers x = (v : ℚ) × AreAbove uppers x v
 
 just_under : (f b : ℚ) → (b -ℚ f) +ℚ f ≤ℚ b
-just_under f b = linear_le (f ∷ b ∷ []) [] (search reading_of depth 12) tt
+just_under f b = linear_le (f ∷ b ∷ []) [] (search reading_of) tt
 
 lesser_of : (u : AtMost) (uppers : List AtMost) (x : ℕ → ℚ) (g : Under uppers x) → (u.bound -ℚ form_value u.form x <ℚ g.0) ⊎ (g.0 ≤ℚ u.bound -ℚ form_value u.form x) → Under (u ∷ uppers) x
 lesser_of u uppers x g (inl h) = (

@@ -4,10 +4,11 @@ use Rattle.std.proofs.lemmas.Bool.Decides.{eqb_tells, leb_tells}
 use Rattle.nf_rational.specs.Rational.{ℚ}
 use Rattle.nf_rational.specs.Operations.{0ℚ, 1ℚ, ◌+ℚ◌, ◌-ℚ◌, ◌*ℚ◌, ◌/ℚ◌}
 use Rattle.nf_rational_laws.proofs.Polynomial.{reading_of}
-use Rattle.nf_rational_laws.proofs.Field.{*ℚ_comm, zero-*ℚ}
+use Rattle.nf_rational_laws.proofs.Field.{*ℚ_comm}
 use Rattle.nf_rational_laws.proofs.Signs.{times_one, times_zero}
 use Rattle.nf_rational_laws.proofs.Quotient.{/ℚ-times, /ℚ-unique}
 use Rattle.nf_rational_laws.proofs.Linear.{eq, eq_times, linear_eq}
+use Rattle.nf_rational_laws.proofs.Facts.{times_first_zero, times_second_zero}
 use Rattle.nf_linear_laws.proofs.Totals.{total, total_zero, total_one, total_two}
 use Rattle.nf_linear_laws.proofs.Steps.{Table, Meets, IsStep, kept_row}
 
@@ -44,16 +45,10 @@ place P i (suc c) = ⊎_elim
 
 -- ---- equations of rationals
 less_nothing : (a k b : ℚ) → b ≡ 0ℚ → a -ℚ k *ℚ b ≡ a
-less_nothing a k b e = linear_eq (a ∷ k ∷ b ∷ []) (eq_times k e ∷ []) (search reading_of depth 12) tt tt
-
-first_zero : (a x : ℚ) → a ≡ 0ℚ → a *ℚ x ≡ 0ℚ
-first_zero a x e = ap (λ (v : ℚ). v *ℚ x) e ∙ zero-*ℚ x
-
-second_zero : (a x : ℚ) → x ≡ 0ℚ → a *ℚ x ≡ 0ℚ
-second_zero a x e = ap (λ (v : ℚ). a *ℚ v) e ∙ times_zero a
+less_nothing a k b e = linear_eq (a ∷ k ∷ b ∷ []) (eq_times k e ∷ []) (search reading_of) tt tt
 
 cancels : (a q b x y : ℚ) → q *ℚ a ≡ b → x ≡ 0ℚ -ℚ q → y ≡ 1ℚ → a *ℚ x +ℚ b *ℚ y ≡ 0ℚ
-cancels a q b x y e f g = linear_eq (a ∷ q ∷ b ∷ x ∷ y ∷ []) (eq e ∷ eq_times a f ∷ eq_times b g ∷ []) (search reading_of depth 12) tt tt
+cancels a q b x y e f g = linear_eq (a ∷ q ∷ b ∷ x ∷ y ∷ []) (eq e ∷ eq_times a f ∷ eq_times b g ∷ []) (search reading_of) tt tt
 
 -- ---- one more column
 module _ {n c p : ℕ} {g : ℕ → ℚ} {M N : Table} {P Q : ℕ → ℕ}
@@ -95,7 +90,7 @@ module _ {n : ℕ} {M : Table} {P : ℕ → ℕ} (r : Reduced n n M P) where
 
   alone : (x : ℕ → ℚ) (d : ℕ) → d < n → total n (λ j. M (P d) j *ℚ x j) ≡ M (P d) d *ℚ x d
   alone x d b = total_one n d (λ j. M (P d) j *ℚ x j) b
-      (λ j a different. first_zero (M (P d) j) (x j) (r.cleared j (P d) a (r.within d b) (r.apart d j b a (λ e. different (sym e)))))
+      (λ j a different. times_first_zero (M (P d) j) (x j) (r.cleared j (P d) a (r.within d b) (r.apart d j b a (λ e. different (sym e)))))
 
   pub forced : (x : ℕ → ℚ) → Meets n M 1ℚ x → (d : ℕ) → d < n → x d ≡ solution d
   forced x h d b = /ℚ-unique (M (P d) n) (M (P d) d) (x d) (r.pivot d b)
@@ -152,17 +147,17 @@ module _ {n c : ℕ} {M : Table} {P : ℕ → ℕ} (r : Reduced n c M P) (inside
   in_pivot_row d b =
       total_two n d c (λ j. M (P d) j *ℚ free j) b inside
       (λ j a first second. by_place (λ j. j ≢ d → j ≢ c → j < n → M (P d) j *ℚ free j ≡ 0ℚ) j
-      (λ h f s k. first_zero (M (P d) j) (free j) (r.cleared j (P d) h (r.within d b) (r.apart d j b h (λ e. f (sym e)))))
+      (λ h f s k. times_first_zero (M (P d) j) (free j) (r.cleared j (P d) h (r.within d b) (r.apart d j b h (λ e. f (sym e)))))
       (λ f s k. absurd (s refl))
-      (λ h f s k. second_zero (M (P d) j) (free j) (free-after j h)) first second a)
+      (λ h f s k. times_second_zero (M (P d) j) (free j) (free-after j h)) first second a)
       ∙ cancels (M (P d) d) (M (P d) c /ℚ M (P d) d) (M (P d) c) (free d) (free c) (/ℚ-times (M (P d) c) (M (P d) d) (r.pivot d b)) (free-before d b) free-at
 
   in_other_row : (i : ℕ) → i < n → ((d : ℕ) → d < c → P d ≢ i) → total n (λ j. M i j *ℚ free j) ≡ 0ℚ
   in_other_row i a other = total_zero n (λ j. M i j *ℚ free j)
       (λ j b. by_place (λ j. M i j *ℚ free j ≡ 0ℚ) j
-      (λ h. first_zero (M i j) (free j) (r.cleared j i h a (λ e. other j h (sym e))))
-      (first_zero (M i c) (free c) (none i a other))
-      (λ h. second_zero (M i j) (free j) (free-after j h)))
+      (λ h. times_first_zero (M i j) (free j) (r.cleared j i h a (λ e. other j h (sym e))))
+      (times_first_zero (M i c) (free c) (none i a other))
+      (λ h. times_second_zero (M i j) (free j) (free-after j h)))
 
   pub homogeneous : Meets n M 0ℚ free
   homogeneous i a = ⊎_elim

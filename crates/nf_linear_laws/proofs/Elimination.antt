@@ -8,16 +8,15 @@ use Rattle.std.proofs.lemmas.List.{get_or_append_left}
 use Rattle.std.proofs.Math.ListN.{length-append}
 use Rattle.nf_rational.specs.Rational.{ℚ}
 use Rattle.nf_rational.specs.Operations.{0ℚ, 1ℚ, ◌-ℚ◌, ◌*ℚ◌, ◌/ℚ◌}
-use Rattle.nf_frac_def.specs.Checked.{Checked, checked, ◌>>=◌}
-use Rattle.nf_frac_def.specs.declared.Op.TheVariants.{Quotient}
+use Rattle.nf_frac_def.specs.Checked.{Checked, ◌>>=◌}
 use Rattle.nf_model.specs.Entries.{number_at}
 use Rattle.nf_rational.specs.Signs.{is_zero}
-use Rattle.nf_thin_def.specs.Table.{Row, Eliminated, row_at, pivot_of, eliminate_at, if_some, eliminate_from, solution_from, solution_of, table_list}
-use Rattle.nf_thin_laws.specs.ListLaws.{never}
+use Rattle.nf_linear_def.specs.Table.{Row, Eliminated, row_at, pivot_of, eliminate_at, if_some, eliminate_from, solution_from, solution_of, table_list}
+use Rattle.nf_frac_def.specs.Passing.{never}
 use Rattle.nf_linear_laws.proofs.Steps.{Table, Meets, IsStep, meets_after, meets_before}
 use Rattle.nf_linear_laws.proofs.Columns.{Reduced, one_more, solution, forced, met, free, free-at, homogeneous}
 use Rattle.nf_linear_laws.proofs.Pivots.{zero_tested, some_tested, pivot_row_of, none_is, none_any, no_pivot, IsPivot, is_pivot, different, every_one}
-use Rattle.nf_linear_laws.proofs.Rows.{bind_ok, rows_after, rows_exact, kept_or_less, kept_or_less-at, kept_or_less-clear, kept_or_less-length, rows_after-length, rows_after-at}
+use Rattle.nf_linear_laws.proofs.Rows.{bind_ok, rows_after, rows_exact, kept_or_less, kept_or_less-at, kept_or_less-clear, kept_or_less-length, rows_after-length, rows_after-at, quotient_exact}
 use Rattle.nf_linear_laws.specs.Solution.{IsSquare}
 
 abbrev pub numbers : List Row → Table
@@ -131,10 +130,6 @@ loose {n} {c} {rows} {pivots} s inside e =
 abbrev pub solutions : List Row → ℕ → List ℕ → List ℚ
 solutions rows k [] = []
 solutions rows k (p ∷ pivots) = (numbers rows p (length rows) /ℚ numbers rows p k) ∷ solutions rows (suc k) pivots
-
-quotient_exact : (x y : ℚ) → checked never Quotient x y ≡ Ok (x /ℚ y)
-unfolding checked
-quotient_exact x y = refl
 
 solutions_exact : (rows : List Row) (k : ℕ) (pivots : List ℕ) → solution_from never rows k pivots ≡ Ok (solutions rows k pivots)
 solutions_exact rows k [] = refl

@@ -8,33 +8,28 @@ use Rattle.nf_rational_laws.proofs.Polynomial.{reading_of}
 use Rattle.nf_rational_laws.proofs.Field.{+ℚ_idl}
 use Rattle.nf_rational_laws.proofs.Linear.{eq, linear_eq}
 use Rattle.nf_rational_laws.proofs.Results.{not_both}
+use Rattle.nf_rational_laws.proofs.Facts.{sum_of_sum, zero_of_times_zero, same_terms}
 use Rattle.nf_linear_laws.specs.Systems.{Form, form_value}
 
 -- ---- sums and multiples
-plus_first : (a b c d : ℚ) → d ≡ b +ℚ c → a +ℚ d ≡ (a +ℚ b) +ℚ c
-plus_first a b c d e = linear_eq (a ∷ b ∷ c ∷ d ∷ []) (eq e ∷ []) (search reading_of depth 12) tt tt
-
 pub form_value-append : (f g : Form) (x : ℕ → ℚ) → form_value (f ++ g) x ≡ form_value f x +ℚ form_value g x
 form_value-append [] g x = sym (+ℚ_idl (form_value g x))
-form_value-append ((a, i) ∷ f) g x = plus_first (a *ℚ x i) (form_value f x) (form_value g x) (form_value (f ++ g) x) (form_value-append f g x)
+form_value-append ((a, i) ∷ f) g x = sum_of_sum (a *ℚ x i) (form_value (f ++ g) x) (form_value f x) (form_value g x) (form_value-append f g x)
 
 abbrev pub scaled : ℚ → Form → Form
 scaled k [] = []
 scaled k ((a, i) ∷ f) = (k *ℚ a, i) ∷ scaled k f
 
-times_none : (k : ℚ) → 0ℚ ≡ k *ℚ 0ℚ
-times_none k = linear_eq (k ∷ []) [] (search reading_of depth 12) tt tt
-
 times_sum : (k a u v w : ℚ) → w ≡ k *ℚ v → (k *ℚ a) *ℚ u +ℚ w ≡ k *ℚ (a *ℚ u +ℚ v)
-times_sum k a u v w e = linear_eq (k ∷ a ∷ u ∷ v ∷ w ∷ []) (eq e ∷ []) (search reading_of depth 12) tt tt
+times_sum k a u v w e = linear_eq (k ∷ a ∷ u ∷ v ∷ w ∷ []) (eq e ∷ []) (search reading_of) tt tt
 
 pub form_value-scaled : (k : ℚ) (f : Form) (x : ℕ → ℚ) → form_value (scaled k f) x ≡ k *ℚ form_value f x
-form_value-scaled k [] x = times_none k
+form_value-scaled k [] x = zero_of_times_zero k
 form_value-scaled k ((a, i) ∷ f) x = times_sum k a (x i) (form_value f x) (form_value (scaled k f) x) (form_value-scaled k f x)
 
 -- A single variable.
 one_times : (u : ℚ) → 1ℚ *ℚ u +ℚ 0ℚ ≡ u
-one_times u = linear_eq (u ∷ []) [] (search reading_of depth 12) tt tt
+one_times u = linear_eq (u ∷ []) [] (search reading_of) tt tt
 
 abbrev pub variable : ℕ → Form
 variable i = (1ℚ, i) ∷ []
@@ -47,7 +42,7 @@ abbrev pub less : Form → Form → Form
 less f g = f ++ scaled (0ℚ -ℚ 1ℚ) g
 
 less_sum : (a b c s : ℚ) → s ≡ a +ℚ c → c ≡ (0ℚ -ℚ 1ℚ) *ℚ b → s ≡ a -ℚ b
-less_sum a b c s e f = linear_eq (a ∷ b ∷ c ∷ s ∷ []) (eq e ∷ eq f ∷ []) (search reading_of depth 12) tt tt
+less_sum a b c s e f = linear_eq (a ∷ b ∷ c ∷ s ∷ []) (eq e ∷ eq f ∷ []) (search reading_of) tt tt
 
 pub form_value-less : (f g : Form) (x : ℕ → ℚ) → form_value (less f g) x ≡ form_value f x -ℚ form_value g x
 form_value-less f g x = less_sum (form_value f x) (form_value g x) _ _ (form_value-append f (scaled (0ℚ -ℚ 1ℚ) g) x) (form_value-scaled (0ℚ -ℚ 1ℚ) g x)
@@ -83,12 +78,9 @@ form_within ((a, i) ∷ f) = let w = form_within f in (suc i + w.0, (first i w.0
     rest i n = omega arith
 
 -- The value depends only on the variables that occur in the form.
-same_step : (a u v f g : ℚ) → u ≡ v → f ≡ g → a *ℚ u +ℚ f ≡ a *ℚ v +ℚ g
-same_step a u v f g d e = cc
-
 pub form_value-same : (n : ℕ) (f : Form) (x y : ℕ → ℚ) → Within n f → ((i : ℕ) → i < n → x i ≡ y i) → form_value f x ≡ form_value f y
 form_value-same n [] x y w e = refl
-form_value-same n ((a, i) ∷ f) x y w e = same_step a (x i) (y i) (form_value f x) (form_value f y) (e i w.0) (form_value-same n f x y w.1 e)
+form_value-same n ((a, i) ∷ f) x y w e = same_terms a (x i) (y i) (form_value f x) (form_value f y) (e i w.0) (form_value-same n f x y w.1 e)
 
 -- ---- one variable with another value
 abbrev pub updated : (ℕ → ℚ) → ℕ → ℚ → ℕ → ℚ
@@ -121,10 +113,10 @@ without i [] = []
 without i ((a, j) ∷ f) = if eqb i j then without i f else (a, j) ∷ without i f
 
 apart_at : (a c f g u : ℚ) → f ≡ c *ℚ u +ℚ g → a *ℚ u +ℚ f ≡ (a +ℚ c) *ℚ u +ℚ g
-apart_at a c f g u e = linear_eq (a ∷ c ∷ f ∷ g ∷ u ∷ []) (eq e ∷ []) (search reading_of depth 12) tt tt
+apart_at a c f g u e = linear_eq (a ∷ c ∷ f ∷ g ∷ u ∷ []) (eq e ∷ []) (search reading_of) tt tt
 
 apart_past : (a c f g u w : ℚ) → f ≡ c *ℚ u +ℚ g → a *ℚ w +ℚ f ≡ c *ℚ u +ℚ (a *ℚ w +ℚ g)
-apart_past a c f g u w e = linear_eq (a ∷ c ∷ f ∷ g ∷ u ∷ w ∷ []) (eq e ∷ []) (search reading_of depth 12) tt tt
+apart_past a c f g u w e = linear_eq (a ∷ c ∷ f ∷ g ∷ u ∷ w ∷ []) (eq e ∷ []) (search reading_of) tt tt
 
 apart_by : (b : Bool) (x : ℕ → ℚ) (i j : ℕ) (a c f : ℚ) (g : Form) → (b ≡ true → i ≡ j) → f ≡ c *ℚ x i +ℚ form_value g x
     → a *ℚ x j +ℚ f ≡ (if b then a +ℚ c else c) *ℚ x i +ℚ form_value (if b then g else (a, j) ∷ g) x
@@ -132,7 +124,7 @@ apart_by true x i j a c f g same e = rw (← same refl) (apart_at a c f (form_va
 apart_by false x i j a c f g same e = apart_past a c f (form_value g x) (x i) (x j) e
 
 none_apart : (u : ℚ) → 0ℚ ≡ 0ℚ *ℚ u +ℚ 0ℚ
-none_apart u = linear_eq (u ∷ []) [] (search reading_of depth 12) tt tt
+none_apart u = linear_eq (u ∷ []) [] (search reading_of) tt tt
 
 pub form_value-apart : (i : ℕ) (f : Form) (x : ℕ → ℚ) → form_value f x ≡ coefficient i f *ℚ x i +ℚ form_value (without i f) x
 form_value-apart i [] x = none_apart (x i)

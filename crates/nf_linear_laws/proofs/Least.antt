@@ -20,10 +20,10 @@ abbrev LeastWithin : List AtMost → List AtMost → (ℕ → ℚ) → Type 0
 LeastWithin uppers lowers x = (v : ℚ) × AreAbove uppers x v × AreBelow lowers x v × ((w : ℚ) → AreBelow lowers x w → v ≤ℚ w)
 
 one_less : (f : ℚ) → f -ℚ 1ℚ <ℚ f
-one_less f = linear_lt (f ∷ []) [] (search reading_of depth 12) tt
+one_less f = linear_lt (f ∷ []) [] (search reading_of) tt
 
 one_less_than : (f t : ℚ) → f ≤ℚ t → f -ℚ 1ℚ ≤ℚ t
-one_less_than f t h = linear_le (f ∷ t ∷ []) (le h ∷ []) (search reading_of depth 12) tt
+one_less_than f t h = linear_le (f ∷ t ∷ []) (le h ∷ []) (search reading_of) tt
 
 -- Without a bound from below, there are numbers below any floor.
 no_floor : (uppers : List AtMost) (x : ℕ → ℚ) (t floor : ℚ) → AreAbove uppers x t → ((v : ℚ) → AreAbove uppers x v → floor ≤ℚ v) → (t <ℚ floor) ⊎ (floor ≤ℚ t) → ⊥
@@ -67,10 +67,10 @@ abbrev reaching : List AtMost → Form → List AtMost
 reaching system objective = record { form = (0ℚ -ℚ 1ℚ, 0) ∷ moved objective; bound = 0ℚ } ∷ all_moved system
 
 reaches : (t f g : ℚ) → g ≡ f → f ≤ℚ t → (0ℚ -ℚ 1ℚ) *ℚ t +ℚ g ≤ℚ 0ℚ
-reaches t f g e h = linear_le (t ∷ f ∷ g ∷ []) (eq e ∷ le h ∷ []) (search reading_of depth 12) tt
+reaches t f g e h = linear_le (t ∷ f ∷ g ∷ []) (eq e ∷ le h ∷ []) (search reading_of) tt
 
 reached : (t f g : ℚ) → g ≡ f → (0ℚ -ℚ 1ℚ) *ℚ t +ℚ g ≤ℚ 0ℚ → f ≤ℚ t
-reached t f g e h = linear_le (t ∷ f ∷ g ∷ []) (eq e ∷ le h ∷ []) (search reading_of depth 12) tt
+reached t f g e h = linear_le (t ∷ f ∷ g ∷ []) (eq e ∷ le h ∷ []) (search reading_of) tt
 
 reaching-in : (system : List AtMost) (objective : Form) (x : ℕ → ℚ) (t : ℚ) → MeetsAll system x → form_value objective x ≤ℚ t → MeetsAll (reaching system objective) (with_first t x)
 reaching-in system objective x t h k =

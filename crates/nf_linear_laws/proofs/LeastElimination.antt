@@ -6,8 +6,9 @@ use Rattle.nf_rational.specs.Operations.{0ℚ, 1ℚ, ◌+ℚ◌, ◌-ℚ◌, ◌
 use Rattle.nf_rational.specs.Order.{◌≤ℚ◌, ◌<ℚ◌}
 use Rattle.nf_rational_laws.proofs.Polynomial.{reading_of}
 use Rattle.nf_rational_laws.proofs.Order.{lt_or_le_ℚ, ≤ℚ_antisymm, ≤ℚ_of_lt}
-use Rattle.nf_rational_laws.proofs.Linear.{le, lt, eq, le_times, eq_times, linear_le, linear_lt}
+use Rattle.nf_rational_laws.proofs.Linear.{le, eq, le_times, eq_times, linear_le}
 use Rattle.nf_rational_laws.proofs.Quotient.{ps_inv, ps_times_inv}
+use Rattle.nf_rational_laws.proofs.Facts.{negated_ps}
 use Rattle.nf_linear_laws.specs.Systems.{form_value, AtMost, HoldsAt, MeetsAll}
 use Rattle.nf_linear_laws.proofs.Forms.{Within, Within-scaled, Within-without, scaled, form_value-scaled, updated, updated-here, updated-below, coefficient, without, form_value-apart}
 use Rattle.nf_linear_laws.proofs.Constraints.{AreWithin, AreWithin-append, MeetsAll-append, MeetsAll-front, MeetsAll-rest, MeetsAll-same}
@@ -34,27 +35,24 @@ record Lower (n : ℕ) (c : AtMost) : Type 0 where
 
 -- a is the coefficient of the variable v, k is one over a or over -a, and f is the rest of the form.
 kept_there : (a v f b g : ℚ) → a ≡ 0ℚ → g ≡ a *ℚ v +ℚ f → g ≤ℚ b → f ≤ℚ b
-kept_there a v f b g z e h = linear_le (a ∷ v ∷ f ∷ b ∷ g ∷ []) (eq_times v z ∷ eq e ∷ le h ∷ []) (search reading_of depth 12) tt
+kept_there a v f b g z e h = linear_le (a ∷ v ∷ f ∷ b ∷ g ∷ []) (eq_times v z ∷ eq e ∷ le h ∷ []) (search reading_of) tt
 
 kept_back : (a v f b g : ℚ) → a ≡ 0ℚ → g ≡ a *ℚ v +ℚ f → f ≤ℚ b → g ≤ℚ b
-kept_back a v f b g z e h = linear_le (a ∷ v ∷ f ∷ b ∷ g ∷ []) (eq_times v z ∷ eq e ∷ le h ∷ []) (search reading_of depth 12) tt
+kept_back a v f b g z e h = linear_le (a ∷ v ∷ f ∷ b ∷ g ∷ []) (eq_times v z ∷ eq e ∷ le h ∷ []) (search reading_of) tt
 
 upper_there : (a k v f b g d : ℚ) → a *ℚ k ≡ 1ℚ → 0ℚ ≤ℚ k → g ≡ a *ℚ v +ℚ f → d ≡ k *ℚ f → g ≤ℚ b → v +ℚ d ≤ℚ k *ℚ b
-upper_there a k v f b g d o n e s h = linear_le (a ∷ k ∷ v ∷ f ∷ b ∷ g ∷ d ∷ []) (le_times n h ∷ eq_times k e ∷ eq_times v o ∷ eq s ∷ []) (search reading_of depth 12) tt
+upper_there a k v f b g d o n e s h = linear_le (a ∷ k ∷ v ∷ f ∷ b ∷ g ∷ d ∷ []) (le_times n h ∷ eq_times k e ∷ eq_times v o ∷ eq s ∷ []) (search reading_of) tt
 
 upper_back : (a k v f b g d : ℚ) → a *ℚ k ≡ 1ℚ → 0ℚ ≤ℚ a → g ≡ a *ℚ v +ℚ f → d ≡ k *ℚ f → v +ℚ d ≤ℚ k *ℚ b → g ≤ℚ b
 upper_back a k v f b g d o n e s h =
-    linear_le (a ∷ k ∷ v ∷ f ∷ b ∷ g ∷ d ∷ []) (le_times n h ∷ eq_times a s ∷ eq_times b o ∷ eq_times f o ∷ eq e ∷ []) (search reading_of depth 12) tt
+    linear_le (a ∷ k ∷ v ∷ f ∷ b ∷ g ∷ d ∷ []) (le_times n h ∷ eq_times a s ∷ eq_times b o ∷ eq_times f o ∷ eq e ∷ []) (search reading_of) tt
 
 lower_there : (a k v f b g d : ℚ) → (0ℚ -ℚ a) *ℚ k ≡ 1ℚ → 0ℚ ≤ℚ k → g ≡ a *ℚ v +ℚ f → d ≡ k *ℚ f → g ≤ℚ b → d ≤ℚ v +ℚ k *ℚ b
-lower_there a k v f b g d o n e s h = linear_le (a ∷ k ∷ v ∷ f ∷ b ∷ g ∷ d ∷ []) (le_times n h ∷ eq_times k e ∷ eq_times v o ∷ eq s ∷ []) (search reading_of depth 12) tt
+lower_there a k v f b g d o n e s h = linear_le (a ∷ k ∷ v ∷ f ∷ b ∷ g ∷ d ∷ []) (le_times n h ∷ eq_times k e ∷ eq_times v o ∷ eq s ∷ []) (search reading_of) tt
 
 lower_back : (a k v f b g d : ℚ) → (0ℚ -ℚ a) *ℚ k ≡ 1ℚ → 0ℚ ≤ℚ 0ℚ -ℚ a → g ≡ a *ℚ v +ℚ f → d ≡ k *ℚ f → d ≤ℚ v +ℚ k *ℚ b → g ≤ℚ b
 lower_back a k v f b g d o n e s h =
-    linear_le (a ∷ k ∷ v ∷ f ∷ b ∷ g ∷ d ∷ []) (le_times n h ∷ eq_times a s ∷ eq_times b o ∷ eq_times f o ∷ eq e ∷ []) (search reading_of depth 12) tt
-
-turned : (a : ℚ) → a <ℚ 0ℚ → 0ℚ <ℚ 0ℚ -ℚ a
-turned a h = linear_lt (a ∷ []) (lt h ∷ []) (search reading_of depth 12) tt
+    linear_le (a ∷ k ∷ v ∷ f ∷ b ∷ g ∷ d ∷ []) (le_times n h ∷ eq_times a s ∷ eq_times b o ∷ eq_times f o ∷ eq e ∷ []) (search reading_of) tt
 
 Kept-from : (n : ℕ) (c : AtMost) → Within (suc n) c.form → coefficient n c.form ≡ 0ℚ → Kept n c
 Kept-from n c w z = record {
@@ -138,7 +136,7 @@ Split-added n c system w s = by_sign (lt_or_le_ℚ a 0ℚ) (lt_or_le_ℚ 0ℚ a)
     a = coefficient n c.form
 
     as_lower : a <ℚ 0ℚ → Split n (c ∷ system)
-    as_lower h = Split-lower n c system (Lower-from n c (inv_ℚ (0ℚ -ℚ a)) w (ps_times_inv (0ℚ -ℚ a) (turned a h)) (≤ℚ_of_lt _ _ (ps_inv (0ℚ -ℚ a) (turned a h))) (≤ℚ_of_lt _ _ (turned a h))) s
+    as_lower h = Split-lower n c system (Lower-from n c (inv_ℚ (0ℚ -ℚ a)) w (ps_times_inv (0ℚ -ℚ a) (negated_ps a h)) (≤ℚ_of_lt _ _ (ps_inv (0ℚ -ℚ a) (negated_ps a h))) (≤ℚ_of_lt _ _ (negated_ps a h))) s
 
     as_upper : 0ℚ <ℚ a → Split n (c ∷ system)
     as_upper h = Split-upper n c system (Upper-from n c (inv_ℚ a) w (ps_times_inv a h) (≤ℚ_of_lt _ _ (ps_inv a h)) (≤ℚ_of_lt _ _ h)) s

@@ -12,3 +12,4 @@ pub mod LeastElimination
 pub mod Projection
 pub mod Least
 pub mod Choices
+pub mod Exact

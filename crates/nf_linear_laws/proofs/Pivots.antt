@@ -14,7 +14,7 @@ use Rattle.nf_rational_laws.proofs.Tests.{le_of_test, test_of_le}
 use Rattle.nf_rational.specs.Order.{le_ℚ}
 use Rattle.nf_model.specs.Entries.{number_at}
 use Rattle.nf_rational.specs.Signs.{is_zero}
-use Rattle.nf_thin_def.specs.Table.{Row, row_at, pivot_from}
+use Rattle.nf_linear_def.specs.Table.{Row, row_at, pivot_from}
 use Rattle.nf_linear_laws.proofs.Columns.{place}
 use Rattle.std.proofs.lemmas.Option.{same_Some}
 

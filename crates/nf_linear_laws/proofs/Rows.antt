@@ -11,8 +11,8 @@ use Rattle.nf_frac_def.specs.declared.Op.TheVariants.{Quotient}
 use Rattle.nf_frac_def.specs.Checked.{checked, ◌>>=◌}
 use Rattle.nf_model.specs.Entries.{number_at}
 use Rattle.nf_rational.specs.Signs.{is_zero}
-use Rattle.nf_thin_def.specs.Table.{Row, row_at, less_unless, entries_less, clear_unless, clear_rows}
-use Rattle.nf_thin_laws.specs.ListLaws.{never}
+use Rattle.nf_linear_def.specs.Table.{Row, row_at, less_unless, entries_less, clear_unless, clear_rows}
+use Rattle.nf_frac_def.specs.Passing.{never}
 use Rattle.nf_linear_laws.proofs.Pivots.{zero_tested}
 
 pub bind_ok : {A B E : Type 0} (r : Result A E) (a : A) (f : A → Result B E) (s : Result B E) → r ≡ Ok a → f a ≡ s → (r >>= f) ≡ s
@@ -50,7 +50,7 @@ entries_exact f [] row = refl
 entries_exact f (p ∷ pivot_row) [] = refl
 entries_exact f (p ∷ pivot_row) (x ∷ row) = bind_ok _ _ _ _ (less_exact (is_zero p) f p x) (bind_ok _ _ _ _ (entries_exact f pivot_row row) refl)
 
-quotient_exact : (x y : ℚ) → checked never Quotient x y ≡ Ok (x /ℚ y)
+pub quotient_exact : (x y : ℚ) → checked never Quotient x y ≡ Ok (x /ℚ y)
 unfolding checked
 quotient_exact x y = refl
 
@@ -68,13 +68,13 @@ none_less : (f : ℚ) → 0ℚ ≡ 0ℚ -ℚ f *ℚ 0ℚ
 none_less f = ring rationals (f ∷ []) (search reading depth 30) tt
 
 kept : (x f p : ℚ) → p ≡ 0ℚ → x ≡ x -ℚ f *ℚ p
-kept x f p e = linear_eq (x ∷ f ∷ p ∷ []) (eq_times f e ∷ []) (search reading_of depth 12) tt tt
+kept x f p e = linear_eq (x ∷ f ∷ p ∷ []) (eq_times f e ∷ []) (search reading_of) tt tt
 
 no_times : (x p : ℚ) → x ≡ x -ℚ 0ℚ *ℚ p
 no_times x p = ring rationals (x ∷ p ∷ []) (search reading depth 30) tt
 
 less_all : (x q p : ℚ) → q *ℚ p ≡ x → x -ℚ q *ℚ p ≡ 0ℚ
-less_all x q p e = linear_eq (x ∷ q ∷ p ∷ []) (eq e ∷ []) (search reading_of depth 12) tt tt
+less_all x q p e = linear_eq (x ∷ q ∷ p ∷ []) (eq e ∷ []) (search reading_of) tt tt
 
 less_at-is : (b : Bool) (f p x : ℚ) → is_zero p ≡ b → less_at b f p x ≡ x -ℚ f *ℚ p
 less_at-is true f p x e = kept x f p (zero_tested p e)

@@ -11,8 +11,8 @@ use Rattle.nf_rational_laws.proofs.Quotient.{ps_apart}
 use Rattle.nf_rational_laws.proofs.Linear.{eq, linear_eq}
 use Rattle.nf_frac_def.specs.Passing.{Passing}
 use Rattle.nf_model.specs.Entries.{number_at}
-use Rattle.nf_thin_def.specs.Table.{Row, row_at, table_list}
-use Rattle.nf_thin_laws.proofs.Exact.{table_list_as}
+use Rattle.nf_linear_def.specs.Table.{Row, row_at, table_list}
+use Rattle.nf_linear_laws.proofs.Exact.{table_list_as}
 use Rattle.nf_linear_laws.specs.Solution.{IsSquare, left_side, Solves, IsOnlySolution}
 use Rattle.nf_linear_laws.proofs.Totals.{total, total_same, total_zero, total_less}
 use Rattle.nf_linear_laws.proofs.Steps.{Meets}
@@ -63,7 +63,7 @@ no_change : (m : ℚ) → m *ℚ 1ℚ -ℚ 1ℚ *ℚ (m *ℚ 0ℚ) ≡ m *ℚ 1�
 no_change m = ring rationals (m ∷ []) (search reading depth 30) tt
 
 is_nothing : (x h : ℚ) → x -ℚ h ≡ x → h ≡ 0ℚ
-is_nothing x h e = linear_eq (x ∷ h ∷ []) (eq e ∷ []) (search reading_of depth 12) tt tt
+is_nothing x h e = linear_eq (x ∷ h ∷ []) (eq e ∷ []) (search reading_of) tt tt
 
 one_is_some : 1ℚ ≢ 0ℚ
 one_is_some = ps_apart 1ℚ (ps_whole 0)

@@ -29,7 +29,7 @@ restored : (s r k : ℚ) → s ≡ (s -ℚ k *ℚ r) +ℚ k *ℚ r
 restored s r k = ring rationals (s ∷ r ∷ k ∷ []) (search reading depth 30) tt
 
 nothing_less : (a k b : ℚ) → k ≡ 0ℚ → a -ℚ k *ℚ b ≡ a
-nothing_less a k b e = linear_eq (a ∷ k ∷ b ∷ []) (eq_times b e ∷ []) (search reading_of depth 12) tt tt
+nothing_less a k b e = linear_eq (a ∷ k ∷ b ∷ []) (eq_times b e ∷ []) (search reading_of) tt tt
 
 module _ {n p : ℕ} {g : ℕ → ℚ} {M N : Table} (step : IsStep n p g M N) where
   pub kept_row : (j : ℕ) → j < suc n → N p j ≡ M p j

@@ -2,24 +2,15 @@
 use Rattle.std.proofs.Common.{◌≡◌, ◌≢◌, ℕ, zero, suc, ◌<◌, [], ◌∷◌, refl, ap, ◌∙◌, arith}
 use Rattle.nf_rational.specs.Rational.{ℚ}
 use Rattle.nf_rational.specs.Operations.{0ℚ, ◌+ℚ◌, ◌-ℚ◌, ◌*ℚ◌}
-use Rattle.nf_rational_laws.proofs.Polynomial.{ring, reading, reading_of}
+use Rattle.nf_rational_laws.proofs.Polynomial.{ring, reading}
 use Rattle.nf_rational_laws.proofs.Field.{rationals}
-use Rattle.nf_rational_laws.proofs.Linear.{eq, linear_eq}
+use Rattle.nf_rational_laws.proofs.Facts.{both_are_zero, first_is_zero, second_is_zero}
 
 abbrev pub total : ℕ → (ℕ → ℚ) → ℚ
 total zero f = 0ℚ
 total (suc n) f = f 0 +ℚ total n (λ j. f (suc j))
 
 -- ---- equations of rationals that the sums need
-both_zero : (a b : ℚ) → a ≡ 0ℚ → b ≡ 0ℚ → a +ℚ b ≡ 0ℚ
-both_zero a b e f = linear_eq (a ∷ b ∷ []) (eq e ∷ eq f ∷ []) (search reading_of depth 12) tt tt
-
-first_zero : (a b : ℚ) → a ≡ 0ℚ → a +ℚ b ≡ b
-first_zero a b e = linear_eq (a ∷ b ∷ []) (eq e ∷ []) (search reading_of depth 12) tt tt
-
-second_zero : (a b : ℚ) → b ≡ 0ℚ → a +ℚ b ≡ a
-second_zero a b e = linear_eq (a ∷ b ∷ []) (eq e ∷ []) (search reading_of depth 12) tt tt
-
 none_less : (k : ℚ) → 0ℚ ≡ 0ℚ -ℚ k *ℚ 0ℚ
 none_less k = ring rationals (k ∷ []) (search reading depth 30) tt
 
@@ -35,7 +26,7 @@ total_same (suc n) f g h =
 
 pub total_zero : (n : ℕ) (f : ℕ → ℚ) → ((j : ℕ) → j < n → f j ≡ 0ℚ) → total n f ≡ 0ℚ
 total_zero zero f h = refl
-total_zero (suc n) f h = both_zero (f 0) (total n (λ j. f (suc j))) (h 0 (omega arith)) (total_zero n (λ j. f (suc j)) (λ j b. h (suc j) (omega arith)))
+total_zero (suc n) f h = both_are_zero (f 0) (total n (λ j. f (suc j))) (h 0 (omega arith)) (total_zero n (λ j. f (suc j)) (λ j b. h (suc j) (omega arith)))
 
 -- the sum of terms less k times others
 pub total_less : (n : ℕ) (f g : ℕ → ℚ) (k : ℚ) → total n (λ j. f j -ℚ k *ℚ g j) ≡ total n f -ℚ k *ℚ total n g
@@ -47,9 +38,9 @@ total_less (suc n) f g k =
 -- A single term.
 pub total_one : (n c : ℕ) (f : ℕ → ℚ) → c < n → ((j : ℕ) → j < n → j ≢ c → f j ≡ 0ℚ) → total n f ≡ f c
 total_one zero c f b h = absurd (omega arith)
-total_one (suc n) zero f b h = second_zero (f 0) (total n (λ j. f (suc j))) (total_zero n (λ j. f (suc j)) (λ j b. h (suc j) (omega arith) (omega arith)))
+total_one (suc n) zero f b h = second_is_zero (f 0) (total n (λ j. f (suc j))) (total_zero n (λ j. f (suc j)) (λ j b. h (suc j) (omega arith) (omega arith)))
 total_one (suc n) (suc c) f b h =
-    first_zero (f 0) (total n (λ j. f (suc j))) (h 0 (omega arith) (omega arith))
+    first_is_zero (f 0) (total n (λ j. f (suc j))) (h 0 (omega arith) (omega arith))
     ∙ total_one n c (λ j. f (suc j)) (omega arith) (λ j b other. h (suc j) (omega arith) (omega arith))
 
 -- Two terms.
@@ -58,5 +49,5 @@ total_two zero d c f a b h = absurd (omega arith)
 total_two (suc n) d zero f a b h = absurd (omega arith)
 total_two (suc n) zero (suc c) f a b h = ap (λ (s : ℚ). f 0 +ℚ s) (total_one n c (λ j. f (suc j)) (omega arith) (λ j b other. h (suc j) (omega arith) (omega arith) (omega arith)))
 total_two (suc n) (suc d) (suc c) f a b h =
-    first_zero (f 0) (total n (λ j. f (suc j))) (h 0 (omega arith) (omega arith) (omega arith))
+    first_is_zero (f 0) (total n (λ j. f (suc j))) (h 0 (omega arith) (omega arith) (omega arith))
     ∙ total_two n d c (λ j. f (suc j)) (omega arith) (omega arith) (λ j b other apart. h (suc j) (omega arith) (omega arith) (omega arith))

@@ -5,7 +5,7 @@ use Rattle.nf_rational.specs.Rational.{ℚ}
 use Rattle.nf_rational.specs.Operations.{0ℚ, ◌+ℚ◌, ◌*ℚ◌}
 use Rattle.nf_frac_def.specs.Passing.{Passing}
 use Rattle.nf_model.specs.Entries.{number_at}
-use Rattle.nf_thin_def.specs.Table.{Row, row_at, table_list}
+use Rattle.nf_linear_def.specs.Table.{Row, row_at, table_list}
 
 -- Each row has a number for each unknown, and its right side.
 abbrev pub IsSquare : List Row → Type 0

@@ -26,6 +26,7 @@ use Rattle.nf_curve_laws.proofs.Values.{follows-curve, follows-values}
 use Rattle.nf_rational_laws.proofs.Chains.{≤ℚ_refl, ≤ℚ_trans}
 use Rattle.nf_rational_laws.proofs.Extremes.{min_is_left, min_is_right, min_left, min_keeps}
 use Rattle.nf_rational_laws.proofs.Results.{same_Ok}
+use Rattle.nf_rational_laws.proofs.Facts.{zero_plus}
 
 -- ---- points after time 0
 after_0 : (t y : ℚ) → 0ℚ <ℚ t → point_if_after_0 t y ≡ (t, y) ∷ []
@@ -85,10 +86,10 @@ next_up_to (next ∷ later) s t h n = ≤ℚ_trans _ _ _ h n
 
 -- numbers: the amount at t, if `so_far` was supplied before the piece
 so_much : (so_far rate span later y t s : ℚ) → span ≡ t -ℚ s → later ≡ 0ℚ → y ≡ so_far +ℚ (rate *ℚ span +ℚ later) → y ≡ so_far +ℚ rate *ℚ (t -ℚ s)
-so_much so_far rate span later y t s e f g = linear_eq (so_far ∷ rate ∷ span ∷ later ∷ y ∷ t ∷ s ∷ []) (eq_times rate e ∷ eq f ∷ eq g ∷ []) (search reading_of depth 12) tt tt
+so_much so_far rate span later y t s e f g = linear_eq (so_far ∷ rate ∷ span ∷ later ∷ y ∷ t ∷ s ∷ []) (eq_times rate e ∷ eq f ∷ eq g ∷ []) (search reading_of) tt tt
 
 so_on : (so_far rate span later y n s sum : ℚ) → span ≡ n -ℚ s → sum ≡ so_far +ℚ rate *ℚ (n -ℚ s) → y ≡ so_far +ℚ (rate *ℚ span +ℚ later) → y ≡ sum +ℚ later
-so_on so_far rate span later y n s sum e f g = linear_eq (so_far ∷ rate ∷ span ∷ later ∷ y ∷ n ∷ s ∷ sum ∷ []) (eq_times rate e ∷ eq f ∷ eq g ∷ []) (search reading_of depth 12) tt tt
+so_on so_far rate span later y n s sum e f g = linear_eq (so_far ∷ rate ∷ span ∷ later ∷ y ∷ n ∷ s ∷ sum ∷ []) (eq_times rate e ∷ eq f ∷ eq g ∷ []) (search reading_of) tt tt
 
 module _ (passes : Passing) (f : ℚ → ℚ) (last : ℚ) where
   with_piece-is : (so_far : ℚ) (piece : Piece) (end y : ℚ) → with_piece passes so_far piece end ≡ Ok y → y ≡ so_far +ℚ piece.rate *ℚ (end -ℚ piece.start)
@@ -135,7 +136,7 @@ module _ (passes : Passing) (f : ℚ → ℚ) (last : ℚ) where
       subst (λ (l : List Point). FollowsFrom f last p l) (sym (after_0 last so_far (zero_lt p.0 last n h)) ∙ same_Ok _ _ g) (goes k at h line (ends e refl))
     where
       zero_lt : (x y : ℚ) → 0ℚ ≤ℚ x → x <ℚ y → 0ℚ <ℚ y
-      zero_lt x y h k = linear_lt (x ∷ y ∷ []) (le h ∷ lt k ∷ []) (search reading_of depth 12) tt
+      zero_lt x y h k = linear_lt (x ∷ y ∷ []) (le h ∷ lt k ∷ []) (search reading_of) tt
   from_point p k so_far (piece ∷ later) points at n h line e s on g = ⊎_elim
       (λ (w : (lt_ℚ piece.start last ≡ true) × (piece.start <ℚ last)).
       let here : end_of (piece ∷ later) last ≡ piece.start = min_is_left piece.start last (≤ℚ_of_lt _ _ w.1) in
@@ -163,7 +164,7 @@ module _ (passes : Passing) (f : ℚ → ℚ) (last : ℚ) where
       (lt_ℚ_cases piece.start last)
     where
       zero_lt : (x y : ℚ) → 0ℚ ≤ℚ x → x <ℚ y → 0ℚ <ℚ y
-      zero_lt x y h k = linear_lt (x ∷ y ∷ []) (le h ∷ lt k ∷ []) (search reading_of depth 12) tt
+      zero_lt x y h k = linear_lt (x ∷ y ∷ []) (le h ∷ lt k ∷ []) (search reading_of) tt
 
       later_than : (piece : Piece) (later : List Piece) → StartsRise (piece ∷ later) → (next : Piece) (rest : List Piece) → later ≡ next ∷ rest → piece.start <ℚ next.start
       later_than piece [] s next rest q = absurd (cc)
@@ -182,10 +183,7 @@ module _ (passes : Passing) (pieces : List Piece) (last : ℚ) (good : ArePieces
   begins_0 = supplied-begins pieces good
 
   flat_0 : (t : ℚ) → 0ℚ ≡ 0ℚ +ℚ 0ℚ *ℚ (t -ℚ 0ℚ)
-  flat_0 t = linear_eq (t ∷ []) [] (search reading_of depth 12) tt tt
-
-  plus_0 : (x : ℚ) → x ≡ 0ℚ +ℚ x
-  plus_0 x = linear_eq (x ∷ []) [] (search reading_of depth 12) tt tt
+  flat_0 t = linear_eq (t ∷ []) [] (search reading_of) tt tt
 
   -- before the first start nothing is supplied
   none_up_to : (end : ℚ) → NextFrom pieces end → IsAffine (λ t. supplied pieces t) 0ℚ end 0ℚ
@@ -195,7 +193,7 @@ module _ (passes : Passing) (pieces : List Piece) (last : ℚ) (good : ArePieces
 
   goes_from_0 : (l : List Piece) → l ≡ pieces → GoesOn passes (λ t. supplied pieces t) last 0ℚ l
   goes_from_0 [] e = tt
-  goes_from_0 (piece ∷ later) e = λ t i. subst (λ (l : List Piece). supplied l t ≡ 0ℚ +ℚ supplied (piece ∷ later) t) e (plus_0 (supplied (piece ∷ later) t))
+  goes_from_0 (piece ∷ later) e = λ t i. subst (λ (l : List Piece). supplied l t ≡ 0ℚ +ℚ supplied (piece ∷ later) t) e (zero_plus (supplied (piece ∷ later) t))
 
   starts_nn : (l : List Piece) (piece : Piece) (later : List Piece) → l ≡ pieces → l ≡ piece ∷ later → 0ℚ ≤ℚ piece.start
   starts_nn l piece later e f = let a : ArePieces (piece ∷ later) = subst (λ (m : List Piece). ArePieces m) (sym e ∙ f) good in a.starts 0 piece refl

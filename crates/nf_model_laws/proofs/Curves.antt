@@ -8,11 +8,11 @@ use Rattle.nf_rational_laws.proofs.Order.{≤ℚ_of_lt, ≤ℚ_antisymm, lt_or_l
 use Rattle.nf_rational_laws.proofs.Quotient.{/ℚ-unique, ps_apart}
 use Rattle.nf_rational_laws.proofs.Linear.{le, lt, eq, le_times, eq_times, linear_le, linear_lt, linear_eq}
 use Rattle.nf_rational_laws.proofs.Tests.{lt_ℚ_cases}
-use Rattle.nf_model.specs.Curve.{slope, value, TimesRise, IsCurve, NeverFalls}
+use Rattle.nf_model.specs.Curve.{Within, slope, value, TimesRise, IsCurve, NeverFalls}
 use Rattle.nf_model_laws.specs.Affine.{IsAffine}
 use Rattle.nf_model_laws.specs.CurveLaws.{ValuesRise}
-use Rattle.nf_model_laws.proofs.Affine.{quotient-times, le_from_times, quotient-gap, nn-slope, <_≤_trans, line_end, line_start, line_rises}
-use Rattle.nf_rational_laws.proofs.Chains.{≤ℚ_refl, ≤ℚ_trans}
+use Rattle.nf_model_laws.proofs.Affine.{quotient-times, le_from_times, quotient-gap, nn-slope, line_end, line_start, line_rises}
+use Rattle.nf_rational_laws.proofs.Chains.{≤ℚ_refl, ≤ℚ_trans, <_≤_trans}
 
 -- where t lies before the second point, and where it does not
 pub by_first : {P : Type 0} (p q : ℚ × ℚ) (rest : List (ℚ × ℚ)) (t : ℚ)
@@ -53,9 +53,9 @@ TimesRise-rest [] p rest r = r
 TimesRise-rest (x ∷ []) p rest r = r.1
 TimesRise-rest (x ∷ y ∷ front) p rest r = TimesRise-rest (y ∷ front) p rest r.1
 
-first_before : (x : ℚ × ℚ) (front : List (ℚ × ℚ)) (p : ℚ × ℚ) (rest : List (ℚ × ℚ)) → TimesRise (x ∷ front ++ p ∷ rest) → x.0 <ℚ p.0
+pub first_before : (x : ℚ × ℚ) (front : List (ℚ × ℚ)) (p : ℚ × ℚ) (rest : List (ℚ × ℚ)) → TimesRise (x ∷ front ++ p ∷ rest) → x.0 <ℚ p.0
 first_before x [] p rest r = r.0
-first_before x (y ∷ front) p rest r = linear_lt (x.0 ∷ y.0 ∷ p.0 ∷ []) (lt r.0 ∷ lt (first_before y front p rest r.1) ∷ []) (search reading_of depth 12) tt
+first_before x (y ∷ front) p rest r = linear_lt (x.0 ∷ y.0 ∷ p.0 ∷ []) (lt r.0 ∷ lt (first_before y front p rest r.1) ∷ []) (search reading_of) tt
 
 -- from a point on, the points before it don't matter
 pub value-rest : (front : List (ℚ × ℚ)) (p : ℚ × ℚ) (rest : List (ℚ × ℚ)) (t : ℚ) → TimesRise (front ++ p ∷ rest) → p.0 ≤ℚ t → value (front ++ p ∷ rest) t ≡ value (p ∷ rest) t
@@ -108,7 +108,7 @@ value-push_piece front p q t r h k l =
 
 -- a point on the line between its neighbours may go
 joined : (p0 p1 q0 q1 r0 r1 n : ℚ) → n *ℚ (q0 -ℚ p0) ≡ q1 -ℚ p1 → n *ℚ (r0 -ℚ q0) ≡ r1 -ℚ q1 → n *ℚ (r0 -ℚ p0) ≡ r1 -ℚ p1
-joined p0 p1 q0 q1 r0 r1 n e f = linear_eq (p0 ∷ p1 ∷ q0 ∷ q1 ∷ r0 ∷ r1 ∷ n ∷ []) (eq e ∷ eq f ∷ []) (search reading_of depth 12) tt tt
+joined p0 p1 q0 q1 r0 r1 n e f = linear_eq (p0 ∷ p1 ∷ q0 ∷ q1 ∷ r0 ∷ r1 ∷ n ∷ []) (eq e ∷ eq f ∷ []) (search reading_of) tt tt
 
 pub slope-unique : (p q : ℚ × ℚ) (n : ℚ) → p.0 <ℚ q.0 → n *ℚ (q.0 -ℚ p.0) ≡ q.1 -ℚ p.1 → n ≡ slope p q
 slope-unique p q n h e = /ℚ-unique (q.1 -ℚ p.1) (q.0 -ℚ p.0) n (ps_apart _ (less_ps p.0 q.0 h)) e
@@ -118,7 +118,7 @@ slope-joined p q r h k e = slope-unique p r (slope p q) (<_≤_trans _ _ _ h (�
     (joined p.0 p.1 q.0 q.1 r.0 r.1 (slope p q) (slope-times p q h) (ap (λ (n : ℚ). n *ℚ (r.0 -ℚ q.0)) e ∙ slope-times q r k))
 
 same_after : (p0 p1 q0 q1 t n m l : ℚ) → n *ℚ (q0 -ℚ p0) ≡ q1 -ℚ p1 → n ≡ m → n ≡ l → q1 +ℚ m *ℚ (t -ℚ q0) ≡ p1 +ℚ l *ℚ (t -ℚ p0)
-same_after p0 p1 q0 q1 t n m l e f g = linear_eq (p0 ∷ p1 ∷ q0 ∷ q1 ∷ t ∷ n ∷ m ∷ l ∷ []) (eq e ∷ eq_times (t -ℚ q0) f ∷ eq_times (t -ℚ p0) g ∷ []) (search reading_of depth 12) tt tt
+same_after p0 p1 q0 q1 t n m l e f g = linear_eq (p0 ∷ p1 ∷ q0 ∷ q1 ∷ t ∷ n ∷ m ∷ l ∷ []) (eq e ∷ eq_times (t -ℚ q0) f ∷ eq_times (t -ℚ p0) g ∷ []) (search reading_of) tt tt
 
 merge_two : (p q r : ℚ × ℚ) (rest : List (ℚ × ℚ)) (t : ℚ) → p.0 <ℚ q.0 → q.0 <ℚ r.0 → slope p q ≡ slope q r → value (p ∷ q ∷ r ∷ rest) t ≡ value (p ∷ r ∷ rest) t
 merge_two p q r rest t h k e =
@@ -167,18 +167,18 @@ NeverFalls-value (p ∷ rest) c v s t h k = value-rises p rest s t c.1 v (subst 
 -- ---- a curve takes each value between two of its values
 -- the time at which a line through v at s with the slope n, not 0, takes the value y
 line_at : (s v n y q : ℚ) → q *ℚ n ≡ y -ℚ v → v +ℚ n *ℚ ((s +ℚ q) -ℚ s) ≡ y
-line_at s v n y q e = linear_eq (s ∷ v ∷ n ∷ y ∷ q ∷ []) (eq e ∷ []) (search reading_of depth 12) tt tt
+line_at s v n y q e = linear_eq (s ∷ v ∷ n ∷ y ∷ q ∷ []) (eq e ∷ []) (search reading_of) tt tt
 
 flat_line : (s t v n y z : ℚ) → s ≤ℚ t → n ≤ℚ 0ℚ → z ≡ v +ℚ n *ℚ (t -ℚ s) → y ≤ℚ z → v ≤ℚ y → v ≡ y
 flat_line s t v n y z h k e l m =
-    let run : 0ℚ ≤ℚ t -ℚ s = linear_le (s ∷ t ∷ []) (le h ∷ []) (search reading_of depth 12) tt in
-    linear_eq (s ∷ t ∷ v ∷ n ∷ y ∷ z ∷ []) (eq e ∷ le l ∷ le m ∷ le_times run k ∷ []) (search reading_of depth 12) tt tt
+    let run : 0ℚ ≤ℚ t -ℚ s = linear_le (s ∷ t ∷ []) (le h ∷ []) (search reading_of) tt in
+    linear_eq (s ∷ t ∷ v ∷ n ∷ y ∷ z ∷ []) (eq e ∷ le l ∷ le m ∷ le_times run k ∷ []) (search reading_of) tt tt
 
 times_before : (s t v n y z q : ℚ) → z ≡ v +ℚ n *ℚ (t -ℚ s) → y ≤ℚ z → q *ℚ n ≡ y -ℚ v → n *ℚ (s +ℚ q) ≤ℚ n *ℚ t
-times_before s t v n y z q e l f = linear_le (s ∷ t ∷ v ∷ n ∷ y ∷ z ∷ q ∷ []) (eq e ∷ le l ∷ eq f ∷ []) (search reading_of depth 12) tt
+times_before s t v n y z q e l f = linear_le (s ∷ t ∷ v ∷ n ∷ y ∷ z ∷ q ∷ []) (eq e ∷ le l ∷ eq f ∷ []) (search reading_of) tt
 
 times_after : (s v n y q : ℚ) → v ≤ℚ y → q *ℚ n ≡ y -ℚ v → n *ℚ s ≤ℚ n *ℚ (s +ℚ q)
-times_after s v n y q l f = linear_le (s ∷ v ∷ n ∷ y ∷ q ∷ []) (le l ∷ eq f ∷ []) (search reading_of depth 12) tt
+times_after s v n y q l f = linear_le (s ∷ v ∷ n ∷ y ∷ q ∷ []) (le l ∷ eq f ∷ []) (search reading_of) tt
 
 -- a line from v at s takes a value y, from v on and up to its value at t, at some time between s and t
 pub line_takes : (s t v n y z : ℚ) → s ≤ℚ t → z ≡ v +ℚ n *ℚ (t -ℚ s) → v ≤ℚ y → y ≤ℚ z → (u : ℚ) × (s ≤ℚ u) × (u ≤ℚ t) × (v +ℚ n *ℚ (u -ℚ s) ≡ y)
@@ -208,6 +208,14 @@ value-takes p (q ∷ rest) t y r h k l = ⊎_elim
 
     later : (u : ℚ) × (q.0 ≤ℚ u) × (u ≤ℚ t) × (value (q ∷ rest) u ≡ y) → (u : ℚ) × (p.0 ≤ℚ u) × (u ≤ℚ t) × (value (p ∷ q ∷ rest) u ≡ y)
     later w = (w.0, ≤ℚ_trans _ _ _ (≤ℚ_of_lt _ _ r.0) w.1, w.2, value-after p q rest w.0 w.1 ∙ w.3)
+
+-- A curve attains each value between two of its values.
+pub value-takes_between : (points : List (ℚ × ℚ)) (last y : ℚ) → IsCurve points → 0ℚ ≤ℚ last → value points 0ℚ ≤ℚ y → y ≤ℚ value points last → (u : ℚ) × Within 0ℚ last u × (value points u ≡ y)
+value-takes_between [] last y c h i j = absurd c
+value-takes_between (p ∷ rest) last y c h i j =
+    let w : (u : ℚ) × (p.0 ≤ℚ u) × (u ≤ℚ last) × (value (p ∷ rest) u ≡ y) = value-takes p rest last y c.1 (subst (λ (z : ℚ). z ≤ℚ last) (sym c.0) h)
+    (subst (λ (z : ℚ). z ≤ℚ y) (ap (value (p ∷ rest)) (sym c.0) ∙ value-first p rest c.1) i) j in
+    (w.0, (subst (λ (z : ℚ). z ≤ℚ w.0) c.0 w.1, w.2), w.3)
 
 -- ---- a curve with its last point
 pub record EndsAt (points : List (ℚ × ℚ)) (p : ℚ × ℚ) : Type 0 where

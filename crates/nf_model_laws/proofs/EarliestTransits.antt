@@ -7,6 +7,7 @@ use Rattle.nf_rational.specs.Order.{◌≤ℚ◌}
 use Rattle.nf_rational_laws.proofs.Polynomial.{reading_of}
 use Rattle.nf_rational_laws.proofs.Order.{≤ℚ_of_same}
 use Rattle.nf_rational_laws.proofs.Linear.{le, eq, linear_le, linear_eq}
+use Rattle.nf_rational_laws.proofs.Facts.{zero_plus}
 use Rattle.nf_model.specs.Walk.{Hop, IsHop, transit_of, transit_sum, IsLeastTransit}
 use Rattle.nf_model.specs.Network.{Link, Network, IsNetwork, IsLink, hop_of, hops}
 use Rattle.nf_model_laws.specs.EarliestLaws.{AreTransitLabels}
@@ -16,16 +17,16 @@ use Rattle.nf_model_laws.proofs.Earliest.{AreHops-net}
 
 -- ---- steps over plain numbers
 kept : (s t x y r : ℚ) → s ≤ℚ t → x ≡ s +ℚ r → y ≡ t +ℚ r → x ≤ℚ y
-kept s t x y r h e f = linear_le (s ∷ t ∷ x ∷ y ∷ r ∷ []) (le h ∷ eq e ∷ eq f ∷ []) (search reading_of depth 12) tt
+kept s t x y r h e f = linear_le (s ∷ t ∷ x ∷ y ∷ r ∷ []) (le h ∷ eq e ∷ eq f ∷ []) (search reading_of) tt
 
 none_more : (t a : ℚ) → t ≡ a → a ≡ t +ℚ 0ℚ
-none_more t a e = linear_eq (t ∷ a ∷ []) (eq e ∷ []) (search reading_of depth 12) tt tt
+none_more t a e = linear_eq (t ∷ a ∷ []) (eq e ∷ []) (search reading_of) tt tt
 
 one_more : (t x a r l : ℚ) → x ≡ t +ℚ r → a ≡ x +ℚ l → a ≡ t +ℚ (r +ℚ l)
-one_more t x a r l e f = linear_eq (t ∷ x ∷ a ∷ r ∷ l ∷ []) (eq e ∷ eq f ∷ []) (search reading_of depth 12) tt tt
+one_more t x a r l e f = linear_eq (t ∷ x ∷ a ∷ r ∷ l ∷ []) (eq e ∷ eq f ∷ []) (search reading_of) tt tt
 
 from_none : (l a : ℚ) → a ≡ 0ℚ +ℚ l → l ≡ a
-from_none l a e = linear_eq (l ∷ a ∷ []) (eq e ∷ []) (search reading_of depth 12) tt tt
+from_none l a e = linear_eq (l ∷ a ∷ []) (eq e ∷ []) (search reading_of) tt tt
 
 -- ---- walks
 abbrev pub Takes : List Hop → ℕ → ℚ → ℚ → Type 0
@@ -36,24 +37,21 @@ Comes-sum hops [] t a c = none_more t a c
 Comes-sum hops (e ∷ walk) t a c = one_more t c.0 a (transit_of hops e) (transit_sum hops walk) c.1 (Comes-sum hops walk c.0 a c.2)
 
 sum-comes : (hops : List Hop) (walk : List ℕ) (t a : ℚ) → a ≡ t +ℚ transit_sum hops walk → Comes (Takes hops) walk t a
-sum-comes hops [] t a e = linear_eq (t ∷ a ∷ []) (eq e ∷ []) (search reading_of depth 12) tt tt
+sum-comes hops [] t a e = linear_eq (t ∷ a ∷ []) (eq e ∷ []) (search reading_of) tt tt
 sum-comes hops (f ∷ walk) t a e = (t +ℚ transit_of hops f, refl, sum-comes hops walk (t +ℚ transit_of hops f) a (by_sum t a (transit_of hops f) (transit_sum hops walk) e))
   where
     by_sum : (t a r l : ℚ) → a ≡ t +ℚ (r +ℚ l) → a ≡ (t +ℚ r) +ℚ l
-    by_sum t a r l e = linear_eq (t ∷ a ∷ r ∷ l ∷ []) (eq e ∷ []) (search reading_of depth 12) tt tt
-
-zero_sum : (l : ℚ) → l ≡ 0ℚ +ℚ l
-zero_sum l = linear_eq (l ∷ []) [] (search reading_of depth 12) tt tt
+    by_sum t a r l e = linear_eq (t ∷ a ∷ r ∷ l ∷ []) (eq e ∷ []) (search reading_of) tt tt
 
 IsLeastTransit-first : (hops : List Hop) (source v : ℕ) (least : ℚ) → IsFirst hops source (Takes hops) v 0ℚ least → IsLeastTransit hops source v least
 IsLeastTransit-first hops source v least f = record {
   taken = (f.taken.0, f.taken.1, from_none _ _ (Comes-sum hops f.taken.0 0ℚ least f.taken.2));
-  bound = λ walk w. f.least walk (transit_sum hops walk) w (sum-comes hops walk 0ℚ (transit_sum hops walk) (zero_sum _));
+  bound = λ walk w. f.least walk (transit_sum hops walk) w (sum-comes hops walk 0ℚ (transit_sum hops walk) (zero_plus _));
 }
 
 IsFirst-least : (hops : List Hop) (source v : ℕ) (least : ℚ) → IsLeastTransit hops source v least → IsFirst hops source (Takes hops) v 0ℚ least
 IsFirst-least hops source v least d = record {
-  taken = (d.taken.0, d.taken.1, sum-comes hops d.taken.0 0ℚ least (sym d.taken.2 ∙ zero_sum _));
+  taken = (d.taken.0, d.taken.1, sum-comes hops d.taken.0 0ℚ least (sym d.taken.2 ∙ zero_plus _));
   least = λ walk other w c. subst (λ (x : ℚ). least ≤ℚ x) (from_none _ _ (Comes-sum hops walk 0ℚ other c)) (d.bound walk w);
 }
 

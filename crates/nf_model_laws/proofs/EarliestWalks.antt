@@ -6,11 +6,12 @@ use Rattle.nf_rational.specs.Operations.{0ℚ, ◌+ℚ◌}
 use Rattle.nf_rational.specs.Order.{◌≤ℚ◌, ◌<ℚ◌}
 use Rattle.nf_rational_laws.proofs.Polynomial.{reading_of}
 use Rattle.nf_rational_laws.proofs.Order.{≤ℚ_of_same, ≤ℚ_antisymm}
-use Rattle.nf_rational_laws.proofs.Linear.{le, lt, eq, linear_le, linear_false}
+use Rattle.nf_rational_laws.proofs.Linear.{le, lt, linear_le, linear_false}
 use Rattle.nf_model.specs.Walk.{Hop, IsHop, IsWalk, transit_of, transit_sum}
 use Rattle.nf_model_laws.proofs.Ways.{way_back}
 use Rattle.nf_model_laws.proofs.Networks.{transit_of-hop, IsWalk-append}
 use Rattle.nf_rational_laws.proofs.Chains.{≤ℚ_trans}
+use Rattle.nf_rational_laws.proofs.Facts.{plus_zero_le, first_of_sum}
 
 -- ---- what is said of labels, hop by hop. `Cross e time exit`: who enters hop e at this time leaves it at that one
 
@@ -59,22 +60,16 @@ last_hop hops Cross e (f ∷ walk) u v time arrival w c =
     (r.0, r.1, e ∷ r.2, r.3, r.4, r.5, (w.0, w.1, w.2, r.6), (c.0, c.1, r.7), r.8)
 
 -- ---- steps over plain numbers
-no_time : (a b : ℚ) → a ≡ b → a +ℚ 0ℚ ≤ℚ b
-no_time a b e = linear_le (a ∷ b ∷ []) (eq e ∷ []) (search reading_of depth 12) tt
-
 more_time : (a b c r l : ℚ) → a +ℚ r ≤ℚ b → b +ℚ l ≤ℚ c → a +ℚ (r +ℚ l) ≤ℚ c
-more_time a b c r l h k = linear_le (a ∷ b ∷ c ∷ r ∷ l ∷ []) (le h ∷ le k ∷ []) (search reading_of depth 12) tt
+more_time a b c r l h k = linear_le (a ∷ b ∷ c ∷ r ∷ l ∷ []) (le h ∷ le k ∷ []) (search reading_of) tt
 
 no_loop : (a l : ℚ) → a +ℚ l ≤ℚ a → 0ℚ <ℚ l → ⊥
-no_loop a l h k = linear_false (a ∷ l ∷ []) (le h ∷ lt k ∷ []) (search reading_of depth 12) tt
-
-goes_on : (t r x : ℚ) → 0ℚ ≤ℚ r → t +ℚ r ≤ℚ x → t ≤ℚ x
-goes_on t r x h k = linear_le (t ∷ r ∷ x ∷ []) (le h ∷ le k ∷ []) (search reading_of depth 12) tt
+no_loop a l h k = linear_false (a ∷ l ∷ []) (le h ∷ lt k ∷ []) (search reading_of) tt
 
 -- walks go forward in time
 module _ (hops : List Hop) (nodes : ℕ) (Cross : ℕ → ℚ → ℚ → Type 0) (good : AreHops hops nodes) (can : CanCross hops Cross) where
   pub goes_forward : (e : ℕ) (hop : Hop) (t x : ℚ) → IsHop hops e hop → Cross e t x → t ≤ℚ x
-  goes_forward e hop t x p c = goes_on t hop.transit x (good.transits e hop p) (can.takes e hop t x p c)
+  goes_forward e hop t x p c = first_of_sum t hop.transit x (good.transits e hop p) (can.takes e hop t x p c)
 
   pub walks_forward : (walk : List ℕ) (u v : ℕ) (t a : ℚ) → IsWalk hops walk u v → Comes Cross walk t a → t ≤ℚ a
   walks_forward [] u v t a w c = ≤ℚ_of_same _ _ c
@@ -100,7 +95,7 @@ module _ (hops : List Hop) (nodes source : ℕ) (Cross : ℕ → ℚ → ℚ →
     IsTight-comes (e ∷ walk) u v t = (label t.0.head, subst (λ (k : ℕ). Cross e (label k) (label t.0.head)) t.2 t.3, IsTight-comes walk t.0.head v t.4)
 
     IsTight-sum : (walk : List ℕ) (u v : ℕ) → IsTight walk u v → label u +ℚ transit_sum hops walk ≤ℚ label v
-    IsTight-sum [] u v t = no_time _ _ (ap label t)
+    IsTight-sum [] u v t = plus_zero_le _ _ (ap label t)
     IsTight-sum (e ∷ walk) u v t = more_time (label u) (label t.0.head) (label v) (transit_of hops e) (transit_sum hops walk)
         (subst (λ (r : ℚ). label u +ℚ r ≤ℚ label t.0.head) (sym (transit_of-hop hops e t.0 t.1))
         (subst (λ (k : ℕ). label k +ℚ t.0.transit ≤ℚ label t.0.head) t.2 (can.takes e t.0 (label t.0.tail) (label t.0.head) t.1 t.3)))

@@ -1,11 +1,11 @@
 -- A link whose inflow is a curve has a queue, an exit and an outflow at each time from 0 on.
 use Rattle.std.proofs.Common.{◌≡◌, List, [], ◌∷◌, ◌++◌, ⊎_elim, Option, sym, subst, refl, ◌∙◌, append_assoc}
 use Rattle.nf_rational.specs.Rational.{ℚ}
-use Rattle.nf_rational.specs.Operations.{0ℚ, ◌+ℚ◌, ◌-ℚ◌, ◌*ℚ◌}
+use Rattle.nf_rational.specs.Operations.{0ℚ, ◌+ℚ◌, ◌-ℚ◌}
 use Rattle.nf_rational.specs.Order.{◌≤ℚ◌, ◌<ℚ◌}
 use Rattle.nf_rational_laws.proofs.Polynomial.{reading_of}
-use Rattle.nf_rational_laws.proofs.Order.{≤ℚ_of_lt, lt_or_le_ℚ}
-use Rattle.nf_rational_laws.proofs.Linear.{le, linear_le, linear_eq}
+use Rattle.nf_rational_laws.proofs.Order.{≤ℚ_of_lt, lt_or_le_ℚ, less_nn}
+use Rattle.nf_rational_laws.proofs.Linear.{linear_eq}
 use Rattle.nf_model.specs.Curve.{value, slope, IsCurve}
 use Rattle.nf_model.specs.Queue.{IsQueue, IsExit, IsOutflow, waiting}
 use Rattle.nf_model_laws.specs.Affine.{IsAffine, queue_after}
@@ -13,6 +13,7 @@ use Rattle.nf_model_laws.proofs.Curves.{IsCurve-rises, TimesRise-rest, value-las
 use Rattle.nf_model_laws.proofs.Queues.{IsOutflow-early, IsOutflow-from_IsQueue}
 use Rattle.nf_model_laws.proofs.Step.{IsQueue-at_0, IsQueue-after}
 use Rattle.nf_rational_laws.proofs.Chains.{≤ℚ_refl}
+use Rattle.nf_rational_laws.proofs.Facts.{plus_zero_times}
 
 abbrev pub HasQueue : Option ℚ → (ℚ → ℚ) → ℚ → Type 0
 HasQueue capacity amount time = (queue : ℚ) × IsQueue capacity amount time queue
@@ -22,13 +23,10 @@ over_piece : (capacity : Option ℚ) (amount : ℚ → ℚ) (start end rate time
     → HasQueue capacity amount time
 over_piece capacity amount start end rate time line was h k = (queue_after capacity rate was.0 (time -ℚ start), IsQueue-after capacity amount start end rate was.0 time line was.1 h k)
 
-flat : (y t : ℚ) → y ≡ y +ℚ 0ℚ *ℚ t
-flat y t = linear_eq (y ∷ t ∷ []) [] (search reading_of depth 12) tt tt
-
 -- after the last point the curve is affine with the slope 0
 pub IsAffine-last : (front : List (ℚ × ℚ)) (p : ℚ × ℚ) (end : ℚ) → IsCurve (front ++ p ∷ []) → IsAffine (value (front ++ p ∷ [])) p.0 end 0ℚ
 IsAffine-last front p end c = record {
-  line = λ t h k. value-last front p t (IsCurve-rises _ c) h ∙ sym (value-last front p p.0 (IsCurve-rises _ c) (≤ℚ_refl p.0)) ∙ flat _ (t -ℚ p.0);
+  line = λ t h k. value-last front p t (IsCurve-rises _ c) h ∙ sym (value-last front p p.0 (IsCurve-rises _ c) (≤ℚ_refl p.0)) ∙ plus_zero_times _ (t -ℚ p.0);
 }
 
 -- from a point on, piece by piece
@@ -57,15 +55,12 @@ HasExit-curve transit capacity points time c h =
     (time +ℚ transit +ℚ waiting capacity q.0, record { queue = q.0; is_queue = q.1; is_sum = refl })
 
 back_on : (time transit : ℚ) → time ≡ time -ℚ transit +ℚ transit
-back_on time transit = linear_eq (time ∷ transit ∷ []) [] (search reading_of depth 12) tt tt
-
-since : (time transit : ℚ) → transit ≤ℚ time → 0ℚ ≤ℚ time -ℚ transit
-since time transit h = linear_le (time ∷ transit ∷ []) (le h ∷ []) (search reading_of depth 12) tt
+back_on time transit = linear_eq (time ∷ transit ∷ []) [] (search reading_of) tt tt
 
 pub HasOutflow-curve : (transit : ℚ) (capacity : Option ℚ) (points : List (ℚ × ℚ)) (time : ℚ) → IsCurve points → 0ℚ ≤ℚ time → (out : ℚ) × IsOutflow transit capacity (value points) time out
 HasOutflow-curve transit capacity points time c h = ⊎_elim
     (λ (l : time <ℚ transit). (0ℚ, IsOutflow-early transit capacity (value points) time l))
     (λ (l : transit ≤ℚ time).
-    let q : HasQueue capacity (value points) (time -ℚ transit) = HasQueue-curve capacity points (time -ℚ transit) c (since time transit l) in
-    (value points (time -ℚ transit) -ℚ q.0, IsOutflow-from_IsQueue transit capacity (value points) (time -ℚ transit) time q.0 (back_on time transit) (since time transit l) q.1))
+    let q : HasQueue capacity (value points) (time -ℚ transit) = HasQueue-curve capacity points (time -ℚ transit) c (less_nn transit time l) in
+    (value points (time -ℚ transit) -ℚ q.0, IsOutflow-from_IsQueue transit capacity (value points) (time -ℚ transit) time q.0 (back_on time transit) (less_nn transit time l) q.1))
     (lt_or_le_ℚ time transit)

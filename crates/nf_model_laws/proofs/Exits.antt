@@ -15,20 +15,21 @@ use Rattle.nf_model_laws.proofs.Affine.{nn-quotient, quotient-times}
 use Rattle.nf_model_laws.proofs.Queues.{IsQueue-some, IsQueue-nn, IsGreatest-order, IsQueue-unique, IsOutflow-from_IsQueue}
 use Rattle.nf_model_laws.proofs.Step.{IsQueue-at_0}
 use Rattle.nf_rational_laws.proofs.Chains.{≤ℚ_trans}
+use Rattle.nf_rational_laws.proofs.Facts.{less_zero}
 
 -- ---- when what entered at a time leaves the queue, the queue is just what has entered since
 -- over plain numbers: a entered by x, b by the time t, d by z, which is x and the wait w
 still_taken : (a b c d t w x z q : ℚ) → z ≡ x +ℚ w → w *ℚ c ≡ q → a -ℚ b -ℚ c *ℚ (x -ℚ t) ≡ q → d -ℚ b -ℚ c *ℚ (z -ℚ t) ≡ d -ℚ a
-still_taken a b c d t w x z q e f g = linear_eq (a ∷ b ∷ c ∷ d ∷ t ∷ w ∷ x ∷ z ∷ q ∷ []) (eq_times c e ∷ eq f ∷ eq g ∷ []) (search reading_of depth 12) tt tt
+still_taken a b c d t w x z q e f g = linear_eq (a ∷ b ∷ c ∷ d ∷ t ∷ w ∷ x ∷ z ∷ q ∷ []) (eq_times c e ∷ eq f ∷ eq g ∷ []) (search reading_of) tt tt
 
 before_entry : (a b c d t w x z q : ℚ) → z ≡ x +ℚ w → w *ℚ c ≡ q → a -ℚ b -ℚ c *ℚ (x -ℚ t) ≤ℚ q → d -ℚ b -ℚ c *ℚ (z -ℚ t) ≤ℚ d -ℚ a
-before_entry a b c d t w x z q e f g = linear_le (a ∷ b ∷ c ∷ d ∷ t ∷ w ∷ x ∷ z ∷ q ∷ []) (eq_times c e ∷ eq f ∷ le g ∷ []) (search reading_of depth 12) tt
+before_entry a b c d t w x z q e f g = linear_le (a ∷ b ∷ c ∷ d ∷ t ∷ w ∷ x ∷ z ∷ q ∷ []) (eq_times c e ∷ eq f ∷ le g ∷ []) (search reading_of) tt
 
 after_entry : (a b c d t z : ℚ) → a ≤ℚ b → 0ℚ <ℚ c → t ≤ℚ z → d -ℚ b -ℚ c *ℚ (z -ℚ t) ≤ℚ d -ℚ a
-after_entry a b c d t z h k l = linear_le (a ∷ b ∷ c ∷ d ∷ t ∷ z ∷ []) (le h ∷ le_times (≤ℚ_of_lt _ _ k) l ∷ []) (search reading_of depth 12) tt
+after_entry a b c d t z h k l = linear_le (a ∷ b ∷ c ∷ d ∷ t ∷ z ∷ []) (le h ∷ le_times (≤ℚ_of_lt _ _ k) l ∷ []) (search reading_of) tt
 
 later_on : (x w z : ℚ) → z ≡ x +ℚ w → 0ℚ ≤ℚ w → x ≤ℚ z
-later_on x w z e h = linear_le (x ∷ w ∷ z ∷ []) (eq e ∷ le h ∷ []) (search reading_of depth 12) tt
+later_on x w z e h = linear_le (x ∷ w ∷ z ∷ []) (eq e ∷ le h ∷ []) (search reading_of) tt
 
 pub IsQueue-served : (rate : ℚ) (amount : ℚ → ℚ) (time later queue : ℚ) → 0ℚ <ℚ rate → NeverFalls amount → IsQueue (Some rate) amount time queue → later ≡ time +ℚ queue /ℚ rate
     → IsQueue (Some rate) amount later (amount later -ℚ amount time)
@@ -51,21 +52,18 @@ IsQueue-served rate amount time later queue c rises p e = IsQueue-some rate amou
 
 -- ---- what has left by an exit
 all_but : (a d : ℚ) → d -ℚ (d -ℚ a) ≡ a
-all_but a d = linear_eq (a ∷ d ∷ []) [] (search reading_of depth 12) tt tt
-
-less_none : (a q : ℚ) → q ≡ 0ℚ → a -ℚ q ≡ a
-less_none a q e = linear_eq (a ∷ q ∷ []) (eq e ∷ []) (search reading_of depth 12) tt tt
+all_but a d = linear_eq (a ∷ d ∷ []) [] (search reading_of) tt tt
 
 no_wait : (t r x : ℚ) → x ≡ t +ℚ r +ℚ 0ℚ → x ≡ t +ℚ r
-no_wait t r x e = linear_eq (t ∷ r ∷ x ∷ []) (eq e ∷ []) (search reading_of depth 12) tt tt
+no_wait t r x e = linear_eq (t ∷ r ∷ x ∷ []) (eq e ∷ []) (search reading_of) tt tt
 
 wait_first : (t r w x : ℚ) → x ≡ t +ℚ r +ℚ w → x ≡ (t +ℚ w) +ℚ r
-wait_first t r w x e = linear_eq (t ∷ r ∷ w ∷ x ∷ []) (eq e ∷ []) (search reading_of depth 12) tt tt
+wait_first t r w x e = linear_eq (t ∷ r ∷ w ∷ x ∷ []) (eq e ∷ []) (search reading_of) tt tt
 
 pub IsOutflow-at_exit : (transit : ℚ) (capacity : Option ℚ) (amount : ℚ → ℚ) (time exit : ℚ) → IsPositive capacity → NeverFalls amount → 0ℚ ≤ℚ time → IsExit transit capacity amount time exit
     → IsOutflow transit capacity amount exit (amount time)
 IsOutflow-at_exit transit None amount time exit c rises h p =
-    subst (λ (y : ℚ). IsOutflow transit None amount exit y) (less_none (amount time) p.queue (p.is_queue.unbounded refl))
+    subst (λ (y : ℚ). IsOutflow transit None amount exit y) (less_zero (amount time) p.queue (p.is_queue.unbounded refl))
     (IsOutflow-from_IsQueue transit None amount time exit p.queue (no_wait time transit exit p.is_sum) h p.is_queue)
 IsOutflow-at_exit transit (Some rate) amount time exit c rises h p =
     subst (λ (y : ℚ). IsOutflow transit (Some rate) amount exit y) (all_but (amount time) (amount later))
@@ -82,7 +80,7 @@ waiting-none None = refl
 waiting-none (Some rate) = /ℚ_is 0ℚ rate ∙ zero-*ℚ _
 
 none_first : (r w x : ℚ) → x ≡ 0ℚ +ℚ r +ℚ w → w ≡ 0ℚ → x ≡ r
-none_first r w x e f = linear_eq (r ∷ w ∷ x ∷ []) (eq e ∷ eq f ∷ []) (search reading_of depth 12) tt tt
+none_first r w x e f = linear_eq (r ∷ w ∷ x ∷ []) (eq e ∷ eq f ∷ []) (search reading_of) tt tt
 
 -- the first to enter, at time 0, leaves after the transit time
 pub IsExit-at_0 : (transit : ℚ) (capacity : Option ℚ) (amount : ℚ → ℚ) (exit : ℚ) → IsExit transit capacity amount 0ℚ exit → exit ≡ transit

@@ -50,8 +50,8 @@ pub has_member : HasMember
 has_member = record {
   network = IsNetwork-one_link (n 1) (Some (n 1)) (first ∷ later) (nn_whole 1) (λ rate some. subst (λ (c : ℚ). 0ℚ <ℚ c) (same (n 1) rate some) (ps_whole 0)) pieces;
   equilibrium = Equilibrium-full (n 1) (n 1) (n 2) (n 2) (n 5) (n 4) (n 2) later _ (nn_whole 1) (ps_whole 0)
-      (linear_le [] [] (search reading_of depth 12) tt) (ps_whole 1) pieces alone
-      (linear_eq [] [] (search reading_of depth 12) tt tt) (linear_eq [] [] (search reading_of depth 12) tt tt) (linear_eq [] [] (search reading_of depth 12) tt tt)
+      (linear_le [] [] (search reading_of) tt) (ps_whole 1) pieces alone
+      (linear_eq [] [] (search reading_of) tt tt) (linear_eq [] [] (search reading_of) tt tt) (linear_eq [] [] (search reading_of) tt tt)
       (inl (ps_whole 0, refl));
   goes_on = ps_whole 1;
 }

@@ -141,7 +141,7 @@ module _ (transit : ℚ) (capacity : Option ℚ) (pieces : List Piece) where
     to_sink time out extra o e = record {
       outs = λ _. out;
       outflows = λ e link q at. by_link (λ (e : ℕ) (l : Link). IsOutflow l.transit l.capacity (amount e) time out) e link q o;
-      sums = linear_eq (out ∷ extra ∷ []) (eq e ∷ []) (search reading_of depth 12) tt tt;
+      sums = linear_eq (out ∷ extra ∷ []) (eq e ∷ []) (search reading_of) tt tt;
     }
 
     from_source : (time extra : ℚ) → amount 0 time ≡ extra → Balances net amount 0 time extra 0ℚ
@@ -152,7 +152,7 @@ module _ (transit : ℚ) (capacity : Option ℚ) (pieces : List Piece) where
     }
       where
         sums : (a b : ℚ) → a ≡ b → 0ℚ +ℚ b ≡ (a +ℚ 0ℚ) +ℚ 0ℚ
-        sums a b e = linear_eq (a ∷ b ∷ []) (eq e ∷ []) (search reading_of depth 12) tt tt
+        sums a b e = linear_eq (a ∷ b ∷ []) (eq e ∷ []) (search reading_of) tt tt
 
     conserves : Conserves net amount (label flow) flow.reached
     conserves = record {
@@ -212,7 +212,7 @@ module _ (transit : ℚ) (capacity : Option ℚ) (pieces : List Piece) where
         over_link l.taken.0 departure (label flow 1 departure) l.taken.1 l.taken.2
 
     all_in : (u f : ℚ) → 0ℚ +ℚ u ≡ f +ℚ 0ℚ +ℚ 0ℚ → f ≡ u
-    all_in u f e = linear_eq (u ∷ f ∷ []) (eq e ∷ []) (search reading_of depth 12) tt tt
+    all_in u f e = linear_eq (u ∷ f ∷ []) (eq e ∷ []) (search reading_of) tt tt
 
     pub FillsLink-equilibrium : FillsLink transit capacity pieces flow
     FillsLink-equilibrium = record {

@@ -6,6 +6,8 @@ use Rattle.nf_rational.specs.Order.{◌≤ℚ◌, ◌<ℚ◌}
 use Rattle.nf_rational_laws.proofs.Polynomial.{reading_of}
 use Rattle.nf_rational_laws.proofs.Order.{≤ℚ_of_lt, ps_times, not_both_ℚ}
 use Rattle.nf_rational_laws.proofs.Linear.{lt, eq, le_times, eq_times, linear_le, linear_lt, linear_eq}
+use Rattle.nf_rational_laws.proofs.Facts.{without_zero, zero_of_zero_times}
+use Rattle.nf_rational_laws.proofs.Signs.{times_one}
 use Rattle.nf_model.specs.Curve.{Within, slope as slope_of, value, IsCurve, AreSlopes}
 use Rattle.nf_model.specs.Network.{Piece, ArePieces}
 use Rattle.nf_model.specs.Equilibrium.{Trace, Flow, points_at, points_of, HasShape, Equilibrium}
@@ -18,7 +20,7 @@ use Rattle.nf_model_laws.proofs.MemberSteady.{IsSteady, IsState, FillsLink-stead
 
 -- ---- from one point to the next
 rise : (s t v w k : ℚ) → w ≡ v +ℚ k *ℚ (t -ℚ s) → k *ℚ (t -ℚ s) ≡ w -ℚ v
-rise s t v w k e = linear_eq (s ∷ t ∷ v ∷ w ∷ k ∷ []) (eq e ∷ []) (search reading_of depth 12) tt tt
+rise s t v w k e = linear_eq (s ∷ t ∷ v ∷ w ∷ k ∷ []) (eq e ∷ []) (search reading_of) tt tt
 
 pub slope-is : (p q : ℚ × ℚ) (k : ℚ) → p.0 <ℚ q.0 → q.1 ≡ p.1 +ℚ k *ℚ (q.0 -ℚ p.0) → k ≡ slope_of p q
 slope-is p q k h e = slope-unique p q k h (rise p.0 q.0 p.1 q.1 k e)
@@ -28,29 +30,26 @@ pub value-two : (p q : ℚ × ℚ) (k t : ℚ) → p.0 <ℚ q.0 → q.1 ≡ p.1 
 value-two p q k t h e l = value-line p q [] t (h, tt) l ∙ ap (λ (n : ℚ). p.1 +ℚ n *ℚ (t -ℚ p.0)) (sym (slope-is p q k h e))
 
 from_0 : (v w k h : ℚ) → w ≡ v +ℚ k *ℚ h → w ≡ v +ℚ k *ℚ (h -ℚ 0ℚ)
-from_0 v w k h e = linear_eq (v ∷ w ∷ k ∷ h ∷ []) (eq e ∷ []) (search reading_of depth 12) tt tt
+from_0 v w k h e = linear_eq (v ∷ w ∷ k ∷ h ∷ []) (eq e ∷ []) (search reading_of) tt tt
 
 to_0 : (v w k t : ℚ) → w ≡ v +ℚ k *ℚ (t -ℚ 0ℚ) → w ≡ v +ℚ k *ℚ t
-to_0 v w k t e = linear_eq (v ∷ w ∷ k ∷ t ∷ []) (eq e ∷ []) (search reading_of depth 12) tt tt
+to_0 v w k t e = linear_eq (v ∷ w ∷ k ∷ t ∷ []) (eq e ∷ []) (search reading_of) tt tt
 
 value-from_0 : (v h w k t : ℚ) → 0ℚ <ℚ h → w ≡ v +ℚ k *ℚ h → t ≤ℚ h → value ((0ℚ, v) ∷ (h, w) ∷ []) t ≡ v +ℚ k *ℚ t
 value-from_0 v h w k t l e b = to_0 v _ k t (value-two (0ℚ, v) (h, w) k t l (from_0 v w k h e) b)
 
 starts_0 : (w a : ℚ) → w ≡ a → w ≡ 0ℚ +ℚ a
-starts_0 w a e = linear_eq (w ∷ a ∷ []) (eq e ∷ []) (search reading_of depth 12) tt tt
-
-ends_0 : (w a : ℚ) → w ≡ 0ℚ +ℚ a → w ≡ a
-ends_0 w a e = linear_eq (w ∷ a ∷ []) (eq e ∷ []) (search reading_of depth 12) tt tt
+starts_0 w a e = linear_eq (w ∷ a ∷ []) (eq e ∷ []) (search reading_of) tt tt
 
 -- from (0, 0)
 value-from_none : (h w k t : ℚ) → 0ℚ <ℚ h → w ≡ k *ℚ h → t ≤ℚ h → value ((0ℚ, 0ℚ) ∷ (h, w) ∷ []) t ≡ k *ℚ t
-value-from_none h w k t l e b = ends_0 _ _ (value-from_0 0ℚ h w k t l (starts_0 w _ e) b)
+value-from_none h w k t l e b = without_zero _ _ (value-from_0 0ℚ h w k t l (starts_0 w _ e) b)
 
 one_time : (h t : ℚ) → h ≡ 0ℚ +ℚ 1ℚ *ℚ h
-one_time h t = linear_eq (h ∷ []) [] (search reading_of depth 12) tt tt
+one_time h t = linear_eq (h ∷ []) [] (search reading_of) tt tt
 
 just_time : (y t : ℚ) → y ≡ 0ℚ +ℚ 1ℚ *ℚ t → y ≡ t
-just_time y t e = linear_eq (y ∷ t ∷ []) (eq e ∷ []) (search reading_of depth 12) tt tt
+just_time y t e = linear_eq (y ∷ t ∷ []) (eq e ∷ []) (search reading_of) tt tt
 
 -- ---- lists of one
 one_trace : (P : Trace → Type 0) (x : Trace) → P x → (e : ℕ) (trace : Trace) → slice_get (x ∷ []) e ≡ Some trace → P trace
@@ -76,15 +75,15 @@ module _ (transit slope rate out_rate horizon arrival amount : ℚ) (h : 0ℚ <�
   last_later = by_product (ps_times slope horizon k h) arrives
     where
       by_product : 0ℚ <ℚ slope *ℚ horizon → arrival ≡ transit +ℚ slope *ℚ horizon → transit <ℚ arrival
-      by_product p e = linear_lt (transit ∷ slope ∷ horizon ∷ arrival ∷ []) (lt p ∷ eq e ∷ []) (search reading_of depth 12) tt
+      by_product p e = linear_lt (transit ∷ slope ∷ horizon ∷ arrival ∷ []) (lt p ∷ eq e ∷ []) (search reading_of) tt
 
   last_rise : amount ≡ 0ℚ +ℚ out_rate *ℚ (arrival -ℚ transit)
-  last_rise = linear_eq (transit ∷ slope ∷ rate ∷ out_rate ∷ horizon ∷ arrival ∷ amount ∷ []) (eq enters ∷ eq_times horizon each ∷ eq_times out_rate arrives ∷ []) (search reading_of depth 12) tt tt
+  last_rise = linear_eq (transit ∷ slope ∷ rate ∷ out_rate ∷ horizon ∷ arrival ∷ amount ∷ []) (eq enters ∷ eq_times horizon each ∷ eq_times out_rate arrives ∷ []) (search reading_of) tt tt
 
   arrival_in : (t : ℚ) → Within 0ℚ horizon t → Within transit arrival (transit +ℚ slope *ℚ t)
   arrival_in t w = (
-    linear_le (transit ∷ slope ∷ t ∷ []) (le_times (≤ℚ_of_lt _ _ k) w.0 ∷ []) (search reading_of depth 12) tt,
-    linear_le (transit ∷ slope ∷ t ∷ horizon ∷ arrival ∷ []) (eq arrives ∷ le_times (≤ℚ_of_lt _ _ k) w.1 ∷ []) (search reading_of depth 12) tt,
+    linear_le (transit ∷ slope ∷ t ∷ []) (le_times (≤ℚ_of_lt _ _ k) w.0 ∷ []) (search reading_of) tt,
+    linear_le (transit ∷ slope ∷ t ∷ horizon ∷ arrival ∷ []) (eq arrives ∷ le_times (≤ℚ_of_lt _ _ k) w.1 ∷ []) (search reading_of) tt,
   )
 
   out_at : (t y : ℚ) → y ≡ 0ℚ +ℚ out_rate *ℚ ((transit +ℚ slope *ℚ t) -ℚ transit) → y ≡ rate *ℚ t
@@ -94,7 +93,7 @@ module _ (transit slope rate out_rate horizon arrival amount : ℚ) (h : 0ℚ <�
   on_last t w = out_at t _ (value-two (transit, 0ℚ) (arrival, amount) out_rate (transit +ℚ slope *ℚ t) last_later last_rise (arrival_in t w).1)
 
   flat : (t : ℚ) → 0ℚ ≡ 0ℚ +ℚ 0ℚ *ℚ t
-  flat t = linear_eq (t ∷ []) [] (search reading_of depth 12) tt tt
+  flat t = linear_eq (t ∷ []) [] (search reading_of) tt tt
 
   pub IsOut-delayed : 0ℚ <ℚ transit → IsOut transit slope rate horizon (delayed_trace transit arrival amount out_rate)
   IsOut-delayed l = record {
@@ -127,7 +126,7 @@ module _ (transit : ℚ) (capacity : Option ℚ) (later : List Piece) (rate slop
   two v w = (refl, (h, tt))
 
   nn_amount : 0ℚ ≤ℚ amount
-  nn_amount = linear_le (rate ∷ horizon ∷ amount ∷ []) (eq enters ∷ le_times n (≤ℚ_of_lt _ _ h) ∷ []) (search reading_of depth 12) tt
+  nn_amount = linear_le (rate ∷ horizon ∷ amount ∷ []) (eq enters ∷ le_times n (≤ℚ_of_lt _ _ h) ∷ []) (search reading_of) tt
 
   shape : HasShape (one_link transit capacity (at_rate rate later)) flow
   shape = record {
@@ -177,13 +176,13 @@ Equilibrium-full transit capacity rate horizon arrival amount waits later trace 
     each = quotient-times rate capacity c
 
     turned : (k c r : ℚ) → k *ℚ c ≡ r → c *ℚ k ≡ r
-    turned k c r e = linear_eq (k ∷ c ∷ r ∷ []) (eq e ∷ []) (search reading_of depth 12) tt tt
+    turned k c r e = linear_eq (k ∷ c ∷ r ∷ []) (eq e ∷ []) (search reading_of) tt tt
 
     state : IsState (Some capacity) rate slope (rate -ℚ capacity)
     state = IsState-full capacity rate slope c over each
 
     by_capacity : (c a t m k r h : ℚ) → c *ℚ (a -ℚ t) ≡ m → m ≡ r *ℚ h → k *ℚ c ≡ r → c *ℚ a ≡ c *ℚ (t +ℚ k *ℚ h)
-    by_capacity c a t m k r h e f g = linear_eq (c ∷ a ∷ t ∷ m ∷ k ∷ r ∷ h ∷ []) (eq e ∷ eq f ∷ eq_times h g ∷ []) (search reading_of depth 12) tt tt
+    by_capacity c a t m k r h e f g = linear_eq (c ∷ a ∷ t ∷ m ∷ k ∷ r ∷ h ∷ []) (eq e ∷ eq f ∷ eq_times h g ∷ []) (search reading_of) tt tt
 
     arrives : arrival ≡ transit +ℚ slope *ℚ horizon
     arrives = same_from_times capacity _ _ c (by_capacity capacity arrival transit amount slope rate horizon at enters each)
@@ -194,18 +193,12 @@ pub Equilibrium-tight : (transit : ℚ) (capacity : Option ℚ) (rate horizon ar
     → amount ≡ rate *ℚ horizon → arrival ≡ transit +ℚ horizon → IsOutTrace transit arrival amount rate trace
     → Equilibrium (one_link transit capacity (at_rate rate later)) (steady_flow transit rate horizon arrival amount 0ℚ trace)
 Equilibrium-tight transit capacity rate horizon arrival amount later trace l c under h p alone enters at out =
-    Equilibrium-steady transit capacity later rate 1ℚ 0ℚ horizon arrival amount 0ℚ trace (p.rates 0 _ refl) h arrives enters (none horizon)
-    (IsOut-trace transit 1ℚ rate rate horizon arrival amount h state.slope_ps (same rate) arrives enters trace out)
+    Equilibrium-steady transit capacity later rate 1ℚ 0ℚ horizon arrival amount 0ℚ trace (p.rates 0 _ refl) h arrives enters (zero_of_zero_times horizon)
+    (IsOut-trace transit 1ℚ rate rate horizon arrival amount h state.slope_ps (times_one rate) arrives enters trace out)
     l c p alone state
   where
     state : IsState capacity rate 1ℚ 0ℚ
     state = IsState-tight capacity rate under
 
-    none : (t : ℚ) → 0ℚ ≡ 0ℚ *ℚ t
-    none t = linear_eq (t ∷ []) [] (search reading_of depth 12) tt tt
-
-    same : (r : ℚ) → r *ℚ 1ℚ ≡ r
-    same r = linear_eq (r ∷ []) [] (search reading_of depth 12) tt tt
-
     arrives : arrival ≡ transit +ℚ 1ℚ *ℚ horizon
-    arrives = linear_eq (arrival ∷ transit ∷ horizon ∷ []) (eq at ∷ []) (search reading_of depth 12) tt tt
+    arrives = linear_eq (arrival ∷ transit ∷ horizon ∷ []) (eq at ∷ []) (search reading_of) tt tt

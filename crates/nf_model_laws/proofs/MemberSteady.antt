@@ -21,6 +21,7 @@ use Rattle.nf_model_laws.proofs.Supply.{supplied-goes_on, supplied-begins}
 use Rattle.nf_model_laws.proofs.Step.{IsQueue-after, IsQueue-at_0}
 use Rattle.nf_model_laws.proofs.Exits.{IsOutflow-at_exit, waiting-none}
 use Rattle.nf_rational_laws.proofs.Chains.{≤ℚ_refl, ≤ℚ_trans}
+use Rattle.nf_rational_laws.proofs.Field.{zero-*ℚ}
 
 -- ---- the supply
 
@@ -40,7 +41,7 @@ nothing_between rate later horizon time alone h zero piece p after = absurd (not
 nothing_between rate later horizon time alone h (suc i) piece p after = ≤ℚ_trans _ _ _ h (alone i piece p)
 
 from_none : (r t s u m : ℚ) → s ≡ u +ℚ m *ℚ (t -ℚ 0ℚ) → u ≡ 0ℚ → m ≡ r → s ≡ r *ℚ t
-from_none r t s u m e f g = linear_eq (r ∷ t ∷ s ∷ u ∷ m ∷ []) (eq e ∷ eq f ∷ eq_times t g ∷ []) (search reading_of depth 12) tt tt
+from_none r t s u m e f g = linear_eq (r ∷ t ∷ s ∷ u ∷ m ∷ []) (eq e ∷ eq f ∷ eq_times t g ∷ []) (search reading_of) tt tt
 
 pub supplied-at_rate : (rate : ℚ) (later : List Piece) (horizon time : ℚ) → ArePieces (at_rate rate later) → NotBefore horizon later → Within 0ℚ horizon time → supplied (at_rate rate later) time ≡ rate *ℚ time
 supplied-at_rate rate later horizon time pieces alone w =
@@ -68,26 +69,26 @@ pub record IsState (capacity : Option ℚ) (rate slope gain : ℚ) : Type 0 wher
   pub exit_is : (t : ℚ) → t +ℚ waiting capacity (gain *ℚ t) ≡ slope *ℚ t
 
 no_time : (a b r : ℚ) → a ≡ r *ℚ 0ℚ → b ≡ a → b ≡ 0ℚ
-no_time a b r e f = linear_eq (a ∷ b ∷ r ∷ []) (eq e ∷ eq f ∷ []) (search reading_of depth 12) tt tt
+no_time a b r e f = linear_eq (a ∷ b ∷ r ∷ []) (eq e ∷ eq f ∷ []) (search reading_of) tt tt
 
 on_line : (a b r t : ℚ) → a ≡ r *ℚ t → b ≡ 0ℚ → a ≡ b +ℚ r *ℚ (t -ℚ 0ℚ)
-on_line a b r t e f = linear_eq (a ∷ b ∷ r ∷ t ∷ []) (eq e ∷ eq f ∷ []) (search reading_of depth 12) tt tt
+on_line a b r t e f = linear_eq (a ∷ b ∷ r ∷ t ∷ []) (eq e ∷ eq f ∷ []) (search reading_of) tt tt
 
 from_0 : (t : ℚ) → t -ℚ 0ℚ ≡ t
-from_0 t = linear_eq (t ∷ []) [] (search reading_of depth 12) tt tt
+from_0 t = linear_eq (t ∷ []) [] (search reading_of) tt tt
 
 sum_up : (l t r w k : ℚ) → l ≡ r +ℚ k → t +ℚ w ≡ k → l ≡ t +ℚ r +ℚ w
-sum_up l t r w k e f = linear_eq (l ∷ t ∷ r ∷ w ∷ k ∷ []) (eq e ∷ eq f ∷ []) (search reading_of depth 12) tt tt
+sum_up l t r w k e f = linear_eq (l ∷ t ∷ r ∷ w ∷ k ∷ []) (eq e ∷ eq f ∷ []) (search reading_of) tt tt
 
 -- the departure of who arrives at a time
 arrives : (r k t s : ℚ) → s *ℚ k ≡ t -ℚ r → r +ℚ k *ℚ s ≡ t
-arrives r k t s e = linear_eq (r ∷ k ∷ t ∷ s ∷ []) (eq e ∷ []) (search reading_of depth 12) tt tt
+arrives r k t s e = linear_eq (r ∷ k ∷ t ∷ s ∷ []) (eq e ∷ []) (search reading_of) tt tt
 
 departs_after : (r k t s : ℚ) → s *ℚ k ≡ t -ℚ r → r ≤ℚ t → k *ℚ 0ℚ ≤ℚ k *ℚ s
-departs_after r k t s e h = linear_le (r ∷ k ∷ t ∷ s ∷ []) (eq e ∷ le h ∷ []) (search reading_of depth 12) tt
+departs_after r k t s e h = linear_le (r ∷ k ∷ t ∷ s ∷ []) (eq e ∷ le h ∷ []) (search reading_of) tt
 
 departs_by : (r k t s h : ℚ) → s *ℚ k ≡ t -ℚ r → t ≤ℚ r +ℚ k *ℚ h → k *ℚ s ≤ℚ k *ℚ h
-departs_by r k t s h e l = linear_le (r ∷ k ∷ t ∷ s ∷ h ∷ []) (eq e ∷ le l ∷ []) (search reading_of depth 12) tt
+departs_by r k t s h e l = linear_le (r ∷ k ∷ t ∷ s ∷ h ∷ []) (eq e ∷ le l ∷ []) (search reading_of) tt
 
 module _ (transit : ℚ) (capacity : Option ℚ) (later : List Piece) (rate slope gain : ℚ) (flow : Flow) (c : IsPositive capacity) (pieces : ArePieces (at_rate rate later))
     (state : IsState capacity rate slope gain) (steady : IsSteady transit capacity (at_rate rate later) rate slope gain flow) (alone : NotBefore flow.reached later) where
@@ -148,21 +149,21 @@ module _ (transit : ℚ) (capacity : Option ℚ) (later : List Piece) (rate slop
 
 -- ---- the two states
 gained : (r c t : ℚ) → 0ℚ +ℚ (r -ℚ c) *ℚ t ≡ (r -ℚ c) *ℚ t
-gained r c t = linear_eq (r ∷ c ∷ t ∷ []) [] (search reading_of depth 12) tt tt
+gained r c t = linear_eq (r ∷ c ∷ t ∷ []) [] (search reading_of) tt tt
 
 gains : (r c t : ℚ) → c ≤ℚ r → 0ℚ ≤ℚ t → 0ℚ ≤ℚ 0ℚ +ℚ (r -ℚ c) *ℚ t
-gains r c t h k = linear_le (r ∷ c ∷ t ∷ []) (le_times k h ∷ []) (search reading_of depth 12) tt
+gains r c t h k = linear_le (r ∷ c ∷ t ∷ []) (le_times k h ∷ []) (search reading_of) tt
 
 exit_full : (r c t k w : ℚ) → k *ℚ c ≡ r → w *ℚ c ≡ (r -ℚ c) *ℚ t → c *ℚ (t +ℚ w) ≡ c *ℚ (k *ℚ t)
-exit_full r c t k w e f = linear_eq (r ∷ c ∷ t ∷ k ∷ w ∷ []) (eq_times t e ∷ eq f ∷ []) (search reading_of depth 12) tt tt
+exit_full r c t k w e f = linear_eq (r ∷ c ∷ t ∷ k ∷ w ∷ []) (eq_times t e ∷ eq f ∷ []) (search reading_of) tt tt
 
 slope_above : (r c k : ℚ) → 0ℚ <ℚ c → c ≤ℚ r → k *ℚ c ≡ r → c *ℚ 0ℚ <ℚ c *ℚ k
-slope_above r c k h l e = linear_lt (r ∷ c ∷ k ∷ []) (lt h ∷ le l ∷ eq e ∷ []) (search reading_of depth 12) tt
+slope_above r c k h l e = linear_lt (r ∷ c ∷ k ∷ []) (lt h ∷ le l ∷ eq e ∷ []) (search reading_of) tt
 
 lt_from_times : (c x y : ℚ) → 0ℚ <ℚ c → c *ℚ x <ℚ c *ℚ y → x <ℚ y
 lt_from_times c x y h l = ⊎_elim
     (λ (k : x <ℚ y). k)
-    (λ (k : y ≤ℚ x). absurd (not_both_ℚ (c *ℚ x) (c *ℚ y) l (linear_le (c ∷ x ∷ y ∷ []) (le_times (≤ℚ_of_lt _ _ h) k ∷ []) (search reading_of depth 12) tt)))
+    (λ (k : y ≤ℚ x). absurd (not_both_ℚ (c *ℚ x) (c *ℚ y) l (linear_le (c ∷ x ∷ y ∷ []) (le_times (≤ℚ_of_lt _ _ h) k ∷ []) (search reading_of) tt)))
     (lt_or_le_ℚ x y)
 
 pub IsState-full : (capacity rate slope : ℚ) → 0ℚ <ℚ capacity → capacity ≤ℚ rate → slope *ℚ capacity ≡ rate → IsState (Some capacity) rate slope (rate -ℚ capacity)
@@ -173,13 +174,10 @@ IsState-full capacity rate slope c h e = record {
 }
 
 loses : (r c t : ℚ) → r ≤ℚ c → 0ℚ ≤ℚ t → 0ℚ +ℚ (r -ℚ c) *ℚ t ≤ℚ 0ℚ
-loses r c t h k = linear_le (r ∷ c ∷ t ∷ []) (le_times k h ∷ []) (search reading_of depth 12) tt
-
-none_ever : (t : ℚ) → 0ℚ *ℚ t ≡ 0ℚ
-none_ever t = linear_eq (t ∷ []) [] (search reading_of depth 12) tt tt
+loses r c t h k = linear_le (r ∷ c ∷ t ∷ []) (le_times k h ∷ []) (search reading_of) tt
 
 at_once : (t w : ℚ) → w ≡ 0ℚ → t +ℚ w ≡ 1ℚ *ℚ t
-at_once t w e = linear_eq (t ∷ w ∷ []) (eq e ∷ []) (search reading_of depth 12) tt tt
+at_once t w e = linear_eq (t ∷ w ∷ []) (eq e ∷ []) (search reading_of) tt tt
 
 stays_empty : (capacity : Option ℚ) (rate t : ℚ) → ((bound : ℚ) → capacity ≡ Some bound → rate ≤ℚ bound) → 0ℚ ≤ℚ t → queue_after capacity rate 0ℚ t ≡ 0ℚ
 stays_empty None rate t h n = refl
@@ -188,6 +186,6 @@ stays_empty (Some bound) rate t h n = max0_none _ (loses rate bound t (h bound r
 pub IsState-tight : (capacity : Option ℚ) (rate : ℚ) → ((bound : ℚ) → capacity ≡ Some bound → rate ≤ℚ bound) → IsState capacity rate 1ℚ 0ℚ
 IsState-tight capacity rate h = record {
   slope_ps = ps_whole 0;
-  queue_is = λ t n. stays_empty capacity rate t h n ∙ sym (none_ever t);
-  exit_is = λ t. at_once t _ (ap (λ (q : ℚ). waiting capacity q) (none_ever t) ∙ waiting-none capacity);
+  queue_is = λ t n. stays_empty capacity rate t h n ∙ sym (zero-*ℚ t);
+  exit_is = λ t. at_once t _ (ap (λ (q : ℚ). waiting capacity q) (zero-*ℚ t) ∙ waiting-none capacity);
 }

@@ -1,11 +1,12 @@
 -- Least and greatest values that are stated as relations are at most one each.
 use Rattle.std.proofs.Common.{◌≡◌, ℕ, List, [], ◌∷◌, inl, inr, sym, ap, subst, ◌∙◌}
 use Rattle.nf_rational.specs.Rational.{ℚ}
-use Rattle.nf_rational.specs.Operations.{0ℚ, 1ℚ, ◌+ℚ◌, ◌-ℚ◌}
+use Rattle.nf_rational.specs.Operations.{1ℚ, ◌+ℚ◌, ◌-ℚ◌}
 use Rattle.nf_rational.specs.Order.{◌≤ℚ◌, ◌<ℚ◌, min_ℚ}
 use Rattle.nf_rational_laws.proofs.Polynomial.{reading_of}
 use Rattle.nf_rational_laws.proofs.Order.{≤ℚ_antisymm, not_both_ℚ}
-use Rattle.nf_rational_laws.proofs.Linear.{le, linear_le, linear_lt}
+use Rattle.nf_rational_laws.proofs.Linear.{linear_lt}
+use Rattle.nf_rational_laws.proofs.Facts.{nn_plus_one}
 use Rattle.nf_model.specs.Walk.{Hop, IsLeastTransit}
 use Rattle.nf_model.specs.Network.{Network}
 use Rattle.nf_model.specs.Earliest.{IsEarliest}
@@ -24,14 +25,11 @@ pub IsExtension-unique : (net : Network) (slacks slopes : List ℚ) (time y z : 
 IsExtension-unique net slacks slopes time y z p q = ≤ℚ_antisymm y z (q.greatest y p.lasts) (p.greatest z q.lasts)
 
 one_more : (y : ℚ) → y <ℚ y +ℚ 1ℚ
-one_more y = linear_lt (y ∷ []) [] (search reading_of depth 12) tt
-
-no_end : (y : ℚ) → 0ℚ ≤ℚ y → 0ℚ ≤ℚ y +ℚ 1ℚ
-no_end y h = linear_le (y ∷ []) (le h ∷ []) (search reading_of depth 12) tt
+one_more y = linear_lt (y ∷ []) [] (search reading_of) tt
 
 -- where a phase may last for any length there is no extension length
 pub IsExtension-ends : (net : Network) (slacks slopes : List ℚ) (time y : ℚ) → IsExtension net slacks slopes time y → IsUnending net slacks slopes time → ⊥
-IsExtension-ends net slacks slopes time y p u = not_both_ℚ y (y +ℚ 1ℚ) (one_more y) (p.greatest (y +ℚ 1ℚ) (u (y +ℚ 1ℚ) (no_end y p.lasts.not_negative)))
+IsExtension-ends net slacks slopes time y p u = not_both_ℚ y (y +ℚ 1ℚ) (one_more y) (p.greatest (y +ℚ 1ℚ) (u (y +ℚ 1ℚ) (nn_plus_one y p.lasts.not_negative)))
 
 pub IsPhaseLength-unique : (net : Network) (slacks slopes : List ℚ) (time horizon y z : ℚ) → IsPhaseLength net slacks slopes time horizon y → IsPhaseLength net slacks slopes time horizon z → y ≡ z
 IsPhaseLength-unique net slacks slopes time horizon y z (inl p) (inl q) = p.2 ∙ ap (min_ℚ (horizon -ℚ time)) (IsExtension-unique net slacks slopes time p.0 q.0 p.1 q.1) ∙ sym q.2

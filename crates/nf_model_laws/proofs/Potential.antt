@@ -5,8 +5,9 @@ use Rattle.nf_rational.specs.Rational.{ℚ}
 use Rattle.nf_rational.specs.Operations.{0ℚ, ◌+ℚ◌, ◌-ℚ◌, ◌*ℚ◌}
 use Rattle.nf_rational.specs.Order.{◌≤ℚ◌}
 use Rattle.nf_rational_laws.proofs.Polynomial.{reading_of}
-use Rattle.nf_rational_laws.proofs.Order.{≤ℚ_antisymm}
+use Rattle.nf_rational_laws.proofs.Order.{nn_plus, ≤ℚ_of_same, ≤ℚ_antisymm}
 use Rattle.nf_rational_laws.proofs.Linear.{le, eq, linear_le, linear_eq}
+use Rattle.nf_rational_laws.proofs.Facts.{first_and_zero, sum_le}
 use Rattle.nf_model.specs.Network.{Link, sum_in, sum_out}
 
 -- the sum of f below n
@@ -14,15 +15,19 @@ abbrev pub sum_to : ℕ → (ℕ → ℚ) → ℚ
 sum_to zero f = 0ℚ
 sum_to (suc n) f = sum_to n f +ℚ f n
 
+pub sum_to-nn : (n : ℕ) (f : ℕ → ℚ) → ((k : ℕ) → k < n → 0ℚ ≤ℚ f k) → 0ℚ ≤ℚ sum_to n f
+sum_to-nn zero f h = ≤ℚ_of_same 0ℚ 0ℚ refl
+sum_to-nn (suc n) f h = nn_plus _ _ (sum_to-nn n f (λ k l. h k (omega arith))) (h n (omega arith))
+
 pub sum_to-same : (n : ℕ) (f g : ℕ → ℚ) → ((k : ℕ) → k < n → f k ≡ g k) → sum_to n f ≡ sum_to n g
 sum_to-same zero f g e = refl
 sum_to-same (suc n) f g e = let p : sum_to n f ≡ sum_to n g = sum_to-same n f g (λ k h. e k (omega arith)) in let q : f n ≡ g n = e n (omega arith) in cc
 
 sum_step : (s t u a b c : ℚ) → s ≡ t +ℚ u → a ≡ b +ℚ c → s +ℚ a ≡ (t +ℚ b) +ℚ (u +ℚ c)
-sum_step s t u a b c e f = linear_eq (s ∷ t ∷ u ∷ a ∷ b ∷ c ∷ []) (eq e ∷ eq f ∷ []) (search reading_of depth 12) tt tt
+sum_step s t u a b c e f = linear_eq (s ∷ t ∷ u ∷ a ∷ b ∷ c ∷ []) (eq e ∷ eq f ∷ []) (search reading_of) tt tt
 
 pub sum_to-plus : (n : ℕ) (f g h : ℕ → ℚ) → ((k : ℕ) → f k ≡ g k +ℚ h k) → sum_to n f ≡ sum_to n g +ℚ sum_to n h
-sum_to-plus zero f g h e = linear_eq [] [] (search reading_of depth 12) tt tt
+sum_to-plus zero f g h e = linear_eq [] [] (search reading_of) tt tt
 sum_to-plus (suc n) f g h e = sum_step _ _ _ _ _ _ (sum_to-plus n f g h e) (e n)
 
 -- a sum of one term
@@ -39,21 +44,18 @@ only_at-else v a k h = ⊎_elim
     (λ (w : (eqb v k ≡ true) × (v ≡ k)). absurd (h w.1))
     (λ (w : (eqb v k ≡ false) × (v ≢ k)). ap (λ (b : Bool). if b then a else 0ℚ) w.0) (eqb_tells v k)
 
-plus_none : (s a b : ℚ) → s ≡ a → b ≡ 0ℚ → s +ℚ b ≡ a
-plus_none s a b e f = linear_eq (s ∷ a ∷ b ∷ []) (eq e ∷ eq f ∷ []) (search reading_of depth 12) tt tt
-
 none_plus : (s a b : ℚ) → s ≡ 0ℚ → b ≡ a → s +ℚ b ≡ a
-none_plus s a b e f = linear_eq (s ∷ a ∷ b ∷ []) (eq e ∷ eq f ∷ []) (search reading_of depth 12) tt tt
+none_plus s a b e f = linear_eq (s ∷ a ∷ b ∷ []) (eq e ∷ eq f ∷ []) (search reading_of) tt tt
 
 sum_to-none : (n v : ℕ) (a : ℚ) → n ≤ v → sum_to n (only_at v a) ≡ 0ℚ
 sum_to-none zero v a h = refl
-sum_to-none (suc n) v a h = plus_none _ 0ℚ _ (sum_to-none n v a (omega arith)) (only_at-else v a n (λ e. absurd (omega arith)))
+sum_to-none (suc n) v a h = first_and_zero _ _ 0ℚ (sum_to-none n v a (omega arith)) (only_at-else v a n (λ e. absurd (omega arith)))
 
 pub sum_to-only : (n v : ℕ) (a : ℚ) → v < n → sum_to n (only_at v a) ≡ a
 sum_to-only zero v a h = absurd (omega arith)
 sum_to-only (suc n) v a h = ⊎_elim
     (λ (w : (eqb v n ≡ true) × (v ≡ n)). none_plus _ a _ (sum_to-none n v a (omega arith)) (subst (λ (k : ℕ). only_at v a k ≡ a) w.1 (only_at-here v a)))
-    (λ (w : (eqb v n ≡ false) × (v ≢ n)). plus_none _ a _ (sum_to-only n v a (omega arith)) (only_at-else v a n w.1)) (eqb_tells v n)
+    (λ (w : (eqb v n ≡ false) × (v ≢ n)). first_and_zero _ _ a (sum_to-only n v a (omega arith)) (only_at-else v a n w.1)) (eqb_tells v n)
 
 -- the sum over the links of what each carries times the fall of the potential along it
 abbrev pub fall : (ℕ → ℚ) → Link → ℚ
@@ -72,14 +74,14 @@ out_less_in links f v = sum_out links f v -ℚ sum_in links f v
 -- one more link changes the sum at a node by what it takes there and what it brings
 one_link : (w o i a : ℚ) (s t : Bool) → w *ℚ ((if s then a +ℚ o else o) -ℚ (if t then a +ℚ i else i))
     ≡ (if s then w *ℚ a else 0ℚ) +ℚ ((if t then 0ℚ -ℚ w *ℚ a else 0ℚ) +ℚ w *ℚ (o -ℚ i))
-one_link w o i a true true = linear_eq (w ∷ o ∷ i ∷ a ∷ []) [] (search reading_of depth 12) tt tt
-one_link w o i a true false = linear_eq (w ∷ o ∷ i ∷ a ∷ []) [] (search reading_of depth 12) tt tt
-one_link w o i a false true = linear_eq (w ∷ o ∷ i ∷ a ∷ []) [] (search reading_of depth 12) tt tt
-one_link w o i a false false = linear_eq (w ∷ o ∷ i ∷ a ∷ []) [] (search reading_of depth 12) tt tt
+one_link w o i a true true = linear_eq (w ∷ o ∷ i ∷ a ∷ []) [] (search reading_of) tt tt
+one_link w o i a true false = linear_eq (w ∷ o ∷ i ∷ a ∷ []) [] (search reading_of) tt tt
+one_link w o i a false true = linear_eq (w ∷ o ∷ i ∷ a ∷ []) [] (search reading_of) tt tt
+one_link w o i a false false = linear_eq (w ∷ o ∷ i ∷ a ∷ []) [] (search reading_of) tt tt
 
 pub sum_to-zero : (n : ℕ) (f : ℕ → ℚ) → ((k : ℕ) → k < n → f k ≡ 0ℚ) → sum_to n f ≡ 0ℚ
 sum_to-zero zero f e = refl
-sum_to-zero (suc n) f e = plus_none _ 0ℚ _ (sum_to-zero n f (λ k h. e k (omega arith))) (e n (omega arith))
+sum_to-zero (suc n) f e = first_and_zero _ _ 0ℚ (sum_to-zero n f (λ k h. e k (omega arith))) (e n (omega arith))
 
 sum_to-at : (n v : ℕ) (g : ℕ → ℚ) → v < n → sum_to n (λ k. if eqb v k then g k else 0ℚ) ≡ g v
 sum_to-at n v g h = sum_to-same n (λ k. if eqb v k then g k else 0ℚ) (only_at v (g v)) (λ k _. same k) ∙ sum_to-only n v (g v) h
@@ -90,10 +92,10 @@ sum_to-at n v g h = sum_to-same n (λ k. if eqb v k then g k else 0ℚ) (only_at
         (λ (w : (eqb v k ≡ false) × (v ≢ k)). ap (λ (b : Bool). if b then g k else 0ℚ) w.0 ∙ sym (ap (λ (b : Bool). if b then g v else 0ℚ) w.0)) (eqb_tells v k)
 
 nothing : (w : ℚ) → w *ℚ (0ℚ -ℚ 0ℚ) ≡ 0ℚ
-nothing w = linear_eq (w ∷ []) [] (search reading_of depth 12) tt tt
+nothing w = linear_eq (w ∷ []) [] (search reading_of) tt tt
 
 collected : (c a s t p q r : ℚ) → p ≡ s *ℚ a → q ≡ 0ℚ -ℚ t *ℚ a → r ≡ c → a *ℚ (s -ℚ t) +ℚ c ≡ p +ℚ (q +ℚ r)
-collected c a s t p q r e f g = linear_eq (c ∷ a ∷ s ∷ t ∷ p ∷ q ∷ r ∷ []) (eq e ∷ eq f ∷ eq g ∷ []) (search reading_of depth 12) tt tt
+collected c a s t p q r e f g = linear_eq (c ∷ a ∷ s ∷ t ∷ p ∷ q ∷ r ∷ []) (eq e ∷ eq f ∷ eq g ∷ []) (search reading_of) tt tt
 
 -- summed over the nodes it is each node's potential times what it sends out beyond what comes in
 pub carried-is : (n : ℕ) (w : ℕ → ℚ) (links : List Link) (f : ℕ → ℚ) → EndsBelow n links → carried w links f ≡ sum_to n (λ v. w v *ℚ out_less_in links f v)
@@ -108,19 +110,16 @@ carried-is n w (link ∷ links) f b =
     ∙ ap (λ (s : ℚ). sum_to n (λ v. if eqb link.tail v then w v *ℚ f 0 else 0ℚ) +ℚ s) (sum_to-plus n _ (λ v. if eqb link.head v then 0ℚ -ℚ w v *ℚ f 0 else 0ℚ) (λ v. w v *ℚ out_less_in links rest v) (λ v. refl)))
 
 -- ---- two flows compared link by link
-add_le : (a b c d : ℚ) → a ≤ℚ b → c ≤ℚ d → a +ℚ c ≤ℚ b +ℚ d
-add_le a b c d h k = linear_le (a ∷ b ∷ c ∷ d ∷ []) (le h ∷ le k ∷ []) (search reading_of depth 12) tt
-
 pub carried-le : (w : ℕ → ℚ) (links : List Link) (x y : ℕ → ℚ)
     → ((e : ℕ) (link : Link) → slice_get links e ≡ Some link → x e *ℚ fall w link ≤ℚ y e *ℚ fall w link) → carried w links x ≤ℚ carried w links y
-carried-le w [] x y h = linear_le [] [] (search reading_of depth 12) tt
-carried-le w (link ∷ links) x y h = add_le _ _ _ _ (h 0 link refl) (carried-le w links (λ e. x (suc e)) (λ e. y (suc e)) (λ e l s. h (suc e) l s))
+carried-le w [] x y h = linear_le [] [] (search reading_of) tt
+carried-le w (link ∷ links) x y h = sum_le _ _ _ _ (h 0 link refl) (carried-le w links (λ e. x (suc e)) (λ e. y (suc e)) (λ e l s. h (suc e) l s))
 
 first_le : (a b c d : ℚ) → c ≤ℚ d → b +ℚ d ≤ℚ a +ℚ c → b ≤ℚ a
-first_le a b c d h k = linear_le (a ∷ b ∷ c ∷ d ∷ []) (le h ∷ le k ∷ []) (search reading_of depth 12) tt
+first_le a b c d h k = linear_le (a ∷ b ∷ c ∷ d ∷ []) (le h ∷ le k ∷ []) (search reading_of) tt
 
 rest_le : (a b c d : ℚ) → a ≤ℚ b → b +ℚ d ≤ℚ a +ℚ c → d ≤ℚ c
-rest_le a b c d h k = linear_le (a ∷ b ∷ c ∷ d ∷ []) (le h ∷ le k ∷ []) (search reading_of depth 12) tt
+rest_le a b c d h k = linear_le (a ∷ b ∷ c ∷ d ∷ []) (le h ∷ le k ∷ []) (search reading_of) tt
 
 -- where no link of the one carries more than that of the other, but the sums are equal, each carries the same
 pub carried-each : (w : ℕ → ℚ) (links : List Link) (x y : ℕ → ℚ)

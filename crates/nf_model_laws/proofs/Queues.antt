@@ -4,13 +4,15 @@ use Rattle.nf_rational.specs.Rational.{ℚ}
 use Rattle.nf_rational.specs.Operations.{0ℚ, ◌+ℚ◌, ◌-ℚ◌, ◌*ℚ◌}
 use Rattle.nf_rational.specs.Order.{◌≤ℚ◌, ◌<ℚ◌}
 use Rattle.nf_rational_laws.proofs.Polynomial.{reading_of}
-use Rattle.nf_rational_laws.proofs.Order.{≤ℚ_of_same, ≤ℚ_antisymm, lt_or_le_ℚ, not_both_ℚ}
+use Rattle.nf_rational_laws.proofs.Order.{≤ℚ_of_same, ≤ℚ_antisymm, lt_or_le_ℚ, not_both_ℚ, less_nn}
 use Rattle.nf_rational_laws.proofs.Linear.{le, eq, eq_times, linear_le, linear_eq}
 use Rattle.nf_model.specs.Curve.{Within, IsGreatest, IsLeast, NeverFalls}
 use Rattle.nf_model.specs.Queue.{IsQueue, IsExit, IsOutflow, waiting}
 use Rattle.nf_model_laws.specs.Capacity.{IsPositive}
 use Rattle.nf_model_laws.proofs.Affine.{nn-quotient, quotient-times, le_from_times}
 use Rattle.nf_rational_laws.proofs.Chains.{≤ℚ_refl, ≤ℚ_trans}
+use Rattle.nf_rational_laws.proofs.Facts.{less_zero}
+use Rattle.nf_rational_laws.proofs.Signs.{zero_from_same}
 use Rattle.std.proofs.lemmas.Option.{same_Some}
 
 -- ---- at most one value
@@ -63,7 +65,7 @@ pub IsGreatest-order : (f : ℚ → ℚ) (a b y : ℚ) → IsGreatest f a b y �
 IsGreatest-order f a b y p = ≤ℚ_trans _ _ _ p.taken.1.0 p.taken.1.1
 
 none_now : (a c t y : ℚ) → a -ℚ a -ℚ c *ℚ (t -ℚ t) ≤ℚ y → 0ℚ ≤ℚ y
-none_now a c t y h = linear_le (a ∷ c ∷ t ∷ y ∷ []) (le h ∷ []) (search reading_of depth 12) tt
+none_now a c t y h = linear_le (a ∷ c ∷ t ∷ y ∷ []) (le h ∷ []) (search reading_of) tt
 
 pub IsQueue-nn : (capacity : Option ℚ) (amount : ℚ → ℚ) (time y : ℚ) → IsQueue capacity amount time y → 0ℚ ≤ℚ y
 IsQueue-nn None amount time y p = ≤ℚ_of_same _ _ (sym (p.unbounded refl))
@@ -77,25 +79,22 @@ waiting-nn (Some rate) queue c h = nn-quotient queue rate h (c rate refl)
 
 -- ---- the outflow is what has come, less the queue, the transit time later
 back_in : (x z r t : ℚ) → z ≡ x +ℚ r → t ≤ℚ x → t ≤ℚ z -ℚ r
-back_in x z r t e h = linear_le (x ∷ z ∷ r ∷ t ∷ []) (le h ∷ eq e ∷ []) (search reading_of depth 12) tt
+back_in x z r t e h = linear_le (x ∷ z ∷ r ∷ t ∷ []) (le h ∷ eq e ∷ []) (search reading_of) tt
 
 back_out : (x z r t : ℚ) → z ≡ x +ℚ r → t ≤ℚ z -ℚ r → t ≤ℚ x
-back_out x z r t e h = linear_le (x ∷ z ∷ r ∷ t ∷ []) (le h ∷ eq e ∷ []) (search reading_of depth 12) tt
+back_out x z r t e h = linear_le (x ∷ z ∷ r ∷ t ∷ []) (le h ∷ eq e ∷ []) (search reading_of) tt
 
 back : (x z r : ℚ) → z ≡ x +ℚ r → x ≡ z -ℚ r
-back x z r e = linear_eq (x ∷ z ∷ r ∷ []) (eq e ∷ []) (search reading_of depth 12) tt tt
+back x z r e = linear_eq (x ∷ z ∷ r ∷ []) (eq e ∷ []) (search reading_of) tt tt
 
 turned : (a b c x z r t y : ℚ) → z ≡ x +ℚ r → a -ℚ b -ℚ c *ℚ (x -ℚ t) ≡ y → b +ℚ c *ℚ (z -ℚ r -ℚ t) ≡ a -ℚ y
-turned a b c x z r t y e f = linear_eq (a ∷ b ∷ c ∷ x ∷ z ∷ r ∷ t ∷ y ∷ []) (eq_times c e ∷ eq f ∷ []) (search reading_of depth 12) tt tt
+turned a b c x z r t y e f = linear_eq (a ∷ b ∷ c ∷ x ∷ z ∷ r ∷ t ∷ y ∷ []) (eq_times c e ∷ eq f ∷ []) (search reading_of) tt tt
 
 turned_le : (a b c x z r t y : ℚ) → z ≡ x +ℚ r → a -ℚ b -ℚ c *ℚ (x -ℚ t) ≤ℚ y → a -ℚ y ≤ℚ b +ℚ c *ℚ (z -ℚ r -ℚ t)
-turned_le a b c x z r t y e f = linear_le (a ∷ b ∷ c ∷ x ∷ z ∷ r ∷ t ∷ y ∷ []) (eq_times c e ∷ le f ∷ []) (search reading_of depth 12) tt
+turned_le a b c x z r t y e f = linear_le (a ∷ b ∷ c ∷ x ∷ z ∷ r ∷ t ∷ y ∷ []) (eq_times c e ∷ le f ∷ []) (search reading_of) tt
 
 later_by : (x z r : ℚ) → z ≡ x +ℚ r → 0ℚ ≤ℚ x → r ≤ℚ z
-later_by x z r e h = linear_le (x ∷ z ∷ r ∷ []) (eq e ∷ le h ∷ []) (search reading_of depth 12) tt
-
-less_none : (a y : ℚ) → y ≡ 0ℚ → a -ℚ y ≡ a
-less_none a y e = linear_eq (a ∷ y ∷ []) (eq e ∷ []) (search reading_of depth 12) tt tt
+later_by x z r e h = linear_le (x ∷ z ∷ r ∷ []) (eq e ∷ le h ∷ []) (search reading_of) tt
 
 pub IsOutflow-early : (transit : ℚ) (capacity : Option ℚ) (amount : ℚ → ℚ) (time : ℚ) → time <ℚ transit → IsOutflow transit capacity amount time 0ℚ
 IsOutflow-early transit capacity amount time l = record {
@@ -108,7 +107,7 @@ pub IsOutflow-from_IsQueue : (transit : ℚ) (capacity : Option ℚ) (amount : �
     → IsOutflow transit capacity amount later (amount time -ℚ y)
 IsOutflow-from_IsQueue transit capacity amount time later y e h p = record {
   early = λ l. absurd (not_both_ℚ _ _ l (later_by time later transit e h));
-  unbounded = λ _ none. less_none (amount time) y (p.unbounded none) ∙ ap amount (back time later transit e);
+  unbounded = λ _ none. less_zero (amount time) y (p.unbounded none) ∙ ap amount (back time later transit e);
   bounded = λ rate _ some.
       let g : IsGreatest (λ since. amount time -ℚ amount since -ℚ rate *ℚ (time -ℚ since)) 0ℚ time y = p.bounded rate some in
       record {
@@ -118,18 +117,15 @@ IsOutflow-from_IsQueue transit capacity amount time later y e h p = record {
 }
 
 turned_back : (a b c x z r t y : ℚ) → z ≡ x +ℚ r → b +ℚ c *ℚ (z -ℚ r -ℚ t) ≡ y → a -ℚ b -ℚ c *ℚ (x -ℚ t) ≡ a -ℚ y
-turned_back a b c x z r t y e f = linear_eq (a ∷ b ∷ c ∷ x ∷ z ∷ r ∷ t ∷ y ∷ []) (eq_times c e ∷ eq f ∷ []) (search reading_of depth 12) tt tt
+turned_back a b c x z r t y e f = linear_eq (a ∷ b ∷ c ∷ x ∷ z ∷ r ∷ t ∷ y ∷ []) (eq_times c e ∷ eq f ∷ []) (search reading_of) tt tt
 
 turned_back_le : (a b c x z r t y : ℚ) → z ≡ x +ℚ r → y ≤ℚ b +ℚ c *ℚ (z -ℚ r -ℚ t) → a -ℚ b -ℚ c *ℚ (x -ℚ t) ≤ℚ a -ℚ y
-turned_back_le a b c x z r t y e f = linear_le (a ∷ b ∷ c ∷ x ∷ z ∷ r ∷ t ∷ y ∷ []) (eq_times c e ∷ le f ∷ []) (search reading_of depth 12) tt
-
-all_out : (a y : ℚ) → y ≡ a → a -ℚ y ≡ 0ℚ
-all_out a y e = linear_eq (a ∷ y ∷ []) (eq e ∷ []) (search reading_of depth 12) tt tt
+turned_back_le a b c x z r t y e f = linear_le (a ∷ b ∷ c ∷ x ∷ z ∷ r ∷ t ∷ y ∷ []) (eq_times c e ∷ le f ∷ []) (search reading_of) tt
 
 pub IsQueue-from_IsOutflow : (transit : ℚ) (capacity : Option ℚ) (amount : ℚ → ℚ) (time later y : ℚ) → later ≡ time +ℚ transit → 0ℚ ≤ℚ time → IsOutflow transit capacity amount later y
     → IsQueue capacity amount time (amount time -ℚ y)
 IsQueue-from_IsOutflow transit capacity amount time later y e h p = record {
-  unbounded = λ none. all_out (amount time) y (p.unbounded (later_by time later transit e h) none ∙ ap amount (sym (back time later transit e)));
+  unbounded = λ none. zero_from_same y (amount time) (p.unbounded (later_by time later transit e h) none ∙ ap amount (sym (back time later transit e)));
   bounded = λ rate some.
       let l : IsLeast (λ since. amount since +ℚ rate *ℚ (later -ℚ transit -ℚ since)) 0ℚ (later -ℚ transit) y = p.bounded rate (later_by time later transit e h) some in
       record {
@@ -140,7 +136,7 @@ IsQueue-from_IsOutflow transit capacity amount time later y e h p = record {
 
 -- ---- exits
 exit_after : (x r q : ℚ) → 0ℚ ≤ℚ q → x +ℚ r ≤ℚ x +ℚ r +ℚ q
-exit_after x r q h = linear_le (x ∷ r ∷ q ∷ []) (le h ∷ []) (search reading_of depth 12) tt
+exit_after x r q h = linear_le (x ∷ r ∷ q ∷ []) (le h ∷ []) (search reading_of) tt
 
 pub IsExit-after : (transit : ℚ) (capacity : Option ℚ) (amount : ℚ → ℚ) (time exit : ℚ) → IsPositive capacity → IsExit transit capacity amount time exit → time +ℚ transit ≤ℚ exit
 IsExit-after transit capacity amount time exit c p =
@@ -148,7 +144,7 @@ IsExit-after transit capacity amount time exit c p =
 
 -- by a queue over time, the times of leaving keep their order
 kept : (a a' b c s t u y z : ℚ) → a ≤ℚ a' → a -ℚ b -ℚ c *ℚ (s -ℚ u) ≡ y → a' -ℚ b -ℚ c *ℚ (t -ℚ u) ≤ℚ z → c *ℚ s +ℚ y ≤ℚ c *ℚ t +ℚ z
-kept a a' b c s t u y z h e k = linear_le (a ∷ a' ∷ b ∷ c ∷ s ∷ t ∷ u ∷ y ∷ z ∷ []) (le h ∷ eq e ∷ le k ∷ []) (search reading_of depth 12) tt
+kept a a' b c s t u y z h e k = linear_le (a ∷ a' ∷ b ∷ c ∷ s ∷ t ∷ u ∷ y ∷ z ∷ []) (le h ∷ eq e ∷ le k ∷ []) (search reading_of) tt
 
 pub IsQueue-keeps : (rate : ℚ) (amount : ℚ → ℚ) (s t y z : ℚ) → amount s ≤ℚ amount t → s ≤ℚ t → IsQueue (Some rate) amount s y → IsQueue (Some rate) amount t z → rate *ℚ s +ℚ y ≤ℚ rate *ℚ t +ℚ z
 IsQueue-keeps rate amount s t y z h k p q =
@@ -156,11 +152,11 @@ IsQueue-keeps rate amount s t y z h k p q =
     kept (amount s) (amount t) (amount g.taken.0) rate s t g.taken.0 y z h g.taken.2 ((q.bounded rate refl).bound g.taken.0 (g.taken.1.0, ≤ℚ_trans _ _ _ g.taken.1.1 k))
 
 exit_order : (c s t r y z u v : ℚ) → c *ℚ s +ℚ y ≤ℚ c *ℚ t +ℚ z → u *ℚ c ≡ y → v *ℚ c ≡ z → c *ℚ (s +ℚ r +ℚ u) ≤ℚ c *ℚ (t +ℚ r +ℚ v)
-exit_order c s t r y z u v h e f = linear_le (c ∷ s ∷ t ∷ r ∷ y ∷ z ∷ u ∷ v ∷ []) (le h ∷ eq e ∷ eq f ∷ []) (search reading_of depth 12) tt
+exit_order c s t r y z u v h e f = linear_le (c ∷ s ∷ t ∷ r ∷ y ∷ z ∷ u ∷ v ∷ []) (le h ∷ eq e ∷ eq f ∷ []) (search reading_of) tt
 
 exit_sums : (transit : ℚ) (capacity : Option ℚ) (amount : ℚ → ℚ) (s t y z : ℚ) → IsPositive capacity → NeverFalls amount → s ≤ℚ t → IsQueue capacity amount s y → IsQueue capacity amount t z
     → s +ℚ transit +ℚ waiting capacity y ≤ℚ t +ℚ transit +ℚ waiting capacity z
-exit_sums transit None amount s t y z c rises k p q = linear_le (s ∷ t ∷ transit ∷ []) (le k ∷ []) (search reading_of depth 12) tt
+exit_sums transit None amount s t y z c rises k p q = linear_le (s ∷ t ∷ transit ∷ []) (le k ∷ []) (search reading_of) tt
 exit_sums transit (Some rate) amount s t y z c rises k p q =
     le_from_times rate _ _ (c rate refl) (exit_order rate s t transit y z _ _
     (IsQueue-keeps rate amount s t y z (rises s t (IsGreatest-order _ _ _ _ (p.bounded rate refl)) k) k p q) (quotient-times y rate (c rate refl)) (quotient-times z rate (c rate refl)))
@@ -196,13 +192,10 @@ IsQueue-same capacity f g time y e p = record {
 pub IsExit-same : (transit : ℚ) (capacity : Option ℚ) (f g : ℚ → ℚ) (time exit : ℚ) → ((t : ℚ) → Within 0ℚ time t → f t ≡ g t) → IsExit transit capacity f time exit → IsExit transit capacity g time exit
 IsExit-same transit capacity f g time exit e p = record { queue = p.queue; is_queue = IsQueue-same capacity f g time p.queue e p.is_queue; is_sum = p.is_sum }
 
-in_time : (t r : ℚ) → r ≤ℚ t → 0ℚ ≤ℚ t -ℚ r
-in_time t r h = linear_le (t ∷ r ∷ []) (le h ∷ []) (search reading_of depth 12) tt
-
 pub IsOutflow-same : (transit : ℚ) (capacity : Option ℚ) (f g : ℚ → ℚ) (time out : ℚ) → ((t : ℚ) → Within 0ℚ (time -ℚ transit) t → f t ≡ g t)
     → IsOutflow transit capacity f time out → IsOutflow transit capacity g time out
 IsOutflow-same transit capacity f g time out e p = record {
   early = p.early;
-  unbounded = λ l none. p.unbounded l none ∙ e (time -ℚ transit) (in_time time transit l, ≤ℚ_refl _);
+  unbounded = λ l none. p.unbounded l none ∙ e (time -ℚ transit) (less_nn transit time l, ≤ℚ_refl _);
   bounded = λ rate l some. IsLeast-same _ _ 0ℚ (time -ℚ transit) out (λ t w. ap (λ (x : ℚ). x +ℚ rate *ℚ (time -ℚ transit -ℚ t)) (e t w)) (p.bounded rate l some);
 }

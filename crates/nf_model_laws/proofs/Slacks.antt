@@ -57,7 +57,7 @@ slack_of_resetting net labels e link p h = ⊎_elim
 
 -- ---- labels and slacks that move
 none_moved : (while : ℚ) → 0ℚ ≡ 0ℚ +ℚ while *ℚ 0ℚ
-none_moved while = linear_eq (while ∷ []) [] (search reading_of depth 12) tt tt
+none_moved while = linear_eq (while ∷ []) [] (search reading_of) tt tt
 
 pub moved-at : (labels slopes : List ℚ) (while : ℚ) (v : ℕ) → length labels ≡ length slopes → number_at (moved labels slopes while) v ≡ number_at labels v +ℚ while *ℚ number_at slopes v
 moved-at [] [] while v e = none_moved while
@@ -73,7 +73,7 @@ length-moved (l ∷ labels) [] while e = absurd (cc)
 length-moved (l ∷ labels) (s ∷ slopes) while e = ap suc (length-moved labels slopes while (cc))
 
 slack_line : (s a b l m n k t w : ℚ) → s ≡ a -ℚ (b +ℚ t) → m ≡ a +ℚ w *ℚ l → n ≡ b +ℚ w *ℚ k → s +ℚ w *ℚ (l -ℚ k) ≡ m -ℚ (n +ℚ t)
-slack_line s a b l m n k t w e f g = linear_eq (s ∷ a ∷ b ∷ l ∷ m ∷ n ∷ k ∷ t ∷ w ∷ []) (eq e ∷ eq f ∷ eq g ∷ []) (search reading_of depth 12) tt tt
+slack_line s a b l m n k t w e f g = linear_eq (s ∷ a ∷ b ∷ l ∷ m ∷ n ∷ k ∷ t ∷ w ∷ []) (eq e ∷ eq f ∷ eq g ∷ []) (search reading_of) tt tt
 
 -- the slack after a while is the slack at the labels that have moved for a while
 pub slack_after-moved : (net : Network) (labels slopes : List ℚ) (e : ℕ) (link : Link) (while : ℚ) → IsLink net e link → length labels ≡ length slopes

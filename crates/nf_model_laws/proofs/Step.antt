@@ -15,23 +15,23 @@ use Rattle.nf_rational_laws.proofs.Chains.{≤ℚ_refl, ≤ℚ_trans}
 
 -- what each earlier time gives, over plain numbers: a is the amount at the start, b at the earlier time u, d at x
 from_before : (r c s x u q z a b d : ℚ) → d ≡ a +ℚ r *ℚ (x -ℚ s) → a -ℚ b -ℚ c *ℚ (s -ℚ u) ≤ℚ q → q +ℚ (r -ℚ c) *ℚ (x -ℚ s) ≤ℚ z → d -ℚ b -ℚ c *ℚ (x -ℚ u) ≤ℚ z
-from_before r c s x u q z a b d e h k = linear_le (r ∷ c ∷ s ∷ x ∷ u ∷ q ∷ z ∷ a ∷ b ∷ d ∷ []) (eq e ∷ le h ∷ le k ∷ []) (search reading_of depth 12) tt
+from_before r c s x u q z a b d e h k = linear_le (r ∷ c ∷ s ∷ x ∷ u ∷ q ∷ z ∷ a ∷ b ∷ d ∷ []) (eq e ∷ le h ∷ le k ∷ []) (search reading_of) tt
 
 slower : (r c s x u z a b d : ℚ) → d ≡ a +ℚ r *ℚ (x -ℚ s) → b ≡ a +ℚ r *ℚ (u -ℚ s) → r ≤ℚ c → u ≤ℚ x → 0ℚ ≤ℚ z → d -ℚ b -ℚ c *ℚ (x -ℚ u) ≤ℚ z
 slower r c s x u z a b d e f h k n =
-    let run : 0ℚ ≤ℚ x -ℚ u = linear_le (x ∷ u ∷ []) (le k ∷ []) (search reading_of depth 12) tt in
-    linear_le (r ∷ c ∷ s ∷ x ∷ u ∷ z ∷ a ∷ b ∷ d ∷ []) (eq e ∷ eq f ∷ le n ∷ le_times run h ∷ []) (search reading_of depth 12) tt
+    let run : 0ℚ ≤ℚ x -ℚ u = linear_le (x ∷ u ∷ []) (le k ∷ []) (search reading_of) tt in
+    linear_le (r ∷ c ∷ s ∷ x ∷ u ∷ z ∷ a ∷ b ∷ d ∷ []) (eq e ∷ eq f ∷ le n ∷ le_times run h ∷ []) (search reading_of) tt
 
 faster : (r c s x u q z a b d : ℚ) → d ≡ a +ℚ r *ℚ (x -ℚ s) → b ≡ a +ℚ r *ℚ (u -ℚ s) → c ≤ℚ r → s ≤ℚ u → 0ℚ ≤ℚ q → q +ℚ (r -ℚ c) *ℚ (x -ℚ s) ≤ℚ z → d -ℚ b -ℚ c *ℚ (x -ℚ u) ≤ℚ z
 faster r c s x u q z a b d e f h k n m =
-    let over : 0ℚ ≤ℚ r -ℚ c = linear_le (r ∷ c ∷ []) (le h ∷ []) (search reading_of depth 12) tt in
-    linear_le (r ∷ c ∷ s ∷ x ∷ u ∷ q ∷ z ∷ a ∷ b ∷ d ∷ []) (eq e ∷ eq f ∷ le n ∷ le m ∷ le_times over k ∷ []) (search reading_of depth 12) tt
+    let over : 0ℚ ≤ℚ r -ℚ c = linear_le (r ∷ c ∷ []) (le h ∷ []) (search reading_of) tt in
+    linear_le (r ∷ c ∷ s ∷ x ∷ u ∷ q ∷ z ∷ a ∷ b ∷ d ∷ []) (eq e ∷ eq f ∷ le n ∷ le m ∷ le_times over k ∷ []) (search reading_of) tt
 
 taken_before : (r c s x u q a b d : ℚ) → d ≡ a +ℚ r *ℚ (x -ℚ s) → a -ℚ b -ℚ c *ℚ (s -ℚ u) ≡ q → d -ℚ b -ℚ c *ℚ (x -ℚ u) ≡ q +ℚ (r -ℚ c) *ℚ (x -ℚ s)
-taken_before r c s x u q a b d e f = linear_eq (r ∷ c ∷ s ∷ x ∷ u ∷ q ∷ a ∷ b ∷ d ∷ []) (eq e ∷ eq f ∷ []) (search reading_of depth 12) tt tt
+taken_before r c s x u q a b d e f = linear_eq (r ∷ c ∷ s ∷ x ∷ u ∷ q ∷ a ∷ b ∷ d ∷ []) (eq e ∷ eq f ∷ []) (search reading_of) tt tt
 
 taken_now : (c x d : ℚ) → d -ℚ d -ℚ c *ℚ (x -ℚ x) ≡ 0ℚ
-taken_now c x d = linear_eq (c ∷ x ∷ d ∷ []) [] (search reading_of depth 12) tt tt
+taken_now c x d = linear_eq (c ∷ x ∷ d ∷ []) [] (search reading_of) tt tt
 
 -- what each time up to now gives
 abbrev ahead : ℚ → (ℚ → ℚ) → ℚ → ℚ → ℚ
@@ -82,7 +82,7 @@ IsQueue-after (Some capacity) amount start end rate queue time line before h k =
 
 -- ---- at the beginning
 no_gain : (a c t : ℚ) → a -ℚ a -ℚ c *ℚ (t -ℚ t) ≡ 0ℚ
-no_gain a c t = linear_eq (a ∷ c ∷ t ∷ []) [] (search reading_of depth 12) tt tt
+no_gain a c t = linear_eq (a ∷ c ∷ t ∷ []) [] (search reading_of) tt tt
 
 -- at time 0 nothing waits
 pub IsQueue-at_0 : (capacity : Option ℚ) (amount : ℚ → ℚ) → IsQueue capacity amount 0ℚ 0ℚ

@@ -12,7 +12,7 @@ use Rattle.nf_rational_laws.proofs.Order.{lt_or_le_ℚ, <ℚ_irrefl}
 use Rattle.std.proofs.lemmas.Option.{same_Some}
 
 -- ---- the same terms
-if_same : (b : Bool) (a c s t : ℚ) → (b ≡ true → a ≡ c) → s ≡ t → (if b then a +ℚ s else s) ≡ (if b then c +ℚ t else t)
+pub if_same : (b : Bool) (a c s t : ℚ) → (b ≡ true → a ≡ c) → s ≡ t → (if b then a +ℚ s else s) ≡ (if b then c +ℚ t else t)
 if_same true a c s t e f = let d : a ≡ c = e refl in cc
 if_same false a c s t e f = f
 
@@ -26,7 +26,7 @@ sum_out-same (link ∷ links) f g v h = if_same (eqb link.tail v) (f 0) (g 0) _ 
 
 -- ---- no term
 if_none : (b : Bool) (s : ℚ) → s ≡ 0ℚ → (if b then 0ℚ +ℚ s else s) ≡ 0ℚ
-if_none true s e = linear_eq (s ∷ []) (eq e ∷ []) (search reading_of depth 12) tt tt
+if_none true s e = linear_eq (s ∷ []) (eq e ∷ []) (search reading_of) tt tt
 if_none false s e = e
 
 pub sum_in-none : (links : List Link) (v : ℕ) → sum_in links (λ _. 0ℚ) v ≡ 0ℚ
@@ -39,20 +39,20 @@ sum_out-none (link ∷ links) v = if_none (eqb link.tail v) _ (sum_out-none link
 
 -- ---- terms that move along lines
 if_line : (b : Bool) (a c s y z t : ℚ) → s ≡ y +ℚ z *ℚ t → (if b then (a +ℚ c *ℚ t) +ℚ s else s) ≡ (if b then a +ℚ y else y) +ℚ (if b then c +ℚ z else z) *ℚ t
-if_line true a c s y z t e = linear_eq (a ∷ c ∷ s ∷ y ∷ z ∷ t ∷ []) (eq e ∷ []) (search reading_of depth 12) tt tt
+if_line true a c s y z t e = linear_eq (a ∷ c ∷ s ∷ y ∷ z ∷ t ∷ []) (eq e ∷ []) (search reading_of) tt tt
 if_line false a c s y z t e = e
 
 pub sum_in-line : (links : List Link) (f g : ℕ → ℚ) (t : ℚ) (v : ℕ) → sum_in links (λ e. f e +ℚ g e *ℚ t) v ≡ sum_in links f v +ℚ sum_in links g v *ℚ t
-sum_in-line [] f g t v = linear_eq (t ∷ []) [] (search reading_of depth 12) tt tt
+sum_in-line [] f g t v = linear_eq (t ∷ []) [] (search reading_of) tt tt
 sum_in-line (link ∷ links) f g t v = if_line (eqb link.head v) (f 0) (g 0) _ _ _ t (sum_in-line links (λ e. f (suc e)) (λ e. g (suc e)) t v)
 
 pub sum_out-line : (links : List Link) (f g : ℕ → ℚ) (t : ℚ) (v : ℕ) → sum_out links (λ e. f e +ℚ g e *ℚ t) v ≡ sum_out links f v +ℚ sum_out links g v *ℚ t
-sum_out-line [] f g t v = linear_eq (t ∷ []) [] (search reading_of depth 12) tt tt
+sum_out-line [] f g t v = linear_eq (t ∷ []) [] (search reading_of) tt tt
 sum_out-line (link ∷ links) f g t v = if_line (eqb link.tail v) (f 0) (g 0) _ _ _ t (sum_out-line links (λ e. f (suc e)) (λ e. g (suc e)) t v)
 
 -- ---- order
-if_order : (b : Bool) (a c s t : ℚ) → (b ≡ true → a ≤ℚ c) → s ≤ℚ t → (if b then a +ℚ s else s) ≤ℚ (if b then c +ℚ t else t)
-if_order true a c s t h k = let l : a ≤ℚ c = h refl in linear_le (a ∷ c ∷ s ∷ t ∷ []) (le l ∷ le k ∷ []) (search reading_of depth 12) tt
+pub if_order : (b : Bool) (a c s t : ℚ) → (b ≡ true → a ≤ℚ c) → s ≤ℚ t → (if b then a +ℚ s else s) ≤ℚ (if b then c +ℚ t else t)
+if_order true a c s t h k = let l : a ≤ℚ c = h refl in linear_le (a ∷ c ∷ s ∷ t ∷ []) (le l ∷ le k ∷ []) (search reading_of) tt
 if_order false a c s t h k = k
 
 pub sum_in-order : (links : List Link) (f g : ℕ → ℚ) (v : ℕ) → ((e : ℕ) (link : Link) → slice_get links e ≡ Some link → link.head ≡ v → f e ≤ℚ g e) → sum_in links f v ≤ℚ sum_in links g v
@@ -64,7 +64,7 @@ sum_out-order [] f g v h = ≤ℚ_refl 0ℚ
 sum_out-order (link ∷ links) f g v h = if_order (eqb link.tail v) (f 0) (g 0) _ _ (λ e. h 0 link refl (eqb-true link.tail v e)) (sum_out-order links (λ e. f (suc e)) (λ e. g (suc e)) v (λ e l s. h (suc e) l s))
 
 if_nn : (b : Bool) (a s : ℚ) → 0ℚ ≤ℚ a → 0ℚ ≤ℚ s → 0ℚ ≤ℚ (if b then a +ℚ s else s)
-if_nn true a s h k = linear_le (a ∷ s ∷ []) (le h ∷ le k ∷ []) (search reading_of depth 12) tt
+if_nn true a s h k = linear_le (a ∷ s ∷ []) (le h ∷ le k ∷ []) (search reading_of) tt
 if_nn false a s h k = k
 
 pub sum_in-nn : (links : List Link) (f : ℕ → ℚ) (v : ℕ) → ((e : ℕ) → 0ℚ ≤ℚ f e) → 0ℚ ≤ℚ sum_in links f v
@@ -77,11 +77,11 @@ sum_out-nn (link ∷ links) f v n = if_nn (eqb link.tail v) (f 0) _ (n 0) (sum_o
 
 -- ---- where no term is negative, each is at most the sum
 if_rest : (b : Bool) (a s y : ℚ) → 0ℚ ≤ℚ a → y ≤ℚ s → y ≤ℚ (if b then a +ℚ s else s)
-if_rest true a s y h k = linear_le (a ∷ s ∷ y ∷ []) (le h ∷ le k ∷ []) (search reading_of depth 12) tt
+if_rest true a s y h k = linear_le (a ∷ s ∷ y ∷ []) (le h ∷ le k ∷ []) (search reading_of) tt
 if_rest false a s y h k = k
 
 if_first : (b : Bool) (a s : ℚ) → b ≡ true → 0ℚ ≤ℚ s → a ≤ℚ (if b then a +ℚ s else s)
-if_first true a s e h = linear_le (a ∷ s ∷ []) (le h ∷ []) (search reading_of depth 12) tt
+if_first true a s e h = linear_le (a ∷ s ∷ []) (le h ∷ []) (search reading_of) tt
 if_first false a s e h = absurd (cc)
 
 pub sum_in-each : (links : List Link) (f : ℕ → ℚ) (v : ℕ) → ((e : ℕ) → 0ℚ ≤ℚ f e) → (e : ℕ) (link : Link) → slice_get links e ≡ Some link → link.head ≡ v → f e ≤ℚ sum_in links f v
@@ -98,7 +98,7 @@ sum_out-each (l ∷ links) f v n (suc e) link p at = if_rest (eqb l.tail v) (f 0
 if_some : (b : Bool) (a s : ℚ) → 0ℚ <ℚ (if b then a +ℚ s else s) → ((b ≡ true) × (0ℚ <ℚ a)) ⊎ (0ℚ <ℚ s)
 if_some true a s h = ⊎_elim
     (λ (k : 0ℚ <ℚ a). inl (refl, k))
-    (λ (k : a ≤ℚ 0ℚ). inr (linear_lt (a ∷ s ∷ []) (lt h ∷ le k ∷ []) (search reading_of depth 12) tt))
+    (λ (k : a ≤ℚ 0ℚ). inr (linear_lt (a ∷ s ∷ []) (lt h ∷ le k ∷ []) (search reading_of) tt))
     (lt_or_le_ℚ 0ℚ a)
 if_some false a s h = inr h
 

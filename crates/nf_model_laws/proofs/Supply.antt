@@ -12,6 +12,7 @@ use Rattle.nf_model.specs.Network.{Piece, ArePieces, time_in, supplied, rate_fro
 use Rattle.nf_model_laws.specs.SupplyLaws.{NoStartBetween}
 use Rattle.nf_rational_laws.proofs.Chains.{≤ℚ_refl, ≤ℚ_trans}
 use Rattle.nf_rational_laws.proofs.Extremes.{min_left, max_left, min_is_left, min_is_right, max_keeps, min_right, max_right, min_keeps}
+use Rattle.nf_rational_laws.proofs.Facts.{gap_np, term_and_zero, less_le}
 
 -- each piece starts later than the one before
 abbrev pub StartsRise : List Piece → Type 0
@@ -35,9 +36,6 @@ time_in-before : (start : ℚ) (rest : List Piece) (time : ℚ) → NextFrom res
 time_in-before start [] time n = refl
 time_in-before start (q ∷ rest) time n = ap (λ (t : ℚ). max_ℚ 0ℚ (t -ℚ start)) (min_is_left time q.start n)
 
-gap_none : (s t : ℚ) → t ≤ℚ s → t -ℚ s ≤ℚ 0ℚ
-gap_none s t h = linear_le (s ∷ t ∷ []) (le h ∷ []) (search reading_of depth 12) tt
-
 -- before the first piece nothing is supplied
 next_after : (p : Piece) (rest : List Piece) (time : ℚ) → StartsRise (p ∷ rest) → time ≤ℚ p.start → NextFrom rest time
 next_after p [] time s h = tt
@@ -47,19 +45,16 @@ StartsRise-rest : (p : Piece) (rest : List Piece) → StartsRise (p ∷ rest) �
 StartsRise-rest p [] s = tt
 StartsRise-rest p (q ∷ rest) s = s.1
 
-nothing_of : (r x y : ℚ) → x ≡ 0ℚ → y ≡ 0ℚ → r *ℚ x +ℚ y ≡ 0ℚ
-nothing_of r x y e f = linear_eq (r ∷ x ∷ y ∷ []) (eq_times r e ∷ eq f ∷ []) (search reading_of depth 12) tt tt
-
 pub supplied-none : (pieces : List Piece) (time : ℚ) → StartsRise pieces → NextFrom pieces time → supplied pieces time ≡ 0ℚ
 supplied-none [] time s n = refl
-supplied-none (p ∷ rest) time s n = nothing_of p.rate _ _
-    (time_in-before p.start rest time (next_after p rest time s n) ∙ max0_none _ (gap_none p.start time n))
+supplied-none (p ∷ rest) time s n = term_and_zero p.rate _ _
+    (time_in-before p.start rest time (next_after p rest time s n) ∙ max0_none _ (gap_np time p.start n))
     (supplied-none rest time (StartsRise-rest p rest s) (next_after p rest time s n))
 
 rate_from-before : (before : ℚ) (pieces : List Piece) (time later : ℚ) → time <ℚ later → NextFrom pieces later → rate_from before pieces time ≡ before
 rate_from-before before [] time later h n = refl
 rate_from-before before (p ∷ rest) time later h n = ⊎_elim
-    (λ (w : (le_ℚ p.start time ≡ true) × (p.start ≤ℚ time)). absurd (linear_false (p.start ∷ time ∷ later ∷ []) (le w.1 ∷ le n ∷ lt h ∷ []) (search reading_of depth 12) tt))
+    (λ (w : (le_ℚ p.start time ≡ true) × (p.start ≤ℚ time)). absurd (linear_false (p.start ∷ time ∷ later ∷ []) (le w.1 ∷ le n ∷ lt h ∷ []) (search reading_of) tt))
     (λ (w : (le_ℚ p.start time ≡ false) × (time <ℚ p.start)). ap (λ (b : Bool). if b then rate_from p.rate rest time else before) w.0)
     (le_ℚ_cases p.start time)
 
@@ -75,10 +70,10 @@ NoneBetween [] time later = Unit {0}
 NoneBetween (p ∷ rest) time later = ((p.start ≤ℚ time) ⊎ (later ≤ℚ p.start)) × NoneBetween rest time later
 
 last_piece : (r s t u a b y z n m : ℚ) → a ≡ t -ℚ s → b ≡ u -ℚ s → y ≡ 0ℚ → z ≡ 0ℚ → n ≡ r → r *ℚ b +ℚ z ≡ (r *ℚ a +ℚ y) +ℚ n *ℚ (u -ℚ t)
-last_piece r s t u a b y z n m e f g h i = linear_eq (r ∷ s ∷ t ∷ u ∷ a ∷ b ∷ y ∷ z ∷ n ∷ []) (eq_times r e ∷ eq_times r f ∷ eq g ∷ eq h ∷ eq_times (u -ℚ t) i ∷ []) (search reading_of depth 12) tt tt
+last_piece r s t u a b y z n m e f g h i = linear_eq (r ∷ s ∷ t ∷ u ∷ a ∷ b ∷ y ∷ z ∷ n ∷ []) (eq_times r e ∷ eq_times r f ∷ eq g ∷ eq h ∷ eq_times (u -ℚ t) i ∷ []) (search reading_of) tt tt
 
 full_piece : (r a b y z n m t : ℚ) → a ≡ b → z ≡ y +ℚ m *ℚ t → n ≡ m → r *ℚ b +ℚ z ≡ (r *ℚ a +ℚ y) +ℚ n *ℚ t
-full_piece r a b y z n m t e f g = linear_eq (r ∷ a ∷ b ∷ y ∷ z ∷ n ∷ m ∷ t ∷ []) (eq_times r e ∷ eq f ∷ eq_times t g ∷ []) (search reading_of depth 12) tt tt
+full_piece r a b y z n m t e f g = linear_eq (r ∷ a ∷ b ∷ y ∷ z ∷ n ∷ m ∷ t ∷ []) (eq_times r e ∷ eq f ∷ eq_times t g ∷ []) (search reading_of) tt tt
 
 module _ (time later : ℚ) (h : time <ℚ later) where
   last : (before : ℚ) (p : Piece) (rest : List Piece) → StartsRise (p ∷ rest) → p.start ≤ℚ time → NextFrom rest later
@@ -104,7 +99,7 @@ module _ (time later : ℚ) (h : time <ℚ later) where
   step before p (q ∷ rest) s k (inr l, n) = last before p (q ∷ rest) s k l
 
   none_yet : (x y r t : ℚ) → x ≡ 0ℚ → y ≡ 0ℚ → r ≡ 0ℚ → x ≡ y +ℚ r *ℚ t
-  none_yet x y r t e f g = linear_eq (x ∷ y ∷ r ∷ t ∷ []) (eq e ∷ eq f ∷ eq_times t g ∷ []) (search reading_of depth 12) tt tt
+  none_yet x y r t e f g = linear_eq (x ∷ y ∷ r ∷ t ∷ []) (eq e ∷ eq f ∷ eq_times t g ∷ []) (search reading_of) tt tt
 
   pub supplied-step : (pieces : List Piece) → StartsRise pieces → NoneBetween pieces time later → supplied pieces later ≡ supplied pieces time +ℚ rate_from 0ℚ pieces time *ℚ (later -ℚ time)
   supplied-step [] s n = none_yet _ _ _ (later -ℚ time) refl refl refl
@@ -117,7 +112,7 @@ NoneBetween-from [] time later n = tt
 NoneBetween-from (p ∷ rest) time later n = (⊎_elim (λ (l : time <ℚ p.start). inr (n 0 p refl l)) (λ (l : p.start ≤ℚ time). inl l) (lt_or_le_ℚ time p.start), NoneBetween-from rest time later (λ i piece e. n (suc i) piece e))
 
 no_time : (y r t u : ℚ) → t ≡ u → y ≡ y +ℚ r *ℚ (u -ℚ t)
-no_time y r t u e = linear_eq (y ∷ r ∷ t ∷ u ∷ []) (eq_times r e ∷ []) (search reading_of depth 12) tt tt
+no_time y r t u e = linear_eq (y ∷ r ∷ t ∷ u ∷ []) (eq_times r e ∷ []) (search reading_of) tt tt
 
 pub supplied-goes_on : (pieces : List Piece) (time later : ℚ) → ArePieces pieces → time ≤ℚ later → NoStartBetween pieces time later
     → supplied pieces later ≡ supplied pieces time +ℚ rate_from 0ℚ pieces time *ℚ (later -ℚ time)
@@ -154,15 +149,12 @@ max0_order x y h = max_keeps (λ (z : ℚ). z ≤ℚ max_ℚ 0ℚ y) 0ℚ x (max
 min_order : (x y z : ℚ) → x ≤ℚ y → min_ℚ x z ≤ℚ min_ℚ y z
 min_order x y z h = min_keeps (λ (u : ℚ). min_ℚ x z ≤ℚ u) y z (≤ℚ_trans _ _ _ (min_left x z) h) (min_right x z)
 
-less_order : (x y s : ℚ) → x ≤ℚ y → x -ℚ s ≤ℚ y -ℚ s
-less_order x y s h = linear_le (x ∷ y ∷ s ∷ []) (le h ∷ []) (search reading_of depth 12) tt
-
 time_in-rises : (start : ℚ) (rest : List Piece) (s t : ℚ) → s ≤ℚ t → time_in start rest s ≤ℚ time_in start rest t
-time_in-rises start [] s t h = max0_order _ _ (less_order s t start h)
-time_in-rises start (q ∷ rest) s t h = max0_order _ _ (less_order _ _ start (min_order s t q.start h))
+time_in-rises start [] s t h = max0_order _ _ (less_le s t start h)
+time_in-rises start (q ∷ rest) s t h = max0_order _ _ (less_le _ _ start (min_order s t q.start h))
 
 sum_order : (r x y u v : ℚ) → 0ℚ ≤ℚ r → x ≤ℚ y → u ≤ℚ v → r *ℚ x +ℚ u ≤ℚ r *ℚ y +ℚ v
-sum_order r x y u v n h k = linear_le (r ∷ x ∷ y ∷ u ∷ v ∷ []) (le_times n h ∷ le k ∷ []) (search reading_of depth 12) tt
+sum_order r x y u v n h k = linear_le (r ∷ x ∷ y ∷ u ∷ v ∷ []) (le_times n h ∷ le k ∷ []) (search reading_of) tt
 
 pub supplied-rises : (pieces : List Piece) → ArePieces pieces → NeverFalls (supplied pieces)
 supplied-rises [] a s t h k = ≤ℚ_refl 0ℚ

@@ -2,11 +2,11 @@
 use Rattle.std.proofs.Common.{◌≡◌, ℕ, ◌<◌, ◌≤◌, ◌==◌, Bool, true, false, List, [], ◌∷◌, ◌++◌, length, map, slice_get, Some, refl, sym, ◌∙◌, ap, subst, inl, inr, arith, append-nil, map-id, bytes_eq, Ok}
 use Rattle.std.specs.Bool.{MatchBool, Decides}
 use Rattle.std.specs.List.{AllByRecursion, IsDistinct}
-use Rattle.nf_rational.specs.Rational.{ℚ}
 use Rattle.nf_rational.specs.Operations.{0ℚ}
-use Rattle.nf_rational.specs.Order.{◌≤ℚ◌, ◌<ℚ◌}
+use Rattle.nf_rational.specs.Order.{◌≤ℚ◌}
 use Rattle.nf_rational_laws.proofs.Polynomial.{reading_of}
-use Rattle.nf_rational_laws.proofs.Linear.{lt, eq, linear_false, linear_eq}
+use Rattle.nf_rational_laws.proofs.Linear.{eq, linear_eq}
+use Rattle.nf_rational_laws.proofs.Facts.{zero_not_above}
 use Rattle.nf_model.specs.Walk.{Hop, IsHop, IsWalk, transit_of, transit_sum, IsLeastTransit}
 use Rattle.nf_model.specs.Network.{Link, hop_of, hops}
 use Rattle.nf_net_def.specs.declared.NetRule.TheVariants.{N19}
@@ -37,10 +37,7 @@ positive_sum hops [] h = refl
 positive_sum hops (e ∷ walk) h =
     let k : transit_sum hops walk ≡ 0ℚ = positive_sum hops walk h.1 in
     let j : transit_of hops e ≡ 0ℚ = h.0 in
-    linear_eq (transit_of hops e ∷ transit_sum hops walk ∷ []) (eq j ∷ eq k ∷ []) (search reading_of depth 12) tt tt
-
-not_both : (x : ℚ) → x ≡ 0ℚ → 0ℚ <ℚ x → ⊥
-not_both x e h = linear_false (x ∷ []) (eq e ∷ lt h ∷ []) (search reading_of depth 12) tt
+    linear_eq (transit_of hops e ∷ transit_sum hops walk ∷ []) (eq j ∷ eq k ∷ []) (search reading_of) tt tt
 
 module _ (n : Named) (h : IsNamed n) where
   count_is : length n.node_names ≡ n.net.nodes
@@ -148,7 +145,7 @@ module _ (n : Named) (h : IsNamed n) where
   ]
 
   no_zero_cycle : HasZeroCycle (draft_of n) → ⊥
-  no_zero_cycle c = not_both (transit_sum (all_hops n) (c.first ∷ c.walk)) (positive_sum (all_hops n) (c.first ∷ c.walk) c.zero) (h.cycles c.first c.walk c.node c.closed)
+  no_zero_cycle c = zero_not_above (transit_sum (all_hops n) (c.first ∷ c.walk)) (positive_sum (all_hops n) (c.first ∷ c.walk) c.zero) (h.cycles c.first c.walk c.node c.closed)
 
   no_passing_sum : HasPassingSum (draft_of n) → ⊥
   no_passing_sum p =

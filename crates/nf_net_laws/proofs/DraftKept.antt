@@ -1,7 +1,7 @@
 -- Properties of the parser state, line by line.
-use Rattle.std.proofs.Common.{◌≡◌, ℕ, ◌+◌, ◌<◌, ◌≤◌, ◌⊎◌, ◌&&◌, ◌||◌, Bool, true, false, not, if◌then◌else◌, List, [], ◌∷◌, ◌++◌, length, nat_le, refl, sym, ◌∙◌, ap, subst, inl, inr, arith, bytes_eq, length-append, codes, Option, Some, None, Result, Ok, Err, is_some, unwrap_or}
+use Rattle.std.proofs.Common.{◌≡◌, ℕ, ◌+◌, ◌<◌, ◌≤◌, ◌⊎◌, ◌&&◌, ◌||◌, Bool, true, false, if◌then◌else◌, List, [], ◌∷◌, ◌++◌, length, nat_le, refl, sym, ◌∙◌, ap, subst, inl, inr, arith, bytes_eq, length-append, codes, Option, Some, None, Result, Ok, Err, is_some, unwrap_or}
 use Rattle.std.specs.List.{AllByRecursion, IsDistinct, last_or, list_all}
-use Rattle.std.proofs.lemmas.Bool.{and_parts, or_parts, leb-false, ltb-false}
+use Rattle.std.proofs.lemmas.Bool.{and_parts, or_parts, leb-false, ltb-false, or_left, or_right, not-false}
 use Rattle.nf_rational.specs.Rational.{ℚ}
 use Rattle.nf_rational.specs.Operations.{0ℚ}
 use Rattle.nf_rational.specs.Order.{◌≤ℚ◌, le_ℚ, lt_ℚ}
@@ -69,14 +69,6 @@ has_with_names names (x ∷ more) name =
     has_with_names (with_name names x) more name
     ∙ ap (λ (t : Bool). t || has_name more name) (has_with names x name (has_name names x) refl)
     ∙ or_swap (has_name names name) (bytes_eq name x) (has_name more name)
-
-pub or_left : (a b : Bool) → a ≡ true → (a || b) ≡ true
-or_left true b e = refl
-or_left false b e = absurd (cc)
-
-pub or_right : (a b : Bool) → b ≡ true → (a || b) ≡ true
-or_right true b e = refl
-or_right false b e = e
 
 pub still_there : (names more : List Name) (name : Name) → has_name names name ≡ true → has_name (with_names names more) name ≡ true
 still_there names more name h = has_with_names names more name ∙ or_left (has_name names name) (has_name more name) h
@@ -220,11 +212,7 @@ first_says_no false rule rest e = (refl, e)
 
 from_not_negative : (x : ℚ) → is_negative x ≡ false → 0ℚ ≤ℚ x
 unfolding lt_ℚ
-from_not_negative x e = le_of_test 0ℚ x (turned (le_ℚ 0ℚ x) e)
-  where
-    turned : (b : Bool) → not b ≡ false → b ≡ true
-    turned true e = refl
-    turned false e = absurd (cc)
+from_not_negative x e = le_of_test 0ℚ x (not-false (le_ℚ 0ℚ x) e)
 
 from_capacity : (version : ℕ) (capacity : Option ℚ) → IsReadCapacity version capacity → is_no_capacity capacity ≡ false → IsCapacity version capacity
 from_capacity version None h e = h

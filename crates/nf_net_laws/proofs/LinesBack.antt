@@ -2,7 +2,7 @@
 use Rattle.std.proofs.Common.{◌≡◌, ℕ, zero, suc, ◌+◌, ◌<◌, ◌≤◌, ◌⊎◌, ◌==◌, ◌&&◌, ◌||◌, Bool, true, false, not, if◌then◌else◌, List, [], ◌∷◌, ◌++◌, length, map, nat_lt, nat_le, nat_abs, refl, sym, ◌∙◌, ap, subst, inl, inr, arith, append_assoc, append-nil, bytes_eq, length-append, codes, Option, Some, None, Result, Ok, Err, option_map}
 use Rattle.std.specs.List.{AllByRecursion, IsDistinct, last_or, list_all}
 use Rattle.std.specs.Result.{result_ok}
-use Rattle.std.proofs.lemmas.Bool.{le-ltb, lt-leb, ltb-false, or_from, or_parts}
+use Rattle.std.proofs.lemmas.Bool.{le-ltb, lt-leb, ltb-false, or_from, or_parts, and_right}
 use Rattle.nf_rational.specs.Rational.{ℚ}
 use Rattle.nf_rational.specs.Operations.{0ℚ}
 use Rattle.nf_rational.specs.Order.{◌≤ℚ◌, ◌<ℚ◌, lt_ℚ}
@@ -58,12 +58,8 @@ capacity_in-word version None (inl e) h = absurd (h e)
 capacity_in-word version None (inr e) h = ap (λ v. capacity_in v (codes "inf")) e
 capacity_in-word version (Some q) v h =
     some_capacity q (not (version == 1) && bytes_eq (printed q) (codes "inf")) (number_in version (printed q))
-    (second (not (version == 1)) (bytes_eq (printed q) (codes "inf")) (printed_is_not_inf q (bytes_eq (printed q) (codes "inf")) h.0 refl))
+    (and_right (not (version == 1)) (bytes_eq (printed q) (codes "inf")) (printed_is_not_inf q (bytes_eq (printed q) (codes "inf")) h.0 refl))
     (number_in-printed version q h.0)
-  where
-    second : (a b : Bool) → b ≡ false → (a && b) ≡ false
-    second true b e = e
-    second false b e = refl
 
 -- ---- what a line says
 node_entry : (make : Name → Entry) (name : Name) → is_name name ≡ true → node_line make (name ∷ []) ≡ Ok (make name)

@@ -2,12 +2,11 @@
 use Rattle.std.proofs.Common.{◌≡◌, ℕ, zero, suc, ◌+◌, ◌≤◌, ◌||◌, ◌&&◌, Bool, true, false, not, if◌then◌else◌, List, [], ◌∷◌, ◌++◌, length, map, slice_get, Some, refl, sym, ◌∙◌, ap, subst, arith, bytes_eq}
 use Rattle.std.specs.Bool.{Decides}
 use Rattle.std.specs.List.{AllByRecursion, AllZip, IsDistinct, list_all}
-use Rattle.std.proofs.lemmas.Bool.{and_parts}
+use Rattle.std.proofs.lemmas.Bool.{and_parts, or_left, or_right}
 use Rattle.nf_net_def.specs.Names.{Name, has_name, with_name, with_names}
 use Rattle.nf_net_def.specs.Named.{NamedLink, names_of}
 use Rattle.nf_net_def.specs.NetClosing.{marked}
 use Rattle.nf_net_laws.proofs.NameFacts.{same_names, bytes_eq-self, bytes_eq-turned, with_name_there, with_name_new}
-use Rattle.nf_net_laws.proofs.DraftKept.{or_left, or_right}
 
 -- ---- entries
 module _ {X : Type 0} where

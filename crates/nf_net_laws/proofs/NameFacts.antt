@@ -1,13 +1,10 @@
 -- Names among others: whether one is there, its place, and names put behind others.
-use Rattle.std.proofs.Common.{◌≡◌, ℕ, zero, suc, ◌+◌, ◌<◌, ◌≤◌, ◌⊎◌, Bool, true, false, cond, not, ◌||◌, List, [], ◌∷◌, ◌++◌, length, filter, refl, sym, ◌∙◌, ap, subst, inl, inr, arith, append_assoc, append-nil, bytes_eq}
+use Rattle.std.proofs.Common.{◌≡◌, ℕ, zero, suc, ◌+◌, ◌<◌, ◌≤◌, Bool, true, false, cond, not, ◌||◌, List, [], ◌∷◌, ◌++◌, length, filter, refl, sym, ◌∙◌, ap, subst, arith, append_assoc, append-nil, bytes_eq}
 use Rattle.std.specs.List.{AllByRecursion, IsDistinct}
 use Rattle.std.proofs.lemmas.Slice.Eq.{bytes_eq-Decides}
 use Rattle.std.proofs.lemmas.List.Folds.{list_any-append}
+use Rattle.std.proofs.lemmas.Bool.{or_left, or_right}
 use Rattle.nf_net_def.specs.Names.{Name, has_name, place_of, name_at, with_name, with_names, without}
-
-pub decided : (b : Bool) → (b ≡ true) ⊎ (b ≡ false)
-decided true = inl refl
-decided false = inr refl
 
 -- ---- equal names
 pub same_names : (a b : Name) → bytes_eq a b ≡ true → a ≡ b
@@ -36,18 +33,10 @@ all_at P (x ∷ xs) (suc i) h lt = all_at P xs i h.1 (omega arith)
 pub has_name-append : (xs ys : List Name) (name : Name) → has_name (xs ++ ys) name ≡ (has_name xs name || has_name ys name)
 has_name-append xs ys name = list_any-append (bytes_eq name) xs ys
 
-either : (a b : Bool) → a ≡ true → (a || b) ≡ true
-either true b e = refl
-either false b e = absurd (cc)
-
 pub has_at : (names : List Name) (i : ℕ) → i < length names → has_name names (name_at names i) ≡ true
 has_at [] i lt = absurd (omega arith)
-has_at (x ∷ xs) zero lt = either (bytes_eq x x) (has_name xs x) (bytes_eq-self x)
-has_at (x ∷ xs) (suc i) lt = later (bytes_eq (name_at xs i) x) (has_name xs (name_at xs i)) (has_at xs i (omega arith))
-  where
-    later : (a b : Bool) → b ≡ true → (a || b) ≡ true
-    later true b e = refl
-    later false b e = e
+has_at (x ∷ xs) zero lt = or_left (bytes_eq x x) (has_name xs x) (bytes_eq-self x)
+has_at (x ∷ xs) (suc i) lt = or_right (bytes_eq (name_at xs i) x) (has_name xs (name_at xs i)) (has_at xs i (omega arith))
 
 -- a name that differs from each isn't there
 pub has_none : (names : List Name) (name : Name) → AllByRecursion (λ y. bytes_eq name y ≡ false) names → has_name names name ≡ false

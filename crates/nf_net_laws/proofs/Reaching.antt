@@ -2,11 +2,10 @@
 use Rattle.std.proofs.Common.{◌≡◌, ℕ, zero, suc, ◌+◌, ◌<◌, ◌≤◌, ◌++◌, ◌==◌, ◌&&◌, ◌||◌, Bool, true, false, not, List, [], ◌∷◌, length, slice_get, Some, refl, sym, ◌∙◌, ap, subst, inl, inr, arith}
 use Rattle.std.specs.Bool.{Decides}
 use Rattle.std.specs.List.{AllByRecursion, list_all, list_any}
-use Rattle.std.proofs.lemmas.Bool.{and_parts, or_cases, eqb-true, eq-eqb}
+use Rattle.std.proofs.lemmas.Bool.{and_parts, or_cases, eqb-true, eq-eqb, or_left, or_right}
+use Rattle.nf_rational_laws.proofs.Results.{true_or_false}
 use Rattle.nf_model.specs.Walk.{Hop, IsWalk}
-use Rattle.nf_net_laws.proofs.NameFacts.{decided}
 use Rattle.nf_net_laws.proofs.WalkFacts.{walk_push, entry_all}
-use Rattle.nf_net_laws.proofs.DraftKept.{or_left, or_right}
 
 -- an entry that passes a test
 pub record FoundEntry {X : Type 0} (test : X → Bool) (xs : List X) : Type 0 where
@@ -119,7 +118,7 @@ module _ (hops : List Hop) (u : ℕ) where
   search_closed : (fuel : ℕ) (S : ℕ → Bool) → IsSound S → length hops < fuel + heads_in S hops → Closure
   unfolding grown leads
   search_closed zero S h room = let most : heads_in S hops ≤ length hops = at_most_all S hops in absurd (omega arith)
-  search_closed (suc fuel) S h room = elim (decided (list_all (stays_in S) hops)) [
+  search_closed (suc fuel) S h room = elim (true_or_false (list_all (stays_in S) hops)) [
     | inl e ↦ record { set = S; sound = h; closed = e }
     | inr e ↦ search_closed fuel (grown S) (sound_grown S h)
         (let k : suc (heads_in S hops) ≤ heads_in (grown S) hops = grows S (grown S) (λ v f. or_left (S v) (list_any (leads S v) hops) f) hops (into_grown S hops (λ e h is. (e, is))) e in omega arith)

@@ -1,7 +1,7 @@
 -- Least transit sums exist: nodes are settled one by one, each time at the cheapest hop that leads out of the settled ones.
 use Rattle.std.proofs.Common.{◌≡◌, ℕ, zero, suc, ◌+◌, ◌<◌, ◌≤◌, ◌⊎◌, ◌==◌, ◌&&◌, ◌||◌, ◌++◌, Bool, true, false, not, if◌then◌else◌, List, [], ◌∷◌, length, slice_get, Some, refl, sym, ◌∙◌, ap, subst, inl, inr, arith}
 use Rattle.std.specs.List.{AllByRecursion, list_all}
-use Rattle.std.proofs.lemmas.Bool.{and_parts, eqb-true, eq-eqb}
+use Rattle.std.proofs.lemmas.Bool.{and_parts, eqb-true, eq-eqb, or_left, or_right}
 use Rattle.nf_rational.specs.Rational.{ℚ}
 use Rattle.nf_rational.specs.Operations.{0ℚ, ◌+ℚ◌}
 use Rattle.nf_rational.specs.Order.{◌≤ℚ◌}
@@ -10,7 +10,6 @@ use Rattle.nf_rational_laws.proofs.Order.{lt_or_le_ℚ, ≤ℚ_of_lt, ≤ℚ_of_
 use Rattle.nf_rational_laws.proofs.Linear.{le, eq, linear_le, linear_eq}
 use Rattle.nf_model.specs.Walk.{Hop, IsHop, IsWalk, transit_of, transit_sum, IsLeastTransit}
 use Rattle.nf_net_laws.proofs.WalkFacts.{walk_push, entry_all, transit_sum_nn}
-use Rattle.nf_net_laws.proofs.DraftKept.{or_left, or_right}
 use Rattle.nf_net_laws.proofs.Reaching.{heads_in, at_most_all, stays_in, one_more_head, stays_closed}
 use Rattle.nf_rational_laws.proofs.Chains.{≤ℚ_trans}
 use Rattle.nf_model_laws.proofs.Networks.{transit_of-hop}
@@ -26,10 +25,10 @@ module _ (hops : List Hop) (positive : (e : ℕ) (hop : Hop) → IsHop hops e ho
   sum_push : (walk : List ℕ) (e : ℕ) (hop : Hop) → IsHop hops e hop → transit_sum hops (walk ++ e ∷ []) ≡ transit_sum hops walk +ℚ hop.transit
   sum_push [] e hop is =
       let t : transit_of hops e ≡ hop.transit = transit_of-hop hops e hop is in
-      linear_eq (transit_of hops e ∷ hop.transit ∷ []) (eq t ∷ []) (search reading_of depth 12) tt tt
+      linear_eq (transit_of hops e ∷ hop.transit ∷ []) (eq t ∷ []) (search reading_of) tt tt
   sum_push (f ∷ walk) e hop is =
       let t : transit_sum hops (walk ++ e ∷ []) ≡ transit_sum hops walk +ℚ hop.transit = sum_push walk e hop is in
-      linear_eq (transit_of hops f ∷ transit_sum hops (walk ++ e ∷ []) ∷ transit_sum hops walk ∷ hop.transit ∷ []) (eq t ∷ []) (search reading_of depth 12) tt tt
+      linear_eq (transit_of hops f ∷ transit_sum hops (walk ++ e ∷ []) ∷ transit_sum hops walk ∷ hop.transit ∷ []) (eq t ∷ []) (search reading_of) tt tt
 
   module _ (s : Settled) where
     cost : Hop → ℚ
@@ -106,14 +105,14 @@ module _ (hops : List Hop) (positive : (e : ℕ) (hop : Hop) → IsHop hops e ho
         let t : transit_of hops e ≡ h.transit = transit_of-hop hops e h is in
         let p : transit_sum hops (front ++ e ∷ []) ≡ transit_sum hops front +ℚ h.transit = sum_push front e h is in
         let k : cost c.hop ≤ℚ (transit_sum hops (front ++ e ∷ []) +ℚ transit_sum hops walk) = later f in
-        linear_le (cost c.hop ∷ transit_sum hops (front ++ e ∷ []) ∷ transit_sum hops front ∷ transit_sum hops walk ∷ transit_of hops e ∷ h.transit ∷ []) (eq t ∷ eq p ∷ le k ∷ []) (search reading_of depth 14) tt
+        linear_le (cost c.hop ∷ transit_sum hops (front ++ e ∷ []) ∷ transit_sum hops front ∷ transit_sum hops walk ∷ transit_of hops e ∷ h.transit ∷ []) (eq t ∷ eq p ∷ le k ∷ []) (search reading_of) tt
     leaving c front walk a b e h w here is from rest false f later =
         let t : transit_of hops e ≡ h.transit = transit_of-hop hops e h is in
         let tail : s.set h.tail ≡ true = ap s.set from ∙ here in
         let k : cost c.hop ≤ℚ (s.label h.tail +ℚ h.transit) = entry_all (λ g. s.set g.tail ≡ true → s.set g.head ≡ false → cost c.hop ≤ℚ cost g) hops e h c.least is tail f in
         let j : s.label h.tail ≤ℚ transit_sum hops front = (s.least h.tail tail).bound front (subst (IsWalk hops front u) (sym from) w) in
         let n : 0ℚ ≤ℚ transit_sum hops walk = transit_sum_nn hops positive walk h.head b rest in
-        linear_le (cost c.hop ∷ s.label h.tail ∷ transit_sum hops front ∷ transit_sum hops walk ∷ transit_of hops e ∷ h.transit ∷ []) (eq t ∷ le k ∷ le j ∷ le n ∷ []) (search reading_of depth 14) tt
+        linear_le (cost c.hop ∷ s.label h.tail ∷ transit_sum hops front ∷ transit_sum hops walk ∷ transit_of hops e ∷ h.transit ∷ []) (eq t ∷ le k ∷ le j ∷ le n ∷ []) (search reading_of) tt
 
     leads_out : (c : Cheapest hops) (front walk : List ℕ) (a b : ℕ) → IsWalk hops front u a → s.set a ≡ true → IsWalk hops walk a b → s.set b ≡ false
         → cost c.hop ≤ℚ (transit_sum hops front +ℚ transit_sum hops walk)
@@ -134,7 +133,7 @@ module _ (hops : List Hop) (positive : (e : ℕ) (hop : Hop) → IsHop hops e ho
             sum_push to.taken.0 c.place c.hop c.is_hop ∙ (λ i. to.taken.2 i +ℚ c.hop.transit),
           );
           bound = λ walk w. (let k : cost c.hop ≤ℚ (0ℚ +ℚ transit_sum hops walk) = leads_out c [] walk u c.hop.head refl s.start w c.head in
-              linear_le (cost c.hop ∷ transit_sum hops walk ∷ []) (le k ∷ []) (search reading_of depth 12) tt);
+              linear_le (cost c.hop ∷ transit_sum hops walk ∷ []) (le k ∷ []) (search reading_of) tt);
         }
 
     more_set : Cheapest hops → ℕ → Bool

@@ -22,7 +22,7 @@ use Rattle.nf_net_def.specs.Named.{NamedLink, Named, numbered}
 use Rattle.nf_net_def.specs.NetLines.{Broken, Draft, draft_from}
 use Rattle.nf_net_def.specs.NetClosing.{draft_hops, sink_name, source_place, IsReached, LeavesUnreached, HasZeroCycle, HasPassingSum, Breaks, closing_rules, IsFirst, marked, network_of}
 use Rattle.nf_net_def.specs.NetFile.{as_rule, Closes, by_lines, by_bytes, Reads}
-use Rattle.nf_net_laws.proofs.NameFacts.{decided, same_names, bytes_eq-self, place_below}
+use Rattle.nf_net_laws.proofs.NameFacts.{same_names, bytes_eq-self, place_below}
 use Rattle.nf_net_laws.proofs.WalkFacts.{CameFrom, came_from, entry_all}
 use Rattle.nf_net_laws.proofs.DraftKept.{IsGoodDraft, draft_kept}
 use Rattle.nf_net_laws.proofs.AcceptedNodes.{ends_of_each}
@@ -30,6 +30,7 @@ use Rattle.nf_net_laws.proofs.AcceptedWalks.{file_transits}
 use Rattle.nf_net_laws.proofs.Reaching.{FoundEntry, found, any_there, stays_closed, closure, reaching}
 use Rattle.nf_net_laws.proofs.Settling.{AllSettled, all_settled}
 use Rattle.nf_rational_laws.proofs.Entries.{slice_get-image}
+use Rattle.nf_rational_laws.proofs.Results.{true_or_false}
 use Rattle.nf_model_laws.proofs.Networks.{transit_of-hop}
 
 -- ---- the first of some rules that are decided
@@ -54,7 +55,7 @@ same_option : (a b : Option Name) → (a ≡ b) ⊎ (¬ (a ≡ b))
 same_option None None = inl refl
 same_option None (Some y) = inr (λ e. absurd (cc))
 same_option (Some x) None = inr (λ e. absurd (cc))
-same_option (Some x) (Some y) = elim (decided (bytes_eq x y)) [
+same_option (Some x) (Some y) = elim (true_or_false (bytes_eq x y)) [
   | inl e ↦ inl (ap (λ name. Some name) (same_names x y e))
   | inr e ↦ inr (λ same. (let same_name : x ≡ y = ap (λ o. unwrap_or o x) same in let equal : bytes_eq x y ≡ true = subst (λ z. bytes_eq x z ≡ true) same_name (bytes_eq-self x) in absurd (cc)))
 ]
@@ -62,7 +63,7 @@ same_option (Some x) (Some y) = elim (decided (bytes_eq x y)) [
 -- a number below a bound at which a test says no, or none
 below : (test : ℕ → Bool) (n : ℕ) → ((v : ℕ) × (v < n) × (test v ≡ false)) ⊎ ((v : ℕ) → v < n → test v ≡ true)
 below test zero = inr (λ v h. absurd (omega arith))
-below test (suc n) = join (below test n) (decided (test n))
+below test (suc n) = join (below test n) (true_or_false (test n))
   where
     at_last : (test n ≡ true) → ((v : ℕ) → v < n → test v ≡ true) → (v : ℕ) → v < suc n → (v == n) ≡ true ⊎ ((v == n) ≡ false) → test v ≡ true
     at_last e all v h (inl w) = subst (λ k. test k ≡ true) (sym (eqb-true v n w)) e
@@ -71,7 +72,7 @@ below test (suc n) = join (below test n) (decided (test n))
     join : ((v : ℕ) × (v < n) × (test v ≡ false)) ⊎ ((v : ℕ) → v < n → test v ≡ true) → (test n ≡ true) ⊎ (test n ≡ false)
         → ((v : ℕ) × (v < suc n) × (test v ≡ false)) ⊎ ((v : ℕ) → v < suc n → test v ≡ true)
     join (inl r) e = inl (r.0, (let h : r.0 < n = r.1 in omega arith), r.2)
-    join (inr all) (inl e) = inr (λ v h. at_last e all v h (decided (v == n)))
+    join (inr all) (inl e) = inr (λ v h. at_last e all v h (true_or_false (v == n)))
     join (inr all) (inr e) = inl (n, omega arith, e)
 
 module _ (draft : Draft) (g : IsGoodDraft draft) where
@@ -95,7 +96,7 @@ module _ (draft : Draft) (g : IsGoodDraft draft) where
         | inl r ↦ inl (r.0, r.1, lacks r.0 r.2)
         | inr all ↦ inr (λ r. r.2 ((reach r.0).0 (all r.0 r.1)))
       ]
-      by_version false = elim (decided (is_reached (place_of draft.nodes (sink_name draft)))) [
+      by_version false = elim (true_or_false (is_reached (place_of draft.nodes (sink_name draft)))) [
         | inl e ↦ inr (λ missing. missing ((reach (place_of draft.nodes (sink_name draft))).0 e))
         | inr e ↦ inl (lacks (place_of draft.nodes (sink_name draft)) e)
       ]
@@ -119,7 +120,7 @@ module _ (draft : Draft) (g : IsGoodDraft draft) where
 
   decide_22 : HasPassingSum draft ⊎ (¬ HasPassingSum draft)
   unfolding sum_test
-  decide_22 = elim (decided (list_any sum_test (draft_hops draft))) [
+  decide_22 = elim (true_or_false (list_any sum_test (draft_hops draft))) [
     | inl e ↦ inl (
         let r : FoundEntry sum_test (draft_hops draft) = found sum_test (draft_hops draft) e in
         let p = and_parts (settled.settled.set r.entry.tail) (not (is_wide greatest (settled.settled.label r.entry.tail)) && passes_Q Sum (settled.settled.label r.entry.tail) r.entry.transit) r.passes in
@@ -203,7 +204,7 @@ module _ (draft : Draft) (g : IsGoodDraft draft) where
 
   decide_21 : HasZeroCycle draft ⊎ (¬ HasZeroCycle draft)
   unfolding cycle_test
-  decide_21 = elim (decided (list_any cycle_test (draft_hops draft))) [
+  decide_21 = elim (true_or_false (list_any cycle_test (draft_hops draft))) [
     | inl e ↦ inl (
         let r : FoundEntry cycle_test (draft_hops draft) = found cycle_test (draft_hops draft) e in
         let p = and_parts (is_zero r.entry) ((closure zero_hops r.entry.head).set r.entry.tail) r.passes in

@@ -7,6 +7,7 @@ use Rattle.nf_rational.specs.Order.{◌≤ℚ◌}
 use Rattle.nf_rational_laws.proofs.Polynomial.{reading_of}
 use Rattle.nf_rational_laws.proofs.Order.{≤ℚ_of_same, ≤ℚ_antisymm, nn_plus}
 use Rattle.nf_rational_laws.proofs.Linear.{le, linear_le}
+use Rattle.nf_rational_laws.proofs.Facts.{same_sums}
 use Rattle.nf_model.specs.Walk.{Hop, IsHop, IsWalk, transit_of, transit_sum}
 use Rattle.nf_model_laws.proofs.Networks.{transit_of-hop}
 
@@ -70,9 +71,6 @@ pub record Carried (hops other : List Hop) (f : ℕ → ℕ) (P : ℕ → Type 0
   pub long : length image ≡ length walk
   pub after : P w
 
-sums_agree : (a b c d : ℚ) → a ≡ c → b ≡ d → a +ℚ b ≡ c +ℚ d
-sums_agree a b c d e f = λ i. e i +ℚ f i
-
 -- where each hop that leaves a node with the property has a counterpart, and leads to such a node, so has each walk from one
 module _ (hops other : List Hop) (f : ℕ → ℕ) (P : ℕ → Type 0) (each : (e : ℕ) (hop : Hop) → IsHop hops e hop → P hop.tail → Corresponds other f P hop) where
   pub carried : (walk : List ℕ) (v w : ℕ) → P v → IsWalk hops walk v w → Carried hops other f P walk v w
@@ -83,7 +81,7 @@ module _ (hops other : List Hop) (f : ℕ → ℕ) (P : ℕ → Type 0) (each : 
       record {
         image = c.number ∷ r.image;
         is_walk = (c.image, c.is_hop, c.tail ∙ ap f h.2, subst (λ u. IsWalk other r.image u (f w)) (sym c.head) r.is_walk);
-        sum = sums_agree _ _ _ _ (transit_of-hop other c.number c.image c.is_hop ∙ c.transit ∙ sym (transit_of-hop hops e h.0 h.1)) r.sum;
+        sum = same_sums _ _ _ _ (transit_of-hop other c.number c.image c.is_hop ∙ c.transit ∙ sym (transit_of-hop hops e h.0 h.1)) r.sum;
         long = ap (λ k. suc k) r.long;
         after = r.after;
       }
@@ -114,10 +112,10 @@ starts_with_one (i ∷ rest) k e = (i, rest, refl)
 -- ---- sums of transit times that aren't negative
 
 none_left : (a b : ℚ) → 0ℚ ≤ℚ a → 0ℚ ≤ℚ b → a +ℚ b ≤ℚ 0ℚ → a ≡ 0ℚ
-none_left a b h k s = ≤ℚ_antisymm a 0ℚ (linear_le (a ∷ b ∷ []) (le k ∷ le s ∷ []) (search reading_of depth 12) tt) h
+none_left a b h k s = ≤ℚ_antisymm a 0ℚ (linear_le (a ∷ b ∷ []) (le k ∷ le s ∷ []) (search reading_of) tt) h
 
 rest_left : (a b : ℚ) → 0ℚ ≤ℚ a → 0ℚ ≤ℚ b → a +ℚ b ≤ℚ 0ℚ → b ≤ℚ 0ℚ
-rest_left a b h k s = linear_le (a ∷ b ∷ []) (le h ∷ le s ∷ []) (search reading_of depth 12) tt
+rest_left a b h k s = linear_le (a ∷ b ∷ []) (le h ∷ le s ∷ []) (search reading_of) tt
 
 module _ (hops : List Hop) (positive : (e : ℕ) (hop : Hop) → IsHop hops e hop → 0ℚ ≤ℚ hop.transit) where
   transit_nn : (e : ℕ) (hop : Hop) → IsHop hops e hop → 0ℚ ≤ℚ transit_of hops e

@@ -32,7 +32,7 @@ use Rattle.nf_thin_laws.proofs.Exact.{slacks_exact, advanced_exact}
 use Rattle.nf_thin.specs.declared.fault.SearchFault.{SearchFault}
 use Rattle.nf_phase.specs.declared.fault.StepFault.{StepFault}
 use Rattle.nf_thin.specs.Searching.{Searches}
-use Rattle.nf_thin_laws.proofs.Numbered.{part_ok}
+use Rattle.nf_frac_def.proofs.AtPart.{part_ok}
 use Rattle.nf_phase.specs.Faults.{of_halt, of_search}
 use Rattle.nf_phase.specs.Stepping.{StandsFor}
 use Rattle.nf_phase.specs.Finding.{FindsNone, at_slack, at_search, ListsPass, at_lists}

@@ -23,7 +23,7 @@ use Rattle.nf_thin_def.specs.PhaseRun.{Standing, PhaseStep, IsSearchHere, phase_
 use Rattle.nf_thin_laws.proofs.Exact.{advanced_exact}
 use Rattle.nf_thin_laws.proofs.Ending.{length-moved}
 use Rattle.nf_phase_laws.proofs.Standing.{label_count_at}
-use Rattle.nf_thin_laws.proofs.Numbered.{part_ok}
+use Rattle.nf_frac_def.proofs.AtPart.{part_ok}
 use Rattle.nf_phase.specs.declared.fault.StepFault.{StepFault}
 use Rattle.nf_phase.specs.declared.finding.PhaseStart.{PhaseStart}
 use Rattle.nf_phase.specs.declared.phase.Phase.{Phase}

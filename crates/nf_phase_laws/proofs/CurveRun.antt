@@ -35,10 +35,10 @@ flat_start : (l t : ℚ) → 0ℚ <ℚ l → value ((0ℚ, 0ℚ) ∷ (l, 0ℚ) �
 flat_start l t h = by_first (0ℚ, 0ℚ) (l, 0ℚ) [] t (λ _ e. e ∙ level (slope (0ℚ, 0ℚ) (l, 0ℚ)) t (same_from_times l _ 0ℚ h (turn l _ (quotient-gap (0ℚ -ℚ 0ℚ) 0ℚ l h)))) (λ _ e. e)
   where
     level : (n t : ℚ) → n ≡ 0ℚ → 0ℚ +ℚ n *ℚ (t -ℚ 0ℚ) ≡ 0ℚ
-    level n t e = linear_eq (n ∷ t ∷ []) (eq_times t e ∷ []) (search reading_of depth 12) tt tt
+    level n t e = linear_eq (n ∷ t ∷ []) (eq_times t e ∷ []) (search reading_of) tt tt
 
     turn : (l n : ℚ) → n *ℚ (l -ℚ 0ℚ) ≡ 0ℚ -ℚ 0ℚ → l *ℚ n ≡ l *ℚ 0ℚ
-    turn l n e = linear_eq (l ∷ n ∷ []) (eq e ∷ []) (search reading_of depth 12) tt tt
+    turn l n e = linear_eq (l ∷ n ∷ []) (eq e ∷ []) (search reading_of) tt tt
 
 abbrev points_if : ℚ → Bool → List Point
 points_if l b = if b then (0ℚ, 0ℚ) ∷ (l, 0ℚ) ∷ [] else (0ℚ, 0ℚ) ∷ []

@@ -69,7 +69,7 @@ pub GoesOnTo-slope : (points points' : List Point) (a y l x d : ℚ) → 0ℚ <�
 GoesOnTo-slope points points' a y l x d h g = same_from_times d _ x h (by_length (slope (a, y) (a +ℚ l *ℚ d, y +ℚ x *ℚ d)) (slope-times (a, y) (a +ℚ l *ℚ d, y +ℚ x *ℚ d) g.later))
   where
     by_length : (n : ℚ) → n *ℚ ((a +ℚ l *ℚ d) -ℚ a) ≡ (y +ℚ x *ℚ d) -ℚ y → d *ℚ (n *ℚ l) ≡ d *ℚ x
-    by_length n e = linear_eq (n ∷ a ∷ l ∷ d ∷ y ∷ x ∷ []) (eq e ∷ []) (search reading_of depth 12) tt tt
+    by_length n e = linear_eq (n ∷ a ∷ l ∷ d ∷ y ∷ x ∷ []) (eq e ∷ []) (search reading_of) tt tt
 
 module _ (net : Network) (inflows labels : ℕ → List Point) (until length : ℚ) (flow slope : ℕ → ℚ) (inflows' labels' : ℕ → List Point) (good : IsNetwork net)
     (some : 0ℚ <ℚ length) (rises : (v : ℕ) → 0ℚ ≤ℚ slope v) (no_flow : (e : ℕ) (link : Link) → IsLink net e link → slope link.tail ≡ 0ℚ → flow e ≡ 0ℚ) (stand : CurvesStand net inflows labels until) (go : CurvesGoOn net inflows labels until length flow slope inflows' labels') where
@@ -81,16 +81,16 @@ module _ (net : Network) (inflows labels : ℕ → List Point) (until length : �
   until_nn v h = EndsAt-nn (labels v) (until, at labels v until) (ends_at (labels v) (until, at labels v until) (stand.labels_end v h))
 
   label_slope : (a y x d n : ℚ) → 0ℚ <ℚ d → n *ℚ ((a +ℚ d) -ℚ a) ≡ (y +ℚ x *ℚ d) -ℚ y → n ≡ x
-  label_slope a y x d n h e = same_from_times d n x h (linear_eq (a ∷ y ∷ x ∷ d ∷ n ∷ []) (eq e ∷ []) (search reading_of depth 12) tt tt)
+  label_slope a y x d n h e = same_from_times d n x h (linear_eq (a ∷ y ∷ x ∷ d ∷ n ∷ []) (eq e ∷ []) (search reading_of) tt tt)
 
   on_line : (f v y n x a t : ℚ) → f ≡ v +ℚ n *ℚ ((a +ℚ t) -ℚ a) → v ≡ y → n ≡ x → f ≡ y +ℚ x *ℚ t
-  on_line f v y n x a t e i g = linear_eq (f ∷ v ∷ y ∷ n ∷ x ∷ a ∷ t ∷ []) (eq e ∷ eq i ∷ eq_times t g ∷ []) (search reading_of depth 12) tt tt
+  on_line f v y n x a t e i g = linear_eq (f ∷ v ∷ y ∷ n ∷ x ∷ a ∷ t ∷ []) (eq e ∷ eq i ∷ eq_times t g ∷ []) (search reading_of) tt tt
 
   label_after : (v : ℕ) (t : ℚ) → v < net.nodes → Within 0ℚ length t → at labels' v (until +ℚ t) ≡ at labels v until +ℚ slope v *ℚ t
   label_after v t h w =
       let g : GoesOnTo (labels v) (labels' v) (until, at labels v until) (until +ℚ length, at labels v until +ℚ slope v *ℚ length) = go.labels_go v h in
       on_line _ (at labels' v until) (at labels v until) _ (slope v) until t
-      (g.line.line (until +ℚ t) (linear_le (until ∷ t ∷ []) (le w.0 ∷ []) (search reading_of depth 12) tt) (linear_le (until ∷ t ∷ length ∷ []) (le w.1 ∷ []) (search reading_of depth 12) tt))
+      (g.line.line (until +ℚ t) (linear_le (until ∷ t ∷ []) (le w.0 ∷ []) (search reading_of) tt) (linear_le (until ∷ t ∷ length ∷ []) (le w.1 ∷ []) (search reading_of) tt))
       (label_before v until h (until_nn v h, ≤ℚ_refl until))
       (label_slope until (at labels v until) (slope v) length _ some (slope-times (until, at labels v until) (until +ℚ length, at labels v until +ℚ slope v *ℚ length) g.later))
 
@@ -115,16 +115,16 @@ module _ (net : Network) (inflows labels : ℕ → List Point) (until length : �
   amount_before e link time p w = by_tail e link (λ points. value points time ≡ value (inflows e) time) p (λ h. (go.inflows_go e link p h).before time w) (λ _. refl)
 
   no_rate : (l x : ℚ) → x ≡ 0ℚ → 0ℚ *ℚ l ≡ x
-  no_rate l x e = linear_eq (l ∷ x ∷ []) (eq e ∷ []) (search reading_of depth 12) tt tt
+  no_rate l x e = linear_eq (l ∷ x ∷ []) (eq e ∷ []) (search reading_of) tt tt
 
   point_line : (f : ℚ → ℚ) (a l : ℚ) → l ≡ 0ℚ → IsAffine f a (a +ℚ l *ℚ length) 0ℚ
   point_line f a l e = record { line = λ t h k. ap f (same t h k) ∙ level (f a) t }
     where
       same : (t : ℚ) → a ≤ℚ t → t ≤ℚ a +ℚ l *ℚ length → t ≡ a
-      same t h k = linear_eq (a ∷ l ∷ length ∷ t ∷ []) (le h ∷ le k ∷ eq_times length e ∷ []) (search reading_of depth 12) tt tt
+      same t h k = linear_eq (a ∷ l ∷ length ∷ t ∷ []) (le h ∷ le k ∷ eq_times length e ∷ []) (search reading_of) tt tt
 
       level : (y t : ℚ) → y ≡ y +ℚ 0ℚ *ℚ (t -ℚ a)
-      level y t = linear_eq (y ∷ t ∷ a ∷ []) [] (search reading_of depth 12) tt tt
+      level y t = linear_eq (y ∷ t ∷ a ∷ []) [] (search reading_of) tt tt
 
   amount_after : (e : ℕ) (link : Link) → IsLink net e link → (rate : ℚ) × (rate *ℚ slope link.tail ≡ flow e) × IsAffine (at inflows' e) (start link) (end link) rate
   amount_after e link p = by_tail e link (λ points. (rate : ℚ) × (rate *ℚ slope link.tail ≡ flow e) × IsAffine (value points) (start link) (end link) rate) p
@@ -133,7 +133,7 @@ module _ (net : Network) (inflows labels : ℕ → List Point) (until length : �
       (λ z. (0ℚ, no_rate _ _ (no_flow e link p z), point_line (value (inflows e)) (start link) (slope link.tail) z))
 
   past : (l : ℚ) (a : ℚ) → l ≡ 0ℚ → a ≤ℚ a +ℚ l *ℚ length
-  past l a e = linear_le (l ∷ a ∷ length ∷ []) (eq_times length e ∷ []) (search reading_of depth 12) tt
+  past l a e = linear_le (l ∷ a ∷ length ∷ []) (eq_times length e ∷ []) (search reading_of) tt
 
   amount_ends : (e : ℕ) (link : Link) (time : ℚ) → IsLink net e link → end link ≤ℚ time → at inflows' e time ≡ at inflows' e (end link)
   amount_ends e link time p i = by_tail e link (λ points. value points time ≡ value points (end link)) p
@@ -147,7 +147,7 @@ module _ (net : Network) (inflows labels : ℕ → List Point) (until length : �
 
   -- ---- the ends of the new curves
   stays_there : (a l : ℚ) → l ≡ 0ℚ → a ≡ a +ℚ l *ℚ length
-  stays_there a l e = linear_eq (a ∷ l ∷ length ∷ []) (eq_times length e ∷ []) (search reading_of depth 12) tt tt
+  stays_there a l e = linear_eq (a ∷ l ∷ length ∷ []) (eq_times length e ∷ []) (search reading_of) tt tt
 
   pub CurvesStand-after : CurvesStand net inflows' labels' (until +ℚ length)
   CurvesStand-after = record {

@@ -48,16 +48,16 @@ module _ (net : Network) (amount label outflow queue : ℕ → ℚ → ℚ) (unt
 -- ---- over a phase the queue that is met changes at one rate by departure: s is the slack at the beginning, l and m the slopes at the
 -- tail and the head, d the length
 steady : (c s m l t : ℚ) → c *ℚ (s +ℚ (m -ℚ l) *ℚ t) ≡ c *ℚ s +ℚ (c *ℚ (m -ℚ l)) *ℚ t
-steady c s m l t = linear_eq (c ∷ s ∷ m ∷ l ∷ t ∷ []) [] (search reading_of depth 12) tt tt
+steady c s m l t = linear_eq (c ∷ s ∷ m ∷ l ∷ t ∷ []) [] (search reading_of) tt tt
 
 times_none : (c y z t : ℚ) → y ≡ 0ℚ → z ≡ 0ℚ → c *ℚ y ≡ c *ℚ z +ℚ 0ℚ *ℚ t
-times_none c y z t e f = linear_eq (c ∷ y ∷ z ∷ t ∷ []) (eq_times c e ∷ eq_times c f ∷ []) (search reading_of depth 12) tt tt
+times_none c y z t e f = linear_eq (c ∷ y ∷ z ∷ t ∷ []) (eq_times c e ∷ eq_times c f ∷ []) (search reading_of) tt tt
 
 falls : (s m l t : ℚ) → s ≤ℚ 0ℚ → m ≤ℚ l → 0ℚ ≤ℚ t → s +ℚ (m -ℚ l) *ℚ t ≤ℚ 0ℚ
-falls s m l t h k j = linear_le (s ∷ m ∷ l ∷ t ∷ []) (le h ∷ le_times j k ∷ []) (search reading_of depth 12) tt
+falls s m l t h k j = linear_le (s ∷ m ∷ l ∷ t ∷ []) (le h ∷ le_times j k ∷ []) (search reading_of) tt
 
 grows : (s m l t : ℚ) → 0ℚ ≤ℚ s → l ≤ℚ m → 0ℚ ≤ℚ t → 0ℚ ≤ℚ s +ℚ (m -ℚ l) *ℚ t
-grows s m l t h k j = linear_le (s ∷ m ∷ l ∷ t ∷ []) (le h ∷ le_times j k ∷ []) (search reading_of depth 12) tt
+grows s m l t h k j = linear_le (s ∷ m ∷ l ∷ t ∷ []) (le h ∷ le_times j k ∷ []) (search reading_of) tt
 
 abbrev Steadily : Option ℚ → ℚ → ℚ → ℚ → ℚ → Type 0
 Steadily capacity s m l d = (k : ℚ) × ((t : ℚ) → Within 0ℚ d t → queue_by_slack capacity (s +ℚ (m -ℚ l) *ℚ t) ≡ queue_by_slack capacity s +ℚ k *ℚ t)
@@ -73,7 +73,7 @@ stays_none : (c s m l d : ℚ) → s ≤ℚ 0ℚ → ((t : ℚ) → Within 0ℚ 
 stays_none c s m l d h k = (0ℚ, λ t w. times_none c _ _ t (max0_none _ (k t w)) (max0_none s h))
 
 none_more : (t : ℚ) → 0ℚ ≡ 0ℚ +ℚ 0ℚ *ℚ t
-none_more t = linear_eq (t ∷ []) [] (search reading_of depth 12) tt tt
+none_more t = linear_eq (t ∷ []) [] (search reading_of) tt tt
 
 pub queue_by_slack-steadily : (capacity : Option ℚ) (s m l d : ℚ) → ((t : ℚ) → s <ℚ 0ℚ → Within 0ℚ d t → s +ℚ (m -ℚ l) *ℚ t ≤ℚ 0ℚ)
     → ((t : ℚ) → 0ℚ <ℚ s → Within 0ℚ d t → 0ℚ ≤ℚ s +ℚ (m -ℚ l) *ℚ t) → Steadily capacity s m l d
@@ -108,10 +108,10 @@ agree y z w v q a l t d r k h j i e f g o = ⊎_elim
     at_q e = linear_eq (w ∷ v ∷ q ∷ r ∷ a ∷ l ∷ d ∷ []) (eq e ∷ eq i ∷ []) (search reading_of depth 12) tt tt
 
 past : (a l t : ℚ) → 0ℚ ≤ℚ l → 0ℚ ≤ℚ t → a ≤ℚ a +ℚ l *ℚ t
-past a l t h k = linear_le (a ∷ l ∷ t ∷ []) (le_times h k ∷ []) (search reading_of depth 12) tt
+past a l t h k = linear_le (a ∷ l ∷ t ∷ []) (le_times h k ∷ []) (search reading_of) tt
 
 before_end : (a l s t : ℚ) → 0ℚ ≤ℚ l → s ≤ℚ t → a +ℚ l *ℚ s ≤ℚ a +ℚ l *ℚ t
-before_end a l s t h k = linear_le (a ∷ l ∷ s ∷ t ∷ []) (le_times h k ∷ []) (search reading_of depth 12) tt
+before_end a l s t h k = linear_le (a ∷ l ∷ s ∷ t ∷ []) (le_times h k ∷ []) (search reading_of) tt
 
 module _ (net : Network) (amount label : ℕ → ℚ → ℚ) (until length rate : ℚ) (x slope : ℕ → ℚ) (amount' label' : ℕ → ℚ → ℚ)
     (step : PhaseStep net amount label until length rate x slope amount' label') (outflow queue outflow' queue' : ℕ → ℚ → ℚ)

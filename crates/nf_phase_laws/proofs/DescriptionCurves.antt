@@ -18,6 +18,7 @@ use Rattle.nf_phase_laws.specs.CurveSteps.{LastPoint, GoesOnTo, at}
 use Rattle.nf_phase_laws.specs.DescriptionCurves.{DescriptionStands, DescriptionCurvesGoOn}
 use Rattle.nf_phase_laws.proofs.CurveSteps.{ends_at, GoesOnTo-slope, LastPoint-at}
 use Rattle.nf_rational_laws.proofs.Chains.{≤ℚ_refl}
+use Rattle.nf_rational_laws.proofs.Facts.{same_slacks}
 
 -- ---- an extended curve while time increases: from a on for l d, to the value z
 module _ (points points' : List Point) (a z l d : ℚ) (not_back : 0ℚ ≤ℚ l) (stand : LastPoint points (a, value points a))
@@ -35,16 +36,16 @@ module _ (points points' : List Point) (a z l d : ℚ) (not_back : 0ℚ ≤ℚ l
   point_line f e = record { line = λ t h k. ap f (same t h k) ∙ level (f a) t }
     where
       same : (t : ℚ) → a ≤ℚ t → t ≤ℚ a +ℚ l *ℚ d → t ≡ a
-      same t h k = linear_eq (a ∷ l ∷ d ∷ t ∷ []) (le h ∷ le k ∷ eq_times d e ∷ []) (search reading_of depth 12) tt tt
+      same t h k = linear_eq (a ∷ l ∷ d ∷ t ∷ []) (le h ∷ le k ∷ eq_times d e ∷ []) (search reading_of) tt tt
 
       level : (y t : ℚ) → y ≡ y +ℚ 0ℚ *ℚ (t -ℚ a)
-      level y t = linear_eq (y ∷ t ∷ a ∷ []) [] (search reading_of depth 12) tt tt
+      level y t = linear_eq (y ∷ t ∷ a ∷ []) [] (search reading_of) tt tt
 
   some_line : (rate : ℚ) × IsAffine (value points') a (a +ℚ l *ℚ d) rate
   some_line = by_slope (λ ps. (rate : ℚ) × IsAffine (value ps) a (a +ℚ l *ℚ d) rate) (λ h. (_, (go h).line)) (λ e. (0ℚ, point_line (value points) e))
 
   no_rate : (x : ℚ) → x ≡ 0ℚ → 0ℚ *ℚ l ≡ x
-  no_rate x e = linear_eq (l ∷ x ∷ []) (eq e ∷ []) (search reading_of depth 12) tt tt
+  no_rate x e = linear_eq (l ∷ x ∷ []) (eq e ∷ []) (search reading_of) tt tt
 
   flow_line : (x : ℚ) → 0ℚ <ℚ d → z ≡ value points a +ℚ x *ℚ d → (l ≡ 0ℚ → x ≡ 0ℚ) → (rate : ℚ) × (rate *ℚ l ≡ x) × IsAffine (value points') a (a +ℚ l *ℚ d) rate
   flow_line x h e none = by_slope (λ ps. (rate : ℚ) × (rate *ℚ l ≡ x) × IsAffine (value ps) a (a +ℚ l *ℚ d) rate)
@@ -53,7 +54,7 @@ module _ (points points' : List Point) (a z l d : ℚ) (not_back : 0ℚ ≤ℚ l
       (λ k. (0ℚ, no_rate x (none k), point_line (value points) k))
 
   stays_there : l ≡ 0ℚ → a ≡ a +ℚ l *ℚ d
-  stays_there e = linear_eq (a ∷ l ∷ d ∷ []) (eq_times d e ∷ []) (search reading_of depth 12) tt tt
+  stays_there e = linear_eq (a ∷ l ∷ d ∷ []) (eq_times d e ∷ []) (search reading_of) tt tt
 
   new_last : LastPoint points' (a +ℚ l *ℚ d, value points' (a +ℚ l *ℚ d))
   new_last = by_slope (λ ps. LastPoint ps (a +ℚ l *ℚ d, value ps (a +ℚ l *ℚ d)))
@@ -73,25 +74,22 @@ module _ (net : Network) (amount label amount' label' : ℕ → ℚ → ℚ) (un
   now = (holds.begun, ≤ℚ_refl until)
 
   now' : Within 0ℚ (until +ℚ length) until
-  now' = (holds.begun, linear_le (until ∷ length ∷ []) (lt some ∷ []) (search reading_of depth 12) tt)
+  now' = (holds.begun, linear_le (until ∷ length ∷ []) (lt some ∷ []) (search reading_of) tt)
 
   last : Within 0ℚ (until +ℚ length) (until +ℚ length)
-  last = (linear_le (until ∷ length ∷ []) (lt some ∷ le holds.begun ∷ []) (search reading_of depth 12) tt, ≤ℚ_refl _)
+  last = (linear_le (until ∷ length ∷ []) (lt some ∷ le holds.begun ∷ []) (search reading_of) tt, ≤ℚ_refl _)
 
   whole : Within 0ℚ length length
   whole = (≤ℚ_of_lt _ _ some, ≤ℚ_refl length)
 
-  -- If the tail's label is constant, the queue is constant.
-  slack_now : (b a d c r : ℚ) → b ≡ d → a ≡ c → b -ℚ (a +ℚ r) ≡ d -ℚ (c +ℚ r)
-  slack_now b a d c r e f = linear_eq (b ∷ a ∷ d ∷ c ∷ r ∷ []) (eq e ∷ eq f ∷ []) (search reading_of depth 12) tt tt
-
   same_end : (a l y : ℚ) → y ≡ a +ℚ l *ℚ length → l ≡ 0ℚ → y ≡ a
-  same_end a l y e f = linear_eq (a ∷ l ∷ y ∷ length ∷ []) (eq e ∷ eq_times length f ∷ []) (search reading_of depth 12) tt tt
+  same_end a l y e f = linear_eq (a ∷ l ∷ y ∷ length ∷ []) (eq e ∷ eq_times length f ∷ []) (search reading_of) tt tt
 
+  -- If the tail's label is constant, the queue is constant.
   queue_still : (e : ℕ) (link : Link) → IsLink net e link → slope link.tail ≡ 0ℚ → at queues e (label link.tail until) ≡ queue_by_slack link.capacity (link_slack label' link (until +ℚ length))
   queue_still e link p z =
       let tail_same : label' link.tail until ≡ label link.tail until = goes.label_before link.tail until (good.tails e link p) now in
-      let slack_same : link_slack label' link until ≡ link_slack label link until = slack_now _ _ _ _ link.transit (goes.label_before link.head until (good.heads e link p) now) tail_same in
+      let slack_same : link_slack label' link until ≡ link_slack label link until = same_slacks _ _ _ _ link.transit (goes.label_before link.head until (good.heads e link p) now) tail_same in
       let at_end : label' link.tail (until +ℚ length) ≡ label link.tail until = same_end _ (slope link.tail) _ (goes.label_after link.tail length (good.tails e link p) whole) z in
       describes.queues e link until p now ∙ ap (queue_by_slack link.capacity) (sym slack_same)
       ∙ IsQueue-unique link.capacity (amount' e) (label link.tail until) _ _

@@ -17,13 +17,13 @@ use Rattle.nf_model.specs.Phases.{Lasts, IsExtension, IsUnending}
 use Rattle.nf_model_laws.proofs.Supply.{StartsRise, StartsRise-pieces}
 use Rattle.nf_rational.specs.Signs.{is_zero, are_opposite}
 use Rattle.nf_thin_def.specs.Extend.{to_zero, after_link, least_after, until_change, extend_list}
-use Rattle.nf_thin_laws.specs.ListLaws.{never}
+use Rattle.nf_frac_def.specs.Passing.{never}
 use Rattle.nf_thin_laws.proofs.Exact.{extend_list_as}
 use Rattle.nf_phase_laws.proofs.Limits.{HoldsUpTo, IsLimit, Both, IsLimit-same, IsLimit-with, IsLimit-lesser}
-use Rattle.nf_phase_laws.proofs.Sides.{KeepsSide, lt_false, keeps_at_zero, keeps_away, keeps_until}
+use Rattle.nf_phase_laws.proofs.Sides.{KeepsSide, keeps_at_zero, keeps_away, keeps_until}
 use Rattle.nf_rational_laws.proofs.Chains.{≤ℚ_refl, ≤ℚ_trans}
 use Rattle.nf_frac_def.proofs.Binding.{bind_ok}
-use Rattle.nf_rational_laws.proofs.Tests.{less_of_test}
+use Rattle.nf_rational_laws.proofs.Tests.{less_of_test, not_less_of_test}
 use Rattle.nf_rational_laws.proofs.Results.{same_Ok}
 
 -- ---- one link
@@ -73,13 +73,13 @@ module _ (slacks slopes : List ℚ) where
 
 -- ---- the next change of the inflow rate
 fits : (t x y l : ℚ) → x ≤ℚ y → l ≤ℚ x -ℚ t → (t +ℚ l) ≤ℚ y
-fits t x y l h k = linear_le (t ∷ x ∷ y ∷ l ∷ []) (le h ∷ le k ∷ []) (search reading_of depth 12) tt
+fits t x y l h k = linear_le (t ∷ x ∷ y ∷ l ∷ []) (le h ∷ le k ∷ []) (search reading_of) tt
 
 room : (t x l : ℚ) → (t +ℚ l) ≤ℚ x → l ≤ℚ x -ℚ t
-room t x l h = linear_le (t ∷ x ∷ l ∷ []) (le h ∷ []) (search reading_of depth 12) tt
+room t x l h = linear_le (t ∷ x ∷ l ∷ []) (le h ∷ []) (search reading_of) tt
 
 not_before : (t x : ℚ) → x ≤ℚ t → t <ℚ x → ⊥
-not_before t x h k = linear_false (t ∷ x ∷ []) (le h ∷ lt k ∷ []) (search reading_of depth 12) tt
+not_before t x h k = linear_false (t ∷ x ∷ []) (le h ∷ lt k ∷ []) (search reading_of) tt
 
 -- Each of these pieces starts at this time or later.
 abbrev EachFrom : ℚ → List Piece → Type 0
@@ -101,7 +101,7 @@ module _ (time : ℚ) where
   NoneStarts pieces length = (i : ℕ) (piece : Piece) → IsPiece pieces i piece → time <ℚ piece.start → (time +ℚ length) ≤ℚ piece.start
 
   started : (piece : Piece) (later : List Piece) (length : ℚ) → lt_ℚ time piece.start ≡ false → NoneStarts later length → NoneStarts (piece ∷ later) length
-  started piece later length test none zero p e h = absurd (not_before time piece.start (lt_false time piece.start test) (subst (λ (q : Piece). time <ℚ q.start) (sym (same_Some piece p e)) h))
+  started piece later length test none zero p e h = absurd (not_before time piece.start (not_less_of_test time piece.start test) (subst (λ (q : Piece). time <ℚ q.start) (sym (same_Some piece p e)) h))
   started piece later length test none (suc i) p e h = none i p e h
 
   -- The limit by the next change.

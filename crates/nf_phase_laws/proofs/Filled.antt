@@ -33,11 +33,11 @@ pub record Filled (capacity : Option ℚ) (s n x m : ℚ) (filled : Bool) : Type
 
 -- ---- the slope
 none_slope : (k y z : ℚ) → y ≡ 0ℚ → z ≡ 0ℚ → 0ℚ *ℚ k ≡ y -ℚ z
-none_slope k y z e f = linear_eq (k ∷ y ∷ z ∷ []) (eq e ∷ eq f ∷ []) (search reading_of depth 12) tt tt
+none_slope k y z e f = linear_eq (k ∷ y ∷ z ∷ []) (eq e ∷ eq f ∷ []) (search reading_of) tt tt
 
 full_slope : (c s n x l m t q u v : ℚ) → q *ℚ l ≡ x → x ≡ c *ℚ m → n ≡ s +ℚ t *ℚ (m -ℚ l) → u ≡ n → v ≡ s → (q -ℚ c) *ℚ (l *ℚ t) ≡ c *ℚ u -ℚ c *ℚ v
 full_slope c s n x l m t q u v e f g h k =
-    linear_eq (c ∷ s ∷ n ∷ x ∷ l ∷ m ∷ t ∷ q ∷ u ∷ v ∷ []) (eq_times t e ∷ eq_times t f ∷ eq_times c g ∷ eq_times c h ∷ eq_times c k ∷ []) (search reading_of depth 12) tt tt
+    linear_eq (c ∷ s ∷ n ∷ x ∷ l ∷ m ∷ t ∷ q ∷ u ∷ v ∷ []) (eq_times t e ∷ eq_times t f ∷ eq_times c g ∷ eq_times c h ∷ eq_times c k ∷ []) (search reading_of) tt tt
 
 pub queue_slope : (capacity : Option ℚ) (s n x l m t : ℚ) (filled : Bool) → Filled capacity s n x m filled → n ≡ s +ℚ t *ℚ (m -ℚ l) → 0ℚ <ℚ l
     → filled_slope filled capacity (x /ℚ l) *ℚ (l *ℚ t) ≡ queue_by_slack capacity n -ℚ queue_by_slack capacity s
@@ -52,13 +52,13 @@ queue_slope (Some c) s n x l m t false k e h =
 
 -- ---- the links of a phase
 tight_low : (z t m l : ℚ) → z ≤ℚ 0ℚ → m ≡ l → z +ℚ t *ℚ (m -ℚ l) ≤ℚ 0ℚ
-tight_low z t m l h e = linear_le (z ∷ t ∷ m ∷ l ∷ []) (le h ∷ eq_times t e ∷ []) (search reading_of depth 12) tt
+tight_low z t m l h e = linear_le (z ∷ t ∷ m ∷ l ∷ []) (le h ∷ eq_times t e ∷ []) (search reading_of) tt
 
 zero_low : (z t m l : ℚ) → z ≤ℚ 0ℚ → m ≤ℚ l → 0ℚ ≤ℚ t → z +ℚ t *ℚ (m -ℚ l) ≤ℚ 0ℚ
-zero_low z t m l h k j = linear_le (z ∷ t ∷ m ∷ l ∷ []) (le h ∷ le_times j k ∷ []) (search reading_of depth 12) tt
+zero_low z t m l h k j = linear_le (z ∷ t ∷ m ∷ l ∷ []) (le h ∷ le_times j k ∷ []) (search reading_of) tt
 
 full_high : (z t m l : ℚ) → 0ℚ ≤ℚ z → l ≤ℚ m → 0ℚ ≤ℚ t → 0ℚ ≤ℚ z +ℚ t *ℚ (m -ℚ l)
-full_high z t m l h k j = linear_le (z ∷ t ∷ m ∷ l ∷ []) (le h ∷ le_times j k ∷ []) (search reading_of depth 12) tt
+full_high z t m l h k j = linear_le (z ∷ t ∷ m ∷ l ∷ []) (le h ∷ le_times j k ∷ []) (search reading_of) tt
 
 not_some : (s : State) → ◌≡◌ {A = Option State} None (Some s) → ⊥
 not_some s e = cc

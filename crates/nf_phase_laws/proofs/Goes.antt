@@ -8,7 +8,7 @@ use Rattle.nf_rational.specs.Rational.{ℚ}
 use Rattle.nf_rational.specs.Operations.{0ℚ, ◌+ℚ◌, ◌-ℚ◌, ◌*ℚ◌, ◌/ℚ◌}
 use Rattle.nf_rational.specs.Order.{◌<ℚ◌}
 use Rattle.nf_rational_laws.proofs.Polynomial.{reading_of}
-use Rattle.nf_rational_laws.proofs.Linear.{lt, eq, linear_lt, linear_eq}
+use Rattle.nf_rational_laws.proofs.Linear.{eq, linear_eq}
 use Rattle.nf_frac_def.specs.Passing.{Passing}
 use Rattle.nf_model.specs.Entries.{number_at}
 use Rattle.nf_model.specs.Curve.{Point, Within, AreSlopes}
@@ -44,16 +44,17 @@ use Rattle.nf_phase_laws.proofs.AfterPhase.{label_after_at, label_after-length, 
 use Rattle.nf_phase_laws.proofs.WellRun.{number_is, label_points, inflow_points, outflow_points, queue_points, WellRun}
 use Rattle.nf_rational_laws.proofs.Entries.{last-append, slice_get-image, entry}
 use Rattle.nf_rational_laws.proofs.Chains.{≤ℚ_refl}
+use Rattle.nf_rational_laws.proofs.Facts.{later_by}
 
 -- ---- the amount that has entered a link so far
 end_amount : (c : LinkCurves) (last : Point) → LastPoint c.inflow.points last → amount_so_far c ≡ last.1
 end_amount c last l = ap (λ (ps : List Point). option_map_or (λ (p : Point). p.1) (last_or None ps) 0ℚ) l.same ∙ ap (λ (o : Option Point). option_map_or (λ (p : Point). p.1) o 0ℚ) (last-append None l.front last)
 
 turn_label : (a b t l : ℚ) → b ≡ a → a +ℚ t *ℚ l ≡ b +ℚ l *ℚ t
-turn_label a b t l e = linear_eq (a ∷ b ∷ t ∷ l ∷ []) (eq e ∷ []) (search reading_of depth 12) tt tt
+turn_label a b t l e = linear_eq (a ∷ b ∷ t ∷ l ∷ []) (eq e ∷ []) (search reading_of) tt tt
 
 time_line : (a y t r : ℚ) → r *ℚ ((a +ℚ t) -ℚ a) ≡ (y +ℚ r *ℚ t) -ℚ y
-time_line a y t r = linear_eq (a ∷ y ∷ t ∷ r ∷ []) [] (search reading_of depth 12) tt tt
+time_line a y t r = linear_eq (a ∷ y ∷ t ∷ r ∷ []) [] (search reading_of) tt tt
 
 module _ (passes : Passing) (net : Network) (good : IsNetwork net) (horizon : ℚ) (s : Standing) (pattern : Pattern) (flows slopes : List ℚ) (step : PhaseStep)
     (well : WellRun net s) (below : s.time <ℚ horizon) (listed : IsListedIn net (sets_at net s.labels) pattern)
@@ -115,10 +116,7 @@ module _ (passes : Passing) (net : Network) (good : IsNetwork net) (horizon : �
         → Went (curves.labels v) (label_new c).points (s.time, label_now v) (s.time +ℚ step.length, label_now v +ℚ number_at slopes v *ℚ step.length) (number_at slopes v)
     label_went c here = went_to (curves.labels v) c.points c.slope (number_at slopes v) (s.time, label_now v) (s.time +ℚ step.length, label_now v +ℚ number_at slopes v *ℚ step.length)
         (s.time +ℚ step.length, number_at step.labels v) (label_points s v c here) (well.label_slopes v c here) (grown.curves_stand.labels_end v h)
-        (later s.time step.length some) (time_line s.time (label_now v) step.length (number_at slopes v)) (same_point _ _ _ _ refl (moved_is v h))
-      where
-        later : (a t : ℚ) → 0ℚ <ℚ t → a <ℚ a +ℚ t
-        later a t k = linear_lt (a ∷ t ∷ []) (lt k ∷ []) (search reading_of depth 12) tt
+        (later_by s.time step.length some) (time_line s.time (label_now v) step.length (number_at slopes v)) (same_point _ _ _ _ refl (moved_is v h))
 
     label_goes : GoesOnTo (curves.labels v) (curves'.labels v) (s.time, label_now v) (s.time +ℚ step.length, label_now v +ℚ number_at slopes v *ℚ step.length)
     label_goes = subst (λ (ps : List Point). GoesOnTo (curves.labels v) ps (s.time, label_now v) (s.time +ℚ step.length, label_now v +ℚ number_at slopes v *ℚ step.length))

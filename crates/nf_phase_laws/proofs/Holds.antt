@@ -22,6 +22,7 @@ use Rattle.nf_model_laws.proofs.Sums.{sum_out-same, sum_in-none, sum_out-none}
 use Rattle.nf_phase_laws.specs.Invariant.{link_slack, queue_by_slack, tail_or, sent, HoldsUpTo}
 use Rattle.nf_phase_laws.proofs.Idle.{max0_cases, waiting-by_slack, IsQueue-before_any}
 use Rattle.nf_rational_laws.proofs.Chains.{≤ℚ_refl, ≤ℚ_trans}
+use Rattle.nf_rational_laws.proofs.Facts.{in_time}
 
 -- The amount sent into a link, by its tail.
 pub sent-is : (net : Network) (amount label : ℕ → ℚ → ℚ) (e : ℕ) (link : Link) (departure : ℚ) → IsLink net e link → sent net amount label e departure ≡ amount e (label link.tail departure)
@@ -37,17 +38,17 @@ link_within net e h = ⊎_elim
 -- ---- over plain numbers: a and b the labels at the tail and the head, r the transit time, m the wait
 late_enough : (a b r m : ℚ) → m ≡ max_ℚ 0ℚ (b -ℚ (a +ℚ r)) → b ≤ℚ a +ℚ r +ℚ m
 late_enough a b r m e = max0_cases (b -ℚ (a +ℚ r)) m e
-    (λ f _. linear_le (a ∷ b ∷ r ∷ m ∷ []) (eq f ∷ []) (search reading_of depth 12) tt)
-    (λ f k. linear_le (a ∷ b ∷ r ∷ m ∷ []) (eq f ∷ lt k ∷ []) (search reading_of depth 12) tt)
+    (λ f _. linear_le (a ∷ b ∷ r ∷ m ∷ []) (eq f ∷ []) (search reading_of) tt)
+    (λ f k. linear_le (a ∷ b ∷ r ∷ m ∷ []) (eq f ∷ lt k ∷ []) (search reading_of) tt)
 
 just_then : (a b r m : ℚ) → m ≡ max_ℚ 0ℚ (b -ℚ (a +ℚ r)) → 0ℚ ≤ℚ b -ℚ (a +ℚ r) → b ≡ a +ℚ r +ℚ m
 just_then a b r m e h = max0_cases (b -ℚ (a +ℚ r)) m e
-    (λ f _. linear_eq (a ∷ b ∷ r ∷ m ∷ []) (eq f ∷ []) (search reading_of depth 12) tt tt)
+    (λ f _. linear_eq (a ∷ b ∷ r ∷ m ∷ []) (eq f ∷ []) (search reading_of) tt tt)
     (λ f k. absurd (not_both_ℚ _ _ k h))
 
 -- Nothing has entered, so nothing waits: f, g and z are the amounts at a, at t and at 0, and c is the capacity.
 empty : (f g z c a t m : ℚ) → f ≡ 0ℚ → z ≡ 0ℚ → z ≤ℚ g → 0ℚ ≤ℚ c → t ≤ℚ a → f -ℚ g -ℚ c *ℚ (a -ℚ t) ≡ c *ℚ m → c *ℚ m ≤ℚ c *ℚ 0ℚ
-empty f g z c a t m d e h low k i = linear_le (f ∷ g ∷ z ∷ c ∷ a ∷ t ∷ m ∷ []) (eq d ∷ eq e ∷ le h ∷ le_times low k ∷ eq i ∷ []) (search reading_of depth 12) tt
+empty f g z c a t m d e h low k i = linear_le (f ∷ g ∷ z ∷ c ∷ a ∷ t ∷ m ∷ []) (eq d ∷ eq e ∷ le h ∷ le_times low k ∷ eq i ∷ []) (search reading_of) tt
 
 wait_none : (capacity : Option ℚ) (amount : ℚ → ℚ) (a s : ℚ) → IsPositive capacity → NeverFalls amount → amount 0ℚ ≡ 0ℚ → amount a ≡ 0ℚ → (capacity ≡ None → s ≤ℚ 0ℚ)
     → IsQueue capacity amount a (queue_by_slack capacity s) → s ≤ℚ 0ℚ
@@ -111,16 +112,13 @@ module _ (net : Network) (amount label : ℕ → ℚ → ℚ) (until : ℚ) (goo
       (sym (sent-is net amount label e link 0ℚ p) ∙ holds.sent_starts e link p) (λ none. holds.unbounded e link 0ℚ p none first) (holds.queue e link 0ℚ p first)
 
   less_none : (y x : ℚ) → y ≡ x → y -ℚ 0ℚ ≡ x
-  less_none y x e = linear_eq (y ∷ x ∷ []) (eq e ∷ []) (search reading_of depth 12) tt tt
+  less_none y x e = linear_eq (y ∷ x ∷ []) (eq e ∷ []) (search reading_of) tt tt
 
   back_again : (b r : ℚ) → b ≡ (b -ℚ r) +ℚ r
-  back_again b r = linear_eq (b ∷ r ∷ []) [] (search reading_of depth 12) tt tt
-
-  in_time : (a b r : ℚ) → b -ℚ (a +ℚ r) ≤ℚ 0ℚ → b -ℚ r ≤ℚ a
-  in_time a b r h = linear_le (a ∷ b ∷ r ∷ []) (le h ∷ []) (search reading_of depth 12) tt
+  back_again b r = linear_eq (b ∷ r ∷ []) [] (search reading_of) tt tt
 
   too_early : (b r : ℚ) → b -ℚ r <ℚ 0ℚ → b <ℚ r
-  too_early b r h = linear_lt (b ∷ r ∷ []) (lt h ∷ []) (search reading_of depth 12) tt
+  too_early b r h = linear_lt (b ∷ r ∷ []) (lt h ∷ []) (search reading_of) tt
 
   outflow_unused : (e : ℕ) (link : Link) (departure : ℚ) → IsLink net e link → Within 0ℚ until departure → link_slack label link departure ≤ℚ 0ℚ
       → IsOutflow link.transit link.capacity (amount e) (label link.head departure) (sent net amount label e departure)
@@ -155,7 +153,7 @@ module _ (net : Network) (amount label : ℕ → ℚ → ℚ) (until : ℚ) (goo
       (λ t i j. none_yet e link t p i (≤ℚ_trans _ _ _ j k) ∙ sym (amount_starts e link p))
 
   soon : (a b r z : ℚ) → z ≤ℚ b → b -ℚ (a +ℚ r) ≤ℚ 0ℚ → z -ℚ r ≤ℚ a
-  soon a b r z h k = linear_le (a ∷ b ∷ r ∷ z ∷ []) (le h ∷ le k ∷ []) (search reading_of depth 12) tt
+  soon a b r z h k = linear_le (a ∷ b ∷ r ∷ z ∷ []) (le h ∷ le k ∷ []) (search reading_of) tt
 
   pub outflow_early : (e : ℕ) (link : Link) (time : ℚ) → IsLink net e link → 0ℚ ≤ℚ time → time ≤ℚ label link.head 0ℚ → IsOutflow link.transit link.capacity (amount e) time 0ℚ
   outflow_early e link time p h k = ⊎_elim
@@ -194,13 +192,13 @@ module _ (net : Network) (amount label : ℕ → ℚ → ℚ) (until : ℚ) (goo
       (lt_or_le_ℚ time (label v 0ℚ))
 
   nothing_more : (s t : ℚ) → s ≡ t → s ≡ t +ℚ 0ℚ
-  nothing_more s t e = linear_eq (s ∷ t ∷ []) (eq e ∷ []) (search reading_of depth 12) tt tt
+  nothing_more s t e = linear_eq (s ∷ t ∷ []) (eq e ∷ []) (search reading_of) tt tt
 
   nothing_less : (s t : ℚ) → s ≡ t → s +ℚ 0ℚ ≡ t
-  nothing_less s t e = linear_eq (s ∷ t ∷ []) (eq e ∷ []) (search reading_of depth 12) tt tt
+  nothing_less s t e = linear_eq (s ∷ t ∷ []) (eq e ∷ []) (search reading_of) tt tt
 
   along : (a b x y : ℚ) → a ≡ x → b ≡ y → x <ℚ y → a <ℚ b
-  along a b x y e f h = linear_lt (a ∷ b ∷ x ∷ y ∷ []) (eq e ∷ eq f ∷ lt h ∷ []) (search reading_of depth 12) tt
+  along a b x y e f h = linear_lt (a ∷ b ∷ x ∷ y ∷ []) (eq e ∷ eq f ∷ lt h ∷ []) (search reading_of) tt
 
   -- ---- the theorem
   pub IsNashFlow-from_HoldsUpTo : IsNashFlow net amount label until

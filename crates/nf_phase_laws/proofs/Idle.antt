@@ -6,7 +6,7 @@ use Rattle.nf_rational.specs.Order.{◌≤ℚ◌, ◌<ℚ◌, max_ℚ}
 use Rattle.nf_rational_laws.proofs.Polynomial.{reading_of}
 use Rattle.nf_rational_laws.proofs.Order.{≤ℚ_of_lt}
 use Rattle.nf_rational_laws.proofs.Tests.{max_ℚ_cases, max0_none}
-use Rattle.nf_rational_laws.proofs.Linear.{eq, le_times, eq_times, linear_le, linear_eq}
+use Rattle.nf_rational_laws.proofs.Linear.{eq, le_times, linear_le, linear_eq}
 use Rattle.nf_model.specs.Queue.{IsQueue, waiting}
 use Rattle.nf_model_laws.specs.Capacity.{IsPositive}
 use Rattle.nf_model_laws.proofs.Affine.{quotient-times, same_from_times}
@@ -14,6 +14,7 @@ use Rattle.nf_model_laws.proofs.Queues.{IsQueue-none}
 use Rattle.nf_model_laws.proofs.Step.{IsQueue-step_empty, IsQueue-at_0}
 use Rattle.nf_phase_laws.specs.Invariant.{queue_by_slack}
 use Rattle.nf_rational_laws.proofs.Chains.{≤ℚ_refl}
+use Rattle.nf_rational_laws.proofs.Facts.{times_second_zero}
 
 -- ---- the greater of 0 and a number
 pub max0_cases : {P : Type 0} (s m : ℚ) → m ≡ max_ℚ 0ℚ s → (m ≡ s → 0ℚ ≤ℚ s → P) → (m ≡ 0ℚ → s <ℚ 0ℚ → P) → P
@@ -26,25 +27,22 @@ times-quotient : (c m : ℚ) → 0ℚ <ℚ c → c *ℚ m /ℚ c ≡ m
 times-quotient c m h = same_from_times c _ m h (turn (c *ℚ m /ℚ c) c (c *ℚ m) (quotient-times (c *ℚ m) c h))
   where
     turn : (q c p : ℚ) → q *ℚ c ≡ p → c *ℚ q ≡ p
-    turn q c p e = linear_eq (q ∷ c ∷ p ∷ []) (eq e ∷ []) (search reading_of depth 12) tt tt
+    turn q c p e = linear_eq (q ∷ c ∷ p ∷ []) (eq e ∷ []) (search reading_of) tt tt
 
 pub waiting-by_slack : (capacity : Option ℚ) (s : ℚ) → IsPositive capacity → (capacity ≡ None → s ≤ℚ 0ℚ) → waiting capacity (queue_by_slack capacity s) ≡ max_ℚ 0ℚ s
 waiting-by_slack None s c h = sym (max0_none s (h refl))
 waiting-by_slack (Some rate) s c h = times-quotient rate (max_ℚ 0ℚ s) (c rate refl)
 
-times_none : (c m : ℚ) → m ≡ 0ℚ → c *ℚ m ≡ 0ℚ
-times_none c m e = linear_eq (c ∷ m ∷ []) (eq_times c e ∷ []) (search reading_of depth 12) tt tt
-
 pub queue_by_slack-low : (capacity : Option ℚ) (s : ℚ) → s ≤ℚ 0ℚ → queue_by_slack capacity s ≡ 0ℚ
 queue_by_slack-low None s h = refl
-queue_by_slack-low (Some rate) s h = times_none rate _ (max0_none s h)
+queue_by_slack-low (Some rate) s h = times_second_zero rate _ (max0_none s h)
 
 -- ---- where nothing enters, an empty queue stays empty
 empties : (c z a : ℚ) → 0ℚ ≤ℚ c → a ≤ℚ z → 0ℚ +ℚ (0ℚ -ℚ c) *ℚ (z -ℚ a) ≤ℚ 0ℚ
-empties c z a h k = linear_le (c ∷ z ∷ a ∷ []) (le_times h k ∷ []) (search reading_of depth 12) tt
+empties c z a h k = linear_le (c ∷ z ∷ a ∷ []) (le_times h k ∷ []) (search reading_of) tt
 
 level : (y z a t : ℚ) → y ≡ z → y ≡ z +ℚ 0ℚ *ℚ (t -ℚ a)
-level y z a t e = linear_eq (y ∷ z ∷ a ∷ t ∷ []) (eq e ∷ []) (search reading_of depth 12) tt tt
+level y z a t e = linear_eq (y ∷ z ∷ a ∷ t ∷ []) (eq e ∷ []) (search reading_of) tt tt
 
 pub IsQueue-stays_empty : (capacity : Option ℚ) (amount : ℚ → ℚ) (start time : ℚ) → IsPositive capacity → start ≤ℚ time
     → ((t : ℚ) → start ≤ℚ t → t ≤ℚ time → amount t ≡ amount start) → IsQueue capacity amount start 0ℚ → IsQueue capacity amount time 0ℚ

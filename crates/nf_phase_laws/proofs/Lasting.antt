@@ -21,12 +21,12 @@ use Rattle.nf_rational_laws.proofs.Chains.{≤ℚ_trans}
 pub supply-lasts : (net : Network) (slacks slopes : List ℚ) (until length : ℚ) → IsNetwork net → Lasts net slacks slopes until length → (t : ℚ) → Within 0ℚ length t
     → supply net (until +ℚ t) ≡ supply net until +ℚ rate_at net until *ℚ t
 supply-lasts net slacks slopes until length good lasts t w =
-    supplied-goes_on net.pieces until (until +ℚ t) good.pieces (linear_le (until ∷ t ∷ []) (le w.0 ∷ []) (search reading_of depth 12) tt)
-    (λ i piece p h. ≤ℚ_trans _ _ _ (linear_le (until ∷ t ∷ length ∷ []) (le w.1 ∷ []) (search reading_of depth 12) tt) (lasts.supply i piece p h))
+    supplied-goes_on net.pieces until (until +ℚ t) good.pieces (linear_le (until ∷ t ∷ []) (le w.0 ∷ []) (search reading_of) tt)
+    (λ i piece p h. ≤ℚ_trans _ _ _ (linear_le (until ∷ t ∷ length ∷ []) (le w.1 ∷ []) (search reading_of) tt) (lasts.supply i piece p h))
     ∙ whole (supply net until) (rate_at net until) until t
   where
     whole : (u r a t : ℚ) → u +ℚ r *ℚ ((a +ℚ t) -ℚ a) ≡ u +ℚ r *ℚ t
-    whole u r a t = linear_eq (u ∷ r ∷ a ∷ t ∷ []) [] (search reading_of depth 12) tt tt
+    whole u r a t = linear_eq (u ∷ r ∷ a ∷ t ∷ []) [] (search reading_of) tt tt
 
 module _ (net : Network) (amount label amount' label' : ℕ → ℚ → ℚ) (until length : ℚ) (labels flows slopes : List ℚ) (good : IsNetwork net) (holds : HoldsUpTo net amount label until)
     (same : LabelsAre net label until labels) (thin : IsThinFlow net (sets_at net labels) (rate_at net until) flows slopes)
@@ -35,7 +35,7 @@ module _ (net : Network) (amount label amount' label' : ℕ → ℚ → ℚ) (un
   slack_entry e link p = slack_at net labels e link p ∙ slack-is net amount label until labels good holds same e link p
 
   after_while : (s z m l t : ℚ) → s ≡ z → s +ℚ t *ℚ (m -ℚ l) ≡ z +ℚ (m -ℚ l) *ℚ t
-  after_while s z m l t e = linear_eq (s ∷ z ∷ m ∷ l ∷ t ∷ []) (eq e ∷ []) (search reading_of depth 12) tt tt
+  after_while s z m l t e = linear_eq (s ∷ z ∷ m ∷ l ∷ t ∷ []) (eq e ∷ []) (search reading_of) tt tt
 
   pub step_of : PhaseStep net amount label until length (rate_at net until) (number_at flows) (number_at slopes) amount' label'
   step_of = record {

@@ -11,8 +11,8 @@ use Rattle.nf_model.specs.Entries.{number_at}
 use Rattle.nf_model.specs.Curve.{Within}
 use Rattle.nf_model.specs.Network.{Link, Piece, Network}
 use Rattle.nf_model.specs.Phases.{Lasts, IsExtension, IsPhaseLength, IsPhase}
-use Rattle.nf_model_laws.proofs.Affine.{<_≤_trans, quotient-times}
-use Rattle.nf_rational_laws.proofs.Chains.{≤ℚ_trans}
+use Rattle.nf_model_laws.proofs.Affine.{quotient-times}
+use Rattle.nf_rational_laws.proofs.Chains.{≤ℚ_trans, <_≤_trans}
 use Rattle.nf_rational_laws.proofs.Extremes.{min_left, min_right, min_keeps}
 
 -- ---- if each entry of a list allows some time, some time is allowed by all of them
@@ -25,7 +25,7 @@ lesser : (a b : ℚ) → 0ℚ <ℚ a → 0ℚ <ℚ b → (0ℚ <ℚ min_ℚ a b)
 lesser a b h k = (min_keeps (λ (z : ℚ). 0ℚ <ℚ z) a b h k, (min_left a b, min_right a b))
 
 one_ps : 0ℚ <ℚ 1ℚ
-one_ps = linear_lt [] [] (search reading_of depth 12) tt
+one_ps = linear_lt [] [] (search reading_of) tt
 
 pub fits_all : {A : Type 0} (xs : List A) (Fits : ℕ → A → ℚ → Type 0) → ((i : ℕ) (x : A) (long short : ℚ) → Fits i x long → short ≤ℚ long → Fits i x short)
     → ((i : ℕ) (x : A) → slice_get xs i ≡ Some x → (time : ℚ) × (0ℚ <ℚ time) × Fits i x time) → Fitting xs Fits
@@ -57,10 +57,10 @@ room z k h = ⊎_elim
     (lt_or_le_ℚ 0ℚ k)
   where
     reached : (w t : ℚ) → 0ℚ ≤ℚ k → w ≤ℚ t → t *ℚ k ≡ z → w *ℚ k ≤ℚ z
-    reached w t n v e = linear_le (w ∷ t ∷ k ∷ z ∷ []) (le_times n v ∷ eq e ∷ []) (search reading_of depth 12) tt
+    reached w t n v e = linear_le (w ∷ t ∷ k ∷ z ∷ []) (le_times n v ∷ eq e ∷ []) (search reading_of) tt
 
     sinks : (w : ℚ) → k ≤ℚ 0ℚ → 0ℚ ≤ℚ w → w *ℚ k ≤ℚ z
-    sinks w u v = linear_le (w ∷ k ∷ z ∷ []) (lt h ∷ le_times v u ∷ []) (search reading_of depth 12) tt
+    sinks w u v = linear_le (w ∷ k ∷ z ∷ []) (lt h ∷ le_times v u ∷ []) (search reading_of) tt
 
 -- of a link with this slack, whose slack changes at this rate
 pub record KeepsSide (z k time : ℚ) : Type 0 where
@@ -70,7 +70,7 @@ pub record KeepsSide (z k time : ℚ) : Type 0 where
 keeps_side : (z k : ℚ) → (time : ℚ) × (0ℚ <ℚ time) × KeepsSide z k time
 keeps_side z k = ⊎_elim
     (λ (h : z <ℚ 0ℚ).
-    let r : Room (0ℚ -ℚ z) k = room (0ℚ -ℚ z) k (linear_lt (z ∷ []) (lt h ∷ []) (search reading_of depth 12) tt) in
+    let r : Room (0ℚ -ℚ z) k = room (0ℚ -ℚ z) k (linear_lt (z ∷ []) (lt h ∷ []) (search reading_of) tt) in
     (r.0, r.1, record { below = λ w _ v. under w (r.2 w v); above = λ w i _. absurd (not_both_ℚ _ _ h (≤ℚ_of_lt _ _ i)) }))
     (λ (h : 0ℚ ≤ℚ z). ⊎_elim
     (λ (i : 0ℚ <ℚ z).
@@ -81,10 +81,10 @@ keeps_side z k = ⊎_elim
     (lt_or_le_ℚ z 0ℚ)
   where
     under : (w : ℚ) → w *ℚ k ≤ℚ 0ℚ -ℚ z → z +ℚ w *ℚ k ≤ℚ 0ℚ
-    under w e = linear_le (z ∷ k ∷ w ∷ []) (le e ∷ []) (search reading_of depth 12) tt
+    under w e = linear_le (z ∷ k ∷ w ∷ []) (le e ∷ []) (search reading_of) tt
 
     over : (w : ℚ) → w *ℚ (0ℚ -ℚ k) ≤ℚ z → 0ℚ ≤ℚ z +ℚ w *ℚ k
-    over w e = linear_le (z ∷ k ∷ w ∷ []) (le e ∷ []) (search reading_of depth 12) tt
+    over w e = linear_le (z ∷ k ∷ w ∷ []) (le e ∷ []) (search reading_of) tt
 
 -- ---- a phase can last for some time
 module _ (net : Network) (slacks slopes : List ℚ) (time : ℚ) where
@@ -108,13 +108,13 @@ module _ (net : Network) (slacks slopes : List ℚ) (time : ℚ) where
       (lt_or_le_ℚ time piece.start))
     where
       sooner : (s long short : ℚ) → time +ℚ long ≤ℚ s → short ≤ℚ long → time +ℚ short ≤ℚ s
-      sooner s long short h k = linear_le (time ∷ s ∷ long ∷ short ∷ []) (le h ∷ le k ∷ []) (search reading_of depth 12) tt
+      sooner s long short h k = linear_le (time ∷ s ∷ long ∷ short ∷ []) (le h ∷ le k ∷ []) (search reading_of) tt
 
       until_then : (s : ℚ) → time <ℚ s → 0ℚ <ℚ s -ℚ time
-      until_then s h = linear_lt (time ∷ s ∷ []) (lt h ∷ []) (search reading_of depth 12) tt
+      until_then s h = linear_lt (time ∷ s ∷ []) (lt h ∷ []) (search reading_of) tt
 
       just : (s : ℚ) → time +ℚ (s -ℚ time) ≤ℚ s
-      just s = linear_le (time ∷ s ∷ []) [] (search reading_of depth 12) tt
+      just s = linear_le (time ∷ s ∷ []) [] (search reading_of) tt
 
   pub Lasts-some : (length : ℚ) × (0ℚ <ℚ length) × Lasts net slacks slopes time length
   Lasts-some =
@@ -132,7 +132,7 @@ module _ (net : Network) (slacks slopes : List ℚ) (time : ℚ) where
       )
     where
       further : (c b : ℚ) → c ≤ℚ b → time +ℚ c ≤ℚ time +ℚ b
-      further c b h = linear_le (time ∷ c ∷ b ∷ []) (le h ∷ []) (search reading_of depth 12) tt
+      further c b h = linear_le (time ∷ c ∷ b ∷ []) (le h ∷ []) (search reading_of) tt
 
 pub IsExtension-some : (net : Network) (slacks slopes : List ℚ) (time length : ℚ) → IsExtension net slacks slopes time length → 0ℚ <ℚ length
 IsExtension-some net slacks slopes time length x =
@@ -148,4 +148,4 @@ pub IsPhase-some : (net : Network) (horizon : ℚ) (old new : ℚ × List ℚ) �
 IsPhase-some net horizon old new phase = later old.0 new.0 phase.length phase.time (IsPhaseLength-some net _ phase.slopes old.0 horizon phase.length phase.before phase.is_length)
   where
     later : (a b d : ℚ) → b ≡ a +ℚ d → 0ℚ <ℚ d → a <ℚ b
-    later a b d e h = linear_lt (a ∷ b ∷ d ∷ []) (eq e ∷ lt h ∷ []) (search reading_of depth 12) tt
+    later a b d e h = linear_lt (a ∷ b ∷ d ∷ []) (eq e ∷ lt h ∷ []) (search reading_of) tt

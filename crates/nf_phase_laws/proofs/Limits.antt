@@ -26,7 +26,7 @@ abbrev pub Both : (ℚ → Type 0) → (ℚ → Type 0) → ℚ → Type 0
 Both P Q length = P length × Q length
 
 below : (a b c : ℚ) → a ≤ℚ b → b <ℚ c → a ≤ℚ c
-below a b c h k = linear_le (a ∷ b ∷ c ∷ []) (le h ∷ lt k ∷ []) (search reading_of depth 12) tt
+below a b c h k = linear_le (a ∷ b ∷ c ∷ []) (le h ∷ lt k ∷ []) (search reading_of) tt
 
 module _ (P Q : ℚ → Type 0) where
   -- An equivalent property has the same limit.

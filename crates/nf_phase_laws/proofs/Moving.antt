@@ -1,7 +1,7 @@
 -- The change of labels in a phase of a run, and the rates of the links that follow.
 use Rattle.std.proofs.Common.{◌≡◌, ℕ, List, [], ◌∷◌, length, Bool, true, false, sym, ap, subst, refl, ◌∙◌}
-use Rattle.std.specs.Prelude.{Some, None, map, slice_get}
-use Rattle.std.proofs.lemmas.Option.{same_Some}
+use Rattle.std.specs.Prelude.{Some, map, slice_get}
+use Rattle.std.proofs.lemmas.Option.{same_Some, none-some}
 use Rattle.nf_rational.specs.Rational.{ℚ}
 use Rattle.nf_rational.specs.Operations.{0ℚ, ◌+ℚ◌, ◌*ℚ◌}
 use Rattle.nf_rational.specs.Order.{◌<ℚ◌}
@@ -21,19 +21,16 @@ use Rattle.nf_thin_laws.proofs.Ending.{number-moved, PhaseParts}
 use Rattle.nf_phase_laws.proofs.StepValues.{rate_value, queue_value, step_value, step_value_at, positive_of}
 
 -- ---- the source of a rate
-none_some : {A : Type 0} (x : A) → None ≡ Some x → ⊥
-none_some x e = cc
-
 rate_moves : (b : Bool) (flow slope rate : ℚ) → rate_value b flow slope ≡ Some rate → b ≡ true
 rate_moves true flow slope rate h = refl
-rate_moves false flow slope rate h = absurd (none_some rate h)
+rate_moves false flow slope rate h = absurd (none-some rate h)
 
 queue_moves : (link : LinkPhase) (b : Bool) (flow slope : ℚ) (step : QueueStep) → queue_value link (rate_value b flow slope) ≡ Some step → b ≡ true
 queue_moves link true flow slope step h = refl
-queue_moves link false flow slope step h = absurd (none_some step h)
+queue_moves link false flow slope step h = absurd (none-some step h)
 
 further : (x t r : ℚ) → 0ℚ <ℚ t *ℚ r → x <ℚ x +ℚ t *ℚ r
-further x t r h = linear_lt (x ∷ (t *ℚ r) ∷ []) (lt h ∷ []) (search reading_of depth 12) tt
+further x t r h = linear_lt (x ∷ (t *ℚ r) ∷ []) (lt h ∷ []) (search reading_of) tt
 
 -- ---- one phase
 module _ (passes : Passing) (net : Network) (s : Standing) (pattern : Pattern) (flows slopes : List ℚ) (step : PhaseStep) (parts : PhaseParts passes net s pattern flows slopes step)

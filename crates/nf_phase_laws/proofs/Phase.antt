@@ -25,6 +25,7 @@ use Rattle.nf_phase_laws.proofs.Thin.{IsThinBy}
 use Rattle.nf_phase_laws.proofs.QueueCases.{LinkStep, IsQueue-by_slack, unused_below, unbounded_below}
 use Rattle.nf_phase_laws.proofs.Rising.{NeverFalls-goes_on}
 use Rattle.nf_rational_laws.proofs.Chains.{≤ℚ_refl, ≤ℚ_trans}
+use Rattle.nf_rational_laws.proofs.Facts.{same_slacks, in_time, less_le}
 
 -- Facts on a phase.
 pub record PhaseStep (net : Network) (amount label : ℕ → ℚ → ℚ) (until length rate : ℚ) (x slope : ℕ → ℚ) (amount' label' : ℕ → ℚ → ℚ) : Type 0 where
@@ -39,83 +40,74 @@ pub record PhaseStep (net : Network) (amount label : ℕ → ℚ → ℚ) (until
 
 -- ---- steps over plain numbers
 le_along : (a b c d : ℚ) → a ≡ b → c ≡ d → b ≤ℚ d → a ≤ℚ c
-le_along a b c d e f h = linear_le (a ∷ b ∷ c ∷ d ∷ []) (eq e ∷ eq f ∷ le h ∷ []) (search reading_of depth 12) tt
+le_along a b c d e f h = linear_le (a ∷ b ∷ c ∷ d ∷ []) (eq e ∷ eq f ∷ le h ∷ []) (search reading_of) tt
 
 after_start : (a l t y : ℚ) → 0ℚ ≤ℚ l → 0ℚ ≤ℚ t → y ≡ a +ℚ l *ℚ t → a ≤ℚ y
-after_start a l t y h k e = linear_le (a ∷ l ∷ t ∷ y ∷ []) (eq e ∷ le_times h k ∷ []) (search reading_of depth 12) tt
+after_start a l t y h k e = linear_le (a ∷ l ∷ t ∷ y ∷ []) (eq e ∷ le_times h k ∷ []) (search reading_of) tt
 
 line_order : (a l s t : ℚ) → 0ℚ ≤ℚ l → s ≤ℚ t → a +ℚ l *ℚ s ≤ℚ a +ℚ l *ℚ t
-line_order a l s t h k = linear_le (a ∷ l ∷ s ∷ t ∷ []) (le_times h k ∷ []) (search reading_of depth 12) tt
+line_order a l s t h k = linear_le (a ∷ l ∷ s ∷ t ∷ []) (le_times h k ∷ []) (search reading_of) tt
 
 slack_line : (b b' a a' r l m t : ℚ) → b' ≡ b +ℚ m *ℚ t → a' ≡ a +ℚ l *ℚ t → b' -ℚ (a' +ℚ r) ≡ b -ℚ (a +ℚ r) +ℚ (m -ℚ l) *ℚ t
-slack_line b b' a a' r l m t e f = linear_eq (b ∷ b' ∷ a ∷ a' ∷ r ∷ l ∷ m ∷ t ∷ []) (eq e ∷ eq f ∷ []) (search reading_of depth 12) tt tt
-
-slack_same : (b b' a a' r : ℚ) → b' ≡ b → a' ≡ a → b' -ℚ (a' +ℚ r) ≡ b -ℚ (a +ℚ r)
-slack_same b b' a a' r e f = linear_eq (b ∷ b' ∷ a ∷ a' ∷ r ∷ []) (eq e ∷ eq f ∷ []) (search reading_of depth 12) tt tt
+slack_line b b' a a' r l m t e f = linear_eq (b ∷ b' ∷ a ∷ a' ∷ r ∷ l ∷ m ∷ t ∷ []) (eq e ∷ eq f ∷ []) (search reading_of) tt tt
 
 from_zero : (a l u : ℚ) → a +ℚ l *ℚ u ≡ a +ℚ l *ℚ (u -ℚ 0ℚ)
-from_zero a l u = linear_eq (a ∷ l ∷ u ∷ []) [] (search reading_of depth 12) tt tt
+from_zero a l u = linear_eq (a ∷ l ∷ u ∷ []) [] (search reading_of) tt tt
 
 on_the_line : (f v a l t r x y : ℚ) → f ≡ v +ℚ r *ℚ ((a +ℚ l *ℚ t) -ℚ a) → v ≡ y → r *ℚ l ≡ x → f ≡ y +ℚ x *ℚ t
 on_the_line f v a l t r x y e i g = linear_eq (f ∷ v ∷ a ∷ l ∷ t ∷ r ∷ x ∷ y ∷ []) (eq e ∷ eq i ∷ eq_times t g ∷ []) (search reading_of depth 12) tt tt
 
 still_nn : (s m l t : ℚ) → 0ℚ ≤ℚ s → l ≤ℚ m → 0ℚ ≤ℚ t → 0ℚ ≤ℚ s +ℚ (m -ℚ l) *ℚ t
-still_nn s m l t h k j = linear_le (s ∷ m ∷ l ∷ t ∷ []) (le h ∷ le_times j k ∷ []) (search reading_of depth 12) tt
+still_nn s m l t h k j = linear_le (s ∷ m ∷ l ∷ t ∷ []) (le h ∷ le_times j k ∷ []) (search reading_of) tt
 
 -- Without flow the amount is constant.
 flat : (f y r a l t z : ℚ) → f ≡ y +ℚ r *ℚ (z -ℚ a) → r *ℚ l ≡ 0ℚ → 0ℚ ≤ℚ l → a <ℚ z → z ≤ℚ a +ℚ l *ℚ t → f ≡ y
 flat f y r a l t z e g n h k = ⊎_elim
-    (λ (u : 0ℚ <ℚ l). let d : r ≡ 0ℚ = same_from_times l r 0ℚ u (linear_eq (r ∷ l ∷ []) (eq g ∷ []) (search reading_of depth 12) tt tt) in
-    linear_eq (f ∷ y ∷ r ∷ z ∷ a ∷ []) (eq e ∷ eq_times (z -ℚ a) d ∷ []) (search reading_of depth 12) tt tt)
+    (λ (u : 0ℚ <ℚ l). let d : r ≡ 0ℚ = same_from_times l r 0ℚ u (linear_eq (r ∷ l ∷ []) (eq g ∷ []) (search reading_of) tt tt) in
+    linear_eq (f ∷ y ∷ r ∷ z ∷ a ∷ []) (eq e ∷ eq_times (z -ℚ a) d ∷ []) (search reading_of) tt tt)
     (λ (u : l ≤ℚ 0ℚ). let d : l ≡ 0ℚ = ≤ℚ_antisymm _ _ u n in
-    absurd (linear_false (a ∷ l ∷ t ∷ z ∷ []) (lt h ∷ le k ∷ eq_times t d ∷ []) (search reading_of depth 12) tt))
+    absurd (linear_false (a ∷ l ∷ t ∷ z ∷ []) (lt h ∷ le k ∷ eq_times t d ∷ []) (search reading_of) tt))
     (lt_or_le_ℚ 0ℚ l)
 
 no_flow : (y x t z : ℚ) → x ≡ 0ℚ → z ≡ y +ℚ x *ℚ t → y ≡ z
-no_flow y x t z e f = linear_eq (y ∷ x ∷ t ∷ z ∷ []) (eq_times t e ∷ eq f ∷ []) (search reading_of depth 12) tt tt
+no_flow y x t z e f = linear_eq (y ∷ x ∷ t ∷ z ∷ []) (eq_times t e ∷ eq f ∷ []) (search reading_of) tt tt
 
 at_the_end : (a b r z : ℚ) → 0ℚ ≤ℚ b -ℚ (a +ℚ r) → b -ℚ r ≤ℚ z → z ≤ℚ a → z ≡ a
-at_the_end a b r z h i j = linear_eq (a ∷ b ∷ r ∷ z ∷ []) (le h ∷ le i ∷ le j ∷ []) (search reading_of depth 12) tt tt
+at_the_end a b r z h i j = linear_eq (a ∷ b ∷ r ∷ z ∷ []) (le h ∷ le i ∷ le j ∷ []) (search reading_of) tt tt
 
 sooner : (b b' r z : ℚ) → b ≤ℚ b' → b' -ℚ r ≤ℚ z → b -ℚ r ≤ℚ z
-sooner b b' r z h i = linear_le (b ∷ b' ∷ r ∷ z ∷ []) (le h ∷ le i ∷ []) (search reading_of depth 12) tt
-
-in_time : (a b r : ℚ) → b -ℚ (a +ℚ r) ≤ℚ 0ℚ → b -ℚ r ≤ℚ a
-in_time a b r h = linear_le (a ∷ b ∷ r ∷ []) (le h ∷ []) (search reading_of depth 12) tt
-
-less_transit : (b b' r : ℚ) → b ≤ℚ b' → b -ℚ r ≤ℚ b' -ℚ r
-less_transit b b' r h = linear_le (b ∷ b' ∷ r ∷ []) (le h ∷ []) (search reading_of depth 12) tt
+sooner b b' r z h i = linear_le (b ∷ b' ∷ r ∷ z ∷ []) (le h ∷ le i ∷ []) (search reading_of) tt
 
 same_time : (a b r : ℚ) → b -ℚ (a +ℚ r) ≤ℚ 0ℚ → 0ℚ ≤ℚ b -ℚ (a +ℚ r) → a ≡ b -ℚ r
-same_time a b r h k = linear_eq (a ∷ b ∷ r ∷ []) (le h ∷ le k ∷ []) (search reading_of depth 12) tt tt
+same_time a b r h k = linear_eq (a ∷ b ∷ r ∷ []) (le h ∷ le k ∷ []) (search reading_of) tt tt
 
 has_flow : (y x s t a b : ℚ) → 0ℚ ≤ℚ x → a ≡ y +ℚ x *ℚ s → b ≡ y +ℚ x *ℚ t → a <ℚ b → 0ℚ <ℚ x
 has_flow y x s t a b n e f h = ⊎_elim (λ (k : 0ℚ <ℚ x). k)
-    (λ (k : x ≤ℚ 0ℚ). let d : x ≡ 0ℚ = ≤ℚ_antisymm _ _ k n in absurd (linear_false (y ∷ x ∷ s ∷ t ∷ a ∷ b ∷ []) (eq e ∷ eq f ∷ lt h ∷ eq_times s d ∷ eq_times t d ∷ []) (search reading_of depth 12) tt))
+    (λ (k : x ≤ℚ 0ℚ). let d : x ≡ 0ℚ = ≤ℚ_antisymm _ _ k n in absurd (linear_false (y ∷ x ∷ s ∷ t ∷ a ∷ b ∷ []) (eq e ∷ eq f ∷ lt h ∷ eq_times s d ∷ eq_times t d ∷ []) (search reading_of) tt))
     (lt_or_le_ℚ 0ℚ x)
 
 lt_along : (a b c d : ℚ) → a ≡ b → c ≡ d → a <ℚ c → b <ℚ d
-lt_along a b c d e f h = linear_lt (a ∷ b ∷ c ∷ d ∷ []) (eq e ∷ eq f ∷ lt h ∷ []) (search reading_of depth 12) tt
+lt_along a b c d e f h = linear_lt (a ∷ b ∷ c ∷ d ∷ []) (eq e ∷ eq f ∷ lt h ∷ []) (search reading_of) tt
 
 -- Both sides of a preserved sum: i and o at first, j and k by time, and u and r beside them.
 both_inner : (i' o' i o j k t : ℚ) → i' ≡ i +ℚ j *ℚ t → o' ≡ o +ℚ k *ℚ t → i ≡ o → j ≡ k → i' ≡ o'
-both_inner i' o' i o j k t a b c d = linear_eq (i' ∷ o' ∷ i ∷ o ∷ j ∷ k ∷ t ∷ []) (eq a ∷ eq b ∷ eq c ∷ eq_times t d ∷ []) (search reading_of depth 12) tt tt
+both_inner i' o' i o j k t a b c d = linear_eq (i' ∷ o' ∷ i ∷ o ∷ j ∷ k ∷ t ∷ []) (eq a ∷ eq b ∷ eq c ∷ eq_times t d ∷ []) (search reading_of) tt tt
 
 both_source : (i' o' u' i o u j k r t : ℚ) → i' ≡ i +ℚ j *ℚ t → o' ≡ o +ℚ k *ℚ t → u' ≡ u +ℚ r *ℚ t → i +ℚ u ≡ o → j +ℚ r ≡ k → i' +ℚ u' ≡ o'
-both_source i' o' u' i o u j k r t a b s c d = linear_eq (i' ∷ o' ∷ u' ∷ i ∷ o ∷ u ∷ j ∷ k ∷ r ∷ t ∷ []) (eq a ∷ eq b ∷ eq s ∷ eq c ∷ eq_times t d ∷ []) (search reading_of depth 12) tt tt
+both_source i' o' u' i o u j k r t a b s c d = linear_eq (i' ∷ o' ∷ u' ∷ i ∷ o ∷ u ∷ j ∷ k ∷ r ∷ t ∷ []) (eq a ∷ eq b ∷ eq s ∷ eq c ∷ eq_times t d ∷ []) (search reading_of) tt tt
 
 both_sink : (i' o' u' i o u j k r t : ℚ) → i' ≡ i +ℚ j *ℚ t → o' ≡ o +ℚ k *ℚ t → u' ≡ u +ℚ r *ℚ t → i ≡ o +ℚ u → j ≡ k +ℚ r → i' ≡ o' +ℚ u'
-both_sink i' o' u' i o u j k r t a b s c d = linear_eq (i' ∷ o' ∷ u' ∷ i ∷ o ∷ u ∷ j ∷ k ∷ r ∷ t ∷ []) (eq a ∷ eq b ∷ eq s ∷ eq c ∷ eq_times t d ∷ []) (search reading_of depth 12) tt tt
+both_sink i' o' u' i o u j k r t a b s c d = linear_eq (i' ∷ o' ∷ u' ∷ i ∷ o ∷ u ∷ j ∷ k ∷ r ∷ t ∷ []) (eq a ∷ eq b ∷ eq s ∷ eq c ∷ eq_times t d ∷ []) (search reading_of) tt tt
 
 source_moves : (a u l t : ℚ) → a ≡ u → l ≡ 1ℚ → a +ℚ l *ℚ t ≡ u +ℚ t
-source_moves a u l t e f = linear_eq (a ∷ u ∷ l ∷ t ∷ []) (eq e ∷ eq_times t f ∷ []) (search reading_of depth 12) tt tt
+source_moves a u l t e f = linear_eq (a ∷ u ∷ l ∷ t ∷ []) (eq e ∷ eq_times t f ∷ []) (search reading_of) tt tt
 
 -- up to the beginning of the phase, and from there on
 pub by_time : (until length : ℚ) (P : ℚ → Type 0) → ((time : ℚ) → Within 0ℚ until time → P time) → ((t : ℚ) → Within 0ℚ length t → P (until +ℚ t)) → (time : ℚ) → Within 0ℚ (until +ℚ length) time → P time
 by_time until length P f g time w = ⊎_elim
     (λ (l : time <ℚ until). f time (w.0, ≤ℚ_of_lt _ _ l))
-    (λ (l : until ≤ℚ time). subst P (linear_eq (until ∷ time ∷ []) [] (search reading_of depth 12) tt tt)
-    (g (time -ℚ until) (linear_le (until ∷ time ∷ []) (le l ∷ []) (search reading_of depth 12) tt, linear_le (until ∷ time ∷ length ∷ []) (le w.1 ∷ []) (search reading_of depth 12) tt)))
+    (λ (l : until ≤ℚ time). subst P (linear_eq (until ∷ time ∷ []) [] (search reading_of) tt tt)
+    (g (time -ℚ until) (linear_le (until ∷ time ∷ []) (le l ∷ []) (search reading_of) tt, linear_le (until ∷ time ∷ length ∷ []) (le w.1 ∷ []) (search reading_of) tt)))
     (lt_or_le_ℚ time until)
 
 module _ (net : Network) (amount label : ℕ → ℚ → ℚ) (until length rate : ℚ) (x slope : ℕ → ℚ) (amount' label' : ℕ → ℚ → ℚ)
@@ -133,10 +125,10 @@ module _ (net : Network) (amount label : ℕ → ℚ → ℚ) (until length rate
   first = (≤ℚ_refl 0ℚ, step.holds.begun)
 
   longer : (time : ℚ) → Within 0ℚ until time → Within 0ℚ (until +ℚ length) time
-  longer time w = (w.0, linear_le (until ∷ length ∷ time ∷ []) (le w.1 ∷ le step.some ∷ []) (search reading_of depth 12) tt)
+  longer time w = (w.0, linear_le (until ∷ length ∷ time ∷ []) (le w.1 ∷ le step.some ∷ []) (search reading_of) tt)
 
   later : (t : ℚ) → Within 0ℚ length t → Within 0ℚ (until +ℚ length) (until +ℚ t)
-  later t w = (linear_le (until ∷ t ∷ []) (le step.holds.begun ∷ le w.0 ∷ []) (search reading_of depth 12) tt, linear_le (until ∷ length ∷ t ∷ []) (le w.1 ∷ []) (search reading_of depth 12) tt)
+  later t w = (linear_le (until ∷ t ∷ []) (le step.holds.begun ∷ le w.0 ∷ []) (search reading_of) tt, linear_le (until ∷ length ∷ t ∷ []) (le w.1 ∷ []) (search reading_of) tt)
 
   tails : (e : ℕ) (link : Link) → IsLink net e link → link.tail < net.nodes
   tails = step.good.tails
@@ -151,8 +143,8 @@ module _ (net : Network) (amount label : ℕ → ℚ → ℚ) (until length rate
       (λ t w j. by_time until length (λ s. s ≤ℚ until +ℚ t → label' v s ≤ℚ label' v (until +ℚ t))
       (λ s u j. le_along _ _ _ _ (step.goes.label_before v s h u) refl (≤ℚ_trans _ _ _ (step.holds.label_rises v s until h u.0 u.1 (≤ℚ_refl until)) (after_start (label v until) (slope v) t _ (step.thin.slope_nn v) w.0 (step.goes.label_after v t h w))))
       (λ s u j. le_along _ _ _ _ (step.goes.label_after v s h u) (step.goes.label_after v t h w)
-      (line_order (label v until) (slope v) s t (step.thin.slope_nn v) (linear_le (until ∷ s ∷ t ∷ []) (le j ∷ []) (search reading_of depth 12) tt)))
-      s (i, ≤ℚ_trans _ _ _ j (linear_le (until ∷ t ∷ length ∷ []) (le w.1 ∷ []) (search reading_of depth 12) tt)) j)
+      (line_order (label v until) (slope v) s t (step.thin.slope_nn v) (linear_le (until ∷ s ∷ t ∷ []) (le j ∷ []) (search reading_of) tt)))
+      s (i, ≤ℚ_trans _ _ _ j (linear_le (until ∷ t ∷ length ∷ []) (le w.1 ∷ []) (search reading_of) tt)) j)
       t (≤ℚ_trans _ _ _ i j, k) j
 
   label_takes : (v : ℕ) (y : ℚ) → v < net.nodes → label' v 0ℚ ≤ℚ y → y ≤ℚ label' v (until +ℚ length) → (time : ℚ) × Within 0ℚ (until +ℚ length) time × (label' v time ≡ y)
@@ -173,7 +165,7 @@ module _ (net : Network) (amount label : ℕ → ℚ → ℚ) (until length rate
   rises_on v time h w = step.holds.label_rises v time until h w.0 w.1 (≤ℚ_refl until)
 
   pub slack_before : (e : ℕ) (link : Link) (time : ℚ) → IsLink net e link → Within 0ℚ until time → link_slack label' link time ≡ link_slack label link time
-  slack_before e link time p w = slack_same _ _ _ _ link.transit (step.goes.label_before link.head time (heads e link p) w) (step.goes.label_before link.tail time (tails e link p) w)
+  slack_before e link time p w = same_slacks _ _ _ _ link.transit (step.goes.label_before link.head time (heads e link p) w) (step.goes.label_before link.tail time (tails e link p) w)
 
   pub slack_after : (e : ℕ) (link : Link) (t : ℚ) → IsLink net e link → Within 0ℚ length t → link_slack label' link (until +ℚ t) ≡ link_slack label link until +ℚ (slope link.head -ℚ slope link.tail) *ℚ t
   slack_after e link t p w = slack_line _ _ _ _ link.transit _ _ t (step.goes.label_after link.head t (heads e link p) w) (step.goes.label_after link.tail t (tails e link p) w)
@@ -350,7 +342,7 @@ module _ (net : Network) (amount label : ℕ → ℚ → ℚ) (until length rate
 
   empty_unused : (e : ℕ) (link : Link) (t : ℚ) → IsLink net e link → Within 0ℚ length t → (link_slack label link until ≤ℚ 0ℚ) × (x e ≡ 0ℚ) → EmptyAt e link (until +ℚ t)
   empty_unused e link t p w u s h =
-      let k : label link.head until -ℚ link.transit ≤ℚ label' link.head (until +ℚ t) -ℚ link.transit = less_transit _ _ link.transit (head_rises e link t p w) in
+      let k : label link.head until -ℚ link.transit ≤ℚ label' link.head (until +ℚ t) -ℚ link.transit = less_le _ _ link.transit (head_rises e link t p w) in
       let j : label' link.head (until +ℚ t) -ℚ link.transit ≤ℚ label link.tail until +ℚ slope link.tail *ℚ t =
       subst (λ (a : ℚ). label' link.head (until +ℚ t) -ℚ link.transit ≤ℚ a) (step.goes.label_after link.tail t (tails e link p) w) (in_time _ _ link.transit s) in
       ⊎_elim
@@ -382,8 +374,8 @@ module _ (net : Network) (amount label : ℕ → ℚ → ℚ) (until length rate
       (λ after a b. let v : Within 0ℚ until after = (≤ℚ_trans _ _ _ h (≤ℚ_of_lt _ _ a), b) in
       lt_along _ _ _ _ (sent_before e link time p w) (sent_before e link after p v) (grows after a (longer after v).1))))
       (λ (l : until ≤ℚ time).
-      let d : until +ℚ (time -ℚ until) ≡ time = linear_eq (until ∷ time ∷ []) [] (search reading_of depth 12) tt tt in
-      let w : Within 0ℚ length (time -ℚ until) = (linear_le (until ∷ time ∷ []) (le l ∷ []) (search reading_of depth 12) tt, linear_le (until ∷ time ∷ length ∷ []) (lt k ∷ []) (search reading_of depth 12) tt) in
+      let d : until +ℚ (time -ℚ until) ≡ time = linear_eq (until ∷ time ∷ []) [] (search reading_of) tt tt in
+      let w : Within 0ℚ length (time -ℚ until) = (linear_le (until ∷ time ∷ []) (le l ∷ []) (search reading_of) tt, linear_le (until ∷ time ∷ length ∷ []) (lt k ∷ []) (search reading_of) tt) in
       subst (λ (z : ℚ). 0ℚ ≤ℚ link_slack label' link z) d (with_flow e link (time -ℚ until) p w
       (has_flow (old_sent e until) (x e) (time -ℚ until) length _ _ (step.thin.flow_nn e) (sent_after e link (time -ℚ until) p w) (sent_after e link length p (step.some, ≤ℚ_refl length))
       (subst (λ (z : ℚ). new_sent e z <ℚ new_sent e (until +ℚ length)) (sym d) (grows (until +ℚ length) k (≤ℚ_refl _))))))
@@ -405,7 +397,7 @@ module _ (net : Network) (amount label : ℕ → ℚ → ℚ) (until length rate
   -- ---- the theorem
   pub HoldsUpTo-phase : HoldsUpTo net amount' label' (until +ℚ length)
   HoldsUpTo-phase = record {
-    begun = linear_le (until ∷ length ∷ []) (le step.holds.begun ∷ le step.some ∷ []) (search reading_of depth 12) tt;
+    begun = linear_le (until ∷ length ∷ []) (le step.holds.begun ∷ le step.some ∷ []) (search reading_of) tt;
     source = by_time until length (λ time. label' net.source time ≡ time)
         (λ time w. step.goes.label_before net.source time step.good.source w ∙ step.holds.source time w)
         (λ t w. step.goes.label_after net.source t step.good.source w ∙ source_moves _ _ _ t (step.holds.source until now) step.thin.starts);

@@ -26,7 +26,7 @@ Lasts-shorter net slacks slopes time long short l h k = record {
   not_negative = h;
   inactive = λ e link t p a w. l.inactive e link t p a (w.0, ≤ℚ_trans _ _ _ w.1 k);
   resetting = λ e link t p a w. l.resetting e link t p a (w.0, ≤ℚ_trans _ _ _ w.1 k);
-  supply = λ i piece p a. ≤ℚ_trans _ _ _ (linear_le (time ∷ long ∷ short ∷ []) (le k ∷ []) (search reading_of depth 12) tt) (l.supply i piece p a);
+  supply = λ i piece p a. ≤ℚ_trans _ _ _ (linear_le (time ∷ long ∷ short ∷ []) (le k ∷ []) (search reading_of) tt) (l.supply i piece p a);
 }
 
 -- A phase can have its length.
@@ -34,10 +34,10 @@ pub Lasts-phase : (net : Network) (slacks slopes : List ℚ) (time horizon lengt
 Lasts-phase net slacks slopes time horizon length b (inl (x, x_is, e)) = ⊎_elim
     (λ (w : (min_ℚ (horizon -ℚ time) x ≡ horizon -ℚ time) × (horizon -ℚ time ≤ℚ x)).
     let s : length ≡ horizon -ℚ time = e ∙ w.0 in
-    Lasts-shorter net slacks slopes time x length x_is.lasts (linear_le (time ∷ horizon ∷ length ∷ []) (eq s ∷ lt b ∷ []) (search reading_of depth 12) tt) (linear_le (time ∷ horizon ∷ length ∷ x ∷ []) (eq s ∷ le w.1 ∷ []) (search reading_of depth 12) tt))
+    Lasts-shorter net slacks slopes time x length x_is.lasts (linear_le (time ∷ horizon ∷ length ∷ []) (eq s ∷ lt b ∷ []) (search reading_of) tt) (linear_le (time ∷ horizon ∷ length ∷ x ∷ []) (eq s ∷ le w.1 ∷ []) (search reading_of) tt))
     (λ (w : (min_ℚ (horizon -ℚ time) x ≡ x) × (x <ℚ horizon -ℚ time)). subst (λ (z : ℚ). Lasts net slacks slopes time z) (sym (e ∙ w.0)) x_is.lasts)
     (min_ℚ_cases (horizon -ℚ time) x)
-Lasts-phase net slacks slopes time horizon length b (inr (u, e)) = u length (linear_le (time ∷ horizon ∷ length ∷ []) (eq e ∷ lt b ∷ []) (search reading_of depth 12) tt)
+Lasts-phase net slacks slopes time horizon length b (inr (u, e)) = u length (linear_le (time ∷ horizon ∷ length ∷ []) (eq e ∷ lt b ∷ []) (search reading_of) tt)
 
 -- No phase extends beyond its horizon.
 pub IsPhaseLength-within : (net : Network) (slacks slopes : List ℚ) (time horizon length : ℚ) → IsPhaseLength net slacks slopes time horizon length → time +ℚ length ≤ℚ horizon
@@ -45,8 +45,8 @@ IsPhaseLength-within net slacks slopes time horizon length (inl (x, _, e)) =
     up_to time horizon (min_ℚ (horizon -ℚ time) x) length e (min_left (horizon -ℚ time) x)
   where
     up_to : (t h m l : ℚ) → l ≡ m → m ≤ℚ h -ℚ t → t +ℚ l ≤ℚ h
-    up_to t h m l e k = linear_le (t ∷ h ∷ m ∷ l ∷ []) (eq e ∷ le k ∷ []) (search reading_of depth 12) tt
-IsPhaseLength-within net slacks slopes time horizon length (inr (_, e)) = linear_le (time ∷ horizon ∷ length ∷ []) (eq e ∷ []) (search reading_of depth 12) tt
+    up_to t h m l e k = linear_le (t ∷ h ∷ m ∷ l ∷ []) (eq e ∷ le k ∷ []) (search reading_of) tt
+IsPhaseLength-within net slacks slopes time horizon length (inr (_, e)) = linear_le (time ∷ horizon ∷ length ∷ []) (eq e ∷ []) (search reading_of) tt
 
 -- ---- facts on a flow built phase by phase
 pub record Stands (net : Network) (until : ℚ) (labels : List ℚ) (amount label : ℕ → ℚ → ℚ) : Type 0 where
@@ -55,7 +55,7 @@ pub record Stands (net : Network) (until : ℚ) (labels : List ℚ) (amount labe
   pub count : length labels ≡ net.nodes
 
 moved_label : (a b c s t : ℚ) → a ≡ b +ℚ s *ℚ t → b ≡ c → a ≡ c +ℚ t *ℚ s
-moved_label a b c s t e f = linear_eq (a ∷ b ∷ c ∷ s ∷ t ∷ []) (eq e ∷ eq f ∷ []) (search reading_of depth 12) tt tt
+moved_label a b c s t e f = linear_eq (a ∷ b ∷ c ∷ s ∷ t ∷ []) (eq e ∷ eq f ∷ []) (search reading_of) tt tt
 
 pub stands_after : (net : Network) (horizon time time' : ℚ) (labels labels' : List ℚ) (amount label amount' label' : ℕ → ℚ → ℚ) (phase : IsPhase net horizon (time, labels) (time', labels')) → IsNetwork net
     → Stands net time labels amount label → GoesOn net amount label time phase.length (number_at phase.flows) (number_at phase.slopes) amount' label' → Stands net time' labels' amount' label'

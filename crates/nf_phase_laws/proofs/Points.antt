@@ -5,29 +5,25 @@ use Rattle.std.specs.List.{last_or}
 use Rattle.std.proofs.lemmas.Option.{same_Some}
 use Rattle.nf_rational.specs.Rational.{ℚ}
 use Rattle.nf_rational.specs.Operations.{◌-ℚ◌, ◌*ℚ◌}
-use Rattle.nf_rational.specs.Order.{◌<ℚ◌, le_ℚ}
+use Rattle.nf_rational.specs.Order.{◌<ℚ◌}
 use Rattle.nf_rational_laws.proofs.Polynomial.{reading_of}
-use Rattle.nf_rational_laws.proofs.Order.{≤ℚ_antisymm, less_ps}
-use Rattle.nf_rational_laws.proofs.Tests.{le_of_test}
+use Rattle.nf_rational_laws.proofs.Order.{less_ps}
 use Rattle.nf_rational_laws.proofs.Linear.{eq, linear_eq}
 use Rattle.nf_model.specs.Curve.{Point, slope, TimesRise, IsCurve, AreSlopes}
 use Rattle.nf_model_laws.proofs.Affine.{same_from_times}
 use Rattle.nf_model_laws.proofs.Curves.{slope-times, TimesRise-rest}
-use Rattle.nf_rational.specs.Signs.{is_same}
 use Rattle.nf_thin_def.specs.ReportCurves.{keeps_slope, with_point, with_rate}
 use Rattle.nf_phase_laws.specs.CurveSteps.{LastPoint, GoesOnTo}
 use Rattle.nf_phase_laws.proofs.CurveSteps.{GoesOnTo-appended, GoesOnTo-replaced}
 use Rattle.nf_rational_laws.proofs.Entries.{last-append}
-use Rattle.std.proofs.lemmas.Bool.{and_parts, false≢true}
+use Rattle.std.proofs.lemmas.Bool.{false≢true}
+pub use Rattle.nf_rational_laws.proofs.SignTests.{same_of_test}
 
 -- ---- the test whether two numbers are equal
 
-pub same_of_test : (x y : ℚ) → is_same x y ≡ true → x ≡ y
-same_of_test x y e = let both : (le_ℚ x y ≡ true) × (le_ℚ y x ≡ true) = and_parts (le_ℚ x y) (le_ℚ y x) e in ≤ℚ_antisymm x y (le_of_test x y both.0) (le_of_test y x both.1)
-
 -- ---- the slope from one point to another
 same_times : (a n r x : ℚ) → n *ℚ a ≡ x → r *ℚ a ≡ x → a *ℚ n ≡ a *ℚ r
-same_times a n r x e f = linear_eq (a ∷ n ∷ r ∷ x ∷ []) (eq e ∷ eq f ∷ []) (search reading_of depth 12) tt tt
+same_times a n r x e f = linear_eq (a ∷ n ∷ r ∷ x ∷ []) (eq e ∷ eq f ∷ []) (search reading_of) tt tt
 
 pub slope_is : (p q : Point) (r : ℚ) → p.0 <ℚ q.0 → r *ℚ (q.0 -ℚ p.0) ≡ q.1 -ℚ p.1 → slope p q ≡ r
 slope_is p q r h e = same_from_times (q.0 -ℚ p.0) (slope p q) r (less_ps p.0 q.0 h) (same_times (q.0 -ℚ p.0) (slope p q) r _ (slope-times p q h) e)
@@ -36,7 +32,7 @@ add_times : (p0 p1 q0 q1 s0 s1 m n r : ℚ) → m *ℚ (q0 -ℚ p0) ≡ q1 -ℚ 
 add_times p0 p1 q0 q1 s0 s1 m n r e f g h = added (subst (λ (z : ℚ). z *ℚ (q0 -ℚ p0) ≡ q1 -ℚ p1) g e) (subst (λ (z : ℚ). z *ℚ (s0 -ℚ q0) ≡ s1 -ℚ q1) h f)
   where
     added : r *ℚ (q0 -ℚ p0) ≡ q1 -ℚ p1 → r *ℚ (s0 -ℚ q0) ≡ s1 -ℚ q1 → r *ℚ (s0 -ℚ p0) ≡ s1 -ℚ p1
-    added e f = linear_eq (p0 ∷ p1 ∷ q0 ∷ q1 ∷ s0 ∷ s1 ∷ r ∷ []) (eq e ∷ eq f ∷ []) (search reading_of depth 12) tt tt
+    added e f = linear_eq (p0 ∷ p1 ∷ q0 ∷ q1 ∷ s0 ∷ s1 ∷ r ∷ []) (eq e ∷ eq f ∷ []) (search reading_of) tt tt
 
 slope-joined : (p q s : Point) (r : ℚ) → p.0 <ℚ q.0 → q.0 <ℚ s.0 → p.0 <ℚ s.0 → slope p q ≡ r → slope q s ≡ r → slope p s ≡ r
 slope-joined p q s r h k l e f = slope_is p s r l (add_times p.0 p.1 q.0 q.1 s.0 s.1 (slope p q) (slope q s) r (slope-times p q h) (slope-times q s k) e f)

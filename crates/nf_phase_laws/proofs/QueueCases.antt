@@ -17,6 +17,7 @@ use Rattle.nf_phase_laws.specs.Invariant.{queue_by_slack}
 use Rattle.nf_phase_laws.proofs.Thin.{LinkLaw}
 use Rattle.nf_rational_laws.proofs.Chains.{≤ℚ_trans}
 use Rattle.nf_rational_laws.proofs.Tests.{max0_none, max0_of}
+use Rattle.nf_rational_laws.proofs.Facts.{times_second_zero}
 
 queue_goal : (r c l x q t y : ℚ) → r *ℚ l ≡ x → y ≡ q +ℚ (x -ℚ c *ℚ l) *ℚ t → (a : ℚ) → y ≡ q +ℚ (r -ℚ c) *ℚ ((a +ℚ l *ℚ t) -ℚ a)
 queue_goal r c l x q t y e f a = linear_eq (r ∷ c ∷ l ∷ x ∷ q ∷ t ∷ y ∷ a ∷ []) (eq_times t e ∷ eq f ∷ []) (search reading_of depth 12) tt tt
@@ -30,38 +31,38 @@ data QueueCase (c l x q t n : ℚ) : Type 0 where
   stays : n ≤ℚ 0ℚ → q +ℚ (x -ℚ c *ℚ l) *ℚ t ≤ℚ 0ℚ → QueueCase c l x q t n
 
 queue_resetting : (c s l m x t n : ℚ) → x ≡ c *ℚ m → n ≡ s +ℚ (m -ℚ l) *ℚ t → 0ℚ ≤ℚ n → QueueCase c l x (c *ℚ s) t n
-queue_resetting c s l m x t n e f h = runs h (linear_eq (c ∷ s ∷ l ∷ m ∷ x ∷ t ∷ n ∷ []) (eq_times t e ∷ eq_times c f ∷ []) (search reading_of depth 12) tt tt)
+queue_resetting c s l m x t n e f h = runs h (linear_eq (c ∷ s ∷ l ∷ m ∷ x ∷ t ∷ n ∷ []) (eq_times t e ∷ eq_times c f ∷ []) (search reading_of) tt tt)
 
 queue_inactive : (c q l x t n : ℚ) → 0ℚ ≤ℚ c → 0ℚ ≤ℚ l → 0ℚ ≤ℚ t → q ≡ 0ℚ → x ≡ 0ℚ → n ≤ℚ 0ℚ → QueueCase c l x q t n
 queue_inactive c q l x t n h k j d e f =
-    let p : 0ℚ ≤ℚ l *ℚ t = linear_le (l ∷ t ∷ []) (le_times k j ∷ []) (search reading_of depth 12) tt in
-    stays f (linear_le (c ∷ q ∷ l ∷ x ∷ t ∷ []) (eq d ∷ eq_times t e ∷ le_times h p ∷ []) (search reading_of depth 12) tt)
+    let p : 0ℚ ≤ℚ l *ℚ t = linear_le (l ∷ t ∷ []) (le_times k j ∷ []) (search reading_of) tt in
+    stays f (linear_le (c ∷ q ∷ l ∷ x ∷ t ∷ []) (eq d ∷ eq_times t e ∷ le_times h p ∷ []) (search reading_of) tt)
 
 -- a link with slack 0: with flow
 tight_used : (c s l m x t n : ℚ) → 0ℚ ≤ℚ c → 0ℚ ≤ℚ t → s ≡ 0ℚ → n ≡ s +ℚ (m -ℚ l) *ℚ t → l ≤ℚ m → x ≤ℚ c *ℚ m → (m ≤ℚ l) ⊎ (c *ℚ m ≤ℚ x) → QueueCase c l x (c *ℚ s) t n
 tight_used c s l m x t n h j d e u v w = ⊎_elim
-    (λ (k : m ≤ℚ l). stays (linear_le (s ∷ l ∷ m ∷ t ∷ n ∷ []) (eq d ∷ eq e ∷ le_times j k ∷ []) (search reading_of depth 12) tt)
+    (λ (k : m ≤ℚ l). stays (linear_le (s ∷ l ∷ m ∷ t ∷ n ∷ []) (eq d ∷ eq e ∷ le_times j k ∷ []) (search reading_of) tt)
     (full (≤ℚ_antisymm _ _ k u)))
-    (λ (k : c *ℚ m ≤ℚ x). runs (linear_le (s ∷ l ∷ m ∷ t ∷ n ∷ []) (eq d ∷ eq e ∷ le_times j u ∷ []) (search reading_of depth 12) tt)
+    (λ (k : c *ℚ m ≤ℚ x). runs (linear_le (s ∷ l ∷ m ∷ t ∷ n ∷ []) (eq d ∷ eq e ∷ le_times j u ∷ []) (search reading_of) tt)
     (same (≤ℚ_antisymm _ _ v k)))
     w
   where
     full : m ≡ l → c *ℚ s +ℚ (x -ℚ c *ℚ l) *ℚ t ≤ℚ 0ℚ
     full g = let z : x ≤ℚ c *ℚ l = subst (λ (k : ℚ). x ≤ℚ c *ℚ k) g v in
-        linear_le (c ∷ s ∷ l ∷ x ∷ t ∷ []) (eq_times c d ∷ le_times j z ∷ []) (search reading_of depth 12) tt
+        linear_le (c ∷ s ∷ l ∷ x ∷ t ∷ []) (eq_times c d ∷ le_times j z ∷ []) (search reading_of) tt
 
     same : x ≡ c *ℚ m → c *ℚ n ≡ c *ℚ s +ℚ (x -ℚ c *ℚ l) *ℚ t
-    same g = linear_eq (c ∷ s ∷ l ∷ m ∷ x ∷ t ∷ n ∷ []) (eq_times t g ∷ eq_times c e ∷ []) (search reading_of depth 12) tt tt
+    same g = linear_eq (c ∷ s ∷ l ∷ m ∷ x ∷ t ∷ n ∷ []) (eq_times t g ∷ eq_times c e ∷ []) (search reading_of) tt tt
 
 -- A link with slack 0, without flow.
 tight_unused : (c s l m x t n : ℚ) → 0ℚ <ℚ c → 0ℚ ≤ℚ l → 0ℚ ≤ℚ t → s ≡ 0ℚ → n ≡ s +ℚ (m -ℚ l) *ℚ t → x ≡ 0ℚ → (m ≤ℚ l) ⊎ (c *ℚ m ≤ℚ x) → QueueCase c l x (c *ℚ s) t n
 tight_unused c s l m x t n h i j d e f w =
-    queue_inactive c (c *ℚ s) l x t n (≤ℚ_of_lt _ _ h) i j (linear_eq (c ∷ s ∷ []) (eq_times c d ∷ []) (search reading_of depth 12) tt tt) f
-    (linear_le (s ∷ l ∷ m ∷ t ∷ n ∷ []) (eq d ∷ eq e ∷ le_times j low ∷ []) (search reading_of depth 12) tt)
+    queue_inactive c (c *ℚ s) l x t n (≤ℚ_of_lt _ _ h) i j (linear_eq (c ∷ s ∷ []) (eq_times c d ∷ []) (search reading_of) tt tt) f
+    (linear_le (s ∷ l ∷ m ∷ t ∷ n ∷ []) (eq d ∷ eq e ∷ le_times j low ∷ []) (search reading_of) tt)
   where
     low : m ≤ℚ l
     low = ⊎_elim (λ (k : m ≤ℚ l). k)
-        (λ (k : c *ℚ m ≤ℚ x). ≤ℚ_trans _ _ _ (le_from_times c m 0ℚ h (linear_le (c ∷ m ∷ x ∷ []) (le k ∷ eq f ∷ []) (search reading_of depth 12) tt)) i) w
+        (λ (k : c *ℚ m ≤ℚ x). ≤ℚ_trans _ _ _ (le_from_times c m 0ℚ h (linear_le (c ∷ m ∷ x ∷ []) (le k ∷ eq f ∷ []) (search reading_of) tt)) i) w
 
 queue_tight : (c s l m x t n : ℚ) → 0ℚ <ℚ c → 0ℚ ≤ℚ l → 0ℚ ≤ℚ t → 0ℚ ≤ℚ x → s ≡ 0ℚ → n ≡ s +ℚ (m -ℚ l) *ℚ t → LinkLaw (Some c) s x l m → QueueCase c l x (c *ℚ s) t n
 queue_tight c s l m x t n h i j k d e p = ⊎_elim
@@ -86,14 +87,11 @@ queue_case c s n x l m t k = ⊎_elim
     (λ (h : 0ℚ <ℚ s). subst (λ (y : ℚ). QueueCase c l x (c *ℚ y) t n) (sym (max0_of s (≤ℚ_of_lt _ _ h)))
     (queue_resetting c s l m x t n ((k.law (≤ℚ_of_lt _ _ h)).full c refl h) k.moves (k.above h)))
     (λ (h : s ≤ℚ 0ℚ). ⊎_elim
-    (λ (i : s <ℚ 0ℚ). queue_inactive c _ l x t n (≤ℚ_of_lt _ _ (k.positive c refl)) k.slope_nn k.time_nn (no_queue c _ (max0_none s h)) (k.inactive i) (k.below i))
+    (λ (i : s <ℚ 0ℚ). queue_inactive c _ l x t n (≤ℚ_of_lt _ _ (k.positive c refl)) k.slope_nn k.time_nn (times_second_zero c _ (max0_none s h)) (k.inactive i) (k.below i))
     (λ (i : 0ℚ ≤ℚ s). subst (λ (y : ℚ). QueueCase c l x (c *ℚ y) t n) (sym (max0_of s i))
     (queue_tight c s l m x t n (k.positive c refl) k.slope_nn k.time_nn k.flow_nn (≤ℚ_antisymm _ _ h i) k.moves (k.law i)))
     (lt_or_le_ℚ s 0ℚ))
     (lt_or_le_ℚ 0ℚ s)
-  where
-    no_queue : (c y : ℚ) → y ≡ 0ℚ → c *ℚ y ≡ 0ℚ
-    no_queue c y e = linear_eq (c ∷ y ∷ []) (eq_times c e ∷ []) (search reading_of depth 12) tt tt
 
 by_case : (c : ℚ) (f : ℚ → ℚ) (a end r l x t q n : ℚ) → 0ℚ <ℚ c → r *ℚ l ≡ x → IsAffine f a end r → a ≤ℚ a +ℚ l *ℚ t → a +ℚ l *ℚ t ≤ℚ end
     → IsQueue (Some c) f a q → QueueCase c l x q t n → IsQueue (Some c) f (a +ℚ l *ℚ t) (c *ℚ max_ℚ 0ℚ n)
@@ -101,12 +99,12 @@ by_case c f a end r l x t q n pos e line h k before (runs i d) = subst (λ (y : 
     (IsQueue-step c f a end r q line before (a +ℚ l *ℚ t) (c *ℚ n) h k (queue_goal r c l x q t _ e d a) (times_nn c n pos i))
   where
     times_nn : (c n : ℚ) → 0ℚ <ℚ c → 0ℚ ≤ℚ n → 0ℚ ≤ℚ c *ℚ n
-    times_nn c n h k = let low : 0ℚ ≤ℚ c = ≤ℚ_of_lt _ _ h in linear_le (c ∷ n ∷ []) (le_times low k ∷ []) (search reading_of depth 12) tt
+    times_nn c n h k = let low : 0ℚ ≤ℚ c = ≤ℚ_of_lt _ _ h in linear_le (c ∷ n ∷ []) (le_times low k ∷ []) (search reading_of) tt
 by_case c f a end r l x t q n pos e line h k before (stays i d) = subst (λ (y : ℚ). IsQueue (Some c) f (a +ℚ l *ℚ t) y) (times_none c _ (max0_none n i))
     (IsQueue-step_empty c f a end r q line before (a +ℚ l *ℚ t) h k (queue_goal_le r c l x q t e d a))
   where
     times_none : (c m : ℚ) → m ≡ 0ℚ → 0ℚ ≡ c *ℚ m
-    times_none c m e = linear_eq (c ∷ m ∷ []) (eq_times c e ∷ []) (search reading_of depth 12) tt tt
+    times_none c m e = linear_eq (c ∷ m ∷ []) (eq_times c e ∷ []) (search reading_of) tt tt
 
 -- ---- the queue that a particle meets stays that of the slack
 pub IsQueue-by_slack : (capacity : Option ℚ) (f : ℚ → ℚ) (a end r s n x l m t : ℚ) → LinkStep capacity s n x l m t → r *ℚ l ≡ x → IsAffine f a end r → a ≤ℚ a +ℚ l *ℚ t → a +ℚ l *ℚ t ≤ℚ end
@@ -120,7 +118,7 @@ used_slope None s x l m p h k = p.free_used refl k
 used_slope (Some c) s x l m p h k = (p.used c refl h k).0
 
 shrinks : (s n m l t : ℚ) → n ≡ s +ℚ (m -ℚ l) *ℚ t → n <ℚ 0ℚ → 0ℚ ≤ℚ s → 0ℚ ≤ℚ t → l ≤ℚ m → ⊥
-shrinks s n m l t e h k j i = linear_false (s ∷ n ∷ m ∷ l ∷ t ∷ []) (eq e ∷ lt h ∷ le k ∷ le_times j i ∷ []) (search reading_of depth 12) tt
+shrinks s n m l t e h k j i = linear_false (s ∷ n ∷ m ∷ l ∷ t ∷ []) (eq e ∷ lt h ∷ le k ∷ le_times j i ∷ []) (search reading_of) tt
 
 pub unused_below : (capacity : Option ℚ) (s n x l m t : ℚ) → LinkStep capacity s n x l m t → n <ℚ 0ℚ → (s ≤ℚ 0ℚ) × (x ≡ 0ℚ)
 unused_below capacity s n x l m t k h = ⊎_elim
@@ -145,4 +143,4 @@ unbounded_below s n x l m t k h = ⊎_elim
     (lt_or_le_ℚ s 0ℚ)
   where
     level : (s n m l t : ℚ) → n ≡ s +ℚ (m -ℚ l) *ℚ t → s ≤ℚ 0ℚ → 0ℚ ≤ℚ t → m ≤ℚ l → n ≤ℚ 0ℚ
-    level s n m l t e h k j = linear_le (s ∷ n ∷ m ∷ l ∷ t ∷ []) (eq e ∷ le h ∷ le_times k j ∷ []) (search reading_of depth 12) tt
+    level s n m l t e h k j = linear_le (s ∷ n ∷ m ∷ l ∷ t ∷ []) (eq e ∷ le h ∷ le_times k j ∷ []) (search reading_of) tt

@@ -13,19 +13,19 @@ use Rattle.nf_rational_laws.proofs.Chains.{≤ℚ_refl, ≤ℚ_trans}
 
 -- Plain numbers: from a on at the rate r for the time l d, where r l = x.
 rate_nn : (r l x : ℚ) → 0ℚ <ℚ l → r *ℚ l ≡ x → 0ℚ ≤ℚ x → 0ℚ ≤ℚ r
-rate_nn r l x h e n = le_from_times l 0ℚ r h (linear_le (r ∷ l ∷ x ∷ []) (eq e ∷ le n ∷ []) (search reading_of depth 12) tt)
+rate_nn r l x h e n = le_from_times l 0ℚ r h (linear_le (r ∷ l ∷ x ∷ []) (eq e ∷ le n ∷ []) (search reading_of) tt)
 
 piece_rises : (y z v a s t l d r x : ℚ) → y ≡ v +ℚ r *ℚ (s -ℚ a) → z ≡ v +ℚ r *ℚ (t -ℚ a) → a ≤ℚ s → s ≤ℚ t → t ≤ℚ a +ℚ l *ℚ d → 0ℚ ≤ℚ l → 0ℚ ≤ℚ x → r *ℚ l ≡ x → y ≤ℚ z
 piece_rises y z v a s t l d r x e f i j k n m g = ⊎_elim
-    (λ (h : 0ℚ <ℚ l). let p : 0ℚ ≤ℚ r = rate_nn r l x h g m in linear_le (y ∷ z ∷ v ∷ a ∷ s ∷ t ∷ r ∷ []) (eq e ∷ eq f ∷ le_times p j ∷ []) (search reading_of depth 12) tt)
+    (λ (h : 0ℚ <ℚ l). let p : 0ℚ ≤ℚ r = rate_nn r l x h g m in linear_le (y ∷ z ∷ v ∷ a ∷ s ∷ t ∷ r ∷ []) (eq e ∷ eq f ∷ le_times p j ∷ []) (search reading_of) tt)
     (λ (h : l ≤ℚ 0ℚ).
     let w : l ≡ 0ℚ = ≤ℚ_antisymm _ _ h n in
-    let u : s ≡ t = linear_eq (a ∷ s ∷ t ∷ l ∷ d ∷ []) (le i ∷ le j ∷ le k ∷ eq_times d w ∷ []) (search reading_of depth 12) tt tt in
-    linear_le (y ∷ z ∷ v ∷ a ∷ s ∷ t ∷ r ∷ []) (eq e ∷ eq f ∷ eq_times r u ∷ []) (search reading_of depth 12) tt)
+    let u : s ≡ t = linear_eq (a ∷ s ∷ t ∷ l ∷ d ∷ []) (le i ∷ le j ∷ le k ∷ eq_times d w ∷ []) (search reading_of) tt tt in
+    linear_le (y ∷ z ∷ v ∷ a ∷ s ∷ t ∷ r ∷ []) (eq e ∷ eq f ∷ eq_times r u ∷ []) (search reading_of) tt)
     (lt_or_le_ℚ 0ℚ l)
 
 le_along : (a b c d : ℚ) → a ≡ b → c ≡ d → b ≤ℚ d → a ≤ℚ c
-le_along a b c d e f h = linear_le (a ∷ b ∷ c ∷ d ∷ []) (eq e ∷ eq f ∷ le h ∷ []) (search reading_of depth 12) tt
+le_along a b c d e f h = linear_le (a ∷ b ∷ c ∷ d ∷ []) (eq e ∷ eq f ∷ le h ∷ []) (search reading_of) tt
 
 module _ (f g : ℚ → ℚ) (a l d r x : ℚ) (begins : 0ℚ ≤ℚ a) (slope_nn : 0ℚ ≤ℚ l) (flow_nn : 0ℚ ≤ℚ x) (time_nn : 0ℚ ≤ℚ d) (rises : NeverFalls f) (same : (t : ℚ) → Within 0ℚ a t → g t ≡ f t)
     (rate_is : r *ℚ l ≡ x) (line : IsAffine g a (a +ℚ l *ℚ d) r) (ends : (t : ℚ) → a +ℚ l *ℚ d ≤ℚ t → g t ≡ g (a +ℚ l *ℚ d)) where

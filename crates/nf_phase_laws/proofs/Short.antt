@@ -1,19 +1,17 @@
 -- Curves in short form stay in short form when extended by a point: no inner point has equal slopes on both sides.
 use Rattle.std.proofs.Common.{◌≡◌, List, [], ◌∷◌, ◌++◌, length, Bool, true, false, sym, ap, subst, refl, ◌∙◌, append_assoc}
-use Rattle.std.specs.Prelude.{◌-◌, ◌&&◌, Option, Some, None, take}
+use Rattle.std.specs.Prelude.{◌-◌, Option, Some, None, take}
 use Rattle.std.specs.List.{last_or}
 use Rattle.std.proofs.lemmas.Option.{same_Some}
 use Rattle.nf_rational.specs.Rational.{ℚ}
-use Rattle.nf_rational.specs.Order.{le_ℚ}
-use Rattle.nf_rational_laws.proofs.Order.{≤ℚ_of_same}
-use Rattle.nf_rational_laws.proofs.Tests.{test_of_le}
 use Rattle.nf_model.specs.Curve.{Point, slope, AreSlopes, IsShort}
 use Rattle.nf_model.specs.Equilibrium.{Trace}
 use Rattle.nf_rational.specs.Signs.{is_same}
 use Rattle.nf_thin_def.specs.ReportCurves.{GrowingCurve, keeps_slope, with_point, with_rate, curve_with, trace_with, trace_after, queue_after}
 use Rattle.nf_thin_def.specs.CurveList.{QueueStep}
-use Rattle.nf_phase_laws.proofs.Points.{same_of_test, taken, EndsWithSlope, LastSlope, LastSlope-rates}
+use Rattle.nf_phase_laws.proofs.Points.{taken, EndsWithSlope, LastSlope, LastSlope-rates}
 use Rattle.nf_rational_laws.proofs.Entries.{last-append}
+use Rattle.nf_rational_laws.proofs.SignTests.{same_of_test, is_same-itself}
 use Rattle.std.proofs.lemmas.Bool.{false≢true}
 
 -- ---- the slope of the last two points
@@ -48,16 +46,8 @@ IsShort-replaced (p ∷ q ∷ s ∷ front) before last new h e = (h.0, IsShort-r
 
 -- ---- other slopes by the test
 
-both : (a b : Bool) → a ≡ true → b ≡ true → (a && b) ≡ true
-both true true h k = refl
-both true false h k = k
-both false b h k = h
-
-is_same-refl : (x : ℚ) → is_same x x ≡ true
-is_same-refl x = let e : le_ℚ x x ≡ true = test_of_le x x (≤ℚ_of_same x x refl) in both (le_ℚ x x) (le_ℚ x x) e e
-
 differ_of_test : (x y : ℚ) → is_same x y ≡ false → x ≡ y → ⊥
-differ_of_test x y h e = false≢true (sym h ∙ ap (is_same x) (sym e) ∙ is_same-refl x)
+differ_of_test x y h e = false≢true (sym h ∙ ap (is_same x) (sym e) ∙ is_same-itself x)
 
 -- ---- extension of a curve with the slope of its last piece
 -- If no slope is recorded, the curve has one point only.

@@ -1,5 +1,5 @@
 -- The time for which a link stays on its side: inactive with slack at most 0, or resetting with slack at least 0.
-use Rattle.std.proofs.Common.{◌≡◌, [], ◌∷◌, ◌⊎◌, inl, inr, ⊎_elim, Bool, true, false, sym, ◌∙◌, refl}
+use Rattle.std.proofs.Common.{◌≡◌, [], ◌∷◌, ◌⊎◌, inl, inr, ⊎_elim, Bool, true, false, sym, refl}
 use Rattle.std.specs.Prelude.{◌&&◌, ◌||◌}
 use Rattle.nf_rational.specs.Rational.{ℚ}
 use Rattle.nf_rational.specs.Operations.{0ℚ, ◌+ℚ◌, ◌-ℚ◌, ◌*ℚ◌, ◌/ℚ◌}
@@ -8,12 +8,12 @@ use Rattle.nf_rational_laws.proofs.Polynomial.{reading_of}
 use Rattle.nf_rational_laws.proofs.Linear.{le, lt, eq, le_times, linear_le, linear_false}
 use Rattle.nf_rational_laws.proofs.Order.{lt_or_le_ℚ, ps_times, less_ps, ≤ℚ_antisymm, ≤ℚ_of_lt}
 use Rattle.nf_rational_laws.proofs.Quotient.{ps_apart, /ℚ-times}
-use Rattle.nf_rational_laws.proofs.Tests.{le_of_test, lt_ℚ_cases, less_of_test, test_of_less}
+use Rattle.nf_rational_laws.proofs.Tests.{le_of_test, less_of_test, test_of_less, not_less_of_test}
 use Rattle.nf_model.specs.Curve.{Within}
 use Rattle.nf_rational.specs.Signs.{is_zero, are_opposite}
 use Rattle.nf_phase_laws.proofs.Limits.{HoldsUpTo, HoldsAlways}
 use Rattle.nf_rational_laws.proofs.Chains.{≤ℚ_refl, ≤ℚ_trans}
-use Rattle.std.proofs.lemmas.Bool.{and_parts, false≢true}
+use Rattle.std.proofs.lemmas.Bool.{and_parts, false≢true, or_cases}
 
 pub record KeepsSide (slack change length : ℚ) : Type 0 where
   pub inactive : (while : ℚ) → slack <ℚ 0ℚ → Within 0ℚ length while → (slack +ℚ while *ℚ change) ≤ℚ 0ℚ
@@ -21,31 +21,31 @@ pub record KeepsSide (slack change length : ℚ) : Type 0 where
 
 -- ---- over plain numbers
 never_less : (x : ℚ) → x <ℚ 0ℚ → 0ℚ <ℚ x → ⊥
-never_less x h k = linear_false (x ∷ []) (lt h ∷ lt k ∷ []) (search reading_of depth 12) tt
+never_less x h k = linear_false (x ∷ []) (lt h ∷ lt k ∷ []) (search reading_of) tt
 
 stays_below : (s c w : ℚ) → s <ℚ 0ℚ → c ≤ℚ 0ℚ → 0ℚ ≤ℚ w → (s +ℚ w *ℚ c) ≤ℚ 0ℚ
-stays_below s c w h k p = linear_le (s ∷ c ∷ w ∷ []) (lt h ∷ le_times p k ∷ []) (search reading_of depth 12) tt
+stays_below s c w h k p = linear_le (s ∷ c ∷ w ∷ []) (lt h ∷ le_times p k ∷ []) (search reading_of) tt
 
 stays_above : (s c w : ℚ) → 0ℚ <ℚ s → 0ℚ ≤ℚ c → 0ℚ ≤ℚ w → 0ℚ ≤ℚ (s +ℚ w *ℚ c)
-stays_above s c w h k p = linear_le (s ∷ c ∷ w ∷ []) (lt h ∷ le_times p k ∷ []) (search reading_of depth 12) tt
+stays_above s c w h k p = linear_le (s ∷ c ∷ w ∷ []) (lt h ∷ le_times p k ∷ []) (search reading_of) tt
 
 module _ (s c x : ℚ) (meets : x *ℚ c ≡ 0ℚ -ℚ s) where
   -- a slack below 0 that rises
   rising_positive : s <ℚ 0ℚ → 0ℚ <ℚ c → 0ℚ <ℚ x
   rising_positive below rises = ⊎_elim
       (λ (h : 0ℚ <ℚ x). h)
-      (λ (h : x ≤ℚ 0ℚ). absurd (linear_false (s ∷ c ∷ x ∷ []) (lt below ∷ eq meets ∷ le_times (weak c rises) h ∷ []) (search reading_of depth 12) tt))
+      (λ (h : x ≤ℚ 0ℚ). absurd (linear_false (s ∷ c ∷ x ∷ []) (lt below ∷ eq meets ∷ le_times (weak c rises) h ∷ []) (search reading_of) tt))
       (lt_or_le_ℚ 0ℚ x)
     where
       weak : (c : ℚ) → 0ℚ <ℚ c → 0ℚ ≤ℚ c
-      weak c h = linear_le (c ∷ []) (lt h ∷ []) (search reading_of depth 12) tt
+      weak c h = linear_le (c ∷ []) (lt h ∷ []) (search reading_of) tt
 
   rising_within : (w : ℚ) → 0ℚ ≤ℚ c → w ≤ℚ x → (s +ℚ w *ℚ c) ≤ℚ 0ℚ
-  rising_within w rises h = linear_le (s ∷ c ∷ x ∷ w ∷ []) (eq meets ∷ le_times rises h ∷ []) (search reading_of depth 12) tt
+  rising_within w rises h = linear_le (s ∷ c ∷ x ∷ w ∷ []) (eq meets ∷ le_times rises h ∷ []) (search reading_of) tt
 
   rising_bound : (w : ℚ) → 0ℚ <ℚ c → (s +ℚ w *ℚ c) ≤ℚ 0ℚ → w ≤ℚ x
   rising_bound w rises h = ⊎_elim
-      (λ (k : x <ℚ w). absurd (linear_false (s ∷ c ∷ x ∷ w ∷ []) (eq meets ∷ le h ∷ lt (ps_times (w -ℚ x) c (less_ps x w k) rises) ∷ []) (search reading_of depth 12) tt))
+      (λ (k : x <ℚ w). absurd (linear_false (s ∷ c ∷ x ∷ w ∷ []) (eq meets ∷ le h ∷ lt (ps_times (w -ℚ x) c (less_ps x w k) rises) ∷ []) (search reading_of) tt))
       (λ (k : w ≤ℚ x). k)
       (lt_or_le_ℚ x w)
 
@@ -53,21 +53,21 @@ module _ (s c x : ℚ) (meets : x *ℚ c ≡ 0ℚ -ℚ s) where
   falling_positive : 0ℚ <ℚ s → c <ℚ 0ℚ → 0ℚ <ℚ x
   falling_positive above falls = ⊎_elim
       (λ (h : 0ℚ <ℚ x). h)
-      (λ (h : x ≤ℚ 0ℚ). absurd (linear_false (s ∷ c ∷ x ∷ []) (lt above ∷ eq meets ∷ le_times (weak c falls) h ∷ []) (search reading_of depth 12) tt))
+      (λ (h : x ≤ℚ 0ℚ). absurd (linear_false (s ∷ c ∷ x ∷ []) (lt above ∷ eq meets ∷ le_times (weak c falls) h ∷ []) (search reading_of) tt))
       (lt_or_le_ℚ 0ℚ x)
     where
       weak : (c : ℚ) → c <ℚ 0ℚ → 0ℚ ≤ℚ 0ℚ -ℚ c
-      weak c h = linear_le (c ∷ []) (lt h ∷ []) (search reading_of depth 12) tt
+      weak c h = linear_le (c ∷ []) (lt h ∷ []) (search reading_of) tt
 
   falling_within : (w : ℚ) → c <ℚ 0ℚ → w ≤ℚ x → 0ℚ ≤ℚ (s +ℚ w *ℚ c)
-  falling_within w falls h = linear_le (s ∷ c ∷ x ∷ w ∷ []) (eq meets ∷ le_times (weak c falls) h ∷ []) (search reading_of depth 12) tt
+  falling_within w falls h = linear_le (s ∷ c ∷ x ∷ w ∷ []) (eq meets ∷ le_times (weak c falls) h ∷ []) (search reading_of) tt
     where
       weak : (c : ℚ) → c <ℚ 0ℚ → 0ℚ ≤ℚ 0ℚ -ℚ c
-      weak c h = linear_le (c ∷ []) (lt h ∷ []) (search reading_of depth 12) tt
+      weak c h = linear_le (c ∷ []) (lt h ∷ []) (search reading_of) tt
 
   falling_bound : (w : ℚ) → c <ℚ 0ℚ → 0ℚ ≤ℚ (s +ℚ w *ℚ c) → w ≤ℚ x
   falling_bound w falls h = ⊎_elim
-      (λ (k : x <ℚ w). absurd (linear_false (s ∷ c ∷ x ∷ w ∷ []) (eq meets ∷ le h ∷ lt (ps_times (w -ℚ x) (0ℚ -ℚ c) (less_ps x w k) (less_ps c 0ℚ falls)) ∷ []) (search reading_of depth 12) tt))
+      (λ (k : x <ℚ w). absurd (linear_false (s ∷ c ∷ x ∷ w ∷ []) (eq meets ∷ le h ∷ lt (ps_times (w -ℚ x) (0ℚ -ℚ c) (less_ps x w k) (less_ps c 0ℚ falls)) ∷ []) (search reading_of) tt))
       (λ (k : w ≤ℚ x). k)
       (lt_or_le_ℚ x w)
 
@@ -83,10 +83,6 @@ pub record Away (s c : ℚ) : Type 0 where
 
 -- ---- by the tests
 
-one_of : (a b : Bool) → (a || b) ≡ true → (a ≡ true) ⊎ (b ≡ true)
-one_of true b e = inl refl
-one_of false b e = inr e
-
 none_of_first : (a b c : Bool) → ((a && b) || c) ≡ false → a ≡ true → b ≡ false
 none_of_first true true c e h = e
 none_of_first true false c e h = refl
@@ -97,19 +93,16 @@ none_of_second true b c e h = absurd (false≢true (sym e))
 none_of_second false true c e h = e
 none_of_second false false c e h = absurd (false≢true h)
 
-pub lt_false : (x y : ℚ) → lt_ℚ x y ≡ false → y ≤ℚ x
-lt_false x y e = ⊎_elim (λ (w : (lt_ℚ x y ≡ true) × (x <ℚ y)). absurd (false≢true (sym e ∙ w.0))) (λ (w : (lt_ℚ x y ≡ false) × (y ≤ℚ x)). w.1) (lt_ℚ_cases x y)
-
 opposite_of : (s c : ℚ) → are_opposite s c ≡ true → Opposite s c
 opposite_of s c e = ⊎_elim
     (λ (h : (lt_ℚ s 0ℚ && lt_ℚ 0ℚ c) ≡ true). inl (less_of_test s 0ℚ (and_parts _ _ h).0, less_of_test 0ℚ c (and_parts _ _ h).1))
     (λ (h : (lt_ℚ 0ℚ s && lt_ℚ c 0ℚ) ≡ true). inr (less_of_test 0ℚ s (and_parts _ _ h).0, less_of_test c 0ℚ (and_parts _ _ h).1))
-    (one_of (lt_ℚ s 0ℚ && lt_ℚ 0ℚ c) (lt_ℚ 0ℚ s && lt_ℚ c 0ℚ) e)
+    (or_cases (lt_ℚ s 0ℚ && lt_ℚ 0ℚ c) (lt_ℚ 0ℚ s && lt_ℚ c 0ℚ) e)
 
 away_of : (s c : ℚ) → are_opposite s c ≡ false → Away s c
 away_of s c e = record {
-  below = λ h. lt_false 0ℚ c (none_of_first (lt_ℚ s 0ℚ) (lt_ℚ 0ℚ c) (lt_ℚ 0ℚ s && lt_ℚ c 0ℚ) e (test_of_less s 0ℚ h));
-  above = λ h. lt_false c 0ℚ (none_of_second (lt_ℚ s 0ℚ && lt_ℚ 0ℚ c) (lt_ℚ 0ℚ s) (lt_ℚ c 0ℚ) e (test_of_less 0ℚ s h));
+  below = λ h. not_less_of_test 0ℚ c (none_of_first (lt_ℚ s 0ℚ) (lt_ℚ 0ℚ c) (lt_ℚ 0ℚ s && lt_ℚ c 0ℚ) e (test_of_less s 0ℚ h));
+  above = λ h. not_less_of_test c 0ℚ (none_of_second (lt_ℚ s 0ℚ && lt_ℚ 0ℚ c) (lt_ℚ 0ℚ s) (lt_ℚ c 0ℚ) e (test_of_less 0ℚ s h));
 }
 
 zero_of : (s : ℚ) → is_zero s ≡ true → s ≡ 0ℚ
@@ -123,10 +116,10 @@ keeps_at_zero s c e length h = record {
 }
   where
     not_less : s ≡ 0ℚ → s <ℚ 0ℚ → ⊥
-    not_less e h = linear_false (s ∷ []) (eq e ∷ lt h ∷ []) (search reading_of depth 12) tt
+    not_less e h = linear_false (s ∷ []) (eq e ∷ lt h ∷ []) (search reading_of) tt
 
     not_more : s ≡ 0ℚ → 0ℚ <ℚ s → ⊥
-    not_more e h = linear_false (s ∷ []) (eq e ∷ lt h ∷ []) (search reading_of depth 12) tt
+    not_more e h = linear_false (s ∷ []) (eq e ∷ lt h ∷ []) (search reading_of) tt
 
 pub keeps_away : (s c : ℚ) → are_opposite s c ≡ false → HoldsAlways (KeepsSide s c)
 keeps_away s c e length h = record {
@@ -162,7 +155,7 @@ module _ (s c : ℚ) where
   }
     where
       apart : c ≡ 0ℚ → ⊥
-      apart e = linear_false (c ∷ []) (eq e ∷ lt falls ∷ []) (search reading_of depth 12) tt
+      apart e = linear_false (c ∷ []) (eq e ∷ lt falls ∷ []) (search reading_of) tt
 
       x : ℚ
       x = (0ℚ -ℚ s) /ℚ c

@@ -50,10 +50,10 @@ module _ (net : Network) (labels : List ℚ) (amount label : ℕ → ℚ → ℚ
 
   -- ---- no slack is above 0
   into_source : (a b r : ℚ) → b ≡ 0ℚ → 0ℚ ≤ℚ a → 0ℚ ≤ℚ r → b -ℚ (a +ℚ r) ≤ℚ 0ℚ
-  into_source a b r e h k = linear_le (a ∷ b ∷ r ∷ []) (eq e ∷ le h ∷ le k ∷ []) (search reading_of depth 12) tt
+  into_source a b r e h k = linear_le (a ∷ b ∷ r ∷ []) (eq e ∷ le h ∷ le k ∷ []) (search reading_of) tt
 
   into_other : (a b c d r : ℚ) → a ≡ c → b ≡ d → d ≤ℚ c +ℚ r → b -ℚ (a +ℚ r) ≤ℚ 0ℚ
-  into_other a b c d r e f h = linear_le (a ∷ b ∷ c ∷ d ∷ r ∷ []) (eq e ∷ eq f ∷ le h ∷ []) (search reading_of depth 12) tt
+  into_other a b c d r e f h = linear_le (a ∷ b ∷ c ∷ d ∷ r ∷ []) (eq e ∷ eq f ∷ le h ∷ []) (search reading_of) tt
 
   pub slack_none : (e : ℕ) (link : Link) → IsLink net e link → link_slack label link 0ℚ ≤ℚ 0ℚ
   slack_none e link p = ⊎_elim
@@ -65,7 +65,7 @@ module _ (net : Network) (labels : List ℚ) (amount label : ℕ → ℚ → ℚ
 
   -- ---- each node but the source has an active link into it
   just_there : (a b c d y r : ℚ) → a ≡ c → b ≡ d → d ≡ y → y ≡ c +ℚ r → 0ℚ ≤ℚ b -ℚ (a +ℚ r)
-  just_there a b c d y r e f g h = linear_le (a ∷ b ∷ c ∷ d ∷ y ∷ r ∷ []) (eq e ∷ eq f ∷ eq g ∷ eq h ∷ []) (search reading_of depth 12) tt
+  just_there a b c d y r e f g h = linear_le (a ∷ b ∷ c ∷ d ∷ y ∷ r ∷ []) (eq e ∷ eq f ∷ eq g ∷ eq h ∷ []) (search reading_of) tt
 
   entered_first : (v : ℕ) → v < net.nodes → v ≢ net.source → (e : ℕ) × (link : Link) × IsLink net e link × (link.head ≡ v) × (0ℚ ≤ℚ link_slack label link 0ℚ)
   entered_first v h other =
@@ -89,16 +89,16 @@ module _ (net : Network) (labels : List ℚ) (amount label : ℕ → ℚ → ℚ
   out_none v = sum_out-same net.links (λ e. sent net amount label e 0ℚ) (λ _. 0ℚ) v (λ e link p _. nothing_sent e link p) ∙ sum_out-none net.links v
 
   add_none : (i u o : ℚ) → i ≡ 0ℚ → u ≡ 0ℚ → o ≡ 0ℚ → i +ℚ u ≡ o
-  add_none i u o e f g = linear_eq (i ∷ u ∷ o ∷ []) (eq e ∷ eq f ∷ eq g ∷ []) (search reading_of depth 12) tt tt
+  add_none i u o e f g = linear_eq (i ∷ u ∷ o ∷ []) (eq e ∷ eq f ∷ eq g ∷ []) (search reading_of) tt tt
 
   same_none : (x y : ℚ) → x ≡ 0ℚ → y ≡ 0ℚ → x ≤ℚ y
-  same_none x y e f = linear_le (x ∷ y ∷ []) (eq e ∷ eq f ∷ []) (search reading_of depth 12) tt
+  same_none x y e f = linear_le (x ∷ y ∷ []) (eq e ∷ eq f ∷ []) (search reading_of) tt
 
   unsupplied : supply net 0ℚ ≡ 0ℚ
   unsupplied = supplied-begins net.pieces good.pieces
 
   same_label : (v : ℕ) (s t : ℚ) → 0ℚ ≤ℚ s → s ≤ℚ t → t ≤ℚ 0ℚ → label v s ≤ℚ label v t
-  same_label v s t h k j = ≤ℚ_of_same _ _ (ap (label v) (linear_eq (s ∷ t ∷ []) (le h ∷ le k ∷ le j ∷ []) (search reading_of depth 12) tt tt))
+  same_label v s t h k j = ≤ℚ_of_same _ _ (ap (label v) (linear_eq (s ∷ t ∷ []) (le h ∷ le k ∷ le j ∷ []) (search reading_of) tt tt))
 
   -- ---- the theorem
   pub HoldsUpTo-start : HoldsUpTo net amount label 0ℚ
@@ -108,7 +108,7 @@ module _ (net : Network) (labels : List ℚ) (amount label : ℕ → ℚ → ℚ
     label_rises = λ v s t _ h k j. same_label v s t h k j;
     label_takes = λ v time h i j. (0ℚ, (≤ℚ_refl 0ℚ, ≤ℚ_refl 0ℚ), ≤ℚ_antisymm _ _ i j);
     label_not_negative = label_not_negative;
-    amount_rises = λ e h s t i j. same_none _ _ (start.nothing e s h i) (start.nothing e t h (linear_le (s ∷ t ∷ []) (le i ∷ le j ∷ []) (search reading_of depth 12) tt));
+    amount_rises = λ e h s t i j. same_none _ _ (start.nothing e s h i) (start.nothing e t h (linear_le (s ∷ t ∷ []) (le i ∷ le j ∷ []) (search reading_of) tt));
     amount_starts = λ e h. start.nothing e 0ℚ h (≤ℚ_refl 0ℚ);
     sent_starts = nothing_sent;
     inner = λ v departure h a b w. at_first (λ departure. sum_in net.links (λ e. sent net amount label e departure) v ≡ sum_out net.links (λ e. sent net amount label e departure) v)

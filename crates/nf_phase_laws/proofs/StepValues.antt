@@ -8,6 +8,7 @@ use Rattle.nf_rational.specs.Operations.{0ℚ, ◌+ℚ◌, ◌-ℚ◌, ◌*ℚ�
 use Rattle.nf_rational.specs.Order.{◌≤ℚ◌, ◌<ℚ◌, lt_ℚ}
 use Rattle.nf_rational_laws.proofs.Order.{≤ℚ_of_lt}
 use Rattle.nf_rational_laws.proofs.Tests.{lt_ℚ_cases, max0_of}
+use Rattle.nf_rational_laws.proofs.Entries.{length-enumerated}
 use Rattle.nf_frac_def.specs.Passing.{Passing}
 use Rattle.nf_frac_def.specs.Checked.{Checked, checked, each, ◌>>=◌}
 use Rattle.nf_model.specs.Entries.{number_at}
@@ -16,7 +17,7 @@ use Rattle.nf_model.specs.ThinFlow.{Sets}
 use Rattle.nf_model.specs.Pattern.{Pattern}
 use Rattle.nf_rational.specs.Signs.{is_positive}
 use Rattle.nf_thin_def.specs.CurveList.{QueueStep, LinkStep, LinkPhase, rate_over, size_at, slope_at, queue_step, link_step, link_phase, curve_list}
-use Rattle.nf_thin_laws.specs.ListLaws.{never}
+use Rattle.nf_frac_def.specs.Passing.{never}
 use Rattle.nf_thin_laws.proofs.Exact.{curve_list_as}
 use Rattle.nf_thin_laws.proofs.Ending.{each_cons, enumerated}
 use Rattle.nf_phase_laws.specs.Invariant.{queue_by_slack}
@@ -125,16 +126,12 @@ module _ {A B E : Type 0} (f : A → Result B E) where
       let c = each_cons f w xs ys h in
       ap length (sym c.4) ∙ ap suc (each-length xs c.1 c.3)
 
-enumerated-length : {A : Type 0} (k : ℕ) (xs : List A) → length (enumerate_from k xs) ≡ length xs
-enumerated-length k [] = refl
-enumerated-length k (x ∷ xs) = ap suc (enumerated-length (k + 1) xs)
-
 pub steps-length : (passes : Passing) (net : Network) (sets : Sets) (pattern : Pattern) (while : ℚ) (flows slopes labels amounts : List ℚ) (steps : List LinkStep)
     → curve_list passes net sets pattern while flows slopes labels amounts ≡ Ok steps → length steps ≡ length net.links
 unfolding curve_list
 steps-length passes net sets pattern while flows slopes labels amounts steps h =
     each-length (λ (numbered : ℕ × Link). link_step passes while (number_at amounts numbered.0) (link_phase sets pattern flows slopes labels numbered)) (enumerate_from 0 net.links) steps h
-    ∙ enumerated-length 0 net.links
+    ∙ length-enumerated 0 net.links
 
 pub step_value_at : (passes : Passing) (net : Network) (sets : Sets) (pattern : Pattern) (length : ℚ) (flows slopes labels amounts : List ℚ) (steps : List LinkStep)
     → curve_list passes net sets pattern length flows slopes labels amounts ≡ Ok steps → (e : ℕ) (link : Link) → IsLink net e link

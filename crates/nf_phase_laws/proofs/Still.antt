@@ -25,7 +25,7 @@ use Rattle.nf_rational_laws.proofs.Chains.{≤ℚ_trans}
 
 -- ---- a link with flow whose exit slope is 0 is unbounded, and the label of its tail is constant
 no_quotient : (x c q : ℚ) → 0ℚ <ℚ c → 0ℚ <ℚ x → q *ℚ c ≡ x → q ≤ℚ 0ℚ → ⊥
-no_quotient x c q h k e l = let low : 0ℚ ≤ℚ c = ≤ℚ_of_lt _ _ h in linear_false (x ∷ c ∷ q ∷ []) (lt k ∷ eq e ∷ le_times low l ∷ []) (search reading_of depth 12) tt
+no_quotient x c q h k e l = let low : 0ℚ ≤ℚ c = ≤ℚ_of_lt _ _ h in linear_false (x ∷ c ∷ q ∷ []) (lt k ∷ eq e ∷ le_times low l ∷ []) (search reading_of) tt
 
 exit_still : (resets : Bool) (capacity : Option ℚ) (x l : ℚ) → IsPositive capacity → 0ℚ <ℚ x → exit_slope resets capacity x l ≡ 0ℚ → l ≡ 0ℚ
 exit_still resets None x l c h e = e
@@ -40,7 +40,7 @@ module _ (net : Network) (labels : List ℚ) (rate : ℚ) (flows slopes : List �
   moves_on v still at = apart (number_at slopes v) still (ap (number_at slopes) at ∙ thin.starts)
     where
       apart : (s : ℚ) → s ≡ 0ℚ → s ≡ 1ℚ → ⊥
-      apart s e f = linear_false (s ∷ []) (eq e ∷ eq f ∷ []) (search reading_of depth 12) tt
+      apart s e f = linear_false (s ∷ []) (eq e ∷ eq f ∷ []) (search reading_of) tt
 
   -- a link with flow is active
   active_of_flow : (e : ℕ) → 0ℚ <ℚ number_at flows e → Has (sets_at net labels).active e
@@ -66,10 +66,10 @@ module _ (net : Network) (labels : List ℚ) (rate : ℚ) (flows slopes : List �
   Way u v = (walk : List ℕ) × IsWalk (hops net) walk u v × (number_at labels u +ℚ transit_sum (hops net) walk ≤ℚ number_at labels v)
 
   inner_some : (i o f : ℚ) → o -ℚ i ≡ 0ℚ → f ≤ℚ o → 0ℚ <ℚ f → 0ℚ <ℚ i
-  inner_some i o f e h k = linear_lt (i ∷ o ∷ f ∷ []) (eq e ∷ le h ∷ lt k ∷ []) (search reading_of depth 12) tt
+  inner_some i o f e h k = linear_lt (i ∷ o ∷ f ∷ []) (eq e ∷ le h ∷ lt k ∷ []) (search reading_of) tt
 
   sink_some : (i o f r : ℚ) → o -ℚ i ≡ 0ℚ -ℚ r → 0ℚ ≤ℚ r → f ≤ℚ o → 0ℚ <ℚ f → 0ℚ <ℚ i
-  sink_some i o f r e n h k = linear_lt (i ∷ o ∷ f ∷ r ∷ []) (eq e ∷ le n ∷ le h ∷ lt k ∷ []) (search reading_of depth 12) tt
+  sink_some i o f r e n h k = linear_lt (i ∷ o ∷ f ∷ r ∷ []) (eq e ∷ le n ∷ le h ∷ lt k ∷ []) (search reading_of) tt
 
   comes_in : (v : ℕ) → v < net.nodes → Sends v → 0ℚ <ℚ sum_in net.links (number_at flows) v
   comes_in v h (still, (e, link, p, at, f)) = ⊎_elim
@@ -82,13 +82,13 @@ module _ (net : Network) (labels : List ℚ) (rate : ℚ) (flows slopes : List �
       most = sum_out-each net.links (number_at flows) v thin.no_negative_flow e link p at
 
   no_further : (a : ℚ) → a +ℚ 0ℚ ≤ℚ a
-  no_further a = linear_le (a ∷ []) [] (search reading_of depth 12) tt
+  no_further a = linear_le (a ∷ []) [] (search reading_of) tt
 
   further : (a b c q r l : ℚ) → q ≡ r → 0ℚ ≤ℚ b -ℚ (a +ℚ r) → b +ℚ l ≤ℚ c → a +ℚ (q +ℚ l) ≤ℚ c
-  further a b c q r l e h k = linear_le (a ∷ b ∷ c ∷ q ∷ r ∷ l ∷ []) (eq e ∷ le h ∷ le k ∷ []) (search reading_of depth 12) tt
+  further a b c q r l e h k = linear_le (a ∷ b ∷ c ∷ q ∷ r ∷ l ∷ []) (eq e ∷ le h ∷ le k ∷ []) (search reading_of) tt
 
   closed : (a b q r l : ℚ) → q ≡ r → 0ℚ ≤ℚ b -ℚ (a +ℚ r) → b +ℚ l ≤ℚ a → 0ℚ <ℚ q +ℚ l → ⊥
-  closed a b q r l e h k c = linear_false (a ∷ b ∷ q ∷ r ∷ l ∷ []) (eq e ∷ le h ∷ le k ∷ lt c ∷ []) (search reading_of depth 12) tt
+  closed a b q r l e h k c = linear_false (a ∷ b ∷ q ∷ r ∷ l ∷ []) (eq e ∷ le h ∷ le k ∷ lt c ∷ []) (search reading_of) tt
 
   abbrev Back : ℕ → Type 0
   Back v = ⊥ ⊎ ((u : ℕ) × (u < net.nodes) × Sends u × ((w : ℕ) → Way v w → Way u w) × (Way v u → ⊥))

@@ -26,6 +26,7 @@ use Rattle.nf_phase_laws.specs.Invariant.{link_slack, HoldsUpTo}
 use Rattle.nf_phase_laws.proofs.Holds.{labels_earliest}
 use Rattle.nf_rational_laws.proofs.Chains.{≤ℚ_refl}
 use Rattle.nf_rational_laws.proofs.Extremes.{max_left}
+use Rattle.nf_rational_laws.proofs.Facts.{plus_zero_le}
 use Rattle.std.proofs.lemmas.Option.{same_Some}
 
 -- ---- an active link: s is its slack, x its flow, l and m the slopes at its tail and its head
@@ -37,10 +38,10 @@ pub record LinkLaw (capacity : Option ℚ) (s x l m : ℚ) : Type 0 where
   pub free_used : capacity ≡ None → 0ℚ <ℚ x → l ≤ℚ m
 
 filled : (x c m q : ℚ) → 0ℚ <ℚ c → q *ℚ c ≡ x → m ≤ℚ q → c *ℚ m ≤ℚ x
-filled x c m q h e k = let low : 0ℚ ≤ℚ c = ≤ℚ_of_lt _ _ h in linear_le (x ∷ c ∷ m ∷ q ∷ []) (eq e ∷ le_times low k ∷ []) (search reading_of depth 12) tt
+filled x c m q h e k = let low : 0ℚ ≤ℚ c = ≤ℚ_of_lt _ _ h in linear_le (x ∷ c ∷ m ∷ q ∷ []) (eq e ∷ le_times low k ∷ []) (search reading_of) tt
 
 at_most : (x c m q : ℚ) → 0ℚ <ℚ c → q *ℚ c ≡ x → q ≤ℚ m → x ≤ℚ c *ℚ m
-at_most x c m q h e k = let low : 0ℚ ≤ℚ c = ≤ℚ_of_lt _ _ h in linear_le (x ∷ c ∷ m ∷ q ∷ []) (eq e ∷ le_times low k ∷ []) (search reading_of depth 12) tt
+at_most x c m q h e k = let low : 0ℚ ≤ℚ c = ≤ℚ_of_lt _ _ h in linear_le (x ∷ c ∷ m ∷ q ∷ []) (eq e ∷ le_times low k ∷ []) (search reading_of) tt
 
 LinkLaw-bounded : (resets : Bool) (c s x l m : ℚ) → 0ℚ <ℚ c → 0ℚ ≤ℚ x → 0ℚ ≤ℚ m → (0ℚ <ℚ s → resets ≡ true) → (s ≤ℚ 0ℚ → resets ≡ false)
     → m ≤ℚ exit_slope resets (Some c) x l → (0ℚ <ℚ x → exit_slope resets (Some c) x l ≡ m) → LinkLaw (Some c) s x l m
@@ -99,15 +100,12 @@ pub record IsThinBy (net : Network) (slack : Link → ℚ) (rate : ℚ) (x slope
 
 -- ---- a walk takes at least its transit times
 Arrives-after : (net : Network) (amount : ℕ → ℚ → ℚ) → IsNetwork net → (walk : List ℕ) (time arrival : ℚ) → Arrives net amount walk time arrival → time +ℚ transit_sum (hops net) walk ≤ℚ arrival
-Arrives-after net amount good [] time arrival a = none time arrival a
-  where
-    none : (t a : ℚ) → t ≡ a → t +ℚ 0ℚ ≤ℚ a
-    none t a e = linear_le (t ∷ a ∷ []) (eq e ∷ []) (search reading_of depth 12) tt
+Arrives-after net amount good [] time arrival a = plus_zero_le time arrival a
 Arrives-after net amount good (e ∷ walk) time arrival (link, p, exit, is_exit, rest) =
     more time exit arrival link.transit _ _ (transit_of-is net e link p) (IsExit-after link.transit link.capacity (amount e) time exit (IsPositive-link net e link good p) is_exit) (Arrives-after net amount good walk exit arrival rest)
   where
     more : (t x a r q l : ℚ) → q ≡ r → t +ℚ r ≤ℚ x → x +ℚ l ≤ℚ a → t +ℚ (q +ℚ l) ≤ℚ a
-    more t x a r q l e h k = linear_le (t ∷ x ∷ a ∷ r ∷ q ∷ l ∷ []) (eq e ∷ le h ∷ le k ∷ []) (search reading_of depth 12) tt
+    more t x a r q l e h k = linear_le (t ∷ x ∷ a ∷ r ∷ q ∷ l ∷ []) (eq e ∷ le h ∷ le k ∷ []) (search reading_of) tt
 
 module _ (net : Network) (amount label : ℕ → ℚ → ℚ) (until : ℚ) (labels : List ℚ) (good : IsNetwork net) (holds : HoldsUpTo net amount label until)
     (same : (v : ℕ) → v < net.nodes → label v until ≡ number_at labels v) where
@@ -116,7 +114,7 @@ module _ (net : Network) (amount label : ℕ → ℚ → ℚ) (until : ℚ) (lab
 
   -- No active link leads into the source: otherwise a walk to its tail and back would take no time.
   no_time : (a b u r q t : ℚ) → b ≡ u → 0ℚ ≤ℚ b -ℚ (a +ℚ r) → u +ℚ t ≤ℚ a → q ≡ r → 0ℚ <ℚ q +ℚ t → ⊥
-  no_time a b u r q t e h k f c = linear_false (a ∷ b ∷ u ∷ r ∷ q ∷ t ∷ []) (eq e ∷ le h ∷ le k ∷ eq f ∷ lt c ∷ []) (search reading_of depth 12) tt
+  no_time a b u r q t e h k f c = linear_false (a ∷ b ∷ u ∷ r ∷ q ∷ t ∷ []) (eq e ∷ le h ∷ le k ∷ eq f ∷ lt c ∷ []) (search reading_of) tt
 
   pub no_entry : (e : ℕ) (link : Link) → IsLink net e link → 0ℚ ≤ℚ link_slack label link until → link.head ≢ net.source
   no_entry e link p h at =
@@ -131,7 +129,7 @@ module _ (net : Network) (amount label : ℕ → ℚ → ℚ) (until : ℚ) (lab
   slack-is e link p = by_labels _ _ _ _ link.transit (same link.head (good.heads e link p)) (same link.tail (good.tails e link p))
     where
       by_labels : (b a d c r : ℚ) → b ≡ d → a ≡ c → d -ℚ (c +ℚ r) ≡ b -ℚ (a +ℚ r)
-      by_labels b a d c r e f = linear_eq (b ∷ a ∷ d ∷ c ∷ r ∷ []) (eq e ∷ eq f ∷ []) (search reading_of depth 12) tt tt
+      by_labels b a d c r e f = linear_eq (b ∷ a ∷ d ∷ c ∷ r ∷ []) (eq e ∷ eq f ∷ []) (search reading_of) tt tt
 
   module _ (rate : ℚ) (flows slopes : List ℚ) (thin : IsThinFlow net (sets_at net labels) rate flows slopes) where
     active_at : (e : ℕ) (link : Link) → IsLink net e link → 0ℚ ≤ℚ link_slack label link until → Enters net (sets_at net labels) link.head e link
@@ -152,13 +150,13 @@ module _ (net : Network) (amount label : ℕ → ℚ → ℚ) (until : ℚ) (lab
         by_flag (Some true) f = absurd (not_both_ℚ _ _ (subst (λ (s : ℚ). 0ℚ <ℚ s) (slack-is e link p) (slack_of_resetting net labels e link p f)) h)
 
     inner_sum : (i o : ℚ) → o -ℚ i ≡ 0ℚ → i ≡ o
-    inner_sum i o e = linear_eq (i ∷ o ∷ []) (eq e ∷ []) (search reading_of depth 12) tt tt
+    inner_sum i o e = linear_eq (i ∷ o ∷ []) (eq e ∷ []) (search reading_of) tt tt
 
     source_sum : (i o r : ℚ) → o -ℚ i ≡ r → i +ℚ r ≡ o
-    source_sum i o r e = linear_eq (i ∷ o ∷ r ∷ []) (eq e ∷ []) (search reading_of depth 12) tt tt
+    source_sum i o r e = linear_eq (i ∷ o ∷ r ∷ []) (eq e ∷ []) (search reading_of) tt tt
 
     sink_sum : (i o r : ℚ) → o -ℚ i ≡ 0ℚ -ℚ r → i ≡ o +ℚ r
-    sink_sum i o r e = linear_eq (i ∷ o ∷ r ∷ []) (eq e ∷ []) (search reading_of depth 12) tt tt
+    sink_sum i o r e = linear_eq (i ∷ o ∷ r ∷ []) (eq e ∷ []) (search reading_of) tt tt
 
     abbrev Entry : ℕ → Type 0
     Entry v = (e : ℕ) × (link : Link) × IsLink net e link × (link.head ≡ v) × (0ℚ ≤ℚ link_slack label link until)

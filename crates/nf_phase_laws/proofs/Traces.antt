@@ -22,13 +22,13 @@ use Rattle.nf_phase_laws.proofs.StepValues.{filled_slope, rate_value, queue_valu
 
 -- ---- from a last point to a new one, as they are written
 pub later_by : (a l t : ℚ) → 0ℚ <ℚ l → 0ℚ <ℚ t → a <ℚ a +ℚ l *ℚ t
-later_by a l t h k = let p : 0ℚ <ℚ l *ℚ t = ps_times l t h k in linear_lt (a ∷ l ∷ t ∷ []) (lt p ∷ []) (search reading_of depth 12) tt
+later_by a l t h k = let p : 0ℚ <ℚ l *ℚ t = ps_times l t h k in linear_lt (a ∷ l ∷ t ∷ []) (lt p ∷ []) (search reading_of) tt
 
 rate_line : (a y l f t r : ℚ) → r *ℚ l ≡ f → r *ℚ ((a +ℚ l *ℚ t) -ℚ a) ≡ (y +ℚ f *ℚ t) -ℚ y
-rate_line a y l f t r e = linear_eq (a ∷ y ∷ l ∷ f ∷ t ∷ r ∷ []) (eq_times t e ∷ []) (search reading_of depth 12) tt tt
+rate_line a y l f t r e = linear_eq (a ∷ y ∷ l ∷ f ∷ t ∷ r ∷ []) (eq_times t e ∷ []) (search reading_of) tt tt
 
 size_line : (a y z l t r : ℚ) → r *ℚ (l *ℚ t) ≡ z -ℚ y → r *ℚ ((a +ℚ l *ℚ t) -ℚ a) ≡ z -ℚ y
-size_line a y z l t r e = linear_eq (a ∷ y ∷ z ∷ l ∷ t ∷ r ∷ []) (eq e ∷ []) (search reading_of depth 12) tt tt
+size_line a y z l t r e = linear_eq (a ∷ y ∷ z ∷ l ∷ t ∷ r ∷ []) (eq e ∷ []) (search reading_of) tt tt
 
 pub same_point : (a b y z : ℚ) → a ≡ b → y ≡ z → ◌≡◌ {A = ℚ × ℚ} (a, y) (b, z)
 same_point a b y z e f = cc

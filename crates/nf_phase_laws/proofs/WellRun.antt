@@ -64,7 +64,7 @@ WellRun-counted net s made last w = record { grow = w.grow; label_count = w.labe
 
 -- ---- the start
 flat : (l : ℚ) → 0ℚ *ℚ (l -ℚ 0ℚ) ≡ 0ℚ -ℚ 0ℚ
-flat l = linear_eq (l ∷ []) [] (search reading_of depth 12) tt tt
+flat l = linear_eq (l ∷ []) [] (search reading_of) tt tt
 
 level : (l : ℚ) → 0ℚ <ℚ l → slope (0ℚ, 0ℚ) (l, 0ℚ) ≡ 0ℚ
 level l h = slope_is (0ℚ, 0ℚ) (l, 0ℚ) 0ℚ h (flat l)

@@ -16,7 +16,7 @@ use Rattle.nf_model.specs.Phases.{IsExtension, IsUnending}
 use Rattle.nf_forever_def.specs.ForeverRun.{end_after}
 use Rattle.nf_curve_laws.proofs.Operations.{then_ok, checked-is}
 use Rattle.nf_phase_laws.proofs.Length.{IsExtension-some}
-use Rattle.nf_thin_laws.proofs.Numbered.{part_ok}
+use Rattle.nf_frac_def.proofs.AtPart.{part_ok}
 
 module _ (passes : Passing) (net : Network) (slacks slopes : List ℚ) (time : ℚ) where
   after : (e l : ℚ) → 0ℚ <ℚ l → e ≡ time +ℚ l → time <ℚ e

@@ -10,7 +10,7 @@ use Rattle.nf_frac_def.specs.Checked.{Checked, fold_checked, at_part}
 use Rattle.nf_model.specs.Network.{Link, Network, IsLink}
 use Rattle.nf_thin_def.specs.Extend.{least_after}
 use Rattle.nf_thin_laws.proofs.Ending.{enumerated}
-use Rattle.nf_thin_laws.proofs.Numbered.{part_ok}
+use Rattle.nf_frac_def.proofs.AtPart.{part_ok}
 use Rattle.nf_thin_one.proofs.Folds.{goes_on, stops_in, ends}
 use Rattle.nf_phase_length.specs.Lengths.{after_all}
 use Rattle.nf_rational_laws.proofs.Entries.{entry, length-enumerated}

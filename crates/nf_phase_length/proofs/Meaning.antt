@@ -11,7 +11,7 @@ use Rattle.nf_model.specs.Phases.{IsExtension, IsUnending}
 use Rattle.nf_thin_def.specs.Extend.{until_change, extend_list}
 use Rattle.nf_phase_laws.proofs.Extension.{extension_is, unending_is}
 use Rattle.nf_phase_length.specs.Lengths.{after_all}
-use Rattle.nf_thin_laws.proofs.Numbered.{part_ok}
+use Rattle.nf_frac_def.proofs.AtPart.{part_ok}
 
 module _ (passes : Passing) (net : Network) (slacks slopes : List ℚ) (time : ℚ) (pieces : ArePieces net.pieces) where
   abbrev Means : Option ℚ → Type 0

@@ -7,6 +7,7 @@ use Rattle.nf_rational_laws.proofs.Polynomial.{reading_of}
 use Rattle.nf_rational_laws.proofs.Order.{≤ℚ_of_lt, lt_or_le_ℚ, ps_whole}
 use Rattle.nf_rational_laws.proofs.Chains.{≤ℚ_refl, ≤ℚ_trans}
 use Rattle.nf_rational_laws.proofs.Linear.{le, lt, eq, le_times, linear_le, linear_lt, linear_eq, linear_false}
+use Rattle.nf_rational_laws.proofs.Facts.{later_by}
 use Rattle.nf_model.specs.Curve.{Point, slope, value, IsCurve}
 use Rattle.nf_model_laws.proofs.Affine.{quotient-times}
 use Rattle.nf_model_laws.proofs.Curves.{value-before, value-after}
@@ -22,7 +23,7 @@ middle a b h =
     ((a +ℚ b) /ℚ two, w.0, w.1)
   where
     two_is : whole (pos 2) ≡ whole (pos 1) +ℚ whole (pos 1)
-    two_is = linear_eq [] [] (search reading_of depth 12) tt tt
+    two_is = linear_eq [] [] (search reading_of) tt tt
 
 -- the sooner of two times
 record Sooner (s a b : ℚ) : Type 0 where
@@ -42,19 +43,16 @@ sooner s a b h k = ⊎_elim
 some_while : (x y n d : ℚ) → 0ℚ <ℚ n → d *ℚ n ≡ y -ℚ x → x <ℚ y → 0ℚ <ℚ d
 some_while x y n d h e k = ⊎_elim
     (λ (l : 0ℚ <ℚ d). l)
-    (λ (l : d ≤ℚ 0ℚ). absurd (linear_false (x ∷ y ∷ n ∷ d ∷ []) (eq e ∷ lt k ∷ le_times (≤ℚ_of_lt 0ℚ n h) l ∷ []) (search reading_of depth 12) tt))
+    (λ (l : d ≤ℚ 0ℚ). absurd (linear_false (x ∷ y ∷ n ∷ d ∷ []) (eq e ∷ lt k ∷ le_times (≤ℚ_of_lt 0ℚ n h) l ∷ []) (search reading_of) tt))
     (lt_or_le_ℚ 0ℚ d)
 
-later_by : (s d : ℚ) → 0ℚ <ℚ d → s <ℚ s +ℚ d
-later_by s d h = linear_lt (s ∷ d ∷ []) (lt h ∷ []) (search reading_of depth 12) tt
-
 risen : (x y n d s t : ℚ) → 0ℚ <ℚ n → d *ℚ n ≡ y -ℚ x → t ≤ℚ s +ℚ d → x +ℚ n *ℚ (t -ℚ s) ≤ℚ y
-risen x y n d s t h e l = linear_le (x ∷ y ∷ n ∷ d ∷ s ∷ t ∷ []) (eq e ∷ le_times (≤ℚ_of_lt 0ℚ n h) l ∷ []) (search reading_of depth 12) tt
+risen x y n d s t h e l = linear_le (x ∷ y ∷ n ∷ d ∷ s ∷ t ∷ []) (eq e ∷ le_times (≤ℚ_of_lt 0ℚ n h) l ∷ []) (search reading_of) tt
 
 fallen : (x y n s t : ℚ) → n ≤ℚ 0ℚ → x <ℚ y → s <ℚ t → x +ℚ n *ℚ (t -ℚ s) ≤ℚ y
 fallen x y n s t h k l =
-    let run : 0ℚ ≤ℚ t -ℚ s = linear_le (s ∷ t ∷ []) (lt l ∷ []) (search reading_of depth 12) tt in
-    linear_le (x ∷ y ∷ n ∷ s ∷ t ∷ []) (lt k ∷ le_times run h ∷ []) (search reading_of depth 12) tt
+    let run : 0ℚ ≤ℚ t -ℚ s = linear_le (s ∷ t ∷ []) (lt l ∷ []) (search reading_of) tt in
+    linear_le (x ∷ y ∷ n ∷ s ∷ t ∷ []) (lt k ∷ le_times run h ∷ []) (search reading_of) tt
 
 -- a time after s and before b at which the line is at most y
 abbrev StaysOn : ℚ → ℚ → ℚ → ℚ → ℚ → Type 0
@@ -67,7 +65,7 @@ line_stays x n s y b k l = ⊎_elim
     let gap : d *ℚ n ≡ y -ℚ x = quotient-times (y -ℚ x) n h in
     let c : Sooner s b (s +ℚ d) = sooner s b (s +ℚ d) l (later_by s d (some_while x y n d h gap k)) in
     let m : Between s c.time = middle s c.time c.after in
-    (m.0, m.1, linear_lt (m.0 ∷ c.time ∷ b ∷ []) (lt m.2 ∷ le c.first ∷ []) (search reading_of depth 12) tt, risen x y n d s m.0 h gap (≤ℚ_trans _ _ _ (≤ℚ_of_lt _ _ m.2) c.second)))
+    (m.0, m.1, linear_lt (m.0 ∷ c.time ∷ b ∷ []) (lt m.2 ∷ le c.first ∷ []) (search reading_of) tt, risen x y n d s m.0 h gap (≤ℚ_trans _ _ _ (≤ℚ_of_lt _ _ m.2) c.second)))
     (λ (h : n ≤ℚ 0ℚ).
     let m : Between s b = middle s b l in
     (m.0, m.1, m.2, fallen x y n s m.0 h k m.1))
@@ -75,7 +73,7 @@ line_stays x n s y b k l = ⊎_elim
 
 -- ---- a curve
 on_line : (v w x n t s z y : ℚ) → v ≡ x +ℚ n *ℚ (t -ℚ z) → w ≡ x +ℚ n *ℚ (s -ℚ z) → w +ℚ n *ℚ (t -ℚ s) ≤ℚ y → v ≤ℚ y
-on_line v w x n t s z y e f h = linear_le (v ∷ w ∷ x ∷ n ∷ t ∷ s ∷ z ∷ y ∷ []) (eq e ∷ eq f ∷ le h ∷ []) (search reading_of depth 12) tt
+on_line v w x n t s z y e f h = linear_le (v ∷ w ∷ x ∷ n ∷ t ∷ s ∷ z ∷ y ∷ []) (eq e ∷ eq f ∷ le h ∷ []) (search reading_of) tt
 
 -- a time after s, and not after the last one, at which a curve is at most y
 abbrev pub Stays : List Point → ℚ → ℚ → ℚ → Type 0
@@ -85,7 +83,7 @@ stays_before : (p q : Point) (rest : List Point) (s y last : ℚ) → s <ℚ las
 stays_before p q rest s y last l k m =
     let c : Sooner s q.0 last = sooner s q.0 last m l in
     let t : StaysOn (value (p ∷ q ∷ rest) s) (slope p q) s y c.time = line_stays (value (p ∷ q ∷ rest) s) (slope p q) s y c.time k c.after in
-    let low : t.0 <ℚ q.0 = linear_lt (t.0 ∷ c.time ∷ q.0 ∷ []) (lt t.2 ∷ le c.first ∷ []) (search reading_of depth 12) tt in (
+    let low : t.0 <ℚ q.0 = linear_lt (t.0 ∷ c.time ∷ q.0 ∷ []) (lt t.2 ∷ le c.first ∷ []) (search reading_of) tt in (
       t.0,
       t.1,
       ≤ℚ_trans _ _ _ (≤ℚ_of_lt _ _ t.2) c.second,

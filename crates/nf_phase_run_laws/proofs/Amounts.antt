@@ -1,5 +1,5 @@
 -- The amount that has entered each link by the end of a phase.
-use Rattle.std.proofs.Common.{◌≡◌, ℕ, ◌-◌, List, [], ◌∷◌, length, take, Bool, true, false, Option, Some, None, slice_get, unwrap_or, map, sym, ap, refl, ◌∙◌, arith}
+use Rattle.std.proofs.Common.{◌≡◌, ℕ, ◌-◌, List, length, take, Bool, true, false, Option, Some, None, slice_get, unwrap_or, map, sym, ap, refl, ◌∙◌, arith}
 use Rattle.std.specs.List.{last_or}
 use Rattle.std.specs.Option.{option_map_or}
 use Rattle.std.proofs.lemmas.Option.{slice_get_within}
@@ -7,8 +7,6 @@ use Rattle.nf_rational.specs.Rational.{ℚ}
 use Rattle.nf_rational.specs.Operations.{0ℚ, ◌+ℚ◌, ◌*ℚ◌}
 use Rattle.nf_rational.specs.Order.{◌≤ℚ◌}
 use Rattle.nf_rational_laws.proofs.Order.{≤ℚ_antisymm}
-use Rattle.nf_rational_laws.proofs.Polynomial.{reading_of}
-use Rattle.nf_rational_laws.proofs.Linear.{eq_times, linear_eq}
 use Rattle.nf_frac_def.specs.Passing.{Passing}
 use Rattle.nf_model.specs.Entries.{number_at}
 use Rattle.nf_model.specs.Curve.{Point}
@@ -25,6 +23,7 @@ use Rattle.nf_phase_laws.proofs.StepValues.{rate_value, step_value, none_of, ste
 use Rattle.nf_phase_laws.proofs.AfterPhase.{link_after_at}
 use Rattle.nf_phase_laws.proofs.WellRun.{WellRun}
 use Rattle.nf_rational_laws.proofs.Entries.{last-append, slice_get-image, entry}
+use Rattle.nf_rational_laws.proofs.Facts.{term_of_zero}
 
 -- the value of the last point of a trace
 abbrev amount_of : Trace → ℚ
@@ -33,9 +32,6 @@ amount_of trace = option_map_or (λ (p : Point). p.1) (last_or None trace.points
 with-amount : (b : Bool) (points : List Point) (p : Point) → option_map_or (λ (p : Point). p.1) (last_or None (with_point b points p)) 0ℚ ≡ p.1
 with-amount true points p = ap (λ (o : Option Point). option_map_or (λ (p : Point). p.1) o 0ℚ) (last-append None (take (length points - 1) points) p)
 with-amount false points p = ap (λ (o : Option Point). option_map_or (λ (p : Point). p.1) o 0ℚ) (last-append None points p)
-
-none_more : (x l f : ℚ) → f ≡ 0ℚ → x ≡ x +ℚ l *ℚ f
-none_more x l f e = linear_eq (x ∷ l ∷ f ∷ []) (eq_times l e ∷ []) (search reading_of depth 12) tt tt
 
 module _ (passes : Passing) (net : Network) (good : IsNetwork net) (s : Standing) (pattern : Pattern) (flows slopes : List ℚ) (step : PhaseStep) (well : WellRun net s)
     (not_negative : (v : ℕ) → 0ℚ ≤ℚ number_at slopes v) (still : (e : ℕ) (link : Link) → IsLink net e link → number_at slopes link.tail ≡ 0ℚ → number_at flows e ≡ 0ℚ)
@@ -63,7 +59,7 @@ module _ (passes : Passing) (net : Network) (good : IsNetwork net) (s : Standing
     by_rate true t = with-amount _ c.inflow.points (number_at step.labels link.tail, before e +ℚ step.length *ℚ number_at flows e)
     by_rate false t =
         sym (number_is s.link_curves e c at)
-        ∙ none_more (before e) step.length (number_at flows e) (still e link p (≤ℚ_antisymm _ _ (none_of (number_at slopes link.tail) t) (not_negative link.tail)))
+        ∙ term_of_zero (before e) step.length (number_at flows e) (still e link p (≤ℚ_antisymm _ _ (none_of (number_at slopes link.tail) t) (not_negative link.tail)))
 
     amount_after : after e ≡ before e +ℚ step.length *ℚ number_at flows e
     amount_after = number_is (standing_after net s pattern slopes step).link_curves e (curves_after step.labels link c one) link_after

@@ -1,14 +1,13 @@
 -- There is a thin flow for the labels of any departure up to which the invariant of phases holds. So there is one for the labels of an
 -- equilibrium and of a run state.
-use Rattle.std.proofs.Common.{◌≡◌, ℕ, List, [], ◌∷◌, subst}
+use Rattle.std.proofs.Common.{◌≡◌, ℕ, List, subst}
 use Rattle.std.specs.Prelude.{Option}
 use Rattle.nf_rational.specs.Rational.{ℚ}
-use Rattle.nf_rational.specs.Operations.{0ℚ, ◌+ℚ◌, ◌-ℚ◌}
+use Rattle.nf_rational.specs.Operations.{0ℚ}
 use Rattle.nf_rational.specs.Order.{◌≤ℚ◌}
-use Rattle.nf_rational_laws.proofs.Polynomial.{reading_of}
 use Rattle.nf_rational_laws.proofs.Order.{not_both_ℚ}
 use Rattle.nf_rational_laws.proofs.Chains.{≤ℚ_refl}
-use Rattle.nf_rational_laws.proofs.Linear.{eq, linear_eq}
+use Rattle.nf_rational_laws.proofs.Facts.{same_slacks}
 use Rattle.nf_frac_def.specs.Passing.{Passing}
 use Rattle.nf_model.specs.Curve.{Within}
 use Rattle.nf_model.specs.Network.{Link, Network, IsNetwork, IsLink, hop_of, rate_at}
@@ -41,10 +40,7 @@ use Rattle.nf_phase_run_laws.specs.ThinFlows.{HasThinFlow}
 module _ (net : Network) (amount by_label : ℕ → ℚ → ℚ) (until departure : ℚ) (labels : List ℚ) (good : IsNetwork net) (holds : HoldsUpTo net amount by_label until)
     (inside : Within 0ℚ until departure) (are : LabelsAre net by_label departure labels) where
   slack-is : (e : ℕ) (link : Link) → IsLink net e link → link_slack by_label link departure ≡ slack labels (hop_of link)
-  slack-is e link p = same_slack _ _ _ _ link.transit (are link.head (good.heads e link p)) (are link.tail (good.tails e link p))
-    where
-      same_slack : (b a d c r : ℚ) → b ≡ d → a ≡ c → b -ℚ (a +ℚ r) ≡ d -ℚ (c +ℚ r)
-      same_slack b a d c r e f = linear_eq (b ∷ a ∷ d ∷ c ∷ r ∷ []) (eq e ∷ eq f ∷ []) (search reading_of depth 12) tt tt
+  slack-is e link p = same_slacks _ _ _ _ link.transit (are link.head (good.heads e link p)) (are link.tail (good.tails e link p))
 
   entered : EachIsEntered net (sets_at net labels)
   entered v h other =

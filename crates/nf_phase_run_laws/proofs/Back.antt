@@ -1,11 +1,12 @@
 -- Restoring a run from its report gives the run's state.
 use Rattle.std.proofs.Common.{◌≡◌, ℕ, suc, ◌<◌, List, [], ◌∷◌, ◌++◌, length, Option, Some, None, slice_get, map, sym, ap, subst, refl, ◌∙◌, arith}
 use Rattle.std.specs.Prelude.{Result, Ok}
-use Rattle.std.proofs.lemmas.Option.{slice_get_within}
+use Rattle.std.proofs.lemmas.Option.{slice_get_within, same_Some}
 use Rattle.std.proofs.lemmas.List.{length-map}
 use Rattle.nf_rational.specs.Rational.{ℚ}
 use Rattle.nf_frac_def.specs.Passing.{Passing}
 use Rattle.nf_frac_def.specs.Checked.{each}
+use Rattle.nf_frac_def.proofs.Each.{each_at, each_length}
 use Rattle.nf_model.specs.Curve.{Point, slope, IsShort}
 use Rattle.nf_model.specs.Network.{Link, Network, IsNetwork, IsLink}
 use Rattle.nf_model.specs.Equilibrium.{Flow, points_at, label}
@@ -24,16 +25,13 @@ use Rattle.nf_phase_laws.proofs.WellRun.{WellRun, number_is, label_points, inflo
 use Rattle.nf_resume_def.specs.Restoring.{value_at_end, link_curves_of, standing_of, last_slope, growing, restore_list}
 use Rattle.nf_resume_def.specs.Resuming.{OfLink, CutLink, links_with, cut_short, cut_trace, cut_link, cut_flow_of, cut_flow}
 use Rattle.nf_resume_laws.proofs.CutShort.{rest_of}
-use Rattle.nf_resume_laws.proofs.CutFlow.{each_at, each_length, entry_within, of_link, links_with-at, links_with-length, value_at_end-is}
+use Rattle.nf_resume_laws.proofs.CutFlow.{of_link, links_with-at, links_with-length, value_at_end-is}
 use Rattle.nf_rational_laws.proofs.Entries.{slice_get-image, entry}
 use Rattle.nf_rational_laws.proofs.Results.{same_Ok}
 use Rattle.nf_phase_run_laws.specs.ResumedLaws.{with_made}
 use Rattle.nf_phase_run_laws.proofs.Kept.{cut_short-same, cut_trace-same}
 
 -- ---- lists
-pub same_some : {A : Type 0} (x y : A) → ◌≡◌ {A = Option A} (Some x) (Some y) → x ≡ y
-same_some x y e = cc
-
 -- A list each of whose entries maps to itself.
 each_same : {A E : Type 0} (f : A → Result A E) (xs ys : List A) → ((i : ℕ) (x y : A) → slice_get xs i ≡ Some x → f x ≡ Ok y → y ≡ x) → each f xs ≡ Ok ys → ys ≡ xs
 each_same f [] ys same e = sym (same_Ok _ _ e)
@@ -136,7 +134,7 @@ module _ (passes : Passing) (net : Network) (good : IsNetwork net) (s : Standing
   labels-same cuts e = each_same (cut_short passes s.time) (flow_of s).labels cuts (λ v points cut at f.
       let h : v < net.nodes = (let w = slice_get_within (flow_of s).labels v points at in let n = well.label_count in let m = length-map s.label_curves (λ (c : GrowingCurve). c.points) in omega arith) in
       let c : (c : GrowingCurve) × (slice_get s.label_curves v ≡ Some c) = label_curve v h in
-      let is : points ≡ c.0.points = same_some points c.0.points (sym at ∙ slice_get-image (λ (c : GrowingCurve). c.points) s.label_curves v c.0 c.1) in
+      let is : points ≡ c.0.points = same_Some points c.0.points (sym at ∙ slice_get-image (λ (c : GrowingCurve). c.points) s.label_curves v c.0 c.1) in
       cut_short-same passes points cut (s.time, label_now v) (subst (λ (l : List Point). LastPoint l (s.time, label_now v)) (sym is) (label_ends v c.0 h c.1))
       (subst IsShort (sym is) (short.labels v c.0 c.1).short) f) e
 
@@ -176,7 +174,7 @@ module _ (passes : Passing) (net : Network) (good : IsNetwork net) (s : Standing
       ∙ links_with-length net.links (flow_of s).inflows (flow_of s).outflows (flow_of s).queues (many (λ c. c.inflow)) (many (λ c. c.outflow)) (many (λ c. c.queue.points)))
       (many same_link)
       (λ n h.
-      let link : (link : Link) × (slice_get net.links n ≡ Some link) = entry_within net.links n h in
+      let link : (link : Link) × (slice_get net.links n ≡ Some link) = entry net.links n h in
       let c : (c : LinkCurves) × (slice_get s.link_curves n ≡ Some c) = link_curve n link.0 link.1 in
       let there : slice_get all_links n ≡ Some (of_link link.0 c.0.inflow c.0.outflow c.0.queue.points) =
       links_with-at net.links (flow_of s).inflows (flow_of s).outflows (flow_of s).queues n link.0 c.0.inflow c.0.outflow c.0.queue.points link.1
@@ -210,7 +208,7 @@ module _ (passes : Passing) (net : Network) (good : IsNetwork net) (s : Standing
   -- ---- the run state
   label_curves-back : (curves : List GrowingCurve) → each (growing passes) (flow_of s).labels ≡ Ok curves → curves ≡ s.label_curves
   label_curves-back curves e = each_are (growing passes) (flow_of s).labels curves s.label_curves (length-map s.label_curves (λ (c : GrowingCurve). c.points)) (λ v points found c at there f.
-      let is : points ≡ c.points = same_some points c.points (sym at ∙ slice_get-image (λ (c : GrowingCurve). c.points) s.label_curves v c there) in
+      let is : points ≡ c.points = same_Some points c.points (sym at ∙ slice_get-image (λ (c : GrowingCurve). c.points) s.label_curves v c there) in
       growing-back passes c found (well.label_slopes v c there) (short.labels v c there).one (ap (growing passes) (sym is) ∙ f)) e
 
   abbrev queue_of : LinkCurves → GrowingCurve
@@ -219,8 +217,8 @@ module _ (passes : Passing) (net : Network) (good : IsNetwork net) (s : Standing
   queues-back : (curves : List GrowingCurve) → each (growing passes) (flow_of s).queues ≡ Ok curves → curves ≡ map queue_of s.link_curves
   queues-back curves e = each_are (growing passes) (flow_of s).queues curves (map queue_of s.link_curves) (many (λ c. c.queue.points) ∙ sym (many queue_of)) (λ n points found q at there f.
       let c : (c : LinkCurves) × (slice_get s.link_curves n ≡ Some c) = entry s.link_curves n (let w = slice_get_within (map queue_of s.link_curves) n q there in let m = many queue_of in let k = well.link_count in omega arith) in
-      let queue : q ≡ c.0.queue = same_some q c.0.queue (sym there ∙ slice_get-image queue_of s.link_curves n c.0 c.1) in
-      let is : points ≡ c.0.queue.points = same_some points c.0.queue.points (sym at ∙ slice_get-image (λ (c : LinkCurves). c.queue.points) s.link_curves n c.0 c.1) in
+      let queue : q ≡ c.0.queue = same_Some q c.0.queue (sym there ∙ slice_get-image queue_of s.link_curves n c.0 c.1) in
+      let is : points ≡ c.0.queue.points = same_Some points c.0.queue.points (sym at ∙ slice_get-image (λ (c : LinkCurves). c.queue.points) s.link_curves n c.0 c.1) in
       growing-back passes c.0.queue found (well.queue_slopes n c.0 c.1) (short.links n c.0 c.1).queue.one (ap (growing passes) (sym is) ∙ f) ∙ sym queue) e
 
   link_curves-back : (curves : List LinkCurves) → link_curves_of (map (λ c. c.inflow) curves) (map (λ c. c.outflow) curves) (map queue_of curves) ≡ curves

@@ -41,11 +41,11 @@ head_of links e = option_map_or (λ (link : Link). link.head) (slice_get links e
 
 -- ---- over plain numbers
 no_sooner : (departure at transit exit : ℚ) → departure ≤ℚ at → 0ℚ ≤ℚ transit → at +ℚ transit ≤ℚ exit → departure ≤ℚ exit
-no_sooner departure at transit exit h k l = linear_le (departure ∷ at ∷ transit ∷ exit ∷ []) (le h ∷ le k ∷ le l ∷ []) (search reading_of depth 12) tt
+no_sooner departure at transit exit h k l = linear_le (departure ∷ at ∷ transit ∷ exit ∷ []) (le h ∷ le k ∷ le l ∷ []) (search reading_of) tt
 
 -- what comes in and what goes out are the same where what stays does
 same_rest : (a b c d u v : ℚ) → a ≡ b +ℚ c → b +ℚ c ≡ d → d ≡ u +ℚ v → c ≡ v → u ≤ℚ b
-same_rest a b c d u v e f g h = linear_le (a ∷ b ∷ c ∷ d ∷ u ∷ v ∷ []) (eq e ∷ eq f ∷ eq g ∷ eq h ∷ []) (search reading_of depth 12) tt
+same_rest a b c d u v e f g h = linear_le (a ∷ b ∷ c ∷ d ∷ u ∷ v ∷ []) (eq e ∷ eq f ∷ eq g ∷ eq h ∷ []) (search reading_of) tt
 
 module _ (net : Network) (flow : Flow) (given : CanBeChecked net flow) (all : AllButRoutesHold net flow) where
   good : IsNetwork net

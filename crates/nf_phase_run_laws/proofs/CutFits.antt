@@ -21,13 +21,13 @@ use Rattle.nf_curve_def.specs.Lines.{checked_slope, checked_line}
 use Rattle.nf_curve_def.specs.Values.{points_before, value_from, checked_value, checked_cut}
 use Rattle.nf_curve_def.specs.Short.{turning, short_points, checked_slopes, checked_short}
 use Rattle.nf_report_laws.specs.Readable.{IsFractionOrNone, IsFractionPoint, AreFractionPoints, IsFractionTrace}
-use Rattle.nf_report_laws.proofs.KeysBack.{all-append}
 use Rattle.nf_phase_run_laws.proofs.Lists.{entry_or, all_image}
 use Rattle.nf_phase_run_laws.proofs.Fractions.{AreFractions, either, zero_fraction}
 use Rattle.nf_phase_run_laws.proofs.Fits.{Fits, AreOperands, ok_fits, then_fits, each_fits, one}
 use Rattle.nf_phase_run_laws.proofs.Running.{IsFractionCurve, AreFractionCurves, last_fraction}
 use Rattle.nf_resume_def.specs.Restoring.{value_at_end, link_curves_of, standing_of, last_slope, growing, restore_list}
 use Rattle.nf_resume_def.specs.Resuming.{OfLink, links_with, CutLink, cut_short, cut_trace, cut_link, cut_flow_of, cut_flow, restart_list}
+use Rattle.nf_net_laws.proofs.AcceptedNamed.{every_append}
 
 -- ---- a piece, and the value at a time
 slope_fits : (p q : Point) → IsFractionPoint p → IsFractionPoint q → Fits AreOperands IsFraction (checked_slope passes_Q p q)
@@ -63,7 +63,7 @@ cut_fits : (points : List Point) (time : ℚ) → AreFractionPoints points → I
 unfolding checked_cut
 cut_fits points time h k = then_fits (checked_value passes_Q points time) _ (value_fits points time h k)
     (λ y l. ok_fits AreOperands AreFractionPoints (points_before time points ++ (time, y) ∷ [])
-    (all-append IsFractionPoint (points_before time points) ((time, y) ∷ []) (before_fractions time points h) ((k, l), tt)))
+    (every_append IsFractionPoint (points_before time points) ((time, y) ∷ []) (before_fractions time points h) ((k, l), tt)))
 
 slopes_fit : (points : List Point) → AreFractionPoints points → Fits AreOperands AreFractions (checked_slopes passes_Q points)
 slopes_fit [] h = ok_fits AreOperands AreFractions [] tt

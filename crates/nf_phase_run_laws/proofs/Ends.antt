@@ -1,5 +1,5 @@
 -- The resumed run and the run from the start end in the same way.
-use Rattle.std.proofs.Common.{◌≡◌, ℕ, suc, List, [], ◌∷◌, length, ◌⊎◌, inl, inr, ⊎_elim, Option, None, sym, ap, subst, refl, ◌∙◌}
+use Rattle.std.proofs.Common.{◌≡◌, ℕ, suc, List, [], ◌∷◌, ◌⊎◌, inl, inr, ⊎_elim, Option, None, sym, ap, subst, refl, ◌∙◌}
 use Rattle.std.specs.Prelude.{Ok}
 use Rattle.nf_rational.specs.Rational.{ℚ}
 use Rattle.nf_rational.specs.Operations.{◌+ℚ◌}
@@ -7,12 +7,12 @@ use Rattle.nf_rational.specs.Order.{◌≤ℚ◌, ◌<ℚ◌}
 use Rattle.nf_rational_laws.proofs.Order.{≤ℚ_of_lt, ≤ℚ_of_same, not_both_ℚ}
 use Rattle.nf_rational_laws.proofs.Polynomial.{reading_of}
 use Rattle.nf_rational_laws.proofs.Linear.{lt, linear_lt}
+use Rattle.nf_rational_laws.proofs.Chains.{<_≤_trans}
 use Rattle.nf_frac_def.specs.Passing.{Passing}
 use Rattle.nf_model.specs.Network.{Network, IsNetwork, hops}
 use Rattle.nf_model.specs.ThinFlow.{slacks_of}
 use Rattle.nf_model.specs.Pattern.{Pattern}
 use Rattle.nf_model.specs.Equilibrium.{Flow}
-use Rattle.nf_model_laws.proofs.Affine.{<_≤_trans}
 use Rattle.nf_net_def.specs.declared.Cause.{Cause}
 use Rattle.nf_net_def.specs.Report.{Report}
 use Rattle.nf_thin_def.specs.PhaseRun.{Standing, Bounds, Goes, phase_lists, Runs, at_horizon, at_phases, fails, goes, IsPhaseRun, IsRunReport, flow_of, report_of}
@@ -105,7 +105,7 @@ module _ (passes : Passing) (net : Network) where
       standing = restored passes net good a b c.before last c.after c.well c.knows c.goes c.whole c.short
 
       sooner : (t l m : ℚ) → l <ℚ m → t +ℚ l <ℚ t +ℚ m
-      sooner t l m h = linear_lt (t ∷ l ∷ m ∷ []) (lt h ∷ []) (search reading_of depth 12) tt
+      sooner t l m h = linear_lt (t ∷ l ∷ m ∷ []) (lt h ∷ []) (search reading_of) tt
 
       not_there : standing.time ≡ r.horizon → ⊥
       not_there e = not_both_ℚ _ _ (<_≤_trans _ _ _ (sooner c.before.time c.goes.step.length c.whole.step.length c.short)

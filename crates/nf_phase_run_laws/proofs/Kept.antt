@@ -4,13 +4,12 @@ use Rattle.std.specs.Prelude.{Ok, if◌then◌else◌}
 use Rattle.nf_rational.specs.Rational.{ℚ}
 use Rattle.nf_rational.specs.Order.{◌≤ℚ◌, ◌<ℚ◌, lt_ℚ}
 use Rattle.nf_rational_laws.proofs.Order.{≤ℚ_of_lt, ≤ℚ_of_same, not_both_ℚ}
-use Rattle.nf_rational_laws.proofs.Tests.{lt_ℚ_cases}
-use Rattle.nf_rational_laws.proofs.Chains.{≤ℚ_refl, ≤ℚ_trans}
+use Rattle.nf_rational_laws.proofs.Tests.{test_of_not_less, test_of_less}
+use Rattle.nf_rational_laws.proofs.Chains.{≤ℚ_refl, ≤ℚ_trans, <_≤_trans}
 use Rattle.nf_frac_def.specs.Passing.{Passing}
 use Rattle.nf_frac_def.specs.Checked.{Checked, ◌>>=◌}
 use Rattle.nf_model.specs.Curve.{Point, slope, TimesRise, IsShort, AreSlopes}
 use Rattle.nf_model.specs.Equilibrium.{Trace}
-use Rattle.nf_model_laws.proofs.Affine.{<_≤_trans}
 use Rattle.nf_rational.specs.Signs.{is_same}
 use Rattle.nf_curve_def.specs.Lines.{checked_line}
 use Rattle.nf_curve_def.specs.Values.{points_before, value_from, checked_value, checked_cut}
@@ -27,18 +26,6 @@ not_same x y h = ⊎_elim
     (λ (w : (is_same x y ≡ true) × (x ≡ y)). absurd (not_both_ℚ _ _ h (≤ℚ_of_same _ _ w.1)))
     (λ (w : (is_same x y ≡ false) × (x ≢ y)). w.0)
     (is_same_cases x y)
-
-not_below : (x y : ℚ) → y ≤ℚ x → lt_ℚ x y ≡ false
-not_below x y h = ⊎_elim
-    (λ (w : (lt_ℚ x y ≡ true) × (x <ℚ y)). absurd (not_both_ℚ _ _ w.1 h))
-    (λ (w : (lt_ℚ x y ≡ false) × (y ≤ℚ x)). w.0)
-    (lt_ℚ_cases x y)
-
-is_below : (x y : ℚ) → x <ℚ y → lt_ℚ x y ≡ true
-is_below x y h = ⊎_elim
-    (λ (w : (lt_ℚ x y ≡ true) × (x <ℚ y)). w.0)
-    (λ (w : (lt_ℚ x y ≡ false) × (y ≤ℚ x)). absurd (not_both_ℚ _ _ h w.1))
-    (lt_ℚ_cases x y)
 
 -- ---- the last point
 abbrev last_from : Point → List Point → Point
@@ -72,13 +59,13 @@ module _ (passes : Passing) where
   value-last p (q ∷ rest) r =
       ap (λ (b : Bool). if b then Ok p.1 else (if lt_ℚ (last_from q rest).0 q.0 then checked_line passes p q (last_from q rest).0 else value_from passes q rest (last_from q rest).0))
       (not_same (last_from q rest).0 p.0 (below-last p q rest r))
-      ∙ ap (λ (b : Bool). if b then checked_line passes p q (last_from q rest).0 else value_from passes q rest (last_from q rest).0) (not_below (last_from q rest).0 q.0 (rises-last q rest r.1))
+      ∙ ap (λ (b : Bool). if b then checked_line passes p q (last_from q rest).0 else value_from passes q rest (last_from q rest).0) (test_of_not_less (last_from q rest).0 q.0 (rises-last q rest r.1))
       ∙ value-last q rest r.1
 
   before-last : (p : Point) (rest : List Point) → TimesRise (p ∷ rest) → points_before (last_from p rest).0 (p ∷ rest) ++ last_from p rest ∷ [] ≡ p ∷ rest
-  before-last p [] r = ap (λ (b : Bool). (if b then p ∷ [] else []) ++ p ∷ []) (not_below p.0 p.0 (≤ℚ_refl p.0))
+  before-last p [] r = ap (λ (b : Bool). (if b then p ∷ [] else []) ++ p ∷ []) (test_of_not_less p.0 p.0 (≤ℚ_refl p.0))
   before-last p (q ∷ rest) r =
-      ap (λ (b : Bool). (if b then p ∷ points_before (last_from q rest).0 (q ∷ rest) else []) ++ last_from q rest ∷ []) (is_below p.0 (last_from q rest).0 (below-last p q rest r))
+      ap (λ (b : Bool). (if b then p ∷ points_before (last_from q rest).0 (q ∷ rest) else []) ++ last_from q rest ∷ []) (test_of_less p.0 (last_from q rest).0 (below-last p q rest r))
       ∙ ap (λ (l : List Point). p ∷ l) (before-last q rest r.1)
 
   cut-end : (p : Point) (rest : List Point) → TimesRise (p ∷ rest) → checked_cut passes (p ∷ rest) (last_from p rest).0 ≡ Ok (p ∷ rest)

@@ -15,7 +15,7 @@ use Rattle.nf_model.specs.Network.{Network, ArePieces, next_change}
 use Rattle.nf_model.specs.Phases.{IsPhaseLength}
 use Rattle.nf_rational.specs.Signs.{is_zero, are_opposite}
 use Rattle.nf_thin_def.specs.Extend.{lesser, to_zero, after_link, least_after, until_change, extend_list}
-use Rattle.nf_thin_laws.specs.ListLaws.{never}
+use Rattle.nf_frac_def.specs.Passing.{never}
 use Rattle.nf_phase_laws.proofs.Extension.{extension_is, unending_is}
 
 abbrev HasValue : {A E : Type 0} → Result A E → Type 0

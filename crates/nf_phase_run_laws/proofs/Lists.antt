@@ -2,7 +2,7 @@
 use Rattle.std.proofs.Common.{ℕ, zero, suc, ◌+◌, ◌<◌, List, [], ◌∷◌, length, map, flat_map, arith}
 use Rattle.std.specs.Prelude.{take, drop, slice_get, unwrap_or}
 use Rattle.std.specs.List.{AllByRecursion, enumerate_from}
-use Rattle.nf_report_laws.proofs.KeysBack.{all-append}
+use Rattle.nf_net_laws.proofs.AcceptedNamed.{every_append}
 
 module _ {A : Type 0} (P : A → Type 0) where
   pub all_take : (n : ℕ) (xs : List A) → AllByRecursion P xs → AllByRecursion P (take n xs)
@@ -40,4 +40,4 @@ module _ {A : Type 0} (P : A → Type 0) where
 
     pub all_flat : (Q : B → Type 0) (f : B → List A) → ((y : B) → Q y → AllByRecursion P (f y)) → (ys : List B) → AllByRecursion Q ys → AllByRecursion P (flat_map f ys)
     all_flat Q f h [] all = tt
-    all_flat Q f h (y ∷ ys) all = all-append P (f y) (flat_map f ys) (h y all.0) (all_flat Q f h ys all.1)
+    all_flat Q f h (y ∷ ys) all = every_append P (f y) (flat_map f ys) (h y all.0) (all_flat Q f h ys all.1)

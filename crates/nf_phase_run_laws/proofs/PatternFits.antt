@@ -16,22 +16,22 @@ use Rattle.nf_model.specs.Network.{Link, Network}
 use Rattle.nf_model.specs.ThinFlow.{Sets}
 use Rattle.nf_model.specs.Pattern.{Pattern, IsSolution}
 use Rattle.nf_net_def.specs.WellNamed.{IsFraction}
-use Rattle.nf_thin_def.specs.Table.{table_list}
+use Rattle.nf_linear_def.specs.Table.{table_list}
 use Rattle.nf_thin_def.specs.Equations.{Unknown, SlopeOf, FlowOn, unknowns, row, source_factor, leaves_less_enters, node_factor, node_row, fills_factor, link_factor, link_rows, equations, slopes_in, onto_links, flows_in}
 use Rattle.nf_thin_def.specs.Verdict.{bound_on, bound_of, verdict_list}
 use Rattle.nf_thin_def.specs.Accepted.{Solved, after_table, pattern_lists}
 use Rattle.nf_thin_equation_laws.specs.Equations.{IsPatternIn, SolvesAlone}
 use Rattle.nf_thin_equation_laws.proofs.Table.{solves_alone, solves_not_alone}
 use Rattle.nf_report_laws.specs.Readable.{IsFractionOrNone}
-use Rattle.nf_report_laws.proofs.KeysBack.{all-append}
 use Rattle.nf_phase_run_laws.proofs.Lists.{all_take, all_drop, all_numbered, all_map, all_flat}
 use Rattle.nf_phase_run_laws.proofs.Fractions.{AreFractions, either, zero_fraction, one_fraction, flag_fraction, gap_fraction, opposite_fraction, number_fraction, IsFractionLink, HasFractions, capacity_fraction}
 use Rattle.nf_phase_run_laws.proofs.Fits.{Fits, AreOperands, AreOperandsAt, ok_fits, then_fits, each_fits, part_fits, one}
 use Rattle.nf_phase_run_laws.proofs.TableFits.{AreFractionRows, OrNone, table_fits}
+use Rattle.nf_net_laws.proofs.AcceptedNamed.{every_append}
 
 -- ---- the rows of the table
 row_of_fractions : (unknown : List Unknown) (factor : Unknown → ℚ) (right : ℚ) → ((u : Unknown) → IsFraction (factor u)) → IsFraction right → AreFractions (row unknown factor right)
-row_of_fractions unknown factor right h k = all-append IsFraction (map factor unknown) (right ∷ []) (all_map IsFraction factor h unknown) (k, tt)
+row_of_fractions unknown factor right h k = every_append IsFraction (map factor unknown) (right ∷ []) (all_map IsFraction factor h unknown) (k, tt)
 
 source_fraction : (source : ℕ) (u : Unknown) → IsFraction (source_factor source u)
 source_fraction source (SlopeOf v) = flag_fraction (v == source)
@@ -74,7 +74,7 @@ module _ (net : Network) (has : HasFractions net) (sets : Sets) (rate : ℚ) (is
   unfolding equations
   equation_fractions = (
     row_of_fractions (unknowns net sets) (source_factor net.source) 1ℚ (source_fraction net.source) one_fraction,
-    all-append AreFractions (map (node_row net sets rate) (filter (λ v. not (v == net.sink)) (range_with_len 0 net.nodes))) (flat_map (link_rows net sets pattern) (enumerate_from 0 net.links))
+    every_append AreFractions (map (node_row net sets rate) (filter (λ v. not (v == net.sink)) (range_with_len 0 net.nodes))) (flat_map (link_rows net sets pattern) (enumerate_from 0 net.links))
         (all_map AreFractions (node_row net sets rate) node_row_fractions (filter (λ v. not (v == net.sink)) (range_with_len 0 net.nodes)))
         (all_flat AreFractions (λ (numbered : ℕ × Link). IsFractionLink numbered.1) (link_rows net sets pattern) link_row_fractions (enumerate_from 0 net.links) (all_numbered IsFractionLink 0 net.links has.links)),
   )

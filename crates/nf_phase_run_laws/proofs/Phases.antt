@@ -3,11 +3,10 @@ use Rattle.std.proofs.Common.{◌≡◌, ℕ, List, [], ◌∷◌, ◌++◌, if�
 use Rattle.nf_rational.specs.Rational.{ℚ}
 use Rattle.nf_rational.specs.Operations.{0ℚ, ◌+ℚ◌, ◌*ℚ◌}
 use Rattle.nf_rational.specs.Order.{◌≤ℚ◌, ◌<ℚ◌, lt_ℚ}
-use Rattle.nf_rational_laws.proofs.Polynomial.{reading_of}
 use Rattle.nf_rational_laws.proofs.Order.{ps_times, <ℚ_irrefl}
 use Rattle.nf_rational_laws.proofs.Tests.{lt_ℚ_cases, test_of_less}
 use Rattle.nf_rational_laws.proofs.Chains.{≤ℚ_refl}
-use Rattle.nf_rational_laws.proofs.Linear.{lt, linear_lt}
+use Rattle.nf_rational_laws.proofs.Facts.{later_by}
 use Rattle.nf_model.specs.Curve.{Point}
 use Rattle.nf_model.specs.Entries.{number_at}
 use Rattle.nf_model.specs.Network.{Link, Network, IsNetwork, IsLink, hops, rate_at}
@@ -77,9 +76,6 @@ module _ (net : Network) (horizon time time' : ℚ) (labels labels' : List ℚ) 
   some : 0ℚ <ℚ phase.length
   some = IsPhaseLength-some net (slacks_of (hops net) labels) phase.slopes time horizon phase.length phase.before phase.is_length
 
-  later : (a d : ℚ) → 0ℚ <ℚ d → a <ℚ a +ℚ d
-  later a d h = linear_lt (a ∷ d ∷ []) (lt h ∷ []) (search reading_of depth 12) tt
-
   -- Each label curve is extended by a point, and each inflow is if the label of its tail rises.
   abbrev new_labels : ℕ → List Point
   new_labels v = c.label_curves v ++ (time +ℚ phase.length, label_at v +ℚ slope v *ℚ phase.length) ∷ []
@@ -105,10 +101,10 @@ module _ (net : Network) (horizon time time' : ℚ) (labels labels' : List ℚ) 
 
   go : CurvesGoOn net c.inflows c.label_curves time phase.length flow slope new_inflows new_labels
   go = record {
-    labels_go = λ v h. GoesOnTo-appended (c.label_curves v) (time, label_at v) _ (c.curves_stand.labels_end v h) (later time phase.length some);
+    labels_go = λ v h. GoesOnTo-appended (c.label_curves v) (time, label_at v) _ (c.curves_stand.labels_end v h) (later_by time phase.length some);
     inflows_go = λ e link p s. subst (λ (o : Option Link). GoesOnTo (c.inflows e) (new_inflow e o) (label_at link.tail, at c.inflows e (label_at link.tail)) (end_of e link)) (sym p)
         (subst (λ (b : Bool). GoesOnTo (c.inflows e) (with_end b e link) (label_at link.tail, at c.inflows e (label_at link.tail)) (end_of e link)) (sym (test_of_less 0ℚ (slope link.tail) s))
-        (GoesOnTo-appended (c.inflows e) _ (end_of e link) (c.curves_stand.inflows_end e link p) (later (label_at link.tail) _ (ps_times _ _ s some))));
+        (GoesOnTo-appended (c.inflows e) _ (end_of e link) (c.curves_stand.inflows_end e link p) (later_by (label_at link.tail) _ (ps_times _ _ s some))));
     inflows_stay = λ e link p z. subst (λ (o : Option Link). new_inflow e o ≡ c.inflows e) (sym p) (ap (λ (b : Bool). with_end b e link) (not_above (slope link.tail) z));
   }
 

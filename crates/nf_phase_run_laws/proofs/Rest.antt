@@ -5,11 +5,13 @@ use Rattle.std.proofs.lemmas.Option.{slice_get_within}
 use Rattle.nf_rational.specs.Rational.{ℚ}
 use Rattle.nf_rational.specs.Operations.{0ℚ, ◌+ℚ◌, ◌-ℚ◌, ◌*ℚ◌}
 use Rattle.nf_rational.specs.Order.{◌≤ℚ◌, ◌<ℚ◌, min_ℚ}
-use Rattle.nf_rational_laws.proofs.Order.{≤ℚ_of_lt}
+use Rattle.nf_rational_laws.proofs.Order.{≤ℚ_of_lt, nn_plus}
 use Rattle.nf_rational_laws.proofs.Tests.{min_ℚ_cases}
 use Rattle.nf_rational_laws.proofs.Polynomial.{reading_of}
-use Rattle.nf_rational_laws.proofs.Linear.{le, lt, eq, linear_le, linear_lt, linear_eq, linear_false}
+use Rattle.nf_rational_laws.proofs.Linear.{le, lt, eq, linear_lt, linear_eq, linear_false}
 use Rattle.nf_rational_laws.proofs.Extremes.{min_right}
+use Rattle.nf_rational_laws.proofs.Chains.{<_≤_trans}
+use Rattle.nf_rational_laws.proofs.Entries.{entry}
 use Rattle.nf_frac_def.specs.Passing.{Passing}
 use Rattle.nf_model.specs.declared.State.{State}
 use Rattle.nf_model.specs.Entries.{number_at}
@@ -18,7 +20,6 @@ use Rattle.nf_model.specs.ThinFlow.{slack, slacks_of, sets_at}
 use Rattle.nf_model.specs.Pattern.{Pattern, IsListedIn, IsBase, IsSolution}
 use Rattle.nf_model.specs.Phases.{moved, Lasts, IsExtension, IsUnending, IsPhaseLength}
 use Rattle.nf_model_laws.proofs.OneValue.{IsPhaseLength-unique}
-use Rattle.nf_model_laws.proofs.Affine.{<_≤_trans}
 use Rattle.nf_thin_def.specs.Accepted.{IsAccepted}
 use Rattle.nf_thin_def.specs.Listing.{IsListingIn}
 use Rattle.nf_thin_def.specs.CurveList.{is_filled, curve_list}
@@ -33,7 +34,6 @@ use Rattle.nf_phase_laws.proofs.Run.{WellRun-goes, parts_of}
 use Rattle.nf_phase_laws.proofs.Goes.{thin}
 use Rattle.nf_resume_def.specs.Open.{IsOpen, with_last}
 use Rattle.nf_resume_def.specs.Meanings.{NonePassesIn}
-use Rattle.nf_resume_laws.proofs.CutFlow.{entry_within}
 use Rattle.nf_resume_laws.proofs.CutPhase.{IsOpen-cut, IsExtension-left, Lasts-left, stays-below, stays-above, slack-moves}
 use Rattle.nf_resume_laws.proofs.Restricted.{resets, filled-same, goes-on, IsSolution-restricted, IsListed-restricted}
 use Rattle.nf_resume_laws.proofs.FirstPlace.{base-first, pattern-base, flows-same, slopes-same}
@@ -58,16 +58,16 @@ min-left H t l x = ⊎_elim
     (min_ℚ_cases (H -ℚ (t +ℚ l)) (x -ℚ l))
   where
     to_horizon : l +ℚ (H -ℚ (t +ℚ l)) ≡ H -ℚ t
-    to_horizon = linear_eq (H ∷ t ∷ l ∷ []) [] (search reading_of depth 12) tt tt
+    to_horizon = linear_eq (H ∷ t ∷ l ∷ []) [] (search reading_of) tt tt
 
     to_end : l +ℚ (x -ℚ l) ≡ x
-    to_end = linear_eq (x ∷ l ∷ []) [] (search reading_of depth 12) tt tt
+    to_end = linear_eq (x ∷ l ∷ []) [] (search reading_of) tt tt
 
     sooner : H -ℚ (t +ℚ l) ≤ℚ x -ℚ l → x <ℚ H -ℚ t → ⊥
-    sooner h k = linear_false (H ∷ t ∷ l ∷ x ∷ []) (le h ∷ lt k ∷ []) (search reading_of depth 12) tt
+    sooner h k = linear_false (H ∷ t ∷ l ∷ x ∷ []) (le h ∷ lt k ∷ []) (search reading_of) tt
 
     later : x -ℚ l <ℚ H -ℚ (t +ℚ l) → H -ℚ t ≤ℚ x → ⊥
-    later h k = linear_false (H ∷ t ∷ l ∷ x ∷ []) (lt h ∷ le k ∷ []) (search reading_of depth 12) tt
+    later h k = linear_false (H ∷ t ∷ l ∷ x ∷ []) (lt h ∷ le k ∷ []) (search reading_of) tt
 
 below_min : (l a x m : ℚ) → l <ℚ m → m ≡ min_ℚ a x → l <ℚ x
 below_min l a x m h e = <_≤_trans _ _ _ (subst (λ (z : ℚ). l <ℚ z) e h) (min_right a x)
@@ -139,7 +139,7 @@ module _ (passes : Passing) (net : Network) (good : IsNetwork net) (a b : Bounds
       long
     where
       over_0 : (d l : ℚ) → 0ℚ <ℚ d → d <ℚ l → 0ℚ <ℚ l
-      over_0 d l h k = linear_lt (d ∷ l ∷ []) (lt h ∷ lt k ∷ []) (search reading_of depth 12) tt
+      over_0 d l h k = linear_lt (d ∷ l ∷ []) (lt h ∷ lt k ∷ []) (search reading_of) tt
 
   pub opened : IsOpen net restored
   opened = IsOpen-cut net good s.labels slopes s.time done pattern listed.states count not_negative restored first.labels refl refl longer.most longer.lasts some longer.beyond
@@ -225,15 +225,12 @@ module _ (passes : Passing) (net : Network) (good : IsNetwork net) (a b : Bounds
         ∙ min-left b.horizon s.time done v.0 ∙ sym v.2)
         (λ (v : IsUnending net slacks slopes s.time × (h.step.length ≡ b.horizon -ℚ s.time)).
         ap (λ (z : ℚ). done +ℚ z) (IsPhaseLength-unique net (slacks_of (hops net) restored.labels) slopes restored.time b.horizon k.step.length (b.horizon -ℚ restored.time) left
-        (inr ((λ more nn. Lasts-left net good s.labels slopes s.time done pattern listed.states count not_negative restored first.labels refl refl more nn (v.0 (done +ℚ more) (both done more not_negative nn))), refl)))
+        (inr ((λ more nn. Lasts-left net good s.labels slopes s.time done pattern listed.states count not_negative restored first.labels refl refl more nn (v.0 (done +ℚ more) (nn_plus done more not_negative nn))), refl)))
         ∙ all_left done b.horizon s.time ∙ sym v.1)
         long
       where
-        both : (d m : ℚ) → 0ℚ ≤ℚ d → 0ℚ ≤ℚ m → 0ℚ ≤ℚ d +ℚ m
-        both d m h k = linear_le (d ∷ m ∷ []) (le h ∷ le k ∷ []) (search reading_of depth 12) tt
-
         all_left : (d H t : ℚ) → d +ℚ (H -ℚ (t +ℚ d)) ≡ H -ℚ t
-        all_left d H t = linear_eq (d ∷ H ∷ t ∷ []) [] (search reading_of depth 12) tt tt
+        all_left d H t = linear_eq (d ∷ H ∷ t ∷ []) [] (search reading_of) tt tt
 
     -- ---- the result
     labels_are : k.step.labels ≡ h.step.labels
@@ -243,7 +240,7 @@ module _ (passes : Passing) (net : Network) (good : IsNetwork net) (a b : Bounds
     time_is = together s.time done k.step.length h.step.length lengths
       where
         together : (t d l w : ℚ) → d +ℚ l ≡ w → (t +ℚ d) +ℚ l ≡ t +ℚ w
-        together t d l w e = linear_eq (t ∷ d ∷ l ∷ w ∷ []) (eq e ∷ []) (search reading_of depth 12) tt tt
+        together t d l w e = linear_eq (t ∷ d ∷ l ∷ w ∷ []) (eq e ∷ []) (search reading_of) tt tt
 
     labels_long : length g.step.labels ≡ length h.step.labels
     labels_long = ap length first.labels ∙ moved-length s.labels slopes done h.step.length ∙ sym (ap length whole.labels)
@@ -262,8 +259,8 @@ module _ (passes : Passing) (net : Network) (good : IsNetwork net) (a b : Bounds
     filled : (e : ℕ) (link : Link) → IsLink net e link
         → is_filled (unwrap_or (slice_get pattern e) None) (resets (sets_at net s.labels) e) ≡ is_filled (unwrap_or (slice_get base e) None) (resets (sets_at net restored.labels) e)
     filled e link p =
-        let o : (o : Option State) × (slice_get pattern e ≡ Some o) = entry_within pattern e (let n = slice_get_within net.links e link p in let c = same_count in omega arith) in
-        let v : (v : Option State) × (slice_get base e ≡ Some v) = entry_within base e (let n = slice_get_within net.links e link p in let c = base_count in omega arith) in
+        let o : (o : Option State) × (slice_get pattern e ≡ Some o) = entry pattern e (let n = slice_get_within net.links e link p in let c = same_count in omega arith) in
+        let v : (v : Option State) × (slice_get base e ≡ Some v) = entry base e (let n = slice_get_within net.links e link p in let c = base_count in omega arith) in
         ap (λ (x : Option (Option State)). is_filled (unwrap_or x None) (resets (sets_at net s.labels) e)) o.1
         ∙ filled-same (resets (sets_at net s.labels) e) (resets (sets_at net restored.labels) e) o.0 v.0
         (goes-on net good s.labels restored.labels slopes flows (rate_at net s.time) done pattern base some moves below above listed solution base_count same_count based e link p o.0 v.0 o.1 v.1)

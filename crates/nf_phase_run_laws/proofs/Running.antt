@@ -31,7 +31,6 @@ use Rattle.nf_phase_laws.proofs.WellRun.{WellRun, WellRun-start}
 use Rattle.nf_phase_laws.proofs.Run.{WellRun-goes}
 use Rattle.nf_phase_laws.proofs.Standing.{source_label_at, unbounded_slack_at}
 use Rattle.nf_report_laws.specs.Readable.{IsCount, IsFractionOrNone, IsFractionPoint, AreFractionPoints, IsFractionTrace, IsReadableCause, IsReadable}
-use Rattle.nf_report_laws.proofs.KeysBack.{all-append}
 use Rattle.nf_phase_run_laws.specs.ReadableLaws.{AreReadable}
 use Rattle.nf_phase_run_laws.proofs.Lists.{all_take, all_image}
 use Rattle.nf_phase_run_laws.proofs.Fractions.{AreFractions, zero_fraction, number_fraction, HasFractions, rate_fraction}
@@ -39,6 +38,7 @@ use Rattle.nf_phase_run_laws.proofs.Fits.{Fits, AreOperandsAt}
 use Rattle.nf_phase_run_laws.proofs.PatternFits.{pattern_fits, solution_fractions}
 use Rattle.nf_phase_run_laws.proofs.PhaseFits.{slack_list_fits, IsFractionQueueOrNone, IsFractionStep, AreSteps, phase_fits}
 use Rattle.nf_phase_run_laws.proofs.Starting.{named_fractions, start_fractions}
+use Rattle.nf_net_laws.proofs.AcceptedNamed.{every_append}
 
 -- ---- curves
 abbrev pub IsFractionCurve : GrowingCurve → Type 0
@@ -50,12 +50,12 @@ pub record AreFractionCurves (curves : LinkCurves) : Type 0 where
   pub queue : IsFractionCurve curves.queue
 
 point_added : (goes : Bool) (points : List Point) (point : Point) → AreFractionPoints points → IsFractionPoint point → AreFractionPoints (with_point goes points point)
-point_added true points point h k = all-append IsFractionPoint (take (length points - 1) points) (point ∷ []) (all_take IsFractionPoint (length points - 1) points h) (k, tt)
-point_added false points point h k = all-append IsFractionPoint points (point ∷ []) h (k, tt)
+point_added true points point h k = every_append IsFractionPoint (take (length points - 1) points) (point ∷ []) (all_take IsFractionPoint (length points - 1) points h) (k, tt)
+point_added false points point h k = every_append IsFractionPoint points (point ∷ []) h (k, tt)
 
 rate_added : (goes : Bool) (rates : List ℚ) (rate : ℚ) → AreFractions rates → IsFraction rate → AreFractions (with_rate goes rates rate)
 rate_added true rates rate h k = h
-rate_added false rates rate h k = all-append IsFraction rates (rate ∷ []) h (k, tt)
+rate_added false rates rate h k = every_append IsFraction rates (rate ∷ []) h (k, tt)
 
 trace_fractions : (trace : Trace) (label amount : ℚ) (rate : Option ℚ) → IsFractionTrace trace → IsFraction label → IsFraction amount → IsFractionOrNone rate → IsFractionTrace (trace_after trace label amount rate)
 trace_fractions trace label amount None h k l m = h

@@ -93,8 +93,8 @@ module _ (net : Network) (good : IsNetwork net) where
     within time length slacks slopes (inl (x, x_is, e)) = cut _ e (min_left (horizon -ℚ time) x)
       where
         cut : (m : ℚ) → length ≡ m → m ≤ℚ horizon -ℚ time → time +ℚ length ≤ℚ horizon
-        cut m e h = linear_le (time ∷ length ∷ m ∷ horizon ∷ []) (eq e ∷ le h ∷ []) (search reading_of depth 12) tt
-    within time length slacks slopes (inr (u, e)) = linear_le (time ∷ length ∷ horizon ∷ []) (eq e ∷ []) (search reading_of depth 12) tt
+        cut m e h = linear_le (time ∷ length ∷ m ∷ horizon ∷ []) (eq e ∷ le h ∷ []) (search reading_of) tt
+    within time length slacks slopes (inr (u, e)) = linear_le (time ∷ length ∷ horizon ∷ []) (eq e ∷ []) (search reading_of) tt
 
     abbrev Next : ℚ → List ℚ → Type 0
     Next time labels = (new : ℚ × List ℚ) × IsPhase net horizon (time, labels) new × (new.0 ≤ℚ horizon)

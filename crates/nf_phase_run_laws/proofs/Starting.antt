@@ -44,10 +44,10 @@ pub record EndsBy (hops : List Hop) (u v : ℕ) (walk : List ℕ) : Type 0 where
   pub sum : transit_sum hops walk ≡ transit_sum hops last.front +ℚ last.hop.transit
 
 alone : (t x : ℚ) → t ≡ x → t +ℚ 0ℚ ≡ 0ℚ +ℚ x
-alone t x e = linear_eq (t ∷ x ∷ []) (eq e ∷ []) (search reading_of depth 12) tt tt
+alone t x e = linear_eq (t ∷ x ∷ []) (eq e ∷ []) (search reading_of) tt tt
 
 longer : (t s f x : ℚ) → s ≡ f +ℚ x → t +ℚ s ≡ t +ℚ f +ℚ x
-longer t s f x e = linear_eq (t ∷ s ∷ f ∷ x ∷ []) (eq e ∷ []) (search reading_of depth 12) tt tt
+longer t s f x e = linear_eq (t ∷ s ∷ f ∷ x ∷ []) (eq e ∷ []) (search reading_of) tt tt
 
 ends_by : (hops : List Hop) (e : ℕ) (walk : List ℕ) (u v : ℕ) → IsWalk hops (e ∷ walk) u v → EndsBy hops u v (e ∷ walk)
 ends_by hops e [] u v h = record {
@@ -69,7 +69,7 @@ sum-push hops (f ∷ walk) e = longer (transit_of hops f) (transit_sum hops (wal
 
 -- a least walk without its last hop is least
 less_before : (a b f t w : ℚ) → a ≡ f +ℚ t → b ≡ w +ℚ t → a ≤ℚ b → f ≤ℚ w
-less_before a b f t w e g h = linear_le (a ∷ b ∷ f ∷ t ∷ w ∷ []) (eq e ∷ eq g ∷ le h ∷ []) (search reading_of depth 12) tt
+less_before a b f t w e g h = linear_le (a ∷ b ∷ f ∷ t ∷ w ∷ []) (eq e ∷ eq g ∷ le h ∷ []) (search reading_of) tt
 
 front_least : (hops : List Hop) (u v : ℕ) (walk : List ℕ) (r : EndsBy hops u v walk) → IsLeastTransit hops u v (transit_sum hops walk) → IsLeastTransit hops u r.hop.tail (transit_sum hops r.front)
 front_least hops u v walk r least = record {

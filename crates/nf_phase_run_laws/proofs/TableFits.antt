@@ -10,11 +10,11 @@ use Rattle.nf_frac_def.specs.Checked.{Checked, checked}
 use Rattle.nf_model.specs.Entries.{number_at}
 use Rattle.nf_net_def.specs.WellNamed.{IsFraction}
 use Rattle.nf_rational.specs.Signs.{is_zero}
-use Rattle.nf_thin_def.specs.Table.{Row, Eliminated, row_at, pivot_of, less_unless, entries_less, cleared_row, clear_unless, clear_rows, eliminate_at, if_some, eliminate_from, solution_from, solution_of, table_list}
-use Rattle.nf_report_laws.proofs.KeysBack.{all-append}
+use Rattle.nf_linear_def.specs.Table.{Row, Eliminated, row_at, pivot_of, less_unless, entries_less, cleared_row, clear_unless, clear_rows, eliminate_at, if_some, eliminate_from, solution_from, solution_of, table_list}
 use Rattle.nf_phase_run_laws.proofs.Lists.{all_take, all_drop, entry_or}
 use Rattle.nf_phase_run_laws.proofs.Fractions.{AreFractions, zero_fraction, number_fraction}
 use Rattle.nf_phase_run_laws.proofs.Fits.{Fits, AreOperands, ok_fits, then_fits, one}
+use Rattle.nf_net_laws.proofs.AcceptedNamed.{every_append}
 
 abbrev pub AreFractionRows : List Row → Type 0
 AreFractionRows rows = AllByRecursion AreFractions rows
@@ -48,7 +48,7 @@ cleared_fits column pivot_row row h k = then_fits (checked passes_Q Quotient (nu
     (one Quotient (number_at row column) (number_at pivot_row column) (number_fraction row column k) (number_fraction pivot_row column h))
     (λ f l. then_fits (entries_less passes_Q f (drop (suc column) pivot_row) (drop (suc column) row)) _
     (entries_fit f (drop (suc column) pivot_row) (drop (suc column) row) l (all_drop IsFraction (suc column) pivot_row h) (all_drop IsFraction (suc column) row k))
-    (λ later m. ok_fits AreOperands AreFractions (take column row ++ 0ℚ ∷ later) (all-append IsFraction (take column row) (0ℚ ∷ later) (all_take IsFraction column row k) (zero_fraction, m))))
+    (λ later m. ok_fits AreOperands AreFractions (take column row ++ 0ℚ ∷ later) (every_append IsFraction (take column row) (0ℚ ∷ later) (all_take IsFraction column row k) (zero_fraction, m))))
 
 unless_fits : (stays : Bool) (column : ℕ) (pivot_row row : Row) → AreFractions pivot_row → AreFractions row → Fits AreOperands AreFractions (clear_unless passes_Q stays column pivot_row row)
 unless_fits true column pivot_row row h k = ok_fits AreOperands AreFractions row k

@@ -7,7 +7,7 @@ use Rattle.nf_rational.specs.Operations.{◌+ℚ◌, ◌-ℚ◌}
 use Rattle.nf_rational.specs.Order.{◌≤ℚ◌, ◌<ℚ◌, min_ℚ}
 use Rattle.nf_rational_laws.proofs.Order.{≤ℚ_of_lt, ≤ℚ_of_same, ≤ℚ_antisymm, not_both_ℚ, lt_or_le_ℚ}
 use Rattle.nf_rational_laws.proofs.Tests.{min_ℚ_cases}
-use Rattle.nf_rational_laws.proofs.Chains.{≤ℚ_refl, ≤ℚ_trans}
+use Rattle.nf_rational_laws.proofs.Chains.{≤ℚ_refl, ≤ℚ_trans, <_≤_trans}
 use Rattle.nf_rational_laws.proofs.Polynomial.{reading_of}
 use Rattle.nf_rational_laws.proofs.Linear.{lt, eq, linear_lt, linear_eq}
 use Rattle.nf_rational_laws.proofs.Extremes.{min_right}
@@ -16,7 +16,6 @@ use Rattle.nf_model.specs.Network.{Network, IsNetwork, hops}
 use Rattle.nf_model.specs.ThinFlow.{slacks_of}
 use Rattle.nf_model.specs.Phases.{IsExtension, IsUnending, IsPhaseLength}
 use Rattle.nf_model_laws.proofs.OneValue.{IsExtension-unique, IsExtension-ends}
-use Rattle.nf_model_laws.proofs.Affine.{<_≤_trans}
 use Rattle.nf_net_def.specs.declared.Cause.{Cause}
 use Rattle.nf_thin_def.specs.PhaseRun.{Standing, Bounds, Goes, Runs, at_horizon, at_phases, fails, goes, standing_after}
 use Rattle.nf_phase_laws.proofs.Length.{IsPhase-some, IsPhaseLength-some}
@@ -44,10 +43,10 @@ cut-ends net slacks slopes time a b l m (inl p) (inr q) h = absurd (IsExtension-
 cut-ends net slacks slopes time a b l m (inr p) q h = p.1
 
 ends_there : (t a l : ℚ) → l ≡ a -ℚ t → t +ℚ l ≡ a
-ends_there t a l e = linear_eq (t ∷ a ∷ l ∷ []) (eq e ∷ []) (search reading_of depth 12) tt tt
+ends_there t a l e = linear_eq (t ∷ a ∷ l ∷ []) (eq e ∷ []) (search reading_of) tt tt
 
 longer_ends : (t l m : ℚ) → l <ℚ m → t +ℚ l <ℚ t +ℚ m
-longer_ends t l m h = linear_lt (t ∷ l ∷ m ∷ []) (lt h ∷ []) (search reading_of depth 12) tt
+longer_ends t l m h = linear_lt (t ∷ l ∷ m ∷ []) (lt h ∷ []) (search reading_of) tt
 
 pub some_cause : (c : Cause ℚ) (o : Option (Cause ℚ)) → o ≡ Some c → o ≡ None → ⊥
 some_cause c o e f = none-some c (sym f ∙ e)

@@ -1,6 +1,7 @@
 -- The first of all residual walks visits no node twice, so it uses no link twice. Its prefixes are shortest walks. It doesn't leave its
 -- last node, nor return to its first one.
 use Rattle.std.proofs.Common.{◌≡◌, ◌≢◌, ℕ, ◌+◌, ◌<◌, ◌≤◌, List, [], ◌∷◌, ◌++◌, length, ◌⊎◌, inl, inr, ⊎_elim, Bool, true, false, sym, ap, subst, refl, ◌∙◌, append_assoc, arith}
+use Rattle.std.proofs.lemmas.List.{append-nil}
 use Rattle.nf_rational.specs.Rational.{ℚ}
 use Rattle.nf_rational.specs.Operations.{0ℚ, ◌+ℚ◌}
 use Rattle.nf_rational.specs.Order.{◌≤ℚ◌, ◌<ℚ◌}
@@ -64,13 +65,13 @@ IsResidualWalk-split net flows (step ∷ walk) more u w p =
 
 -- ---- numbers
 without_less : (a b c s : ℚ) → 0ℚ ≤ℚ b → s ≡ a +ℚ (b +ℚ c) → a +ℚ c ≤ℚ s
-without_less a b c s h e = linear_le (a ∷ b ∷ c ∷ s ∷ []) (le h ∷ eq e ∷ []) (search reading_of depth 12) tt
+without_less a b c s h e = linear_le (a ∷ b ∷ c ∷ s ∷ []) (le h ∷ eq e ∷ []) (search reading_of) tt
 
 front_less : (a b c s t : ℚ) → s ≡ a +ℚ c → t ≡ b +ℚ c → s ≤ℚ t → a ≤ℚ b
-front_less a b c s t e f h = linear_le (a ∷ b ∷ c ∷ s ∷ t ∷ []) (eq e ∷ eq f ∷ le h ∷ []) (search reading_of depth 12) tt
+front_less a b c s t e f h = linear_le (a ∷ b ∷ c ∷ s ∷ t ∷ []) (eq e ∷ eq f ∷ le h ∷ []) (search reading_of) tt
 
 one_on : (a l s : ℚ) → s ≡ a +ℚ (l +ℚ 0ℚ) → s ≡ a +ℚ l
-one_on a l s e = linear_eq (a ∷ l ∷ s ∷ []) (eq e ∷ []) (search reading_of depth 12) tt tt
+one_on a l s e = linear_eq (a ∷ l ∷ s ∷ []) (eq e ∷ []) (search reading_of) tt tt
 
 module _ (net : Network) (flows : List ℚ) (from to : ℕ) (all : List Step) (closed : (walk : List Step) (v : ℕ) → IsResidualWalk net flows walk v v → 0ℚ ≤ℚ walk_length net walk)
     (first : IsFirstWalk net flows from to all) where
@@ -132,16 +133,12 @@ module _ (net : Network) (flows : List ℚ) (from to : ℕ) (all : List Step) (c
     at_begin = front_least front (step ∷ rest) v split p (w, l, r);
     at_end = subst (λ (x : ℚ). IsLeastLength net flows from w x) (one_on _ _ _ (walk_length-append net front (step ∷ [])))
         (front_least (front ++ step ∷ []) rest w (one_more front step rest split) (front_more front step v w p l) r);
-    begin_other = λ e. no_return front (step ∷ rest) [] v (omega arith) (split ∙ ap (λ (x : List Step). front ++ x) (sym (append_none (step ∷ rest)))) p
+    begin_other = λ e. no_return front (step ∷ rest) [] v (omega arith) (split ∙ ap (λ (x : List Step). front ++ x) (sym (append-nil (step ∷ rest)))) p
         (w, l, subst (λ (k : ℕ). IsResidualWalk net flows rest w k) (sym e) r) e;
     end_other = λ e. no_return [] (front ++ step ∷ []) rest from (some_at front step) (one_more front step rest split) refl
         (subst (λ (k : ℕ). IsResidualWalk net flows (front ++ step ∷ []) from k) e (front_more front step v w p l))
         (subst (λ (k : ℕ). IsResidualWalk net flows rest k to) e r);
   }
-    where
-      append_none : (xs : List Step) → xs ++ [] ≡ xs
-      append_none [] = refl
-      append_none (x ∷ xs) = ap (λ (l : List Step). x ∷ l) (append_none xs)
 
   pub all_fine : (front rest : List Step) (v : ℕ) → all ≡ front ++ rest → IsResidualWalk net flows front from v → IsResidualWalk net flows rest v to → EachStep IsFine rest
   all_fine front [] v split p r = tt

@@ -3,11 +3,11 @@ use Rattle.std.proofs.Common.{◌≡◌, ◌≢◌, ℕ, suc, ◌<◌, List, [],
 use Rattle.std.proofs.lemmas.Option.{slice_get_within}
 use Rattle.std.proofs.lemmas.Bool.Decides.{eqb_tells}
 use Rattle.nf_rational.specs.Rational.{ℚ}
-use Rattle.nf_rational.specs.Operations.{0ℚ, ◌+ℚ◌, ◌-ℚ◌}
+use Rattle.nf_rational.specs.Operations.{0ℚ, ◌-ℚ◌}
 use Rattle.nf_rational.specs.Order.{◌≤ℚ◌}
 use Rattle.nf_rational_laws.proofs.Polynomial.{reading_of}
-use Rattle.nf_rational_laws.proofs.Order.{≤ℚ_of_same}
-use Rattle.nf_rational_laws.proofs.Linear.{le, eq, linear_le}
+use Rattle.nf_rational_laws.proofs.Order.{≤ℚ_of_same, less_nn}
+use Rattle.nf_rational_laws.proofs.Linear.{eq, linear_le}
 use Rattle.nf_model.specs.Entries.{number_at}
 use Rattle.nf_model.specs.Network.{Link, Network, IsNetwork}
 use Rattle.nf_model.specs.Quickest.{IsFeasible, delivered, IsCut, let_through, cut_sum, cut_value}
@@ -16,22 +16,17 @@ use Rattle.nf_model_laws.proofs.Potential.{sum_to}
 use Rattle.nf_quick_laws.proofs.NodeSums.{in_less_out, across, sum_to-across, sum_to-each}
 use Rattle.nf_quick_laws.proofs.Amounts.{link_bound}
 use Rattle.nf_rational_laws.proofs.Chains.{≤ℚ_refl, ≤ℚ_trans}
-
-add_le : (a b c d : ℚ) → a ≤ℚ b → c ≤ℚ d → a +ℚ c ≤ℚ b +ℚ d
-add_le a b c d h k = linear_le (a ∷ b ∷ c ∷ d ∷ []) (le h ∷ le k ∷ []) (search reading_of depth 12) tt
+use Rattle.nf_rational_laws.proofs.Facts.{sum_le}
 
 -- link by link
 pub across-le : (links : List Link) (f g : ℕ → ℕ → ℚ) (cut : List ℚ)
     → ((e : ℕ) (link : Link) → slice_get links e ≡ Some link → f e link.head -ℚ g e link.tail ≤ℚ let_through link.capacity link.transit (number_at cut link.tail) (number_at cut link.head))
     → across links f g ≤ℚ cut_sum links cut
 across-le [] f g cut h = ≤ℚ_refl 0ℚ
-across-le (link ∷ links) f g cut h = add_le _ _ _ _ (h 0 link refl) (across-le links (λ e. f (suc e)) (λ e. g (suc e)) cut (λ e l p. h (suc e) l p))
-
-less_nn : (a b : ℚ) → b ≤ℚ a → 0ℚ ≤ℚ a -ℚ b
-less_nn a b h = linear_le (a ∷ b ∷ []) (le h ∷ []) (search reading_of depth 12) tt
+across-le (link ∷ links) f g cut h = sum_le _ _ _ _ (h 0 link refl) (across-le links (λ e. f (suc e)) (λ e. g (suc e)) cut (λ e l p. h (suc e) l p))
 
 both_none : (a b : ℚ) → a ≡ 0ℚ → b ≡ 0ℚ → 0ℚ ≤ℚ a -ℚ b
-both_none a b e f = linear_le (a ∷ b ∷ []) (eq e ∷ eq f ∷ []) (search reading_of depth 12) tt
+both_none a b e f = linear_le (a ∷ b ∷ []) (eq e ∷ eq f ∷ []) (search reading_of) tt
 
 module _ (net : Network) (entered left : ℕ → ℚ → ℚ) (time : ℚ) (cut : List ℚ) (good : IsNetwork net) (feasible : IsFeasible net entered left) (is_cut : IsCut net time cut) where
   abbrev out_at : ℕ → ℕ → ℚ

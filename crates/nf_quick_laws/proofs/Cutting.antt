@@ -3,6 +3,7 @@
 use Rattle.std.proofs.Common.{◌≡◌, ◌≢◌, ℕ, zero, suc, ◌+◌, ◌<◌, ◌≤◌, List, [], ◌∷◌, ◌++◌, length, ◌⊎◌, inl, inr, ⊎_elim, Bool, true, false, eqb, sym, ap, subst, refl, ◌∙◌, append_assoc, arith}
 use Rattle.std.specs.List.{IsDistinct, list_any}
 use Rattle.std.proofs.lemmas.Bool.Decides.{eqb_tells}
+use Rattle.std.proofs.lemmas.List.{append-nil}
 use Rattle.nf_rational.specs.Rational.{ℚ}
 use Rattle.nf_rational.specs.Operations.{0ℚ, ◌+ℚ◌}
 use Rattle.nf_rational.specs.Order.{◌≤ℚ◌, ◌<ℚ◌}
@@ -10,13 +11,14 @@ use Rattle.nf_rational_laws.proofs.Polynomial.{reading_of}
 use Rattle.nf_rational_laws.proofs.Order.{≤ℚ_antisymm, lt_or_le_ℚ}
 use Rattle.nf_rational_laws.proofs.Linear.{le, eq, linear_le}
 use Rattle.nf_model.specs.Network.{Link, Network, IsNetwork}
-use Rattle.nf_model_laws.proofs.Ways.{distinct_more, distinct_none, or_rest, few_below}
+use Rattle.nf_model_laws.proofs.Ways.{distinct_more, distinct_none, few_below}
 use Rattle.nf_quick_def.specs.Steps.{Step, end_of, Leads, IsResidualWalk, walk_length}
 use Rattle.nf_quick_def.specs.Order.{IsAtMost}
 use Rattle.nf_quick_def.specs.Shortest.{reach_of}
 use Rattle.nf_quick_laws.proofs.ResidualWalks.{IsResidualWalk-append, IsResidualWalk-one, walk_length-append, length-append}
 use Rattle.nf_quick_laws.proofs.Orders.{IsAtMost-refl}
 use Rattle.nf_rational_laws.proofs.Chains.{≤ℚ_refl, ≤ℚ_trans}
+use Rattle.nf_rational_laws.proofs.Results.{or_rest}
 
 -- A closed section of a walk.
 pub record HasClosed (net : Network) (flows : List ℚ) (u w : ℕ) (walk : List Step) : Type 0 where
@@ -93,10 +95,6 @@ module _ (net : Network) (flows : List ℚ) (u w : ℕ) (good : IsNetwork net) w
   few : (ns : List ℕ) (done : List Step) (x : ℕ) → x < net.nodes → IsDistinct eqb ns → list_any (eqb x) ns ≡ false → length ns ≡ length done → Visited ns done x → length done < net.nodes
   few ns done x h d new n seen = let l : length ns < net.nodes = few_below ns x net.nodes h d new (λ q m. (seen q m).below) in omega arith
 
-  append_none : (xs : List Step) → xs ++ [] ≡ xs
-  append_none [] = refl
-  append_none (x ∷ xs) = ap (λ (l : List Step). x ∷ l) (append_none xs)
-
   -- Along the walk, with the visited nodes, each once.
   scan : (rest : List Step) (ns : List ℕ) (done : List Step) (x : ℕ) → IsResidualWalk net flows done u x → IsResidualWalk net flows rest x w → x < net.nodes → IsDistinct eqb ns
       → length ns ≡ length done → Visited ns done x → HasClosed net flows u w (done ++ rest) ⊎ (length (done ++ rest) < net.nodes)
@@ -104,7 +102,7 @@ module _ (net : Network) (flows : List ℚ) (u w : ℕ) (good : IsNetwork net) w
     where
       by_test : (t : Bool) → list_any (eqb x) ns ≡ t → HasClosed net flows u w (done ++ []) ⊎ (length (done ++ []) < net.nodes)
       by_test true e = inl (closed_here ns done [] x r (seen x e))
-      by_test false e = inr (subst (λ (k : List Step). length k < net.nodes) (sym (append_none done)) (few ns done x h d e n seen))
+      by_test false e = inr (subst (λ (k : List Step). length k < net.nodes) (sym (append-nil done)) (few ns done x h d e n seen))
   scan (step ∷ rest) ns done x p r h d n seen =
       scan_on (scan rest (x ∷ ns) (done ++ step ∷ []) r.0
       (IsResidualWalk-append net flows done (step ∷ []) u x r.0 p (IsResidualWalk-one net flows step x r.0 r.1)) r.2 (end_below net flows good step x r.0 r.1))
@@ -132,7 +130,7 @@ module _ (net : Network) (flows : List ℚ) (u w : ℕ) (good : IsNetwork net) w
     pub fewer : (short ≡ walk) ⊎ (length short < length walk)
 
   without_less : (a b c s t : ℚ) → 0ℚ ≤ℚ b → s ≡ a +ℚ (b +ℚ c) → t ≡ a +ℚ c → t ≤ℚ s
-  without_less a b c s t h e f = linear_le (a ∷ b ∷ c ∷ s ∷ t ∷ []) (le h ∷ eq e ∷ eq f ∷ []) (search reading_of depth 12) tt
+  without_less a b c s t h e f = linear_le (a ∷ b ∷ c ∷ s ∷ t ∷ []) (le h ∷ eq e ∷ eq f ∷ []) (search reading_of) tt
 
   module _ (closed : (walk : List Step) (v : ℕ) → IsResidualWalk net flows walk v v → 0ℚ ≤ℚ walk_length net walk) (inside : u < net.nodes) where
     fewer_steps : (walk : List Step) (c : HasClosed net flows u w walk) → length (c.front ++ c.rest) < length walk

@@ -1,7 +1,7 @@
 -- Round by round: after k rounds the known path of each node is a residual walk, and is at most each walk of at most k steps.
 use Rattle.std.proofs.Common.{◌≡◌, ◌≢◌, ℕ, zero, suc, ◌+◌, ◌<◌, ◌≤◌, List, [], ◌∷◌, ◌++◌, length, ◌⊎◌, inl, inr, ⊎_elim, Bool, true, false, eqb, Option, Some, None, slice_get, Ok, replicate, sym, ap, subst, refl, ◌∙◌, arith}
 use Rattle.std.proofs.lemmas.Bool.Decides.{eqb_tells}
-use Rattle.std.proofs.lemmas.List.{length-set}
+use Rattle.std.proofs.lemmas.List.{length-set, length-replicate}
 use Rattle.nf_rational.specs.Rational.{ℚ}
 use Rattle.nf_rational.specs.Operations.{0ℚ, ◌+ℚ◌}
 use Rattle.nf_rational_laws.proofs.Polynomial.{reading_of}
@@ -60,7 +60,7 @@ longer net b step = record { distance = b.distance +ℚ step_length net step; st
 
 by_sign : (d : Bool) (x r : ℚ) → result_of (op_of d) x r ≡ x +ℚ signed d r
 by_sign true x r = refl
-by_sign false x r = linear_eq (x ∷ r ∷ []) [] (search reading_of depth 12) tt tt
+by_sign false x r = linear_eq (x ∷ r ∷ []) [] (search reading_of) tt tt
 
 pub extended-is : (net : Network) (b : Reach) (step : Step) (link : Link) → IsLink net step.link link → extended b step link ≡ longer net b step
 extended-is net b step link p = ap (λ (z : ℚ). record { distance = z; steps = b.steps ++ step ∷ [] })
@@ -136,20 +136,16 @@ last_step (step ∷ walk) = ⊎_elim
     (λ (w : EndsWith walk). inr (record { front = step ∷ w.front; step = w.step; split = ap (λ (x : List Step). step ∷ x) w.split }))
     (last_step walk)
 
-length-replicate : {A : Type 0} (n : ℕ) (x : A) → length (replicate n x) ≡ n
-length-replicate zero x = refl
-length-replicate (suc n) x = ap suc (length-replicate n x)
-
 known_at-none : (n v : ℕ) (q : Reach) → known_at (replicate n None) v ≡ Some q → ⊥
 known_at-none zero v q e = absurd (cc)
 known_at-none (suc n) zero q e = absurd (cc)
 known_at-none (suc n) (suc v) q e = known_at-none n v q e
 
 pub last_sum : (x y l s : ℚ) → x ≡ y → s ≡ y +ℚ (l +ℚ 0ℚ) → x +ℚ l ≡ s
-last_sum x y l s e f = linear_eq (x ∷ y ∷ l ∷ s ∷ []) (eq e ∷ eq f ∷ []) (search reading_of depth 12) tt tt
+last_sum x y l s e f = linear_eq (x ∷ y ∷ l ∷ s ∷ []) (eq e ∷ eq f ∷ []) (search reading_of) tt tt
 
 sum_last : (y l s : ℚ) → s ≡ y +ℚ (l +ℚ 0ℚ) → s ≡ y +ℚ l
-sum_last y l s f = linear_eq (y ∷ l ∷ s ∷ []) (eq f ∷ []) (search reading_of depth 12) tt tt
+sum_last y l s f = linear_eq (y ∷ l ∷ s ∷ []) (eq f ∷ []) (search reading_of) tt tt
 
 module _ (net : Network) (flows : List ℚ) (from : ℕ) (good : IsNetwork net) (inside : from < net.nodes) where
   pub HasBest-first : HasBest net flows from 0 (first_known net.nodes from)

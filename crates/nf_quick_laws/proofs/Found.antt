@@ -17,7 +17,7 @@ use Rattle.nf_quick_laws.proofs.Orders.{IsAtMost-trans}
 use Rattle.nf_quick_laws.proofs.Offers.{AtMostAt}
 use Rattle.nf_quick_laws.proofs.Finding.{HasBest, HasBest-first, HasBest-rounds}
 use Rattle.nf_quick_laws.proofs.Cutting.{IsCutTo, cut, IsCutTo-at_most}
-use Rattle.std.proofs.lemmas.Option.{same_Some}
+use Rattle.std.proofs.lemmas.Option.{same_Some, none-some}
 
 module _ (net : Network) (flows : List ℚ) (from : ℕ) (good : IsNetwork net) (inside : from < net.nodes) (closed : NoneNegative net flows) where
   -- The shortened walk to v, or a better one, is known.
@@ -32,10 +32,7 @@ module _ (net : Network) (flows : List ℚ) (from : ℕ) (good : IsNetwork net) 
   reach_is q e = ap (λ (d : ℚ). record { distance = d; steps = q.steps }) e
 
   found_at : (k : ℕ) (known : Known) → HasBest net flows from k known → net.nodes ≤ suc k → (v : ℕ) (o : Option Reach) → known_at known v ≡ o → IsFoundAt net flows from v o
-  found_at k known b enough v None e = λ walk p. let a : AtMostAt known v (reach_of net walk) = best_at k known b enough walk v p in none_some a.0 (sym e ∙ a.1)
-    where
-      none_some : (q : Reach) → None ≡ Some q → ⊥
-      none_some q e = cc
+  found_at k known b enough v None e = λ walk p. let a : AtMostAt known v (reach_of net walk) = best_at k known b enough walk v p in none-some a.0 (sym e ∙ a.1)
   found_at k known b enough v (Some q) e = (
     record {
       is_walk = (b.valid v q e).0;

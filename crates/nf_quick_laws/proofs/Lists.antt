@@ -1,7 +1,7 @@
 -- The results of the operation sequences, if no operation passes: the first residual walk with its room, and the least lengths.
 use Rattle.std.proofs.Common.{◌≡◌, ℕ, ◌<◌, List, Option, Some, None, slice_get, unwrap_or, option_map, map, Ok, sym, subst, ◌∙◌}
 use Rattle.std.proofs.lemmas.List.{length-map}
-use Rattle.std.proofs.lemmas.Option.{slice_get-map}
+use Rattle.std.proofs.lemmas.Option.{slice_get-map, same_Some}
 use Rattle.nf_rational.specs.Rational.{ℚ}
 use Rattle.nf_rational.specs.Operations.{0ℚ}
 use Rattle.nf_frac_def.specs.Passing.{Passing}
@@ -53,10 +53,7 @@ module _ (passes : Passing) (net : Network) (flows : List ℚ) (good : IsNetwork
 
   least_at : (from v : ℕ) (o : Option Reach) (d : ℚ) → IsFoundAt net flows from v o → option_map (λ (r : Reach). r.distance) o ≡ Some d → IsLeastLength net flows from v d
   least_at from v None d f e = absurd (cc)
-  least_at from v (Some q) d f e = subst (λ (x : ℚ). IsLeastLength net flows from v x) (sym f.1 ∙ some_is q.distance d e) (IsLeastLength-first net flows from v q.steps f.0)
-    where
-      some_is : (x y : ℚ) → Some x ≡ Some y → x ≡ y
-      some_is x y e = cc
+  least_at from v (Some q) d f e = subst (λ (x : ℚ). IsLeastLength net flows from v x) (sym f.1 ∙ same_Some q.distance d e) (IsLeastLength-first net flows from v q.steps f.0)
 
   none_at : (from v : ℕ) (o : Option Reach) → IsFoundAt net flows from v o → option_map (λ (r : Reach). r.distance) o ≡ None → (walk : List Step) → IsResidualWalk net flows walk from v → ⊥
   none_at from v None f e = f

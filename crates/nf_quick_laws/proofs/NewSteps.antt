@@ -1,11 +1,14 @@
 -- A push along the first residual walk, of an amount for which it has room, keeps a flow sound.
-use Rattle.std.proofs.Common.{◌≡◌, ◌≢◌, ℕ, ◌<◌, List, [], ◌∷◌, ◌++◌, ◌⊎◌, inl, inr, ⊎_elim, Bool, true, false, Option, Some, None, sym, ap, subst, refl, ◌∙◌}
+use Rattle.std.proofs.Common.{◌≡◌, ◌≢◌, ℕ, ◌<◌, List, [], ◌∷◌, ◌⊎◌, inl, inr, ⊎_elim, Bool, true, false, Option, Some, None, sym, ap, subst, refl, ◌∙◌}
+use Rattle.std.proofs.lemmas.Option.{same_Some}
+use Rattle.std.proofs.lemmas.List.{append-nil}
 use Rattle.nf_rational.specs.Rational.{ℚ}
 use Rattle.nf_rational.specs.Operations.{0ℚ, 1ℚ, ◌+ℚ◌, ◌-ℚ◌, ◌*ℚ◌}
 use Rattle.nf_rational.specs.Order.{◌≤ℚ◌, ◌<ℚ◌, lt_ℚ}
 use Rattle.nf_rational_laws.proofs.Polynomial.{reading_of}
 use Rattle.nf_rational_laws.proofs.Tests.{less_of_test}
-use Rattle.nf_rational_laws.proofs.Linear.{le, lt, eq, eq_times, linear_le, linear_eq, linear_false}
+use Rattle.nf_rational_laws.proofs.Linear.{le, lt, eq, eq_times, linear_le, linear_eq}
+use Rattle.nf_rational_laws.proofs.Facts.{moved_by_zero, zero_not_above}
 use Rattle.nf_model.specs.Entries.{number_at}
 use Rattle.nf_model.specs.Network.{Link, Network, IsLink, IsNetwork, hops, sum_in, sum_out}
 use Rattle.nf_model.specs.Walk.{transit_of}
@@ -24,32 +27,29 @@ use Rattle.nf_quick_laws.proofs.Crossings.{IsTaken, crossed-cases, crossed-balan
 -- A successful test gives a fact.
 
 -- ---- numbers: y is the new flow, x the old one, c the crossings of the link
-stays : (x y c a : ℚ) → c ≡ 0ℚ → y ≡ x +ℚ c *ℚ a → y ≡ x
-stays x y c a e f = linear_eq (x ∷ y ∷ c ∷ a ∷ []) (eq_times a e ∷ eq f ∷ []) (search reading_of depth 12) tt tt
-
 grows : (x y c a : ℚ) → c ≡ 1ℚ → y ≡ x +ℚ c *ℚ a → y ≡ x +ℚ a
-grows x y c a e f = linear_eq (x ∷ y ∷ c ∷ a ∷ []) (eq_times a e ∷ eq f ∷ []) (search reading_of depth 12) tt tt
+grows x y c a e f = linear_eq (x ∷ y ∷ c ∷ a ∷ []) (eq_times a e ∷ eq f ∷ []) (search reading_of) tt tt
 
 shrinks : (x y c a : ℚ) → c ≡ 0ℚ -ℚ 1ℚ → y ≡ x +ℚ c *ℚ a → y ≡ x -ℚ a
-shrinks x y c a e f = linear_eq (x ∷ y ∷ c ∷ a ∷ []) (eq_times a e ∷ eq f ∷ []) (search reading_of depth 12) tt tt
+shrinks x y c a e f = linear_eq (x ∷ y ∷ c ∷ a ∷ []) (eq_times a e ∷ eq f ∷ []) (search reading_of) tt tt
 
 more_nn : (x y a : ℚ) → 0ℚ ≤ℚ x → 0ℚ <ℚ a → y ≡ x +ℚ a → 0ℚ ≤ℚ y
-more_nn x y a h k e = linear_le (x ∷ y ∷ a ∷ []) (le h ∷ lt k ∷ eq e ∷ []) (search reading_of depth 12) tt
+more_nn x y a h k e = linear_le (x ∷ y ∷ a ∷ []) (le h ∷ lt k ∷ eq e ∷ []) (search reading_of) tt
 
 less_nn : (x y a : ℚ) → a ≤ℚ x → y ≡ x -ℚ a → 0ℚ ≤ℚ y
-less_nn x y a h e = linear_le (x ∷ y ∷ a ∷ []) (le h ∷ eq e ∷ []) (search reading_of depth 12) tt
+less_nn x y a h e = linear_le (x ∷ y ∷ a ∷ []) (le h ∷ eq e ∷ []) (search reading_of) tt
 
 more_within : (x y a m : ℚ) → x +ℚ a ≤ℚ m → y ≡ x +ℚ a → y ≤ℚ m
-more_within x y a m h e = linear_le (x ∷ y ∷ a ∷ m ∷ []) (le h ∷ eq e ∷ []) (search reading_of depth 12) tt
+more_within x y a m h e = linear_le (x ∷ y ∷ a ∷ m ∷ []) (le h ∷ eq e ∷ []) (search reading_of) tt
 
 less_within : (x y a m : ℚ) → x ≤ℚ m → 0ℚ <ℚ a → y ≡ x -ℚ a → y ≤ℚ m
-less_within x y a m h k e = linear_le (x ∷ y ∷ a ∷ m ∷ []) (le h ∷ lt k ∷ eq e ∷ []) (search reading_of depth 12) tt
+less_within x y a m h k e = linear_le (x ∷ y ∷ a ∷ m ∷ []) (le h ∷ lt k ∷ eq e ∷ []) (search reading_of) tt
 
 same_within : (x y m : ℚ) → x ≤ℚ m → y ≡ x → y ≤ℚ m
-same_within x y m h e = linear_le (x ∷ y ∷ m ∷ []) (le h ∷ eq e ∷ []) (search reading_of depth 12) tt
+same_within x y m h e = linear_le (x ∷ y ∷ m ∷ []) (le h ∷ eq e ∷ []) (search reading_of) tt
 
 same_nn : (x y : ℚ) → 0ℚ ≤ℚ x → y ≡ x → 0ℚ ≤ℚ y
-same_nn x y h e = linear_le (x ∷ y ∷ []) (le h ∷ eq e ∷ []) (search reading_of depth 12) tt
+same_nn x y h e = linear_le (x ∷ y ∷ []) (le h ∷ eq e ∷ []) (search reading_of) tt
 
 -- By the direction in which the link is used.
 new_nn : (d : Bool) (capacity : Option ℚ) (x y c a : ℚ) → 0ℚ ≤ℚ x → 0ℚ <ℚ a → c ≡ signed d 1ℚ → y ≡ x +ℚ c *ℚ a → HasRoomAlong d capacity x a → 0ℚ ≤ℚ y
@@ -59,10 +59,7 @@ new_nn false capacity x y c a h k e f room = less_nn x y a room (shrinks x y c a
 new_within : (d : Bool) (capacity : Option ℚ) (x y c a most : ℚ) → capacity ≡ Some most → x ≤ℚ most → 0ℚ <ℚ a → c ≡ signed d 1ℚ → y ≡ x +ℚ c *ℚ a → HasRoomAlong d capacity x a
     → y ≤ℚ most
 new_within true None x y c a most p h k e f room = absurd (cc)
-new_within true (Some capacity) x y c a most p h k e f room = more_within x y a most (subst (λ (m : ℚ). x +ℚ a ≤ℚ m) (same capacity most p) room) (grows x y c a e f)
-  where
-    same : (m n : ℚ) → Some m ≡ Some n → m ≡ n
-    same m n p = cc
+new_within true (Some capacity) x y c a most p h k e f room = more_within x y a most (subst (λ (m : ℚ). x +ℚ a ≤ℚ m) (same_Some capacity most p) room) (grows x y c a e f)
 new_within false capacity x y c a most p h k e f room = less_within x y a most h k (shrinks x y c a e f)
 
 same_ways : (c d : Bool) → (c ≡ d) ⊎ (c ≡ d → ⊥)
@@ -74,15 +71,15 @@ same_ways false false = inl refl
 -- The length of a backward step.
 turned_length : (c d : Bool) (r : ℚ) → (c ≡ d → ⊥) → signed c r ≡ 0ℚ -ℚ signed d r
 turned_length true true r h = absurd (h refl)
-turned_length true false r h = linear_eq (r ∷ []) [] (search reading_of depth 12) tt tt
+turned_length true false r h = linear_eq (r ∷ []) [] (search reading_of) tt tt
 turned_length false true r h = refl
 turned_length false false r h = absurd (h refl)
 
 back_from : (d e s t : ℚ) → d ≡ e +ℚ s → t ≡ 0ℚ -ℚ s → e ≤ℚ d +ℚ t
-back_from d e s t p q = linear_le (d ∷ e ∷ s ∷ t ∷ []) (eq p ∷ eq q ∷ []) (search reading_of depth 12) tt
+back_from d e s t p q = linear_le (d ∷ e ∷ s ∷ t ∷ []) (eq p ∷ eq q ∷ []) (search reading_of) tt
 
 closed_nn : (d l : ℚ) → d ≤ℚ d +ℚ l → 0ℚ ≤ℚ l
-closed_nn d l h = linear_le (d ∷ l ∷ []) (le h ∷ []) (search reading_of depth 12) tt
+closed_nn d l h = linear_le (d ∷ l ∷ []) (le h ∷ []) (search reading_of) tt
 
 each_both : (P R : Step → Type 0) (walk : List Step) → EachStep P walk → EachStep R walk → EachStep (λ step. P step × R step) walk
 each_both P R [] p r = tt
@@ -125,13 +122,13 @@ module _ (net : Network) (flows new : List ℚ) (walk : List Step) (amount : ℚ
 
   at_least : (e : ℕ) → 0ℚ ≤ℚ number_at new e
   at_least e = ⊎_elim
-      (λ (z : crossed walk e ≡ 0ℚ). same_nn _ _ (sound.flow.at_least e) (stays _ _ _ amount z (pushed.flow e)))
+      (λ (z : crossed walk e ≡ 0ℚ). same_nn _ _ (sound.flow.at_least e) (moved_by_zero _ _ _ amount z (pushed.flow e)))
       (λ (t : Taken e). new_nn t.step.forward t.holds.0.leads.link.capacity (number_at flows e) (number_at new e) (crossed walk e) amount (sound.flow.at_least e) some t.once (pushed.flow e) (taken_room e t))
       (taken_or_not e)
 
   at_most : (e : ℕ) (link : Link) (capacity : ℚ) → IsLink net e link → link.capacity ≡ Some capacity → number_at new e ≤ℚ capacity
   at_most e link capacity p c = ⊎_elim
-      (λ (z : crossed walk e ≡ 0ℚ). same_within _ _ capacity (sound.flow.at_most e link capacity p c) (stays _ _ _ amount z (pushed.flow e)))
+      (λ (z : crossed walk e ≡ 0ℚ). same_within _ _ capacity (sound.flow.at_most e link capacity p c) (moved_by_zero _ _ _ amount z (pushed.flow e)))
       (λ (t : Taken e). new_within t.step.forward t.holds.0.leads.link.capacity (number_at flows e) (number_at new e) (crossed walk e) amount capacity
       (ap (λ (l : Link). l.capacity) (same_link e t.holds.0.leads.link link (taken_link e t) p) ∙ c) (sound.flow.at_most e link capacity p c) some t.once (pushed.flow e) (taken_room e t))
       (taken_or_not e)
@@ -144,7 +141,7 @@ module _ (net : Network) (flows new : List ℚ) (walk : List Step) (amount : ℚ
   in_new v = sum_in-same net.links (number_at new) (λ e. number_at flows e +ℚ crossed walk e *ℚ amount) v (λ e _ _ _. pushed.flow e) ∙ sum_in-line net.links (number_at flows) (crossed walk) amount v
 
   kept : (o i p q y z a b amount : ℚ) → y ≡ o +ℚ p *ℚ amount → z ≡ i +ℚ q *ℚ amount → o ≡ i → p -ℚ q ≡ a -ℚ b → a ≡ 0ℚ → b ≡ 0ℚ → y ≡ z
-  kept o i p q y z a b m e f g h k l = linear_eq (o ∷ i ∷ p ∷ q ∷ y ∷ z ∷ a ∷ b ∷ m ∷ []) (eq e ∷ eq f ∷ eq g ∷ eq_times m h ∷ eq_times m k ∷ eq_times m l ∷ []) (search reading_of depth 12) tt tt
+  kept o i p q y z a b m e f g h k l = linear_eq (o ∷ i ∷ p ∷ q ∷ y ∷ z ∷ a ∷ b ∷ m ∷ []) (eq e ∷ eq f ∷ eq g ∷ eq_times m h ∷ eq_times m k ∷ eq_times m l ∷ []) (search reading_of) tt tt
 
   inner : (v : ℕ) → v < net.nodes → v ≢ net.source → v ≢ net.sink → sum_out net.links (number_at new) v ≡ sum_in net.links (number_at new) v
   inner v h other_source other_sink = kept _ _ _ _ _ _ (only_at net.source 1ℚ v) (only_at net.sink 1ℚ v) amount (out_new v) (in_new v) (sound.flow.inner v h other_source other_sink)
@@ -166,7 +163,7 @@ module _ (net : Network) (flows new : List ℚ) (walk : List Step) (amount : ℚ
         is_link = l.is_link;
         begins = l.begins;
         ends = l.ends;
-        goes = ap (λ (x : ℚ). can_go step.forward l.link.capacity x) (sym (stays _ _ _ amount z (pushed.flow step.link))) ∙ l.goes;
+        goes = ap (λ (x : ℚ). can_go step.forward l.link.capacity x) (sym (moved_by_zero _ _ _ amount z (pushed.flow step.link))) ∙ l.goes;
       }))
       (λ (t : Taken step.link). ⊎_elim
       (λ (e : t.step.forward ≡ step.forward). inl (record {
@@ -245,9 +242,6 @@ module _ (net : Network) (flows new : List ℚ) (walk : List Step) (amount : ℚ
   -- ---- no flow into the source, and none out of the sink
   no_flow_back : (x : ℚ) → x ≡ 0ℚ → lt_ℚ 0ℚ x ≡ true → ⊥
   no_flow_back x e t = zero_not_above x e (less_of_test 0ℚ x t)
-    where
-      zero_not_above : (x : ℚ) → x ≡ 0ℚ → 0ℚ <ℚ x → ⊥
-      zero_not_above x e h = linear_false (x ∷ []) (eq e ∷ lt h ∷ []) (search reading_of depth 12) tt
 
   -- A backward step along the link would need flow.
   only_along : (e : ℕ) (t : Taken e) → number_at flows e ≡ 0ℚ → t.step.forward ≡ true
@@ -260,7 +254,7 @@ module _ (net : Network) (flows new : List ℚ) (walk : List Step) (amount : ℚ
   -- A link without flow that the walk can not take stays without flow.
   not_taken : (e : ℕ) → number_at flows e ≡ 0ℚ → (Taken e → ⊥) → number_at new e ≡ 0ℚ
   not_taken e z none = ⊎_elim
-      (λ (c : crossed walk e ≡ 0ℚ). stays _ _ _ amount c (pushed.flow e) ∙ z)
+      (λ (c : crossed walk e ≡ 0ℚ). moved_by_zero _ _ _ amount c (pushed.flow e) ∙ z)
       (λ (t : Taken e). absurd (none t))
       (taken_or_not e)
 
@@ -282,7 +276,7 @@ module _ (net : Network) (flows new : List ℚ) (walk : List Step) (amount : ℚ
 
   -- ---- value and cost
   value_more : (o i p q y z a b m : ℚ) → y ≡ o +ℚ p *ℚ m → z ≡ i +ℚ q *ℚ m → i ≡ 0ℚ → z ≡ 0ℚ → p -ℚ q ≡ a -ℚ b → a ≡ 1ℚ → b ≡ 0ℚ → y ≡ o +ℚ m
-  value_more o i p q y z a b m e f g h j k l = linear_eq (o ∷ i ∷ p ∷ q ∷ y ∷ z ∷ a ∷ b ∷ m ∷ []) (eq e ∷ eq f ∷ eq g ∷ eq h ∷ eq_times m j ∷ eq_times m k ∷ eq_times m l ∷ []) (search reading_of depth 12) tt tt
+  value_more o i p q y z a b m e f g h j k l = linear_eq (o ∷ i ∷ p ∷ q ∷ y ∷ z ∷ a ∷ b ∷ m ∷ []) (eq e ∷ eq f ∷ eq g ∷ eq h ∷ eq_times m j ∷ eq_times m k ∷ eq_times m l ∷ []) (search reading_of) tt tt
 
   none_in : (xs : List ℚ) → ((e : ℕ) (link : Link) → IsLink net e link → link.head ≡ net.source → number_at xs e ≡ 0ℚ) → sum_in net.links (number_at xs) net.source ≡ 0ℚ
   none_in xs h = sum_in-same net.links (number_at xs) (λ _. 0ℚ) net.source (λ e link p at. h e link p at) ∙ sum_in-none net.links net.source
@@ -293,7 +287,7 @@ module _ (net : Network) (flows new : List ℚ) (walk : List Step) (amount : ℚ
       (only_at-here net.source 1ℚ) (only_at-else net.sink 1ℚ net.source (λ e. good.apart (sym e)))
 
   add_times : (c p l m : ℚ) → p ≡ l *ℚ m → c +ℚ p ≡ c +ℚ l *ℚ m
-  add_times c p l m e = linear_eq (c ∷ p ∷ l ∷ m ∷ []) (eq e ∷ []) (search reading_of depth 12) tt tt
+  add_times c p l m e = linear_eq (c ∷ p ∷ l ∷ m ∷ []) (eq e ∷ []) (search reading_of) tt tt
 
   pub cost_of-pushed : cost_of net new ≡ cost_of net flows +ℚ walk_length net walk *ℚ amount
   cost_of-pushed =
@@ -306,17 +300,13 @@ module _ (net : Network) (flows new : List ℚ) (walk : List Step) (amount : ℚ
   at_source = front_least net flows net.source net.sink walk sound.closed first [] walk net.source refl refl first.is_walk
 
   at_sink : At net.sink (walk_length net walk)
-  at_sink = front_least net flows net.source net.sink walk sound.closed first walk [] net.sink (sym (append_none walk)) first.is_walk refl
-    where
-      append_none : (xs : List Step) → xs ++ [] ≡ xs
-      append_none [] = refl
-      append_none (x ∷ xs) = ap (λ (l : List Step). x ∷ l) (append_none xs)
+  at_sink = front_least net flows net.source net.sink walk sound.closed first walk [] net.sink (sym (append-nil walk)) first.is_walk refl
 
   from_zero : (a b : ℚ) → a ≤ℚ 0ℚ +ℚ b → a ≤ℚ b
-  from_zero a b h = linear_le (a ∷ b ∷ []) (le h ∷ []) (search reading_of depth 12) tt
+  from_zero a b h = linear_le (a ∷ b ∷ []) (le h ∷ []) (search reading_of) tt
 
   back_zero : (a b : ℚ) → 0ℚ ≤ℚ a +ℚ b → 0ℚ -ℚ a ≤ℚ b
-  back_zero a b h = linear_le (a ∷ b ∷ []) (le h ∷ []) (search reading_of depth 12) tt
+  back_zero a b h = linear_le (a ∷ b ∷ []) (le h ∷ []) (search reading_of) tt
 
   pub later-pushed : (other : List Step) → IsResidualWalk net new other net.source net.sink → walk_length net walk ≤ℚ walk_length net other
   later-pushed other p = from_zero _ _ (Fits-between net new At fits_new other net.source net.sink 0ℚ (walk_length net walk) at_source at_sink p)

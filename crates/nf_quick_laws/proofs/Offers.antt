@@ -3,27 +3,20 @@ use Rattle.std.proofs.Common.{◌≡◌, ◌≢◌, ℕ, zero, suc, ◌<◌, Lis
 use Rattle.std.proofs.lemmas.Bool.Decides.{eqb_tells}
 use Rattle.std.proofs.lemmas.List.{length-set}
 use Rattle.nf_rational.specs.Rational.{ℚ}
-use Rattle.nf_frac_def.specs.declared.Op.{Op}
 use Rattle.nf_frac_def.specs.Passing.{Passing, result_of}
 use Rattle.nf_frac_def.specs.Checked.{Checked, checked, fold_checked, ◌>>=◌}
+use Rattle.nf_frac_def.proofs.Exact.{checked-is}
 use Rattle.nf_model.specs.Entries.{number_at}
 use Rattle.nf_model.specs.Network.{Link}
 use Rattle.nf_quick_def.specs.Steps.{Step, begin_of, end_of, can_go}
 use Rattle.nf_quick_def.specs.Order.{Reach, IsAtMost, is_better}
 use Rattle.nf_quick_def.specs.Rounds.{Known, known_at, better_of, offered, op_of, along, along_step}
 use Rattle.nf_quick_laws.proofs.Orders.{IsAtMost-refl, IsAtMost-trans, is_better-true, is_better-false}
-use Rattle.std.proofs.lemmas.Option.{same_Some}
+use Rattle.std.proofs.lemmas.Option.{same_Some, none-some}
 use Rattle.nf_rational_laws.proofs.Results.{same_Ok}
+pub use Rattle.nf_frac_def.proofs.Exact.{checked-is as checked-ok}
 
 -- ---- a checked operation that doesn't pass has its exact value
-
-pub checked-ok : (passes : Passing) (op : Op) (x y z : ℚ) → checked passes op x y ≡ Ok z → z ≡ result_of op x y
-unfolding checked
-checked-ok passes op x y z e = by_test (passes op x y) e
-  where
-    by_test : (t : Bool) → ◌≡◌ {A = Checked ℚ} (if◌then◌else◌ {A = Checked ℚ} t (Err (record { op = op; left = x; right = y })) (Ok (result_of op x y))) (Ok z) → z ≡ result_of op x y
-    by_test true e = cc
-    by_test false e = cc
 
 -- A computation followed by another, both within their bounds.
 pub bind-ok : {A B : Type 0} (w : Checked A) (f : A → Checked B) (b : B) → (w >>= f) ≡ Ok b → (a : A) × (w ≡ Ok a) × (f a ≡ Ok b)
@@ -135,7 +128,7 @@ module _ (passes : Passing) (flows : List ℚ) (before : Known) where
       → known_at before (begin_of step.forward link) ≡ Some b → checked passes (op_of step.forward) b.distance link.transit ≡ Ok z
       → ◌≡◌ {A = Checked Known} (Ok (offered so_far (end_of step.forward link) (record { distance = z; steps = b.steps ++ step ∷ [] }))) (Ok next) → StepDone flows before step link so_far next
   done step link so_far next b z h g p c e = subst (λ (k : Known). StepDone flows before step link so_far k)
-      (ap (λ (r : Reach). offered so_far (end_of step.forward link) r) (same_reach _ _ _ (sym (checked-ok passes (op_of step.forward) b.distance link.transit z c))) ∙ same_Ok _ next e) (record {
+      (ap (λ (r : Reach). offered so_far (end_of step.forward link) r) (same_reach _ _ _ (sym (checked-is passes (op_of step.forward) b.distance link.transit z c))) ∙ same_Ok _ next e) (record {
         count = length-set so_far (end_of step.forward link) _;
         kept = λ u s a. offered-kept so_far (end_of step.forward link) (extended b step link) u s h a;
         offers = λ other _ q. subst (λ (r : Reach). AtMostAt (offered so_far (end_of step.forward link) (extended b step link)) (end_of step.forward link) (extended r step link))
@@ -154,10 +147,7 @@ module _ (passes : Passing) (flows : List ℚ) (before : Known) where
       × (◌≡◌ {A = Checked Known} (Ok (offered so_far (end_of step.forward link) (record { distance = z; steps = b.steps ++ step ∷ [] }))) (Ok next)) =
       bind-ok (checked passes (op_of step.forward) b.distance link.transit) (λ z. Ok (offered so_far (end_of step.forward link) (record { distance = z; steps = b.steps ++ step ∷ [] }))) next e in
       done step link so_far next b w.0 h g p w.1 w.2
-  by_step true None step link so_far next g p h e = idle step link so_far next e (λ b _ q. none_some b (sym p ∙ q))
-    where
-      none_some : (b : Reach) → None ≡ Some b → ⊥
-      none_some b e = cc
+  by_step true None step link so_far next g p h e = idle step link so_far next e (λ b _ q. none-some b (sym p ∙ q))
   by_step false known step link so_far next g p h e = idle step link so_far next e (λ b t _. false_true (sym g ∙ t))
     where
       false_true : false ≡ true → ⊥

@@ -6,13 +6,14 @@ use Rattle.nf_rational.specs.Operations.{◌+ℚ◌}
 use Rattle.nf_rational.specs.Order.{◌≤ℚ◌, ◌<ℚ◌, lt_ℚ}
 use Rattle.nf_rational_laws.proofs.Polynomial.{reading_of}
 use Rattle.nf_rational_laws.proofs.Order.{≤ℚ_antisymm, lt_or_le_ℚ}
-use Rattle.nf_rational_laws.proofs.Tests.{lt_ℚ_cases, less_of_test}
+use Rattle.nf_rational_laws.proofs.Tests.{less_of_test, not_less_of_test}
 use Rattle.nf_rational_laws.proofs.Linear.{lt, eq, linear_lt, linear_eq}
 use Rattle.nf_quick_def.specs.Steps.{Step, place}
 use Rattle.nf_quick_def.specs.Order.{Reach, AreFirst, AreFewerOrFirst, IsAtMost, are_before, are_fewer_or_before, is_better}
 use Rattle.nf_quick_laws.proofs.ResidualWalks.{length-append}
 use Rattle.std.proofs.lemmas.Bool.{and_parts, not-false, not-true, or_parts}
 use Rattle.nf_rational_laws.proofs.Chains.{<ℚ_trans}
+use Rattle.nf_rational_laws.proofs.Results.{not_both}
 
 -- ---- walks of equally many steps
 pub AreFirst-refl : (walk : List Step) → AreFirst walk walk
@@ -55,28 +56,16 @@ lt_tells a b = ⊎_elim
     below h = omega arith
 
 lt_true : (a b : ℕ) → nat_lt a b ≡ true → a < b
-lt_true a b e = ⊎_elim (λ (w : (nat_lt a b ≡ true) × (a < b)). w.1) (λ (w : (nat_lt a b ≡ false) × (b ≤ a)). absurd (clash (nat_lt a b) e w.0)) (lt_tells a b)
-  where
-    clash : (b : Bool) → b ≡ true → b ≡ false → ⊥
-    clash b e f = cc
+lt_true a b e = ⊎_elim (λ (w : (nat_lt a b ≡ true) × (a < b)). w.1) (λ (w : (nat_lt a b ≡ false) × (b ≤ a)). absurd (not_both (nat_lt a b) e w.0)) (lt_tells a b)
 
 lt_false : (a b : ℕ) → nat_lt a b ≡ false → b ≤ a
-lt_false a b e = ⊎_elim (λ (w : (nat_lt a b ≡ true) × (a < b)). absurd (clash (nat_lt a b) w.0 e)) (λ (w : (nat_lt a b ≡ false) × (b ≤ a)). w.1) (lt_tells a b)
-  where
-    clash : (b : Bool) → b ≡ true → b ≡ false → ⊥
-    clash b e f = cc
+lt_false a b e = ⊎_elim (λ (w : (nat_lt a b ≡ true) × (a < b)). absurd (not_both (nat_lt a b) w.0 e)) (λ (w : (nat_lt a b ≡ false) × (b ≤ a)). w.1) (lt_tells a b)
 
 eq_true : (a b : ℕ) → (a == b) ≡ true → a ≡ b
-eq_true a b e = ⊎_elim (λ (w : (eqb a b ≡ true) × (a ≡ b)). w.1) (λ (w : (eqb a b ≡ false) × (a ≢ b)). absurd (clash (eqb a b) e w.0)) (eqb_tells a b)
-  where
-    clash : (b : Bool) → b ≡ true → b ≡ false → ⊥
-    clash b e f = cc
+eq_true a b e = ⊎_elim (λ (w : (eqb a b ≡ true) × (a ≡ b)). w.1) (λ (w : (eqb a b ≡ false) × (a ≢ b)). absurd (not_both (eqb a b) e w.0)) (eqb_tells a b)
 
 eq_false : (a b : ℕ) → (a == b) ≡ false → a ≢ b
-eq_false a b e = ⊎_elim (λ (w : (eqb a b ≡ true) × (a ≡ b)). absurd (clash (eqb a b) w.0 e)) (λ (w : (eqb a b ≡ false) × (a ≢ b)). w.1) (eqb_tells a b)
-  where
-    clash : (b : Bool) → b ≡ true → b ≡ false → ⊥
-    clash b e f = cc
+eq_false a b e = ⊎_elim (λ (w : (eqb a b ≡ true) × (a ≡ b)). absurd (not_both (eqb a b) w.0 e)) (λ (w : (eqb a b ≡ false) × (a ≢ b)). w.1) (eqb_tells a b)
 
 less_from : (a b : ℕ) → b ≤ a → a ≢ b → b < a
 less_from a b h other = omega arith
@@ -136,10 +125,10 @@ are_fewer-false p q e =
 -- ---- shorter first
 
 lt_eq : (a b c : ℚ) → a <ℚ b → b ≡ c → a <ℚ c
-lt_eq a b c h e = linear_lt (a ∷ b ∷ c ∷ []) (lt h ∷ eq e ∷ []) (search reading_of depth 12) tt
+lt_eq a b c h e = linear_lt (a ∷ b ∷ c ∷ []) (lt h ∷ eq e ∷ []) (search reading_of) tt
 
 eq_lt : (a b c : ℚ) → a ≡ b → b <ℚ c → a <ℚ c
-eq_lt a b c e h = linear_lt (a ∷ b ∷ c ∷ []) (lt h ∷ eq e ∷ []) (search reading_of depth 12) tt
+eq_lt a b c e h = linear_lt (a ∷ b ∷ c ∷ []) (lt h ∷ eq e ∷ []) (search reading_of) tt
 
 pub IsAtMost-refl : (a : Reach) → IsAtMost a a
 IsAtMost-refl a = inr (refl, inr (refl, AreFirst-refl a.steps))
@@ -152,21 +141,15 @@ IsAtMost-trans a b c (inr f) (inr g) = inr (f.0 ∙ g.0, AreFewerOrFirst-trans a
 
 -- One more step, whose length adds l to each.
 lt_plus : (a b l x y : ℚ) → a <ℚ b → x ≡ a +ℚ l → y ≡ b +ℚ l → x <ℚ y
-lt_plus a b l x y h e f = linear_lt (a ∷ b ∷ l ∷ x ∷ y ∷ []) (lt h ∷ eq e ∷ eq f ∷ []) (search reading_of depth 12) tt
+lt_plus a b l x y h e f = linear_lt (a ∷ b ∷ l ∷ x ∷ y ∷ []) (lt h ∷ eq e ∷ eq f ∷ []) (search reading_of) tt
 
 eq_plus : (a b l x y : ℚ) → a ≡ b → x ≡ a +ℚ l → y ≡ b +ℚ l → x ≡ y
-eq_plus a b l x y h e f = linear_eq (a ∷ b ∷ l ∷ x ∷ y ∷ []) (eq h ∷ eq e ∷ eq f ∷ []) (search reading_of depth 12) tt tt
+eq_plus a b l x y h e f = linear_eq (a ∷ b ∷ l ∷ x ∷ y ∷ []) (eq h ∷ eq e ∷ eq f ∷ []) (search reading_of) tt tt
 
 pub IsAtMost-more : (a b : Reach) (step : Step) (l x y : ℚ) → x ≡ a.distance +ℚ l → y ≡ b.distance +ℚ l → IsAtMost a b
     → IsAtMost (record { distance = x; steps = a.steps ++ step ∷ [] }) (record { distance = y; steps = b.steps ++ step ∷ [] })
 IsAtMost-more a b step l x y e f (inl h) = inl (lt_plus _ _ l x y h e f)
 IsAtMost-more a b step l x y e f (inr h) = inr (eq_plus _ _ l x y h.0 e f, AreFewerOrFirst-append a.steps b.steps step h.1)
-
-pub lt_not : (x y : ℚ) → lt_ℚ x y ≡ false → y ≤ℚ x
-lt_not x y e = ⊎_elim (λ (w : (lt_ℚ x y ≡ true) × (x <ℚ y)). absurd (clash (lt_ℚ x y) w.0 e)) (λ (w : (lt_ℚ x y ≡ false) × (y ≤ℚ x)). w.1) (lt_ℚ_cases x y)
-  where
-    clash : (b : Bool) → b ≡ true → b ≡ false → ⊥
-    clash b e f = cc
 
 by_distance : (x y : ℚ) (P : Type 0) → x ≤ℚ y → (x <ℚ y → P) → (x ≡ y → P) → P
 by_distance x y P h f g = ⊎_elim (λ (l : x <ℚ y). f l) (λ (k : y ≤ℚ x). g (≤ℚ_antisymm x y h k)) (lt_or_le_ℚ x y)
@@ -176,7 +159,7 @@ is_better-true a b e = ⊎_elim
     (λ (l : lt_ℚ a.distance b.distance ≡ true). inl (less_of_test _ _ l))
     (λ (r : (lt_ℚ a.distance b.distance ≡ false) × ((not (lt_ℚ b.distance a.distance) && are_fewer_or_before a.steps b.steps) ≡ true)).
     let both : (not (lt_ℚ b.distance a.distance) ≡ true) × (are_fewer_or_before a.steps b.steps ≡ true) = and_parts _ _ r.1 in
-    inr (≤ℚ_antisymm _ _ (lt_not _ _ (not-true _ both.0)) (lt_not _ _ r.0), are_fewer-true a.steps b.steps both.1))
+    inr (≤ℚ_antisymm _ _ (not_less_of_test _ _ (not-true _ both.0)) (not_less_of_test _ _ r.0), are_fewer-true a.steps b.steps both.1))
     (or_cases _ _ e)
 
 pub is_better-false : (a b : Reach) → is_better a b ≡ false → IsAtMost b a
@@ -185,5 +168,5 @@ is_better-false a b e =
     ⊎_elim
     (λ (l : not (lt_ℚ b.distance a.distance) ≡ false). inl (less_of_test _ _ (not-false _ l)))
     (λ (r : (not (lt_ℚ b.distance a.distance) ≡ true) × (are_fewer_or_before a.steps b.steps ≡ false)).
-    by_distance b.distance a.distance (IsAtMost b a) (lt_not _ _ both.0) (λ l. inl l) (λ s. inr (s, are_fewer-false a.steps b.steps r.1)))
+    by_distance b.distance a.distance (IsAtMost b a) (not_less_of_test _ _ both.0) (λ l. inl l) (λ s. inr (s, are_fewer-false a.steps b.steps r.1)))
     (and_false _ _ both.1)

@@ -19,10 +19,10 @@ pub record Fits (net : Network) (flows : List ℚ) (At : ℕ → ℚ → Type 0)
   pub step : (step : Step) (v w : ℕ) (d : ℚ) → At v d → Leads net flows step v w → (c : ℚ) × At w c × (c ≤ℚ d +ℚ step_length net step)
 
 no_step : (d : ℚ) → d ≤ℚ d +ℚ 0ℚ
-no_step d = linear_le (d ∷ []) [] (search reading_of depth 12) tt
+no_step d = linear_le (d ∷ []) [] (search reading_of) tt
 
 one_step : (b c d l m : ℚ) → c ≤ℚ d +ℚ l → b ≤ℚ c +ℚ m → b ≤ℚ d +ℚ (l +ℚ m)
-one_step b c d l m h k = linear_le (b ∷ c ∷ d ∷ l ∷ m ∷ []) (le h ∷ le k ∷ []) (search reading_of depth 12) tt
+one_step b c d l m h k = linear_le (b ∷ c ∷ d ∷ l ∷ m ∷ []) (le h ∷ le k ∷ []) (search reading_of) tt
 
 pub Fits-walk : (net : Network) (flows : List ℚ) (At : ℕ → ℚ → Type 0) → Fits net flows At → (walk : List Step) (v w : ℕ) (d : ℚ) → At v d → IsResidualWalk net flows walk v w
     → (c : ℚ) × At w c × (c ≤ℚ d +ℚ walk_length net walk)
@@ -46,10 +46,10 @@ IsLeastLength-one net flows v w c d p q = ≤ℚ_antisymm c d
     (subst (λ (x : ℚ). d ≤ℚ x) p.taken.2 (q.bound p.taken.0 p.taken.1))
 
 by_sum : (c d l s : ℚ) → c ≤ℚ s → s ≡ d +ℚ (l +ℚ 0ℚ) → c ≤ℚ d +ℚ l
-by_sum c d l s h e = linear_le (c ∷ d ∷ l ∷ s ∷ []) (le h ∷ eq e ∷ []) (search reading_of depth 12) tt
+by_sum c d l s h e = linear_le (c ∷ d ∷ l ∷ s ∷ []) (le h ∷ eq e ∷ []) (search reading_of) tt
 
 same_left : (a b c : ℚ) → a ≡ b → a +ℚ c ≡ b +ℚ c
-same_left a b c e = linear_eq (a ∷ b ∷ c ∷ []) (eq e ∷ []) (search reading_of depth 12) tt tt
+same_left a b c e = linear_eq (a ∷ b ∷ c ∷ []) (eq e ∷ []) (search reading_of) tt tt
 
 module _ (net : Network) (flows : List ℚ) (from : ℕ) where
   -- the walk of least length, and a step more

@@ -7,10 +7,11 @@ use Rattle.nf_rational.specs.Operations.{0ℚ, 1ℚ, ◌+ℚ◌, ◌-ℚ◌, ◌
 use Rattle.nf_rational.specs.Order.{◌≤ℚ◌, ◌<ℚ◌}
 use Rattle.nf_rational_laws.proofs.Polynomial.{reading_of}
 use Rattle.nf_rational_laws.proofs.Tests.{less_of_test}
-use Rattle.nf_rational_laws.proofs.Linear.{le, lt, eq, eq_times, linear_le, linear_lt, linear_eq}
+use Rattle.nf_rational_laws.proofs.Linear.{le, eq, eq_times, linear_le, linear_eq}
 use Rattle.nf_frac_def.specs.Passing.{Passing, result_of}
 use Rattle.nf_frac_def.specs.Checked.{Checked, checked, fold_checked}
 use Rattle.nf_frac_def.specs.declared.Op.TheVariants.{Difference}
+use Rattle.nf_frac_def.proofs.Exact.{checked-is}
 use Rattle.nf_model.specs.Entries.{number_at}
 use Rattle.nf_model.specs.Network.{Link, Network, IsLink}
 use Rattle.nf_quick_def.specs.Steps.{Step, begin_of, end_of, signed, can_go, IsResidualWalk, IsUnboundedWalk}
@@ -20,10 +21,12 @@ use Rattle.nf_quick_def.specs.Pushes.{push_step, push_list}
 use Rattle.nf_quick_def.specs.Pushed.{IsPushed}
 use Rattle.nf_quick_laws.proofs.Apart.{EachStep}
 use Rattle.nf_quick_laws.proofs.Crossings.{choose, choose_not}
-use Rattle.nf_quick_laws.proofs.Offers.{bind-ok, checked-ok}
+use Rattle.nf_quick_laws.proofs.Offers.{bind-ok}
 use Rattle.nf_rational_laws.proofs.Chains.{≤ℚ_refl, ≤ℚ_trans}
 use Rattle.nf_rational_laws.proofs.Extremes.{min_left, min_right, min_keeps}
 use Rattle.nf_rational_laws.proofs.Results.{same_Ok}
+use Rattle.nf_rational_laws.proofs.Facts.{plus_zero_times}
+use Rattle.nf_rational_laws.proofs.Order.{less_ps}
 
 -- ---- entries
 pub number_at-set : (xs : List ℚ) (v : ℕ) (x : ℚ) → v < length xs → number_at (set xs v x) v ≡ x
@@ -40,20 +43,17 @@ number_at-else (y ∷ xs) (suc v) (suc w) x h = number_at-else xs v w x (λ e. h
 
 -- ---- a push
 moved : (d : Bool) (x a : ℚ) → result_of (op_of d) x a ≡ x +ℚ signed d 1ℚ *ℚ a
-moved true x a = linear_eq (x ∷ a ∷ []) [] (search reading_of depth 12) tt tt
-moved false x a = linear_eq (x ∷ a ∷ []) [] (search reading_of depth 12) tt tt
+moved true x a = linear_eq (x ∷ a ∷ []) [] (search reading_of) tt tt
+moved false x a = linear_eq (x ∷ a ∷ []) [] (search reading_of) tt tt
 
 none_moved : (x a s : ℚ) → s ≡ 0ℚ → x ≡ x +ℚ s *ℚ a
-none_moved x a s e = linear_eq (x ∷ a ∷ s ∷ []) (eq_times a e ∷ []) (search reading_of depth 12) tt tt
+none_moved x a s e = linear_eq (x ∷ a ∷ s ∷ []) (eq_times a e ∷ []) (search reading_of) tt tt
 
 same_moved : (x a s t : ℚ) → s ≡ t → x +ℚ t *ℚ a ≡ x +ℚ s *ℚ a
 same_moved x a s t e = ap (λ (z : ℚ). x +ℚ z *ℚ a) (sym e)
 
 one_more : (x y z s c a : ℚ) → y ≡ x +ℚ s *ℚ a → z ≡ y +ℚ c *ℚ a → z ≡ x +ℚ (s +ℚ c) *ℚ a
-one_more x y z s c a e f = linear_eq (x ∷ y ∷ z ∷ s ∷ c ∷ a ∷ []) (eq e ∷ eq f ∷ []) (search reading_of depth 12) tt tt
-
-no_more : (x a : ℚ) → x ≡ x +ℚ 0ℚ *ℚ a
-no_more x a = linear_eq (x ∷ a ∷ []) [] (search reading_of depth 12) tt tt
+one_more x y z s c a e f = linear_eq (x ∷ y ∷ z ∷ s ∷ c ∷ a ∷ []) (eq e ∷ eq f ∷ []) (search reading_of) tt tt
 
 module _ (passes : Passing) (amount : ℚ) where
   after_step : (flows : List ℚ) (step : Step) (z : ℚ) → step.link < length flows → z ≡ result_of (op_of step.forward) (number_at flows step.link) amount → (e : ℕ)
@@ -66,7 +66,7 @@ module _ (passes : Passing) (amount : ℚ) where
       (eqb_tells step.link e)
 
   pub IsPushed-fold : (walk : List Step) (flows new : List ℚ) → EachStep (λ step. step.link < length flows) walk → fold_checked (push_step passes amount) flows walk ≡ Ok new → IsPushed flows walk amount new
-  IsPushed-fold [] flows new each e = subst (λ (k : List ℚ). IsPushed flows [] amount k) (same_Ok flows new e) (record { count = refl; flow = λ k. no_more (number_at flows k) amount })
+  IsPushed-fold [] flows new each e = subst (λ (k : List ℚ). IsPushed flows [] amount k) (same_Ok flows new e) (record { count = refl; flow = λ k. plus_zero_times (number_at flows k) amount })
   IsPushed-fold (step ∷ walk) flows new each e =
       let w : (mid : List ℚ) × (push_step passes amount flows step ≡ Ok mid) × (fold_checked (push_step passes amount) mid walk ≡ Ok new) =
       bind-ok (push_step passes amount flows step) (λ mid. fold_checked (push_step passes amount) mid walk) new e in
@@ -77,7 +77,7 @@ module _ (passes : Passing) (amount : ℚ) where
       let more : IsPushed w.0 walk amount new = IsPushed-fold walk w.0 new (each_same walk (length flows) (length w.0) (sym count) each.1) w.2 in
       record {
         count = more.count ∙ count;
-        flow = λ k. one_more _ _ _ _ _ amount (ap (λ (l : List ℚ). number_at l k) (sym mid_is) ∙ after_step flows step z.0 each.0 (checked-ok passes (op_of step.forward) (number_at flows step.link) amount z.0 z.1) k)
+        flow = λ k. one_more _ _ _ _ _ amount (ap (λ (l : List ℚ). number_at l k) (sym mid_is) ∙ after_step flows step z.0 each.0 (checked-is passes (op_of step.forward) (number_at flows step.link) amount z.0 z.1) k)
             (more.flow k);
       }
     where
@@ -119,7 +119,7 @@ lesser-within : (least : Option ℚ) (x : ℚ) → IsWithin least (lesser least 
 lesser-within None x = tt
 lesser-within (Some l) x = min_left l x
 
-lesser-most : (least : Option ℚ) (x : ℚ) → lesser least x ≤ℚ x
+pub lesser-most : (least : Option ℚ) (x : ℚ) → lesser least x ≤ℚ x
 lesser-most None x = ≤ℚ_refl x
 lesser-most (Some l) x = min_right l x
 
@@ -132,13 +132,10 @@ lesser-above None x h k = k
 lesser-above (Some l) x h k = min_keeps (λ z. 0ℚ <ℚ z) l x h k
 
 left_room : (c x a m : ℚ) → m ≤ℚ c -ℚ x → a ≤ℚ m → x +ℚ a ≤ℚ c
-left_room c x a m h k = linear_le (c ∷ x ∷ a ∷ m ∷ []) (le h ∷ le k ∷ []) (search reading_of depth 12) tt
+left_room c x a m h k = linear_le (c ∷ x ∷ a ∷ m ∷ []) (le h ∷ le k ∷ []) (search reading_of) tt
 
 room_left : (c x a : ℚ) → x +ℚ a ≤ℚ c → a ≤ℚ c -ℚ x
-room_left c x a h = linear_le (c ∷ x ∷ a ∷ []) (le h ∷ []) (search reading_of depth 12) tt
-
-left_some : (c x : ℚ) → x <ℚ c → 0ℚ <ℚ c -ℚ x
-left_some c x h = linear_lt (c ∷ x ∷ []) (lt h ∷ []) (search reading_of depth 12) tt
+room_left c x a h = linear_le (c ∷ x ∷ a ∷ []) (le h ∷ []) (search reading_of) tt
 
 module _ (passes : Passing) (net : Network) (flows : List ℚ) where
   capacity_is : (step : Step) (link : Link) → IsLink net step.link link → capacity_of net step.link ≡ link.capacity
@@ -158,7 +155,7 @@ module _ (passes : Passing) (net : Network) (flows : List ℚ) where
   by_way true (Some c) x least mid above goes e =
       let z : (z : ℚ) × (checked passes Difference c x ≡ Ok z) × (◌≡◌ {A = Checked (Option ℚ)} (Ok (Some (lesser least z))) (Ok mid)) =
       bind-ok (checked passes Difference c x) (λ z. Ok (Some (lesser least z))) mid e in
-      let is : z.0 ≡ c -ℚ x = checked-ok passes Difference c x z.0 z.1 in
+      let is : z.0 ≡ c -ℚ x = checked-is passes Difference c x z.0 z.1 in
       let bound : lesser least z.0 ≤ℚ c -ℚ x = subst (λ (y : ℚ). lesser least z.0 ≤ℚ y) is (lesser-most least z.0) in
       inr (
         lesser least z.0,
@@ -166,7 +163,7 @@ module _ (passes : Passing) (net : Network) (flows : List ℚ) where
         lesser-within least z.0,
         (λ a h. left_room c x a _ bound h),
         (λ a h r. lesser-greatest least z.0 a h (subst (λ (y : ℚ). a ≤ℚ y) (sym is) (room_left c x a r))),
-        lesser-above least z.0 above (subst (λ (y : ℚ). 0ℚ <ℚ y) (sym is) (left_some c x (less_of_test x c goes))),
+        lesser-above least z.0 above (subst (λ (y : ℚ). 0ℚ <ℚ y) (sym is) (less_ps x c (less_of_test x c goes))),
       )
   by_way false capacity x least mid above goes e =
       inr (

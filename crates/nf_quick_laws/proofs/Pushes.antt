@@ -21,7 +21,7 @@ use Rattle.nf_quick_laws.proofs.PushList.{IsPushed-list}
 use Rattle.nf_rational_laws.proofs.Chains.{≤ℚ_trans}
 
 less_room : (x a b c : ℚ) → x +ℚ b ≤ℚ c → a ≤ℚ b → x +ℚ a ≤ℚ c
-less_room x a b c h k = linear_le (x ∷ a ∷ b ∷ c ∷ []) (le h ∷ le k ∷ []) (search reading_of depth 12) tt
+less_room x a b c h k = linear_le (x ∷ a ∷ b ∷ c ∷ []) (le h ∷ le k ∷ []) (search reading_of) tt
 
 along_less : (d : Bool) (capacity : Option ℚ) (x a b : ℚ) → a ≤ℚ b → HasRoomAlong d capacity x b → HasRoomAlong d capacity x a
 along_less true None x a b h r = tt

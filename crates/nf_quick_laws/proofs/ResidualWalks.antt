@@ -1,22 +1,15 @@
 -- Residual walks: concatenation, and closed sections.
 use Rattle.std.proofs.Common.{◌≡◌, ℕ, ◌+◌, List, [], ◌∷◌, ◌++◌, length, Bool, true, false, sym, ap, subst, refl, ◌∙◌, arith}
 use Rattle.nf_rational.specs.Rational.{ℚ}
-use Rattle.nf_rational.specs.Operations.{0ℚ, ◌+ℚ◌}
-use Rattle.nf_rational_laws.proofs.Polynomial.{reading_of}
-use Rattle.nf_rational_laws.proofs.Linear.{eq, linear_eq}
+use Rattle.nf_rational.specs.Operations.{◌+ℚ◌}
+use Rattle.nf_rational_laws.proofs.Facts.{zero_plus, sum_of_sum}
 use Rattle.nf_model.specs.Network.{Link, Network, IsLink}
 use Rattle.nf_quick_def.specs.Steps.{Step, begin_of, end_of, Leads, IsResidualWalk, walk_length}
 
 -- ---- concatenation
-no_more : (b : ℚ) → b ≡ 0ℚ +ℚ b
-no_more b = linear_eq (b ∷ []) [] (search reading_of depth 12) tt tt
-
-one_more : (a s p q : ℚ) → s ≡ p +ℚ q → a +ℚ s ≡ (a +ℚ p) +ℚ q
-one_more a s p q e = linear_eq (a ∷ s ∷ p ∷ q ∷ []) (eq e ∷ []) (search reading_of depth 12) tt tt
-
 pub walk_length-append : (net : Network) (walk more : List Step) → walk_length net (walk ++ more) ≡ walk_length net walk +ℚ walk_length net more
-walk_length-append net [] more = no_more _
-walk_length-append net (step ∷ walk) more = one_more _ _ _ _ (walk_length-append net walk more)
+walk_length-append net [] more = zero_plus _
+walk_length-append net (step ∷ walk) more = sum_of_sum _ _ _ _ (walk_length-append net walk more)
 
 pub IsResidualWalk-append : (net : Network) (flows : List ℚ) (walk more : List Step) (u v w : ℕ) → IsResidualWalk net flows walk u v → IsResidualWalk net flows more v w
     → IsResidualWalk net flows (walk ++ more) u w

@@ -1,12 +1,11 @@
 -- The flow 0 is sound, and each walk of the network is a residual walk for it.
 use Rattle.std.proofs.Common.{◌≡◌, ℕ, zero, suc, List, [], ◌∷◌, length, Bool, true, false, Option, Some, None, replicate, sym, ap, subst, refl, ◌∙◌}
+use Rattle.std.proofs.lemmas.List.{length-replicate}
 use Rattle.nf_rational.specs.Rational.{ℚ}
 use Rattle.nf_rational.specs.Operations.{0ℚ}
 use Rattle.nf_rational.specs.Order.{◌≤ℚ◌, ◌<ℚ◌}
-use Rattle.nf_rational_laws.proofs.Polynomial.{reading_of}
 use Rattle.nf_rational_laws.proofs.Order.{≤ℚ_of_lt, ≤ℚ_of_same, nn_plus}
 use Rattle.nf_rational_laws.proofs.Tests.{less_of_test, test_of_less}
-use Rattle.nf_rational_laws.proofs.Linear.{lt, eq, linear_false}
 use Rattle.nf_model.specs.Entries.{number_at}
 use Rattle.nf_model.specs.Walk.{Hop, IsWalk, transit_of}
 use Rattle.nf_model.specs.Network.{Link, Network, IsLink, IsNetwork, hops, hop_of, sum_out}
@@ -16,10 +15,7 @@ use Rattle.nf_quick_def.specs.Steps.{Step, signed, is_below, can_go, IsResidualW
 use Rattle.nf_quick_def.specs.Flows.{IsSound, value_of, cost_of}
 use Rattle.nf_quick_laws.proofs.Crossings.{cost_from-none}
 use Rattle.nf_rational_laws.proofs.Chains.{≤ℚ_refl}
-
-pub length-replicate : {A : Type 0} (n : ℕ) (x : A) → length (replicate n x) ≡ n
-length-replicate zero x = refl
-length-replicate (suc n) x = ap suc (length-replicate n x)
+use Rattle.nf_rational_laws.proofs.Facts.{zero_not_above}
 
 pub number_at-zeros : (n e : ℕ) → number_at (replicate n 0ℚ) e ≡ 0ℚ
 number_at-zeros zero e = refl
@@ -35,10 +31,7 @@ module _ (net : Network) (good : IsNetwork net) where
 
   no_way_back : (d : Bool) (capacity : Option ℚ) (x : ℚ) → x ≡ 0ℚ → can_go d capacity x ≡ true → d ≡ true
   no_way_back true capacity x e g = refl
-  no_way_back false capacity x e g = absurd (not_above x e (less_of_test 0ℚ x g))
-    where
-      not_above : (x : ℚ) → x ≡ 0ℚ → 0ℚ <ℚ x → ⊥
-      not_above x e h = linear_false (x ∷ []) (eq e ∷ lt h ∷ []) (search reading_of depth 12) tt
+  no_way_back false capacity x e g = absurd (zero_not_above x e (less_of_test 0ℚ x g))
 
   pub walk_nn : (walk : List Step) (v w : ℕ) → IsResidualWalk net zeros walk v w → 0ℚ ≤ℚ walk_length net walk
   walk_nn [] v w p = ≤ℚ_refl 0ℚ

@@ -10,7 +10,13 @@ pub ≤ℚ_refl : (x : ℚ) → x ≤ℚ x
 ≤ℚ_refl x = ≤ℚ_of_same x x refl
 
 pub ≤ℚ_trans : (x y z : ℚ) → x ≤ℚ y → y ≤ℚ z → x ≤ℚ z
-≤ℚ_trans x y z h k = linear_le (x ∷ y ∷ z ∷ []) (le h ∷ le k ∷ []) (search reading_of depth 12) tt
+≤ℚ_trans x y z h k = linear_le (x ∷ y ∷ z ∷ []) (le h ∷ le k ∷ []) (search reading_of) tt
 
 pub <ℚ_trans : (x y z : ℚ) → x <ℚ y → y <ℚ z → x <ℚ z
-<ℚ_trans x y z h k = linear_lt (x ∷ y ∷ z ∷ []) (lt h ∷ lt k ∷ []) (search reading_of depth 12) tt
+<ℚ_trans x y z h k = linear_lt (x ∷ y ∷ z ∷ []) (lt h ∷ lt k ∷ []) (search reading_of) tt
+
+pub ≤_<_trans : (x y z : ℚ) → x ≤ℚ y → y <ℚ z → x <ℚ z
+≤_<_trans x y z h k = linear_lt (x ∷ y ∷ z ∷ []) (le h ∷ lt k ∷ []) (search reading_of) tt
+
+pub <_≤_trans : (x y z : ℚ) → x <ℚ y → y ≤ℚ z → x <ℚ z
+<_≤_trans x y z h k = linear_lt (x ∷ y ∷ z ∷ []) (lt h ∷ le k ∷ []) (search reading_of) tt

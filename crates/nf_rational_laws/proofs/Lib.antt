@@ -9,6 +9,7 @@ pub mod Order
 pub mod Signs
 pub mod Linear
 pub mod Chains
+pub mod Facts
 pub mod Quotient
 pub mod Tests
 pub mod Samples

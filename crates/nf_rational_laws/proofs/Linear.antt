@@ -1,6 +1,7 @@
 -- Linear arithmetic of rational numbers, with the multipliers found by computation (Gauss for equations, Fourier and Motzkin for orders) and then checked.
---     linear_le ρ facts (search reading_of depth 30) tt : x ≤ y, and likewise linear_lt, linear_eq and linear_false
+--     linear_le ρ facts (search reading_of) tt : x ≤ y, and likewise linear_lt, linear_eq and linear_false
 -- ρ lists the atoms; `facts` is a list of `le h`, `lt h`, `eq h` and `le_times nonneg h`.
+-- The search's default depth of 5 finds nearly every term; a few need `(search reading_of depth 12)`.
 use Rattle.std.proofs.Common.{◌≡◌, ℕ, zero, suc, ◌+◌, ◌*◌, ltb, List, [], ◌∷◌, ◌++◌, ⊎_elim, Bool, true, false, not, cond, ◌&&◌, ◌||◌, T, refl, sym, ◌∙◌, ap}
 use mathlib.Core.Path.{ap₂}
 use lib.IntN.{ℤ, pos, negsuc, ◌+ℤ◌, ◌*ℤ◌, neg_ℤ}

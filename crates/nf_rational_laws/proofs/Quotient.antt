@@ -11,7 +11,6 @@ use Rattle.nf_rational.specs.Order.{◌<ℚ◌}
 use Rattle.nf_rational_laws.proofs.Ratio.{Is-self, Is-same, Is-times, Is-whole, Is-ratio}
 use Rattle.nf_rational_laws.proofs.Field.{rationals}
 use Rattle.nf_rational_laws.proofs.Order.{ps_in, ps_out, <ℚ_irrefl}
-use Rattle.nf_rational_laws.proofs.Linear.{lt}
 
 -- ---- one over x
 pub abs_positive : (n : ℤ) → n ≢ pos 0 → 0 < nat_abs n
@@ -58,7 +57,7 @@ unfolding ◌/ℚ◌
 /ℚ_is x y = refl
 
 by_inverse : (x y q v : ℚ) → q ≡ x *ℚ v → y *ℚ v ≡ 1ℚ → q *ℚ y ≡ x
-by_inverse x y q v e f = combine rationals (x ∷ y ∷ q ∷ v ∷ []) (using y e (search reading_of depth 30) (using x f (search reading_of depth 30) done)) (search reading_of depth 30) tt
+by_inverse x y q v e f = combine rationals (x ∷ y ∷ q ∷ v ∷ []) (using y e (search reading_of) (using x f (search reading_of) done)) (search reading_of) tt
 
 -- the slope times the run is the rise
 pub /ℚ-times : (x y : ℚ) → y ≢ 0ℚ → x /ℚ y *ℚ y ≡ x
@@ -66,7 +65,7 @@ pub /ℚ-times : (x y : ℚ) → y ≢ 0ℚ → x /ℚ y *ℚ y ≡ x
 
 -- a quotient is the one number that gives x times y
 from_product : (x y q v : ℚ) → q *ℚ y ≡ x → y *ℚ v ≡ 1ℚ → q ≡ x *ℚ v
-from_product x y q v e f = combine rationals (x ∷ y ∷ q ∷ v ∷ []) (using v e (search reading_of depth 30) (using (neg_ℚ q) f (search reading_of depth 30) done)) (search reading_of depth 30) tt
+from_product x y q v e f = combine rationals (x ∷ y ∷ q ∷ v ∷ []) (using v e (search reading_of) (using (neg_ℚ q) f (search reading_of) done)) (search reading_of) tt
 
 pub /ℚ-unique : (x y q : ℚ) → y ≢ 0ℚ → q *ℚ y ≡ x → q ≡ x /ℚ y
 /ℚ-unique x y q h e = from_product x y q (inv_ℚ y) e (times_inv y h) ∙ sym (/ℚ_is x y)

@@ -1,15 +1,13 @@
 -- A slack that moves towards 0 changes, and a number above 0 is not 0.
-use Rattle.std.proofs.Common.{◌≡◌, ◌≢◌, ⊎_elim, Bool, true, false, ◌&&◌, ap, ◌∙◌}
+use Rattle.std.proofs.Common.{◌≡◌, ◌≢◌, Bool, true, false, ◌&&◌, sym, ap, refl, ◌∙◌}
+use Rattle.std.proofs.lemmas.Bool.{and_parts, and_from}
 use Rattle.std.specs.Prelude.{◌||◌}
 use Rattle.nf_rational.specs.Rational.{ℚ}
 use Rattle.nf_rational.specs.Operations.{0ℚ}
-use Rattle.nf_rational.specs.Order.{◌≤ℚ◌, ◌<ℚ◌, lt_ℚ}
-use Rattle.nf_rational_laws.proofs.Order.{<ℚ_irrefl}
-use Rattle.nf_rational_laws.proofs.Tests.{lt_ℚ_cases}
-use Rattle.nf_rational.specs.Signs.{is_positive, are_opposite}
-
-not_below : (x : ℚ) → lt_ℚ x x ≡ false
-not_below x = ⊎_elim (λ (w : (lt_ℚ x x ≡ true) × (x <ℚ x)). absurd (<ℚ_irrefl x w.1)) (λ (w : (lt_ℚ x x ≡ false) × (x ≤ℚ x)). w.0) (lt_ℚ_cases x x)
+use Rattle.nf_rational.specs.Order.{le_ℚ, lt_ℚ}
+use Rattle.nf_rational_laws.proofs.Tests.{le_of_test, test_of_le, not_less_itself}
+use Rattle.nf_rational.specs.Signs.{is_positive, are_opposite, is_same}
+use Rattle.nf_rational_laws.proofs.Order.{≤ℚ_of_same, ≤ℚ_antisymm}
 
 neither : (a b c d : Bool) → c ≡ false → d ≡ false → ((a && c) || (b && d)) ≡ true → ⊥
 neither true true false false p q e = cc
@@ -21,7 +19,17 @@ neither a b false true p q e = cc
 
 pub opposite_apart : (x y : ℚ) → are_opposite x y ≡ true → y ≢ 0ℚ
 opposite_apart x y e same = neither (lt_ℚ x 0ℚ) (lt_ℚ 0ℚ x) (lt_ℚ 0ℚ y) (lt_ℚ y 0ℚ)
-    (ap (λ (z : ℚ). lt_ℚ 0ℚ z) same ∙ not_below 0ℚ) (ap (λ (z : ℚ). lt_ℚ z 0ℚ) same ∙ not_below 0ℚ) e
+    (ap (λ (z : ℚ). lt_ℚ 0ℚ z) same ∙ not_less_itself 0ℚ) (ap (λ (z : ℚ). lt_ℚ z 0ℚ) same ∙ not_less_itself 0ℚ) e
 
 pub positive_apart : (x : ℚ) → is_positive x ≡ true → x ≢ 0ℚ
-positive_apart x e same = let f : lt_ℚ 0ℚ x ≡ false = ap (λ (z : ℚ). lt_ℚ 0ℚ z) same ∙ not_below 0ℚ in cc
+positive_apart x e same = let f : lt_ℚ 0ℚ x ≡ false = ap (λ (z : ℚ). lt_ℚ 0ℚ z) same ∙ not_less_itself 0ℚ in cc
+
+-- ---- the test whether two numbers are equal
+pub same_of_test : (x y : ℚ) → is_same x y ≡ true → x ≡ y
+same_of_test x y e = let both : (le_ℚ x y ≡ true) × (le_ℚ y x ≡ true) = and_parts (le_ℚ x y) (le_ℚ y x) e in ≤ℚ_antisymm x y (le_of_test x y both.0) (le_of_test y x both.1)
+
+pub test_of_same : (x y : ℚ) → x ≡ y → is_same x y ≡ true
+test_of_same x y e = and_from (le_ℚ x y) (le_ℚ y x) (test_of_le x y (≤ℚ_of_same x y e)) (test_of_le y x (≤ℚ_of_same y x (sym e)))
+
+pub is_same-itself : (x : ℚ) → is_same x x ≡ true
+is_same-itself x = test_of_same x x refl

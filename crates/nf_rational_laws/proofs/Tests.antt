@@ -6,7 +6,7 @@ use borrow.Author.Differences.{ints}
 use Rattle.nf_rational.specs.Rational.{ℚ}
 use Rattle.nf_rational.specs.Operations.{0ℚ}
 use Rattle.nf_rational.specs.Order.{◌≤ℚ◌, ◌<ℚ◌, le_ℚ, lt_ℚ, min_ℚ, max_ℚ}
-use Rattle.nf_rational_laws.proofs.Order.{≤ℚ_antisymm, not_both_ℚ}
+use Rattle.nf_rational_laws.proofs.Order.{<ℚ_irrefl, ≤ℚ_antisymm, not_both_ℚ}
 
 -- what a test says
 pub le_ℚ_cases : (x y : ℚ) → ((le_ℚ x y ≡ true) × (x ≤ℚ y)) ⊎ ((le_ℚ x y ≡ false) × (y <ℚ x))
@@ -78,6 +78,15 @@ less_of_test x y e = ⊎_elim (λ (w : (lt_ℚ x y ≡ true) × (x <ℚ y)). w.1
 
 pub test_of_less : (x y : ℚ) → x <ℚ y → lt_ℚ x y ≡ true
 test_of_less x y h = ⊎_elim (λ (w : (lt_ℚ x y ≡ true) × (x <ℚ y)). w.0) (λ (w : (lt_ℚ x y ≡ false) × (y ≤ℚ x)). absurd (not_both_ℚ x y h w.1)) (lt_ℚ_cases x y)
+
+pub not_less_of_test : (x y : ℚ) → lt_ℚ x y ≡ false → y ≤ℚ x
+not_less_of_test x y e = ⊎_elim (λ (w : (lt_ℚ x y ≡ true) × (x <ℚ y)). cc) (λ (w : (lt_ℚ x y ≡ false) × (y ≤ℚ x)). w.1) (lt_ℚ_cases x y)
+
+pub test_of_not_less : (x y : ℚ) → y ≤ℚ x → lt_ℚ x y ≡ false
+test_of_not_less x y h = ⊎_elim (λ (w : (lt_ℚ x y ≡ true) × (x <ℚ y)). absurd (not_both_ℚ x y w.1 h)) (λ (w : (lt_ℚ x y ≡ false) × (y ≤ℚ x)). w.0) (lt_ℚ_cases x y)
+
+pub not_less_itself : (x : ℚ) → lt_ℚ x x ≡ false
+not_less_itself x = ⊎_elim (λ (w : (lt_ℚ x x ≡ true) × (x <ℚ x)). absurd (<ℚ_irrefl x w.1)) (λ (w : (lt_ℚ x x ≡ false) × (x ≤ℚ x)). w.0) (lt_ℚ_cases x x)
 
 -- ---- what is left of a number above 0
 pub max0_of : (x : ℚ) → 0ℚ ≤ℚ x → max_ℚ 0ℚ x ≡ x

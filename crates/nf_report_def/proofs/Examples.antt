@@ -10,7 +10,8 @@ use Rattle.nf_frac_words.specs.Printed.{printed, printed_parts}
 use Rattle.nf_model.specs.Network.{Piece}
 use Rattle.nf_net_def.specs.Named.{Named}
 use Rattle.nf_net_def.specs.Report.{Report}
-use Rattle.nf_thin_def.proofs.Examples.{n, link}
+use Rattle.nf_frac_def.proofs.Examples.{n}
+use Rattle.nf_thin_def.proofs.Examples.{link}
 use Rattle.nf_report_def.specs.declared.LoadRule.{LoadRule}
 use Rattle.nf_report_def.specs.declared.LoadRule.TheVariants.{L7, L10}
 use Rattle.nf_report_def.specs.declared.ReportRule.{ReportRule}

@@ -1,10 +1,11 @@
 -- The lines of curves, in their order, are read as these curves.
 use Rattle.std.proofs.Common.{◌≡◌, ℕ, suc, Bool, true, false, not, ◌&&◌, ◌==◌, if◌then◌else◌, List, [], ◌∷◌, ◌++◌, length, map, flat_map, Option, Some, None, is_none, Result, Ok, Err, refl, sym, ap, subst, ◌∙◌, codes, bytes_eq, arith, append_assoc, append-nil}
 use Rattle.std.specs.List.{AllByRecursion, last_or}
+use Rattle.std.proofs.lemmas.Bool.{and_from}
 use Rattle.nf_rational.specs.Rational.{ℚ}
 use Rattle.nf_rational.specs.Operations.{0ℚ}
-use Rattle.nf_rational.specs.Order.{◌<ℚ◌, le_ℚ, lt_ℚ}
-use Rattle.nf_rational_laws.proofs.Tests.{test_of_le, test_of_lt}
+use Rattle.nf_rational.specs.Order.{le_ℚ}
+use Rattle.nf_rational_laws.proofs.Tests.{test_of_le, test_of_less}
 use Rattle.nf_rational_laws.proofs.Order.{≤ℚ_of_same}
 use Rattle.nf_frac_def.specs.Checked.{◌>>=◌}
 use Rattle.nf_model.specs.Curve.{Point, TimesRise, IsCurve}
@@ -20,7 +21,6 @@ use Rattle.nf_report_def.specs.declared.ReportRule.TheVariants.{P5, P7, P11, P12
 use Rattle.nf_report_def.specs.ReportCauses.{or_rule, first_named}
 use Rattle.nf_report_def.specs.ReportLines.{Kind, OfLabel, OfNever, OfInflow, OfOutflow, OfQueue, CurveKey, key_word, key_of, InBody, ReadCurve, ReportDraft, are_alike, begins_with, is_key, with_current, Opened, begun, opened, comes_after, with_point, point_numbers, rate_word, with_rate, point_line, trace_line, never_line, never_kinds, line_of_kind, report_line}
 use Rattle.nf_report_laws.specs.Readable.{IsFractionPoint, AreFractionPoints, IsFractionOrNone}
-use Rattle.nf_report_laws.proofs.Outcomes.{and_true}
 use Rattle.nf_report_laws.proofs.NumbersBack.{numbers_back, rate_text, rate_back}
 use Rattle.nf_report_laws.proofs.ReportShape.{lines_of_kind, curve_lines, IsOfKind, IsRead, plain_curve}
 use Rattle.nf_report_laws.proofs.ReportSteps.{next_of, Reads, reads-append, key_self, other_key}
@@ -31,15 +31,11 @@ InTime before [] = Unit {0}
 InTime before (p ∷ points) = (comes_after before p.0 ≡ true) × InTime (Some p) points
 
 pub is_zero_time : (x : ℚ) → x ≡ 0ℚ → is_same x 0ℚ ≡ true
-is_zero_time x e = and_true (le_ℚ x 0ℚ) (le_ℚ 0ℚ x) (test_of_le x 0ℚ (≤ℚ_of_same x 0ℚ e)) (test_of_le 0ℚ x (≤ℚ_of_same 0ℚ x (sym e)))
-
-pub above : (x y : ℚ) → x <ℚ y → lt_ℚ x y ≡ true
-unfolding lt_ℚ
-above x y h = ap not (test_of_lt y x h)
+is_zero_time x e = and_from (le_ℚ x 0ℚ) (le_ℚ 0ℚ x) (test_of_le x 0ℚ (≤ℚ_of_same x 0ℚ e)) (test_of_le 0ℚ x (≤ℚ_of_same 0ℚ x (sym e)))
 
 rising : (p : Point) (points : List Point) → TimesRise (p ∷ points) → InTime (Some p) points
 rising p [] h = tt
-rising p (q ∷ points) h = (above p.0 q.0 h.0, rising q points h.1)
+rising p (q ∷ points) h = (test_of_less p.0 q.0 h.0, rising q points h.1)
 
 pub curve_in_time : (points : List Point) → IsCurve points → InTime None points
 curve_in_time [] h = tt
@@ -126,8 +122,8 @@ module _ (n : Named) (d : ReportDraft) where
       )
 
   trace_goes_on : (key name : List ℕ) (p : Point) (points : List Point) (rates : List ℚ) (after : Option (List (List ℕ))) → begins_with key name (next_of (trace_lines key name (p ∷ points) rates) after) ≡ true
-  trace_goes_on key name p points [] after = and_true (bytes_eq key key) (bytes_eq name name) (bytes_eq-self key) (bytes_eq-self name)
-  trace_goes_on key name p points (rate ∷ rates) after = and_true (bytes_eq key key) (bytes_eq name name) (bytes_eq-self key) (bytes_eq-self name)
+  trace_goes_on key name p points [] after = and_from (bytes_eq key key) (bytes_eq name name) (bytes_eq-self key) (bytes_eq-self name)
+  trace_goes_on key name p points (rate ∷ rates) after = and_from (bytes_eq key key) (bytes_eq name name) (bytes_eq-self key) (bytes_eq-self name)
 
   traces_read : (kind : Kind) (name : Name) → Says kind (λ next draft. trace_line kind draft next) → (done : List ReadCurve) (current : Option ReadCurve) (keys : List CurveKey) (front : List Point) (before : List ℚ) (after_done : List ReadCurve) (after_keys : List CurveKey)
       (p : Point) (points : List Point) (rates : List ℚ) (after : Option (List (List ℕ)))

@@ -5,8 +5,7 @@ use Rattle.std.proofs.lemmas.List.{map-append}
 use Rattle.std.proofs.lemmas.Grind.{flat_map-append}
 use Rattle.nf_rational.specs.Rational.{ℚ}
 use Rattle.nf_rational.specs.Operations.{0ℚ}
-use Rattle.nf_rational.specs.Order.{◌<ℚ◌, le_ℚ, lt_ℚ}
-use Rattle.nf_rational_laws.proofs.Tests.{lt_of_test}
+use Rattle.nf_rational_laws.proofs.Tests.{less_of_test}
 use Rattle.nf_model.specs.Curve.{Point, TimesRise, IsCurve}
 use Rattle.nf_frac_words.specs.Printed.{printed}
 use Rattle.nf_net_def.specs.Names.{Name}
@@ -22,23 +21,15 @@ use Rattle.nf_report_laws.proofs.NumbersBack.{ArePrinted, numbers_are, rate_text
 use Rattle.nf_report_laws.proofs.ReportShape.{lines_of_kind, curve_lines, IsReadPoints, IsReadTrace, IsOfKind, IsRead}
 use Rattle.nf_report_laws.proofs.ReportSteps.{key_same, key_self, other_key}
 use Rattle.nf_report_laws.proofs.CurvesBack.{InTime, curve_in_time, keys_of}
-use Rattle.nf_report_laws.proofs.KeysBack.{all-append}
-use Rattle.nf_report_laws.proofs.ReportBack.{same_of_test}
 use Rattle.nf_rational_laws.proofs.Results.{not_both, same_Ok}
+use Rattle.nf_rational_laws.proofs.SignTests.{same_of_test}
 use Rattle.std.proofs.lemmas.Bool.{not-false}
+use Rattle.nf_net_laws.proofs.AcceptedNamed.{every_append}
 
 -- ---- times that rise
-before_of_test : (x y : ℚ) → lt_ℚ x y ≡ true → x <ℚ y
-unfolding lt_ℚ
-before_of_test x y e = lt_of_test y x (flip (le_ℚ y x) e)
-  where
-    flip : (b : Bool) → not b ≡ true → b ≡ false
-    flip true e = absurd (cc)
-    flip false e = refl
-
 rises_on : (p : Point) (points : List Point) → InTime (Some p) points → TimesRise (p ∷ points)
 rises_on p [] h = tt
-rises_on p (q ∷ points) h = (before_of_test p.0 q.0 h.0, rises_on q points h.1)
+rises_on p (q ∷ points) h = (less_of_test p.0 q.0 h.0, rises_on q points h.1)
 
 in_time_more : (before : Option Point) (points : List Point) (p : Point) → InTime before points → comes_after (last_or before points) p.0 ≡ true → InTime before (points ++ p ∷ [])
 in_time_more before [] p h t = (t, tt)
@@ -85,7 +76,7 @@ closes OfQueue name next points rates h e = h
 pub all_closed : (done : List ReadCurve) (current : Option ReadCurve) (next : Option (List (List ℕ))) → AllByRecursion IsRead done → IsOpen next current
     → ((c : ReadCurve) → current ≡ Some c → begins_with (key_word c.key.kind) c.key.name next ≡ false) → AllByRecursion IsRead (with_current done current)
 all_closed done None next h o e = h
-all_closed done (Some c) next h o e = all-append IsRead done (c ∷ []) h (closes c.key.kind c.key.name next c.points c.rates o (e c refl), tt)
+all_closed done (Some c) next h o e = every_append IsRead done (c ∷ []) h (closes c.key.kind c.key.name next c.points c.rates o (e c refl), tt)
 
 -- ---- what is kept of a draft, as far as curves go
 pub record AreKept (n : Named) (next : Option (List (List ℕ))) (done : List ReadCurve) (current : Option ReadCurve) (keys : List CurveKey) : Type 0 where
@@ -279,7 +270,7 @@ point_kept n kind has front open_ lines draft next (name ∷ time ∷ value ∷ 
     subst (LineKept n next (key_word kind ∷ name ∷ time ∷ value ∷ []) draft) (same_Ok (with_point draft o p o.curve.rates) left t.1)
     (put_on n next (key_word kind ∷ name ∷ time ∷ value ∷ []) draft kind name o p o.curve.rates k
     (open_ name next (o.curve.points ++ p ∷ []) o.curve.rates
-    (curve_of_times o.curve.points p (in_time_more None o.curve.points p f.in_time t.0), all-append IsFractionPoint o.curve.points (p ∷ []) f.fractions (a.fractions, tt)) f.no_rates)
+    (curve_of_times o.curve.points p (in_time_more None o.curve.points p f.in_time t.0), every_append IsFractionPoint o.curve.points (p ∷ []) f.fractions (a.fractions, tt)) f.no_rates)
     (lines name (o.curve.points ++ p ∷ []) o.curve.rates ∙ point_lines_more (key_word kind) name o.curve.points p
     ∙ (λ i. sym (lines name o.curve.points o.curve.rates) i ++ line_two (key_word kind) name time value p a i ∷ [])))
 point_kept n kind has front open_ lines draft next (a ∷ b ∷ c ∷ d ∷ words) left h e = absurd (no_err P6 left e)
@@ -294,7 +285,7 @@ count_more points rates p (Some rate) false c e = absurd (cc)
 
 rates_more : (rates : List ℚ) (rate : Option ℚ) → AllByRecursion IsFraction rates → IsFractionOrNone rate → AllByRecursion IsFraction (with_rate rates rate)
 rates_more rates None h k = h
-rates_more rates (Some rate) h k = all-append IsFraction rates (rate ∷ []) h (k, tt)
+rates_more rates (Some rate) h k = every_append IsFraction rates (rate ∷ []) h (k, tt)
 
 trace_kept : (n : Named) (kind : Kind) → HasPoints kind → ((points : List Point) (rates : List ℚ) → IsFront kind points rates → IsTraceFront points rates)
     → ((name : Name) (next : Option (List (List ℕ))) (points : List Point) (rates : List ℚ) → IsOpenTrace (begins_with (key_word kind) name next) points rates → IsOpenKind kind name next points rates)
@@ -322,7 +313,7 @@ trace_kept n kind has front open_ lines draft next (name ∷ time ∷ value ∷ 
     (put_on n next (key_word kind ∷ name ∷ time ∷ value ∷ rate ∷ []) draft kind name o p (with_rate o.curve.rates r) k
     (open_ name next (o.curve.points ++ p ∷ []) (with_rate o.curve.rates r) (record {
       curve = curve_of_times o.curve.points p (in_time_more None o.curve.points p f.in_time (not-false (comes_after (last_or None o.curve.points) p.0) t.0));
-      fractions = all-append IsFractionPoint o.curve.points (p ∷ []) f.fractions (a.fractions, tt);
+      fractions = every_append IsFractionPoint o.curve.points (p ∷ []) f.fractions (a.fractions, tt);
       rate_fractions = rates_more o.curve.rates r f.rate_fractions b.1;
       count = count_more o.curve.points o.curve.rates p r (begins_with (key_word kind) name next) f.count s.0;
     }))
@@ -355,7 +346,7 @@ never_kept n draft next (name ∷ []) left h e =
       is = sym (same_Ok _ left w.next) ∙ (λ i. record draft { done = k.1 i ++ k.0 i ∷ []; current = None; keys = o.keys });
       kept = record {
         in_order = ap (λ l. l ++ o.keys) (map-append (λ curve. curve.key) all (c ∷ [])) ∙ append_assoc (keys_of all) (key_of OfNever name ∷ []) o.keys ∙ ap (λ l. keys_of all ++ l) (sym k.2) ∙ h.in_order;
-        read = all-append IsRead all (c ∷ []) read ((refl, refl), tt);
+        read = every_append IsRead all (c ∷ []) read ((refl, refl), tt);
         open_ = tt;
       };
       lines = sym (flat_map-append curve_lines all (c ∷ []));

@@ -2,8 +2,8 @@
 use Rattle.std.proofs.Common.{◌≡◌, ◌↔◌, ℕ, Bool, true, false, not, ◌||◌, List, [], ◌∷◌, Option, Some, None, is_none, Ok, refl, sym, ap, subst, ◌∙◌, codes, bytes_eq}
 use Rattle.nf_rational.specs.Rational.{ℚ}
 use Rattle.nf_rational.specs.Operations.{0ℚ}
-use Rattle.nf_rational.specs.Order.{◌≤ℚ◌, le_ℚ, lt_ℚ}
-use Rattle.nf_rational_laws.proofs.Tests.{le_of_test}
+use Rattle.nf_rational.specs.Order.{◌≤ℚ◌, lt_ℚ}
+use Rattle.nf_rational_laws.proofs.Tests.{not_less_of_test}
 use Rattle.nf_frac_words.specs.Digits.{digits_of}
 use Rattle.nf_frac_words.specs.Printed.{printed}
 use Rattle.nf_net_def.specs.declared.Cause.{Cause}
@@ -21,18 +21,11 @@ use Rattle.nf_report_laws.proofs.NumbersBack.{number_is}
 use Rattle.nf_report_laws.proofs.CausesBack.{cause_is}
 use Rattle.nf_report_laws.proofs.ReportShape.{head_lines}
 use Rattle.nf_report_laws.proofs.ReportSteps.{next_of, Reads}
-use Rattle.nf_report_laws.proofs.ReportBack.{same_test, same_of_test, after_head}
+use Rattle.nf_report_laws.proofs.ReportBack.{after_head}
 use Rattle.nf_report_laws.proofs.BodyKept.{in_stage}
 use Rattle.std.proofs.lemmas.Bool.{and_parts, or_parts}
 use Rattle.nf_rational_laws.proofs.Results.{same_Ok}
-
-not_below : (x y : ℚ) → lt_ℚ y x ≡ false → x ≤ℚ y
-unfolding lt_ℚ
-not_below x y e = le_of_test x y (flip (le_ℚ x y) e)
-  where
-    flip : (b : Bool) → not b ≡ false → b ≡ true
-    flip true e = refl
-    flip false e = absurd (cc)
+use Rattle.nf_rational_laws.proofs.SignTests.{test_of_same, same_of_test}
 
 -- ---- the words of each line
 version_is : (n : Named) (words : List (List ℕ)) → is_version n words ≡ true → words ≡ codes "report" ∷ digits_of n.version ∷ []
@@ -87,14 +80,14 @@ reached_is draft words next e =
       reached = v.between;
       words_are = behind_is (codes "reached") words w.between w.first ∙ ap (λ rest. codes "reached" ∷ rest) k.0;
       fraction = k.1;
-      starts = not_below 0ℚ v.between s.0;
-      ends = not_below v.between draft.horizon s.1;
+      starts = not_less_of_test v.between 0ℚ s.0;
+      ends = not_less_of_test draft.horizon v.between s.1;
       is = sym (same_Ok _ next t.1);
     }
 
 stop_is : (stop : Option (Cause ℚ)) (reached horizon : ℚ) → are_alike (is_none stop) (is_same reached horizon) ≡ true → (stop ≡ None) ↔ (reached ≡ horizon)
 stop_is None reached horizon e = (λ _. same_of_test reached horizon e, λ _. refl)
-stop_is (Some cause) reached horizon e = (λ none. absurd (cc), λ same. absurd (no (is_same reached horizon) e (same_test reached horizon same)))
+stop_is (Some cause) reached horizon e = (λ none. absurd (cc), λ same. absurd (no (is_same reached horizon) e (test_of_same reached horizon same)))
   where
     no : (b : Bool) → not b ≡ true → b ≡ true → ⊥
     no true e f = absurd (cc)

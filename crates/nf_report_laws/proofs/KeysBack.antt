@@ -11,13 +11,10 @@ use Rattle.nf_net_def.specs.WellNamed.{IsNamed}
 use Rattle.nf_net_laws.proofs.NameFacts.{bytes_eq-self}
 use Rattle.nf_report_def.specs.ReportLines.{Kind, OfLabel, OfNever, OfInflow, OfOutflow, OfQueue, CurveKey, key_of, curve_keys, ReadCurve}
 use Rattle.nf_net_laws.proofs.LinkFacts.{distinct_left}
+use Rattle.nf_net_laws.proofs.AcceptedNamed.{every_append}
 use Rattle.nf_report_laws.proofs.ReportShape.{IsReadPoints, IsReadTrace, IsRead, label_curves, never_curves, link_curves, curves_from, AreRead}
 use Rattle.nf_report_laws.proofs.CurvesBack.{IsAllowed, Differ, Adjacent, keys_of}
 use Rattle.nf_rational_laws.proofs.Results.{not_both}
-
-pub all-append : {A : Type 0} (P : A → Type 0) (xs ys : List A) → AllByRecursion P xs → AllByRecursion P ys → AllByRecursion P (xs ++ ys)
-all-append P [] ys h k = k
-all-append P (x ∷ xs) ys h k = (h.0, all-append P xs ys h.1 k)
 
 -- ---- keys
 label_keys : (names : List Name) (labels : List (List Point)) → length labels ≡ length names → keys_of (label_curves names labels) ≡ map (key_of OfLabel) names
@@ -127,8 +124,8 @@ links_are (name ∷ names) (i ∷ inflows) (o ∷ outflows) (q ∷ queues) h k l
 
 pub curves_are : (n : Named) (flow : Flow) → AreRead n flow → AllByRecursion IsRead (curves_from n flow)
 curves_are n flow h =
-    all-append IsRead (label_curves n.node_names flow.labels ++ never_curves n.idle_nodes) (link_curves n.link_names flow.inflows flow.outflows flow.queues)
-    (all-append IsRead (label_curves n.node_names flow.labels) (never_curves n.idle_nodes) (labels_are n.node_names flow.labels h.labels) (nevers_are n.idle_nodes))
+    every_append IsRead (label_curves n.node_names flow.labels ++ never_curves n.idle_nodes) (link_curves n.link_names flow.inflows flow.outflows flow.queues)
+    (every_append IsRead (label_curves n.node_names flow.labels) (never_curves n.idle_nodes) (labels_are n.node_names flow.labels h.labels) (nevers_are n.idle_nodes))
     (links_are n.link_names flow.inflows flow.outflows flow.queues h.inflows h.outflows h.queues)
 
 -- ---- `never` stands in version 2 alone
@@ -159,6 +156,6 @@ idle_allowed n h false e = nevers_allowed n.version n.idle_nodes e
 
 pub curves_allowed : (n : Named) (flow : Flow) → IsNamed n → AllByRecursion (λ c. IsAllowed n.version c.key.kind) (curves_from n flow)
 curves_allowed n flow h =
-    all-append (Allowed n.version) (label_curves n.node_names flow.labels ++ never_curves n.idle_nodes) (link_curves n.link_names flow.inflows flow.outflows flow.queues)
-    (all-append (Allowed n.version) (label_curves n.node_names flow.labels) (never_curves n.idle_nodes) (labels_allowed n.version n.node_names flow.labels) (idle_allowed n h (n.version == 1) refl))
+    every_append (Allowed n.version) (label_curves n.node_names flow.labels ++ never_curves n.idle_nodes) (link_curves n.link_names flow.inflows flow.outflows flow.queues)
+    (every_append (Allowed n.version) (label_curves n.node_names flow.labels) (never_curves n.idle_nodes) (labels_allowed n.version n.node_names flow.labels) (idle_allowed n h (n.version == 1) refl))
     (links_allowed n.version n.link_names flow.inflows flow.outflows flow.queues)

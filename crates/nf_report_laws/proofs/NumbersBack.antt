@@ -1,6 +1,7 @@
 -- Printed numbers and counts are read as what they are printed of, and nothing else is.
 use Rattle.std.proofs.Common.{◌≡◌, ℕ, Bool, true, false, if◌then◌else◌, List, Option, Some, None, Result, Ok, Err, refl, sym, ap, subst, ◌∙◌, bytes_eq, codes}
 use Rattle.std.specs.Result.{result_ok}
+use Rattle.std.proofs.lemmas.Option.{same_Some}
 use Rattle.nf_rational.specs.Rational.{ℚ}
 use Rattle.nf_frac_def.specs.Checked.{◌>>=◌}
 use Rattle.nf_frac_words.specs.declared.NumberFault.{NumberFault}
@@ -23,9 +24,6 @@ use Rattle.nf_report_laws.specs.Readable.{IsCount, IsCountOrNone, IsFractionPoin
 use Rattle.nf_report_laws.proofs.Outcomes.{both_ok, or_ok}
 use Rattle.nf_rational_laws.proofs.Results.{same_Ok}
 
-some_same : {A : Type 0} (x y : A) → ◌≡◌ {A = Option A} (Some x) (Some y) → x ≡ y
-some_same x y e = cc
-
 -- ---- numbers
 pub number_back : (q : ℚ) → IsFraction q → printed_number (printed q) ≡ Some q
 number_back q h =
@@ -37,7 +35,7 @@ number_is word q e = by_number (number_of greatest word) refl e
   where
     by_test : (r : ℚ) (b : Bool) → number_of greatest word ≡ Ok r → bytes_eq word (printed r) ≡ b → (if b then Some r else None) ≡ Some q → (word ≡ printed q) × IsFraction q
     by_test r true k f g =
-        let same : r ≡ q = some_same r q g in
+        let same : r ≡ q = same_Some r q g in
         (same_names word (printed r) f ∙ ap printed same, subst IsFraction same (number_kept 1 word r (ap result_ok k)))
     by_test r false k f g = absurd (cc)
 
@@ -87,12 +85,12 @@ place_is word place e = go (bytes_eq word (codes "-")) refl e
     count : (o : Option ℕ) → count_of word ≡ o → some_place o ≡ Some place → (word ≡ count_word place) × IsCountOrNone place
     count None k f = absurd (cc)
     count (Some c) k f =
-        let same : Some c ≡ place = some_same (Some c) place f in
+        let same : Some c ≡ place = same_Some (Some c) place f in
         subst (λ (p : Option ℕ). (word ≡ count_word p) × IsCountOrNone p) same (count_is word c k)
 
     go : (b : Bool) → bytes_eq word (codes "-") ≡ b → (if b then Some None else some_place (count_of word)) ≡ Some place → (word ≡ count_word place) × IsCountOrNone place
     go true k f =
-        let same : None ≡ place = some_same None place f in
+        let same : None ≡ place = same_Some None place f in
         subst (λ (p : Option ℕ). (word ≡ count_word p) × IsCountOrNone p) same (same_names word (codes "-") k, tt)
     go false k f = count (count_of word) refl f
 

@@ -1,5 +1,5 @@
 -- Consequences of a successful test or step, and conditions for success.
-use Rattle.std.proofs.Common.{◌≡◌, ℕ, List, [], ◌∷◌, Bool, true, false, ◌&&◌, if◌then◌else◌, Option, Some, None, Result, Ok, Err, refl, ap, ◌∙◌, bytes_eq}
+use Rattle.std.proofs.Common.{◌≡◌, ℕ, List, [], ◌∷◌, Bool, true, false, if◌then◌else◌, Option, Some, None, Result, Ok, Err, refl, ap, ◌∙◌, bytes_eq}
 use Rattle.std.specs.List.{AllByRecursion}
 use Rattle.nf_frac_def.specs.Checked.{◌>>=◌}
 use Rattle.nf_frac_def.proofs.Binding.{bind_ok}
@@ -10,9 +10,6 @@ use Rattle.nf_rational_laws.proofs.Results.{same_Ok}
 
 pub no_err : {A E : Type 0} (broken : E) (y : A) → Err broken ≡ Ok y → ⊥
 no_err broken y e = absurd (cc)
-
-pub and_true : (a b : Bool) → a ≡ true → b ≡ true → (a && b) ≡ true
-and_true a b e f = λ i. e i && f i
 
 -- a test after which only one way is Ok
 pub where_true : {A E : Type 0} (b : Bool) (broken : E) (r : Result A E) (y : A) → (if b then r else Err broken) ≡ Ok y → (b ≡ true) × (r ≡ Ok y)

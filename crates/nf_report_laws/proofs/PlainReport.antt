@@ -21,9 +21,9 @@ use Rattle.nf_net_def.specs.WellNamed.{IsFraction}
 use Rattle.nf_net_def.specs.Report.{point_lines, trace_lines, state_word}
 use Rattle.nf_net_laws.proofs.ShortWords.{length_digits, number_bytes, IsShortWord, short_name, short_number, short_key, length_join, plain_words}
 use Rattle.nf_net_laws.specs.LineLaws.{AreWords, AreShort}
+use Rattle.nf_net_laws.proofs.AcceptedNamed.{every_append}
 use Rattle.nf_report_def.specs.ReportLines.{Kind, OfLabel, OfNever, OfInflow, OfOutflow, OfQueue, ReadCurve}
 use Rattle.nf_report_laws.specs.Readable.{IsCount, IsCountOrNone, AreFractionPoints, IsReadableCause}
-use Rattle.nf_report_laws.proofs.KeysBack.{all-append}
 use Rattle.nf_report_laws.proofs.ReportShape.{lines_of_kind, curve_lines, IsOfKind, IsRead, state_lines_of, end_lines, head_lines}
 
 -- ---- words
@@ -124,7 +124,7 @@ kind_short OfQueue name points rates e h = point_short (codes "queue") name poin
 
 pub curves_short : (curves : List ReadCurve) → AllByRecursion IsRead curves → AllByRecursion (λ c. is_name c.key.name ≡ true) curves → AllByRecursion IsShortLine (flat_map curve_lines curves)
 curves_short [] h m = tt
-curves_short (c ∷ curves) h m = all-append IsShortLine (curve_lines c) (flat_map curve_lines curves) (kind_short c.key.kind c.key.name c.points c.rates m.0 h.0) (curves_short curves h.1 m.1)
+curves_short (c ∷ curves) h m = every_append IsShortLine (curve_lines c) (flat_map curve_lines curves) (kind_short c.key.kind c.key.name c.points c.rates m.0 h.0) (curves_short curves h.1 m.1)
 
 pub states_short : (names : List Name) (pattern : Pattern) → AllByRecursion (λ name. is_name name ≡ true) names → AllByRecursion IsShortLine (state_lines_of names pattern)
 states_short [] pattern h = tt

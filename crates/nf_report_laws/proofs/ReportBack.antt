@@ -3,9 +3,8 @@ use Rattle.std.proofs.Common.{◌≡◌, ◌↔◌, ⊎_elim, ℕ, zero, suc, �
 use Rattle.std.specs.List.{AllByRecursion, list_all}
 use Rattle.nf_rational.specs.Rational.{ℚ}
 use Rattle.nf_rational.specs.Operations.{0ℚ}
-use Rattle.nf_rational.specs.Order.{◌≤ℚ◌, le_ℚ, lt_ℚ}
-use Rattle.nf_rational_laws.proofs.Tests.{test_of_le, le_of_test}
-use Rattle.nf_rational_laws.proofs.Order.{≤ℚ_of_same, ≤ℚ_antisymm}
+use Rattle.nf_rational.specs.Order.{◌≤ℚ◌, lt_ℚ}
+use Rattle.nf_rational_laws.proofs.Tests.{test_of_le}
 use Rattle.nf_frac_def.specs.Checked.{◌>>=◌}
 use Rattle.nf_text_def.specs.Words.{read_lines, line_of_words}
 use Rattle.nf_net_laws.proofs.ReadBack.{plain_lines_from, no_fault_from}
@@ -22,23 +21,24 @@ use Rattle.nf_net_def.specs.WellNamed.{IsFraction, IsNamed}
 use Rattle.nf_net_def.specs.Report.{Report, report_lines, report_text}
 use Rattle.nf_net_laws.proofs.NameFacts.{bytes_eq-self}
 use Rattle.nf_net_laws.proofs.LinkFacts.{distinct_left}
+use Rattle.nf_net_laws.proofs.AcceptedNamed.{every_append}
 use Rattle.nf_rational.specs.Signs.{is_same}
 use Rattle.nf_report_def.specs.declared.ReportRule.TheVariants.{P4, P8, P10}
 use Rattle.nf_report_def.specs.ReportCauses.{or_rule}
 use Rattle.nf_report_def.specs.ReportLines.{OfLabel, OfNever, CurveKey, key_of, curve_keys, AtHorizon, AtReached, AtCause, InBody, AtEnd, ReadCurve, ReportDraft, empty_report, are_alike, with_current, state_of_link, capacity_of, capacity_at}
 use Rattle.nf_report_def.specs.ReportFile.{report_draft, report_of_draft, if_at_end, report_by_bytes, report_in}
 use Rattle.nf_report_laws.specs.Readable.{IsCount, IsReadableCause}
-use Rattle.nf_report_laws.proofs.Outcomes.{and_true}
 use Rattle.nf_report_laws.proofs.NumbersBack.{number_back}
 use Rattle.nf_report_laws.proofs.CausesBack.{cause_back}
 use Rattle.nf_report_laws.proofs.ReportShape.{curve_lines, curves_from, AreRead, state_lines_of, end_lines, head_lines, lines_by_curves, gives_flow}
 use Rattle.nf_report_laws.proofs.ReportSteps.{next_of, Reads, reads-append, lines_read}
 use Rattle.nf_report_laws.proofs.CurvesBack.{Adjacent, in_body, curves_read}
-use Rattle.nf_report_laws.proofs.KeysBack.{all-append, link_keys, keys_from, keys_adjacent, curves_are, curves_allowed}
+use Rattle.nf_report_laws.proofs.KeysBack.{link_keys, keys_from, keys_adjacent, curves_are, curves_allowed}
 use Rattle.nf_report_laws.proofs.StatesBack.{in_states, states_read, states_behind}
 use Rattle.nf_report_laws.proofs.PlainReport.{IsShortLine, are_words, are_short, curves_short, states_short, end_short, head_short}
 use Rattle.std.proofs.lemmas.Bool.{and_parts}
 use Rattle.nf_rational_laws.proofs.Chains.{≤ℚ_trans}
+use Rattle.nf_rational_laws.proofs.SignTests.{test_of_same, same_of_test}
 
 -- ---- tests
 
@@ -46,14 +46,8 @@ pub not_above : (x y : ℚ) → x ≤ℚ y → lt_ℚ y x ≡ false
 unfolding lt_ℚ
 not_above x y h = ap not (test_of_le x y h)
 
-pub same_test : (x y : ℚ) → x ≡ y → is_same x y ≡ true
-same_test x y e = and_true (le_ℚ x y) (le_ℚ y x) (test_of_le x y (≤ℚ_of_same x y e)) (test_of_le y x (≤ℚ_of_same y x (sym e)))
-
-pub same_of_test : (x y : ℚ) → is_same x y ≡ true → x ≡ y
-same_of_test x y e = let w = and_parts (le_ℚ x y) (le_ℚ y x) e in ≤ℚ_antisymm x y (le_of_test x y w.0) (le_of_test y x w.1)
-
 stops_where : (stop : Option (Cause ℚ)) (reached horizon : ℚ) → (stop ≡ None) ↔ (reached ≡ horizon) → are_alike (is_none stop) (is_same reached horizon) ≡ true
-stops_where None reached horizon h = same_test reached horizon (h.0 refl)
+stops_where None reached horizon h = test_of_same reached horizon (h.0 refl)
 stops_where (Some cause) reached horizon h = go (is_same reached horizon) refl
   where
     no : Some cause ≡ None → ⊥
@@ -124,8 +118,8 @@ keys_named : (n : Named) → IsNamed n → AllByRecursion IsNamedKey (curve_keys
 keys_named n h =
     let nodes = names_are (n.node_names ++ n.idle_nodes) h.node_names.each in
     let links = all-left (λ name. is_name name ≡ true) n.link_names (names_of n.idle_links) (names_are (n.link_names ++ names_of n.idle_links) h.link_names.each) in
-    all-append IsNamedKey (map (key_of OfLabel) n.node_names ++ map (key_of OfNever) n.idle_nodes) (link_keys n.link_names)
-    (all-append IsNamedKey (map (key_of OfLabel) n.node_names) (map (key_of OfNever) n.idle_nodes)
+    every_append IsNamedKey (map (key_of OfLabel) n.node_names ++ map (key_of OfNever) n.idle_nodes) (link_keys n.link_names)
+    (every_append IsNamedKey (map (key_of OfLabel) n.node_names) (map (key_of OfNever) n.idle_nodes)
     (all-map IsNamedKey (key_of OfLabel) n.node_names (all-left (λ name. is_name name ≡ true) n.node_names n.idle_nodes nodes))
     (all-map IsNamedKey (key_of OfNever) n.idle_nodes (all-right (λ name. is_name name ≡ true) n.node_names n.idle_nodes nodes)))
     (link_keys_named n.link_names links)
@@ -224,8 +218,8 @@ module _ (n : Named) (report : Report) (named : IsNamed n) (h : IsFit n report) 
   lines_short : AllByRecursion IsShortLine all_lines
   lines_short =
       head_short n.version report.horizon report.flow.reached report.stop (flat_map curve_lines curves ++ state_lines_of n.link_names report.last ++ end_lines) version h.horizon h.reached h.stop
-      (all-append IsShortLine (flat_map curve_lines curves ++ state_lines_of n.link_names report.last) end_lines
-      (all-append IsShortLine (flat_map curve_lines curves) (state_lines_of n.link_names report.last)
+      (every_append IsShortLine (flat_map curve_lines curves ++ state_lines_of n.link_names report.last) end_lines
+      (every_append IsShortLine (flat_map curve_lines curves) (state_lines_of n.link_names report.last)
       (curves_short curves (curves_are n report.flow h.flow) (all-of-map IsNamedKey (λ curve. curve.key) curves (subst (AllByRecursion IsNamedKey) (sym (keys_from n report.flow h.flow)) (keys_named n named))))
       (states_short n.link_names report.last (all-left (λ name. is_name name ≡ true) n.link_names (names_of n.idle_links) (names_are (n.link_names ++ names_of n.idle_links) named.link_names.each))))
       end_short)

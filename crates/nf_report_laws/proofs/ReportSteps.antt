@@ -12,8 +12,8 @@ use Rattle.nf_report_def.specs.declared.ReportRule.{ReportRule}
 use Rattle.nf_report_def.specs.declared.ReportRule.TheVariants.{P3}
 use Rattle.nf_report_def.specs.ReportLines.{Kind, OfLabel, OfNever, OfInflow, OfOutflow, OfQueue, CurveKey, key_word, key_of, is_key, ReportDraft, report_line}
 use Rattle.nf_report_def.specs.ReportFile.{ReportBroken, next_words, in_report_line, report_lines_from}
-use Rattle.nf_report_laws.proofs.Outcomes.{both_ok, no_err, and_true}
-use Rattle.std.proofs.lemmas.Bool.{and_parts}
+use Rattle.nf_report_laws.proofs.Outcomes.{both_ok, no_err}
+use Rattle.std.proofs.lemmas.Bool.{and_parts, and_from}
 
 -- the words of the line that comes next: behind all of these it is the one after them
 abbrev pub next_of : List (List (List ℕ)) → Option (List (List ℕ)) → Option (List (List ℕ))
@@ -107,7 +107,7 @@ key_same kind name key e =
     λ i. record { kind = k i; name = m i }
 
 pub key_self : (kind : Kind) (name : Name) → is_key kind name (key_of kind name) ≡ true
-key_self kind name = and_true (bytes_eq (key_word kind) (key_word kind)) (bytes_eq name name) (bytes_eq-self (key_word kind)) (bytes_eq-self name)
+key_self kind name = and_from (bytes_eq (key_word kind) (key_word kind)) (bytes_eq name name) (bytes_eq-self (key_word kind)) (bytes_eq-self name)
 
 pub other_key : (kind : Kind) (name : Name) (key : CurveKey) → (key ≡ key_of kind name → ⊥) → is_key kind name key ≡ false
 other_key kind name key h = go (is_key kind name key) refl

@@ -17,7 +17,8 @@ use Rattle.nf_model.specs.Pattern.{Pattern}
 use Rattle.nf_thin_def.specs.ReportCurves.{GrowingCurve, LinkCurves}
 use Rattle.nf_thin_def.specs.PhaseRun.{Standing}
 use Rattle.nf_net_def.specs.Report.{Report}
-use Rattle.nf_thin_def.proofs.Examples.{n, in_127_bits, Parts, parts_of, i}
+use Rattle.nf_frac_def.proofs.Examples.{n, in_127_bits, Parts, parts_of}
+use Rattle.nf_thin_def.proofs.Examples.{i}
 use Rattle.nf_thin_def.proofs.Runs.{points_in, two_links}
 use Rattle.nf_curve_def.specs.Lines.{checked_slope, checked_line, checked_inverse, checked_cross}
 use Rattle.nf_curve_def.specs.Values.{checked_value, checked_cut}

@@ -1,15 +1,16 @@
 -- The flow of a report, cut at the departure that it reached and put into short form, curve by curve.
-use Rattle.std.proofs.Common.{◌≡◌, ℕ, zero, suc, ◌<◌, ◌≤◌, List, [], ◌∷◌, ◌++◌, length, get_or, Option, Some, None, slice_get, unwrap_or, option_map, map, ⊎_elim, sym, ap, subst, refl, ◌∙◌, arith}
-use Rattle.std.specs.Prelude.{Result, Ok}
+use Rattle.std.proofs.Common.{◌≡◌, ℕ, zero, suc, ◌<◌, List, [], ◌∷◌, ◌++◌, length, Option, Some, None, slice_get, unwrap_or, map, sym, ap, subst, refl, ◌∙◌, arith}
+use Rattle.std.specs.Prelude.{Ok}
 use Rattle.std.specs.List.{last_or}
 use Rattle.std.specs.Option.{option_map_or}
-use Rattle.std.proofs.lemmas.Option.{slice_get_within, slice_get_cases, slice_get-map}
+use Rattle.std.proofs.lemmas.Option.{slice_get_within, same_Some}
 use Rattle.std.proofs.lemmas.List.{length-map}
 use Rattle.nf_rational.specs.Rational.{ℚ}
 use Rattle.nf_rational.specs.Operations.{0ℚ}
 use Rattle.nf_rational.specs.Order.{◌≤ℚ◌}
 use Rattle.nf_frac_def.specs.Passing.{Passing}
 use Rattle.nf_frac_def.specs.Checked.{each}
+use Rattle.nf_frac_def.proofs.Each.{each_at}
 use Rattle.nf_model.specs.Curve.{Point, value, IsCurve, AreSlopes}
 use Rattle.nf_model.specs.Network.{Link, Network, IsNetwork, IsLink}
 use Rattle.nf_model.specs.Equilibrium.{Trace, Flow, points_at, points_of, label, HasSlopes, Equilibrium}
@@ -23,44 +24,17 @@ use Rattle.nf_resume_laws.proofs.Printed.{label-nn}
 use Rattle.nf_resume_laws.proofs.CutShort.{IsShortCut, cut_short-is}
 use Rattle.nf_rational_laws.proofs.Chains.{≤ℚ_refl}
 use Rattle.nf_rational_laws.proofs.Results.{same_Ok}
+use Rattle.nf_rational_laws.proofs.Entries.{entry, slice_get-image}
+pub use Rattle.nf_frac_def.proofs.Each.{each_length}
+pub use Rattle.nf_rational_laws.proofs.Entries.{entry as entry_within}
+pub use Rattle.nf_rational_laws.proofs.Entries.{slice_get-image as entry_of}
 
 -- ---- lists, entry by entry
-same_some : {A : Type 0} (x y : A) → ◌≡◌ {A = Option A} (Some x) (Some y) → x ≡ y
-same_some x y e = cc
-
-pub each_at : {A B E : Type 0} (f : A → Result B E) (xs : List A) (ys : List B) (i : ℕ) (x : A) → each f xs ≡ Ok ys → slice_get xs i ≡ Some x → (y : B) × (slice_get ys i ≡ Some y) × (f x ≡ Ok y)
-each_at f [] ys i x e h = absurd (cc)
-each_at f (w ∷ xs) ys zero x e h =
-    let k = then_ok (f w) _ ys e in
-    let l = then_ok (each f xs) _ ys k.next in
-    (k.between, ap (λ (l : List _). slice_get l 0) (sym (same_Ok _ _ l.next)), ap f (sym (same_some w x h)) ∙ k.first)
-each_at f (w ∷ xs) ys (suc i) x e h =
-    let k = then_ok (f w) _ ys e in
-    let l = then_ok (each f xs) _ ys k.next in
-    let r = each_at f xs l.between i x l.first h in
-    (r.0, ap (λ (l : List _). slice_get l (suc i)) (sym (same_Ok _ _ l.next)) ∙ r.1, r.2)
-
-pub each_length : {A B E : Type 0} (f : A → Result B E) (xs : List A) (ys : List B) → each f xs ≡ Ok ys → length ys ≡ length xs
-each_length f [] ys e = ap length (sym (same_Ok [] ys e))
-each_length f (w ∷ xs) ys e =
-    let k = then_ok (f w) _ ys e in
-    let l = then_ok (each f xs) _ ys k.next in
-    ap length (sym (same_Ok _ _ l.next)) ∙ ap suc (each_length f xs l.between l.first)
-
-pub entry_within : {A : Type 0} (xs : List A) (e : ℕ) → e < length xs → (x : A) × (slice_get xs e ≡ Some x)
-entry_within {A} xs e h = ⊎_elim
-    (λ (w : (x : A) × (e < length xs) × (slice_get xs e ≡ Some x) × (get_or xs e x ≡ x)). (w.0, w.2))
-    (λ (w : (length xs ≤ e) × (slice_get xs e ≡ None)). absurd (omega arith))
-    (slice_get_cases xs e).1
-
 pub points_at-is : (curves : List (List Point)) (i : ℕ) (points : List Point) → slice_get curves i ≡ Some points → points_at curves i ≡ points
 points_at-is curves i points h = ap (λ (o : Option (List Point)). unwrap_or o []) h
 
-pub entry_of : {A B : Type 0} (f : A → B) (xs : List A) (e : ℕ) (x : A) → slice_get xs e ≡ Some x → slice_get (map f xs) e ≡ Some (f x)
-entry_of f xs e x h = slice_get-map f xs e ∙ ap (option_map f) h
-
 pub points_of-is : (traces : List Trace) (e : ℕ) (trace : Trace) → slice_get traces e ≡ Some trace → points_at (points_of traces) e ≡ trace.points
-points_of-is traces e trace h = points_at-is (points_of traces) e trace.points (entry_of (λ (t : Trace). t.points) traces e trace h)
+points_of-is traces e trace h = points_at-is (points_of traces) e trace.points (slice_get-image (λ (t : Trace). t.points) traces e trace h)
 
 abbrev pub of_link : Link → Trace → Trace → List Point → OfLink
 of_link link inflow outflow queue = record { link = link; inflow = inflow.points; outflow = outflow.points; queue = queue }
@@ -114,7 +88,7 @@ module _ (passes : Passing) (net : Network) (old : Flow) (good : IsNetwork net) 
     (by_labels : each (cut_short passes old.reached) old.labels ≡ Ok labels) where
   at_end : (v : ℕ) → v < net.nodes → IsShortCut (points_at old.labels v) old.reached (points_at labels v)
   at_end v h =
-      let x : (x : List Point) × (slice_get old.labels v ≡ Some x) = entry_within old.labels v (let c = is.shape.labels.count in omega arith) in
+      let x : (x : List Point) × (slice_get old.labels v ≡ Some x) = entry old.labels v (let c = is.shape.labels.count in omega arith) in
       let y = each_at (cut_short passes old.reached) old.labels labels v x.0 by_labels x.1 in
       let same : points_at old.labels v ≡ x.0 = points_at-is old.labels v x.0 x.1 in
       subst (λ (l : List Point). IsShortCut (points_at old.labels v) old.reached l) (sym (points_at-is labels v y.0 y.1))
@@ -159,9 +133,9 @@ module _ (passes : Passing) (net : Network) (old : Flow) (good : IsNetwork net) 
     at_link : (e : ℕ) (link : Link) → IsLink net e link → At e link
     at_link e link p =
         let h : e < length net.links = slice_get_within net.links e link p in
-        let i = entry_within old.inflows e (let c = inflow_count in omega arith) in
-        let o = entry_within old.outflows e (let c = outflow_count in omega arith) in
-        let q = entry_within old.queues e (let c = is.shape.queues.count in omega arith) in
+        let i = entry old.inflows e (let c = inflow_count in omega arith) in
+        let o = entry old.outflows e (let c = outflow_count in omega arith) in
+        let q = entry old.queues e (let c = is.shape.queues.count in omega arith) in
         let y = each_at (cut_link passes labels) (links_with net.links old.inflows old.outflows old.queues) cuts e (of_link link i.0 o.0 q.0) by_links
         (links_with-at net.links old.inflows old.outflows old.queues e link i.0 o.0 q.0 p i.1 o.1 q.1) in
         record { inflow = i.0; outflow = o.0; queue = q.0; is_inflow = i.1; is_outflow = o.1; is_queue = q.1; cut = y.0; is_cut = y.1; by_list = y.2 }
@@ -226,9 +200,9 @@ module _ (passes : Passing) (net : Network) (old : Flow) (good : IsNetwork net) 
     all_slopes : (f : CutLink → Trace) → ((e : ℕ) (link : Link) (p : IsLink net e link) → AreSlopes (f (at_link e link p).cut).points (f (at_link e link p).cut).rates) → HasSlopes (map f cuts)
     all_slopes f each_link e trace h =
         let within : e < length (map f cuts) = slice_get_within (map f cuts) e trace h in
-        let link : (link : Link) × IsLink net e link = entry_within net.links e (let c = cut_count in let d = length-map cuts f in omega arith) in
+        let link : (link : Link) × IsLink net e link = entry net.links e (let c = cut_count in let d = length-map cuts f in omega arith) in
         let a : At e link.0 = at_link e link.0 link.1 in
-        let same : f a.cut ≡ trace = same_some (f a.cut) trace (sym (entry_of f cuts e a.cut a.is_cut) ∙ h) in
+        let same : f a.cut ≡ trace = same_Some (f a.cut) trace (sym (slice_get-image f cuts e a.cut a.is_cut) ∙ h) in
         subst (λ (t : Trace). AreSlopes t.points t.rates) same (each_link e link.0 link.1)
 
     pub IsCutFlow-each : IsCutFlow net old new
@@ -240,11 +214,11 @@ module _ (passes : Passing) (net : Network) (old : Flow) (good : IsNetwork net) 
       queue_count = length-map cuts (λ (c : CutLink). c.queue) ∙ cut_count;
       labels = at_end;
       inflows = λ e link p. subst (λ (l : List Point). IsShortCut (points_at (points_of old.inflows) e) (label old link.tail old.reached) l)
-          (sym (points_of-is new.inflows e (at_link e link p).cut.inflow (entry_of (λ (c : CutLink). c.inflow) cuts e (at_link e link p).cut (at_link e link p).is_cut))) (inflow_at e link p).0;
+          (sym (points_of-is new.inflows e (at_link e link p).cut.inflow (slice_get-image (λ (c : CutLink). c.inflow) cuts e (at_link e link p).cut (at_link e link p).is_cut))) (inflow_at e link p).0;
       outflows = λ e link p. subst (λ (l : List Point). IsShortCut (points_at (points_of old.outflows) e) (label old link.head old.reached) l)
-          (sym (points_of-is new.outflows e (at_link e link p).cut.outflow (entry_of (λ (c : CutLink). c.outflow) cuts e (at_link e link p).cut (at_link e link p).is_cut))) (outflow_at e link p).0;
+          (sym (points_of-is new.outflows e (at_link e link p).cut.outflow (slice_get-image (λ (c : CutLink). c.outflow) cuts e (at_link e link p).cut (at_link e link p).is_cut))) (outflow_at e link p).0;
       queues = λ e link p. subst (λ (l : List Point). IsShortCut (points_at old.queues e) (label old link.tail old.reached) l)
-          (sym (points_at-is new.queues e (at_link e link p).cut.queue (entry_of (λ (c : CutLink). c.queue) cuts e (at_link e link p).cut (at_link e link p).is_cut))) (queue_at e link p);
+          (sym (points_at-is new.queues e (at_link e link p).cut.queue (slice_get-image (λ (c : CutLink). c.queue) cuts e (at_link e link p).cut (at_link e link p).is_cut))) (queue_at e link p);
       inflow_rates = all_slopes (λ c. c.inflow) (λ e link p. (inflow_at e link p).1);
       outflow_rates = all_slopes (λ c. c.outflow) (λ e link p. (outflow_at e link p).1);
     }

@@ -21,46 +21,22 @@ use Rattle.nf_thin_def.specs.PhaseRun.{Standing}
 use Rattle.nf_phase_laws.proofs.Length.{Lasts-some}
 use Rattle.nf_resume_def.specs.Open.{IsOpen}
 use Rattle.nf_rational_laws.proofs.Chains.{≤ℚ_refl, ≤ℚ_trans}
+use Rattle.nf_rational_laws.proofs.Facts.{back_and_forth, below_between, above_between}
 
 -- ---- over plain numbers: a slack s that changes at c, d and w lengths
 on_line : (s c d w z : ℚ) → z ≡ s +ℚ d *ℚ c → s +ℚ (d +ℚ w) *ℚ c ≡ z +ℚ w *ℚ c
-on_line s c d w z e = linear_eq (s ∷ c ∷ d ∷ w ∷ z ∷ []) (eq e ∷ []) (search reading_of depth 12) tt tt
-
-beyond : (d w : ℚ) → d +ℚ (w -ℚ d) ≡ w
-beyond d w = linear_eq (d ∷ w ∷ []) [] (search reading_of depth 12) tt tt
-
--- A line that is below 0 at first and at most 0 later is below 0 between.
-below_between : (s c d y : ℚ) → s <ℚ 0ℚ → 0ℚ ≤ℚ d → d <ℚ y → s +ℚ y *ℚ c ≤ℚ 0ℚ → s +ℚ d *ℚ c <ℚ 0ℚ
-below_between s c d y h i j k = ⊎_elim
-    (λ (l : c <ℚ 0ℚ). linear_lt (s ∷ c ∷ d ∷ []) (lt h ∷ le_times i (≤ℚ_of_lt _ _ l) ∷ []) (search reading_of depth 12) tt)
-    (λ (l : 0ℚ ≤ℚ c). ⊎_elim
-    (λ (m : 0ℚ <ℚ c). ⊎_elim
-    (λ (n : s +ℚ d *ℚ c <ℚ 0ℚ). n)
-    (λ (n : 0ℚ ≤ℚ s +ℚ d *ℚ c). absurd (too_far m n))
-    (lt_or_le_ℚ (s +ℚ d *ℚ c) 0ℚ))
-    (λ (m : c ≤ℚ 0ℚ). linear_lt (s ∷ c ∷ d ∷ []) (lt h ∷ le_times i m ∷ []) (search reading_of depth 12) tt)
-    (lt_or_le_ℚ 0ℚ c))
-    (lt_or_le_ℚ c 0ℚ)
-  where
-    too_far : 0ℚ <ℚ c → 0ℚ ≤ℚ s +ℚ d *ℚ c → ⊥
-    too_far m n = not_both_ℚ _ _ (Rattle.nf_model_laws.proofs.Affine.ps-times_gap c d y m j) (linear_le (s ∷ c ∷ d ∷ y ∷ []) (le n ∷ le k ∷ []) (search reading_of depth 12) tt)
-
-above_between : (s c d y : ℚ) → 0ℚ <ℚ s → 0ℚ ≤ℚ d → d <ℚ y → 0ℚ ≤ℚ s +ℚ y *ℚ c → 0ℚ <ℚ s +ℚ d *ℚ c
-above_between s c d y h i j k =
-    let m : (0ℚ -ℚ s) +ℚ d *ℚ (0ℚ -ℚ c) <ℚ 0ℚ = below_between (0ℚ -ℚ s) (0ℚ -ℚ c) d y (linear_lt (s ∷ []) (lt h ∷ []) (search reading_of depth 12) tt) i j
-    (linear_le (s ∷ c ∷ y ∷ []) (le k ∷ []) (search reading_of depth 12) tt) in
-    linear_lt (s ∷ c ∷ d ∷ []) (lt m ∷ []) (search reading_of depth 12) tt
+on_line s c d w z e = linear_eq (s ∷ c ∷ d ∷ w ∷ z ∷ []) (eq e ∷ []) (search reading_of) tt tt
 
 falls_on : (s c d w z : ℚ) → z ≡ s +ℚ d *ℚ c → s ≡ 0ℚ → z <ℚ 0ℚ → 0ℚ ≤ℚ d → 0ℚ ≤ℚ w → z +ℚ w *ℚ c ≤ℚ 0ℚ
 falls_on s c d w z e f h i j = ⊎_elim
-    (λ (k : c <ℚ 0ℚ). linear_le (z ∷ w ∷ c ∷ []) (lt h ∷ le_times j (≤ℚ_of_lt _ _ k) ∷ []) (search reading_of depth 12) tt)
-    (λ (k : 0ℚ ≤ℚ c). absurd (linear_false (s ∷ c ∷ d ∷ z ∷ []) (eq e ∷ eq f ∷ lt h ∷ le_times i k ∷ []) (search reading_of depth 12) tt))
+    (λ (k : c <ℚ 0ℚ). linear_le (z ∷ w ∷ c ∷ []) (lt h ∷ le_times j (≤ℚ_of_lt _ _ k) ∷ []) (search reading_of) tt)
+    (λ (k : 0ℚ ≤ℚ c). absurd (linear_false (s ∷ c ∷ d ∷ z ∷ []) (eq e ∷ eq f ∷ lt h ∷ le_times i k ∷ []) (search reading_of) tt))
     (lt_or_le_ℚ c 0ℚ)
 
 rises_on : (s c d w z : ℚ) → z ≡ s +ℚ d *ℚ c → s ≡ 0ℚ → 0ℚ <ℚ z → 0ℚ ≤ℚ d → 0ℚ ≤ℚ w → 0ℚ ≤ℚ z +ℚ w *ℚ c
 rises_on s c d w z e f h i j = ⊎_elim
-    (λ (k : 0ℚ <ℚ c). linear_le (z ∷ w ∷ c ∷ []) (lt h ∷ le_times j (≤ℚ_of_lt _ _ k) ∷ []) (search reading_of depth 12) tt)
-    (λ (k : c ≤ℚ 0ℚ). absurd (linear_false (s ∷ c ∷ d ∷ z ∷ []) (eq e ∷ eq f ∷ lt h ∷ le_times i k ∷ []) (search reading_of depth 12) tt))
+    (λ (k : 0ℚ <ℚ c). linear_le (z ∷ w ∷ c ∷ []) (lt h ∷ le_times j (≤ℚ_of_lt _ _ k) ∷ []) (search reading_of) tt)
+    (λ (k : c ≤ℚ 0ℚ). absurd (linear_false (s ∷ c ∷ d ∷ z ∷ []) (eq e ∷ eq f ∷ lt h ∷ le_times i k ∷ []) (search reading_of) tt))
     (lt_or_le_ℚ 0ℚ c)
 
 -- ---- a link without a state has nonzero slack
@@ -138,7 +114,7 @@ module _ (net : Network) (good : IsNetwork net) (labels slopes : List ℚ) (time
   IsOpen-cut whole lasts some short = record {
     no_start = λ i piece p same.
         let start : piece.start ≡ time +ℚ done = same ∙ time_is in
-        no_later piece.start time done whole start short (lasts.supply i piece p (linear_lt (piece.start ∷ time ∷ done ∷ []) (eq start ∷ lt some ∷ []) (search reading_of depth 12) tt));
+        no_later piece.start time done whole start short (lasts.supply i piece p (linear_lt (piece.start ∷ time ∷ done ∷ []) (eq start ∷ lt some ∷ []) (search reading_of) tt));
     apart = λ e link p none same.
         let now : number_at slacks e +ℚ done *ℚ change link ≡ 0ℚ = sym (slack-now e link p) ∙ slack_at net s.labels e link p ∙ same in
         let first : number_at slacks e ≢ 0ℚ = λ z. stateless-apart net labels pattern is e link p (ap (λ (l : Pattern). slice_get l e) (sym last_is) ∙ none) (sym (slack_at net labels e link p) ∙ z) in
@@ -154,7 +130,7 @@ module _ (net : Network) (good : IsNetwork net) (labels slopes : List ℚ) (time
   }
     where
       no_later : (x t d w : ℚ) → x ≡ t +ℚ d → d <ℚ w → t +ℚ w ≤ℚ x → ⊥
-      no_later x t d w e h k = linear_false (x ∷ t ∷ d ∷ w ∷ []) (eq e ∷ lt h ∷ le k ∷ []) (search reading_of depth 12) tt
+      no_later x t d w e h k = linear_false (x ∷ t ∷ d ∷ w ∷ []) (eq e ∷ lt h ∷ le k ∷ []) (search reading_of) tt
 
   after_while : (e : ℕ) (link : Link) (while : ℚ) → IsLink net e link → slack_after slacks slopes e link (done +ℚ while) ≡ slack_after slacks' slopes e link while
   after_while e link while p = on_line (number_at slacks e) (change link) done while (number_at slacks' e) (slack-now e link p)
@@ -162,7 +138,7 @@ module _ (net : Network) (good : IsNetwork net) (labels slopes : List ℚ) (time
   -- ---- the remainder of a phase: first the completed part, then another
   pub Lasts-pasted : (more : ℚ) → IsOpen net s → Lasts net slacks slopes time done → Lasts net slacks' slopes s.time more → Lasts net slacks slopes time (done +ℚ more)
   Lasts-pasted more opened made lasts = record {
-    not_negative = linear_le (done ∷ more ∷ []) (le done_nn ∷ le lasts.not_negative ∷ []) (search reading_of depth 12) tt;
+    not_negative = linear_le (done ∷ more ∷ []) (le done_nn ∷ le lasts.not_negative ∷ []) (search reading_of) tt;
     inactive = λ e link while p h w. ⊎_elim
         (λ (l : while <ℚ done). made.inactive e link while p h (w.0, ≤ℚ_of_lt _ _ l))
         (λ (l : done ≤ℚ while).
@@ -188,13 +164,13 @@ module _ (net : Network) (good : IsNetwork net) (labels slopes : List ℚ) (time
       other e link p apart same = opened.apart e link p (ap (λ (l : Pattern). slice_get l e) last_is ∙ stateless e link p apart) (sym (slack_at net s.labels e link p) ∙ same)
 
       later : (e : ℕ) (link : Link) (while : ℚ) → IsLink net e link → slack_after slacks slopes e link while ≡ slack_after slacks' slopes e link (while -ℚ done)
-      later e link while p = ap (λ (w : ℚ). slack_after slacks slopes e link w) (sym (beyond done while)) ∙ after_while e link (while -ℚ done) p
+      later e link while p = ap (λ (w : ℚ). slack_after slacks slopes e link w) (sym (back_and_forth done while)) ∙ after_while e link (while -ℚ done) p
 
       rest : (while : ℚ) → done ≤ℚ while → while ≤ℚ done +ℚ more → Within 0ℚ more (while -ℚ done)
-      rest while h k = (linear_le (done ∷ while ∷ []) (le h ∷ []) (search reading_of depth 12) tt, linear_le (done ∷ while ∷ more ∷ []) (le k ∷ []) (search reading_of depth 12) tt)
+      rest while h k = (linear_le (done ∷ while ∷ []) (le h ∷ []) (search reading_of) tt, linear_le (done ∷ while ∷ more ∷ []) (le k ∷ []) (search reading_of) tt)
 
       pasted : (t d m n x : ℚ) → n ≡ t +ℚ d → n +ℚ m ≤ℚ x → t +ℚ (d +ℚ m) ≤ℚ x
-      pasted t d m n x e h = linear_le (t ∷ d ∷ m ∷ n ∷ x ∷ []) (eq e ∷ le h ∷ []) (search reading_of depth 12) tt
+      pasted t d m n x e h = linear_le (t ∷ d ∷ m ∷ n ∷ x ∷ []) (eq e ∷ le h ∷ []) (search reading_of) tt
 
   -- A part of the remainder.
   pub Lasts-left : (more : ℚ) → 0ℚ ≤ℚ more → Lasts net slacks slopes time (done +ℚ more) → Lasts net slacks' slopes s.time more
@@ -206,16 +182,16 @@ module _ (net : Network) (good : IsNetwork net) (labels slopes : List ℚ) (time
   }
     where
       left : (t d m n x : ℚ) → n ≡ t +ℚ d → t +ℚ (d +ℚ m) ≤ℚ x → n +ℚ m ≤ℚ x
-      left t d m n x e h = linear_le (t ∷ d ∷ m ∷ n ∷ x ∷ []) (eq e ∷ le h ∷ []) (search reading_of depth 12) tt
+      left t d m n x e h = linear_le (t ∷ d ∷ m ∷ n ∷ x ∷ []) (eq e ∷ le h ∷ []) (search reading_of) tt
 
       sooner : (t d n x : ℚ) → n ≡ t +ℚ d → 0ℚ ≤ℚ d → n <ℚ x → t <ℚ x
-      sooner t d n x e h k = linear_lt (t ∷ d ∷ n ∷ x ∷ []) (eq e ∷ le h ∷ lt k ∷ []) (search reading_of depth 12) tt
+      sooner t d n x e h k = linear_lt (t ∷ d ∷ n ∷ x ∷ []) (eq e ∷ le h ∷ lt k ∷ []) (search reading_of) tt
 
       along : (while : ℚ) → Within 0ℚ more while → Within 0ℚ (done +ℚ more) (done +ℚ while)
-      along while w = (linear_le (done ∷ while ∷ []) (le done_nn ∷ le w.0 ∷ []) (search reading_of depth 12) tt, linear_le (done ∷ while ∷ more ∷ []) (le w.1 ∷ []) (search reading_of depth 12) tt)
+      along while w = (linear_le (done ∷ while ∷ []) (le done_nn ∷ le w.0 ∷ []) (search reading_of) tt, linear_le (done ∷ while ∷ more ∷ []) (le w.1 ∷ []) (search reading_of) tt)
 
       made : Within 0ℚ (done +ℚ more) done
-      made = (done_nn, linear_le (done ∷ more ∷ []) (le nn ∷ []) (search reading_of depth 12) tt)
+      made = (done_nn, linear_le (done ∷ more ∷ []) (le nn ∷ []) (search reading_of) tt)
 
       by_side_below : (e : ℕ) (link : Link) (while : ℚ) → IsLink net e link → number_at slacks' e <ℚ 0ℚ → Within 0ℚ more while → slack_after slacks slopes e link (done +ℚ while) ≤ℚ 0ℚ
       by_side_below e link while p h w = ⊎_elim
@@ -244,13 +220,13 @@ module _ (net : Network) (good : IsNetwork net) (labels slopes : List ℚ) (time
       too_long done more.0 more.1 (extension.greatest (done +ℚ more.0) (Lasts-pasted more.0 opened extension.lasts more.2))
     where
       too_long : (d m : ℚ) → 0ℚ <ℚ m → d +ℚ m ≤ℚ d → ⊥
-      too_long d m h k = linear_false (d ∷ m ∷ []) (lt h ∷ le k ∷ []) (search reading_of depth 12) tt
+      too_long d m h k = linear_false (d ∷ m ∷ []) (lt h ∷ le k ∷ []) (search reading_of) tt
 
   -- The remainder of the extension length.
   pub IsExtension-left : (whole : ℚ) → IsOpen net s → done ≤ℚ whole → IsExtension net slacks slopes time whole → IsExtension net slacks' slopes s.time (whole -ℚ done)
   IsExtension-left whole opened short extension = record {
-    lasts = Lasts-left (whole -ℚ done) (linear_le (done ∷ whole ∷ []) (le short ∷ []) (search reading_of depth 12) tt)
-        (subst (λ (w : ℚ). Lasts net slacks slopes time w) (sym (beyond done whole)) extension.lasts);
+    lasts = Lasts-left (whole -ℚ done) (linear_le (done ∷ whole ∷ []) (le short ∷ []) (search reading_of) tt)
+        (subst (λ (w : ℚ). Lasts net slacks slopes time w) (sym (back_and_forth done whole)) extension.lasts);
     greatest = λ other lasts. most done other whole (extension.greatest (done +ℚ other) (Lasts-pasted other opened made lasts));
   }
     where
@@ -263,7 +239,7 @@ module _ (net : Network) (good : IsNetwork net) (labels slopes : List ℚ) (time
       }
         where
           sooner : (t d w x : ℚ) → d ≤ℚ w → t +ℚ w ≤ℚ x → t +ℚ d ≤ℚ x
-          sooner t d w x h k = linear_le (t ∷ d ∷ w ∷ x ∷ []) (le h ∷ le k ∷ []) (search reading_of depth 12) tt
+          sooner t d w x h k = linear_le (t ∷ d ∷ w ∷ x ∷ []) (le h ∷ le k ∷ []) (search reading_of) tt
 
       most : (d o w : ℚ) → d +ℚ o ≤ℚ w → o ≤ℚ w -ℚ d
-      most d o w h = linear_le (d ∷ o ∷ w ∷ []) (le h ∷ []) (search reading_of depth 12) tt
+      most d o w h = linear_le (d ∷ o ∷ w ∷ []) (le h ∷ []) (search reading_of) tt

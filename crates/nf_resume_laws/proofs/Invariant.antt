@@ -1,18 +1,18 @@
 -- Any equilibrium satisfies the invariant of phases up to the departure that it reached.
-use Rattle.std.proofs.Common.{◌≡◌, ℕ, ◌<◌, List, [], ◌∷◌, ⊎_elim, Option, Some, None, sym, ap, subst, refl, ◌∙◌}
+use Rattle.std.proofs.Common.{◌≡◌, ℕ, ◌<◌, [], ◌∷◌, ⊎_elim, Option, Some, None, sym, ap, subst, refl, ◌∙◌}
 use Rattle.nf_rational.specs.Rational.{ℚ}
 use Rattle.nf_rational.specs.Operations.{0ℚ, ◌+ℚ◌, ◌-ℚ◌, ◌*ℚ◌, ◌/ℚ◌}
 use Rattle.nf_rational.specs.Order.{◌≤ℚ◌, ◌<ℚ◌, max_ℚ}
 use Rattle.nf_rational_laws.proofs.Polynomial.{reading_of}
-use Rattle.nf_rational_laws.proofs.Order.{≤ℚ_of_lt, ≤ℚ_antisymm, lt_or_le_ℚ, not_both_ℚ}
+use Rattle.nf_rational_laws.proofs.Order.{≤ℚ_of_lt, ≤ℚ_antisymm, lt_or_le_ℚ, not_both_ℚ, less_nn}
 use Rattle.nf_rational_laws.proofs.Linear.{le, lt, eq, eq_times, linear_le, linear_lt, linear_eq}
-use Rattle.nf_model.specs.Curve.{Within, value, IsCurve}
+use Rattle.nf_model.specs.Curve.{Within}
 use Rattle.nf_model.specs.Network.{Link, Network, IsNetwork, IsLink, sum_in, sum_out, supply}
 use Rattle.nf_model.specs.Queue.{IsQueue, IsExit, IsOutflow, waiting}
 use Rattle.nf_model.specs.Equilibrium.{Flow, label, inflow, outflow, queue, points_at, Balances, Equilibrium}
 use Rattle.nf_model_laws.specs.Capacity.{IsPositive}
 use Rattle.nf_model_laws.proofs.Affine.{nn-quotient, quotient-times, same_from_times}
-use Rattle.nf_model_laws.proofs.Curves.{value-takes, value-first}
+use Rattle.nf_model_laws.proofs.Curves.{value-takes_between}
 use Rattle.nf_model_laws.proofs.Queues.{IsQueue-none, IsQueue-nn, IsQueue-unique, IsQueue-from_IsOutflow, IsOutflow-unique, IsExit-after}
 use Rattle.nf_model_laws.proofs.Earliest.{IsPositive-link}
 use Rattle.nf_model_laws.proofs.Sums.{sum_in-same, sum_out-same}
@@ -23,54 +23,41 @@ use Rattle.nf_phase_laws.proofs.Holds.{sent-is, queue_early, outflow_early}
 use Rattle.nf_resume_laws.proofs.Served.{outflow-entered, outflow-waits}
 use Rattle.nf_resume_laws.proofs.Printed.{rises-link, starts-link, first, labels-at, source-at, label-nn, label-order, not_undercut, comes_out-at, none-before}
 use Rattle.nf_rational_laws.proofs.Chains.{≤ℚ_refl, ≤ℚ_trans}
+use Rattle.nf_rational_laws.proofs.Facts.{in_time}
 
 -- ---- over plain numbers: a and b the labels at the tail and the head, r the transit time, x the exit, q the queue, c the capacity
 no_slack : (a b r x : ℚ) → x ≡ a +ℚ r +ℚ 0ℚ → b ≤ℚ x → b -ℚ (a +ℚ r) ≤ℚ 0ℚ
-no_slack a b r x e h = linear_le (a ∷ b ∷ r ∷ x ∷ []) (eq e ∷ le h ∷ []) (search reading_of depth 12) tt
+no_slack a b r x e h = linear_le (a ∷ b ∷ r ∷ x ∷ []) (eq e ∷ le h ∷ []) (search reading_of) tt
 
 slack_nn : (a b r : ℚ) → a +ℚ r ≤ℚ b → 0ℚ ≤ℚ b -ℚ (a +ℚ r)
-slack_nn a b r h = linear_le (a ∷ b ∷ r ∷ []) (le h ∷ []) (search reading_of depth 12) tt
+slack_nn a b r h = linear_le (a ∷ b ∷ r ∷ []) (le h ∷ []) (search reading_of) tt
 
 wait_is : (a b r w : ℚ) → b ≡ a +ℚ r +ℚ w → b -ℚ (a +ℚ r) ≡ w
-wait_is a b r w e = linear_eq (a ∷ b ∷ r ∷ w ∷ []) (eq e ∷ []) (search reading_of depth 12) tt tt
+wait_is a b r w e = linear_eq (a ∷ b ∷ r ∷ w ∷ []) (eq e ∷ []) (search reading_of) tt tt
 
 none_waits : (c m : ℚ) → m ≡ 0ℚ → 0ℚ ≡ c *ℚ m
-none_waits c m e = linear_eq (c ∷ m ∷ []) (eq_times c e ∷ []) (search reading_of depth 12) tt tt
+none_waits c m e = linear_eq (c ∷ m ∷ []) (eq_times c e ∷ []) (search reading_of) tt tt
 
 all_waits : (c q w m : ℚ) → w *ℚ c ≡ q → m ≡ w → q ≡ c *ℚ m
-all_waits c q w m e f = linear_eq (c ∷ q ∷ w ∷ m ∷ []) (eq e ∷ eq_times c f ∷ []) (search reading_of depth 12) tt tt
+all_waits c q w m e f = linear_eq (c ∷ q ∷ w ∷ m ∷ []) (eq e ∷ eq_times c f ∷ []) (search reading_of) tt tt
 
 no_wait : (c w q : ℚ) → w *ℚ c ≡ q → q ≡ 0ℚ → c *ℚ w ≡ c *ℚ 0ℚ
-no_wait c w q e f = linear_eq (c ∷ w ∷ q ∷ []) (eq e ∷ eq f ∷ []) (search reading_of depth 12) tt tt
-
-in_time : (a b r : ℚ) → b -ℚ (a +ℚ r) ≤ℚ 0ℚ → b -ℚ r ≤ℚ a
-in_time a b r h = linear_le (a ∷ b ∷ r ∷ []) (le h ∷ []) (search reading_of depth 12) tt
-
-since' : (r t : ℚ) → r ≤ℚ t → 0ℚ ≤ℚ t -ℚ r
-since' r t h = linear_le (r ∷ t ∷ []) (le h ∷ []) (search reading_of depth 12) tt
+no_wait c w q e f = linear_eq (c ∷ w ∷ q ∷ []) (eq e ∷ eq f ∷ []) (search reading_of) tt tt
 
 back_again : (b r : ℚ) → b ≡ (b -ℚ r) +ℚ r
-back_again b r = linear_eq (b ∷ r ∷ []) [] (search reading_of depth 12) tt tt
+back_again b r = linear_eq (b ∷ r ∷ []) [] (search reading_of) tt tt
 
 all_but_none : (f g : ℚ) → f ≡ g → f -ℚ g ≡ 0ℚ
-all_but_none f g e = linear_eq (f ∷ g ∷ []) (eq e ∷ []) (search reading_of depth 12) tt tt
+all_but_none f g e = linear_eq (f ∷ g ∷ []) (eq e ∷ []) (search reading_of) tt tt
 
 less_none : (s t : ℚ) → s +ℚ 0ℚ ≡ t +ℚ 0ℚ → s ≡ t
-less_none s t e = linear_eq (s ∷ t ∷ []) (eq e ∷ []) (search reading_of depth 12) tt tt
+less_none s t e = linear_eq (s ∷ t ∷ []) (eq e ∷ []) (search reading_of) tt tt
 
 more_in : (s u t : ℚ) → s +ℚ u ≡ t +ℚ 0ℚ → s +ℚ u ≡ t
-more_in s u t e = linear_eq (s ∷ u ∷ t ∷ []) (eq e ∷ []) (search reading_of depth 12) tt tt
+more_in s u t e = linear_eq (s ∷ u ∷ t ∷ []) (eq e ∷ []) (search reading_of) tt tt
 
 more_out : (s u t : ℚ) → s +ℚ 0ℚ ≡ t +ℚ u → s ≡ t +ℚ u
-more_out s u t e = linear_eq (s ∷ u ∷ t ∷ []) (eq e ∷ []) (search reading_of depth 12) tt tt
-
--- A curve attains each value between two of its values.
-takes : (points : List (ℚ × ℚ)) (last y : ℚ) → IsCurve points → 0ℚ ≤ℚ last → value points 0ℚ ≤ℚ y → y ≤ℚ value points last → (u : ℚ) × Within 0ℚ last u × (value points u ≡ y)
-takes [] last y c h i j = absurd c
-takes (p ∷ rest) last y c h i j =
-    let w : (u : ℚ) × (p.0 ≤ℚ u) × (u ≤ℚ last) × (value (p ∷ rest) u ≡ y) = value-takes p rest last y c.1 (subst (λ (z : ℚ). z ≤ℚ last) (sym c.0) h)
-    (subst (λ (z : ℚ). z ≤ℚ y) (ap (value (p ∷ rest)) (sym c.0) ∙ value-first p rest c.1) i) j in
-    (w.0, (subst (λ (z : ℚ). z ≤ℚ w.0) c.0 w.1, w.2), w.3)
+more_out s u t e = linear_eq (s ∷ u ∷ t ∷ []) (eq e ∷ []) (search reading_of) tt tt
 
 module _ (net : Network) (flow : Flow) (good : IsNetwork net) (is : Equilibrium net flow) where
   abbrev F : ℕ → ℚ → ℚ
@@ -159,7 +146,7 @@ module _ (net : Network) (flow : Flow) (good : IsNetwork net) (is : Equilibrium 
       (subst (λ (z : ℚ). z ≤ℚ F e time) (starts-link net flow good is e link p) (rises-link net flow good is e link p 0ℚ time (≤ℚ_refl 0ℚ) h)))
       (λ (k : link.transit ≤ℚ l link.head departure). ≤ℚ_trans _ _ _
       (outflow-entered link.transit link.capacity (F e) (positive e link p) (rises-link net flow good is e link p) (starts-link net flow good is e link p) (l link.head departure) _ k (out e link departure p w))
-      (rises-link net flow good is e link p (l link.head departure -ℚ link.transit) time (since' link.transit (l link.head departure) k) i))
+      (rises-link net flow good is e link p (l link.head departure -ℚ link.transit) time (less_nn link.transit (l link.head departure) k) i))
       (lt_or_le_ℚ (l link.head departure) link.transit))
 
   idle_queue-is : (e : ℕ) (link : Link) (departure : ℚ) → IsLink net e link → Within 0ℚ flow.reached departure → link_slack l link departure ≤ℚ 0ℚ
@@ -181,7 +168,7 @@ module _ (net : Network) (flow : Flow) (good : IsNetwork net) (is : Equilibrium 
     begun = is.reached;
     source = source-at net flow good is;
     label_rises = label-order net flow good is;
-    label_takes = λ v time h i j. takes (points_at flow.labels v) flow.reached time (is.shape.labels.each v h) is.reached i j;
+    label_takes = λ v time h i j. value-takes_between (points_at flow.labels v) flow.reached time (is.shape.labels.each v h) is.reached i j;
     label_not_negative = λ v h. label-nn net flow good is v 0ℚ h (first net flow good is);
     amount_rises = is.nash.rises;
     amount_starts = is.nash.starts;
@@ -202,7 +189,7 @@ module _ (net : Network) (flow : Flow) (good : IsNetwork net) (is : Equilibrium 
   }
     where
       along : (a b c d : ℚ) → a ≡ c → b ≡ d → a <ℚ b → c <ℚ d
-      along a b c d e f h = linear_lt (a ∷ b ∷ c ∷ d ∷ []) (eq e ∷ eq f ∷ lt h ∷ []) (search reading_of depth 12) tt
+      along a b c d e f h = linear_lt (a ∷ b ∷ c ∷ d ∷ []) (eq e ∷ eq f ∷ lt h ∷ []) (search reading_of) tt
 
   -- ---- the equilibrium describes its links
   pub DescribesLinks-equilibrium : DescribesLinks net F l (outflow flow) (queue flow) flow.reached

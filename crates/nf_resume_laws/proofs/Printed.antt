@@ -31,6 +31,7 @@ use Rattle.nf_resume_laws.proofs.Sent.{BalancedAt, into, into-is, out-balances, 
 use Rattle.nf_resume_laws.proofs.Repeating.{Repeats, none_by_repeating}
 use Rattle.nf_rational_laws.proofs.Chains.{≤ℚ_refl, ≤ℚ_trans}
 use Rattle.nf_rational_laws.proofs.Extremes.{min_left, min_right, min_is_left, min_keeps}
+use Rattle.nf_rational_laws.proofs.Facts.{first_of_sum}
 
 -- The head of a link.
 abbrev pub head_or : Option Link → ℕ
@@ -80,11 +81,8 @@ module _ (net : Network) (flow : Flow) (good : IsNetwork net) (is : Equilibrium 
   pub exit-at : (e : ℕ) (link : Link) (time : ℚ) → IsLink net e link → 0ℚ ≤ℚ time → (exit : ℚ) × IsExit link.transit link.capacity (F e) time exit
   exit-at e link time p h = HasExit-curve link.transit link.capacity _ time (is.shape.inflows.each e (slice_get_within net.links e link p)) h
 
-  forward : (t r x : ℚ) → 0ℚ ≤ℚ r → t +ℚ r ≤ℚ x → t ≤ℚ x
-  forward t r x h k = linear_le (t ∷ r ∷ x ∷ []) (le h ∷ le k ∷ []) (search reading_of depth 12) tt
-
   exit-forward : (e : ℕ) (link : Link) (time exit : ℚ) → IsLink net e link → IsExit link.transit link.capacity (F e) time exit → time ≤ℚ exit
-  exit-forward e link time exit p x = forward time link.transit exit (good.transits e link p) (IsExit-after link.transit link.capacity (F e) time exit (IsPositive-link net e link good p) x)
+  exit-forward e link time exit p x = first_of_sum time link.transit exit (good.transits e link p) (IsExit-after link.transit link.capacity (F e) time exit (IsPositive-link net e link good p) x)
 
   -- No label is later than the exit of the inflow at the tail's label; this includes the source's label.
   pub not_undercut : (e : ℕ) (link : Link) (departure : ℚ) → IsLink net e link → Within 0ℚ flow.reached departure
@@ -208,8 +206,8 @@ module _ (net : Network) (flow : Flow) (good : IsNetwork net) (is : Equilibrium 
       (λ (k : link.transit ≤ℚ soon time link.head). inr (
         ≤ℚ_trans _ _ _ k (min_left time (l link.head 0ℚ)),
         ≤ℚ_trans _ _ _ (outflow-entered link.transit link.capacity (F e) (IsPositive-link net e link good p) (rises-link e link p) (starts-link e link p) (soon time link.head) (F e time) k out)
-            (rises-link e link p (soon time link.head -ℚ link.transit) (time -ℚ link.transit) (linear_le (soon time link.head ∷ link.transit ∷ []) (le k ∷ []) (search reading_of depth 12) tt)
-            (linear_le (soon time link.head ∷ time ∷ link.transit ∷ []) (le (min_left time (l link.head 0ℚ)) ∷ []) (search reading_of depth 12) tt)),
+            (rises-link e link p (soon time link.head -ℚ link.transit) (time -ℚ link.transit) (linear_le (soon time link.head ∷ link.transit ∷ []) (le k ∷ []) (search reading_of) tt)
+            (linear_le (soon time link.head ∷ time ∷ link.transit ∷ []) (le (min_left time (l link.head 0ℚ)) ∷ []) (search reading_of) tt)),
       ))
       (lt_or_le_ℚ (soon time link.head) link.transit)
 
@@ -251,7 +249,7 @@ module _ (net : Network) (flow : Flow) (good : IsNetwork net) (is : Equilibrium 
         (lt_or_le_ℚ 0ℚ link.transit)
 
     further : (q r s : ℚ) → q ≡ r → r ≤ℚ 0ℚ → s ≤ℚ 0ℚ → q +ℚ s ≤ℚ 0ℚ
-    further q r s e h k = linear_le (q ∷ r ∷ s ∷ []) (eq e ∷ le h ∷ le k ∷ []) (search reading_of depth 12) tt
+    further q r s e h k = linear_le (q ∷ r ∷ s ∷ []) (eq e ∷ le h ∷ le k ∷ []) (search reading_of) tt
 
     abbrev Back : ℕ → Type 0
     Back v = ⊥ ⊎ ((u : ℕ) × (u < net.nodes) × Sends u × ((w : ℕ) → Way v w → Way u w) × (Way v u → ⊥))
@@ -278,7 +276,7 @@ module _ (net : Network) (flow : Flow) (good : IsNetwork net) (is : Equilibrium 
         (sum_out-each net.links x v x-nn e link p at) (subst (λ (z : ℚ). 0ℚ <ℚ z) (sym (x-is e link p)) some)
       where
         enough : (i o a b y z : ℚ) → i +ℚ a ≡ o +ℚ b → a ≡ 0ℚ → b ≡ 0ℚ → o ≡ y → z ≤ℚ y → 0ℚ <ℚ z → 0ℚ <ℚ i
-        enough i o a b y z e f g h k j = linear_lt (i ∷ o ∷ a ∷ b ∷ y ∷ z ∷ []) (eq e ∷ eq f ∷ eq g ∷ eq h ∷ le k ∷ lt j ∷ []) (search reading_of depth 12) tt
+        enough i o a b y z e f g h k j = linear_lt (i ∷ o ∷ a ∷ b ∷ y ∷ z ∷ []) (eq e ∷ eq f ∷ eq g ∷ eq h ∷ le k ∷ lt j ∷ []) (search reading_of) tt
 
     back : (v : ℕ) → v < net.nodes → Sends v → Back v
     back v h sends =

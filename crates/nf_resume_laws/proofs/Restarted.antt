@@ -26,8 +26,9 @@ use Rattle.nf_resume_laws.proofs.Printed.{label-nn, rises-link}
 use Rattle.nf_resume_laws.proofs.Invariant.{HoldsUpTo-equilibrium, DescribesLinks-equilibrium}
 use Rattle.nf_resume_laws.proofs.Same.{AgreeUpTo, HoldsUpTo-same, DescribesLinks-same}
 use Rattle.nf_resume_laws.proofs.CutShort.{IsShortCut}
-use Rattle.nf_resume_laws.proofs.CutFlow.{entry_within, entry_of, points_at-is, value_at_end-is, IsCutFlow, cut_flow-is}
+use Rattle.nf_resume_laws.proofs.CutFlow.{points_at-is, value_at_end-is, IsCutFlow, cut_flow-is}
 use Rattle.nf_rational_laws.proofs.Chains.{≤ℚ_refl, ≤ℚ_trans}
+use Rattle.nf_rational_laws.proofs.Entries.{entry, slice_get-image}
 
 -- A cut curve never falls if the curve never falls.
 rises-cut : (points short : List Point) (last : ℚ) → 0ℚ ≤ℚ last → IsShortCut points last short → NeverFalls (value points) → NeverFalls (value short)
@@ -109,8 +110,8 @@ module _ (net : Network) (old new : Flow) (good : IsNetwork net) (is : Equilibri
 
   labels-are : LabelsAre net (label new) old.reached (map value_at_end new.labels)
   labels-are v h =
-      let x : (x : List Point) × (slice_get new.labels v ≡ Some x) = entry_within new.labels v (let c = cut.label_count in omega arith) in
-      sym (ap (λ (o : Option ℚ). unwrap_or o 0ℚ) (entry_of value_at_end new.labels v x.0 x.1) ∙ ap value_at_end (sym (points_at-is new.labels v x.0 x.1))
+      let x : (x : List Point) × (slice_get new.labels v ≡ Some x) = entry new.labels v (let c = cut.label_count in omega arith) in
+      sym (ap (λ (o : Option ℚ). unwrap_or o 0ℚ) (slice_get-image value_at_end new.labels v x.0 x.1) ∙ ap value_at_end (sym (points_at-is new.labels v x.0 x.1))
       ∙ value_at_end-is (points_at new.labels v) (old.reached, value (points_at new.labels v) old.reached) (cut.labels v h).ends)
 
   ends-at : (points : List Point) (a b : ℚ) → a ≡ b → LastPoint points (a, value points a) → LastPoint points (b, value points b)

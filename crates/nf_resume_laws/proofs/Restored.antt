@@ -1,9 +1,11 @@
 -- The values that a run stores, for a run restored from a cut flow.
 use Rattle.std.proofs.Common.{◌≡◌, ℕ, zero, suc, List, [], ◌∷◌, length, Option, Some, None, slice_get, map, sym, ap, subst, refl, ◌∙◌, arith}
 use Rattle.std.specs.Prelude.{Result, Ok}
+use Rattle.std.proofs.lemmas.Option.{same_Some}
 use Rattle.nf_rational.specs.Rational.{ℚ}
 use Rattle.nf_frac_def.specs.Passing.{Passing}
 use Rattle.nf_frac_def.specs.Checked.{each}
+use Rattle.nf_frac_def.proofs.Each.{each_length}
 use Rattle.nf_model.specs.Curve.{Point}
 use Rattle.nf_model.specs.Network.{Network, IsNetwork}
 use Rattle.nf_model.specs.Pattern.{Pattern}
@@ -17,14 +19,12 @@ use Rattle.nf_phase_laws.proofs.CurveRun.{Grown}
 use Rattle.nf_phase_laws.proofs.Points.{EndsWithSlope, LastSlope}
 use Rattle.nf_phase_laws.proofs.WellRun.{WellRun}
 use Rattle.nf_resume_def.specs.Restoring.{value_at_end, link_curves_of, standing_of, last_slope, growing}
-use Rattle.nf_resume_laws.proofs.CutFlow.{each_length, IsCutFlow}
+use Rattle.nf_resume_laws.proofs.CutFlow.{IsCutFlow}
 use Rattle.nf_resume_laws.proofs.Restarted.{Grown-cut}
 use Rattle.nf_rational_laws.proofs.Results.{same_Ok}
+use Rattle.nf_rational_laws.proofs.Entries.{slice_get-image}
 
 -- ---- lists
-same_some : {A : Type 0} (x y : A) → ◌≡◌ {A = Option A} (Some x) (Some y) → x ≡ y
-same_some x y e = cc
-
 pub each_back : {A B E : Type 0} (f : A → Result B E) (xs : List A) (ys : List B) (i : ℕ) (y : B) → each f xs ≡ Ok ys → slice_get ys i ≡ Some y → (x : A) × (f x ≡ Ok y)
 each_back f [] ys i y e h = absurd (none_there ys i y (sym (same_Ok _ _ e)) h)
   where
@@ -33,7 +33,7 @@ each_back f [] ys i y e h = absurd (none_there ys i y (sym (same_Ok _ _ e)) h)
 each_back {B = B} f (w ∷ xs) ys zero y e h =
     let k = then_ok (f w) _ ys e in
     let l = then_ok (each f xs) _ ys k.next in
-    (w, k.first ∙ ap (λ (z : B). Ok z) (same_some k.between y (ap (λ (z : List B). slice_get z 0) (same_Ok _ _ l.next) ∙ h)))
+    (w, k.first ∙ ap (λ (z : B). Ok z) (same_Some k.between y (ap (λ (z : List B). slice_get z 0) (same_Ok _ _ l.next) ∙ h)))
 each_back {B = B} f (w ∷ xs) ys (suc i) y e h =
     let k = then_ok (f w) _ ys e in
     let l = then_ok (each f xs) _ ys k.next in
@@ -79,9 +79,6 @@ links-length [] o q h k = refl
 links-length (x ∷ i) [] q h k = absurd (omega arith)
 links-length (x ∷ i) (y ∷ o) [] h k = absurd (omega arith)
 links-length (x ∷ i) (y ∷ o) (z ∷ q) h k = ap suc (links-length i o q (omega arith) (omega arith))
-
-entry_of : {A B : Type 0} (f : A → B) (xs : List A) (e : ℕ) (x : A) → slice_get xs e ≡ Some x → slice_get (map f xs) e ≡ Some (f x)
-entry_of f xs e x h = Rattle.nf_resume_laws.proofs.CutFlow.entry_of f xs e x h
 
 -- ---- the slope of the last piece
 module _ (passes : Passing) where
@@ -139,10 +136,10 @@ module _ (passes : Passing) where
       label_count = each_length (growing passes) new.labels label_curves by_labels ∙ cut.label_count;
       link_count = links-length new.inflows new.outflows queues outflow_count queue_count ∙ cut.inflow_count;
       label_slopes = λ v c h. (let x = each_back (growing passes) new.labels label_curves v c by_labels h in growing-slope x.0 c x.1);
-      inflow_rates = λ e c h. cut.inflow_rates e c.inflow (ap (λ (l : List Trace). slice_get l e) (sym (links-inflow new.inflows new.outflows queues outflow_count queue_count)) ∙ entry_of (λ (c : LinkCurves). c.inflow) s.link_curves e c h);
-      outflow_rates = λ e c h. cut.outflow_rates e c.outflow (ap (λ (l : List Trace). slice_get l e) (sym (links-outflow new.inflows new.outflows queues outflow_count queue_count)) ∙ entry_of (λ (c : LinkCurves). c.outflow) s.link_curves e c h);
+      inflow_rates = λ e c h. cut.inflow_rates e c.inflow (ap (λ (l : List Trace). slice_get l e) (sym (links-inflow new.inflows new.outflows queues outflow_count queue_count)) ∙ slice_get-image (λ (c : LinkCurves). c.inflow) s.link_curves e c h);
+      outflow_rates = λ e c h. cut.outflow_rates e c.outflow (ap (λ (l : List Trace). slice_get l e) (sym (links-outflow new.inflows new.outflows queues outflow_count queue_count)) ∙ slice_get-image (λ (c : LinkCurves). c.outflow) s.link_curves e c h);
       queue_slopes = λ e c h.
           (let x = each_back (growing passes) new.queues queues e c.queue by_queues
-          (ap (λ (l : List GrowingCurve). slice_get l e) (sym (links-queue new.inflows new.outflows queues outflow_count queue_count)) ∙ entry_of (λ (c : LinkCurves). c.queue) s.link_curves e c h) in
+          (ap (λ (l : List GrowingCurve). slice_get l e) (sym (links-queue new.inflows new.outflows queues outflow_count queue_count)) ∙ slice_get-image (λ (c : LinkCurves). c.queue) s.link_curves e c h) in
           growing-slope x.0 c.queue x.1);
     }

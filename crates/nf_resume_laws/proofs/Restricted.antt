@@ -1,12 +1,14 @@
 -- After an interrupted phase, its pattern restricted to the links that need a state is a listed pattern, with the same unique solution.
 use Rattle.std.proofs.Common.{◌≡◌, ℕ, List, [], ◌∷◌, length, ◌⊎◌, inl, inr, ⊎_elim, Bool, true, false, Option, Some, None, slice_get, unwrap_or, sym, ap, subst, refl, ◌∙◌, arith}
-use Rattle.std.proofs.lemmas.Option.{slice_get_within}
+use Rattle.std.proofs.lemmas.Option.{slice_get_within, same_Some}
 use Rattle.nf_rational.specs.Rational.{ℚ}
 use Rattle.nf_rational.specs.Operations.{0ℚ, ◌+ℚ◌, ◌-ℚ◌, ◌*ℚ◌}
 use Rattle.nf_rational.specs.Order.{◌≤ℚ◌, ◌<ℚ◌}
 use Rattle.nf_rational_laws.proofs.Polynomial.{reading_of}
-use Rattle.nf_rational_laws.proofs.Order.{≤ℚ_of_lt, ≤ℚ_of_same, ≤ℚ_antisymm, lt_or_le_ℚ, not_both_ℚ}
-use Rattle.nf_rational_laws.proofs.Linear.{le, eq, eq_times, le_times, linear_le, linear_eq}
+use Rattle.nf_rational_laws.proofs.Order.{≤ℚ_of_lt, ≤ℚ_of_same, ≤ℚ_antisymm, lt_or_le_ℚ, not_both_ℚ, less_nn}
+use Rattle.nf_rational_laws.proofs.Linear.{eq, eq_times, le_times, linear_le, linear_eq}
+use Rattle.nf_rational_laws.proofs.Facts.{gap_np}
+use Rattle.nf_rational_laws.proofs.Entries.{entry}
 use Rattle.nf_model.specs.declared.State.{State}
 use Rattle.nf_model.specs.declared.State.TheVariants.{Tight, Full, Zero}
 use Rattle.nf_model.specs.Entries.{number_at, Has}
@@ -17,7 +19,6 @@ use Rattle.nf_model.specs.Pattern.{Pattern, HasState, NeedsState, IsTrail, IsLis
 use Rattle.nf_model_laws.proofs.Networks.{by_link, hop_at}
 use Rattle.nf_model_laws.proofs.Slacks.{active_of_slack, slack_of_active, resetting_of_slack, slack_of_resetting}
 use Rattle.nf_thin_def.specs.CurveList.{is_filled}
-use Rattle.nf_resume_laws.proofs.CutFlow.{entry_within}
 
 -- ---- the state of a link in the remainder: o before and b after; r and t say whether it is resetting before and after
 pub data GoesOn (r t : Bool) : Option State → Option State → Type 0 where
@@ -82,9 +83,6 @@ module _ (net : Network) (labels : List ℚ) (e : ℕ) (link : Link) (p : IsLink
   zero-needs n = ≤ℚ_antisymm _ _ (⊎_elim (λ (h : 0ℚ <ℚ slack labels (hop_of link)). absurd (n.1 (resetting_of_slack net labels e link p h))) (λ (h : slack labels (hop_of link) ≤ℚ 0ℚ). h) (lt_or_le_ℚ 0ℚ (slack labels (hop_of link))))
       (slack_of_active net labels e link p n.0)
 
-same_state : (a b : Option State) → Some a ≡ Some b → a ≡ b
-same_state a b e = cc
-
 -- ---- a phase: the labels at first and at the interruption
 module _ (net : Network) (good : IsNetwork net) (labels labels' slopes flows : List ℚ) (rate done : ℚ) (pattern base : Pattern) (some : 0ℚ <ℚ done)
     (moves : (e : ℕ) (link : Link) → IsLink net e link → slack labels' (hop_of link) ≡ slack labels (hop_of link) +ℚ done *ℚ (number_at slopes link.head -ℚ number_at slopes link.tail))
@@ -101,22 +99,16 @@ module _ (net : Network) (good : IsNetwork net) (labels labels' slopes flows : L
 
   -- The side to which a link with slack 0 moves, by its state.
   flat : (z c d y : ℚ) → y ≡ z +ℚ d *ℚ c → z ≡ 0ℚ → c ≡ 0ℚ → y ≡ 0ℚ
-  flat z c d y e f g = linear_eq (z ∷ c ∷ d ∷ y ∷ []) (eq e ∷ eq f ∷ eq_times d g ∷ []) (search reading_of depth 12) tt tt
+  flat z c d y e f g = linear_eq (z ∷ c ∷ d ∷ y ∷ []) (eq e ∷ eq f ∷ eq_times d g ∷ []) (search reading_of) tt tt
 
   up : (z c d y : ℚ) → y ≡ z +ℚ d *ℚ c → z ≡ 0ℚ → 0ℚ ≤ℚ c → 0ℚ <ℚ d → 0ℚ ≤ℚ y
-  up z c d y e f g h = let n : 0ℚ ≤ℚ d = ≤ℚ_of_lt _ _ h in linear_le (z ∷ c ∷ d ∷ y ∷ []) (eq e ∷ eq f ∷ le_times n g ∷ []) (search reading_of depth 12) tt
+  up z c d y e f g h = let n : 0ℚ ≤ℚ d = ≤ℚ_of_lt _ _ h in linear_le (z ∷ c ∷ d ∷ y ∷ []) (eq e ∷ eq f ∷ le_times n g ∷ []) (search reading_of) tt
 
   down : (z c d y : ℚ) → y ≡ z +ℚ d *ℚ c → z ≡ 0ℚ → c ≤ℚ 0ℚ → 0ℚ <ℚ d → y ≤ℚ 0ℚ
-  down z c d y e f g h = let n : 0ℚ ≤ℚ d = ≤ℚ_of_lt _ _ h in linear_le (z ∷ c ∷ d ∷ y ∷ []) (eq e ∷ eq f ∷ le_times n g ∷ []) (search reading_of depth 12) tt
-
-  nn_gap : (a b : ℚ) → a ≤ℚ b → 0ℚ ≤ℚ b -ℚ a
-  nn_gap a b h = linear_le (a ∷ b ∷ []) (le h ∷ []) (search reading_of depth 12) tt
-
-  np_gap : (a b : ℚ) → b ≤ℚ a → b -ℚ a ≤ℚ 0ℚ
-  np_gap a b h = linear_le (a ∷ b ∷ []) (le h ∷ []) (search reading_of depth 12) tt
+  down z c d y e f g h = let n : 0ℚ ≤ℚ d = ≤ℚ_of_lt _ _ h in linear_le (z ∷ c ∷ d ∷ y ∷ []) (eq e ∷ eq f ∷ le_times n g ∷ []) (search reading_of) tt
 
   no_gap : (a b : ℚ) → b ≡ a → b -ℚ a ≡ 0ℚ
-  no_gap a b e = linear_eq (a ∷ b ∷ []) (eq e ∷ []) (search reading_of depth 12) tt tt
+  no_gap a b e = linear_eq (a ∷ b ∷ []) (eq e ∷ []) (search reading_of) tt tt
 
   -- A link without a state at the interruption: the base has none there.
   no_state : (e : ℕ) (b : Option State) → slice_get base e ≡ Some b → (NeedsState (sets_at net labels') e → ⊥) → b ≡ None
@@ -143,19 +135,19 @@ module _ (net : Network) (good : IsNetwork net) (labels labels' slopes flows : L
         (above state has k))
         (λ (k : slack labels' (hop_of link) ≤ℚ 0ℚ).
         subst (λ (b : Option State). GoesOn (before e) (after e) (Some state) b)
-        (same_state (Some state) b (sym (is_base.kept e state (needs-zero net labels' e link p (≤ℚ_antisymm _ _ k h)) has) ∙ at)) (keeps state (resets-low net labels e link p (≤ℚ_of_same _ _ first)) (resets-low net labels' e link p k)))
+        (same_Some (Some state) b (sym (is_base.kept e state (needs-zero net labels' e link p (≤ℚ_antisymm _ _ k h)) has) ∙ at)) (keeps state (resets-low net labels e link p (≤ℚ_of_same _ _ first)) (resets-low net labels' e link p k)))
         (lt_or_le_ℚ 0ℚ (slack labels' (hop_of link))))
         (lt_or_le_ℚ (slack labels' (hop_of link)) 0ℚ)
       where
         below : (state : State) → HasState pattern e state → slack labels' (hop_of link) <ℚ 0ℚ → GoesOn (before e) (after e) (Some state) None
         below Tight has h = absurd (not_both_ℚ _ _ h (≤ℚ_of_same _ _ (sym (flat _ _ done _ (moves e link p) first (no_gap _ _ (solution.solves.links e link (Some Tight) p has))))))
-        below Full has h = absurd (not_both_ℚ _ _ h (up _ _ done _ (moves e link p) first (nn_gap _ _ (solution.meets.links e link (Some Full) p has)) some))
+        below Full has h = absurd (not_both_ℚ _ _ h (up _ _ done _ (moves e link p) first (less_nn _ _ (solution.meets.links e link (Some Full) p has)) some))
         below Zero has h = drops (resets-low net labels e link p (≤ℚ_of_same _ _ first)) (resets-low net labels' e link p (≤ℚ_of_lt _ _ h))
 
         above : (state : State) → HasState pattern e state → 0ℚ <ℚ slack labels' (hop_of link) → GoesOn (before e) (after e) (Some state) None
         above Tight has h = absurd (not_both_ℚ _ _ h (≤ℚ_of_same _ _ (flat _ _ done _ (moves e link p) first (no_gap _ _ (solution.solves.links e link (Some Tight) p has)))))
         above Full has h = fills (resets-high net labels' e link p h)
-        above Zero has h = absurd (not_both_ℚ _ _ h (down _ _ done _ (moves e link p) first (np_gap _ _ (solution.meets.links e link (Some Zero) p has)) some))
+        above Zero has h = absurd (not_both_ℚ _ _ h (down _ _ done _ (moves e link p) first (gap_np _ _ (solution.meets.links e link (Some Zero) p has)) some))
 
     without_state : (b : Option State) → slice_get base e ≡ Some b → (slack labels' (hop_of link) ≡ 0ℚ → ⊥) → before e ≡ after e → GoesOn (before e) (after e) None b
     without_state b at apart same = subst (λ (b : Option State). GoesOn (before e) (after e) None b) (sym (no_state e b at (not_needed labels' apart))) (stays same)
@@ -173,15 +165,15 @@ module _ (net : Network) (good : IsNetwork net) (labels labels' slopes flows : L
         (λ (k : slack labels (hop_of link) ≤ℚ 0ℚ).
         let first : slack labels (hop_of link) ≡ 0ℚ = ≤ℚ_antisymm _ _ k h in
         let state : (state : State) × HasState pattern e state = (listed.states.states e).0 (needs-zero net labels e link p first) in
-        subst (λ (o : Option State). GoesOn (before e) (after e) o b) (same_state (Some state.0) o (sym state.1 ∙ has)) (by_state state.0 state.1 first b at))
+        subst (λ (o : Option State). GoesOn (before e) (after e) o b) (same_Some (Some state.0) o (sym state.1 ∙ has)) (by_state state.0 state.1 first b at))
         (lt_or_le_ℚ 0ℚ (slack labels (hop_of link))))
         (lt_or_le_ℚ (slack labels (hop_of link)) 0ℚ)
 
   entry_before : (e : ℕ) (link : Link) → IsLink net e link → (o : Option State) × (slice_get pattern e ≡ Some o)
-  entry_before e link p = entry_within pattern e (let h = slice_get_within net.links e link p in let c = same_count in omega arith)
+  entry_before e link p = entry pattern e (let h = slice_get_within net.links e link p in let c = same_count in omega arith)
 
   entry_after : (e : ℕ) (link : Link) → IsLink net e link → (b : Option State) × (slice_get base e ≡ Some b)
-  entry_after e link p = entry_within base e (let h = slice_get_within net.links e link p in let c = count in omega arith)
+  entry_after e link p = entry base e (let h = slice_get_within net.links e link p in let c = count in omega arith)
 
   -- ---- the same solutions
   -- The equations of the nodes are those of any pattern.
@@ -212,7 +204,7 @@ module _ (net : Network) (good : IsNetwork net) (labels labels' slopes flows : L
 
   -- ---- the pattern is listed: its states are states of the pattern
   link_of : (e : ℕ) (state : State) → HasState base e state → (link : Link) × IsLink net e link
-  link_of e state h = entry_within net.links e (let k = slice_get_within base e (Some state) h in let c = count in omega arith)
+  link_of e state h = entry net.links e (let k = slice_get_within base e (Some state) h in let c = count in omega arith)
 
   from_pattern : (e : ℕ) (state : State) → HasState base e state → HasState pattern e state
   from_pattern e state h =

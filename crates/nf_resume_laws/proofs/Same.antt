@@ -16,21 +16,16 @@ use Rattle.nf_phase_laws.specs.Invariant.{link_slack, queue_by_slack, sent, Hold
 use Rattle.nf_phase_laws.specs.Description.{DescribesLinks}
 use Rattle.nf_phase_laws.proofs.Holds.{sent-is, link_within, label_not_negative}
 use Rattle.nf_rational_laws.proofs.Chains.{≤ℚ_refl, ≤ℚ_trans}
-
-same_slack : (a b c d r : ℚ) → b ≡ d → a ≡ c → b -ℚ (a +ℚ r) ≡ d -ℚ (c +ℚ r)
-same_slack a b c d r e f = linear_eq (a ∷ b ∷ c ∷ d ∷ r ∷ []) (eq e ∷ eq f ∷ []) (search reading_of depth 12) tt tt
+use Rattle.nf_rational_laws.proofs.Facts.{same_slacks, in_time}
 
 lt_by : (a b c d : ℚ) → a ≡ c → b ≡ d → a <ℚ b → c <ℚ d
-lt_by a b c d e f h = linear_lt (a ∷ b ∷ c ∷ d ∷ []) (eq e ∷ eq f ∷ lt h ∷ []) (search reading_of depth 12) tt
+lt_by a b c d e f h = linear_lt (a ∷ b ∷ c ∷ d ∷ []) (eq e ∷ eq f ∷ lt h ∷ []) (search reading_of) tt
 
 le_by : (a b c d : ℚ) → a ≡ c → b ≡ d → a ≤ℚ b → c ≤ℚ d
-le_by a b c d e f h = linear_le (a ∷ b ∷ c ∷ d ∷ []) (eq e ∷ eq f ∷ le h ∷ []) (search reading_of depth 12) tt
-
-in_time : (a b r : ℚ) → b -ℚ (a +ℚ r) ≤ℚ 0ℚ → b -ℚ r ≤ℚ a
-in_time a b r h = linear_le (a ∷ b ∷ r ∷ []) (le h ∷ []) (search reading_of depth 12) tt
+le_by a b c d e f h = linear_le (a ∷ b ∷ c ∷ d ∷ []) (eq e ∷ eq f ∷ le h ∷ []) (search reading_of) tt
 
 less : (b d r : ℚ) → b ≡ d → b -ℚ r ≡ d -ℚ r
-less b d r e = linear_eq (b ∷ d ∷ r ∷ []) (eq e ∷ []) (search reading_of depth 12) tt tt
+less b d r e = linear_eq (b ∷ d ∷ r ∷ []) (eq e ∷ []) (search reading_of) tt tt
 
 -- Two flows agree on everything that leaves the source up to a departure.
 pub record AgreeUpTo (net : Network) (amount label amount' label' : ℕ → ℚ → ℚ) (until : ℚ) : Type 0 where
@@ -55,7 +50,7 @@ module _ (net : Network) (amount label amount' label' : ℕ → ℚ → ℚ) (un
   sent_same e link departure p w = sent-is net amount' label' e link departure p ∙ at e link departure p w ∙ sym (sent-is net amount label e link departure p)
 
   pub slack_same : (e : ℕ) (link : Link) (departure : ℚ) → IsLink net e link → Within 0ℚ until departure → link_slack label' link departure ≡ link_slack label link departure
-  slack_same e link departure p w = same_slack _ _ _ _ link.transit (agree.labels link.head departure (good.heads e link p) w) (agree.labels link.tail departure (good.tails e link p) w)
+  slack_same e link departure p w = same_slacks _ _ _ _ link.transit (agree.labels link.head departure (good.heads e link p) w) (agree.labels link.tail departure (good.tails e link p) w)
 
   low : (e : ℕ) (link : Link) (departure : ℚ) → IsLink net e link → Within 0ℚ until departure → link_slack label' link departure ≤ℚ 0ℚ → link_slack label link departure ≤ℚ 0ℚ
   low e link departure p w h = le_by _ _ _ _ (slack_same e link departure p w) refl h

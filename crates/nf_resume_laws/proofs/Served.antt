@@ -13,25 +13,23 @@ use Rattle.nf_model_laws.specs.Capacity.{IsPositive}
 use Rattle.nf_model_laws.proofs.Affine.{ps-times_gap, quotient-times}
 use Rattle.nf_model_laws.proofs.Exits.{IsOutflow-at_exit}
 use Rattle.nf_rational_laws.proofs.Chains.{≤ℚ_refl, ≤ℚ_trans}
+use Rattle.nf_rational_laws.proofs.Facts.{less_le}
 
 since : (r t : ℚ) → r ≤ℚ t → 0ℚ ≤ℚ t -ℚ r
-since r t h = linear_le (r ∷ t ∷ []) (le h ∷ []) (search reading_of depth 12) tt
-
-sooner : (r s t : ℚ) → s ≤ℚ t → s -ℚ r ≤ℚ t -ℚ r
-sooner r s t h = linear_le (r ∷ s ∷ t ∷ []) (le h ∷ []) (search reading_of depth 12) tt
+since r t h = linear_le (r ∷ t ∷ []) (le h ∷ []) (search reading_of) tt
 
 -- ---- over plain numbers: f entered by the time u, at least 0, and c the capacity
 nn_later : (f c z r u y : ℚ) → 0ℚ ≤ℚ f → 0ℚ <ℚ c → u ≤ℚ z -ℚ r → f +ℚ c *ℚ (z -ℚ r -ℚ u) ≡ y → 0ℚ ≤ℚ y
-nn_later f c z r u y h k w e = linear_le (f ∷ c ∷ z ∷ r ∷ u ∷ y ∷ []) (le h ∷ le_times (≤ℚ_of_lt _ _ k) w ∷ eq e ∷ []) (search reading_of depth 12) tt
+nn_later f c z r u y h k w e = linear_le (f ∷ c ∷ z ∷ r ∷ u ∷ y ∷ []) (le h ∷ le_times (≤ℚ_of_lt _ _ k) w ∷ eq e ∷ []) (search reading_of) tt
 
 later_more : (f c s t r u x y : ℚ) → 0ℚ <ℚ c → s ≤ℚ t → x ≤ℚ f +ℚ c *ℚ (s -ℚ r -ℚ u) → f +ℚ c *ℚ (t -ℚ r -ℚ u) ≡ y → x ≤ℚ y
-later_more f c s t r u x y k h l e = linear_le (f ∷ c ∷ s ∷ t ∷ r ∷ u ∷ x ∷ y ∷ []) (le_times (≤ℚ_of_lt _ _ k) h ∷ le l ∷ eq e ∷ []) (search reading_of depth 12) tt
+later_more f c s t r u x y k h l e = linear_le (f ∷ c ∷ s ∷ t ∷ r ∷ u ∷ x ∷ y ∷ []) (le_times (≤ℚ_of_lt _ _ k) h ∷ le l ∷ eq e ∷ []) (search reading_of) tt
 
 at_once : (f g c s t r u x y : ℚ) → 0ℚ <ℚ c → u ≤ℚ t -ℚ r → f ≤ℚ g → x ≤ℚ f +ℚ c *ℚ (s -ℚ r -ℚ (s -ℚ r)) → g +ℚ c *ℚ (t -ℚ r -ℚ u) ≡ y → x ≤ℚ y
-at_once f g c s t r u x y k h m l e = linear_le (f ∷ g ∷ c ∷ s ∷ t ∷ r ∷ u ∷ x ∷ y ∷ []) (le m ∷ le_times (≤ℚ_of_lt _ _ k) h ∷ le l ∷ eq e ∷ []) (search reading_of depth 12) tt
+at_once f g c s t r u x y k h m l e = linear_le (f ∷ g ∷ c ∷ s ∷ t ∷ r ∷ u ∷ x ∷ y ∷ []) (le m ∷ le_times (≤ℚ_of_lt _ _ k) h ∷ le l ∷ eq e ∷ []) (search reading_of) tt
 
 at_entry : (f c s r x : ℚ) → x ≤ℚ f +ℚ c *ℚ (s -ℚ r -ℚ (s -ℚ r)) → x ≤ℚ f
-at_entry f c s r x h = linear_le (f ∷ c ∷ s ∷ r ∷ x ∷ []) (le h ∷ []) (search reading_of depth 12) tt
+at_entry f c s r x h = linear_le (f ∷ c ∷ s ∷ r ∷ x ∷ []) (le h ∷ []) (search reading_of) tt
 
 module _ (transit : ℚ) (capacity : Option ℚ) (amount : ℚ → ℚ) (positive : IsPositive capacity) (rises : NeverFalls amount) (starts : amount 0ℚ ≡ 0ℚ) where
   pub amount-nn : (time : ℚ) → 0ℚ ≤ℚ time → 0ℚ ≤ℚ amount time
@@ -67,7 +65,7 @@ module _ (transit : ℚ) (capacity : Option ℚ) (amount : ℚ → ℚ) (positiv
     where
       by : (c : Option ℚ) → capacity ≡ c → transit ≤ℚ earlier → x ≤ℚ y
       by None e l = subst (λ (z : ℚ). x ≤ℚ z) (sym (q.unbounded (≤ℚ_trans _ _ _ l h) e))
-          (subst (λ (z : ℚ). z ≤ℚ amount (later -ℚ transit)) (sym (p.unbounded l e)) (rises _ _ (since transit earlier l) (sooner transit earlier later h)))
+          (subst (λ (z : ℚ). z ≤ℚ amount (later -ℚ transit)) (sym (p.unbounded l e)) (rises _ _ (since transit earlier l) (less_le earlier later transit h)))
       by (Some rate) e l =
           let f : IsLeast (λ since. amount since +ℚ rate *ℚ (earlier -ℚ transit -ℚ since)) 0ℚ (earlier -ℚ transit) x = p.bounded rate l e in
           let g : IsLeast (λ since. amount since +ℚ rate *ℚ (later -ℚ transit -ℚ since)) 0ℚ (later -ℚ transit) y = q.bounded rate (≤ℚ_trans _ _ _ l h) e in
@@ -84,10 +82,10 @@ module _ (transit : ℚ) (capacity : Option ℚ) (amount : ℚ → ℚ) (positiv
   -- ---- less, if the exit is later and something waits at the entry: a entered by the entry, b by the time u of the
   -- queue's greatest value; q waits, w is the wait, c the capacity.
   not_yet : (a b c u n q w z r x o : ℚ) → a -ℚ b -ℚ c *ℚ (n -ℚ u) ≡ q → w *ℚ c ≡ q → x ≡ n +ℚ r +ℚ w → 0ℚ <ℚ c *ℚ (x -ℚ z) → o ≤ℚ b +ℚ c *ℚ (z -ℚ r -ℚ u) → o <ℚ a
-  not_yet a b c u n q w z r x o e f g h l = linear_lt (a ∷ b ∷ c ∷ u ∷ n ∷ q ∷ w ∷ z ∷ r ∷ x ∷ o ∷ []) (eq e ∷ eq f ∷ eq_times c g ∷ lt h ∷ le l ∷ []) (search reading_of depth 12) tt
+  not_yet a b c u n q w z r x o e f g h l = linear_lt (a ∷ b ∷ c ∷ u ∷ n ∷ q ∷ w ∷ z ∷ r ∷ x ∷ o ∷ []) (eq e ∷ eq f ∷ eq_times c g ∷ lt h ∷ le l ∷ []) (search reading_of) tt
 
   before_that : (a b c u n q d o : ℚ) → a -ℚ b -ℚ c *ℚ (n -ℚ u) ≡ q → 0ℚ <ℚ q → 0ℚ <ℚ c → u ≤ℚ n → d ≤ℚ b → o ≤ℚ d → o <ℚ a
-  before_that a b c u n q d o e h k l i j = linear_lt (a ∷ b ∷ c ∷ u ∷ n ∷ q ∷ d ∷ o ∷ []) (eq e ∷ lt h ∷ le_times (≤ℚ_of_lt _ _ k) l ∷ le i ∷ le j ∷ []) (search reading_of depth 12) tt
+  before_that a b c u n q d o e h k l i j = linear_lt (a ∷ b ∷ c ∷ u ∷ n ∷ q ∷ d ∷ o ∷ []) (eq e ∷ lt h ∷ le_times (≤ℚ_of_lt _ _ k) l ∷ le i ∷ le j ∷ []) (search reading_of) tt
 
   pub outflow-waits : (rate entry queue exit time out : ℚ) → capacity ≡ Some rate → 0ℚ ≤ℚ entry → IsQueue capacity amount entry queue → 0ℚ <ℚ queue → exit ≡ entry +ℚ transit +ℚ queue /ℚ rate
       → time <ℚ exit → IsOutflow transit capacity amount time out → out <ℚ amount entry

@@ -9,7 +9,8 @@ use Rattle.nf_frac_def.specs.Checked.{checked}
 use Rattle.nf_frac_def.specs.declared.Passed.{Passed}
 use Rattle.nf_model.specs.Curve.{Point}
 use Rattle.nf_model.specs.Network.{Network}
-use Rattle.nf_thin_def.proofs.Examples.{n, in_127_bits, link, Parts, parts_of, i}
+use Rattle.nf_frac_def.proofs.Examples.{n, in_127_bits, Parts, parts_of}
+use Rattle.nf_thin_def.proofs.Examples.{link, i}
 use Rattle.nf_curve_def.specs.Lines.{checked_slope, checked_line, checked_inverse}
 use Rattle.nf_curve_def.specs.Values.{checked_value, checked_cut}
 use Rattle.nf_curve_def.specs.Times.{both_times}

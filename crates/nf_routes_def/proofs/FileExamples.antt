@@ -13,7 +13,8 @@ use Rattle.nf_frac_def.specs.Passing.{beyond}
 use Rattle.nf_frac_def.specs.Checked.{checked, Checked}
 use Rattle.nf_net_def.specs.Names.{Name}
 use Rattle.nf_net_def.specs.Named.{Named}
-use Rattle.nf_thin_def.proofs.Examples.{n, in_127_bits, link, Parts, parts_of, i}
+use Rattle.nf_frac_def.proofs.Examples.{n, in_127_bits, Parts, parts_of}
+use Rattle.nf_thin_def.proofs.Examples.{link, i}
 use Rattle.nf_curve_def.specs.Lines.{checked_slope, checked_line, checked_inverse}
 use Rattle.nf_curve_def.specs.Values.{checked_value, checked_cut}
 use Rattle.nf_curve_def.specs.Times.{both_times}

@@ -3,45 +3,33 @@
 use Rattle.std.proofs.Common.{◌≡◌, ℕ, zero, suc, ◌+◌, ◌<◌, ◌≤◌, List, [], ◌∷◌, length, ⊎_elim, Bool, true, false, eqb, Option, Some, None, slice_get, unwrap_or, get_or, refl, sym, ap, subst, ◌∙◌, arith}
 use Rattle.std.specs.Prelude.{if◌then◌else◌}
 use Rattle.std.proofs.lemmas.Bool.{eqb-true}
-use Rattle.std.proofs.lemmas.Option.{slice_get_within, slice_get_cases}
+use Rattle.std.proofs.lemmas.Option.{slice_get_within, slice_get_cases, same_Some}
 use Rattle.nf_rational.specs.Rational.{ℚ}
 use Rattle.nf_rational.specs.Operations.{0ℚ, ◌+ℚ◌}
 use Rattle.nf_rational.specs.Order.{◌≤ℚ◌, ◌<ℚ◌}
 use Rattle.nf_rational_laws.proofs.Polynomial.{reading_of}
 use Rattle.nf_rational_laws.proofs.Order.{≤ℚ_of_lt, ≤ℚ_antisymm, lt_or_le_ℚ}
-use Rattle.nf_rational_laws.proofs.Linear.{le, eq, linear_le, linear_eq}
-use Rattle.nf_model.specs.Curve.{Within, NeverFalls, value, IsCurve}
+use Rattle.nf_rational_laws.proofs.Linear.{eq, linear_eq}
+use Rattle.nf_model.specs.Curve.{Within, NeverFalls, value}
 use Rattle.nf_model.specs.Entries.{number_at}
 use Rattle.nf_model.specs.Walk.{IsWalk}
 use Rattle.nf_model.specs.Network.{Link, Network, IsNetwork, IsLink, hops, supplied}
 use Rattle.nf_model.specs.Queue.{IsExit, IsOutflow}
-use Rattle.nf_model_laws.proofs.Curves.{value-takes, value-first}
+use Rattle.nf_model_laws.proofs.Curves.{value-takes_between}
 use Rattle.nf_model_laws.proofs.Earliest.{IsPositive-link}
 use Rattle.nf_model_laws.proofs.Exits.{IsOutflow-at_exit, IsExit-at_0}
 use Rattle.nf_model_laws.proofs.Networks.{link_at}
 use Rattle.nf_model_laws.proofs.Queues.{IsExit-after, IsExit-monotone, IsOutflow-early}
+use Rattle.nf_model_laws.proofs.Sums.{if_same, if_order}
 use Rattle.nf_routes_def.specs.Routes.{Route, AreRoutes}
 use Rattle.nf_routes_def.specs.RoutesList.{Routed}
 use Rattle.nf_routes_def.specs.Meanings.{link_loaded, exit_by, stages_at, arrival_at, travel_at, sent_by, sent_along, sent_by_routes, inflow_by, exits_along, IsRouted, RoutesArrive}
 use Rattle.nf_rational_laws.proofs.Chains.{≤ℚ_refl, ≤ℚ_trans}
+use Rattle.nf_rational_laws.proofs.Facts.{sum_le, same_sums, both_are_zero, first_of_sum}
 
 -- ---- sums over routes and positions
-if_same : (b : Bool) (x y s t : ℚ) → (b ≡ true → x ≡ y) → s ≡ t → (if b then x +ℚ s else s) ≡ (if b then y +ℚ t else t)
-if_same true x y s t e f = let d = e refl in linear_eq (x ∷ y ∷ s ∷ t ∷ []) (eq d ∷ eq f ∷ []) (search reading_of depth 12) tt tt
-if_same false x y s t e f = f
-
-if_le : (b : Bool) (x y s t : ℚ) → (b ≡ true → x ≤ℚ y) → s ≤ℚ t → (if b then x +ℚ s else s) ≤ℚ (if b then y +ℚ t else t)
-if_le true x y s t e f = let d = e refl in linear_le (x ∷ y ∷ s ∷ t ∷ []) (le d ∷ le f ∷ []) (search reading_of depth 12) tt
-if_le false x y s t e f = f
-
-plus_le : (x y s t : ℚ) → x ≤ℚ y → s ≤ℚ t → x +ℚ s ≤ℚ y +ℚ t
-plus_le x y s t e f = linear_le (x ∷ y ∷ s ∷ t ∷ []) (le e ∷ le f ∷ []) (search reading_of depth 12) tt
-
-plus_same : (x y s t : ℚ) → x ≡ y → s ≡ t → x +ℚ s ≡ y +ℚ t
-plus_same x y s t e f = linear_eq (x ∷ y ∷ s ∷ t ∷ []) (eq e ∷ eq f ∷ []) (search reading_of depth 12) tt tt
-
 if_none : (b : Bool) (x s : ℚ) → (b ≡ true → x ≡ 0ℚ) → s ≡ 0ℚ → (if b then x +ℚ s else s) ≡ 0ℚ
-if_none true x s e f = let d = e refl in linear_eq (x ∷ s ∷ []) (eq d ∷ eq f ∷ []) (search reading_of depth 12) tt tt
+if_none true x s e f = let d = e refl in linear_eq (x ∷ s ∷ []) (eq d ∷ eq f ∷ []) (search reading_of) tt tt
 if_none false x s e f = f
 
 along-same : (f g : ℕ → ℚ) (e : ℕ) (links : List ℕ) → ((place : ℕ) → slice_get links place ≡ Some e → f place ≡ g place) → sent_along f e links ≡ sent_along g e links
@@ -50,7 +38,7 @@ along-same f g e (l ∷ links) h = if_same (eqb l e) (f 0) (g 0) _ _ (λ t. h 0 
 
 pub along-le : (f g : ℕ → ℚ) (e : ℕ) (links : List ℕ) → ((place : ℕ) → slice_get links place ≡ Some e → f place ≤ℚ g place) → sent_along f e links ≤ℚ sent_along g e links
 along-le f g e [] h = ≤ℚ_refl 0ℚ
-along-le f g e (l ∷ links) h = if_le (eqb l e) (f 0) (g 0) _ _ (λ t. h 0 (ap (λ (x : ℕ). Some x) (eqb-true l e t))) (along-le (λ p. f (suc p)) (λ p. g (suc p)) e links (λ p k. h (suc p) k))
+along-le f g e (l ∷ links) h = if_order (eqb l e) (f 0) (g 0) _ _ (λ t. h 0 (ap (λ (x : ℕ). Some x) (eqb-true l e t))) (along-le (λ p. f (suc p)) (λ p. g (suc p)) e links (λ p k. h (suc p) k))
 
 pub along-none : (f : ℕ → ℚ) (e : ℕ) (links : List ℕ) → ((place : ℕ) → slice_get links place ≡ Some e → f place ≡ 0ℚ) → sent_along f e links ≡ 0ℚ
 along-none f e [] h = refl
@@ -61,26 +49,15 @@ Each routes e P = (r place : ℕ) (route : Route) → slice_get routes r ≡ Som
 
 routes-same : (f g : ℕ → ℕ → ℚ) (e : ℕ) (routes : List Route) → Each routes e (λ r place. f r place ≡ g r place) → sent_by_routes f e routes ≡ sent_by_routes g e routes
 routes-same f g e [] h = refl
-routes-same f g e (route ∷ routes) h = plus_same _ _ _ _ (along-same (f 0) (g 0) e route.links (λ p k. h 0 p route refl k)) (routes-same (λ r. f (suc r)) (λ r. g (suc r)) e routes (λ r p x k l. h (suc r) p x k l))
+routes-same f g e (route ∷ routes) h = same_sums _ _ _ _ (along-same (f 0) (g 0) e route.links (λ p k. h 0 p route refl k)) (routes-same (λ r. f (suc r)) (λ r. g (suc r)) e routes (λ r p x k l. h (suc r) p x k l))
 
 pub routes-le : (f g : ℕ → ℕ → ℚ) (e : ℕ) (routes : List Route) → Each routes e (λ r place. f r place ≤ℚ g r place) → sent_by_routes f e routes ≤ℚ sent_by_routes g e routes
 routes-le f g e [] h = ≤ℚ_refl 0ℚ
-routes-le f g e (route ∷ routes) h = plus_le _ _ _ _ (along-le (f 0) (g 0) e route.links (λ p k. h 0 p route refl k)) (routes-le (λ r. f (suc r)) (λ r. g (suc r)) e routes (λ r p x k l. h (suc r) p x k l))
+routes-le f g e (route ∷ routes) h = sum_le _ _ _ _ (along-le (f 0) (g 0) e route.links (λ p k. h 0 p route refl k)) (routes-le (λ r. f (suc r)) (λ r. g (suc r)) e routes (λ r p x k l. h (suc r) p x k l))
 
 pub routes-none : (f : ℕ → ℕ → ℚ) (e : ℕ) (routes : List Route) → Each routes e (λ r place. f r place ≡ 0ℚ) → sent_by_routes f e routes ≡ 0ℚ
 routes-none f e [] h = refl
-routes-none f e (route ∷ routes) h = none_both _ _ (along-none (f 0) e route.links (λ p k. h 0 p route refl k)) (routes-none (λ r. f (suc r)) e routes (λ r p x k l. h (suc r) p x k l))
-  where
-    none_both : (x y : ℚ) → x ≡ 0ℚ → y ≡ 0ℚ → x +ℚ y ≡ 0ℚ
-    none_both x y e f = linear_eq (x ∷ y ∷ []) (eq e ∷ eq f ∷ []) (search reading_of depth 12) tt tt
-
--- a curve takes each value between two that it has
-pub takes : (points : List (ℚ × ℚ)) (last y : ℚ) → IsCurve points → 0ℚ ≤ℚ last → value points 0ℚ ≤ℚ y → y ≤ℚ value points last → (u : ℚ) × Within 0ℚ last u × (value points u ≡ y)
-takes [] last y c h i j = absurd c
-takes (p ∷ rest) last y c h i j =
-    let w : (u : ℚ) × (p.0 ≤ℚ u) × (u ≤ℚ last) × (value (p ∷ rest) u ≡ y) = value-takes p rest last y c.1 (subst (λ (z : ℚ). z ≤ℚ last) (sym c.0) h)
-    (subst (λ (z : ℚ). z ≤ℚ y) (ap (value (p ∷ rest)) (sym c.0) ∙ value-first p rest c.1) i) j in
-    (w.0, (subst (λ (z : ℚ). z ≤ℚ w.0) c.0 w.1, w.2), w.3)
+routes-none f e (route ∷ routes) h = both_are_zero _ _ (along-none (f 0) e route.links (λ p k. h 0 p route refl k)) (routes-none (λ r. f (suc r)) e routes (λ r p x k l. h (suc r) p x k l))
 
 none-beyond : {A : Type 0} (xs : List A) (i : ℕ) → length xs ≤ i → slice_get xs i ≡ None
 none-beyond [] zero h = refl
@@ -91,10 +68,7 @@ none-beyond (x ∷ xs) (suc i) h = none-beyond xs i (omega arith)
 -- the links of a walk are links of the network
 pub walk-links : (net : Network) (walk : List ℕ) (v w place e : ℕ) → IsWalk (hops net) walk v w → slice_get walk place ≡ Some e → (link : Link) × IsLink net e link
 walk-links net [] v w place e k h = absurd (cc)
-walk-links net (f ∷ walk) v w zero e k h = let l = link_at net f k.0 k.1 in (l.0, ap (λ (x : ℕ). slice_get net.links x) (sym (same f e h)) ∙ l.1)
-  where
-    same : (f e : ℕ) → Some f ≡ Some e → f ≡ e
-    same f e h = cc
+walk-links net (f ∷ walk) v w zero e k h = let l = link_at net f k.0 k.1 in (l.0, ap (λ (x : ℕ). slice_get net.links x) (sym (same_Some f e h)) ∙ l.1)
 walk-links net (f ∷ walk) v w (suc place) e k h = walk-links net walk k.0.head w place e k.3 h
 
 module _ (net : Network) (routes : List Route) (horizon : ℚ) (routed : Routed) (good : IsNetwork net) (are : AreRoutes net routes) (from_0 : 0ℚ ≤ℚ horizon) (is : IsRouted net routes horizon routed) where
@@ -127,14 +101,11 @@ module _ (net : Network) (routes : List Route) (horizon : ℚ) (routed : Routed)
       (exits e link s p (h, ≤ℚ_trans _ _ _ k j)) (exits e link t p (≤ℚ_trans _ _ _ h k, j))
 
   exit-forward : (e : ℕ) (link : Link) (t : ℚ) → IsLink net e link → Within 0ℚ (E e) t → t ≤ℚ X e t
-  exit-forward e link t p w = on t link.transit (X e t) (good.transits e link p) (IsExit-after link.transit link.capacity (inflow_by routes routed e) t (X e t) (IsPositive-link net e link good p) (exits e link t p w))
-    where
-      on : (t r x : ℚ) → 0ℚ ≤ℚ r → t +ℚ r ≤ℚ x → t ≤ℚ x
-      on t r x h k = linear_le (t ∷ r ∷ x ∷ []) (le h ∷ le k ∷ []) (search reading_of depth 12) tt
+  exit-forward e link t p w = first_of_sum t link.transit (X e t) (good.transits e link p) (IsExit-after link.transit link.capacity (inflow_by routes routed e) t (X e t) (IsPositive-link net e link good p) (exits e link t p w))
 
   -- each time between two exits is an exit
   entry_of : (e : ℕ) (link : Link) (z : ℚ) → IsLink net e link → X e 0ℚ ≤ℚ z → z ≤ℚ X e (E e) → (t : ℚ) × Within 0ℚ (E e) t × (X e t ≡ z)
-  entry_of e link z p h k = takes (link_loaded routed e).exit (E e) z (is.link_curves e (within e link p)).1.1 (E-nn e link p) h k
+  entry_of e link z p h k = value-takes_between (link_loaded routed e).exit (E e) z (is.link_curves e (within e link p)).1.1 (E-nn e link p) h k
 
   -- ---- one route
   module _ (r : ℕ) (route : Route) (here : slice_get routes r ≡ Some route) where

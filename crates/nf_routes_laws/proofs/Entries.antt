@@ -16,10 +16,10 @@ use Rattle.nf_load_def.specs.Meanings.{IsCumulative}
 use Rattle.nf_load_laws.proofs.Cumulative.{checked_cumulative-is}
 use Rattle.nf_routes_def.specs.RoutesList.{next_entry}
 use Rattle.nf_routes_laws.specs.Laws.{CanShare, IsNext}
-use Rattle.nf_routes_laws.proofs.Arriving.{takes}
 use Rattle.nf_routes_laws.proofs.Next.{next_entry-is}
 use Rattle.nf_routes_laws.proofs.Ends.{UpTo, upto-longer, short-upto, cumulative-upto, next-upto}
 use Rattle.nf_rational_laws.proofs.Chains.{≤ℚ_refl, ≤ℚ_trans}
+use Rattle.nf_model_laws.proofs.Curves.{value-takes_between}
 
 -- a curve in short form up to a time, of an amount that is 0 at time 0 and never falls
 pub record IsEntry (points : List Point) (last : ℚ) : Type 0 where
@@ -83,7 +83,7 @@ module _ (passes : Passing) (exit entry next : List Point) (last : ℚ) (can : C
       })
       (λ (l : value exit 0ℚ ≤ℚ z). ⊎_elim
       (λ (k : z <ℚ value exit last).
-      let w = takes exit last z can.exit_curve can.from_0 l (≤ℚ_of_lt _ _ k) in
+      let w = value-takes_between exit last z can.exit_curve can.from_0 l (≤ℚ_of_lt _ _ k) in
       record {
         u = w.0;
         within = w.1;

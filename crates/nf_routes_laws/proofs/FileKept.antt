@@ -1,8 +1,8 @@
 -- The routes of lines that break no rule. They do not exceed the limit, have different names, and are walks from source to sink with
 -- pieces.
-use Rattle.std.proofs.Common.{◌≡◌, ◌≢◌, ℕ, zero, suc, ◌<◌, ◌≤◌, ⊎_elim, Bool, true, false, not, ◌&&◌, eqb, nat_le, List, [], ◌∷◌, ◌++◌, length, set, get_or, Option, Some, None, All, slice_get, Ok, refl, sym, ap, subst, ◌∙◌, arith, bytes_eq}
+use Rattle.std.proofs.Common.{◌≡◌, ◌≢◌, ℕ, zero, suc, ◌<◌, ◌≤◌, ⊎_elim, true, false, not, ◌&&◌, eqb, nat_le, List, [], ◌∷◌, ◌++◌, length, set, get_or, Option, Some, None, All, slice_get, Ok, refl, sym, ap, subst, ◌∙◌, arith, bytes_eq}
 use Rattle.std.specs.List.{list_all, IsDistinct}
-use Rattle.std.proofs.lemmas.Bool.{and_parts, leb-false}
+use Rattle.std.proofs.lemmas.Bool.{and_parts, leb-false, and_from, not-false}
 use Rattle.std.proofs.lemmas.Bool.Decides.{eqb_tells}
 use Rattle.std.proofs.lemmas.List.{length-append, length-set, map-append}
 use Rattle.std.proofs.lemmas.List.Folds.{list_all-append}
@@ -21,7 +21,7 @@ use Rattle.nf_rational_laws.proofs.Results.{same_Ok, not_both}
 use Rattle.nf_side_def.specs.Lines.{unless_rule}
 use Rattle.nf_side_def.specs.Frame.{draft_of}
 use Rattle.nf_report_laws.proofs.FrameKept.{rules_out, no_rule, draft_kept}
-use Rattle.nf_report_laws.proofs.Outcomes.{and_true, both_ok, where_false}
+use Rattle.nf_report_laws.proofs.Outcomes.{both_ok, where_false}
 use Rattle.nf_report_laws.proofs.PiecesKept.{GoOn, go_on_pieces, piece_kept}
 use Rattle.nf_routes_def.specs.declared.RoutesRule.TheVariants.{G4, G10, G11, G12, G13, G14, G15}
 use Rattle.nf_routes_def.specs.Routes.{Route, AreWalks, AreRoutes}
@@ -46,7 +46,7 @@ walk_of net (e ∷ rest) v w k =
 -- ---- names
 names_more : (names : List Name) (name : Name) → AreNames names → is_name name ≡ true → has_name names name ≡ false → AreNames (names ++ name ∷ [])
 names_more names name h is new = record {
-  each = list_all-append is_name names (name ∷ []) ∙ and_true (list_all is_name names) (is_name name && true) h.each (and_true (is_name name) true is refl);
+  each = list_all-append is_name names (name ∷ []) ∙ and_from (list_all is_name names) (is_name name && true) h.each (and_from (is_name name) true is refl);
   distinct = subst (IsDistinct bytes_eq) (with_name_new names name new) (distinct_with_names names (name ∷ []) h.distinct);
 }
 
@@ -71,10 +71,6 @@ record IsGood (net : Network) (draft : RoutesDraft) : Type 0 where
   pub names : AreNames (route_names draft.routes)
   pub each : All (IsGoodRoute net) draft.routes
 
-not_false : (b : Bool) → not b ≡ false → b ≡ true
-not_false true e = refl
-not_false false e = absurd (cc)
-
 all_at : {A : Type 0} (P : A → Type 0) (xs : List A) (i : ℕ) (x : A) → All P xs → slice_get xs i ≡ Some x → P x
 all_at {A} P xs i x all e = subst P (some (get_or xs i x) (sym (slice_get-get_or xs i x lt) ∙ e)) (All-get_or P xs i x lt all)
   where
@@ -96,7 +92,7 @@ module _ (net : Network) (draft : RoutesDraft) (good : IsGood net draft) where
       record {
         few = omega (arith, fewer, length-append draft.routes (route ∷ []));
         names = subst AreNames (sym (map-append (λ (r : NamedRoute). r.name) draft.routes (route ∷ []))) (names_more (route_names draft.routes) name good.names new.0 a.0);
-        each = All-push (IsGoodRoute net) draft.routes route good.each (record { walk = walk_of net links net.source net.sink (not_false walk d.0); some = new.1; pieces = tt; few = omega arith });
+        each = All-push (IsGoodRoute net) draft.routes route good.each (record { walk = walk_of net links net.source net.sink (not-false walk d.0); some = new.1; pieces = tt; few = omega arith });
       }
 
   piece_more : (r : ℕ) (piece : Piece) → routes_rule_of net draft (RateLine r piece) ≡ None → IsGood net (routes_after draft (RateLine r piece))

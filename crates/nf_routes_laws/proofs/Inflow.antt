@@ -23,7 +23,7 @@ use Rattle.nf_rational_laws.proofs.Results.{same_Ok, not_both}
 
 -- ---- a sum with one term
 with_first : (b : Bool) (x s : ℚ) → b ≡ true → s ≡ 0ℚ → (if b then x +ℚ s else s) ≡ x
-with_first true x s e f = linear_eq (x ∷ s ∷ []) (eq f ∷ []) (search reading_of depth 12) tt tt
+with_first true x s e f = linear_eq (x ∷ s ∷ []) (eq f ∷ []) (search reading_of) tt tt
 with_first false x s e f = absurd (cc)
 
 without_first : (b : Bool) (x s : ℚ) → b ≡ false → (if b then x +ℚ s else s) ≡ s
@@ -64,10 +64,10 @@ pub record IsSumWith (total : List Point) (added : ℚ → ℚ) (sum : List Poin
   pub values : (t : ℚ) → 0ℚ ≤ℚ t → value sum t ≡ value total t +ℚ added t
 
 plus_none : (x y : ℚ) → y ≡ 0ℚ → x ≡ x +ℚ y
-plus_none x y e = linear_eq (x ∷ y ∷ []) (eq e ∷ []) (search reading_of depth 12) tt tt
+plus_none x y e = linear_eq (x ∷ y ∷ []) (eq e ∷ []) (search reading_of) tt tt
 
 two_sums : (s n t a b : ℚ) → s ≡ n +ℚ b → n ≡ t +ℚ a → s ≡ t +ℚ (a +ℚ b)
-two_sums s n t a b e f = linear_eq (s ∷ n ∷ t ∷ a ∷ b ∷ []) (eq e ∷ eq f ∷ []) (search reading_of depth 12) tt tt
+two_sums s n t a b e f = linear_eq (s ∷ n ∷ t ∷ a ∷ b ∷ []) (eq e ∷ eq f ∷ []) (search reading_of) tt tt
 
 module _ (passes : Passing) (e : ℕ) where
   add-is : (b : Bool) (total entry sum : List Point) (added : ℚ → ℚ) → IsCurve total → (b ≡ true → IsCurve entry × ((t : ℚ) → 0ℚ ≤ℚ t → value entry t ≡ added t)) → (b ≡ false → (t : ℚ) → added t ≡ 0ℚ)

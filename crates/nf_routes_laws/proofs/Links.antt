@@ -1,11 +1,10 @@
 -- A loaded link: the entries into it and the amounts sent on, its queue, exit and outflow by the law of the point queue, and its end.
 use Rattle.std.proofs.Common.{◌≡◌, ℕ, zero, suc, List, [], ◌∷◌, ◌++◌, inl, inr, ⊎_elim, Some, slice_get, refl, sym, ap, subst, ◌∙◌, append_assoc, arith}
 use Rattle.std.proofs.lemmas.Option.{slice_get_within}
+use Rattle.std.proofs.lemmas.List.{append-nil}
 use Rattle.nf_rational.specs.Rational.{ℚ}
-use Rattle.nf_rational.specs.Operations.{0ℚ, ◌+ℚ◌}
+use Rattle.nf_rational.specs.Operations.{0ℚ}
 use Rattle.nf_rational.specs.Order.{◌≤ℚ◌}
-use Rattle.nf_rational_laws.proofs.Polynomial.{reading_of}
-use Rattle.nf_rational_laws.proofs.Linear.{le, eq, linear_le, linear_eq}
 use Rattle.nf_frac_def.specs.Passing.{Passing}
 use Rattle.nf_model.specs.Curve.{Point, Within, NeverFalls, value, IsCurve}
 use Rattle.nf_model.specs.Entries.{number_at}
@@ -29,10 +28,10 @@ use Rattle.nf_routes_laws.proofs.Sharing.{shares-equal}
 use Rattle.nf_routes_laws.proofs.Ends.{UpTo, upto-none, ends-upto, last-at_end, loading-ends}
 use Rattle.nf_routes_laws.proofs.Entries.{IsEntry, entry-longer, rises-same, IsFirst, first-is, shared, next-is}
 use Rattle.nf_routes_laws.proofs.Inflow.{Enters, IsSumWith, sum-is}
-use Rattle.nf_routes_laws.proofs.Stages.{none_more}
 use Rattle.nf_routes_laws.proofs.Unrolled.{many, order, routed, LinkStep}
 use Rattle.nf_rational_laws.proofs.Chains.{≤ℚ_refl, ≤ℚ_trans}
 use Rattle.nf_rational_laws.proofs.Entries.{entry}
+use Rattle.nf_rational_laws.proofs.Facts.{without_zero, first_of_sum}
 
 -- ---- a link that is loaded, of routes that are
 pub record LinkIs (net : Network) (routes : List Route) (horizon : ℚ) (all : Routed) (e : ℕ) : Type 0 where
@@ -104,14 +103,11 @@ module _ (passes : Passing) (net : Network) (routes : List Route) (horizon : ℚ
       once = λ r place other route h k j. (step.over r place route h k).once other j;
     }
 
-    nothing_first : (x y : ℚ) → x ≡ 0ℚ +ℚ y → x ≡ y
-    nothing_first x y h = linear_eq (x ∷ y ∷ []) (eq h ∷ []) (search reading_of depth 12) tt tt
-
     sum : IsSumWith ((0ℚ, 0ℚ) ∷ []) (λ t. sent_by_routes (λ r place. sent_by all r place t) e routes) step.inflow
     sum = sum-is passes e ((0ℚ, 0ℚ) ∷ []) routes step.begun (λ r place t. sent_by all r place t) step.inflow (refl, tt) enters step.sums
 
     amounts : (t : ℚ) → 0ℚ ≤ℚ t → value step.inflow t ≡ inflow_by routes all e t
-    amounts t h = nothing_first _ _ (sum.values t h)
+    amounts t h = without_zero _ _ (sum.values t h)
 
     by_rises : NeverFalls (inflow_by routes all e)
     by_rises s t h k = routes-le (λ r place. sent_by all r place s) (λ r place. sent_by all r place t) e routes (λ r place route i j. (entered r place route i j).rises s t h k)
@@ -145,10 +141,7 @@ module _ (passes : Passing) (net : Network) (routes : List Route) (horizon : ℚ
         (exit_is s (h, ≤ℚ_trans _ _ _ k l)) (exit_is t (≤ℚ_trans _ _ _ h k, l))
 
     exits_after : (t : ℚ) → Within 0ℚ end t → t ≤ℚ value exit t
-    exits_after t w = on t step.link.transit (value exit t) waits_0 (IsExit-after step.link.transit step.link.capacity (inflow_by routes all e) t (value exit t) positive (exit_is t w))
-      where
-        on : (t r x : ℚ) → 0ℚ ≤ℚ r → t +ℚ r ≤ℚ x → t ≤ℚ x
-        on t r x h k = linear_le (t ∷ r ∷ x ∷ []) (le h ∷ le k ∷ []) (search reading_of depth 12) tt
+    exits_after t w = first_of_sum t step.link.transit (value exit t) waits_0 (IsExit-after step.link.transit step.link.capacity (inflow_by routes all e) t (value exit t) positive (exit_is t w))
 
     -- ---- the routes share
     can : (r place : ℕ) (route : Route) → slice_get routes r ≡ Some route → slice_get route.links place ≡ Some e → CanShare exit (entry_at all r place) end
@@ -188,7 +181,7 @@ module _ (passes : Passing) (net : Network) (routes : List Route) (horizon : ℚ
   -- ---- all links, in their order
   module _ (steps : (e : ℕ) → In e (order passes net routes horizon) → LinkStep passes net routes horizon final travels e) where
     along : (back front : List ℕ) → order passes net routes horizon ≡ front ++ back → ((f : ℕ) → In f front → Is f) → (f : ℕ) → In f (order passes net routes horizon) → Is f
-    along [] front same done f w = done f (subst (λ (l : List ℕ). In f l) (same ∙ none_more front) w)
+    along [] front same done f w = done f (subst (λ (l : List ℕ). In f l) (same ∙ append-nil front) w)
     along (e ∷ back) front same done f w =
         along back (front ++ e ∷ []) (same ∙ sym (append_assoc front (e ∷ []) back))
         (λ g v. ⊎_elim (λ (u : In g front). done g u) (λ (u : In g (e ∷ [])). last g u) (in-either g front (e ∷ []) v)) f w
@@ -196,7 +189,7 @@ module _ (passes : Passing) (net : Network) (routes : List Route) (horizon : ℚ
         here : Is e
         here =
             let p = placed routes (many passes net routes horizon) (many passes net routes horizon) [] front e back same in
-            link-is e (steps e (subst (λ (l : List ℕ). In e l) (sym same) (there front))) (λ f b. done f (subst (λ (l : List ℕ). In f l) (none_more front) (p.1 f b)))
+            link-is e (steps e (subst (λ (l : List ℕ). In e l) (sym same) (there front))) (λ f b. done f (subst (λ (l : List ℕ). In f l) (append-nil front) (p.1 f b)))
           where
             there : (front : List ℕ) → In e (front ++ e ∷ back)
             there [] = inl refl

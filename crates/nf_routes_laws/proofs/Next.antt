@@ -5,8 +5,8 @@ use Rattle.nf_rational.specs.Rational.{ℚ}
 use Rattle.nf_rational.specs.Operations.{0ℚ, ◌+ℚ◌, ◌-ℚ◌, ◌*ℚ◌}
 use Rattle.nf_rational.specs.Order.{◌≤ℚ◌, ◌<ℚ◌}
 use Rattle.nf_rational_laws.proofs.Polynomial.{reading_of}
-use Rattle.nf_rational_laws.proofs.Order.{≤ℚ_of_lt, ≤ℚ_antisymm, lt_or_le_ℚ}
-use Rattle.nf_rational_laws.proofs.Linear.{lt, eq, eq_times, linear_lt, linear_eq}
+use Rattle.nf_rational_laws.proofs.Order.{≤ℚ_of_lt, ≤ℚ_antisymm, lt_or_le_ℚ, less_ps}
+use Rattle.nf_rational_laws.proofs.Linear.{eq, eq_times, linear_eq}
 use Rattle.nf_frac_def.specs.Passing.{Passing}
 use Rattle.nf_frac_def.specs.Checked.{each}
 use Rattle.nf_model.specs.Curve.{Point, Within, value, slope, TimesRise, IsCurve}
@@ -29,22 +29,19 @@ use Rattle.nf_rational_laws.proofs.Results.{same_Ok}
 
 -- ---- numbers: on an interval from a to b, exits have the rate e and entries the rate r; n is the slope of entries by exits
 on_line : (n e r d x y z v w : ℚ) → n *ℚ (w -ℚ x) ≡ z -ℚ y → w ≡ x +ℚ e *ℚ d → z ≡ y +ℚ r *ℚ d → 0ℚ <ℚ d → n *ℚ e ≡ r
-on_line n e r d x y z v w f g h k = same_from_times d (n *ℚ e) r k (linear_eq (n ∷ e ∷ r ∷ d ∷ x ∷ y ∷ z ∷ w ∷ []) (eq f ∷ eq_times n g ∷ eq h ∷ []) (search reading_of depth 12) tt tt)
+on_line n e r d x y z v w f g h k = same_from_times d (n *ℚ e) r k (linear_eq (n ∷ e ∷ r ∷ d ∷ x ∷ y ∷ z ∷ w ∷ []) (eq f ∷ eq_times n g ∷ eq h ∷ []) (search reading_of) tt tt)
 
 at_part : (n e r t x y u v : ℚ) → n *ℚ e ≡ r → u ≡ x +ℚ e *ℚ t → v ≡ y +ℚ r *ℚ t → y +ℚ n *ℚ (u -ℚ x) ≡ v
-at_part n e r t x y u v f g h = linear_eq (n ∷ e ∷ r ∷ t ∷ x ∷ y ∷ u ∷ v ∷ []) (eq_times t f ∷ eq_times n g ∷ eq h ∷ []) (search reading_of depth 12) tt tt
-
-gap : (a b : ℚ) → a <ℚ b → 0ℚ <ℚ b -ℚ a
-gap a b h = linear_lt (a ∷ b ∷ []) (lt h ∷ []) (search reading_of depth 12) tt
+at_part n e r t x y u v f g h = linear_eq (n ∷ e ∷ r ∷ t ∷ x ∷ y ∷ u ∷ v ∷ []) (eq_times t f ∷ eq_times n g ∷ eq h ∷ []) (search reading_of) tt tt
 
 strictly : (x y : ℚ) → x ≤ℚ y → x ≢ y → x <ℚ y
 strictly x y h n = ⊎_elim (λ (l : x <ℚ y). l) (λ (l : y ≤ℚ x). absurd (n (≤ℚ_antisymm x y h l))) (lt_or_le_ℚ x y)
 
 no_slope : (n x : ℚ) → n *ℚ (x -ℚ 0ℚ) ≡ 0ℚ -ℚ 0ℚ → 0ℚ <ℚ x → n ≡ 0ℚ
-no_slope n x e h = same_from_times x n 0ℚ h (linear_eq (n ∷ x ∷ []) (eq e ∷ []) (search reading_of depth 12) tt tt)
+no_slope n x e h = same_from_times x n 0ℚ h (linear_eq (n ∷ x ∷ []) (eq e ∷ []) (search reading_of) tt tt)
 
 level : (n z : ℚ) → n ≡ 0ℚ → 0ℚ +ℚ n *ℚ (z -ℚ 0ℚ) ≡ 0ℚ
-level n z e = linear_eq (n ∷ z ∷ []) (eq_times z e ∷ []) (search reading_of depth 12) tt tt
+level n z e = linear_eq (n ∷ z ∷ []) (eq_times z e ∷ []) (search reading_of) tt tt
 
 -- ---- times of points
 beyond-none : (points : List Point) (last t : ℚ) → NoneBeyond points last → IsOne t (times_of points) → t ≤ℚ last
@@ -137,7 +134,7 @@ module _ (passes : Passing) (exit entry : List Point) (last : ℚ) (can : CanSha
 
       rate : slope (X a, A a) (X b, A b) *ℚ g.0 ≡ f.0
       rate = on_line (slope (X a, A a) (X b, A b)) g.0 f.0 (b -ℚ a) (X a) (A a) (A b) 0ℚ (X b) (slope-times (X a, A a) (X b, A b) less)
-          (g.1.line b (≤ℚ_of_lt _ _ n.order) (≤ℚ_refl b)) (f.1.line b (≤ℚ_of_lt _ _ n.order) (≤ℚ_refl b)) (gap a b n.order)
+          (g.1.line b (≤ℚ_of_lt _ _ n.order) (≤ℚ_refl b)) (f.1.line b (≤ℚ_of_lt _ _ n.order) (≤ℚ_refl b)) (less_ps a b n.order)
 
       part : (t : ℚ) → a ≤ℚ t → t ≤ℚ b → A a +ℚ slope (X a, A a) (X b, A b) *ℚ (X t -ℚ X a) ≡ A t
       part t m l = at_part (slope (X a, A a) (X b, A b)) g.0 f.0 (t -ℚ a) (X a) (A a) (X t) (A t) rate (g.1.line t m l) (f.1.line t m l)

@@ -6,22 +6,14 @@ use Rattle.std.proofs.lemmas.Map.Steps.{length-le_from_distinct_below}
 use Rattle.std.proofs.lemmas.Bool.Decides.{eqb_tells}
 use Rattle.nf_model.specs.Network.{Network}
 use Rattle.nf_model_laws.proofs.Ways.{distinct_more}
-use Rattle.std.proofs.lemmas.Option.{slice_get_within}
+use Rattle.std.proofs.lemmas.Option.{slice_get_within, same_Some}
+use Rattle.std.proofs.lemmas.Bool.{and_parts, not-true}
+use Rattle.std.proofs.lemmas.List.{append-nil}
+use Rattle.nf_rational_laws.proofs.Results.{true_or_false, not_both}
 use Rattle.nf_routes_def.specs.Routes.{Route, AreRoutes, pairs_of, all_pairs, IsBefore, LeadsTo, HoldCircle, is_taken, is_free, first_free, with_next, order_from, loading_order, takes_all}
 use Rattle.nf_routes_laws.proofs.Arriving.{walk-links}
 
 -- ---- truth values
-and_true : (a b : Bool) → (a && b) ≡ true → (a ≡ true) × (b ≡ true)
-and_true true b h = (refl, h)
-and_true false b h = absurd (cc)
-
-true_or_false : (a : Bool) → (a ≡ true) ⊎ (a ≡ false)
-true_or_false true = inl refl
-true_or_false false = inr refl
-
-not_both : (a : Bool) → a ≡ true → a ≡ false → ⊥
-not_both a h k = cc
-
 -- ---- members of lists
 abbrev pub In : {A : Type 0} → A → List A → Type 0
 In x [] = ⊥
@@ -43,8 +35,8 @@ in-either x (z ∷ xs) ys (inr h) = ⊎_elim (λ (k : In x xs). inl (inr k)) (λ
 
 pub all-at : {A : Type 0} (t : A → Bool) (xs : List A) (x : A) → list_all t xs ≡ true → In x xs → t x ≡ true
 all-at t [] x h k = absurd k
-all-at t (y ∷ xs) x h (inl e) = ap t e ∙ (and_true (t y) _ h).0
-all-at t (y ∷ xs) x h (inr k) = all-at t xs x (and_true (t y) _ h).1 k
+all-at t (y ∷ xs) x h (inl e) = ap t e ∙ (and_parts (t y) _ h).0
+all-at t (y ∷ xs) x h (inr k) = all-at t xs x (and_parts (t y) _ h).1 k
 
 not-all : {A : Type 0} (t : A → Bool) (xs : List A) → list_all t xs ≡ false → (x : A) × In x xs × (t x ≡ false)
 not-all t [] h = absurd (cc)
@@ -104,21 +96,15 @@ place-pairs : (links : List ℕ) (place e f : ℕ) → slice_get links place ≡
 place-pairs [] place e f h k = absurd (cc)
 place-pairs (x ∷ []) zero e f h k = absurd (cc)
 place-pairs (x ∷ []) (suc place) e f h k = absurd (cc)
-place-pairs (x ∷ y ∷ rest) zero e f h k = inl (let a = some x e h in let b = some y f k in λ i. (sym a i, sym b i))
-  where
-    some : (x e : ℕ) → Some x ≡ Some e → x ≡ e
-    some x e h = cc
+place-pairs (x ∷ y ∷ rest) zero e f h k = inl (let a = same_Some x e h in let b = same_Some y f k in λ i. (sym a i, sym b i))
 place-pairs (x ∷ y ∷ rest) (suc place) e f h k = inr (place-pairs (y ∷ rest) place e f h k)
 
 pub before-pair : (routes : List Route) (e f : ℕ) → IsBefore routes e f → In (e, f) (all_pairs routes)
 before-pair routes e f b = at routes b.number b.is_route
   where
-    some : (x y : Route) → Some x ≡ Some y → x ≡ y
-    some x y h = cc
-
     at : (routes : List Route) (r : ℕ) → slice_get routes r ≡ Some b.route → In (e, f) (all_pairs routes)
     at [] r h = absurd (cc)
-    at (x ∷ routes) zero h = in-front (e, f) (pairs_of x.links) (all_pairs routes) (subst (λ (y : Route). In (e, f) (pairs_of y.links)) (sym (some x b.route h)) (place-pairs b.route.links b.place e f b.here b.next))
+    at (x ∷ routes) zero h = in-front (e, f) (pairs_of x.links) (all_pairs routes) (subst (λ (y : Route). In (e, f) (pairs_of y.links)) (sym (same_Some x b.route h)) (place-pairs b.route.links b.place e f b.here b.next))
     at (x ∷ routes) (suc r) h = in-back (e, f) (pairs_of x.links) (all_pairs routes) (at routes r h)
 
 pair-before : (routes all : List Route) (shift : ℕ) (p : ℕ × ℕ) → ((r : ℕ) → slice_get routes r ≡ slice_get all (shift + r)) → In p (all_pairs routes) → IsBefore all p.0 p.1
@@ -135,13 +121,9 @@ before-of routes p h = pair-before routes routes 0 p (λ r. ap (λ (n : ℕ). sl
 -- ---- the lowest free link
 free-parts : (pairs : List (ℕ × ℕ)) (taken : List ℕ) (f : ℕ) → is_free pairs taken f ≡ true → (is_taken taken f ≡ false) × ((p : ℕ × ℕ) → In p pairs → p.1 ≡ f → is_taken taken p.0 ≡ true)
 free-parts pairs taken f h =
-    let w = and_true (not (is_taken taken f)) _ h in
-    (off (is_taken taken f) w.0, λ p k e. need (eqb p.1 f) (is_taken taken p.0) (all-at (λ q. not (eqb q.1 f) || is_taken taken q.0) pairs p w.1 k) (same p.1 e))
+    let w = and_parts (not (is_taken taken f)) _ h in
+    (not-true (is_taken taken f) w.0, λ p k e. need (eqb p.1 f) (is_taken taken p.0) (all-at (λ q. not (eqb q.1 f) || is_taken taken q.0) pairs p w.1 k) (same p.1 e))
   where
-    off : (b : Bool) → not b ≡ true → b ≡ false
-    off true h = absurd (cc)
-    off false h = refl
-
     same : (x : ℕ) → x ≡ f → eqb x f ≡ true
     same x e = ⊎_elim (λ (w : (eqb x f ≡ true) × (x ≡ f)). w.0) (λ (w : (eqb x f ≡ false) × (x ≢ f)). absurd (w.1 e)) (eqb_tells x f)
 
@@ -153,14 +135,11 @@ pub free-some : (pairs : List (ℕ × ℕ)) (taken xs : List ℕ) (e : ℕ) → 
 free-some pairs taken [] e h = absurd (cc)
 free-some pairs taken (x ∷ xs) e h = ⊎_elim
     (λ (k : is_free pairs taken x ≡ true).
-    let same : x ≡ e = some x e (sym (ap (λ (b : Bool). if b then Some x else first_free pairs taken xs) k) ∙ h) in
+    let same : x ≡ e = same_Some x e (sym (ap (λ (b : Bool). if b then Some x else first_free pairs taken xs) k) ∙ h) in
     (inl (sym same), ap (is_free pairs taken) (sym same) ∙ k))
     (λ (k : is_free pairs taken x ≡ false).
     let r = free-some pairs taken xs e (sym (ap (λ (b : Bool). if b then Some x else first_free pairs taken xs) k) ∙ h) in (inr r.0, r.1))
     (true_or_false (is_free pairs taken x))
-  where
-    some : (x e : ℕ) → Some x ≡ Some e → x ≡ e
-    some x e h = cc
 
 free-none : (pairs : List (ℕ × ℕ)) (taken xs : List ℕ) (e : ℕ) → first_free pairs taken xs ≡ None → In e xs → is_free pairs taken e ≡ false
 free-none pairs taken [] e h k = absurd k
@@ -376,21 +355,17 @@ module _ (routes : List Route) (many : ℕ) where
   split (x ∷ xs) e (inl k) = ([], xs, ap (λ (y : ℕ). y ∷ xs) (sym k))
   split (x ∷ xs) e (inr k) = let r = split xs e k in (x ∷ r.0, r.1, ap (λ (l : List ℕ). x ∷ l) r.2)
 
-  none_more : (xs : List ℕ) → xs ++ [] ≡ xs
-  none_more [] = refl
-  none_more (x ∷ xs) = ap (λ (l : List ℕ). x ∷ l) (none_more xs)
-
   joined : (a : List ℕ) (x : ℕ) (b c : List ℕ) → (a ++ x ∷ b) ++ c ≡ a ++ x ∷ (b ++ c)
   joined [] x b c = refl
   joined (y ∷ a) x b c = ap (λ (l : List ℕ). y ∷ l) (joined a x b c)
 
   -- the links that lead to a link of the order precede it
   led : (between : List ℕ) (e w : ℕ) (front back : List ℕ) → order_from many pairs' many [] ≡ front ++ w ∷ back → LeadsTo routes e between w → In e front
-  led [] e w front back h way = subst (In e) (none_more front) ((placed many [] front w back h).1 e way)
+  led [] e w front back h way = subst (In e) (append-nil front) ((placed many [] front w back h).1 e way)
   led (g ∷ between) e w front back h way =
       let s = split front g (led between g w front back h way.1) in
       let there : order_from many pairs' many [] ≡ s.0 ++ g ∷ (s.1 ++ w ∷ back) = h ∙ ap (λ (l : List ℕ). l ++ w ∷ back) s.2 ∙ joined s.0 g s.1 (w ∷ back) in
-      subst (In e) (sym s.2) (in-front e s.0 (g ∷ s.1) (subst (In e) (none_more s.0) ((placed many [] s.0 g (s.1 ++ w ∷ back) there).1 e way.0)))
+      subst (In e) (sym s.2) (in-front e s.0 (g ∷ s.1) (subst (In e) (append-nil s.0) ((placed many [] s.0 g (s.1 ++ w ∷ back) there).1 e way.0)))
 
   pub circle-left : (e : ℕ) (between : List ℕ) → e < many → LeadsTo routes e between e → takes_all many routes ≡ true → ⊥
   unfolding takes_all loading_order

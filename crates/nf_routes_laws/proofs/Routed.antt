@@ -9,6 +9,7 @@ use Rattle.nf_rational.specs.Operations.{0ℚ, ◌+ℚ◌}
 use Rattle.nf_rational.specs.Order.{◌≤ℚ◌}
 use Rattle.nf_frac_def.specs.Passing.{Passing}
 use Rattle.nf_frac_def.specs.Checked.{each}
+use Rattle.nf_frac_def.proofs.Each.{each_length, each_at}
 use Rattle.nf_model.specs.Curve.{Point, Within, value}
 use Rattle.nf_model.specs.Entries.{number_at}
 use Rattle.nf_model.specs.Walk.{IsWalk}
@@ -26,7 +27,7 @@ use Rattle.nf_routes_laws.proofs.Arriving.{walk-links, arrive}
 use Rattle.nf_routes_laws.proofs.Ordering.{In, all-at, in-range, taken-in, takes_all-straight}
 use Rattle.nf_routes_laws.proofs.Entries.{IsEntry, IsFirst}
 use Rattle.nf_routes_laws.proofs.Links.{LinkIs, links-are}
-use Rattle.nf_routes_laws.proofs.Stages.{length-each, each-at, length-but_last, exit_of-is}
+use Rattle.nf_routes_laws.proofs.Stages.{length-but_last, exit_of-is}
 use Rattle.nf_routes_laws.proofs.Steps.{stage}
 use Rattle.nf_routes_laws.proofs.Travels.{AreDepartures, departures-are, Passable, IsTravel, travel-is}
 use Rattle.nf_routes_laws.proofs.Unrolled.{order, routed, RouteStands, Unrolled, stages-are, unrolled}
@@ -149,7 +150,7 @@ module _ (passes : Passing) (net : Network) (routes : List Route) (horizon : ℚ
 
     travel : IsTravel passes horizon final.links all from_0 exit_is route.links (departures horizon) (travel_at all r)
     travel =
-        let w = each-at (λ (route : Route). travel_on passes horizon final.links route.links (departures horizon)) routes travels r route travelled here in
+        let w = each_at (λ (route : Route). travel_on passes horizon final.links route.links (departures horizon)) routes travels r route travelled here in
         let d : AreDepartures horizon (departures horizon) = departures-are horizon from_0 in
         subst (λ (l : List Point). IsTravel passes horizon final.links all from_0 exit_is route.links (departures horizon) l)
         (sym (ap (λ (o : Option (List Point)). unwrap_or o []) w.1))
@@ -189,7 +190,7 @@ module _ (passes : Passing) (net : Network) (routes : List Route) (horizon : ℚ
     entry_count = λ r route here. count r route here;
     entries_count = length-map final.entries (but_last passes) ∙ done.stands.entry_count;
     arrival_count = length-map final.entries last_entry ∙ done.stands.entry_count;
-    travel_count = length-each (λ (route : Route). travel_on passes horizon final.links route.links (departures horizon)) routes travels travelled;
+    travel_count = each_length (λ (route : Route). travel_on passes horizon final.links route.links (departures horizon)) routes travels travelled;
     curves = λ r place route here h. let w = entered r route here place h in (w.1.curve, w.1.form);
     link_curves = λ e h. let l = link e h in (l.loaded.queue_curve, (l.loaded.outflow_curve, l.loaded.exit_curve));
     link_short = λ e h. let l = link e h in (l.loaded.queue_short, (l.loaded.outflow_short, l.loaded.exit_short));

@@ -2,6 +2,7 @@
 use Rattle.std.proofs.Common.{◌≡◌, ℕ, zero, suc, List, [], ◌∷◌, Bool, true, false, eqb, Option, Some, slice_get, refl, ap, subst, ◌∙◌}
 use Rattle.std.specs.Prelude.{if◌then◌else◌}
 use Rattle.std.proofs.lemmas.Bool.{eqb-true, eq-eqb}
+use Rattle.std.proofs.lemmas.Option.{same_Some}
 use Rattle.nf_rational.specs.Rational.{ℚ}
 use Rattle.nf_rational.specs.Operations.{0ℚ, ◌+ℚ◌}
 use Rattle.nf_rational.specs.Order.{◌≤ℚ◌}
@@ -18,30 +19,27 @@ use Rattle.nf_routes_def.specs.Meanings.{sent_along, sent_by_routes}
 use Rattle.nf_routes_laws.proofs.Arriving.{along-le, routes-le}
 use Rattle.nf_rational_laws.proofs.Chains.{≤ℚ_refl, ≤ℚ_trans}
 
-same_some : {A : Type 0} (x y : A) → ◌≡◌ {A = Option A} (Some x) (Some y) → x ≡ y
-same_some x y e = cc
-
 -- ---- two sums that are equal, of which no term of the one exceeds that of the other
 if_first : (b : Bool) (x y s t : ℚ) → b ≡ true → s ≤ℚ t → (if b then y +ℚ t else t) ≤ℚ (if b then x +ℚ s else s) → y ≤ℚ x
-if_first true x y s t e h k = linear_le (x ∷ y ∷ s ∷ t ∷ []) (le h ∷ le k ∷ []) (search reading_of depth 12) tt
+if_first true x y s t e h k = linear_le (x ∷ y ∷ s ∷ t ∷ []) (le h ∷ le k ∷ []) (search reading_of) tt
 if_first false x y s t e h k = absurd (cc)
 
 if_rest : (b : Bool) (x y s t : ℚ) → (b ≡ true → x ≤ℚ y) → (if b then y +ℚ t else t) ≤ℚ (if b then x +ℚ s else s) → t ≤ℚ s
-if_rest true x y s t e k = let h = e refl in linear_le (x ∷ y ∷ s ∷ t ∷ []) (le h ∷ le k ∷ []) (search reading_of depth 12) tt
+if_rest true x y s t e k = let h = e refl in linear_le (x ∷ y ∷ s ∷ t ∷ []) (le h ∷ le k ∷ []) (search reading_of) tt
 if_rest false x y s t e k = k
 
 along-each : (f g : ℕ → ℚ) (e : ℕ) (links : List ℕ) → ((place : ℕ) → slice_get links place ≡ Some e → f place ≤ℚ g place) → sent_along g e links ≤ℚ sent_along f e links
     → (place : ℕ) → slice_get links place ≡ Some e → g place ≤ℚ f place
 along-each f g e [] h k place at = absurd (cc)
-along-each f g e (l ∷ links) h k zero at = if_first (eqb l e) (f 0) (g 0) _ _ (eq-eqb l e (same_some l e at)) (along-le (λ p. f (suc p)) (λ p. g (suc p)) e links (λ p j. h (suc p) j)) k
+along-each f g e (l ∷ links) h k zero at = if_first (eqb l e) (f 0) (g 0) _ _ (eq-eqb l e (same_Some l e at)) (along-le (λ p. f (suc p)) (λ p. g (suc p)) e links (λ p j. h (suc p) j)) k
 along-each f g e (l ∷ links) h k (suc place) at =
     along-each (λ p. f (suc p)) (λ p. g (suc p)) e links (λ p j. h (suc p) j) (if_rest (eqb l e) (f 0) (g 0) _ _ (λ t. h 0 (ap (λ (x : ℕ). Some x) (eqb-true l e t))) k) place at
 
 first_le : (a b c d : ℚ) → c ≤ℚ d → b +ℚ d ≤ℚ a +ℚ c → b ≤ℚ a
-first_le a b c d h k = linear_le (a ∷ b ∷ c ∷ d ∷ []) (le h ∷ le k ∷ []) (search reading_of depth 12) tt
+first_le a b c d h k = linear_le (a ∷ b ∷ c ∷ d ∷ []) (le h ∷ le k ∷ []) (search reading_of) tt
 
 rest_le : (a b c d : ℚ) → a ≤ℚ b → b +ℚ d ≤ℚ a +ℚ c → d ≤ℚ c
-rest_le a b c d h k = linear_le (a ∷ b ∷ c ∷ d ∷ []) (le h ∷ le k ∷ []) (search reading_of depth 12) tt
+rest_le a b c d h k = linear_le (a ∷ b ∷ c ∷ d ∷ []) (le h ∷ le k ∷ []) (search reading_of) tt
 
 abbrev Each : List Route → ℕ → (ℕ → ℕ → Type 0) → Type 0
 Each routes e P = (r place : ℕ) (route : Route) → slice_get routes r ≡ Some route → slice_get route.links place ≡ Some e → P r place
@@ -51,7 +49,7 @@ routes-each : (f g : ℕ → ℕ → ℚ) (e : ℕ) (routes : List Route) → Ea
 routes-each f g e [] h k r place route i j = absurd (cc)
 routes-each f g e (x ∷ routes) h k zero place route i j =
     along-each (f 0) (g 0) e x.links (λ p l. h 0 p x refl l) (first_le _ _ _ _ (routes-le (λ r. f (suc r)) (λ r. g (suc r)) e routes (λ r p y l m. h (suc r) p y l m)) k) place
-    (ap (λ (y : Route). slice_get y.links place) (same_some x route i) ∙ j)
+    (ap (λ (y : Route). slice_get y.links place) (same_Some x route i) ∙ j)
 routes-each f g e (x ∷ routes) h k (suc r) place route i j =
     routes-each (λ r. f (suc r)) (λ r. g (suc r)) e routes (λ r p y l m. h (suc r) p y l m) (rest_le _ _ _ _ (along-le (f 0) (g 0) e x.links (λ p l. h 0 p x refl l)) k) r place route i j
 

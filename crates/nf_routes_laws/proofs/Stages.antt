@@ -1,6 +1,6 @@
 -- Lists by index: the entries of a route so far, the change by a step, and the properties of the links so far.
 use Rattle.std.proofs.Common.{◌≡◌, ◌≢◌, ℕ, zero, suc, List, [], ◌∷◌, ◌++◌, ◌<◌, length, inl, inr, ⊎_elim, true, false, eqb, Option, Some, None, slice_get, unwrap_or, set, refl, sym, ap, subst, ◌∙◌, arith}
-use Rattle.std.specs.Prelude.{Result, Ok, map}
+use Rattle.std.specs.Prelude.{Ok, map}
 use Rattle.std.proofs.lemmas.Bool.Decides.{eqb_tells}
 use Rattle.std.proofs.lemmas.Option.{same_Some}
 use Rattle.nf_rational.specs.Rational.{ℚ}
@@ -16,10 +16,6 @@ use Rattle.nf_routes_laws.proofs.Ordering.{taken-in, in-taken, In}
 use Rattle.nf_rational_laws.proofs.Results.{same_Ok}
 
 -- ---- entries of lists
-pub none_more : {A : Type 0} (xs : List A) → xs ++ [] ≡ xs
-none_more [] = refl
-none_more {A} (x ∷ xs) = ap (λ (l : List A). x ∷ l) (none_more xs)
-
 pub nothing_before : {A : Type 0} (xs ys : List A) → length xs ≡ 0 → ys ≡ xs ++ ys
 nothing_before [] ys h = refl
 nothing_before (x ∷ xs) ys h = absurd (omega arith)
@@ -48,25 +44,6 @@ set-other (x ∷ xs) (suc i) zero y h = refl
 set-other (x ∷ xs) (suc i) (suc j) y h = set-other xs i j y (λ e. h (ap suc e))
 
 -- ---- a computation for each
-pub length-each : {A B E : Type 0} (f : A → Result B E) (xs : List A) (ys : List B) → each f xs ≡ Ok ys → length ys ≡ length xs
-length-each f [] ys h = ap length (sym (same_Ok _ _ h))
-length-each f (x ∷ xs) ys h =
-    let y = then_ok (f x) _ ys h in
-    let rest = then_ok (each f xs) _ ys y.next in
-    ap length (sym (same_Ok _ _ rest.next)) ∙ ap suc (length-each f xs rest.between rest.first)
-
-pub each-at : {A B E : Type 0} (f : A → Result B E) (xs : List A) (ys : List B) (i : ℕ) (x : A) → each f xs ≡ Ok ys → slice_get xs i ≡ Some x → (y : B) × (slice_get ys i ≡ Some y) × (f x ≡ Ok y)
-each-at f [] ys i x h k = absurd (cc)
-each-at {A} {B} {E} f (z ∷ xs) ys zero x h k =
-    let y = then_ok (f z) _ ys h in
-    let rest = then_ok (each f xs) _ ys y.next in
-    (y.between, ap (λ (l : List B). slice_get l 0) (sym (same_Ok _ _ rest.next)), subst (λ (w : A). f w ≡ Ok y.between) (same_Some z x k) y.first)
-each-at {A} {B} {E} f (z ∷ xs) ys (suc i) x h k =
-    let y = then_ok (f z) _ ys h in
-    let rest = then_ok (each f xs) _ ys y.next in
-    let w = each-at f xs rest.between i x rest.first k in
-    (w.0, ap (λ (l : List B). slice_get l (suc i)) (sym (same_Ok _ _ rest.next)) ∙ w.1, w.2)
-
 -- ---- the entries of a route, the last of which is the arrival
 pub get-last : (xs : List (List Point)) (n : ℕ) → length xs ≡ suc n → slice_get xs n ≡ Some (last_entry xs)
 get-last [] n h = absurd (omega arith)

@@ -2,6 +2,7 @@
 use Rattle.std.proofs.Common.{◌≡◌, ℕ, zero, suc, ◌<◌, ◌≤◌, List, [], ◌∷◌, ◌++◌, length, ◌⊎◌, inl, inr, ⊎_elim, Bool, true, false, Some, slice_get, refl, sym, ap, subst, ◌∙◌, arith}
 use Rattle.std.specs.Prelude.{Ok}
 use Rattle.std.proofs.lemmas.Option.{same_Some, slice_get_within}
+use Rattle.std.proofs.lemmas.List.{append-nil}
 use Rattle.nf_rational.specs.Rational.{ℚ}
 use Rattle.nf_frac_def.specs.Passing.{Passing}
 use Rattle.nf_model.specs.Curve.{Point}
@@ -12,7 +13,7 @@ use Rattle.nf_routes_def.specs.Routes.{Route, IsBefore}
 use Rattle.nf_routes_def.specs.RoutesList.{begins_with, goes_over, last_entry, next_entry, begin_if, next_if}
 use Rattle.nf_curve_laws.proofs.Operations.{then_ok}
 use Rattle.nf_routes_laws.proofs.Ordering.{In, in-front, in-back, in-either}
-use Rattle.nf_routes_laws.proofs.Stages.{none_more, nothing_before, over-at, begins-at, begins-place}
+use Rattle.nf_routes_laws.proofs.Stages.{nothing_before, over-at, begins-at, begins-place}
 use Rattle.nf_rational_laws.proofs.Entries.{entry}
 use Rattle.nf_rational_laws.proofs.Naturals.{compared, before_or_at}
 use Rattle.nf_rational_laws.proofs.Results.{same_Ok, not_both}
@@ -108,7 +109,7 @@ module _ (passes : Passing) where
             no : 0 ≡ suc n → ⊥
             no z = omega arith
         by false t k = subst (λ (l : List (List Point)). Begun horizon route (suc n) xs l) (same_Ok _ _ k)
-            (record { count = count; first = λ z. absurd (no z); more = []; grown = sym (none_more xs) })
+            (record { count = count; first = λ z. absurd (no z); more = []; grown = sym (append-nil xs) })
           where
             no : suc n ≡ 0 → ⊥
             no z = omega arith

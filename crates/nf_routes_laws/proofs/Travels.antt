@@ -27,13 +27,13 @@ strictly : (x : ℚ) → 0ℚ ≤ℚ x → x ≢ 0ℚ → 0ℚ <ℚ x
 strictly x h n = ⊎_elim (λ (l : 0ℚ <ℚ x). l) (λ (l : x ≤ℚ 0ℚ). absurd (n (≤ℚ_antisymm x 0ℚ l h))) (lt_or_le_ℚ 0ℚ x)
 
 slope_one : (n x : ℚ) → 0ℚ <ℚ x → n *ℚ (x -ℚ 0ℚ) ≡ x -ℚ 0ℚ → x *ℚ n ≡ x *ℚ 1ℚ
-slope_one n x h e = linear_eq (n ∷ x ∷ []) (eq e ∷ []) (search reading_of depth 12) tt tt
+slope_one n x h e = linear_eq (n ∷ x ∷ []) (eq e ∷ []) (search reading_of) tt tt
 
 on_diagonal : (n t : ℚ) → n ≡ 1ℚ → 0ℚ +ℚ n *ℚ (t -ℚ 0ℚ) ≡ t
 on_diagonal n t e = ap (λ (m : ℚ). 0ℚ +ℚ m *ℚ (t -ℚ 0ℚ)) e ∙ plain t
   where
     plain : (t : ℚ) → 0ℚ +ℚ 1ℚ *ℚ (t -ℚ 0ℚ) ≡ t
-    plain t = linear_eq (t ∷ []) [] (search reading_of depth 12) tt tt
+    plain t = linear_eq (t ∷ []) [] (search reading_of) tt tt
 
 pub record AreDepartures (last : ℚ) (points : List Point) : Type 0 where
   pub curve : IsCurve points

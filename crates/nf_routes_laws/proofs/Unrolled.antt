@@ -3,7 +3,7 @@ use Rattle.std.proofs.Common.{◌≡◌, ◌≢◌, ℕ, zero, suc, ◌<◌, Lis
 use Rattle.std.specs.Prelude.{Ok, map, if◌then◌else◌}
 use Rattle.std.specs.List.{range_with_len}
 use Rattle.std.proofs.lemmas.Bool.Decides.{eqb_tells}
-use Rattle.std.proofs.lemmas.List.{length-map}
+use Rattle.std.proofs.lemmas.List.{length-map, append-nil}
 use Rattle.std.proofs.lemmas.Option.{same_Some, slice_get_within}
 use Rattle.nf_rational.specs.Rational.{ℚ}
 use Rattle.nf_rational.specs.Operations.{0ℚ}
@@ -21,7 +21,7 @@ use Rattle.nf_routes_def.specs.RoutesList.{LoadedLink, SoFar, Routed, exit_end, 
 use Rattle.nf_routes_def.specs.Meanings.{link_loaded, stages_at, arrival_at, entry_at}
 use Rattle.nf_curve_laws.proofs.Operations.{then_ok}
 use Rattle.nf_routes_laws.proofs.Ordering.{In, in-front, in-back, range-below, free-some, before-pair, before-of, placed}
-use Rattle.nf_routes_laws.proofs.Stages.{none_more, get-front, get-next, set-same, set-other, get-last, at-stage, exit_end-is, begun-count, begun-at, next-count, next-at, over-at, over-place}
+use Rattle.nf_routes_laws.proofs.Stages.{get-front, get-next, set-same, set-other, get-last, at-stage, exit_end-is, begun-count, begun-at, next-count, next-at, over-at, over-place}
 use Rattle.nf_routes_laws.proofs.Steps.{Stands, stage, stands-none, place-is, stands-over, stands-past, IsEntryOf, Over, over-is, past-is}
 use Rattle.nf_rational_laws.proofs.Chains.{≤ℚ_refl, ≤ℚ_trans}
 use Rattle.nf_rational_laws.proofs.Entries.{entry, slice_get-image}
@@ -233,7 +233,7 @@ module _ (passes : Passing) (net : Network) (routes : List Route) (horizon : ℚ
             (⊎_elim
             (λ (o : Over passes e horizon route rd.was.entries rd.begun d.loaded.exit rd.was.n rd.after).
             (rd.after, o.begins.more ++ o.next ∷ [], rd.after_here, o.after_is ∙ ap (λ (l : List (List Point)). l ++ o.next ∷ []) o.begins.grown ∙ append_assoc rd.was.entries o.begins.more (o.next ∷ [])))
-            (λ (p : ((place : ℕ) → slice_get route.links place ≡ Some e → ⊥) × (rd.after ≡ rd.was.entries)). (rd.after, [], rd.after_here, p.1 ∙ sym (none_more rd.was.entries)))
+            (λ (p : ((place : ℕ) → slice_get route.links place ≡ Some e → ⊥) × (rd.after ≡ rd.was.entries)). (rd.after, [], rd.after_here, p.1 ∙ sym (append-nil rd.was.entries)))
             rd.case)
 
   -- ---- the result agrees with the values known at each step
@@ -362,8 +362,8 @@ module _ (passes : Passing) (net : Network) (routes : List Route) (horizon : ℚ
     unroll [] front s same standing h =
         let done : s ≡ final = same_Ok _ _ h in
         record {
-          grows = record { links = λ f w. ap (λ (z : SoFar). slice_get z.links f) (sym done); entries = λ r xs k. (xs, [], ap (λ (z : SoFar). slice_get z.entries r) (sym done) ∙ k, sym (none_more xs)) };
-          stands = subst (λ (l : List ℕ). RoutesStanding l final) (sym (same ∙ none_more front)) (subst (λ (z : SoFar). RoutesStanding front z) done standing);
+          grows = record { links = λ f w. ap (λ (z : SoFar). slice_get z.links f) (sym done); entries = λ r xs k. (xs, [], ap (λ (z : SoFar). slice_get z.entries r) (sym done) ∙ k, sym (append-nil xs)) };
+          stands = subst (λ (l : List ℕ). RoutesStanding l final) (sym (same ∙ append-nil front)) (subst (λ (z : SoFar). RoutesStanding front z) done standing);
           steps = λ e w. absurd w;
         }
     unroll (e ∷ back) front s same standing h =
@@ -372,8 +372,8 @@ module _ (passes : Passing) (net : Network) (routes : List Route) (horizon : ℚ
         let l : (link : Link) × (slice_get net.links e ≡ Some link) = entry net.links e below in
         let d : LinkDone s e l.0 step.between = link-done s e l.0 step.between (ap (λ (o : Option Link). load_here passes horizon routes s e o) (sym l.1) ∙ step.first) in
         let p = placed routes many many [] front e back same in
-        let new : In e front → ⊥ = λ w. p.0 (subst (λ (l : List ℕ). In e l) (sym (none_more front)) w) in
-        let led : (f : ℕ) → IsBefore routes f e → In f front = λ f b. subst (λ (l : List ℕ). In f l) (none_more front) (p.1 f b) in
+        let new : In e front → ⊥ = λ w. p.0 (subst (λ (l : List ℕ). In e l) (sym (append-nil front)) w) in
+        let led : (f : ℕ) → IsBefore routes f e → In f front = λ f b. subst (λ (l : List ℕ). In f l) (append-nil front) (p.1 f b) in
         let rest : Unrolled (front ++ e ∷ []) step.between back = unroll back (front ++ e ∷ []) step.between (same ∙ sym (append_assoc front (e ∷ []) back)) (step-standing front s e l.0 step.between d standing new led) step.next in
         record {
           grows = step-final front s e l.0 step.between d standing new led l.1 rest.grows;

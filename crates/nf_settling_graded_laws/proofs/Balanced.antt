@@ -8,6 +8,7 @@ use Rattle.nf_rational_laws.proofs.Polynomial.{reading_of}
 use Rattle.nf_rational_laws.proofs.Order.{≤ℚ_of_same, ≤ℚ_of_lt, ≤ℚ_antisymm, lt_or_le_ℚ, not_both_ℚ, nn_times}
 use Rattle.nf_rational_laws.proofs.Chains.{≤ℚ_refl, ≤ℚ_trans}
 use Rattle.nf_rational_laws.proofs.Linear.{le, lt, eq, eq_times, linear_le, linear_lt, linear_eq}
+use Rattle.nf_rational_laws.proofs.Facts.{nn_after_less, nn_less_part, less_some_le, nn_of_one}
 use Rattle.nf_model.specs.Network.{Link, Network, IsLink, IsNetwork, sum_in, sum_out}
 use Rattle.nf_model_laws.specs.Capacity.{IsPositive}
 use Rattle.nf_model_laws.proofs.Sums.{HasIn}
@@ -22,13 +23,11 @@ use Rattle.nf_complete_laws.proofs.Spare.{spare, HasSpare, spare_or_not, spare_o
 use Rattle.nf_complete_laws.proofs.Pushing.{pushed, in-pushed, spare-else, spare-head, spare-tail}
 use Rattle.nf_complete_laws.proofs.Growing.{IsPart, part_of}
 use Rattle.nf_complete_laws.proofs.Lowering.{sum_to-lt}
-use Rattle.nf_settling_graded_laws.proofs.Supplies.{IsOpen, open_or_not, IsSupply, above_0, flow_open, spare_comes, IsSupply-pushed}
+use Rattle.nf_complete_laws.proofs.Balanced.{no_spare}
+use Rattle.nf_settling_graded_laws.proofs.Supplies.{IsOpen, open_or_not, IsSupply, flow_open, spare_comes, IsSupply-pushed}
 use Rattle.nf_settling_graded_laws.proofs.Lifting.{Grown, grow}
 use Rattle.nf_settling_graded_laws.proofs.Lowers.{lower}
 use Rattle.nf_settling_graded_laws.proofs.Leasts.{IsLeast, least_supply}
-
-no_spare : (i o d : ℚ) → 0ℚ ≤ℚ i -ℚ (o +ℚ d) → i -ℚ (o +ℚ d) ≤ℚ 0ℚ → o -ℚ i ≡ 0ℚ -ℚ d
-no_spare i o d h k = linear_eq (i ∷ o ∷ d ∷ []) (le h ∷ le k ∷ []) (search reading_of depth 12) tt tt
 
 -- A static flow that fits the levels, for these capacities.
 pub record IsGradedBy (net : Network) (cap : Link → Option ℚ) (rate : ℚ) (flows levels : ℕ → ℚ) : Type 0 where
@@ -73,7 +72,7 @@ module _ (net : Network) (cap : Link → Option ℚ) (rate : ℚ) (good : IsNetw
     inner v h s t = nothing _ _ (balance v h s) (demand_else v t)
       where
         nothing : (y d : ℚ) → y ≡ 0ℚ -ℚ d → d ≡ 0ℚ → y ≡ 0ℚ
-        nothing y d e f = linear_eq (y ∷ d ∷ []) (eq e ∷ eq f ∷ []) (search reading_of depth 12) tt tt
+        nothing y d e f = linear_eq (y ∷ d ∷ []) (eq e ∷ eq f ∷ []) (search reading_of) tt tt
 
     source : out_less_in net.links flows net.source ≡ rate
     source = gives _ _ _ (two_cancel net.nodes net.source net.sink (out_less_in net.links flows) good.source good.sink good.apart inner
@@ -81,7 +80,7 @@ module _ (net : Network) (cap : Link → Option ℚ) (rate : ℚ) (good : IsNetw
         (balance net.sink good.sink (λ e. good.apart (sym e))) demand_sink
       where
         gives : (y z d : ℚ) → y +ℚ z ≡ 0ℚ → z ≡ 0ℚ -ℚ d → d ≡ rate → y ≡ rate
-        gives y z d e f g = linear_eq (y ∷ z ∷ d ∷ rate ∷ []) (eq e ∷ eq f ∷ eq g ∷ []) (search reading_of depth 12) tt tt
+        gives y z d e f g = linear_eq (y ∷ z ∷ d ∷ rate ∷ []) (eq e ∷ eq f ∷ eq g ∷ []) (search reading_of) tt tt
 
     -- A shut link leads to no higher level.
     shut_down : (e : ℕ) (link : Link) → IsLink net e link → (IsOpen net link → ⊥) → levels link.head ≤ℚ levels link.tail
@@ -101,7 +100,7 @@ module _ (net : Network) (cap : Link → Option ℚ) (rate : ℚ) (good : IsNetw
       fits = λ e link p. ⊎_elim
           (λ (o : IsOpen net link). over.fits e link p o)
           (λ (n : IsOpen net link → ⊥). idle_fits (cap link) (flows e) (levels link.tail) (levels link.head) (positive e link p) (over.shut e link p n)
-          (above_0 _ (over.keeps_up link.head (good.heads e link p))) (shut_down e link p n))
+          (nn_of_one _ (over.keeps_up link.head (good.heads e link p))) (shut_down e link p n))
           (open_or_not net link);
       source = source;
       inner = inner;
@@ -133,7 +132,7 @@ module _ (net : Network) (cap : Link → Option ℚ) (rate : ℚ) (good : IsNetw
         left : (v : ℕ) → v < net.nodes → v ≢ net.source → 0ℚ ≤ℚ spare net rate new v
         left v l other = ⊎_elim
             (λ (k : v ≡ link.head). subst (λ (j : ℕ). 0ℚ ≤ℚ spare net rate new j) (sym k)
-            (taken (spare net rate flows link.head) _ a (spare-head net rate flows e link p d is_open.0) (≤ℚ_of_lt _ _ part.1.less)))
+            (nn_after_less (spare net rate flows link.head) _ a (spare-head net rate flows e link p d is_open.0) (≤ℚ_of_lt _ _ part.1.less)))
             (λ (k : v ≢ link.head). ⊎_elim
             (λ (m : v ≡ link.tail). subst (λ (j : ℕ). 0ℚ ≤ℚ spare net rate new j) (sym m)
             (given (spare net rate flows link.tail) _ a (spare-tail net rate flows e link p d is_open.0)
@@ -145,31 +144,22 @@ module _ (net : Network) (cap : Link → Option ℚ) (rate : ℚ) (good : IsNetw
             spare_nn : (v : ℕ) → v < net.nodes → v ≢ net.source → 0ℚ ≤ℚ spare net rate flows v
             spare_nn v l other = spare_of_enough _ _ _ (least.over.enough v l other)
 
-            taken : (s t a : ℚ) → t ≡ s +ℚ (0ℚ -ℚ a) → a ≤ℚ s → 0ℚ ≤ℚ t
-            taken s t a e h = linear_le (s ∷ t ∷ a ∷ []) (eq e ∷ le h ∷ []) (search reading_of depth 12) tt
-
             given : (s t a : ℚ) → t ≡ s -ℚ (0ℚ -ℚ a) → 0ℚ ≤ℚ s → 0ℚ <ℚ a → 0ℚ ≤ℚ t
-            given s t a e h k = linear_le (s ∷ t ∷ a ∷ []) (eq e ∷ le h ∷ lt k ∷ []) (search reading_of depth 12) tt
+            given s t a e h k = linear_le (s ∷ t ∷ a ∷ []) (eq e ∷ le h ∷ lt k ∷ []) (search reading_of) tt
 
         new_supply : IsSupply net cap rate new levels
-        new_supply = IsSupply-pushed net cap rate flows levels good positive least.over e link p d is_open level (less_flow (flows e) a part.1.most)
-            (λ c k. still_most (flows e) a _ part.1.above ((least.over.fits e link p is_open).most c k)) left
-          where
-            less_flow : (x a : ℚ) → a ≤ℚ x → 0ℚ ≤ℚ x +ℚ (0ℚ -ℚ a)
-            less_flow x a h = linear_le (x ∷ a ∷ []) (le h ∷ []) (search reading_of depth 12) tt
-
-            still_most : (x a y : ℚ) → 0ℚ <ℚ a → x ≤ℚ y → x +ℚ (0ℚ -ℚ a) ≤ℚ y
-            still_most x a y h k = linear_le (x ∷ a ∷ y ∷ []) (lt h ∷ le k ∷ []) (search reading_of depth 12) tt
+        new_supply = IsSupply-pushed net cap rate flows levels good positive least.over e link p d is_open level (nn_less_part (flows e) a part.1.most)
+            (λ c k. less_some_le (flows e) a _ part.1.above ((least.over.fits e link p is_open).most c k)) left
 
         less_inflow : sum_to net.nodes (sum_in net.links new) <ℚ sum_to net.nodes (sum_in net.links flows)
         less_inflow = sum_to-lt net.nodes (sum_in net.links new) (sum_in net.links flows) (λ v _. no_more v) link.head (good.heads e link p)
             (less (sum_in net.links flows link.head) _ _ a (only_at-here link.head 1ℚ) (in-pushed net rate flows e link p d link.head) part.1.above)
           where
             less : (x y b a : ℚ) → b ≡ 1ℚ → y ≡ x +ℚ b *ℚ (0ℚ -ℚ a) → 0ℚ <ℚ a → y <ℚ x
-            less x y b a e f h = linear_lt (x ∷ y ∷ b ∷ a ∷ []) (eq_times a e ∷ eq f ∷ lt h ∷ []) (search reading_of depth 12) tt
+            less x y b a e f h = linear_lt (x ∷ y ∷ b ∷ a ∷ []) (eq_times a e ∷ eq f ∷ lt h ∷ []) (search reading_of) tt
 
             same : (x y b a : ℚ) → b ≡ 0ℚ → y ≡ x +ℚ b *ℚ (0ℚ -ℚ a) → y ≤ℚ x
-            same x y b a e f = linear_le (x ∷ y ∷ b ∷ a ∷ []) (eq_times a e ∷ eq f ∷ []) (search reading_of depth 12) tt
+            same x y b a e f = linear_le (x ∷ y ∷ b ∷ a ∷ []) (eq_times a e ∷ eq f ∷ []) (search reading_of) tt
 
             no_more : (v : ℕ) → sum_in net.links new v ≤ℚ sum_in net.links flows v
             no_more v = ⊎_elim

@@ -54,7 +54,7 @@ module _ (net : Network) (good : IsNetwork net) (rate : ℚ) (nn : 0ℚ ≤ℚ r
   }
     where
       nothing : (i o d a : ℚ) → i ≡ 0ℚ → o ≡ 0ℚ → d ≡ a → 0ℚ ≤ℚ (i -ℚ (o +ℚ d)) +ℚ a
-      nothing i o d a e f g = linear_le (i ∷ o ∷ d ∷ a ∷ []) (eq e ∷ eq f ∷ eq g ∷ []) (search reading_of depth 12) tt
+      nothing i o d a e f g = linear_le (i ∷ o ∷ d ∷ a ∷ []) (eq e ∷ eq f ∷ eq g ∷ []) (search reading_of) tt
 
   -- ---- one more link, from v on
   module _ (e : ℕ) (link : Link) (p : IsLink net e link) (flows : ℕ → ℚ) (r : IsRoute net rate link.head flows) where
@@ -73,7 +73,7 @@ module _ (net : Network) (good : IsNetwork net) (rate : ℚ) (nn : 0ℚ ≤ℚ r
     }
       where
         from_source : (s a b : ℚ) → a ≡ 0ℚ → 0ℚ ≤ℚ s +ℚ a → 0ℚ ≤ℚ b → 0ℚ ≤ℚ s +ℚ b
-        from_source s a b e h k = linear_le (s ∷ a ∷ b ∷ []) (eq e ∷ le h ∷ le k ∷ []) (search reading_of depth 12) tt
+        from_source s a b e h k = linear_le (s ∷ a ∷ b ∷ []) (eq e ∷ le h ∷ le k ∷ []) (search reading_of) tt
 
     abbrev new : ℕ → ℚ
     new = pushed net rate flows e link p rate
@@ -104,13 +104,13 @@ module _ (net : Network) (good : IsNetwork net) (rate : ℚ) (nn : 0ℚ ≤ℚ r
     }
       where
         at_head : (s t a b : ℚ) → t ≡ s +ℚ rate → a ≡ rate → 0ℚ ≤ℚ s +ℚ a → 0ℚ ≤ℚ b → 0ℚ ≤ℚ t +ℚ b
-        at_head s t a b e f h k = linear_le (s ∷ t ∷ a ∷ b ∷ rate ∷ []) (eq e ∷ eq f ∷ le h ∷ le k ∷ []) (search reading_of depth 12) tt
+        at_head s t a b e f h k = linear_le (s ∷ t ∷ a ∷ b ∷ rate ∷ []) (eq e ∷ eq f ∷ le h ∷ le k ∷ []) (search reading_of) tt
 
         at_tail : (s t a b : ℚ) → t ≡ s -ℚ rate → a ≡ 0ℚ → b ≡ rate → 0ℚ ≤ℚ s +ℚ a → 0ℚ ≤ℚ t +ℚ b
-        at_tail s t a b e f g h = linear_le (s ∷ t ∷ a ∷ b ∷ rate ∷ []) (eq e ∷ eq f ∷ eq g ∷ le h ∷ []) (search reading_of depth 12) tt
+        at_tail s t a b e f g h = linear_le (s ∷ t ∷ a ∷ b ∷ rate ∷ []) (eq e ∷ eq f ∷ eq g ∷ le h ∷ []) (search reading_of) tt
 
         elsewhere : (s t a b : ℚ) → t ≡ s → a ≡ 0ℚ → 0ℚ ≤ℚ s +ℚ a → 0ℚ ≤ℚ b → 0ℚ ≤ℚ t +ℚ b
-        elsewhere s t a b e f h k = linear_le (s ∷ t ∷ a ∷ b ∷ []) (eq e ∷ eq f ∷ le h ∷ le k ∷ []) (search reading_of depth 12) tt
+        elsewhere s t a b e f h k = linear_le (s ∷ t ∷ a ∷ b ∷ []) (eq e ∷ eq f ∷ le h ∷ le k ∷ []) (search reading_of) tt
 
     step : (new_flows : ℕ → ℚ) × IsRoute net rate link.tail new_flows
     step = ⊎_elim
@@ -145,17 +145,17 @@ module _ (net : Network) (good : IsNetwork net) (rate : ℚ) (nn : 0ℚ ≤ℚ r
     height_one = more _ (link_sum-not_negative net.links (λ e link. flows e /ℚ size link) quotient_nn)
       where
         more : (s : ℚ) → 0ℚ ≤ℚ s → 1ℚ ≤ℚ 1ℚ +ℚ s
-        more s h = linear_le (s ∷ []) (le h ∷ []) (search reading_of depth 12) tt
+        more s h = linear_le (s ∷ []) (le h ∷ []) (search reading_of) tt
 
     height_nn : 0ℚ ≤ℚ height
-    height_nn = ≤ℚ_trans _ _ _ (linear_le [] [] (search reading_of depth 12) tt) height_one
+    height_nn = ≤ℚ_trans _ _ _ (linear_le [] [] (search reading_of) tt) height_one
 
     fits_in : (e : ℕ) (link : Link) → IsLink net e link → flows e ≤ℚ size link *ℚ height
     fits_in e link p = within (flows e) (flows e /ℚ size link) (size link) _ (quotient-times (flows e) (size link) (size_ps e link p))
         (link_sum-one net.links (λ e link. flows e /ℚ size link) quotient_nn e link p) (≤ℚ_of_lt _ _ (size_ps e link p))
       where
         within : (x q c s : ℚ) → q *ℚ c ≡ x → q ≤ℚ s → 0ℚ ≤ℚ c → x ≤ℚ c *ℚ (1ℚ +ℚ s)
-        within x q c s e h n = linear_le (x ∷ q ∷ c ∷ s ∷ []) (eq e ∷ le_times n h ∷ le n ∷ []) (search reading_of depth 12) tt
+        within x q c s e h n = linear_le (x ∷ q ∷ c ∷ s ∷ []) (eq e ∷ le_times n h ∷ le n ∷ []) (search reading_of) tt
 
     level_source : levels net.source ≡ 1ℚ
     level_source = ⊎_elim
@@ -266,7 +266,7 @@ module _ (net : Network) (good : IsNetwork net) (rate : ℚ) (nn : 0ℚ ≤ℚ r
     }
       where
         enough_by : (i o d p q a : ℚ) → p ≡ o → i ≤ℚ q → a ≡ 0ℚ → 0ℚ ≤ℚ (i -ℚ (o +ℚ d)) +ℚ a → p +ℚ d ≤ℚ q
-        enough_by i o d p q a e h f k = linear_le (i ∷ o ∷ d ∷ p ∷ q ∷ a ∷ []) (eq e ∷ le h ∷ eq f ∷ le k ∷ []) (search reading_of depth 14) tt
+        enough_by i o d p q a e h f k = linear_le (i ∷ o ∷ d ∷ p ∷ q ∷ a ∷ []) (eq e ∷ le h ∷ eq f ∷ le k ∷ []) (search reading_of) tt
 
   pub supply_exists : (size : Link → ℚ) → ((e : ℕ) (link : Link) → IsLink net e link → 0ℚ <ℚ size link)
       → (flows : ℕ → ℚ) × (levels : ℕ → ℚ) × IsSupply net (λ link. Some (size link)) rate flows levels

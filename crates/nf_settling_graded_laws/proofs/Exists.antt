@@ -6,7 +6,7 @@ use Rattle.nf_rational.specs.Rational.{ℚ}
 use Rattle.nf_rational.specs.Operations.{0ℚ, 1ℚ, ◌+ℚ◌, ◌-ℚ◌, ◌*ℚ◌}
 use Rattle.nf_rational.specs.Order.{◌≤ℚ◌, ◌<ℚ◌, lt_ℚ}
 use Rattle.nf_rational_laws.proofs.Polynomial.{reading_of}
-use Rattle.nf_rational_laws.proofs.Order.{≤ℚ_of_lt, ≤ℚ_of_same, ≤ℚ_antisymm, lt_or_le_ℚ, not_both_ℚ, <ℚ_irrefl, nn_times}
+use Rattle.nf_rational_laws.proofs.Order.{≤ℚ_of_lt, ≤ℚ_of_same, ≤ℚ_antisymm, lt_or_le_ℚ, not_both_ℚ, <ℚ_irrefl, nn_times, less_nn}
 use Rattle.nf_rational_laws.proofs.Chains.{≤ℚ_refl, ≤ℚ_trans}
 use Rattle.nf_rational_laws.proofs.Tests.{lt_ℚ_cases}
 use Rattle.nf_rational_laws.proofs.Linear.{le, le_times, eq_times, linear_le, linear_lt}
@@ -28,7 +28,7 @@ abbrev size_by : ℚ → Option ℚ → ℚ
 size_by rate capacity = unwrap_or capacity (great rate)
 
 size_by-positive : (rate : ℚ) (capacity : Option ℚ) → 0ℚ ≤ℚ rate → IsPositive capacity → 0ℚ <ℚ size_by rate capacity
-size_by-positive rate None n p = linear_lt (rate ∷ []) (le n ∷ []) (search reading_of depth 12) tt
+size_by-positive rate None n p = linear_lt (rate ∷ []) (le n ∷ []) (search reading_of) tt
 size_by-positive rate (Some c) n p = p c refl
 
 some-positive : (x : ℚ) → 0ℚ <ℚ x → IsPositive (Some x)
@@ -80,14 +80,14 @@ module _ (net : Network) (good : IsNetwork net) (rate : ℚ) (nn : 0ℚ ≤ℚ r
 
       side_nn : (v : ℕ) → 0ℚ ≤ℚ side v
       side_nn v = ⊎_elim
-          (λ (h : a <ℚ levels v). subst (λ (z : ℚ). 0ℚ ≤ℚ z) (sym (high_side v h)) (linear_le [] [] (search reading_of depth 12) tt))
+          (λ (h : a <ℚ levels v). subst (λ (z : ℚ). 0ℚ ≤ℚ z) (sym (high_side v h)) (linear_le [] [] (search reading_of) tt))
           (λ (h : levels v ≤ℚ a). ≤ℚ_of_same _ _ (sym (low_side v h)))
           (lt_or_le_ℚ a (levels v))
 
       side_le : (v : ℕ) → side v ≤ℚ 1ℚ
       side_le v = ⊎_elim
           (λ (h : a <ℚ levels v). ≤ℚ_of_same _ _ (high_side v h))
-          (λ (h : levels v ≤ℚ a). subst (λ (z : ℚ). z ≤ℚ 1ℚ) (sym (low_side v h)) (linear_le [] [] (search reading_of depth 12) tt))
+          (λ (h : levels v ≤ℚ a). subst (λ (z : ℚ). z ≤ℚ 1ℚ) (sym (low_side v h)) (linear_le [] [] (search reading_of) tt))
           (lt_or_le_ℚ a (levels v))
 
       -- No link with flow leads down.
@@ -99,13 +99,10 @@ module _ (net : Network) (good : IsNetwork net) (rate : ℚ) (nn : 0ℚ ≤ℚ r
           (lt_or_le_ℚ 0ℚ (flows e))
         where
           empty : (x r : ℚ) → x ≤ℚ 0ℚ → 0ℚ ≤ℚ x → 0ℚ ≤ℚ x *ℚ r
-          empty x r h k = subst (λ (z : ℚ). 0ℚ ≤ℚ z *ℚ r) (sym (≤ℚ_antisymm x 0ℚ h k)) (linear_le (r ∷ []) [] (search reading_of depth 12) tt)
-
-          less_nn_of : (x y : ℚ) → x ≤ℚ y → 0ℚ ≤ℚ y -ℚ x
-          less_nn_of x y h = linear_le (x ∷ y ∷ []) (le h ∷ []) (search reading_of depth 12) tt
+          empty x r h k = subst (λ (z : ℚ). 0ℚ ≤ℚ z *ℚ r) (sym (≤ℚ_antisymm x 0ℚ h k)) (linear_le (r ∷ []) [] (search reading_of) tt)
 
           rises : levels link.tail ≤ℚ levels link.head → 0ℚ ≤ℚ rise side link
-          rises up = less_nn_of _ _ (⊎_elim
+          rises up = less_nn _ _ (⊎_elim
               (λ (h : a <ℚ levels link.head). subst (λ (z : ℚ). side link.tail ≤ℚ z) (sym (high_side link.head h)) (side_le link.tail))
               (λ (h : levels link.head ≤ℚ a). ≤ℚ_trans _ _ _ (≤ℚ_of_same _ _ (low_side link.tail (≤ℚ_trans _ _ _ up h))) (side_nn link.head))
               (lt_or_le_ℚ a (levels link.head)))
@@ -118,7 +115,7 @@ module _ (net : Network) (good : IsNetwork net) (rate : ℚ) (nn : 0ℚ ≤ℚ r
         where
           joined : (x s t a b : ℚ) → s ≡ 0ℚ → t ≡ 1ℚ → x *ℚ (t -ℚ s) ≤ℚ rate *ℚ (b -ℚ a) → 0ℚ ≤ℚ a → b ≤ℚ 1ℚ → x ≤ℚ rate
           joined x s t a b e f h k l = linear_le (x ∷ s ∷ t ∷ a ∷ b ∷ rate ∷ []) (eq_times x e ∷ eq_times x f ∷ le h ∷ le_times nn k ∷ le_times nn l ∷ [])
-              (search reading_of depth 14) tt
+              (search reading_of) tt
 
     never_up : (e : ℕ) (link : Link) → IsLink net e link → link.capacity ≡ None → levels link.head ≤ℚ levels link.tail
     unfolding cap size_of
@@ -135,8 +132,8 @@ module _ (net : Network) (good : IsNetwork net) (rate : ℚ) (nn : 0ℚ ≤ℚ r
       where
         too_much : (x c t : ℚ) → c ≡ rate +ℚ 1ℚ → c *ℚ t ≤ℚ x → 1ℚ ≤ℚ t → x ≤ℚ rate → ⊥
         too_much x c t e h k l =
-            let low : 0ℚ ≤ℚ rate +ℚ 1ℚ = linear_le (rate ∷ []) (le nn ∷ []) (search reading_of depth 12) tt in
-            <ℚ_irrefl 0ℚ (linear_lt (x ∷ c ∷ t ∷ rate ∷ []) (eq_times t e ∷ le h ∷ le_times low k ∷ le l ∷ []) (search reading_of depth 14) tt)
+            let low : 0ℚ ≤ℚ rate +ℚ 1ℚ = linear_le (rate ∷ []) (le nn ∷ []) (search reading_of) tt in
+            <ℚ_irrefl 0ℚ (linear_lt (x ∷ c ∷ t ∷ rate ∷ []) (eq_times t e ∷ le h ∷ le_times low k ∷ le l ∷ []) (search reading_of) tt)
 
     IsGraded-sized : IsGraded net rate flows levels
     unfolding cap size_of

@@ -1,79 +1,25 @@
 -- Systems of linear inequalities describe supplies. So one supply has the least sum of levels, and among those the least sum of inflows. The proof
 -- is that of `nf_complete_laws/Assigned`, for supplies.
-use Rattle.std.proofs.Common.{◌≡◌, ◌≢◌, ℕ, zero, suc, ◌<◌, ◌⊎◌, Option, Some, None, sym, subst, refl, arith}
-use Rattle.std.proofs.lemmas.Option.{none-some, same_Some}
+use Rattle.std.proofs.Common.{◌≡◌, ◌≢◌, ℕ, ◌<◌, Option, sym, subst}
 use Rattle.nf_rational.specs.Rational.{ℚ}
-use Rattle.nf_rational.specs.Operations.{0ℚ, 1ℚ, ◌+ℚ◌, ◌-ℚ◌, ◌*ℚ◌}
+use Rattle.nf_rational.specs.Operations.{0ℚ, 1ℚ, ◌+ℚ◌, ◌-ℚ◌}
 use Rattle.nf_rational.specs.Order.{◌≤ℚ◌}
-use Rattle.nf_rational_laws.proofs.Order.{nn_plus}
-use Rattle.nf_rational_laws.proofs.Chains.{≤ℚ_refl}
+use Rattle.nf_rational_laws.proofs.Facts.{nn_of_one}
 use Rattle.nf_model.specs.Network.{Link, Network, IsNetwork, IsLink, sum_in, sum_out}
 use Rattle.nf_model_laws.specs.Capacity.{IsPositive}
-use Rattle.nf_model_laws.proofs.Potential.{sum_to}
+use Rattle.nf_model_laws.proofs.Potential.{sum_to, sum_to-nn}
 use Rattle.nf_linear_laws.specs.Systems.{form_value}
 use Rattle.nf_linear_laws.proofs.Choices.{MeetsOne, LeastOfTwo, least_of_two}
-use Rattle.nf_complete_laws.specs.Oversupply.{Fits, demand}
+use Rattle.nf_complete_laws.specs.Oversupply.{demand}
 use Rattle.nf_complete_laws.proofs.Bare.{same_node}
 use Rattle.nf_complete_laws.proofs.ExistsDeciding.{not_so}
 use Rattle.nf_complete_laws.proofs.LinkSums.{sum_in-not_negative}
-use Rattle.nf_complete_laws.proofs.Affine.{Affine, Affine-value, Affine-form, Affine-floor, Affine-constant, Affine-variable, Affine-plus, Affine-times, Affine-sum_to, Affine-sum_in, Affine-sum_out}
-use Rattle.nf_complete_laws.proofs.Described.{Described, Described-as, Described-always, Described-never, Described-both, Described-either, Described-when, Described-le, Described-same, Described-to, Described-links, EachLink}
-use Rattle.nf_complete_laws.proofs.Assigned.{even, slopes_of, flows_of, joined, slopes_of-joined, flows_of-joined}
-use Rattle.nf_settling_graded_laws.proofs.Supplies.{IsOpen, open_or_not, IsSupply, above_0, flow_nn}
+use Rattle.nf_complete_laws.proofs.Affine.{Affine, Affine-value, Affine-form, Affine-floor, Affine-constant, Affine-plus, Affine-sum_to, Affine-sum_in, Affine-sum_out}
+use Rattle.nf_complete_laws.proofs.Described.{Described, Described-as, Described-both, Described-when, Described-le, Described-same, Described-to, Described-links, EachLink}
+use Rattle.nf_complete_laws.proofs.Assigned.{slopes_of, flows_of, joined, slopes_of-joined, flows_of-joined, slope, flow, FitsAt, fits_described}
+use Rattle.nf_settling_graded_laws.proofs.Supplies.{IsOpen, open_or_not, IsSupply, flow_nn}
 
 -- ---- conditions of a supply
-slope : (v : ℕ) → Affine (λ x. slopes_of x v)
-slope v = Affine-variable (even v)
-
-flow : (e : ℕ) → Affine (λ x. flows_of x e)
-flow e = Affine-variable (suc (even e))
-
-abbrev FitsAt : ℕ → Option ℚ → ℕ → ℕ → (ℕ → ℚ) → Type 0
-FitsAt e capacity tail head x = Fits capacity (flows_of x e) (slopes_of x tail) (slopes_of x head)
-
-abbrev MostAt : ℕ → Option ℚ → ℕ → (ℕ → ℚ) → Type 0
-MostAt e capacity head x = (c : ℚ) → capacity ≡ Some c → flows_of x e ≤ℚ c *ℚ slopes_of x head
-
-abbrev FilledAt : ℕ → Option ℚ → ℕ → (ℕ → ℚ) → Type 0
-FilledAt e capacity head x = (c : ℚ) × (capacity ≡ Some c) × (c *ℚ slopes_of x head ≤ℚ flows_of x e)
-
-most_described : (e : ℕ) (capacity : Option ℚ) (head : ℕ) → Described (MostAt e capacity head)
-most_described e None head = Described-always (MostAt e None head) (λ x c k. absurd (none-some c k))
-most_described e (Some a) head = Described-as (λ x. flows_of x e ≤ℚ a *ℚ slopes_of x head) (MostAt e (Some a) head)
-    (λ x h c k. subst (λ (b : ℚ). flows_of x e ≤ℚ b *ℚ slopes_of x head) (same_Some a c k) h) (λ x h. h a refl)
-    (Described-le (λ x. flows_of x e) (λ x. a *ℚ slopes_of x head) (flow e) (Affine-times a (λ x. slopes_of x head) (slope head)))
-
-filled_described : (e : ℕ) (capacity : Option ℚ) (head : ℕ) → Described (FilledAt e capacity head)
-filled_described e None head = Described-never (FilledAt e None head) (λ x f. none-some f.0 f.1)
-filled_described e (Some a) head = Described-as (λ x. a *ℚ slopes_of x head ≤ℚ flows_of x e) (FilledAt e (Some a) head)
-    (λ x h. (a, refl, h)) (λ x f. subst (λ (b : ℚ). b *ℚ slopes_of x head ≤ℚ flows_of x e) (sym (same_Some a f.0 f.1)) f.2)
-    (Described-le (λ x. a *ℚ slopes_of x head) (λ x. flows_of x e) (Affine-times a (λ x. slopes_of x head) (slope head)) (flow e))
-
-fits_described : (e : ℕ) (capacity : Option ℚ) (tail head : ℕ) → Described (FitsAt e capacity tail head)
-fits_described e capacity tail head = Described-as (λ x. (N x × M x) × (U x × V x)) (FitsAt e capacity tail head)
-    (λ x h. record { no_negative = h.0.0; most = h.0.1; used = h.1.0; upper = h.1.1 })
-    (λ x f. ((f.no_negative, f.most), (f.used, f.upper)))
-    (Described-both (λ x. N x × M x) (λ x. U x × V x)
-    (Described-both N M (Described-le (λ x. 0ℚ) (λ x. flows_of x e) (Affine-constant 0ℚ) (flow e)) (most_described e capacity head))
-    (Described-both U V
-    (Described-either (λ x. flows_of x e ≤ℚ 0ℚ) (λ x. slopes_of x tail ≤ℚ slopes_of x head)
-    (Described-le (λ x. flows_of x e) (λ x. 0ℚ) (flow e) (Affine-constant 0ℚ))
-    (Described-le (λ x. slopes_of x tail) (λ x. slopes_of x head) (slope tail) (slope head)))
-    (Described-either (λ x. slopes_of x head ≤ℚ slopes_of x tail) (FilledAt e capacity head)
-    (Described-le (λ x. slopes_of x head) (λ x. slopes_of x tail) (slope head) (slope tail)) (filled_described e capacity head))))
-  where
-    N : (ℕ → ℚ) → Type 0
-    N x = 0ℚ ≤ℚ flows_of x e
-
-    M : (ℕ → ℚ) → Type 0
-    M x = MostAt e capacity head x
-
-    U : (ℕ → ℚ) → Type 0
-    U x = (flows_of x e ≤ℚ 0ℚ) ⊎ (slopes_of x tail ≤ℚ slopes_of x head)
-
-    V : (ℕ → ℚ) → Type 0
-    V x = (slopes_of x head ≤ℚ slopes_of x tail) ⊎ FilledAt e capacity head x
-
 -- No supply has a smaller sum of levels, and none with an equally small sum has a smaller sum of inflows.
 pub record IsLeast (net : Network) (cap : Link → Option ℚ) (rate : ℚ) (flows levels : ℕ → ℚ) : Type 0 where
   pub over : IsSupply net cap rate flows levels
@@ -82,10 +28,6 @@ pub record IsLeast (net : Network) (cap : Link → Option ℚ) (rate : ℚ) (flo
   pub flows_least : (other_flows other_levels : ℕ → ℚ) → IsSupply net cap rate other_flows other_levels
       → sum_to net.nodes other_levels ≤ℚ sum_to net.nodes levels
       → sum_to net.nodes (sum_in net.links flows) ≤ℚ sum_to net.nodes (sum_in net.links other_flows)
-
-sum_to-not_negative : (n : ℕ) (f : ℕ → ℚ) → ((k : ℕ) → k < n → 0ℚ ≤ℚ f k) → 0ℚ ≤ℚ sum_to n f
-sum_to-not_negative zero f h = ≤ℚ_refl 0ℚ
-sum_to-not_negative (suc n) f h = nn_plus _ _ (sum_to-not_negative n f (λ k l. h k (omega arith))) (h n (omega arith))
 
 module _ (net : Network) (cap : Link → Option ℚ) (rate : ℚ) where
   abbrev IsAssigned : (ℕ → ℚ) → Type 0
@@ -161,11 +103,11 @@ module _ (net : Network) (cap : Link → Option ℚ) (rate : ℚ) where
   module _ (good : IsNetwork net) (positive : (e : ℕ) (link : Link) → IsLink net e link → IsPositive (cap link)) where
     slope_floor : (x : ℕ → ℚ) → MeetsOne supply_described.systems x → 0ℚ -ℚ slope_sum.rest ≤ℚ form_value slope_sum.form x
     slope_floor x h = Affine-floor (λ x. sum_to net.nodes (slopes_of x)) slope_sum x 0ℚ
-        (sum_to-not_negative net.nodes (slopes_of x) (λ v l. above_0 _ ((supply_described.out x h).keeps_up v l)))
+        (sum_to-nn net.nodes (slopes_of x) (λ v l. nn_of_one _ ((supply_described.out x h).keeps_up v l)))
 
     inflow_floor : (x : ℕ → ℚ) → MeetsOne supply_described.systems x → 0ℚ -ℚ inflow_sum.rest ≤ℚ form_value inflow_sum.form x
     inflow_floor x h = Affine-floor (λ x. sum_to net.nodes (sum_in net.links (flows_of x))) inflow_sum x 0ℚ
-        (sum_to-not_negative net.nodes (sum_in net.links (flows_of x))
+        (sum_to-nn net.nodes (sum_in net.links (flows_of x))
         (λ v l. sum_in-not_negative net.links (flows_of x) v (flow_nn net cap rate (flows_of x) (slopes_of x) good positive (supply_described.out x h))))
 
     least_at : (flows slopes : ℕ → ℚ) → IsSupply net cap rate flows slopes → LeastOfTwo supply_described.systems slope_sum.form inflow_sum.form

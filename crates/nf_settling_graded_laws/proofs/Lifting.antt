@@ -1,12 +1,11 @@
 -- Pushes begin with a supply whose nodes with excess have levels above 1. They end with one whose nodes with excess are closed. The proof is that
 -- of `nf_complete_laws/Growing`, for supplies.
-use Rattle.std.proofs.Common.{◌≡◌, ◌≢◌, ℕ, zero, suc, ◌<◌, ◌≤◌, [], ◌∷◌, ◌⊎◌, inl, inr, ⊎_elim, Option, sym, ap, subst, ◌∙◌, arith}
+use Rattle.std.proofs.Common.{◌≡◌, ◌≢◌, ℕ, zero, suc, ◌<◌, ◌≤◌, ◌⊎◌, inl, inr, ⊎_elim, Option, sym, ap, subst, ◌∙◌, arith}
 use Rattle.nf_rational.specs.Rational.{ℚ}
 use Rattle.nf_rational.specs.Operations.{0ℚ, 1ℚ, ◌+ℚ◌, ◌-ℚ◌}
 use Rattle.nf_rational.specs.Order.{◌≤ℚ◌, ◌<ℚ◌}
-use Rattle.nf_rational_laws.proofs.Polynomial.{reading_of}
 use Rattle.nf_rational_laws.proofs.Order.{≤ℚ_of_lt, ≤ℚ_of_same, not_both_ℚ}
-use Rattle.nf_rational_laws.proofs.Linear.{le, lt, eq, linear_le, linear_lt, linear_eq}
+use Rattle.nf_rational_laws.proofs.Facts.{nn_less_part, less_some_le}
 use Rattle.nf_model.specs.Network.{Link, Network, IsLink, IsNetwork}
 use Rattle.nf_model_laws.specs.Capacity.{IsPositive}
 use Rattle.nf_complete_laws.proofs.Deciding.{Decided, both, same_or_not, NoLink}
@@ -16,34 +15,10 @@ use Rattle.nf_complete_laws.proofs.Fitting.{IsAtMost, HasRoom, room_or_not}
 use Rattle.nf_complete_laws.proofs.Spare.{spare, HasSpare, spare_or_not, spare_of_enough}
 use Rattle.nf_complete_laws.proofs.Pushing.{pushed, spare-else, spare-head, spare-tail}
 use Rattle.nf_complete_laws.proofs.Counting.{lack, lack-le, lack-lt, count_to, count_to-lt}
-use Rattle.nf_complete_laws.proofs.Growing.{IsPart, part_of, part_of_room}
+use Rattle.nf_complete_laws.proofs.Growing.{IsPart, part_of, part_of_room, left_over, gained, more_flow, plus_less, less_less}
 use Rattle.nf_settling_graded_laws.proofs.Supplies.{IsOpen, open_or_not, IsSupply, IsSupply-pushed}
 
 -- ---- numbers
-left_over : (s t a : ℚ) → t ≡ s -ℚ a → a <ℚ s → 0ℚ <ℚ t
-left_over s t a e h = linear_lt (s ∷ t ∷ a ∷ []) (eq e ∷ lt h ∷ []) (search reading_of depth 12) tt
-
-gained : (s t a : ℚ) → t ≡ s +ℚ a → 0ℚ ≤ℚ s → 0ℚ <ℚ a → 0ℚ <ℚ t
-gained s t a e h k = linear_lt (s ∷ t ∷ a ∷ []) (eq e ∷ le h ∷ lt k ∷ []) (search reading_of depth 12) tt
-
-taken : (s t a : ℚ) → t ≡ s +ℚ (0ℚ -ℚ a) → a ≤ℚ s → 0ℚ ≤ℚ t
-taken s t a e h = linear_le (s ∷ t ∷ a ∷ []) (eq e ∷ le h ∷ []) (search reading_of depth 12) tt
-
-more_flow : (x a : ℚ) → 0ℚ ≤ℚ x → 0ℚ <ℚ a → 0ℚ ≤ℚ x +ℚ a
-more_flow x a h k = linear_le (x ∷ a ∷ []) (le h ∷ lt k ∷ []) (search reading_of depth 12) tt
-
-less_flow : (x a : ℚ) → a ≤ℚ x → 0ℚ ≤ℚ x +ℚ (0ℚ -ℚ a)
-less_flow x a h = linear_le (x ∷ a ∷ []) (le h ∷ []) (search reading_of depth 12) tt
-
-still_most : (x a y : ℚ) → 0ℚ <ℚ a → x ≤ℚ y → x +ℚ (0ℚ -ℚ a) ≤ℚ y
-still_most x a y h k = linear_le (x ∷ a ∷ y ∷ []) (lt h ∷ le k ∷ []) (search reading_of depth 12) tt
-
-plus_less : (s t a : ℚ) → t ≡ s +ℚ (0ℚ -ℚ a) → t ≡ s -ℚ a
-plus_less s t a e = linear_eq (s ∷ t ∷ a ∷ []) (eq e ∷ []) (search reading_of depth 12) tt tt
-
-less_less : (s t a : ℚ) → t ≡ s -ℚ (0ℚ -ℚ a) → t ≡ s +ℚ a
-less_less s t a e = linear_eq (s ∷ t ∷ a ∷ []) (eq e ∷ []) (search reading_of depth 12) tt tt
-
 -- A supply whose nodes with excess have levels above 1.
 pub record IsLifted (net : Network) (cap : Link → Option ℚ) (rate : ℚ) (levels flows : ℕ → ℚ) : Type 0 where
   pub over : IsSupply net cap rate flows levels
@@ -152,10 +127,10 @@ module _ (net : Network) (cap : Link → Option ℚ) (rate : ℚ) (levels : ℕ 
         d = 0ℚ -ℚ a
 
         less : 0ℚ ≤ℚ flows e +ℚ d
-        less = less_flow (flows e) a part.1.most
+        less = nn_less_part (flows e) a part.1.most
 
         at_most : IsAtMost (cap link) (flows e +ℚ d) (levels link.head)
-        at_most c k = still_most (flows e) a _ part.1.above ((f.over.fits e link p needs).most c k)
+        at_most c k = less_some_le (flows e) a _ part.1.above ((f.over.fits e link p needs).most c k)
 
         -- The link does not leave the source, whose level is 1.
         from_source : link.tail ≢ net.source

@@ -8,6 +8,7 @@ use Rattle.nf_rational_laws.proofs.Polynomial.{reading_of}
 use Rattle.nf_rational_laws.proofs.Order.{≤ℚ_of_lt, lt_or_le_ℚ, not_both_ℚ, less_ps}
 use Rattle.nf_rational_laws.proofs.Chains.{≤ℚ_refl}
 use Rattle.nf_rational_laws.proofs.Linear.{le, lt, eq, linear_le, linear_lt}
+use Rattle.nf_rational_laws.proofs.Facts.{nn_of_one}
 use Rattle.nf_model.specs.Network.{Link, Network, IsLink, IsNetwork, sum_in, sum_out}
 use Rattle.nf_model_laws.specs.Capacity.{IsPositive}
 use Rattle.nf_model_laws.proofs.Sums.{sum_in-same, sum_in-line, sum_in-order, sum_out-order}
@@ -17,8 +18,8 @@ use Rattle.nf_complete_laws.proofs.Small.{Small, Small-map, Small-both, Small-wh
 use Rattle.nf_complete_laws.proofs.LinkSums.{sum_in-not_negative}
 use Rattle.nf_complete_laws.proofs.Fitting.{IsAtMost, IsFilled, HasRoom, filled_or_room, capped, capped-le, capped-same, capped-none, capped-near, Fits-capped, fits_used, ordered-low}
 use Rattle.nf_complete_laws.proofs.Spare.{spare, HasSpare, spare_or_not}
-use Rattle.nf_complete_laws.proofs.Lowering.{sum_to-lt, low_by, low_by-cases, low_by-le, low_by-near, low_by-is, low_by-not}
-use Rattle.nf_settling_graded_laws.proofs.Supplies.{IsOpen, IsSupply, above_0, flow_most}
+use Rattle.nf_complete_laws.proofs.Lowering.{sum_to-lt, low_by, low_by-cases, low_by-le, low_by-near, low_by-is, low_by-not, unwrapped-not_negative, enough_by_rest, enough_by_same}
+use Rattle.nf_settling_graded_laws.proofs.Supplies.{IsOpen, IsSupply, flow_most}
 use Rattle.nf_settling_graded_laws.proofs.Lifting.{IsClosed}
 
 abbrev pub capacity_by : (Link → Option ℚ) → Option Link → ℚ
@@ -28,22 +29,12 @@ capacity_by cap (Some link) = unwrap_or (cap link) 0ℚ
 abbrev pub capacity_at : Network → (Link → Option ℚ) → ℕ → ℚ
 capacity_at net cap e = capacity_by cap (slice_get net.links e)
 
-unwrapped-not_negative : (capacity : Option ℚ) → IsPositive capacity → 0ℚ ≤ℚ unwrap_or capacity 0ℚ
-unwrapped-not_negative None positive = ≤ℚ_refl 0ℚ
-unwrapped-not_negative (Some c) positive = ≤ℚ_of_lt _ _ (positive c refl)
-
 -- The conditions on h.
 pub record IsSmall (net : Network) (cap : Link → Option ℚ) (rate : ℚ) (flows levels : ℕ → ℚ) (h : ℚ) : Type 0 where
   pub rising : (e : ℕ) (link : Link) → IsLink net e link → levels link.tail <ℚ levels link.head → h ≤ℚ levels link.head -ℚ levels link.tail
   pub falling : (e : ℕ) (link : Link) → IsLink net e link → levels link.head <ℚ levels link.tail → h ≤ℚ levels link.tail -ℚ levels link.head
   pub above : (v : ℕ) → v < net.nodes → HasSpare net rate flows v → h ≤ℚ levels v -ℚ 1ℚ
   pub paid : (v : ℕ) → v < net.nodes → HasSpare net rate flows v → sum_in net.links (capacity_at net cap) v *ℚ h ≤ℚ spare net rate flows v
-
-enough_by_rest : (o d i p q k : ℚ) → p ≤ℚ o → i ≤ℚ q +ℚ k → k ≤ℚ i -ℚ (o +ℚ d) → p +ℚ d ≤ℚ q
-enough_by_rest o d i p q k h l m = linear_le (o ∷ d ∷ i ∷ p ∷ q ∷ k ∷ []) (le h ∷ le l ∷ le m ∷ []) (search reading_of depth 12) tt
-
-enough_by_same : (o d i p q : ℚ) → p ≤ℚ o → q ≡ i → o +ℚ d ≤ℚ i → p +ℚ d ≤ℚ q
-enough_by_same o d i p q h e m = linear_le (o ∷ d ∷ i ∷ p ∷ q ∷ []) (le h ∷ eq e ∷ le m ∷ []) (search reading_of depth 12) tt
 
 module _ (net : Network) (cap : Link → Option ℚ) (rate : ℚ) (flows levels : ℕ → ℚ) (good : IsNetwork net)
     (positive : (e : ℕ) (link : Link) → IsLink net e link → IsPositive (cap link))
@@ -132,10 +123,10 @@ module _ (net : Network) (cap : Link → Option ℚ) (rate : ℚ) (flows levels 
         (lowered-cases v)
       where
         left : (x y : ℚ) → y ≡ x -ℚ h → h ≤ℚ x -ℚ 1ℚ → 1ℚ ≤ℚ y
-        left x y e k = linear_le (x ∷ y ∷ h ∷ []) (eq e ∷ le k ∷ []) (search reading_of depth 12) tt
+        left x y e k = linear_le (x ∷ y ∷ h ∷ []) (eq e ∷ le k ∷ []) (search reading_of) tt
 
     lowered-not_negative : (v : ℕ) → v < net.nodes → 0ℚ ≤ℚ lowered v
-    lowered-not_negative v l = above_0 (lowered v) (lowered-keeps_up v l)
+    lowered-not_negative v l = nn_of_one (lowered v) (lowered-keeps_up v l)
 
     -- Levels keep their order along a link with flow, and against a link with room.
     rises : (e : ℕ) (link : Link) → IsLink net e link → IsOpen net link → 0ℚ <ℚ flows e → lowered link.tail ≤ℚ lowered link.head
@@ -220,7 +211,7 @@ module _ (net : Network) (cap : Link → Option ℚ) (rate : ℚ) (flows levels 
     lowered-less v l s k = sum_to-lt net.nodes lowered levels (λ u _. lowered-le u) v l (less (levels v) (lowered v) (lowered-is v s))
       where
         less : (x y : ℚ) → y ≡ x -ℚ h → y <ℚ x
-        less x y e = linear_lt (x ∷ y ∷ h ∷ []) (eq e ∷ lt k ∷ []) (search reading_of depth 12) tt
+        less x y e = linear_lt (x ∷ y ∷ h ∷ []) (eq e ∷ lt k ∷ []) (search reading_of) tt
 
   -- If a node has excess, there is a supply with a smaller sum of levels.
   pub lower : (v : ℕ) → v < net.nodes → HasSpare net rate flows v

@@ -9,6 +9,7 @@ use Rattle.nf_rational_laws.proofs.Order.{≤ℚ_of_lt, lt_or_le_ℚ, less_nn, <
 use Rattle.nf_rational_laws.proofs.Chains.{≤ℚ_refl, ≤ℚ_trans}
 use Rattle.nf_rational_laws.proofs.Extremes.{max_left, max_right, max_keeps}
 use Rattle.nf_rational_laws.proofs.Linear.{le, lt, eq, le_times, eq_times, linear_le, linear_lt}
+use Rattle.nf_rational_laws.proofs.Facts.{nn_of_one}
 use Rattle.nf_model.specs.Entries.{number_at}
 use Rattle.nf_model.specs.Network.{Piece, Network, IsNetwork, IsPiece}
 use Rattle.nf_model.specs.ThinFlow.{Sets, sets_at, IsThinFlow}
@@ -52,15 +53,15 @@ apart-grow s g b c r h n a = (wider _ a.0, wider _ a.1)
   where
     wider : (x : ℚ) → x ≤ℚ b *ℚ (0ℚ -ℚ r) → x ≤ℚ c *ℚ (0ℚ -ℚ r)
     wider x k =
-        let low : 0ℚ ≤ℚ 0ℚ -ℚ r = linear_le (r ∷ []) (le n ∷ []) (search reading_of depth 12) tt in
-        linear_le (x ∷ b ∷ c ∷ r ∷ []) (le k ∷ le_times low h ∷ []) (search reading_of depth 12) tt
+        let low : 0ℚ ≤ℚ 0ℚ -ℚ r = linear_le (r ∷ []) (le n ∷ []) (search reading_of) tt in
+        linear_le (x ∷ b ∷ c ∷ r ∷ []) (le k ∷ le_times low h ∷ []) (search reading_of) tt
 
 apart-same : (s g r : ℚ) → s ≡ g → Apart s g 0ℚ r
 unfolding Apart
 apart-same s g r e = (
-  linear_le (s ∷ g ∷ r ∷ []) (eq e ∷ []) (search reading_of depth 12) tt,
+  linear_le (s ∷ g ∷ r ∷ []) (eq e ∷ []) (search reading_of) tt,
   linear_le (s ∷ g ∷ r ∷ []) (eq e ∷ [])
-      (search reading_of depth 12) tt,
+      (search reading_of) tt,
 )
 
 apart-other : (s g r : ℚ) → r <ℚ 0ℚ → (m : ℚ) × Apart s g m r
@@ -71,7 +72,7 @@ apart-other s g r h = (
 )
   where
     times : max_ℚ (s -ℚ g) (g -ℚ s) /ℚ (0ℚ -ℚ r) *ℚ (0ℚ -ℚ r) ≡ max_ℚ (s -ℚ g) (g -ℚ s)
-    times = quotient-times _ (0ℚ -ℚ r) (linear_lt (r ∷ []) (lt h ∷ []) (search reading_of depth 12) tt)
+    times = quotient-times _ (0ℚ -ℚ r) (linear_lt (r ∷ []) (lt h ∷ []) (search reading_of) tt)
 
 -- x is the label at c, y at d; v is the store at c, w at d; j and u are those at the first departure f.
 pub Near : ℚ → ℚ → ℚ → ℚ → ℚ → ℚ → ℚ → ℚ → Type 0
@@ -80,9 +81,9 @@ Near g m f j u d y w = ((y -ℚ g *ℚ d) -ℚ (j -ℚ g *ℚ f) ≤ℚ m *ℚ (
 near-first : (g m f j u : ℚ) → Near g m f j u f j u
 unfolding Near
 near-first g m f j u = (
-  linear_le (g ∷ m ∷ f ∷ j ∷ u ∷ []) [] (search reading_of depth 14) tt,
+  linear_le (g ∷ m ∷ f ∷ j ∷ u ∷ []) [] (search reading_of) tt,
   linear_le (g ∷ m ∷ f ∷ j ∷ u ∷ []) []
-      (search reading_of depth 14) tt,
+      (search reading_of) tt,
 )
 
 near-on : (g m f j u c x v d y w s r : ℚ) → c <ℚ d → y ≡ x +ℚ s *ℚ (d -ℚ c) → w ≡ v +ℚ (d -ℚ c) *ℚ r → Apart s g m r → Near g m f j u c x v
@@ -95,11 +96,11 @@ near-on g m f j u c x v d y w s r o e h a n = (above a.0 n.0, below a.1 n.1)
 
     above : s -ℚ g ≤ℚ m *ℚ (0ℚ -ℚ r) → (x -ℚ g *ℚ c) -ℚ (j -ℚ g *ℚ f) ≤ℚ m *ℚ (u -ℚ v) → (y -ℚ g *ℚ d) -ℚ (j -ℚ g *ℚ f) ≤ℚ m *ℚ (u -ℚ w)
     above i k = linear_le (g ∷ m ∷ f ∷ j ∷ u ∷ c ∷ x ∷ v ∷ d ∷ y ∷ w ∷ s ∷ r ∷ []) (eq e ∷ eq_times m h ∷ le_times gap i ∷ le k ∷ [])
-        (search reading_of depth 18) tt
+        (search reading_of) tt
 
     below : g -ℚ s ≤ℚ m *ℚ (0ℚ -ℚ r) → (j -ℚ g *ℚ f) -ℚ (x -ℚ g *ℚ c) ≤ℚ m *ℚ (u -ℚ v) → (j -ℚ g *ℚ f) -ℚ (y -ℚ g *ℚ d) ≤ℚ m *ℚ (u -ℚ w)
     below i k = linear_le (g ∷ m ∷ f ∷ j ∷ u ∷ c ∷ x ∷ v ∷ d ∷ y ∷ w ∷ s ∷ r ∷ []) (eq e ∷ eq_times m h ∷ le_times gap i ∷ le k ∷ [])
-        (search reading_of depth 18) tt
+        (search reading_of) tt
 
 pub near-is : (g m f j u d y w : ℚ) → Near g m f j u d y w
     → ((y -ℚ g *ℚ d) -ℚ (j -ℚ g *ℚ f) ≤ℚ m *ℚ (u -ℚ w)) × ((j -ℚ g *ℚ f) -ℚ (y -ℚ g *ℚ d) ≤ℚ m *ℚ (u -ℚ w))
@@ -114,11 +115,11 @@ near-bound g m f j u d y w b p h n m_nn g_nn f_nn j_nn j_le u_le w_ge = (above n
   where
     above : (y -ℚ g *ℚ d) -ℚ (j -ℚ g *ℚ f) ≤ℚ m *ℚ (u -ℚ w) → y -ℚ g *ℚ d ≤ℚ (b +ℚ g *ℚ f) +ℚ m *ℚ (p +ℚ h)
     above k = linear_le (g ∷ m ∷ f ∷ j ∷ u ∷ d ∷ y ∷ w ∷ b ∷ p ∷ h ∷ []) (le k ∷ le j_le ∷ le_times g_nn f_nn ∷ le_times m_nn u_le ∷ le_times m_nn
-        w_ge ∷ []) (search reading_of depth 16) tt
+        w_ge ∷ []) (search reading_of) tt
 
     below : (j -ℚ g *ℚ f) -ℚ (y -ℚ g *ℚ d) ≤ℚ m *ℚ (u -ℚ w) → g *ℚ d -ℚ y ≤ℚ (b +ℚ g *ℚ f) +ℚ m *ℚ (p +ℚ h)
     below k = linear_le (g ∷ m ∷ f ∷ j ∷ u ∷ d ∷ y ∷ w ∷ b ∷ p ∷ h ∷ []) (le k ∷ le j_nn ∷ le j_le ∷ le_times m_nn u_le ∷ le_times m_nn w_ge ∷ [])
-        (search reading_of depth 16) tt
+        (search reading_of) tt
 
 module _ (net : Network) (good : IsNetwork net) (flows levels : ℕ → ℚ) (graded : IsGraded net (last_rate net) flows levels) where
   nn : 0ℚ ≤ℚ last_rate net
@@ -131,10 +132,7 @@ module _ (net : Network) (good : IsNetwork net) (flows levels : ℕ → ℚ) (gr
   growth = levels net.sink
 
   growth_nn : 0ℚ ≤ℚ levels net.sink
-  growth_nn = one_nn (levels net.sink) (graded.keeps_up net.sink good.sink)
-    where
-      one_nn : (x : ℚ) → 1ℚ ≤ℚ x → 0ℚ ≤ℚ x
-      one_nn x h = linear_le (x ∷ []) (le h ∷ []) (search reading_of depth 12) tt
+  growth_nn = nn_of_one (levels net.sink) (graded.keeps_up net.sink good.sink)
 
   latest : ℚ
   latest = label_bound net good (last_start net.pieces)
@@ -275,7 +273,7 @@ module _ (net : Network) (good : IsNetwork net) (flows levels : ℕ → ℚ) (gr
         none_by u g c h k e l =
             let low : 0ℚ ≤ℚ c = ≤ℚ_of_lt _ _ l in
             let one : 1ℚ ≤ℚ g = ≤ℚ_of_lt _ _ k in
-            <ℚ_irrefl 0ℚ (linear_lt (u ∷ g ∷ c ∷ []) (le h ∷ eq e ∷ lt l ∷ le_times low one ∷ []) (search reading_of depth 12) tt)
+            <ℚ_irrefl 0ℚ (linear_lt (u ∷ g ∷ c ∷ []) (le h ∷ eq e ∷ lt l ∷ le_times low one ∷ []) (search reading_of) tt)
 
     pub settles : (from : ℚ) × Settles net from
     settles = equilibria-settle net good wide
@@ -315,7 +313,7 @@ module _ (net : Network) (good : IsNetwork net) (flows levels : ℕ → ℚ) (gr
           onward : (x y b g s c d f : ℚ) → c <ℚ d → x ≤ℚ b +ℚ g *ℚ (c -ℚ f) → y ≡ x +ℚ s *ℚ (d -ℚ c) → s ≤ℚ g → y ≤ℚ b +ℚ g *ℚ (d -ℚ f)
           onward x y b g s c d f o h e k =
               let gap : 0ℚ ≤ℚ d -ℚ c = less_nn c d (≤ℚ_of_lt _ _ o) in
-              linear_le (x ∷ y ∷ b ∷ g ∷ s ∷ c ∷ d ∷ f ∷ []) (le h ∷ eq e ∷ le_times gap k ∷ []) (search reading_of depth 14) tt
+              linear_le (x ∷ y ∷ b ∷ g ∷ s ∷ c ∷ d ∷ f ∷ []) (le h ∷ eq e ∷ le_times gap k ∷ []) (search reading_of) tt
 
       slow : (t : ℚ) → start ≤ℚ t → t ≤ℚ flow.reached → Slow t
       unfolding latest
@@ -323,7 +321,7 @@ module _ (net : Network) (good : IsNetwork net) (flows levels : ℕ → ℚ) (gr
           (at_start _ _ steepest start first_high)
         where
           at_start : (x b g f : ℚ) → x ≤ℚ b → x ≤ℚ b +ℚ g *ℚ (f -ℚ f)
-          at_start x b g f h = linear_le (x ∷ b ∷ g ∷ f ∷ []) (le h ∷ []) (search reading_of depth 12) tt
+          at_start x b g f h = linear_le (x ∷ b ∷ g ∷ f ∷ []) (le h ∷ []) (search reading_of) tt
 
           first_high : label flow net.sink start ≤ℚ latest
           first_high = label-bounded net good flow is start (first_nn, ≤ℚ_trans _ _ _ h l) net.sink good.sink
@@ -339,13 +337,13 @@ module _ (net : Network) (good : IsNetwork net) (flows levels : ℕ → ℚ) (gr
         where
           high : (x t b g s f : ℚ) → x ≤ℚ b +ℚ g *ℚ (t -ℚ f) → 0ℚ ≤ℚ g → 0ℚ ≤ℚ f → 0ℚ ≤ℚ t → t ≤ℚ s → x -ℚ t ≤ℚ (b +ℚ g *ℚ s) +ℚ s
           high x t b g s f h n m j k =
-              let less : t -ℚ f ≤ℚ s = linear_le (t ∷ f ∷ s ∷ []) (le m ∷ le k ∷ []) (search reading_of depth 12) tt in
-              linear_le (x ∷ t ∷ b ∷ g ∷ s ∷ f ∷ []) (le h ∷ le j ∷ le k ∷ le_times n less ∷ []) (search reading_of depth 14) tt
+              let less : t -ℚ f ≤ℚ s = linear_le (t ∷ f ∷ s ∷ []) (le m ∷ le k ∷ []) (search reading_of) tt in
+              linear_le (x ∷ t ∷ b ∷ g ∷ s ∷ f ∷ []) (le h ∷ le j ∷ le k ∷ le_times n less ∷ []) (search reading_of) tt
 
           low : (x t b g s : ℚ) → 0ℚ ≤ℚ b → 0ℚ ≤ℚ g → 0ℚ ≤ℚ x → 0ℚ ≤ℚ t → t ≤ℚ s → t -ℚ x ≤ℚ (b +ℚ g *ℚ s) +ℚ s
           low x t b g s n m i j k =
               let s_nn : 0ℚ ≤ℚ s = ≤ℚ_trans _ _ _ j k in
-              linear_le (x ∷ t ∷ b ∷ g ∷ s ∷ []) (le n ∷ le i ∷ le k ∷ le_times m s_nn ∷ []) (search reading_of depth 14) tt
+              linear_le (x ∷ t ∷ b ∷ g ∷ s ∷ []) (le n ∷ le i ∷ le k ∷ le_times m s_nn ∷ []) (search reading_of) tt
 
       bounded : (t : ℚ) → start ≤ℚ t → t ≤ℚ flow.reached → (label flow net.sink t -ℚ t ≤ℚ long) × (t -ℚ label flow net.sink t ≤ℚ long)
       bounded t h l = ⊎_elim
@@ -368,10 +366,10 @@ module _ (net : Network) (good : IsNetwork net) (flows levels : ℕ → ℚ) (gr
               start_le = last_start-least net.pieces settles.0 settles.1.not_negative settles.1.supply
 
               high : (x y t s b : ℚ) → x ≡ y +ℚ (t -ℚ s) → y -ℚ s ≤ℚ b → x -ℚ t ≤ℚ b
-              high x y t s b e h = linear_le (x ∷ y ∷ t ∷ s ∷ b ∷ []) (eq e ∷ le h ∷ []) (search reading_of depth 12) tt
+              high x y t s b e h = linear_le (x ∷ y ∷ t ∷ s ∷ b ∷ []) (eq e ∷ le h ∷ []) (search reading_of) tt
 
               low : (x y t s b : ℚ) → x ≡ y +ℚ (t -ℚ s) → s -ℚ y ≤ℚ b → t -ℚ x ≤ℚ b
-              low x y t s b e h = linear_le (x ∷ y ∷ t ∷ s ∷ b ∷ []) (eq e ∷ le h ∷ []) (search reading_of depth 12) tt
+              low x y t s b e h = linear_le (x ∷ y ∷ t ∷ s ∷ b ∷ []) (eq e ∷ le h ∷ []) (search reading_of) tt
 
     grows-none : (bound : ℚ) × GrowsAt net (levels net.sink) bound
     grows-none = (
@@ -385,10 +383,10 @@ module _ (net : Network) (good : IsNetwork net) (flows levels : ℕ → ℚ) (gr
     )
       where
         high : (x g t b : ℚ) → g ≡ 1ℚ → x -ℚ t ≤ℚ b → x -ℚ g *ℚ t ≤ℚ b
-        high x g t b e h = linear_le (x ∷ g ∷ t ∷ b ∷ []) (eq_times t e ∷ le h ∷ []) (search reading_of depth 12) tt
+        high x g t b e h = linear_le (x ∷ g ∷ t ∷ b ∷ []) (eq_times t e ∷ le h ∷ []) (search reading_of) tt
 
         low : (x g t b : ℚ) → g ≡ 1ℚ → t -ℚ x ≤ℚ b → g *ℚ t -ℚ x ≤ℚ b
-        low x g t b e h = linear_le (x ∷ g ∷ t ∷ b ∷ []) (eq_times t e ∷ le h ∷ []) (search reading_of depth 12) tt
+        low x g t b e h = linear_le (x ∷ g ∷ t ∷ b ∷ []) (eq_times t e ∷ le h ∷ []) (search reading_of) tt
 
   pub grows-at : (bound : ℚ) × GrowsAt net (levels net.sink) bound
   grows-at = ⊎_elim grows-above grows-none (lt_or_le_ℚ 0ℚ (last_rate net))

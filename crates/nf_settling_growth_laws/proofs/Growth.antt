@@ -49,7 +49,7 @@ module _ (net : Network) (growth : ℚ) (good : IsNetwork net) (is : IsGrowth ne
         (of.bound cut c)
       where
         within : (u q c : ℚ) → q *ℚ c ≡ u → q ≤ℚ 1ℚ → 0ℚ ≤ℚ c → u ≤ℚ c
-        within u q c e h n = linear_le (u ∷ q ∷ c ∷ []) (eq e ∷ le_times n h ∷ []) (search reading_of depth 12) tt
+        within u q c e h n = linear_le (u ∷ q ∷ c ∷ []) (eq e ∷ le_times n h ∷ []) (search reading_of) tt
 
     one_then : CutsAreWide net → growth ≡ 1ℚ
     one_then wide = is.least least of ∙ max_is_left 1ℚ (last_rate net /ℚ least)
@@ -58,7 +58,7 @@ module _ (net : Network) (growth : ℚ) (good : IsNetwork net) (is : IsGrowth ne
         (subst (λ (z : ℚ). last_rate net ≤ℚ z) of.attained.2 (wide of.attained.0 of.attained.1))))
       where
         below : (u q c : ℚ) → q *ℚ c ≡ u → u ≤ℚ c → c *ℚ q ≤ℚ c *ℚ 1ℚ
-        below u q c e h = linear_le (u ∷ q ∷ c ∷ []) (eq e ∷ le h ∷ []) (search reading_of depth 12) tt
+        below u q c e h = linear_le (u ∷ q ∷ c ∷ []) (eq e ∷ le h ∷ []) (search reading_of) tt
 
   growth-one : (growth ≡ 1ℚ) ↔ CutsAreWide net
   growth-one = ⊎_elim

@@ -71,7 +71,7 @@ pub capacity_is : (capacity : Option ℚ) (c : ℚ) → capacity ≡ Some c → 
 capacity_is capacity c e = ap capacity_or_0 e
 
 pub one_ps : (p : ℚ) → 1ℚ ≤ℚ p → 0ℚ <ℚ p
-one_ps p h = linear_lt (p ∷ []) (le h ∷ []) (search reading_of depth 12) tt
+one_ps p h = linear_lt (p ∷ []) (le h ∷ []) (search reading_of) tt
 
 module _ (net : Network) (good : IsNetwork net) (rate : ℚ) (flows levels : ℕ → ℚ) (graded : IsGraded net rate flows levels) where
   pub level_ps : (v : ℕ) → v < net.nodes → 0ℚ <ℚ levels v
@@ -82,7 +82,7 @@ module _ (net : Network) (good : IsNetwork net) (rate : ℚ) (flows levels : ℕ
   over-is w v h = turned (w v) (levels v) (over levels w v) (quotient-times (w v) (levels v) (level_ps v h))
     where
       turned : (a l q : ℚ) → q *ℚ l ≡ a → a ≡ l *ℚ q
-      turned a l q e = linear_eq (a ∷ l ∷ q ∷ []) (eq e ∷ []) (search reading_of depth 12) tt tt
+      turned a l q e = linear_eq (a ∷ l ∷ q ∷ []) (eq e ∷ []) (search reading_of) tt tt
 
   pub over-nn : (w : ℕ → ℚ) (v : ℕ) → v < net.nodes → 0ℚ ≤ℚ w v → 0ℚ ≤ℚ over levels w v
   over-nn w v h n = nn-quotient (w v) (levels v) n (level_ps v h)
@@ -92,7 +92,7 @@ module _ (net : Network) (good : IsNetwork net) (rate : ℚ) (flows levels : ℕ
       (joined (levels v) (x v) (y v) (w v) _ _ _ (over-is x v h) (over-is y v h) (over-is w v h) e)
     where
       joined : (l a b c p q r : ℚ) → a ≡ l *ℚ p → b ≡ l *ℚ q → c ≡ l *ℚ r → b ≡ a +ℚ c *ℚ k → l *ℚ q ≡ l *ℚ (p +ℚ k *ℚ r)
-      joined l a b c p q r e f g i = linear_eq (l ∷ a ∷ b ∷ c ∷ p ∷ q ∷ r ∷ k ∷ []) (eq e ∷ eq f ∷ eq_times k g ∷ eq i ∷ []) (search reading_of depth 14) tt tt
+      joined l a b c p q r e f g i = linear_eq (l ∷ a ∷ b ∷ c ∷ p ∷ q ∷ r ∷ k ∷ []) (eq e ∷ eq f ∷ eq_times k g ∷ eq i ∷ []) (search reading_of) tt tt
 
   pub capacity_up : (e : ℕ) (link : Link) → IsLink net e link → levels link.tail <ℚ levels link.head
       → (c : ℚ) × (link.capacity ≡ Some c) × (c *ℚ levels link.head ≤ℚ flows e)
@@ -141,7 +141,7 @@ module _ (net : Network) (good : IsNetwork net) (rate : ℚ) (flows levels : ℕ
     starts = one_of (slope net.source) (levels net.source) (pace net.source) (slope-is net.source good.source) thin.starts graded.starts
       where
         one_of : (s l a : ℚ) → s ≡ l *ℚ a → s ≡ 1ℚ → l ≡ 1ℚ → a ≡ 1ℚ
-        one_of s l a e f g = linear_eq (s ∷ l ∷ a ∷ []) (eq e ∷ eq f ∷ eq_times a g ∷ []) (search reading_of depth 12) tt tt
+        one_of s l a e f g = linear_eq (s ∷ l ∷ a ∷ []) (eq e ∷ eq f ∷ eq_times a g ∷ []) (search reading_of) tt tt
 
     -- ---- each link
     abbrev amount : ℕ → Link → ℚ
@@ -202,7 +202,7 @@ module _ (net : Network) (good : IsNetwork net) (rate : ℚ) (flows levels : ℕ
         (heaped-le net good rate x amount paces borne) ends
       where
         below : (f h t r q : ℚ) → f ≤ℚ h +ℚ 1ℚ *ℚ t → h ≤ℚ r → r ≡ q → (f -ℚ t) -ℚ q ≤ℚ 0ℚ
-        below f h t r q i j e = linear_le (f ∷ h ∷ t ∷ r ∷ q ∷ []) (le i ∷ le j ∷ eq e ∷ []) (search reading_of depth 12) tt
+        below f h t r q i j e = linear_le (f ∷ h ∷ t ∷ r ∷ q ∷ []) (le i ∷ le j ∷ eq e ∷ []) (search reading_of) tt
 
     pub drift-lt : 0ℚ <ℚ rate → (slope net.sink ≡ levels net.sink → ⊥) → drift net sets rate levels slopes <ℚ 0ℚ
     drift-lt more apart = below filling heap (taken net levels slope) _ _ filling-le
@@ -210,7 +210,7 @@ module _ (net : Network) (good : IsNetwork net) (rate : ℚ) (flows levels : ℕ
         (λ one. apart (level_of (slope net.sink) (levels net.sink) (pace net.sink) (slope-is net.sink good.sink) one))) ends
       where
         below : (f h t r q : ℚ) → f ≤ℚ h +ℚ 1ℚ *ℚ t → h <ℚ r → r ≡ q → (f -ℚ t) -ℚ q <ℚ 0ℚ
-        below f h t r q i j e = linear_lt (f ∷ h ∷ t ∷ r ∷ q ∷ []) (le i ∷ lt j ∷ eq e ∷ []) (search reading_of depth 12) tt
+        below f h t r q i j e = linear_lt (f ∷ h ∷ t ∷ r ∷ q ∷ []) (le i ∷ lt j ∷ eq e ∷ []) (search reading_of) tt
 
         level_of : (s l a : ℚ) → s ≡ l *ℚ a → a ≡ 1ℚ → s ≡ l
-        level_of s l a e f = linear_eq (s ∷ l ∷ a ∷ []) (eq e ∷ eq_times l f ∷ []) (search reading_of depth 12) tt tt
+        level_of s l a e f = linear_eq (s ∷ l ∷ a ∷ []) (eq e ∷ eq_times l f ∷ []) (search reading_of) tt tt

@@ -10,6 +10,7 @@ use Rattle.nf_rational_laws.proofs.Chains.{≤ℚ_trans}
 use Rattle.nf_rational_laws.proofs.Extremes.{max_left, max_keeps}
 use Rattle.nf_rational_laws.proofs.Tests.{max0_of, max0_none}
 use Rattle.nf_rational_laws.proofs.Linear.{le, eq, le_times, eq_times, linear_le, linear_eq}
+use Rattle.nf_rational_laws.proofs.Facts.{nn_plus_one, gap_np, times_le}
 use Rattle.nf_model.specs.Entries.{number_at}
 use Rattle.nf_model.specs.Network.{Network, IsNetwork}
 use Rattle.nf_model.specs.Equilibrium.{Flow, label, Equilibrium}
@@ -26,16 +27,16 @@ use Rattle.nf_settling_growth_laws.proofs.Decides.{near-is, last_start-least, fi
 
 -- ---- over plain numbers
 room_nn : (m v h : ℚ) → 0ℚ ≤ℚ m → 0ℚ -ℚ h ≤ℚ v → 0ℚ ≤ℚ m *ℚ (v +ℚ h)
-room_nn m v h n k = linear_le (m ∷ v ∷ h ∷ []) (le_times n k ∷ []) (search reading_of depth 12) tt
+room_nn m v h n k = linear_le (m ∷ v ∷ h ∷ []) (le_times n k ∷ []) (search reading_of) tt
 
 one_more : (x s m v w h : ℚ) → x ≤ℚ m *ℚ (v -ℚ w) → s ≤ℚ m *ℚ (w +ℚ h) → x +ℚ s ≤ℚ m *ℚ (v +ℚ h)
-one_more x s m v w h i k = linear_le (x ∷ s ∷ m ∷ v ∷ w ∷ h ∷ []) (le i ∷ le k ∷ []) (search reading_of depth 12) tt
+one_more x s m v w h i k = linear_le (x ∷ s ∷ m ∷ v ∷ w ∷ h ∷ []) (le i ∷ le k ∷ []) (search reading_of) tt
 
 at_first : (s m u v p h x y : ℚ) → s ≤ℚ m *ℚ (v +ℚ h) → x -ℚ y ≤ℚ m *ℚ (u -ℚ v) → y -ℚ x ≤ℚ m *ℚ (u -ℚ v) → u ≤ℚ p → 0ℚ ≤ℚ m → s ≤ℚ m *ℚ (p +ℚ h)
-at_first s m u v p h x y i j k l n = linear_le (s ∷ m ∷ u ∷ v ∷ p ∷ h ∷ x ∷ y ∷ []) (le i ∷ le j ∷ le k ∷ le_times n l ∷ []) (search reading_of depth 16) tt
+at_first s m u v p h x y i j k l n = linear_le (s ∷ m ∷ u ∷ v ∷ p ∷ h ∷ x ∷ y ∷ []) (le i ∷ le j ∷ le k ∷ le_times n l ∷ []) (search reading_of) tt
 
 add_up : (x s a b : ℚ) → x ≤ℚ a -ℚ b → s ≤ℚ b → x +ℚ s ≤ℚ a
-add_up x s a b h k = linear_le (x ∷ s ∷ a ∷ b ∷ []) (le h ∷ le k ∷ []) (search reading_of depth 12) tt
+add_up x s a b h k = linear_le (x ∷ s ∷ a ∷ b ∷ []) (le h ∷ le k ∷ []) (search reading_of) tt
 
 later_supply : (net : Network) (a b : ℚ) → a ≤ℚ b → IsLastSupply net a → IsLastSupply net b
 later_supply net a b h started i piece p = ≤ℚ_trans _ _ _ (started i piece p) h
@@ -97,10 +98,7 @@ module _ (net : Network) (good : IsNetwork net) (flows levels : ℕ → ℚ) (gr
     most_steep = steepest net good flows levels graded nothing +ℚ 1ℚ
 
     steep_nn : 0ℚ ≤ℚ most_steep
-    steep_nn = more _ (steepest_nn net good flows levels graded nothing)
-      where
-        more : (s : ℚ) → 0ℚ ≤ℚ s → 0ℚ ≤ℚ s +ℚ 1ℚ
-        more s h = linear_le (s ∷ []) (le h ∷ []) (search reading_of depth 12) tt
+    steep_nn = nn_plus_one _ (steepest_nn net good flows levels graded nothing)
 
     until_nn : 0ℚ ≤ℚ until
     until_nn = (settles net good flows levels graded nothing).1.not_negative
@@ -117,21 +115,21 @@ module _ (net : Network) (good : IsNetwork net) (flows levels : ℕ → ℚ) (gr
       slow c n started t h l = over_intervals net good flow is (Slow c) onward c n started t h l (same _ c most_steep, same _ c most_steep)
         where
           same : (x c m : ℚ) → x -ℚ x ≤ℚ m *ℚ (c -ℚ c)
-          same x c m = linear_le (x ∷ c ∷ m ∷ []) [] (search reading_of depth 12) tt
+          same x c m = linear_le (x ∷ c ∷ m ∷ []) [] (search reading_of) tt
 
           up : (x y z g b s a c d : ℚ) → c <ℚ d → y ≡ x +ℚ s *ℚ (d -ℚ c) → g ≡ 1ℚ → s ≤ℚ b → (x -ℚ g *ℚ c) -ℚ z ≤ℚ (b +ℚ 1ℚ) *ℚ (c -ℚ a)
               → (y -ℚ g *ℚ d) -ℚ z ≤ℚ (b +ℚ 1ℚ) *ℚ (d -ℚ a)
           up x y z g b s a c d o e f h k =
               let gap : 0ℚ ≤ℚ d -ℚ c = less_nn c d (≤ℚ_of_lt _ _ o) in
               linear_le (x ∷ y ∷ z ∷ g ∷ b ∷ s ∷ a ∷ c ∷ d ∷ []) (eq e ∷ eq_times c f ∷ eq_times d f ∷ le_times gap h ∷ le k ∷ le gap ∷ [])
-              (search reading_of depth 16) tt
+              (search reading_of) tt
 
           down : (x y z g b s a c d : ℚ) → c <ℚ d → y ≡ x +ℚ s *ℚ (d -ℚ c) → g ≡ 1ℚ → 0ℚ ≤ℚ s → 0ℚ ≤ℚ b → z -ℚ (x -ℚ g *ℚ c) ≤ℚ (b +ℚ 1ℚ) *ℚ (c -ℚ a)
               → z -ℚ (y -ℚ g *ℚ d) ≤ℚ (b +ℚ 1ℚ) *ℚ (d -ℚ a)
           down x y z g b s a c d o e f h i k =
               let gap : 0ℚ ≤ℚ d -ℚ c = less_nn c d (≤ℚ_of_lt _ _ o) in
               linear_le (x ∷ y ∷ z ∷ g ∷ b ∷ s ∷ a ∷ c ∷ d ∷ []) (eq e ∷ eq_times c f ∷ eq_times d f ∷ le_times gap h ∷ le_times gap i ∷ le k ∷ le gap ∷ [])
-              (search reading_of depth 16) tt
+              (search reading_of) tt
 
           onward : (a d : ℚ) → IsInterval net flow a d → Slow c a → Slow c d
           onward a d i w = (
@@ -150,7 +148,7 @@ module _ (net : Network) (good : IsNetwork net) (flows levels : ℕ → ℚ) (gr
           (growth_one net good flows levels graded nothing)
         where
           same : (x y t s g : ℚ) → x ≡ y +ℚ (t -ℚ s) → g ≡ 1ℚ → x -ℚ g *ℚ t ≡ y -ℚ g *ℚ s
-          same x y t s g e f = linear_eq (x ∷ y ∷ t ∷ s ∷ g ∷ []) (eq e ∷ eq_times t f ∷ eq_times s f ∷ []) (search reading_of depth 14) tt tt
+          same x y t s g e f = linear_eq (x ∷ y ∷ t ∷ s ∷ g ∷ []) (eq e ∷ eq_times t f ∷ eq_times s f ∷ []) (search reading_of) tt tt
 
       abbrev left : ℚ → ℚ
       left t = most_steep *ℚ max_ℚ 0ℚ (until -ℚ t)
@@ -183,34 +181,31 @@ module _ (net : Network) (good : IsNetwork net) (flows levels : ℕ → ℚ) (gr
           early t k = max0_of _ (less_nn t until (≤ℚ_of_lt _ _ k))
 
           late : (t : ℚ) → until ≤ℚ t → max_ℚ 0ℚ (until -ℚ t) ≡ 0ℚ
-          late t k = max0_none _ (over until t k)
-            where
-              over : (u t : ℚ) → u ≤ℚ t → u -ℚ t ≤ℚ 0ℚ
-              over u t h = linear_le (u ∷ t ∷ []) (le h ∷ []) (search reading_of depth 12) tt
+          late t k = max0_none _ (gap_np until t k)
 
           before : (x a b : ℚ) → a ≡ until -ℚ c → b ≡ until -ℚ t → x ≤ℚ most_steep *ℚ (t -ℚ c) → x ≤ℚ most_steep *ℚ a -ℚ most_steep *ℚ b
           before x a b e f h = by most_steep until e f h
             where
               by : (m u : ℚ) → a ≡ u -ℚ c → b ≡ u -ℚ t → x ≤ℚ m *ℚ (t -ℚ c) → x ≤ℚ m *ℚ a -ℚ m *ℚ b
-              by m u e f h = linear_le (x ∷ a ∷ b ∷ c ∷ t ∷ m ∷ u ∷ []) (eq_times m e ∷ eq_times m f ∷ le h ∷ []) (search reading_of depth 14) tt
+              by m u e f h = linear_le (x ∷ a ∷ b ∷ c ∷ t ∷ m ∷ u ∷ []) (eq_times m e ∷ eq_times m f ∷ le h ∷ []) (search reading_of) tt
 
           across : (x y z a b : ℚ) → x ≡ y → a ≡ until -ℚ c → b ≡ 0ℚ → y -ℚ z ≤ℚ most_steep *ℚ (until -ℚ c) → x -ℚ z ≤ℚ most_steep *ℚ a -ℚ most_steep *ℚ b
           across x y z a b e f g h = by most_steep until f h
             where
               by : (m u : ℚ) → a ≡ u -ℚ c → y -ℚ z ≤ℚ m *ℚ (u -ℚ c) → x -ℚ z ≤ℚ m *ℚ a -ℚ m *ℚ b
-              by m u f h = linear_le (x ∷ y ∷ z ∷ a ∷ b ∷ c ∷ m ∷ u ∷ []) (eq e ∷ eq_times m f ∷ eq_times m g ∷ le h ∷ []) (search reading_of depth 14) tt
+              by m u f h = linear_le (x ∷ y ∷ z ∷ a ∷ b ∷ c ∷ m ∷ u ∷ []) (eq e ∷ eq_times m f ∷ eq_times m g ∷ le h ∷ []) (search reading_of) tt
 
           across_back : (x y z a b : ℚ) → x ≡ y → a ≡ until -ℚ c → b ≡ 0ℚ → z -ℚ y ≤ℚ most_steep *ℚ (until -ℚ c) → z -ℚ x ≤ℚ most_steep *ℚ a -ℚ most_steep *ℚ b
           across_back x y z a b e f g h = by most_steep until f h
             where
               by : (m u : ℚ) → a ≡ u -ℚ c → z -ℚ y ≤ℚ m *ℚ (u -ℚ c) → z -ℚ x ≤ℚ m *ℚ a -ℚ m *ℚ b
-              by m u f h = linear_le (x ∷ y ∷ z ∷ a ∷ b ∷ c ∷ m ∷ u ∷ []) (eq e ∷ eq_times m f ∷ eq_times m g ∷ le h ∷ []) (search reading_of depth 14) tt
+              by m u f h = linear_le (x ∷ y ∷ z ∷ a ∷ b ∷ c ∷ m ∷ u ∷ []) (eq e ∷ eq_times m f ∷ eq_times m g ∷ le h ∷ []) (search reading_of) tt
 
           after : (x y z a b : ℚ) → x ≡ z → y ≡ z → a ≡ 0ℚ → b ≡ 0ℚ → x -ℚ y ≤ℚ most_steep *ℚ a -ℚ most_steep *ℚ b
           after x y z a b e f g h = by most_steep
             where
               by : (m : ℚ) → x -ℚ y ≤ℚ m *ℚ a -ℚ m *ℚ b
-              by m = linear_le (x ∷ y ∷ z ∷ a ∷ b ∷ m ∷ []) (eq e ∷ eq f ∷ eq_times m g ∷ eq_times m h ∷ []) (search reading_of depth 14) tt
+              by m = linear_le (x ∷ y ∷ z ∷ a ∷ b ∷ m ∷ []) (eq e ∷ eq f ∷ eq_times m g ∷ eq_times m h ∷ []) (search reading_of) tt
 
       sways_none : (later : List ℚ) (c : ℚ) → 0ℚ ≤ℚ c → c ≤ℚ flow.reached → IsLastSupply net c → AreInOrder flow c later → sway (off flow) c later ≤ℚ left c
       sways_none [] c n l started o = nn_times most_steep _ steep_nn (max_left 0ℚ (until -ℚ c))
@@ -220,13 +215,10 @@ module _ (net : Network) (good : IsNetwork net) (flows levels : ℕ → ℚ) (gr
           (sways_none later t (≤ℚ_trans _ _ _ n o.0) o.1 (later_supply net c t o.0 started) o.2)
 
       left_le : (c : ℚ) → 0ℚ ≤ℚ c → left c ≤ℚ most_steep *ℚ until
-      left_le c n = times most_steep _ until steep_nn (max_keeps (λ z. z ≤ℚ until) 0ℚ (until -ℚ c) until_nn (less until c n))
+      left_le c n = times_le most_steep _ until steep_nn (max_keeps (λ z. z ≤ℚ until) 0ℚ (until -ℚ c) until_nn (less until c n))
         where
           less : (u c : ℚ) → 0ℚ ≤ℚ c → u -ℚ c ≤ℚ u
-          less u c h = linear_le (u ∷ c ∷ []) (le h ∷ []) (search reading_of depth 12) tt
-
-          times : (m a b : ℚ) → 0ℚ ≤ℚ m → a ≤ℚ b → m *ℚ a ≤ℚ m *ℚ b
-          times m a b h k = linear_le (m ∷ a ∷ b ∷ []) (le_times h k ∷ []) (search reading_of depth 12) tt
+          less u c h = linear_le (u ∷ c ∷ []) (le h ∷ []) (search reading_of) tt
 
     steadies-none : (bound : ℚ) × SwaysAtMost net (levels net.sink) bound
     steadies-none = (

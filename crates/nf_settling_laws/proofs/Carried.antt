@@ -5,6 +5,7 @@ use Rattle.nf_rational.specs.Rational.{ℚ}
 use Rattle.nf_rational.specs.Operations.{0ℚ, ◌-ℚ◌, ◌*ℚ◌}
 use Rattle.nf_rational_laws.proofs.Polynomial.{reading_of}
 use Rattle.nf_rational_laws.proofs.Linear.{eq_times, linear_eq}
+use Rattle.nf_rational_laws.proofs.Facts.{times_second_zero}
 use Rattle.nf_model.specs.Network.{Network, IsNetwork}
 use Rattle.nf_model_laws.proofs.Potential.{sum_to-same, sum_to-only, only_at, only_at-here, only_at-else, carried-is, out_less_in}
 use Rattle.nf_thin_laws.proofs.Cuts.{EndsBelow-net, carried-shift}
@@ -29,15 +30,12 @@ module _ (net : Network) (good : IsNetwork net) (rate : ℚ) (flows : ℕ → �
       (eqb_tells v net.source)
     where
       at_sink : (a b y : ℚ) → a ≡ b → (a -ℚ b) *ℚ y ≡ 0ℚ
-      at_sink a b y e = linear_eq (a ∷ b ∷ y ∷ []) (eq_times y e ∷ []) (search reading_of depth 12) tt tt
-
-      at_inner : (a y : ℚ) → y ≡ 0ℚ → a *ℚ y ≡ 0ℚ
-      at_inner a y e = linear_eq (a ∷ y ∷ []) (eq_times a e ∷ []) (search reading_of depth 12) tt tt
+      at_sink a b y e = linear_eq (a ∷ b ∷ y ∷ []) (eq_times y e ∷ []) (search reading_of) tt tt
 
       elsewhere : v ≢ net.source → shifted v *ℚ out_less_in net.links flows v ≡ 0ℚ
       elsewhere other = ⊎_elim
           (λ (t : (eqb v net.sink ≡ true) × (v ≡ net.sink)). at_sink _ _ _ (ap w t.1))
-          (λ (t : (eqb v net.sink ≡ false) × (v ≢ net.sink)). at_inner _ _ (inner v h other t.1))
+          (λ (t : (eqb v net.sink ≡ false) × (v ≢ net.sink)). times_second_zero _ _ (inner v h other t.1))
           (eqb_tells v net.sink)
 
   -- It is the value of the flow times the rise of the potential from source to sink.
@@ -48,4 +46,4 @@ module _ (net : Network) (good : IsNetwork net) (rate : ℚ) (flows : ℕ → �
       ∙ sum_to-only net.nodes net.source sent good.source) ∙ turned (w net.source) (w net.sink)
     where
       turned : (a b : ℚ) → 0ℚ -ℚ (a -ℚ b) *ℚ rate ≡ rate *ℚ (b -ℚ a)
-      turned a b = linear_eq (a ∷ b ∷ rate ∷ []) [] (search reading_of depth 12) tt tt
+      turned a b = linear_eq (a ∷ b ∷ rate ∷ []) [] (search reading_of) tt tt

@@ -6,10 +6,11 @@ use Rattle.nf_rational.specs.Operations.{0ℚ, 1ℚ, ◌-ℚ◌, ◌*ℚ◌, ◌
 use Rattle.nf_rational.specs.Order.{◌≤ℚ◌, ◌<ℚ◌, lt_ℚ}
 use Rattle.nf_rational_laws.proofs.Polynomial.{reading_of}
 use Rattle.nf_rational_laws.proofs.Order.{≤ℚ_of_lt, ≤ℚ_of_same, ≤ℚ_antisymm, lt_or_le_ℚ, not_both_ℚ}
-use Rattle.nf_rational_laws.proofs.Chains.{≤ℚ_refl}
+use Rattle.nf_rational_laws.proofs.Chains.{≤ℚ_refl, ≤_<_trans}
 use Rattle.nf_rational_laws.proofs.Tests.{test_of_less}
 use Rattle.nf_rational_laws.proofs.Extremes.{max_left}
-use Rattle.nf_rational_laws.proofs.Linear.{le, lt, eq, eq_times, linear_le, linear_lt}
+use Rattle.nf_rational_laws.proofs.Linear.{eq, eq_times, linear_le}
+use Rattle.nf_rational_laws.proofs.Facts.{gap_np, gap_ng}
 use Rattle.nf_model.specs.Entries.{number_at, Has}
 use Rattle.nf_model.specs.Network.{Link, Network, IsNetwork}
 use Rattle.nf_model.specs.ThinFlow.{Sets, exit_slope, exit_slope_at, Enters, IsThinFlow}
@@ -33,15 +34,6 @@ change net sets rate slopes = link_sum net.links (λ e link. filled sets slopes 
     -ℚ rate *ℚ (number_at slopes net.sink -ℚ number_at slopes net.source)
 
 -- ---- over plain numbers
-less_of_le : (f c : ℚ) → f ≤ℚ c → f -ℚ c ≤ℚ 0ℚ
-less_of_le f c h = linear_le (f ∷ c ∷ []) (le h ∷ []) (search reading_of depth 12) tt
-
-less_of_lt : (f c : ℚ) → f <ℚ c → f -ℚ c <ℚ 0ℚ
-less_of_lt f c h = linear_lt (f ∷ c ∷ []) (lt h ∷ []) (search reading_of depth 12) tt
-
-≤_<_trans : (s t a : ℚ) → s ≤ℚ a → a <ℚ t → s <ℚ t
-≤_<_trans s t a h k = linear_lt (s ∷ t ∷ a ∷ []) (le h ∷ lt k ∷ []) (search reading_of depth 12) tt
-
 le_or_not : (x y : ℚ) → Decided (x ≤ℚ y)
 le_or_not x y = ⊎_elim (λ (h : y <ℚ x). inr (λ k. not_both_ℚ _ _ h k)) (λ (h : x ≤ℚ y). inl h) (lt_or_le_ℚ y x)
 
@@ -51,8 +43,8 @@ Bears-kind n x s t (inl (some, full)) =
     record { not_negative = ≤ℚ_of_lt _ _ some; up = inr (≤ℚ_of_same _ _ (sym full)); down = inr (≤ℚ_of_same _ _ full) }
 Bears-kind n x s t (inr (none, inl empty)) = record {
   not_negative = ≤ℚ_of_same _ _ (sym none);
-  up = inr (linear_le (n ∷ x ∷ t ∷ []) (eq_times t none ∷ eq empty ∷ []) (search reading_of depth 12) tt);
-  down = inr (linear_le (n ∷ x ∷ t ∷ []) (eq_times t none ∷ eq empty ∷ []) (search reading_of depth 12) tt);
+  up = inr (linear_le (n ∷ x ∷ t ∷ []) (eq_times t none ∷ eq empty ∷ []) (search reading_of) tt);
+  down = inr (linear_le (n ∷ x ∷ t ∷ []) (eq_times t none ∷ eq empty ∷ []) (search reading_of) tt);
 }
 Bears-kind n x s t (inr (none, inr level)) =
     record { not_negative = ≤ℚ_of_same _ _ (sym none); up = inl (≤ℚ_of_same _ _ (sym level)); down = inl (≤ℚ_of_same _ _ level) }
@@ -93,7 +85,7 @@ module _ (net : Network) (good : IsNetwork net) (sets : Sets) (rate : ℚ) (nn :
   }
 
   pub change-not_positive : change net sets rate slopes ≤ℚ 0ℚ
-  change-not_positive = less_of_le _ _ (heaped-le net good rate x n slopes borne)
+  change-not_positive = gap_np _ _ (heaped-le net good rate x n slopes borne)
 
   -- ---- the level above a: a link that fills crosses it
   module _ (a : ℚ) where
@@ -119,7 +111,7 @@ module _ (net : Network) (good : IsNetwork net) (sets : Sets) (rate : ℚ) (nn :
             let on : flag sets.active t.0 ≡ true = flag_of sets.active t.0 t.2.active in
             absurd (missing t.0 t.1 t.2.is_link (
               fills_up (flag sets.resetting t.0) (flag sets.active t.0) t.1.capacity (x t.0) (slope t.1.tail) (slope t.1.head)
-                  (IsPositive-link net t.0 t.1 good t.2.is_link) on (≤_<_trans (slope t.1.tail) (slope t.1.head) a k at_head)
+                  (IsPositive-link net t.0 t.1 good t.2.is_link) on (≤_<_trans (slope t.1.tail) a (slope t.1.head) k at_head)
                   (law_at net good sets rate are acyclic flows slopes thin t.0 t.1 t.2.is_link on),
               (k, at_head),
             )))
@@ -149,7 +141,7 @@ module _ (net : Network) (good : IsNetwork net) (sets : Sets) (rate : ℚ) (nn :
             absurd (missing t.0 t.1 t.2.is_link (
               fills_down (flag sets.resetting t.0) (flag sets.active t.0) (lt_ℚ (slope t.1.tail) (slope t.1.head)) t.1.capacity (x t.0)
                   (slope t.1.tail) (slope t.1.head) (IsPositive-link net t.0 t.1 good t.2.is_link)
-                  (≤_<_trans (slope t.1.head) (slope t.1.tail) a at_head k) (t.3 ∙ ap slope (sym t.2.head)),
+                  (≤_<_trans (slope t.1.head) a (slope t.1.tail) at_head k) (t.3 ∙ ap slope (sym t.2.head)),
               (k, at_head),
             )))
             (λ (k : slope t.1.tail ≤ℚ a). (t.0, t.1, t.2, k))
@@ -157,7 +149,7 @@ module _ (net : Network) (good : IsNetwork net) (sets : Sets) (rate : ℚ) (nn :
 
   -- ---- a slope below 1 makes its own level strict, and one above 1 the level of the source
   pub change-negative : (v : ℕ) → v < net.nodes → (slope v ≡ 1ℚ → ⊥) → change net sets rate slopes <ℚ 0ℚ
-  change-negative v h apart = less_of_lt _ _ (⊎_elim
+  change-negative v h apart = gap_ng _ _ (⊎_elim
       (λ (low : slope v <ℚ 1ℚ).
       let w : SomeLink net.links (IsDown (slope v)) = some_down (slope v) low v h (≤ℚ_refl (slope v)) in
       heaped-strict net good rate x n slopes borne v h (λ b o none. low_by_link net good rate x n slopes borne (slope v) b

@@ -7,13 +7,13 @@ use Rattle.nf_rational.specs.Order.{◌≤ℚ◌, ◌<ℚ◌, lt_ℚ}
 use Rattle.nf_rational_laws.proofs.Polynomial.{reading_of}
 use Rattle.nf_rational_laws.proofs.Order.{≤ℚ_antisymm, lt_or_le_ℚ, not_both_ℚ, ps_times}
 use Rattle.nf_rational_laws.proofs.Results.{not_both}
-use Rattle.nf_rational_laws.proofs.Tests.{less_of_test, test_of_less}
+use Rattle.nf_rational_laws.proofs.Tests.{less_of_test, not_less_of_test}
 use Rattle.nf_rational_laws.proofs.Linear.{le, lt, linear_lt}
+use Rattle.nf_rational_laws.proofs.Chains.{<_≤_trans}
 use Rattle.nf_model.specs.Entries.{number_at, Has}
 use Rattle.nf_model.specs.Network.{Link, Network, IsNetwork, IsLink}
 use Rattle.nf_model.specs.ThinFlow.{Sets, IsThinFlow}
 use Rattle.nf_model_laws.specs.Capacity.{IsPositive}
-use Rattle.nf_model_laws.proofs.Affine.{<_≤_trans}
 use Rattle.nf_model_laws.proofs.Earliest.{IsPositive-link}
 use Rattle.nf_thin_laws.specs.ActiveLinks.{AreSets, HoldNoCycle}
 use Rattle.nf_thin_laws.proofs.Flags.{flag, flag-cases}
@@ -57,12 +57,6 @@ used_level x s t n used = ⊎_elim
     (λ (k : x ≤ℚ 0ℚ). inl (≤ℚ_antisymm _ _ k n))
     (lt_or_le_ℚ 0ℚ x)
 
-not_up : (s t : ℚ) → lt_ℚ s t ≡ false → t ≤ℚ s
-not_up s t e = ⊎_elim
-    (λ (k : s <ℚ t). absurd (not_both (lt_ℚ s t) (test_of_less s t k) e))
-    (λ (k : t ≤ℚ s). k)
-    (lt_or_le_ℚ s t)
-
 pub kind_of : (resets active up : Bool) (capacity : Option ℚ) (x s t : ℚ) → IsPositive capacity → 0ℚ ≤ℚ x → 0ℚ ≤ℚ s → lt_ℚ s t ≡ up
     → (active ≡ false → (resets ≡ false) × (x ≡ 0ℚ)) → (active ≡ true → LinkLaw resets capacity x s t) → Kind (filled_amount resets active up capacity) x s t
 kind_of true true up None x s t p n m e off law = inr (refl, used_level x s t n (law refl).used)
@@ -74,11 +68,11 @@ kind_of false true true (Some c) x s t p n m e off law =
     ⊎_elim
     (λ (k : t ≤ℚ s). absurd (not_both_ℚ _ _ up k))
     (λ (k : c *ℚ t ≤ℚ x).
-    let head : 0ℚ <ℚ t = linear_lt (s ∷ t ∷ []) (le m ∷ lt up ∷ []) (search reading_of depth 12) tt in
+    let head : 0ℚ <ℚ t = linear_lt (s ∷ t ∷ []) (le m ∷ lt up ∷ []) (search reading_of) tt in
     inl (p c refl, ≤ℚ_antisymm _ _ ((law refl).used refl (<_≤_trans _ _ _ (ps_times c t (p c refl) head) k)).1 k))
     ((law refl).upper refl)
 kind_of false true false None x s t p n m e off law = inr (refl, used_level x s t n (law refl).used)
-kind_of false true false (Some c) x s t p n m e off law = inr (refl, used_level x s t n (λ k. ≤ℚ_antisymm _ _ ((law refl).used refl k).0 (not_up s t e)))
+kind_of false true false (Some c) x s t p n m e off law = inr (refl, used_level x s t n (λ k. ≤ℚ_antisymm _ _ ((law refl).used refl k).0 (not_less_of_test s t e)))
 kind_of false false up capacity x s t p n m e off law = inr (refl, inl (off refl).1)
 
 -- What a thin flow carries up a potential is its value times the rise of the potential from source to sink.

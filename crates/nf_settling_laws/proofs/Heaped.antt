@@ -10,6 +10,7 @@ use Rattle.nf_rational_laws.proofs.Chains.{≤ℚ_refl, ≤ℚ_trans}
 use Rattle.nf_rational_laws.proofs.Tests.{lt_ℚ_cases}
 use Rattle.nf_rational_laws.proofs.Extremes.{min_is_left, min_is_right}
 use Rattle.nf_rational_laws.proofs.Linear.{le, lt, eq, le_times, eq_times, linear_le, linear_lt, linear_eq}
+use Rattle.nf_rational_laws.proofs.Facts.{gap_np, gap_ng, same_differences}
 use Rattle.nf_model.specs.Entries.{number_at}
 use Rattle.nf_model.specs.Network.{Link, Network, IsNetwork, IsLink}
 use Rattle.nf_model_laws.proofs.Affine.{ps-times_gap}
@@ -22,46 +23,40 @@ use Rattle.nf_settling_laws.proofs.Levels.{IsBorne, above, high_level, high_by_s
 
 -- ---- over plain numbers
 lines_less : (a b c d e f k : ℚ) → e ≡ a +ℚ k *ℚ b → f ≡ c +ℚ k *ℚ d → e -ℚ f ≡ (a -ℚ c) +ℚ k *ℚ (b -ℚ d)
-lines_less a b c d e f k p q = linear_eq (a ∷ b ∷ c ∷ d ∷ e ∷ f ∷ k ∷ []) (eq p ∷ eq q ∷ []) (search reading_of depth 12) tt tt
+lines_less a b c d e f k p q = linear_eq (a ∷ b ∷ c ∷ d ∷ e ∷ f ∷ k ∷ []) (eq p ∷ eq q ∷ []) (search reading_of) tt tt
 
 times_line : (n r s t k : ℚ) → t ≡ r +ℚ k *ℚ s → n *ℚ t ≡ n *ℚ r +ℚ k *ℚ (n *ℚ s)
-times_line n r s t k e = linear_eq (n ∷ r ∷ s ∷ t ∷ k ∷ []) (eq_times n e ∷ []) (search reading_of depth 12) tt tt
+times_line n r s t k e = linear_eq (n ∷ r ∷ s ∷ t ∷ k ∷ []) (eq_times n e ∷ []) (search reading_of) tt tt
 
 rise_line : (s t d f k u v : ℚ) → u ≡ s +ℚ k *ℚ d → v ≡ t +ℚ k *ℚ f → v -ℚ u ≡ (t -ℚ s) +ℚ k *ℚ (f -ℚ d)
-rise_line s t d f k u v e g = linear_eq (s ∷ t ∷ d ∷ f ∷ k ∷ u ∷ v ∷ []) (eq e ∷ eq g ∷ []) (search reading_of depth 12) tt tt
+rise_line s t d f k u v e g = linear_eq (s ∷ t ∷ d ∷ f ∷ k ∷ u ∷ v ∷ []) (eq e ∷ eq g ∷ []) (search reading_of) tt tt
 
 step_le : (a b g k l : ℚ) → a <ℚ b → g ≤ℚ 0ℚ → l ≤ℚ 0ℚ → k ≡ g +ℚ (b -ℚ a) *ℚ l → k ≤ℚ 0ℚ
 step_le a b g k l o h i e =
     let gap : 0ℚ ≤ℚ b -ℚ a = less_nn a b (≤ℚ_of_lt _ _ o) in
-    linear_le (a ∷ b ∷ g ∷ k ∷ l ∷ []) (eq e ∷ le h ∷ le_times gap i ∷ []) (search reading_of depth 12) tt
+    linear_le (a ∷ b ∷ g ∷ k ∷ l ∷ []) (eq e ∷ le h ∷ le_times gap i ∷ []) (search reading_of) tt
 
 kept_lt : (a b g k l : ℚ) → a <ℚ b → g <ℚ 0ℚ → l ≤ℚ 0ℚ → k ≡ g +ℚ (b -ℚ a) *ℚ l → k <ℚ 0ℚ
 kept_lt a b g k l o h i e =
     let gap : 0ℚ ≤ℚ b -ℚ a = less_nn a b (≤ℚ_of_lt _ _ o) in
-    linear_lt (a ∷ b ∷ g ∷ k ∷ l ∷ []) (eq e ∷ lt h ∷ le_times gap i ∷ []) (search reading_of depth 12) tt
+    linear_lt (a ∷ b ∷ g ∷ k ∷ l ∷ []) (eq e ∷ lt h ∷ le_times gap i ∷ []) (search reading_of) tt
 
 new_lt : (a b g k l : ℚ) → a <ℚ b → g ≤ℚ 0ℚ → l <ℚ 0ℚ → k ≡ g +ℚ (b -ℚ a) *ℚ l → k <ℚ 0ℚ
 new_lt a b g k l o h i e =
     let more : 0ℚ <ℚ (b -ℚ a) *ℚ (0ℚ -ℚ l) = ps-times_gap (b -ℚ a) l 0ℚ (less_ps a b o) i in
-    linear_lt (a ∷ b ∷ g ∷ k ∷ l ∷ []) (eq e ∷ le h ∷ lt more ∷ []) (search reading_of depth 12) tt
-
-less_of_le : (f c : ℚ) → f ≤ℚ c → f -ℚ c ≤ℚ 0ℚ
-less_of_le f c h = linear_le (f ∷ c ∷ []) (le h ∷ []) (search reading_of depth 12) tt
-
-less_of_lt : (f c : ℚ) → f <ℚ c → f -ℚ c <ℚ 0ℚ
-less_of_lt f c h = linear_lt (f ∷ c ∷ []) (lt h ∷ []) (search reading_of depth 12) tt
+    linear_lt (a ∷ b ∷ g ∷ k ∷ l ∷ []) (eq e ∷ le h ∷ lt more ∷ []) (search reading_of) tt
 
 le_of_less : (f c d : ℚ) → f -ℚ c ≤ℚ 0ℚ → c ≡ d → f ≤ℚ d
-le_of_less f c d h e = linear_le (f ∷ c ∷ d ∷ []) (le h ∷ eq e ∷ []) (search reading_of depth 12) tt
+le_of_less f c d h e = linear_le (f ∷ c ∷ d ∷ []) (le h ∷ eq e ∷ []) (search reading_of) tt
 
 lt_of_less : (f c d : ℚ) → f -ℚ c <ℚ 0ℚ → c ≡ d → f <ℚ d
-lt_of_less f c d h e = linear_lt (f ∷ c ∷ d ∷ []) (lt h ∷ eq e ∷ []) (search reading_of depth 12) tt
+lt_of_less f c d h e = linear_lt (f ∷ c ∷ d ∷ []) (lt h ∷ eq e ∷ []) (search reading_of) tt
 
 capped_low : (m n d a b : ℚ) → m ≡ n → d ≡ 0ℚ → m ≡ n +ℚ (b -ℚ a) *ℚ d
-capped_low m n d a b e f = linear_eq (m ∷ n ∷ d ∷ a ∷ b ∷ []) (eq e ∷ eq_times (b -ℚ a) f ∷ []) (search reading_of depth 12) tt tt
+capped_low m n d a b e f = linear_eq (m ∷ n ∷ d ∷ a ∷ b ∷ []) (eq e ∷ eq_times (b -ℚ a) f ∷ []) (search reading_of) tt tt
 
 capped_high : (m n d a b : ℚ) → m ≡ b → n ≡ a → d ≡ 1ℚ → m ≡ n +ℚ (b -ℚ a) *ℚ d
-capped_high m n d a b e f g = linear_eq (m ∷ n ∷ d ∷ a ∷ b ∷ []) (eq e ∷ eq f ∷ eq_times (b -ℚ a) g ∷ []) (search reading_of depth 12) tt tt
+capped_high m n d a b e f g = linear_eq (m ∷ n ∷ d ∷ a ∷ b ∷ []) (eq e ∷ eq f ∷ eq_times (b -ℚ a) g ∷ []) (search reading_of) tt tt
 
 -- No number is strictly between a and b, so a number above a is at least b.
 pub jump : (net : Network) (rate : ℚ) (x : ℕ → ℚ) (n : ℕ → Link → ℚ) (values : List ℚ) (a b : ℚ) → IsBorne net rate x n values → NoneBetween values a b
@@ -107,7 +102,7 @@ module _ (net : Network) (good : IsNetwork net) (rate : ℚ) (x : ℕ → ℚ) (
   below_last v = next (at v) (top values) (top-bound values v)
     where
       next : (s t : ℚ) → s ≤ℚ t → s <ℚ 1ℚ +ℚ t
-      next s t h = linear_lt (s ∷ t ∷ []) (le h ∷ []) (search reading_of depth 12) tt
+      next s t h = linear_lt (s ∷ t ∷ []) (le h ∷ []) (search reading_of) tt
 
   is_one : (v : ℕ) → v < net.nodes → IsOne (at v) values
   is_one v h = one-entry values v (subst (λ (k : ℕ). v < k) (sym borne.count) h)
@@ -117,34 +112,31 @@ module _ (net : Network) (good : IsNetwork net) (rate : ℚ) (x : ℕ → ℚ) (
       (link_sum-none net.links (λ e link. x e *ℚ rise (capped 0ℚ) link) (λ e link _. flat (x e) link))
     where
       none_less : (a b : ℚ) → a ≡ 0ℚ → b ≡ 0ℚ → a -ℚ b ≡ 0ℚ
-      none_less a b e f = linear_eq (a ∷ b ∷ []) (eq e ∷ eq f ∷ []) (search reading_of depth 12) tt tt
+      none_less a b e f = linear_eq (a ∷ b ∷ []) (eq e ∷ eq f ∷ []) (search reading_of) tt tt
 
       flat_by : (n s t : ℚ) → s ≡ 0ℚ → t ≡ 0ℚ → n *ℚ (t -ℚ s) ≡ 0ℚ
-      flat_by n s t e f = linear_eq (n ∷ s ∷ t ∷ []) (eq_times n e ∷ eq_times n f ∷ []) (search reading_of depth 12) tt tt
+      flat_by n s t e f = linear_eq (n ∷ s ∷ t ∷ []) (eq_times n e ∷ eq_times n f ∷ []) (search reading_of) tt tt
 
       flat : (n : ℚ) (link : Link) → n *ℚ rise (capped 0ℚ) link ≡ 0ℚ
       flat n link = flat_by n (capped 0ℚ link.tail) (capped 0ℚ link.head) (min_is_right _ _ (borne.not_negative link.tail))
           (min_is_right _ _ (borne.not_negative link.head))
 
   gain_last : gain (capped last) ≡ gain at
-  gain_last = both_same _ _ _ _
+  gain_last = same_differences _ _ _ _
       (link_sum-same net.links (λ e link. n e link *ℚ rise (capped last) link) (λ e link. n e link *ℚ rise at link)
       (λ e link _. ap (λ (r : ℚ). n e link *ℚ r) (same link)))
       (link_sum-same net.links (λ e link. x e *ℚ rise (capped last) link) (λ e link. x e *ℚ rise at link) (λ e link _. ap (λ (r : ℚ). x e *ℚ r) (same link)))
     where
-      both_same : (a b c d : ℚ) → a ≡ b → c ≡ d → a -ℚ c ≡ b -ℚ d
-      both_same a b c d e f = cc
-
       node : (v : ℕ) → capped last v ≡ at v
       node v = min_is_left _ _ (≤ℚ_of_lt _ _ (below_last v))
 
       same : (link : Link) → rise (capped last) link ≡ rise at link
-      same link = both_same _ _ _ _ (node link.head) (node link.tail)
+      same link = same_differences _ _ _ _ (node link.head) (node link.tail)
 
   -- ---- one level
   module _ (a b : ℚ) (first : 0ℚ ≤ℚ a) (o : a <ℚ b) (none : NoneBetween values a b) where
     level_le : gain (above a values) ≤ℚ 0ℚ
-    level_le = less_of_le _ _ (⊎_elim
+    level_le = gap_np _ _ (⊎_elim
         (λ (h : a <ℚ 1ℚ). low_level net good rate x n values borne a b first o (jump net rate x n values a b borne none)
         (up_to_1 net rate x n values a b good borne none h))
         (λ (h : 1ℚ ≤ℚ a). high_level net good rate x n values borne a b first o (jump net rate x n values a b borne none) h)
@@ -205,7 +197,7 @@ module _ (net : Network) (good : IsNetwork net) (rate : ℚ) (x : ℕ → ℚ) (
             (λ (l : from ≤ℚ a).
             let same : from ≡ a = ≤ℚ_antisymm _ _ l k in
             new_lt a b _ _ _ o g.0 (subst (λ (z : ℚ). gain (above z values) <ℚ 0ℚ) same
-            (less_of_lt _ _ (strict b past (subst (λ (z : ℚ). NoneBetween values z b) (sym same) none)))) (gain_step a b first o none))
+            (gap_ng _ _ (strict b past (subst (λ (z : ℚ). NoneBetween values z b) (sym same) none)))) (gain_step a b first o none))
             (lt_or_le_ℚ a from))
             (lt_or_le_ℚ from a),
       )

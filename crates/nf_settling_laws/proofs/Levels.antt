@@ -48,55 +48,55 @@ Side a b s d = ((d ≡ 0ℚ) × (s ≤ℚ a)) ⊎ ((d ≡ 1ℚ) × (b ≤ℚ s))
 
 -- ---- over plain numbers: p and q are factors of the rise from d to f
 no_rise : (p q d f : ℚ) → d ≡ f → p *ℚ (f -ℚ d) ≤ℚ q *ℚ (f -ℚ d)
-no_rise p q d f e = linear_le (p ∷ q ∷ d ∷ f ∷ []) (eq_times p e ∷ eq_times q e ∷ []) (search reading_of depth 12) tt
+no_rise p q d f e = linear_le (p ∷ q ∷ d ∷ f ∷ []) (eq_times p e ∷ eq_times q e ∷ []) (search reading_of) tt
 
 up_is : (p d f : ℚ) → d ≡ 0ℚ → f ≡ 1ℚ → p *ℚ (f -ℚ d) ≡ p
-up_is p d f e g = linear_eq (p ∷ d ∷ f ∷ []) (eq_times p e ∷ eq_times p g ∷ []) (search reading_of depth 12) tt tt
+up_is p d f e g = linear_eq (p ∷ d ∷ f ∷ []) (eq_times p e ∷ eq_times p g ∷ []) (search reading_of) tt tt
 
 down_is : (p d f : ℚ) → d ≡ 1ℚ → f ≡ 0ℚ → p *ℚ (f -ℚ d) ≡ 0ℚ -ℚ p
-down_is p d f e g = linear_eq (p ∷ d ∷ f ∷ []) (eq_times p e ∷ eq_times p g ∷ []) (search reading_of depth 12) tt tt
+down_is p d f e g = linear_eq (p ∷ d ∷ f ∷ []) (eq_times p e ∷ eq_times p g ∷ []) (search reading_of) tt tt
 
 up_rise : (p q d f : ℚ) → d ≡ 0ℚ → f ≡ 1ℚ → p ≤ℚ q → p *ℚ (f -ℚ d) ≤ℚ q *ℚ (f -ℚ d)
-up_rise p q d f e g h = linear_le (p ∷ q ∷ d ∷ f ∷ []) (le h ∷ eq (up_is p d f e g) ∷ eq (up_is q d f e g) ∷ []) (search reading_of depth 12) tt
+up_rise p q d f e g h = linear_le (p ∷ q ∷ d ∷ f ∷ []) (le h ∷ eq (up_is p d f e g) ∷ eq (up_is q d f e g) ∷ []) (search reading_of) tt
 
 up_less : (p q d f : ℚ) → d ≡ 0ℚ → f ≡ 1ℚ → p <ℚ q → p *ℚ (f -ℚ d) <ℚ q *ℚ (f -ℚ d)
-up_less p q d f e g h = linear_lt (p ∷ q ∷ d ∷ f ∷ []) (lt h ∷ eq (up_is p d f e g) ∷ eq (up_is q d f e g) ∷ []) (search reading_of depth 12) tt
+up_less p q d f e g h = linear_lt (p ∷ q ∷ d ∷ f ∷ []) (lt h ∷ eq (up_is p d f e g) ∷ eq (up_is q d f e g) ∷ []) (search reading_of) tt
 
 down_rise : (p q d f : ℚ) → d ≡ 1ℚ → f ≡ 0ℚ → q ≤ℚ p → p *ℚ (f -ℚ d) ≤ℚ q *ℚ (f -ℚ d)
-down_rise p q d f e g h = linear_le (p ∷ q ∷ d ∷ f ∷ []) (le h ∷ eq (down_is p d f e g) ∷ eq (down_is q d f e g) ∷ []) (search reading_of depth 12) tt
+down_rise p q d f e g h = linear_le (p ∷ q ∷ d ∷ f ∷ []) (le h ∷ eq (down_is p d f e g) ∷ eq (down_is q d f e g) ∷ []) (search reading_of) tt
 
 down_less : (p q d f : ℚ) → d ≡ 1ℚ → f ≡ 0ℚ → q <ℚ p → p *ℚ (f -ℚ d) <ℚ q *ℚ (f -ℚ d)
-down_less p q d f e g h = linear_lt (p ∷ q ∷ d ∷ f ∷ []) (lt h ∷ eq (down_is p d f e g) ∷ eq (down_is q d f e g) ∷ []) (search reading_of depth 12) tt
+down_less p q d f e g h = linear_lt (p ∷ q ∷ d ∷ f ∷ []) (lt h ∷ eq (down_is p d f e g) ∷ eq (down_is q d f e g) ∷ []) (search reading_of) tt
 
 -- ---- over plain numbers: one link that crosses the level, and a factor m from a to b
 up_by : (m n x s t a b : ℚ) → m ≤ℚ b → a <ℚ b → s ≤ℚ a → b ≤ℚ t → Bears n x s t → m *ℚ n ≤ℚ x
 up_by m n x s t a b h o i j bears = by bears.up
   where
     by : (t ≤ℚ s) ⊎ (n *ℚ t ≤ℚ x) → m *ℚ n ≤ℚ x
-    by (inl l) = absurd (linear_false (s ∷ t ∷ a ∷ b ∷ []) (le i ∷ le j ∷ le l ∷ lt o ∷ []) (search reading_of depth 12) tt)
+    by (inl l) = absurd (linear_false (s ∷ t ∷ a ∷ b ∷ []) (le i ∷ le j ∷ le l ∷ lt o ∷ []) (search reading_of) tt)
     by (inr l) =
         let more : m ≤ℚ t = ≤ℚ_trans _ _ _ h j in
-        linear_le (m ∷ n ∷ x ∷ t ∷ []) (le l ∷ le_times bears.not_negative more ∷ []) (search reading_of depth 12) tt
+        linear_le (m ∷ n ∷ x ∷ t ∷ []) (le l ∷ le_times bears.not_negative more ∷ []) (search reading_of) tt
 
 down_by : (m n x s t a b : ℚ) → a ≤ℚ m → a <ℚ b → b ≤ℚ s → t ≤ℚ a → Bears n x s t → x ≤ℚ m *ℚ n
 down_by m n x s t a b h o i j bears = by bears.down
   where
     by : (s ≤ℚ t) ⊎ (x ≤ℚ n *ℚ t) → x ≤ℚ m *ℚ n
-    by (inl l) = absurd (linear_false (s ∷ t ∷ a ∷ b ∷ []) (le i ∷ le j ∷ le l ∷ lt o ∷ []) (search reading_of depth 12) tt)
+    by (inl l) = absurd (linear_false (s ∷ t ∷ a ∷ b ∷ []) (le i ∷ le j ∷ le l ∷ lt o ∷ []) (search reading_of) tt)
     by (inr l) =
         let more : t ≤ℚ m = ≤ℚ_trans _ _ _ j h in
-        linear_le (m ∷ n ∷ x ∷ t ∷ []) (le l ∷ le_times bears.not_negative more ∷ []) (search reading_of depth 12) tt
+        linear_le (m ∷ n ∷ x ∷ t ∷ []) (le l ∷ le_times bears.not_negative more ∷ []) (search reading_of) tt
 
 -- An amount above 0 is strict at the other end of the level.
 up_by_more : (n x s t a b : ℚ) → a <ℚ b → s ≤ℚ a → b ≤ℚ t → 0ℚ <ℚ n → Bears n x s t → a *ℚ n <ℚ x
 up_by_more n x s t a b o i j some bears =
     let gap : 0ℚ <ℚ n *ℚ (b -ℚ a) = ps-times_gap n a b some o in
-    linear_lt (n ∷ x ∷ a ∷ b ∷ []) (lt gap ∷ le (up_by b n x s t a b (≤ℚ_refl b) o i j bears) ∷ []) (search reading_of depth 12) tt
+    linear_lt (n ∷ x ∷ a ∷ b ∷ []) (lt gap ∷ le (up_by b n x s t a b (≤ℚ_refl b) o i j bears) ∷ []) (search reading_of) tt
 
 down_by_more : (n x s t a b : ℚ) → a <ℚ b → b ≤ℚ s → t ≤ℚ a → 0ℚ <ℚ n → Bears n x s t → x <ℚ b *ℚ n
 down_by_more n x s t a b o i j some bears =
     let gap : 0ℚ <ℚ n *ℚ (b -ℚ a) = ps-times_gap n a b some o in
-    linear_lt (n ∷ x ∷ a ∷ b ∷ []) (lt gap ∷ le (down_by a n x s t a b (≤ℚ_refl a) o i j bears) ∷ []) (search reading_of depth 12) tt
+    linear_lt (n ∷ x ∷ a ∷ b ∷ []) (lt gap ∷ le (down_by a n x s t a b (≤ℚ_refl a) o i j bears) ∷ []) (search reading_of) tt
 
 link_level : (m n x s t a b d f : ℚ) → a ≤ℚ m → m ≤ℚ b → a <ℚ b → Bears n x s t → Side a b s d → Side a b t f
     → (m *ℚ n) *ℚ (f -ℚ d) ≤ℚ x *ℚ (f -ℚ d)
@@ -109,14 +109,14 @@ link_level m n x s t a b d f h k o bears (inr (p, i)) (inr (q, j)) = no_rise (m 
 -- Levels from 1 on: j is at least 0.
 high_le : (a n j : ℚ) → 1ℚ ≤ℚ a → 0ℚ ≤ℚ j → a *ℚ n ≤ℚ j → n ≤ℚ j
 high_le a n j h k o = ⊎_elim
-    (λ (l : n <ℚ 0ℚ). linear_le (n ∷ j ∷ []) (lt l ∷ le k ∷ []) (search reading_of depth 12) tt)
-    (λ (l : 0ℚ ≤ℚ n). linear_le (a ∷ n ∷ j ∷ []) (le_times l h ∷ le o ∷ []) (search reading_of depth 12) tt)
+    (λ (l : n <ℚ 0ℚ). linear_le (n ∷ j ∷ []) (lt l ∷ le k ∷ []) (search reading_of) tt)
+    (λ (l : 0ℚ ≤ℚ n). linear_le (a ∷ n ∷ j ∷ []) (le_times l h ∷ le o ∷ []) (search reading_of) tt)
     (lt_or_le_ℚ n 0ℚ)
 
 high_lt : (a n j : ℚ) → 1ℚ ≤ℚ a → 0ℚ ≤ℚ j → a *ℚ n <ℚ j → n <ℚ j
 high_lt a n j h k o = ⊎_elim
-    (λ (l : n <ℚ 0ℚ). linear_lt (n ∷ j ∷ []) (lt l ∷ le k ∷ []) (search reading_of depth 12) tt)
-    (λ (l : 0ℚ ≤ℚ n). linear_lt (a ∷ n ∷ j ∷ []) (le_times l h ∷ lt o ∷ []) (search reading_of depth 12) tt)
+    (λ (l : n <ℚ 0ℚ). linear_lt (n ∷ j ∷ []) (lt l ∷ le k ∷ []) (search reading_of) tt)
+    (λ (l : 0ℚ ≤ℚ n). linear_lt (a ∷ n ∷ j ∷ []) (le_times l h ∷ lt o ∷ []) (search reading_of) tt)
     (lt_or_le_ℚ n 0ℚ)
 
 -- Levels up to 1: j is at most 0.
@@ -124,42 +124,42 @@ low_le : (b n j : ℚ) → 0ℚ <ℚ b → b ≤ℚ 1ℚ → j ≤ℚ 0ℚ → b
 low_le b n j h i k o = ⊎_elim
     (λ (l : 0ℚ <ℚ n).
     let more : 0ℚ <ℚ b *ℚ (n -ℚ 0ℚ) = ps-times_gap b 0ℚ n h l in
-    absurd (linear_false (b ∷ n ∷ j ∷ []) (lt more ∷ le o ∷ le k ∷ []) (search reading_of depth 12) tt))
+    absurd (linear_false (b ∷ n ∷ j ∷ []) (lt more ∷ le o ∷ le k ∷ []) (search reading_of) tt))
     (λ (l : n ≤ℚ 0ℚ).
-    let rest : 0ℚ ≤ℚ 1ℚ -ℚ b = linear_le (b ∷ []) (le i ∷ []) (search reading_of depth 12) tt in
-    linear_le (b ∷ n ∷ j ∷ []) (le_times rest l ∷ le o ∷ []) (search reading_of depth 12) tt)
+    let rest : 0ℚ ≤ℚ 1ℚ -ℚ b = linear_le (b ∷ []) (le i ∷ []) (search reading_of) tt in
+    linear_le (b ∷ n ∷ j ∷ []) (le_times rest l ∷ le o ∷ []) (search reading_of) tt)
     (lt_or_le_ℚ 0ℚ n)
 
 low_lt : (b n j : ℚ) → 0ℚ <ℚ b → b ≤ℚ 1ℚ → j ≤ℚ 0ℚ → b *ℚ n <ℚ j → n <ℚ j
 low_lt b n j h i k o = ⊎_elim
     (λ (l : 0ℚ <ℚ n).
     let more : 0ℚ <ℚ b *ℚ (n -ℚ 0ℚ) = ps-times_gap b 0ℚ n h l in
-    absurd (linear_false (b ∷ n ∷ j ∷ []) (lt more ∷ lt o ∷ le k ∷ []) (search reading_of depth 12) tt))
+    absurd (linear_false (b ∷ n ∷ j ∷ []) (lt more ∷ lt o ∷ le k ∷ []) (search reading_of) tt))
     (λ (l : n ≤ℚ 0ℚ).
-    let rest : 0ℚ ≤ℚ 1ℚ -ℚ b = linear_le (b ∷ []) (le i ∷ []) (search reading_of depth 12) tt in
-    linear_lt (b ∷ n ∷ j ∷ []) (le_times rest l ∷ lt o ∷ []) (search reading_of depth 12) tt)
+    let rest : 0ℚ ≤ℚ 1ℚ -ℚ b = linear_le (b ∷ []) (le i ∷ []) (search reading_of) tt in
+    linear_lt (b ∷ n ∷ j ∷ []) (le_times rest l ∷ lt o ∷ []) (search reading_of) tt)
     (lt_or_le_ℚ 0ℚ n)
 
 -- The same if j is above 0, or below 0.
 high_lt_by_flow : (a b n j : ℚ) → 1ℚ ≤ℚ a → a <ℚ b → 0ℚ <ℚ j → b *ℚ n ≤ℚ j → n <ℚ j
 high_lt_by_flow a b n j h i k o = ⊎_elim
     (λ (l : 0ℚ <ℚ n).
-    let gap : 1ℚ <ℚ b = linear_lt (a ∷ b ∷ []) (le h ∷ lt i ∷ []) (search reading_of depth 12) tt in
+    let gap : 1ℚ <ℚ b = linear_lt (a ∷ b ∷ []) (le h ∷ lt i ∷ []) (search reading_of) tt in
     let more : 0ℚ <ℚ n *ℚ (b -ℚ 1ℚ) = ps-times_gap n 1ℚ b l gap in
-    linear_lt (b ∷ n ∷ j ∷ []) (lt more ∷ le o ∷ []) (search reading_of depth 12) tt)
-    (λ (l : n ≤ℚ 0ℚ). linear_lt (n ∷ j ∷ []) (le l ∷ lt k ∷ []) (search reading_of depth 12) tt)
+    linear_lt (b ∷ n ∷ j ∷ []) (lt more ∷ le o ∷ []) (search reading_of) tt)
+    (λ (l : n ≤ℚ 0ℚ). linear_lt (n ∷ j ∷ []) (le l ∷ lt k ∷ []) (search reading_of) tt)
     (lt_or_le_ℚ 0ℚ n)
 
 low_lt_by_flow : (a b n j : ℚ) → 0ℚ ≤ℚ a → a <ℚ b → b ≤ℚ 1ℚ → j <ℚ 0ℚ → a *ℚ n ≤ℚ j → b *ℚ n ≤ℚ j → n <ℚ j
 low_lt_by_flow a b n j f i h k o p = ⊎_elim
     (λ (l : n <ℚ 0ℚ).
-    let gap : a <ℚ 1ℚ = linear_lt (a ∷ b ∷ []) (le h ∷ lt i ∷ []) (search reading_of depth 12) tt in
-    let low : 0ℚ <ℚ 0ℚ -ℚ n = linear_lt (n ∷ []) (lt l ∷ []) (search reading_of depth 12) tt in
+    let gap : a <ℚ 1ℚ = linear_lt (a ∷ b ∷ []) (le h ∷ lt i ∷ []) (search reading_of) tt in
+    let low : 0ℚ <ℚ 0ℚ -ℚ n = linear_lt (n ∷ []) (lt l ∷ []) (search reading_of) tt in
     let more : 0ℚ <ℚ (0ℚ -ℚ n) *ℚ (1ℚ -ℚ a) = ps-times_gap (0ℚ -ℚ n) a 1ℚ low gap in
-    linear_lt (a ∷ n ∷ j ∷ []) (lt more ∷ le o ∷ []) (search reading_of depth 12) tt)
+    linear_lt (a ∷ n ∷ j ∷ []) (lt more ∷ le o ∷ []) (search reading_of) tt)
     (λ (l : 0ℚ ≤ℚ n).
-    let b_nn : 0ℚ ≤ℚ b = linear_le (a ∷ b ∷ []) (le f ∷ lt i ∷ []) (search reading_of depth 12) tt in
-    absurd (linear_false (b ∷ n ∷ j ∷ []) (le_times b_nn l ∷ le p ∷ lt k ∷ []) (search reading_of depth 12) tt))
+    let b_nn : 0ℚ ≤ℚ b = linear_le (a ∷ b ∷ []) (le f ∷ lt i ∷ []) (search reading_of) tt in
+    absurd (linear_false (b ∷ n ∷ j ∷ []) (le_times b_nn l ∷ le p ∷ lt k ∷ []) (search reading_of) tt))
     (lt_or_le_ℚ n 0ℚ)
 
 module _ (net : Network) (good : IsNetwork net) (rate : ℚ) (x : ℕ → ℚ) (n : ℕ → Link → ℚ) (values : List ℚ) (borne : IsBorne net rate x n values)
@@ -208,7 +208,7 @@ module _ (net : Network) (good : IsNetwork net) (rate : ℚ) (x : ℕ → ℚ) (
         (λ e link p. grouped (n e link) (rise d link))
       where
         grouped : (y z : ℚ) → (m *ℚ y) *ℚ z ≡ m *ℚ (y *ℚ z)
-        grouped y z = linear_eq (m ∷ y ∷ z ∷ []) [] (search reading_of depth 12) tt tt
+        grouped y z = linear_eq (m ∷ y ∷ z ∷ []) [] (search reading_of) tt tt
 
     factor_le : m *ℚ amounts ≤ℚ carries
     factor_le = subst (λ (z : ℚ). z ≤ℚ carries) times_amounts
@@ -226,20 +226,20 @@ module _ (net : Network) (good : IsNetwork net) (rate : ℚ) (x : ℕ → ℚ) (
 
   -- ---- what is carried, by the sides of sink and source
   value_nn : (j t s : ℚ) → j ≡ rate *ℚ (t -ℚ s) → s ≡ 0ℚ → (t ≡ 0ℚ) ⊎ (t ≡ 1ℚ) → 0ℚ ≤ℚ j
-  value_nn j t s e f (inl g) = linear_le (j ∷ t ∷ s ∷ rate ∷ []) (eq e ∷ eq_times rate f ∷ eq_times rate g ∷ []) (search reading_of depth 12) tt
+  value_nn j t s e f (inl g) = linear_le (j ∷ t ∷ s ∷ rate ∷ []) (eq e ∷ eq_times rate f ∷ eq_times rate g ∷ []) (search reading_of) tt
   value_nn j t s e f (inr g) =
-      linear_le (j ∷ t ∷ s ∷ rate ∷ []) (eq e ∷ eq_times rate f ∷ eq_times rate g ∷ le borne.rate_not_negative ∷ []) (search reading_of depth 12) tt
+      linear_le (j ∷ t ∷ s ∷ rate ∷ []) (eq e ∷ eq_times rate f ∷ eq_times rate g ∷ le borne.rate_not_negative ∷ []) (search reading_of) tt
 
   value_np : (j t s : ℚ) → j ≡ rate *ℚ (t -ℚ s) → s ≡ 1ℚ → (t ≡ 0ℚ) ⊎ (t ≡ 1ℚ) → j ≤ℚ 0ℚ
   value_np j t s e f (inl g) =
-      linear_le (j ∷ t ∷ s ∷ rate ∷ []) (eq e ∷ eq_times rate f ∷ eq_times rate g ∷ le borne.rate_not_negative ∷ []) (search reading_of depth 12) tt
-  value_np j t s e f (inr g) = linear_le (j ∷ t ∷ s ∷ rate ∷ []) (eq e ∷ eq_times rate f ∷ eq_times rate g ∷ []) (search reading_of depth 12) tt
+      linear_le (j ∷ t ∷ s ∷ rate ∷ []) (eq e ∷ eq_times rate f ∷ eq_times rate g ∷ le borne.rate_not_negative ∷ []) (search reading_of) tt
+  value_np j t s e f (inr g) = linear_le (j ∷ t ∷ s ∷ rate ∷ []) (eq e ∷ eq_times rate f ∷ eq_times rate g ∷ []) (search reading_of) tt
 
   value_ps : (j t s : ℚ) → 0ℚ <ℚ rate → j ≡ rate *ℚ (t -ℚ s) → s ≡ 0ℚ → t ≡ 1ℚ → 0ℚ <ℚ j
-  value_ps j t s h e f g = linear_lt (j ∷ t ∷ s ∷ rate ∷ []) (eq e ∷ eq_times rate f ∷ eq_times rate g ∷ lt h ∷ []) (search reading_of depth 12) tt
+  value_ps j t s h e f g = linear_lt (j ∷ t ∷ s ∷ rate ∷ []) (eq e ∷ eq_times rate f ∷ eq_times rate g ∷ lt h ∷ []) (search reading_of) tt
 
   value_ng : (j t s : ℚ) → 0ℚ <ℚ rate → j ≡ rate *ℚ (t -ℚ s) → s ≡ 1ℚ → t ≡ 0ℚ → j <ℚ 0ℚ
-  value_ng j t s h e f g = linear_lt (j ∷ t ∷ s ∷ rate ∷ []) (eq e ∷ eq_times rate f ∷ eq_times rate g ∷ lt h ∷ []) (search reading_of depth 12) tt
+  value_ng j t s h e f g = linear_lt (j ∷ t ∷ s ∷ rate ∷ []) (eq e ∷ eq_times rate f ∷ eq_times rate g ∷ lt h ∷ []) (search reading_of) tt
 
   -- ---- levels from 1 on
   module _ (high : 1ℚ ≤ℚ a) where
@@ -269,10 +269,10 @@ module _ (net : Network) (good : IsNetwork net) (rate : ℚ) (x : ℕ → ℚ) (
     source_high = high_side net.source good.source (subst (λ (z : ℚ). a <ℚ z) (sym borne.starts) (above_then a b low o))
       where
         above_then : (a b : ℚ) → b ≤ℚ 1ℚ → a <ℚ b → a <ℚ 1ℚ
-        above_then a b h k = linear_lt (a ∷ b ∷ []) (le h ∷ lt k ∷ []) (search reading_of depth 12) tt
+        above_then a b h k = linear_lt (a ∷ b ∷ []) (le h ∷ lt k ∷ []) (search reading_of) tt
 
     b_ps : 0ℚ <ℚ b
-    b_ps = linear_lt (a ∷ b ∷ []) (le first ∷ lt o ∷ []) (search reading_of depth 12) tt
+    b_ps = linear_lt (a ∷ b ∷ []) (le first ∷ lt o ∷ []) (search reading_of) tt
 
     carries_np : carries ≤ℚ 0ℚ
     carries_np = value_np carries (d net.sink) (d net.source) (borne.carried d) source_high (is_bit net.sink good.sink)

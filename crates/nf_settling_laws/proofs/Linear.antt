@@ -7,15 +7,16 @@ use Rattle.nf_rational.specs.Operations.{0ℚ, 1ℚ, ◌+ℚ◌, ◌-ℚ◌, ◌
 use Rattle.nf_rational.specs.Order.{◌≤ℚ◌, ◌<ℚ◌, max_ℚ}
 use Rattle.nf_rational_laws.proofs.Polynomial.{reading_of}
 use Rattle.nf_rational_laws.proofs.Order.{≤ℚ_of_lt, lt_or_le_ℚ, less_ps, not_both_ℚ}
-use Rattle.nf_rational_laws.proofs.Chains.{≤ℚ_refl, ≤ℚ_trans}
+use Rattle.nf_rational_laws.proofs.Chains.{≤ℚ_refl, ≤ℚ_trans, <_≤_trans}
 use Rattle.nf_rational_laws.proofs.Entries.{entry, same_entries}
 use Rattle.nf_rational_laws.proofs.Extremes.{max_left, max_right}
 use Rattle.nf_rational_laws.proofs.Linear.{le, lt, eq, le_times, linear_le, linear_lt, linear_eq}
+use Rattle.nf_rational_laws.proofs.Facts.{gap_ng}
 use Rattle.nf_model.specs.Entries.{number_at}
 use Rattle.nf_model.specs.Network.{Link, Network, IsNetwork, IsLink, hop_of, rate_at}
 use Rattle.nf_model.specs.ThinFlow.{slack, sets_at}
 use Rattle.nf_model.specs.Equilibrium.{Flow, label, Equilibrium}
-use Rattle.nf_model_laws.proofs.Affine.{<_≤_trans, quotient-times, same_from_times}
+use Rattle.nf_model_laws.proofs.Affine.{quotient-times, same_from_times}
 use Rattle.nf_model_laws.proofs.Slacks.{active_of_slack, slack_of_resetting}
 use Rattle.nf_phase_laws.specs.Invariant.{link_slack}
 use Rattle.nf_thin_laws.proofs.ActiveLinks.{HoldNoCycle-sets_at}
@@ -37,9 +38,9 @@ IsSettled c k w = (0ℚ <ℚ k → 0ℚ <ℚ c +ℚ w *ℚ k) × (k <ℚ 0ℚ �
 settled_later : (c k w x : ℚ) → w ≤ℚ x → IsSettled c k w → IsSettled c k x
 settled_later c k w x h s = (
   λ up. let low : 0ℚ ≤ℚ k = ≤ℚ_of_lt _ _ up in
-      linear_lt (c ∷ k ∷ w ∷ x ∷ []) (lt (s.0 up) ∷ le_times low h ∷ []) (search reading_of depth 12) tt,
-  λ down. let low : 0ℚ ≤ℚ 0ℚ -ℚ k = linear_le (k ∷ []) (lt down ∷ []) (search reading_of depth 12) tt in
-      linear_lt (c ∷ k ∷ w ∷ x ∷ []) (lt (s.1 down) ∷ le_times low h ∷ []) (search reading_of depth 12) tt,
+      linear_lt (c ∷ k ∷ w ∷ x ∷ []) (lt (s.0 up) ∷ le_times low h ∷ []) (search reading_of) tt,
+  λ down. let low : 0ℚ ≤ℚ 0ℚ -ℚ k = linear_le (k ∷ []) (lt down ∷ []) (search reading_of) tt in
+      linear_lt (c ∷ k ∷ w ∷ x ∷ []) (lt (s.1 down) ∷ le_times low h ∷ []) (search reading_of) tt,
 )
 
 settled_then : (c k : ℚ) → (w : ℚ) × IsSettled c k w
@@ -50,7 +51,7 @@ settled_then c k = ⊎_elim
     (λ (not_up : k ≤ℚ 0ℚ). ⊎_elim
     (λ (down : k <ℚ 0ℚ).
     let m : ℚ = 0ℚ -ℚ k in
-    let more : 0ℚ <ℚ m = linear_lt (k ∷ []) (lt down ∷ []) (search reading_of depth 12) tt in
+    let more : 0ℚ <ℚ m = linear_lt (k ∷ []) (lt down ∷ []) (search reading_of) tt in
     let e : (1ℚ +ℚ c) /ℚ m *ℚ m ≡ 1ℚ +ℚ c = quotient-times (1ℚ +ℚ c) m more in
     ((1ℚ +ℚ c) /ℚ m, (λ up. absurd (not_both_ℚ _ _ up not_up), λ _. fallen ((1ℚ +ℚ c) /ℚ m) e)))
     (λ (not_down : 0ℚ ≤ℚ k). (0ℚ, (λ up. absurd (not_both_ℚ _ _ up not_up), λ down. absurd (not_both_ℚ _ _ down not_down))))
@@ -58,10 +59,10 @@ settled_then c k = ⊎_elim
     (lt_or_le_ℚ 0ℚ k)
   where
     risen : (w : ℚ) → w *ℚ k ≡ 1ℚ -ℚ c → 0ℚ <ℚ c +ℚ w *ℚ k
-    risen w e = linear_lt (c ∷ k ∷ w ∷ []) (eq e ∷ []) (search reading_of depth 12) tt
+    risen w e = linear_lt (c ∷ k ∷ w ∷ []) (eq e ∷ []) (search reading_of) tt
 
     fallen : (w : ℚ) → w *ℚ (0ℚ -ℚ k) ≡ 1ℚ +ℚ c → c +ℚ w *ℚ k <ℚ 0ℚ
-    fallen w e = linear_lt (c ∷ k ∷ w ∷ []) (eq e ∷ []) (search reading_of depth 12) tt
+    fallen w e = linear_lt (c ∷ k ∷ w ∷ []) (eq e ∷ []) (search reading_of) tt
 
 module _ (net : Network) (good : IsNetwork net) (from : ℚ) (slopes : List ℚ) (grows : GrowsLinearly net from slopes) where
   abbrev slope : ℕ → ℚ
@@ -97,20 +98,20 @@ module _ (net : Network) (good : IsNetwork net) (from : ℚ) (slopes : List ℚ)
   long = passed settling.0 (max_ℚ (from +ℚ settling.0) (last_start net.pieces)) (max_left (from +ℚ settling.0) (last_start net.pieces))
     where
       passed : (w m : ℚ) → from +ℚ w ≤ℚ m → w ≤ℚ m -ℚ from
-      passed w m h = linear_le (from ∷ w ∷ m ∷ []) (le h ∷ []) (search reading_of depth 12) tt
+      passed w m h = linear_le (from ∷ w ∷ m ∷ []) (le h ∷ []) (search reading_of) tt
 
   from_late : from ≤ℚ late
   from_late = behind late settling.0 settling.1 long
     where
       behind : (t w : ℚ) → 0ℚ ≤ℚ w → w ≤ℚ t -ℚ from → from ≤ℚ t
-      behind t w h k = linear_le (from ∷ t ∷ w ∷ []) (le h ∷ le k ∷ []) (search reading_of depth 12) tt
+      behind t w h k = linear_le (from ∷ t ∷ w ∷ []) (le h ∷ le k ∷ []) (search reading_of) tt
 
   late_nn : 0ℚ ≤ℚ late
   late_nn = ≤ℚ_trans _ _ _ grows.not_negative from_late
 
   -- ---- an equilibrium that describes later departures
   next : late <ℚ late +ℚ 1ℚ
-  next = linear_lt (late ∷ []) [] (search reading_of depth 12) tt
+  next = linear_lt (late ∷ []) [] (search reading_of) tt
 
   there : (flow : Flow) × Equilibrium net flow × (late +ℚ 1ℚ ≤ℚ flow.reached)
   there = grows.reaches (late +ℚ 1ℚ) (≤ℚ_trans _ _ _ from_late (≤ℚ_of_lt _ _ next))
@@ -133,7 +134,7 @@ module _ (net : Network) (good : IsNetwork net) (from : ℚ) (slopes : List ℚ)
       (grows.not_negative, (grows.reaches from (≤ℚ_refl from)).2))
     where
       grown : (x y z w s : ℚ) → x ≡ y +ℚ w *ℚ s → y ≡ z → x ≡ z +ℚ w *ℚ s
-      grown x y z w s e f = linear_eq (x ∷ y ∷ z ∷ w ∷ s ∷ []) (eq e ∷ eq f ∷ []) (search reading_of depth 12) tt tt
+      grown x y z w s e f = linear_eq (x ∷ y ∷ z ∷ w ∷ s ∷ []) (eq e ∷ eq f ∷ []) (search reading_of) tt tt
 
   slope_is : (v : ℕ) → v < net.nodes → number_at moves.slopes v ≡ slope v
   slope_is v h = same_from_times (moves.until -ℚ late) _ _ (less_ps late moves.until moves.later)
@@ -142,7 +143,7 @@ module _ (net : Network) (good : IsNetwork net) (from : ℚ) (slopes : List ℚ)
       (label-at v moves.until h (≤ℚ_trans _ _ _ from_late (≤ℚ_of_lt _ _ moves.later)) moves.within) (label-at v late h from_late (≤ℚ_of_lt _ _ within)))
     where
       same_gain : (x y z m s u t : ℚ) → x ≡ y +ℚ m *ℚ (u -ℚ t) → x ≡ z +ℚ (u -ℚ from) *ℚ s → y ≡ z +ℚ (t -ℚ from) *ℚ s → (u -ℚ t) *ℚ m ≡ (u -ℚ t) *ℚ s
-      same_gain x y z m s u t e f g = linear_eq (x ∷ y ∷ z ∷ m ∷ s ∷ u ∷ t ∷ from ∷ []) (eq e ∷ eq f ∷ eq g ∷ []) (search reading_of depth 14) tt tt
+      same_gain x y z m s u t e f g = linear_eq (x ∷ y ∷ z ∷ m ∷ s ∷ u ∷ t ∷ from ∷ []) (eq e ∷ eq f ∷ eq g ∷ []) (search reading_of) tt tt
 
   same_slopes : moves.slopes ≡ slopes
   same_slopes = same_entries 0ℚ moves.slopes slopes (moves.thin.slope_count ∙ sym grows.count)
@@ -156,7 +157,7 @@ module _ (net : Network) (good : IsNetwork net) (from : ℚ) (slopes : List ℚ)
       (label-at link.head late (good.heads e link p) from_late (≤ℚ_of_lt _ _ within))
     where
       moved : (x y a b s k w r : ℚ) → x ≡ a +ℚ w *ℚ s → y ≡ b +ℚ w *ℚ k → y -ℚ (x +ℚ r) ≡ (b -ℚ (a +ℚ r)) +ℚ w *ℚ (k -ℚ s)
-      moved x y a b s k w r e f = linear_eq (x ∷ y ∷ a ∷ b ∷ s ∷ k ∷ w ∷ r ∷ []) (eq e ∷ eq f ∷ []) (search reading_of depth 14) tt tt
+      moved x y a b s k w r e f = linear_eq (x ∷ y ∷ a ∷ b ∷ s ∷ k ∷ w ∷ r ∷ []) (eq e ∷ eq f ∷ []) (search reading_of) tt tt
 
   settled_at : (e : ℕ) (link : Link) → IsLink net e link → IsSettled (first_slack link) (rise link) (late -ℚ from)
   settled_at e link p = settled_later _ _ settling.0 (late -ℚ from) long (settling.2 e (slice_get_within net.links e link p) link p)
@@ -171,13 +172,10 @@ module _ (net : Network) (good : IsNetwork net) (from : ℚ) (slopes : List ℚ)
         (lt_or_le_ℚ (slope link.tail) (slope link.head));
     resetting = λ e link p has. ⊎_elim
         (λ (down : slope link.head <ℚ slope link.tail). absurd (not_both_ℚ _ _ (slack_of_resetting net (labels_at net flow late) e link p has)
-        (subst (λ (z : ℚ). z ≤ℚ 0ℚ) (sym (slack_is e link p)) (≤ℚ_of_lt _ _ ((settled_at e link p).1 (falls _ _ down))))))
+        (subst (λ (z : ℚ). z ≤ℚ 0ℚ) (sym (slack_is e link p)) (≤ℚ_of_lt _ _ ((settled_at e link p).1 (gap_ng _ _ down))))))
         (λ (k : slope link.tail ≤ℚ slope link.head). k)
         (lt_or_le_ℚ (slope link.head) (slope link.tail));
   }
-    where
-      falls : (a b : ℚ) → a <ℚ b → a -ℚ b <ℚ 0ℚ
-      falls a b h = linear_lt (a ∷ b ∷ []) (lt h ∷ []) (search reading_of depth 12) tt
 
   pub GrowsByCuts-linear : GrowsByCuts net (last_rate net) slopes
   unfolding late

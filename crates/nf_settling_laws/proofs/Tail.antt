@@ -71,7 +71,7 @@ module _ (passes : Passing) (net : Network) (good : IsNetwork net) (phases patte
         departure_nn = ≤ℚ_trans _ _ _ here.reached w.0
 
         line : (x y m n w s : ℚ) → x ≡ y → y ≡ m +ℚ w *ℚ s → n ≡ m → x ≡ n +ℚ w *ℚ s
-        line x y m n w s e f g = linear_eq (x ∷ y ∷ m ∷ n ∷ w ∷ s ∷ []) (eq e ∷ eq f ∷ eq g ∷ []) (search reading_of depth 12) tt tt
+        line x y m n w s e f g = linear_eq (x ∷ y ∷ m ∷ n ∷ w ∷ s ∷ []) (eq e ∷ eq f ∷ eq g ∷ []) (search reading_of) tt tt
 
     pub GrowsLinearly-tail : GrowsLinearly net last.time tail.slopes
     GrowsLinearly-tail = record {

@@ -18,16 +18,16 @@ use Rattle.nf_forever_laws.specs.TailGrowth.{travel_time}
 -- Arithmetic: r is the departure reached, and l is the label of the sink there. Its labels in the extended flow at r and d are x and y, and s is
 -- its slope.
 travelled : (l r d s x y : ℚ) → x ≡ l +ℚ (r -ℚ r) *ℚ s → y ≡ l +ℚ (d -ℚ r) *ℚ s → y -ℚ d ≡ (x -ℚ r) +ℚ (d -ℚ r) *ℚ (s -ℚ 1ℚ)
-travelled l r d s x y e f = linear_eq (l ∷ r ∷ d ∷ s ∷ x ∷ y ∷ []) (eq e ∷ eq f ∷ []) (search reading_of depth 12) tt tt
+travelled l r d s x y e f = linear_eq (l ∷ r ∷ d ∷ s ∷ x ∷ y ∷ []) (eq e ∷ eq f ∷ []) (search reading_of) tt tt
 
 slope_1 : (r s a b : ℚ) → b ≡ a +ℚ ((r +ℚ 1ℚ) -ℚ r) *ℚ (s -ℚ 1ℚ) → b ≡ a → s ≡ 1ℚ
-slope_1 r s a b e f = linear_eq (r ∷ s ∷ a ∷ b ∷ []) (eq e ∷ eq f ∷ []) (search reading_of depth 12) tt tt
+slope_1 r s a b e f = linear_eq (r ∷ s ∷ a ∷ b ∷ []) (eq e ∷ eq f ∷ []) (search reading_of) tt tt
 
 stays : (w s a b : ℚ) → b ≡ a +ℚ w *ℚ (s -ℚ 1ℚ) → s ≡ 1ℚ → b ≡ a
-stays w s a b e f = linear_eq (w ∷ s ∷ a ∷ b ∷ []) (eq e ∷ eq_times w f ∷ []) (search reading_of depth 12) tt tt
+stays w s a b e f = linear_eq (w ∷ s ∷ a ∷ b ∷ []) (eq e ∷ eq_times w f ∷ []) (search reading_of) tt tt
 
 later_by_1 : (r : ℚ) → r ≤ℚ r +ℚ 1ℚ
-later_by_1 r = linear_le (r ∷ []) [] (search reading_of depth 12) tt
+later_by_1 r = linear_le (r ∷ []) [] (search reading_of) tt
 
 module _ (net : Network) (flow : Flow) (tail : Tail) (rate : ℚ)
     (grows : (departure : ℚ) → flow.reached ≤ℚ departure

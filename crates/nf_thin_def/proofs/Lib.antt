@@ -1,5 +1,4 @@
 pub mod Examples
-pub mod Tables
 pub mod Patterns
 pub mod Runs
 pub mod Passing

@@ -14,7 +14,7 @@ use Rattle.nf_frac_def.specs.declared.PassedAt.{PassedAt}
 use Rattle.nf_model.specs.declared.State.TheVariants.{Tight}
 use Rattle.nf_model.specs.Network.{Network}
 use Rattle.nf_thin_def.specs.Slack.{slack_of, slack_list}
-use Rattle.nf_thin_def.specs.Table.{table_list}
+use Rattle.nf_linear_def.specs.Table.{table_list}
 use Rattle.nf_thin_def.specs.Equations.{equations}
 use Rattle.nf_thin_def.specs.Verdict.{verdict_list}
 use Rattle.nf_thin_def.specs.Extend.{extend_list}
@@ -22,7 +22,8 @@ use Rattle.nf_thin_def.specs.Advance.{labels_after, advance_list}
 use Rattle.nf_thin_def.specs.CurveList.{curve_list}
 use Rattle.nf_thin_def.specs.Accepted.{pattern_lists}
 use Rattle.nf_thin_def.specs.PhaseRun.{phase_lists}
-use Rattle.nf_thin_def.proofs.Examples.{n, L, in_127_bits, link, Parts, parts_of}
+use Rattle.nf_frac_def.proofs.Examples.{n, in_127_bits, Parts, parts_of}
+use Rattle.nf_thin_def.proofs.Examples.{L, link}
 use Rattle.nf_thin_def.proofs.Runs.{first_standing, phases_by}
 
 -- the operation that passes

@@ -14,8 +14,9 @@ use Rattle.nf_frac_def.specs.declared.PassedAt.{PassedAt}
 use Rattle.nf_model.specs.declared.State.TheVariants.{Tight, Full}
 use Rattle.nf_model.specs.Network.{Network}
 use Rattle.nf_model.specs.Pattern.{Pattern}
-use Rattle.nf_thin_def.proofs.Examples.{n, L, in_127_bits, link, Parts, parts_of}
-use Rattle.nf_thin_def.specs.Table.{table_list}
+use Rattle.nf_frac_def.proofs.Examples.{n, in_127_bits, Parts, parts_of}
+use Rattle.nf_thin_def.proofs.Examples.{L, link}
+use Rattle.nf_linear_def.specs.Table.{table_list}
 use Rattle.nf_thin_def.specs.Equations.{equations}
 use Rattle.nf_thin_def.specs.Verdict.{verdict_list}
 use Rattle.nf_thin_def.specs.Accepted.{Solved, pattern_lists}

@@ -13,7 +13,7 @@ use Rattle.nf_model.specs.Network.{Network, rate_at}
 use Rattle.nf_model.specs.ThinFlow.{sets_at}
 use Rattle.nf_model.specs.Pattern.{Pattern}
 use Rattle.nf_model.specs.Equilibrium.{Trace, Flow}
-use Rattle.nf_thin_def.specs.Table.{table_list}
+use Rattle.nf_linear_def.specs.Table.{table_list}
 use Rattle.nf_thin_def.specs.Equations.{equations}
 use Rattle.nf_thin_def.specs.Verdict.{verdict_list}
 use Rattle.nf_thin_def.specs.Extend.{extend_list}
@@ -21,7 +21,8 @@ use Rattle.nf_thin_def.specs.Advance.{labels_after, advance_list}
 use Rattle.nf_thin_def.specs.CurveList.{curve_list}
 use Rattle.nf_thin_def.specs.Accepted.{Solved, pattern_lists}
 use Rattle.nf_thin_def.specs.ReportCurves.{first_label_curve, first_curves}
-use Rattle.nf_thin_def.proofs.Examples.{n, in_127_bits, link, Parts, parts_of, i}
+use Rattle.nf_frac_def.proofs.Examples.{n, in_127_bits, Parts, parts_of}
+use Rattle.nf_thin_def.proofs.Examples.{link, i}
 use Rattle.nf_thin_def.specs.PhaseRun.{Standing, phase_lists, standing_after, flow_of}
 
 -- ---- a run to a horizon by these patterns

@@ -8,7 +8,7 @@ use Rattle.nf_frac_def.specs.declared.PassedAt.{PassedAt}
 use Rattle.nf_model.specs.Network.{Network}
 use Rattle.nf_model.specs.ThinFlow.{Sets}
 use Rattle.nf_model.specs.Pattern.{Pattern, IsSolvable}
-use Rattle.nf_thin_def.specs.Table.{table_list}
+use Rattle.nf_linear_def.specs.Table.{table_list}
 use Rattle.nf_thin_def.specs.Equations.{equations, slopes_in, flows_in}
 use Rattle.nf_thin_def.specs.Verdict.{verdict_list}
 

@@ -1,5 +1,4 @@
 pub mod Slack
-pub mod Table
 pub mod Equations
 pub mod Verdict
 pub mod Extend

@@ -6,6 +6,7 @@ use Rattle.nf_rational.specs.Rational.{ℚ}
 use Rattle.nf_rational.specs.Operations.{0ℚ, ◌+ℚ◌, ◌-ℚ◌, ◌*ℚ◌}
 use Rattle.nf_rational_laws.proofs.Polynomial.{reading_of}
 use Rattle.nf_rational_laws.proofs.Linear.{eq, eq_times, linear_eq}
+use Rattle.nf_rational_laws.proofs.Facts.{zero_plus, sum_of_sum, zero_of_times_zero}
 use Rattle.nf_model.specs.Entries.{number_at}
 use Rattle.nf_model.specs.Network.{Link, sum_in, sum_out}
 use Rattle.nf_thin_def.specs.Equations.{active_from, one_if, leaves_less_enters, onto_links}
@@ -17,32 +18,23 @@ dot f (u ∷ us) [] = 0ℚ
 dot f (u ∷ us) (x ∷ xs) = f u *ℚ x +ℚ dot f us xs
 
 -- ---- equations of rationals
-none_first : (a : ℚ) → a ≡ 0ℚ +ℚ a
-none_first a = linear_eq (a ∷ []) [] (search reading_of depth 12) tt tt
-
-regroup : (a d u v : ℚ) → d ≡ u +ℚ v → a +ℚ d ≡ (a +ℚ u) +ℚ v
-regroup a d u v e = linear_eq (a ∷ d ∷ u ∷ v ∷ []) (eq e ∷ []) (search reading_of depth 12) tt tt
-
 nothing : 0ℚ ≡ 0ℚ +ℚ 0ℚ
-nothing = linear_eq [] [] (search reading_of depth 12) tt tt
+nothing = linear_eq [] [] (search reading_of) tt tt
 
 term_gone : (f x d : ℚ) → f ≡ 0ℚ → d ≡ 0ℚ → f *ℚ x +ℚ d ≡ 0ℚ
-term_gone f x d e h = linear_eq (f ∷ x ∷ d ∷ []) (eq_times x e ∷ eq h ∷ []) (search reading_of depth 12) tt tt
+term_gone f x d e h = linear_eq (f ∷ x ∷ d ∷ []) (eq_times x e ∷ eq h ∷ []) (search reading_of) tt tt
 
 term_skipped : (f x d y : ℚ) → f ≡ 0ℚ → d ≡ y → f *ℚ x +ℚ d ≡ y
-term_skipped f x d y e h = linear_eq (f ∷ x ∷ d ∷ y ∷ []) (eq_times x e ∷ eq h ∷ []) (search reading_of depth 12) tt tt
+term_skipped f x d y e h = linear_eq (f ∷ x ∷ d ∷ y ∷ []) (eq_times x e ∷ eq h ∷ []) (search reading_of) tt tt
 
 term_only : (f c x d : ℚ) → f ≡ c → d ≡ 0ℚ → f *ℚ x +ℚ d ≡ c *ℚ x
-term_only f c x d e h = linear_eq (f ∷ c ∷ x ∷ d ∷ []) (eq_times x e ∷ eq h ∷ []) (search reading_of depth 12) tt tt
+term_only f c x d e h = linear_eq (f ∷ c ∷ x ∷ d ∷ []) (eq_times x e ∷ eq h ∷ []) (search reading_of) tt tt
 
 terms_less : (f g h x d a b : ℚ) → f ≡ g -ℚ h → d ≡ a -ℚ b → f *ℚ x +ℚ d ≡ (g *ℚ x +ℚ a) -ℚ (h *ℚ x +ℚ b)
-terms_less f g h x d a b e k = linear_eq (f ∷ g ∷ h ∷ x ∷ d ∷ a ∷ b ∷ []) (eq_times x e ∷ eq k ∷ []) (search reading_of depth 12) tt tt
+terms_less f g h x d a b e k = linear_eq (f ∷ g ∷ h ∷ x ∷ d ∷ a ∷ b ∷ []) (eq_times x e ∷ eq k ∷ []) (search reading_of) tt tt
 
 none_less : 0ℚ ≡ 0ℚ -ℚ 0ℚ
-none_less = linear_eq [] [] (search reading_of depth 12) tt tt
-
-times_none : (c : ℚ) → 0ℚ ≡ c *ℚ 0ℚ
-times_none c = linear_eq (c ∷ []) [] (search reading_of depth 12) tt tt
+none_less = linear_eq [] [] (search reading_of) tt tt
 
 -- ---- a row of a table
 module _ {A : Type 0} (f : A → ℚ) where
@@ -65,9 +57,9 @@ module _ {A : Type 0} (f : A → ℚ) where
   dot-none (u ∷ us) = refl
 
   pub dot-append : (us vs : List A) (xs : List ℚ) → dot f (us ++ vs) xs ≡ dot f us (take (length us) xs) +ℚ dot f vs (drop (length us) xs)
-  dot-append [] vs xs = none_first (dot f vs xs)
+  dot-append [] vs xs = zero_plus (dot f vs xs)
   dot-append (u ∷ us) vs [] = nothing ∙ ap (λ (s : ℚ). 0ℚ +ℚ s) (sym (dot-none vs))
-  dot-append (u ∷ us) vs (x ∷ xs) = regroup (f u *ℚ x) _ _ _ (dot-append us vs xs)
+  dot-append (u ∷ us) vs (x ∷ xs) = sum_of_sum (f u *ℚ x) _ _ _ (dot-append us vs xs)
 
   pub dot-zero : ((u : A) → f u ≡ 0ℚ) → (us : List A) (xs : List ℚ) → dot f us xs ≡ 0ℚ
   dot-zero h [] xs = refl
@@ -117,24 +109,24 @@ active-before (false ∷ active) k e c xs h = active-before active (suc k) e c x
 
 pub active-only : (active : List Bool) (k i e : ℕ) (c : ℚ) (xs : List ℚ) → e ≡ k + i → length xs ≡ length (active_from k active)
     → dot (only e c) (active_from k active) xs ≡ c *ℚ number_at (onto_links active xs) i
-active-only [] k i e c xs same l = times_none c
+active-only [] k i e c xs same l = zero_of_times_zero c
 active-only (true ∷ active) k i e c [] same l = absurd (cc)
 active-only (true ∷ active) k zero e c (x ∷ xs) same l = term_only (only e c k) c x _ (only-here e c k (omega arith)) (active-before active (suc k) e c xs (omega arith))
 active-only (true ∷ active) k (suc i) e c (x ∷ xs) same l = term_skipped (only e c k) x _ (c *ℚ number_at (onto_links active xs) i) (only-else e c k (λ s. absurd (omega arith))) (active-only active (suc k) i e c xs (omega arith) (cc))
-active-only (false ∷ active) k zero e c xs same l = active-before active (suc k) e c xs (omega arith) ∙ times_none c
+active-only (false ∷ active) k zero e c xs same l = active-before active (suc k) e c xs (omega arith) ∙ zero_of_times_zero c
 active-only (false ∷ active) k (suc i) e c xs same l = active-only active (suc k) i e c xs (omega arith) l
 
 -- ---- at a node
 both_ends : (a b : Bool) (f x so si d : ℚ) → f ≡ one_if a -ℚ one_if b → d ≡ so -ℚ si → f *ℚ x +ℚ d ≡ (if a then x +ℚ so else so) -ℚ (if b then x +ℚ si else si)
-both_ends true true f x so si d e h = linear_eq (f ∷ x ∷ so ∷ si ∷ d ∷ []) (eq_times x e ∷ eq h ∷ []) (search reading_of depth 12) tt tt
-both_ends true false f x so si d e h = linear_eq (f ∷ x ∷ so ∷ si ∷ d ∷ []) (eq_times x e ∷ eq h ∷ []) (search reading_of depth 12) tt tt
-both_ends false true f x so si d e h = linear_eq (f ∷ x ∷ so ∷ si ∷ d ∷ []) (eq_times x e ∷ eq h ∷ []) (search reading_of depth 12) tt tt
-both_ends false false f x so si d e h = linear_eq (f ∷ x ∷ so ∷ si ∷ d ∷ []) (eq_times x e ∷ eq h ∷ []) (search reading_of depth 12) tt tt
+both_ends true true f x so si d e h = linear_eq (f ∷ x ∷ so ∷ si ∷ d ∷ []) (eq_times x e ∷ eq h ∷ []) (search reading_of) tt tt
+both_ends true false f x so si d e h = linear_eq (f ∷ x ∷ so ∷ si ∷ d ∷ []) (eq_times x e ∷ eq h ∷ []) (search reading_of) tt tt
+both_ends false true f x so si d e h = linear_eq (f ∷ x ∷ so ∷ si ∷ d ∷ []) (eq_times x e ∷ eq h ∷ []) (search reading_of) tt tt
+both_ends false false f x so si d e h = linear_eq (f ∷ x ∷ so ∷ si ∷ d ∷ []) (eq_times x e ∷ eq h ∷ []) (search reading_of) tt tt
 
 no_flow : (a b : Bool) (so si d : ℚ) → d ≡ so -ℚ si → d ≡ (if a then 0ℚ +ℚ so else so) -ℚ (if b then 0ℚ +ℚ si else si)
-no_flow true true so si d h = linear_eq (so ∷ si ∷ d ∷ []) (eq h ∷ []) (search reading_of depth 12) tt tt
-no_flow true false so si d h = linear_eq (so ∷ si ∷ d ∷ []) (eq h ∷ []) (search reading_of depth 12) tt tt
-no_flow false true so si d h = linear_eq (so ∷ si ∷ d ∷ []) (eq h ∷ []) (search reading_of depth 12) tt tt
+no_flow true true so si d h = linear_eq (so ∷ si ∷ d ∷ []) (eq h ∷ []) (search reading_of) tt tt
+no_flow true false so si d h = linear_eq (so ∷ si ∷ d ∷ []) (eq h ∷ []) (search reading_of) tt tt
+no_flow false true so si d h = linear_eq (so ∷ si ∷ d ∷ []) (eq h ∷ []) (search reading_of) tt tt
 no_flow false false so si d h = h
 
 pub node-dot : (links : List Link) (active : List Bool) (k : ℕ) (h : ℕ → ℚ) (xs : List ℚ) (v : ℕ) → length active ≡ length links → length xs ≡ length (active_from k active)

@@ -7,6 +7,8 @@ use Rattle.nf_rational.specs.Rational.{ℚ}
 use Rattle.nf_rational.specs.Operations.{0ℚ, 1ℚ, neg_ℚ, ◌+ℚ◌, ◌-ℚ◌, ◌*ℚ◌}
 use Rattle.nf_rational_laws.proofs.Polynomial.{reading_of}
 use Rattle.nf_rational_laws.proofs.Linear.{eq, linear_eq}
+use Rattle.nf_rational_laws.proofs.Facts.{first_and_zero}
+use Rattle.nf_rational_laws.proofs.Field.{one-*ℚ}
 use Rattle.nf_model.specs.declared.State.TheVariants.{Tight, Zero}
 use Rattle.nf_model.specs.Entries.{number_at}
 use Rattle.nf_model.specs.Network.{Link, Network, IsNetwork, IsLink}
@@ -16,17 +18,11 @@ use Rattle.nf_thin_laws.specs.ActiveLinks.{AreSets}
 use Rattle.nf_thin_equation_laws.proofs.Dots.{dot, dot-append, dot-zero, dot-less, dot-map, only, range-only, active-only, node-dot}
 use Rattle.nf_thin_equation_laws.proofs.Packed.{front-length, rest-length}
 
-first_only : (a b c : ℚ) → a ≡ c → b ≡ 0ℚ → a +ℚ b ≡ c
-first_only a b c e h = linear_eq (a ∷ b ∷ c ∷ []) (eq e ∷ eq h ∷ []) (search reading_of depth 12) tt tt
-
 second_only : (a b c : ℚ) → a ≡ 0ℚ → b ≡ c → a +ℚ b ≡ c
-second_only a b c e h = linear_eq (a ∷ b ∷ c ∷ []) (eq e ∷ eq h ∷ []) (search reading_of depth 12) tt tt
-
-once : (x : ℚ) → 1ℚ *ℚ x ≡ x
-once x = linear_eq (x ∷ []) [] (search reading_of depth 12) tt tt
+second_only a b c e h = linear_eq (a ∷ b ∷ c ∷ []) (eq e ∷ eq h ∷ []) (search reading_of) tt tt
 
 both_once : (x y : ℚ) → 1ℚ *ℚ x -ℚ 1ℚ *ℚ y ≡ x -ℚ y
-both_once x y = linear_eq (x ∷ y ∷ []) [] (search reading_of depth 12) tt tt
+both_once x y = linear_eq (x ∷ y ∷ []) [] (search reading_of) tt tt
 
 -- ---- the unknowns
 module _ (net : Network) (sets : Sets) where
@@ -80,7 +76,7 @@ module _ (net : Network) (sets : Sets) where
     no_flows = dot-zero (λ (e : ℕ). 0ℚ) (λ e. refl) (active_from 0 sets.active) (drop net.nodes xs)
 
     pub source_total : total (source_factor net.source) ≡ number_at slopes net.source
-    source_total = in_parts (source_factor net.source) ∙ first_only _ _ _ (slope_alone net.source 1ℚ good.source ∙ once (number_at slopes net.source)) no_flows
+    source_total = in_parts (source_factor net.source) ∙ first_and_zero _ _ _ (slope_alone net.source 1ℚ good.source ∙ one-*ℚ (number_at slopes net.source)) no_flows
 
     pub node_total : (v : ℕ) → total (node_factor net v) ≡ surplus net flows v
     node_total v = in_parts (node_factor net v) ∙ second_only _ _ _ no_slopes
@@ -91,7 +87,7 @@ module _ (net : Network) (sets : Sets) where
       head_in = good.heads e link is_link
 
       pub tight_total : total (link_factor e link (Some Tight)) ≡ number_at slopes link.head -ℚ number_at slopes link.tail
-      tight_total = in_parts (link_factor e link (Some Tight)) ∙ first_only _ _ _
+      tight_total = in_parts (link_factor e link (Some Tight)) ∙ first_and_zero _ _ _
           (dot-less (λ v. link_factor e link (Some Tight) (SlopeOf v)) (only link.head 1ℚ) (only link.tail 1ℚ) (λ v. refl) (range_with_len 0 net.nodes) (take net.nodes xs)
           ∙ ap (λ (s : ℚ). s -ℚ dot (only link.tail 1ℚ) (range_with_len 0 net.nodes) (take net.nodes xs)) (slope_alone link.head 1ℚ head_in)
           ∙ ap (λ (s : ℚ). 1ℚ *ℚ number_at slopes link.head -ℚ s) (slope_alone link.tail 1ℚ (good.tails e link is_link))
@@ -100,7 +96,7 @@ module _ (net : Network) (sets : Sets) where
       pub fills_total : total (fills_factor e link) ≡ neg_ℚ (unwrap_or link.capacity 0ℚ) *ℚ number_at slopes link.head +ℚ number_at flows e
       fills_total = in_parts (fills_factor e link)
           ∙ ap (λ (s : ℚ). s +ℚ dot (λ f. fills_factor e link (FlowOn f)) (active_from 0 sets.active) (drop net.nodes xs)) (slope_alone link.head (neg_ℚ (unwrap_or link.capacity 0ℚ)) head_in)
-          ∙ ap (λ (s : ℚ). neg_ℚ (unwrap_or link.capacity 0ℚ) *ℚ number_at slopes link.head +ℚ s) (flow_alone e 1ℚ ∙ once (number_at flows e))
+          ∙ ap (λ (s : ℚ). neg_ℚ (unwrap_or link.capacity 0ℚ) *ℚ number_at slopes link.head +ℚ s) (flow_alone e 1ℚ ∙ one-*ℚ (number_at flows e))
 
       pub zero_total : total (link_factor e link (Some Zero)) ≡ number_at flows e
-      zero_total = in_parts (link_factor e link (Some Zero)) ∙ second_only _ _ _ no_slopes (flow_alone e 1ℚ ∙ once (number_at flows e))
+      zero_total = in_parts (link_factor e link (Some Zero)) ∙ second_only _ _ _ no_slopes (flow_alone e 1ℚ ∙ one-*ℚ (number_at flows e))

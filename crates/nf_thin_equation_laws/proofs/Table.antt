@@ -17,7 +17,7 @@ use Rattle.nf_model.specs.Entries.{number_at, Has}
 use Rattle.nf_model.specs.Network.{Link, Network, IsNetwork, IsLink, unbounded}
 use Rattle.nf_model.specs.ThinFlow.{Sets, surplus}
 use Rattle.nf_model.specs.Pattern.{Pattern, HasState, Fills, Equation, Solves}
-use Rattle.nf_thin_def.specs.Table.{Row, row_at, table_list}
+use Rattle.nf_linear_def.specs.Table.{Row, row_at, table_list}
 use Rattle.nf_thin_def.specs.Equations.{Unknown, unknowns, row, source_factor, node_factor, node_row, link_factor, link_rows, equations, slopes_in, flows_in, onto_links}
 use Rattle.nf_thin_laws.specs.ActiveLinks.{AreSets}
 use Rattle.nf_thin_laws.proofs.Flags.{entry_beyond, number_at-beyond, flag-cases}
@@ -34,13 +34,13 @@ use Rattle.nf_rational_laws.proofs.Entries.{entry}
 -- ---- equations of rationals
 
 no_step : (h t : ℚ) → h ≡ t → h -ℚ t ≡ 0ℚ
-no_step h t e = linear_eq (h ∷ t ∷ []) (eq e ∷ []) (search reading_of depth 12) tt tt
+no_step h t e = linear_eq (h ∷ t ∷ []) (eq e ∷ []) (search reading_of) tt tt
 
 filled : (c h f : ℚ) → neg_ℚ c *ℚ h +ℚ f ≡ 0ℚ → f ≡ c *ℚ h
-filled c h f e = linear_eq (c ∷ h ∷ f ∷ []) (eq e ∷ []) (search reading_of depth 12) tt tt
+filled c h f e = linear_eq (c ∷ h ∷ f ∷ []) (eq e ∷ []) (search reading_of) tt tt
 
 fills : (c h f : ℚ) → f ≡ c *ℚ h → neg_ℚ c *ℚ h +ℚ f ≡ 0ℚ
-fills c h f e = linear_eq (c ∷ h ∷ f ∷ []) (eq e ∷ []) (search reading_of depth 12) tt tt
+fills c h f e = linear_eq (c ∷ h ∷ f ∷ []) (eq e ∷ []) (search reading_of) tt tt
 
 flag_set : (flags : List Bool) (e : ℕ) → Has flags e → unwrap_or (slice_get flags e) false ≡ true
 flag_set flags e h = ap (λ (o : Option Bool). unwrap_or o false) h

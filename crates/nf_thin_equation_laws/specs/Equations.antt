@@ -6,7 +6,7 @@ use Rattle.nf_model.specs.Entries.{Has}
 use Rattle.nf_model.specs.Network.{Network, IsNetwork, unbounded}
 use Rattle.nf_model.specs.ThinFlow.{Sets}
 use Rattle.nf_model.specs.Pattern.{Pattern, IsPattern, Solves}
-use Rattle.nf_thin_def.specs.Table.{table_list}
+use Rattle.nf_linear_def.specs.Table.{table_list}
 use Rattle.nf_thin_def.specs.Equations.{equations, slopes_in, flows_in}
 use Rattle.nf_thin_laws.specs.ActiveLinks.{AreSets}
 use Rattle.nf_linear_laws.specs.Solution.{IsSquare}

@@ -9,6 +9,7 @@ use Rattle.nf_rational_laws.proofs.Polynomial.{reading_of}
 use Rattle.nf_rational_laws.proofs.Order.{≤ℚ_of_lt}
 use Rattle.nf_rational_laws.proofs.Tests.{lt_ℚ_cases, test_of_le}
 use Rattle.nf_rational_laws.proofs.Linear.{le, lt, eq, linear_le, linear_false}
+use Rattle.nf_rational_laws.proofs.Facts.{plus_zero_le}
 use Rattle.nf_model.specs.Entries.{number_at, Has}
 use Rattle.nf_model.specs.Walk.{IsWalk, transit_sum, transit_of}
 use Rattle.nf_model.specs.Network.{Link, Network, IsNetwork, hop_of, hops}
@@ -44,14 +45,11 @@ AreSets-sets_at net labels = record {
 }
 
 -- ---- along active links, labels grow by the transit times
-pub along_none : (a b : ℚ) → a ≡ b → a +ℚ 0ℚ ≤ℚ b
-along_none a b e = linear_le (a ∷ b ∷ []) (eq e ∷ []) (search reading_of depth 12) tt
-
 pub along_more : (a b c r s l : ℚ) → 0ℚ ≤ℚ b -ℚ (a +ℚ r) → s ≡ r → b +ℚ l ≤ℚ c → a +ℚ (s +ℚ l) ≤ℚ c
-along_more a b c r s l h e k = linear_le (a ∷ b ∷ c ∷ r ∷ s ∷ l ∷ []) (le h ∷ eq e ∷ le k ∷ []) (search reading_of depth 12) tt
+along_more a b c r s l h e k = linear_le (a ∷ b ∷ c ∷ r ∷ s ∷ l ∷ []) (le h ∷ eq e ∷ le k ∷ []) (search reading_of) tt
 
 pub along_closed : (a l : ℚ) → a +ℚ l ≤ℚ a → 0ℚ <ℚ l → ⊥
-along_closed a l h k = linear_false (a ∷ l ∷ []) (le h ∷ lt k ∷ []) (search reading_of depth 12) tt
+along_closed a l h k = linear_false (a ∷ l ∷ []) (le h ∷ lt k ∷ []) (search reading_of) tt
 
 pub IsWalk-active : (net : Network) (sets : Sets) (walk : List ℕ) (v w : ℕ) → IsActiveWalk net sets walk v w → IsWalk (hops net) walk v w
 IsWalk-active net sets [] v w t = t
@@ -59,7 +57,7 @@ IsWalk-active net sets (e ∷ walk) v w t = subst (λ (k : ℕ). IsWalk (hops ne
 
 module _ (net : Network) (labels : List ℚ) where
   sum_of : (walk : List ℕ) (v w : ℕ) → IsActiveWalk net (sets_at net labels) walk v w → number_at labels v +ℚ transit_sum (hops net) walk ≤ℚ number_at labels w
-  sum_of [] v w t = along_none _ _ (ap (number_at labels) t)
+  sum_of [] v w t = plus_zero_le _ _ (ap (number_at labels) t)
   sum_of (e ∷ walk) v w t = subst (λ (k : ℕ). number_at labels k +ℚ transit_sum (hops net) (e ∷ walk) ≤ℚ number_at labels w) t.3
       (along_more (number_at labels t.0.tail) (number_at labels t.0.head) _ t.0.transit (transit_of (hops net) e) (transit_sum (hops net) walk)
       (slack_of_active net labels e t.0 t.1 t.2) (transit_of-is net e t.0 t.1) (sum_of walk t.0.head w t.4))

@@ -6,24 +6,25 @@ use Rattle.nf_rational.specs.Operations.{0ℚ, 1ℚ, ◌+ℚ◌, ◌-ℚ◌, ◌
 use Rattle.nf_rational.specs.Order.{◌≤ℚ◌}
 use Rattle.nf_rational_laws.proofs.Polynomial.{reading_of}
 use Rattle.nf_rational_laws.proofs.Linear.{le, eq, eq_times, linear_le, linear_eq}
+use Rattle.nf_rational_laws.proofs.Facts.{less_itself}
 use Rattle.nf_model.specs.Network.{Link, Network, IsNetwork}
 use Rattle.nf_model_laws.proofs.Potential.{carried, carried-is, EndsBelow, out_less_in, sum_to-same}
 
 -- ---- x and y are two flows on a link, and a and b the potentials of its tail and head
 pub fall_none : (x y a b : ℚ) → a ≡ b → x *ℚ (a -ℚ b) ≤ℚ y *ℚ (a -ℚ b)
-fall_none x y a b e = linear_le (x ∷ y ∷ a ∷ b ∷ []) (eq_times x e ∷ eq_times y e ∷ []) (search reading_of depth 12) tt
+fall_none x y a b e = linear_le (x ∷ y ∷ a ∷ b ∷ []) (eq_times x e ∷ eq_times y e ∷ []) (search reading_of) tt
 
 pub fall_into : (x y a b : ℚ) → a ≡ 0ℚ → b ≡ 1ℚ → y ≤ℚ x → x *ℚ (a -ℚ b) ≤ℚ y *ℚ (a -ℚ b)
-fall_into x y a b e f h = linear_le (x ∷ y ∷ a ∷ b ∷ []) (eq_times x e ∷ eq_times y e ∷ eq_times x f ∷ eq_times y f ∷ le h ∷ []) (search reading_of depth 12) tt
+fall_into x y a b e f h = linear_le (x ∷ y ∷ a ∷ b ∷ []) (eq_times x e ∷ eq_times y e ∷ eq_times x f ∷ eq_times y f ∷ le h ∷ []) (search reading_of) tt
 
 pub fall_out : (x y a b : ℚ) → a ≡ 1ℚ → b ≡ 0ℚ → x ≤ℚ y → x *ℚ (a -ℚ b) ≤ℚ y *ℚ (a -ℚ b)
-fall_out x y a b e f h = linear_le (x ∷ y ∷ a ∷ b ∷ []) (eq_times x e ∷ eq_times y e ∷ eq_times x f ∷ eq_times y f ∷ le h ∷ []) (search reading_of depth 12) tt
+fall_out x y a b e f h = linear_le (x ∷ y ∷ a ∷ b ∷ []) (eq_times x e ∷ eq_times y e ∷ eq_times x f ∷ eq_times y f ∷ le h ∷ []) (search reading_of) tt
 
 pub fall_same : (x y a b : ℚ) → x ≡ y → x *ℚ (a -ℚ b) ≤ℚ y *ℚ (a -ℚ b)
-fall_same x y a b e = linear_le (x ∷ y ∷ a ∷ b ∷ []) (eq_times (a -ℚ b) e ∷ []) (search reading_of depth 12) tt
+fall_same x y a b e = linear_le (x ∷ y ∷ a ∷ b ∷ []) (eq_times (a -ℚ b) e ∷ []) (search reading_of) tt
 
 pub into_equal : (x y a b : ℚ) → a ≡ 0ℚ → b ≡ 1ℚ → x *ℚ (a -ℚ b) ≡ y *ℚ (a -ℚ b) → x ≡ y
-into_equal x y a b e f h = linear_eq (x ∷ y ∷ a ∷ b ∷ []) (eq_times x e ∷ eq_times y e ∷ eq_times x f ∷ eq_times y f ∷ eq h ∷ []) (search reading_of depth 12) tt tt
+into_equal x y a b e f h = linear_eq (x ∷ y ∷ a ∷ b ∷ []) (eq_times x e ∷ eq_times y e ∷ eq_times x f ∷ eq_times y f ∷ eq h ∷ []) (search reading_of) tt tt
 
 -- ---- a potential shifted by a constant
 pub carried-shift : (w : ℕ → ℚ) (c : ℚ) (links : List Link) (f : ℕ → ℚ) → carried (λ v. w v -ℚ c) links f ≡ carried w links f
@@ -31,16 +32,13 @@ carried-shift w c [] f = refl
 carried-shift w c (link ∷ links) f = one (f 0) (w link.tail) (w link.head) c _ _ (carried-shift w c links (λ e. f (suc e)))
   where
     one : (a s t c p q : ℚ) → p ≡ q → a *ℚ ((s -ℚ c) -ℚ (t -ℚ c)) +ℚ p ≡ a *ℚ (s -ℚ t) +ℚ q
-    one a s t c p q e = linear_eq (a ∷ s ∷ t ∷ c ∷ p ∷ q ∷ []) (eq e ∷ []) (search reading_of depth 12) tt tt
+    one a s t c p q e = linear_eq (a ∷ s ∷ t ∷ c ∷ p ∷ q ∷ []) (eq e ∷ []) (search reading_of) tt tt
 
 pub EndsBelow-net : (net : Network) → IsNetwork net → EndsBelow net.nodes net.links
 EndsBelow-net net good e link p = (good.tails e link p, good.heads e link p)
 
 no_product : (w a b : ℚ) → w ≡ 0ℚ → w *ℚ a ≡ w *ℚ b
-no_product w a b e = linear_eq (w ∷ a ∷ b ∷ []) (eq_times a e ∷ eq_times b e ∷ []) (search reading_of depth 12) tt tt
-
-less_itself : (a : ℚ) → a -ℚ a ≡ 0ℚ
-less_itself a = linear_eq (a ∷ []) [] (search reading_of depth 12) tt tt
+no_product w a b e = linear_eq (w ∷ a ∷ b ∷ []) (eq_times a e ∷ eq_times b e ∷ []) (search reading_of) tt tt
 
 module _ (net : Network) (w x y : ℕ → ℚ) (good : IsNetwork net) (same : (v : ℕ) → v < net.nodes → v ≢ net.sink → out_less_in net.links x v ≡ out_less_in net.links y v) where
   abbrev shifted : ℕ → ℚ

@@ -34,6 +34,7 @@ use Rattle.nf_thin_def.specs.Advance.{advance_list}
 use Rattle.nf_thin_laws.proofs.Exact.{advanced_exact}
 use Rattle.nf_thin_def.specs.Ends.{end_of, EndsAtLabels}
 use Rattle.nf_rational_laws.proofs.Entries.{last-append}
+use Rattle.nf_rational_laws.proofs.Facts.{term_of_zero}
 use Rattle.nf_frac_def.proofs.Binding.{bind_ok}
 
 -- ---- the last point
@@ -145,9 +146,6 @@ length-moved [] (r ∷ slopes) while count = absurd (omega arith)
 length-moved (x ∷ labels) [] while count = absurd (omega arith)
 length-moved (x ∷ labels) (r ∷ slopes) while count = ap suc (length-moved labels slopes while (omega arith))
 
-stands_still : (label while slope : ℚ) → slope ≡ 0ℚ → label ≡ label +ℚ while *ℚ slope
-stands_still label while slope still = (let f : label ≡ label +ℚ while *ℚ 0ℚ = ring rationals (label ∷ while ∷ []) (search reading depth 30) tt in f) ∙ ap (λ (x : ℚ). label +ℚ while *ℚ x) (sym still)
-
 -- ---- the steps of the curve operations
 module _ (passes : Passing) where
   no_rate : (moves : Bool) (flow slope : ℚ) → rate_over passes moves flow slope ≡ Ok None → moves ≡ false
@@ -253,7 +251,7 @@ module _ (passes : Passing) (net : Network) (is_network : IsNetwork net) (horizo
       (count : length slopes ≡ length s.labels) (no_negative : (v : ℕ) → 0ℚ ≤ℚ number_at slopes v) where
     stays_at : (v : ℕ) → is_positive (number_at slopes v) ≡ false → number_at s.labels v ≡ number_at step.labels v
     stays_at v test =
-        stands_still (number_at s.labels v) step.length (number_at slopes v) (not_positive net is_network (number_at slopes v) (no_negative v) test)
+        term_of_zero (number_at s.labels v) step.length (number_at slopes v) (not_positive net is_network (number_at slopes v) (no_negative v) test)
         ∙ (sym (number-moved s.labels slopes step.length v count) ∙ ap (λ (l : List ℚ). number_at l v) (sym parts.labels))
 
     still_tail : (e : ℕ) (link : Link) (one : LinkStep) → IsLink net e link → slice_get step.links e ≡ Some one → one.inflow_rate ≡ None → number_at s.labels link.tail ≡ number_at step.labels link.tail

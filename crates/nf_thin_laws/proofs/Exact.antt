@@ -1,15 +1,14 @@
 -- If no operation of a sequence passes, its value is also that of the sequence in which fewer operations can pass.
 -- So it is the exact value: that of the sequence in which no operation can pass.
 use Rattle.std.proofs.Common.{◌≡◌, ℕ, zero, suc, ◌+◌, List, [], ◌∷◌, Bool, true, false, length, refl, sym, ap, ◌∙◌, arith}
-use Rattle.std.specs.Prelude.{◌==◌, ◌||◌, if◌then◌else◌, Option, Some, None, Result, Ok, Err, drop, map, slice_get, unwrap_or}
+use Rattle.std.specs.Prelude.{Option, Some, None, Ok, map, slice_get, unwrap_or}
 use Rattle.std.specs.List.{enumerate_from}
 use Rattle.nf_rational.specs.Rational.{ℚ}
 use Rattle.nf_rational.specs.Operations.{0ℚ, ◌+ℚ◌, ◌-ℚ◌, ◌*ℚ◌}
-use Rattle.nf_frac_def.specs.declared.Op.{Op}
 use Rattle.nf_frac_def.specs.declared.Op.TheVariants.{Sum, Difference, Product, Quotient}
-use Rattle.nf_frac_def.specs.declared.Passed.{Passed}
-use Rattle.nf_frac_def.specs.Passing.{Passing, result_of}
-use Rattle.nf_frac_def.specs.Checked.{Checked, checked, each, fold_checked, ◌>>=◌}
+use Rattle.nf_frac_def.specs.Passing.{Passing, never}
+use Rattle.nf_frac_def.specs.Checked.{Checked, checked, each, ◌>>=◌}
+use Rattle.nf_frac_def.proofs.Exact.{GivesAs, PassesFewer, bind, each_as, fold_as, same, same_value, one, none_passes, each_exact}
 use Rattle.nf_model.specs.declared.State.{State}
 use Rattle.nf_model.specs.declared.State.TheVariants.{Tight, Full, Zero}
 use Rattle.nf_model.specs.Entries.{number_at}
@@ -19,112 +18,26 @@ use Rattle.nf_model.specs.ThinFlow.{Sets, slack, slacks_of}
 use Rattle.nf_model.specs.Phases.{moved}
 use Rattle.nf_model.specs.Pattern.{Pattern}
 use Rattle.nf_rational.specs.Signs.{is_zero, is_positive, are_opposite}
-use Rattle.nf_thin_laws.specs.ListLaws.{never}
 use Rattle.nf_thin_def.specs.Slack.{slack_of, slack_list}
-use Rattle.nf_thin_def.specs.Table.{Row, Eliminated, row_at, pivot_of, less_unless, entries_less, cleared_row, clear_unless, clear_rows, eliminate_at, if_some, eliminate_from, solution_from, solution_of, table_list}
 use Rattle.nf_thin_def.specs.Verdict.{bound_on, bound_of, verdict_list}
 use Rattle.nf_thin_def.specs.Extend.{to_zero, after_link, least_after, until_change, extend_list}
 use Rattle.nf_thin_def.specs.Advance.{Advanced, label_after, labels_after, advance_list, cut_at}
 use Rattle.nf_thin_def.specs.CurveList.{LinkPhase, rate_over, size_at, slope_at, queue_step, link_step, link_phase, curve_list}
 
--- The second computation gives every value that the first gives.
-abbrev pub GivesAs : {A E : Type 0} → Result A E → Result A E → Type 0
-GivesAs {A} r s = (x : A) → r ≡ Ok x → s ≡ Ok x
-
--- ---- compositions of computations
-bind : {A B E : Type 0} (r s : Result A E) (f g : A → Result B E) → GivesAs r s → ((x : A) → GivesAs (f x) (g x)) → GivesAs (r >>= f) (s >>= g)
-bind {A = A} {E = E} (Ok a) s f g h k y e = ap (λ (w : Result A E). w >>= g) (h a refl) ∙ k a y e
-bind (Err p) s f g h k y e = cc
-
-module _ {A B E : Type 0} where
-  each_as : (f g : A → Result B E) → ((x : A) → GivesAs (f x) (g x)) → (xs : List A) → GivesAs (each f xs) (each g xs)
-  each_as f g h [] y e = e
-  each_as f g h (x ∷ xs) y e = bind (f x) (g x) _ _ (h x) (λ y. bind (each f xs) (each g xs) _ _ (each_as f g h xs) (λ ys z e. e)) y e
-
-  fold_as : (f g : B → A → Result B E) → ((b : B) (x : A) → GivesAs (f b x) (g b x)) → (b : B) (xs : List A) → GivesAs (fold_checked f b xs) (fold_checked g b xs)
-  fold_as f g h b [] y e = e
-  fold_as f g h b (x ∷ xs) y e = bind (f b x) (g b x) _ _ (h b x) (λ c. fold_as f g h c xs) y e
-
-same : {A E : Type 0} (r : Result A E) → GivesAs r r
-same r x e = e
-
-same_value : {A E : Type 0} (r : Result A E) (x y : A) → r ≡ Ok x → r ≡ Ok y → x ≡ y
-same_value r x y h k = cc
-
--- ---- one operation
-one_at : (b c : Bool) (p : Passed ℚ) (v : ℚ) → (b ≡ false → c ≡ false) → GivesAs (if b then Err p else Ok v) (if c then Err p else Ok v)
-one_at true c p v h x e = cc
-one_at false c p v h x e = rw (h refl) e
-
--- Each operation that passes by `fewer` also passes by `passes`.
-abbrev pub PassesFewer : Passing → Passing → Type 0
-PassesFewer passes fewer = (op : Op) (x y : ℚ) → passes op x y ≡ false → fewer op x y ≡ false
-
 module _ (passes fewer : Passing) (none_more : PassesFewer passes fewer) where
-  one : (op : Op) (x y : ℚ) → GivesAs (checked passes op x y) (checked fewer op x y)
-  unfolding checked
-  one op x y = one_at (passes op x y) (fewer op x y) (record { op = op; left = x; right = y }) (result_of op x y) (none_more op x y)
-
   -- ---- each operation sequence
   slack_as : (labels : List ℚ) (hop : Hop) → GivesAs (slack_of passes labels hop) (slack_of fewer labels hop)
   unfolding slack_of
   slack_as labels hop = bind (checked passes Sum (number_at labels hop.tail) hop.transit) (checked fewer Sum (number_at labels hop.tail) hop.transit) _ _
-      (one Sum (number_at labels hop.tail) hop.transit) (λ a. one Difference (number_at labels hop.head) a)
+      (one passes fewer none_more Sum (number_at labels hop.tail) hop.transit) (λ a. one passes fewer none_more Difference (number_at labels hop.head) a)
 
   slack_list_under : (hops : List Hop) (labels : List ℚ) → GivesAs (slack_list passes hops labels) (slack_list fewer hops labels)
   unfolding slack_list
   slack_list_under hops labels = each_as (slack_of passes labels) (slack_of fewer labels) (slack_as labels) hops
 
-  -- ---- table
-  less_as : (zero : Bool) (f p x : ℚ) → GivesAs (less_unless passes zero f p x) (less_unless fewer zero f p x)
-  less_as true f p x = same (Ok x)
-  less_as false f p x = bind _ _ _ _ (one Product f p) (λ m. one Difference x m)
-
-  entries_as : (f : ℚ) (pivot_row row : Row) → GivesAs (entries_less passes f pivot_row row) (entries_less fewer f pivot_row row)
-  entries_as f [] row = same (Ok [])
-  entries_as f (p ∷ pivot_row) [] = same (Ok [])
-  entries_as f (p ∷ pivot_row) (x ∷ row) = bind _ _ _ _ (less_as (is_zero p) f p x) (λ y. bind _ _ _ _ (entries_as f pivot_row row) (λ ys. same (Ok (y ∷ ys))))
-
-  cleared_as : (column : ℕ) (pivot_row row : Row) → GivesAs (cleared_row passes column pivot_row row) (cleared_row fewer column pivot_row row)
-  cleared_as column pivot_row row =
-      bind _ _ _ _ (one Quotient (number_at row column) (number_at pivot_row column)) (λ f. bind _ _ _ _ (entries_as f (drop (suc column) pivot_row) (drop (suc column) row)) (λ later. same _))
-
-  unless_as : (stays : Bool) (column : ℕ) (pivot_row row : Row) → GivesAs (clear_unless passes stays column pivot_row row) (clear_unless fewer stays column pivot_row row)
-  unless_as true column pivot_row row = same (Ok row)
-  unless_as false column pivot_row row = cleared_as column pivot_row row
-
-  rows_under : (column pivot : ℕ) (pivot_row : Row) (i : ℕ) (rows : List Row) → GivesAs (clear_rows passes column pivot pivot_row i rows) (clear_rows fewer column pivot pivot_row i rows)
-  rows_under column pivot pivot_row i [] = same (Ok [])
-  rows_under column pivot pivot_row i (row ∷ rows) =
-      bind _ _ _ _ (unless_as (i == pivot || is_zero (number_at row column)) column pivot_row row) (λ r. bind _ _ _ _ (rows_under column pivot pivot_row (suc i) rows) (λ rs. same (Ok (r ∷ rs))))
-
-  eliminate_at_as : (done : Eliminated) (column : ℕ) (pivot : Option ℕ) → GivesAs (eliminate_at passes done column pivot) (eliminate_at fewer done column pivot)
-  eliminate_at_as done column None = same (Ok None)
-  eliminate_at_as done column (Some pivot) = bind _ _ _ _ (rows_under column pivot (row_at done.rows pivot) 0 done.rows) (λ rows. same _)
-
-  if_some_as : {A B : Type 0} (f g : A → Checked (Option B)) → ((x : A) → GivesAs (f x) (g x)) → (o : Option A) → GivesAs (if_some passes f o) (if_some fewer g o)
-  if_some_as f g h None = same (Ok None)
-  if_some_as f g h (Some x) = h x
-
-  eliminate_as : (more column : ℕ) (done : Eliminated) → GivesAs (eliminate_from passes more column done) (eliminate_from fewer more column done)
-  eliminate_as zero column done = same (Ok (Some done))
-  eliminate_as (suc more) column done =
-      bind _ _ _ _ (eliminate_at_as done column (pivot_of done.rows done.pivots column))
-      (if_some_as (λ next. eliminate_from passes more (suc column) next) (λ next. eliminate_from fewer more (suc column) next) (λ next. eliminate_as more (suc column) next))
-
-  solution_as : (rows : List Row) (column : ℕ) (pivots : List ℕ) → GivesAs (solution_from passes rows column pivots) (solution_from fewer rows column pivots)
-  solution_as rows column [] = same (Ok [])
-  solution_as rows column (pivot ∷ pivots) = bind _ _ _ _ (one Quotient (number_at (row_at rows pivot) (length rows)) (number_at (row_at rows pivot) column))
-      (λ x. bind _ _ _ _ (solution_as rows (suc column) pivots) (λ xs. same (Ok (x ∷ xs))))
-
-  pub table_list_under : (rows : List Row) → GivesAs (table_list passes rows) (table_list fewer rows)
-  unfolding table_list
-  table_list_under rows = bind _ _ _ _ (eliminate_as (length rows) 0 (record { rows = rows; pivots = [] }))
-      (if_some_as (solution_of passes) (solution_of fewer) (λ done. bind _ _ _ _ (solution_as done.rows 0 done.pivots) (λ xs. same (Ok (Some xs)))))
-
   -- ---- verdict
   bound_as : (state : Option State) (capacity : Option ℚ) (head_slope : ℚ) → GivesAs (bound_on passes state capacity head_slope) (bound_on fewer state capacity head_slope)
-  bound_as (Some Tight) (Some capacity) head_slope = bind _ _ _ _ (one Product capacity head_slope) (λ bound. same (Ok (Some bound)))
+  bound_as (Some Tight) (Some capacity) head_slope = bind _ _ _ _ (one passes fewer none_more Product capacity head_slope) (λ bound. same (Ok (Some bound)))
   bound_as (Some Tight) None head_slope = same (Ok None)
   bound_as (Some Full) capacity head_slope = same (Ok None)
   bound_as (Some Zero) capacity head_slope = same (Ok None)
@@ -138,15 +51,15 @@ module _ (passes fewer : Passing) (none_more : PassesFewer passes fewer) where
   -- ---- extend
   to_zero_as : (goes : Bool) (least : Option ℚ) (slack change : ℚ) → GivesAs (to_zero passes goes least slack change) (to_zero fewer goes least slack change)
   to_zero_as false least slack change = same (Ok least)
-  to_zero_as true least slack change = bind _ _ _ _ (one Difference 0ℚ slack) (λ m. bind _ _ _ _ (one Quotient m change) (λ length. same _))
+  to_zero_as true least slack change = bind _ _ _ _ (one passes fewer none_more Difference 0ℚ slack) (λ m. bind _ _ _ _ (one passes fewer none_more Quotient m change) (λ length. same _))
 
   after_as : (zero : Bool) (least : Option ℚ) (slack tail_slope head_slope : ℚ) → GivesAs (after_link passes zero least slack tail_slope head_slope) (after_link fewer zero least slack tail_slope head_slope)
   after_as true least slack tail_slope head_slope = same (Ok least)
-  after_as false least slack tail_slope head_slope = bind _ _ _ _ (one Difference head_slope tail_slope) (λ change. to_zero_as (are_opposite slack change) least slack change)
+  after_as false least slack tail_slope head_slope = bind _ _ _ _ (one passes fewer none_more Difference head_slope tail_slope) (λ change. to_zero_as (are_opposite slack change) least slack change)
 
   until_as : (least : Option ℚ) (time : ℚ) (change : Option ℚ) → GivesAs (until_change passes least time change) (until_change fewer least time change)
   until_as least time None = same (Ok least)
-  until_as least time (Some change) = bind _ _ _ _ (one Difference change time) (λ length. same _)
+  until_as least time (Some change) = bind _ _ _ _ (one passes fewer none_more Difference change time) (λ length. same _)
 
   extend_list_under : (net : Network) (slacks slopes : List ℚ) (time : ℚ) → GivesAs (extend_list passes net slacks slopes time) (extend_list fewer net slacks slopes time)
   unfolding extend_list
@@ -158,7 +71,7 @@ module _ (passes fewer : Passing) (none_more : PassesFewer passes fewer) where
 
   -- ---- advance
   label_as : (length : ℚ) (slopes : List ℚ) (numbered : ℕ × ℚ) → GivesAs (label_after passes length slopes numbered) (label_after fewer length slopes numbered)
-  label_as length slopes numbered = bind _ _ _ _ (one Product length (number_at slopes numbered.0)) (λ p. one Sum numbered.1 p)
+  label_as length slopes numbered = bind _ _ _ _ (one passes fewer none_more Product length (number_at slopes numbered.0)) (λ p. one passes fewer none_more Sum numbered.1 p)
 
   labels_as : (length : ℚ) (labels slopes : List ℚ) → GivesAs (labels_after passes length labels slopes) (labels_after fewer length labels slopes)
   unfolding labels_after
@@ -167,30 +80,30 @@ module _ (passes fewer : Passing) (none_more : PassesFewer passes fewer) where
   advance_list_under : (horizon time : ℚ) (extension : Option ℚ) (labels slopes : List ℚ)
       → GivesAs (advance_list passes horizon time extension labels slopes) (advance_list fewer horizon time extension labels slopes)
   unfolding advance_list
-  advance_list_under horizon time extension labels slopes = bind _ _ _ _ (one Difference horizon time) (λ left. bind _ _ _ _ (labels_as (cut_at left extension) labels slopes) (λ new_labels. same _))
+  advance_list_under horizon time extension labels slopes = bind _ _ _ _ (one passes fewer none_more Difference horizon time) (λ left. bind _ _ _ _ (labels_as (cut_at left extension) labels slopes) (λ new_labels. same _))
 
   -- ---- curve
   rate_as : (moves : Bool) (flow slope : ℚ) → GivesAs (rate_over passes moves flow slope) (rate_over fewer moves flow slope)
   rate_as false flow slope = same (Ok None)
-  rate_as true flow slope = bind _ _ _ _ (one Quotient flow slope) (λ rate. same _)
+  rate_as true flow slope = bind _ _ _ _ (one passes fewer none_more Quotient flow slope) (λ rate. same _)
 
   size_as : (above : Bool) (capacity : Option ℚ) (slack : ℚ) → GivesAs (size_at passes above capacity slack) (size_at fewer above capacity slack)
-  size_as true (Some capacity) slack = one Product capacity slack
+  size_as true (Some capacity) slack = one passes fewer none_more Product capacity slack
   size_as true None slack = same (Ok 0ℚ)
   size_as false capacity slack = same (Ok 0ℚ)
 
   slope_as : (filled : Bool) (capacity : Option ℚ) (rate : ℚ) → GivesAs (slope_at passes filled capacity rate) (slope_at fewer filled capacity rate)
-  slope_as true (Some capacity) rate = one Difference rate capacity
+  slope_as true (Some capacity) rate = one passes fewer none_more Difference rate capacity
   slope_as true None rate = same (Ok 0ℚ)
   slope_as false capacity rate = same (Ok 0ℚ)
 
   queue_as : (link : LinkPhase) (rate : Option ℚ) → GivesAs (queue_step passes link rate) (queue_step fewer link rate)
   queue_as link None = same (Ok None)
-  queue_as link (Some rate) = bind _ _ _ _ (one Sum link.tail_label link.transit) (λ a. bind _ _ _ _ (one Difference link.head_label a)
+  queue_as link (Some rate) = bind _ _ _ _ (one passes fewer none_more Sum link.tail_label link.transit) (λ a. bind _ _ _ _ (one passes fewer none_more Difference link.head_label a)
       (λ slack. bind _ _ _ _ (size_as (is_positive slack) link.capacity slack) (λ size. bind _ _ _ _ (slope_as link.filled link.capacity rate) (λ slope. same _))))
 
   step_as : (length so_far : ℚ) (link : LinkPhase) → GivesAs (link_step passes length so_far link) (link_step fewer length so_far link)
-  step_as length so_far link = bind _ _ _ _ (one Product length link.flow) (λ p. bind _ _ _ _ (one Sum so_far p)
+  step_as length so_far link = bind _ _ _ _ (one passes fewer none_more Product length link.flow) (λ p. bind _ _ _ _ (one passes fewer none_more Sum so_far p)
       (λ amount. bind _ _ _ _ (rate_as (is_positive link.tail_slope) link.flow link.tail_slope)
       (λ inflow_rate. bind _ _ _ _ (rate_as (is_positive link.head_slope) link.flow link.head_slope)
       (λ outflow_rate. bind _ _ _ _ (queue_as link inflow_rate) (λ queue. same _)))))
@@ -202,18 +115,8 @@ module _ (passes fewer : Passing) (none_more : PassesFewer passes fewer) where
       each_as _ _ (λ (numbered : ℕ × Link). step_as length (number_at amounts numbered.0) (link_phase sets pattern flows slopes labels numbered)) (enumerate_from 0 net.links)
 
 -- ---- no operation can pass
-none_passes : (passes : Passing) → PassesFewer passes never
-none_passes passes op x y e = refl
-
 pub slack_list_as : (passes : Passing) (hops : List Hop) (labels : List ℚ) → GivesAs (slack_list passes hops labels) (slack_list never hops labels)
 slack_list_as passes = slack_list_under passes never (none_passes passes)
-
-pub rows_as : (passes : Passing) (column pivot : ℕ) (pivot_row : Row) (i : ℕ) (rows : List Row)
-    → GivesAs (clear_rows passes column pivot pivot_row i rows) (clear_rows never column pivot pivot_row i rows)
-rows_as passes = rows_under passes never (none_passes passes)
-
-pub table_list_as : (passes : Passing) (rows : List Row) → GivesAs (table_list passes rows) (table_list never rows)
-table_list_as passes = table_list_under passes never (none_passes passes)
 
 pub verdict_list_as : (passes : Passing) (net : Network) (pattern : Pattern) (slopes : List ℚ) → GivesAs (verdict_list passes net pattern slopes) (verdict_list never net pattern slopes)
 verdict_list_as passes = verdict_list_under passes never (none_passes passes)
@@ -230,10 +133,6 @@ pub curve_list_as : (passes : Passing) (net : Network) (sets : Sets) (pattern : 
 curve_list_as passes = curve_list_under passes never (none_passes passes)
 
 -- ---- the values of the slack and advance operations, by the model's definitions
-each_exact : {A B E : Type 0} (f : A → Result B E) (g : A → B) → ((x : A) → f x ≡ Ok (g x)) → (xs : List A) → each f xs ≡ Ok (map g xs)
-each_exact f g h [] = refl
-each_exact f g h (x ∷ xs) = ap (λ (w : Result _ _). w >>= λ y. each f xs >>= λ ys. Ok (y ∷ ys)) (h x) ∙ ap (λ (w : Result _ _). w >>= λ ys. Ok (g x ∷ ys)) (each_exact f g h xs)
-
 slack_exact : (labels : List ℚ) (hop : Hop) → slack_of never labels hop ≡ Ok (slack labels hop)
 unfolding slack_of checked
 slack_exact labels hop = refl

@@ -1,5 +1,6 @@
 -- Exit slopes of links in each state. Here x is the flow of a link, and s and t are the slopes of its tail and its head.
 use Rattle.std.proofs.Common.{◌≡◌, [], ◌∷◌, true, false, Option, Some, None, sym, ap, subst, refl, ◌∙◌}
+use Rattle.std.proofs.lemmas.Option.{none-some}
 use Rattle.nf_rational.specs.Rational.{ℚ}
 use Rattle.nf_rational.specs.Operations.{0ℚ, ◌*ℚ◌, ◌/ℚ◌}
 use Rattle.nf_rational.specs.Order.{◌≤ℚ◌, ◌<ℚ◌, max_ℚ}
@@ -13,7 +14,7 @@ use Rattle.nf_rational_laws.proofs.Chains.{≤ℚ_trans}
 use Rattle.nf_rational_laws.proofs.Extremes.{max_is_right, max_is_left, max_left}
 
 swapped : (x c q : ℚ) → q *ℚ c ≡ x → c *ℚ q ≡ x
-swapped x c q e = linear_eq (x ∷ c ∷ q ∷ []) (eq e ∷ []) (search reading_of depth 12) tt tt
+swapped x c q e = linear_eq (x ∷ c ∷ q ∷ []) (eq e ∷ []) (search reading_of) tt tt
 
 quotient_is : (x c t : ℚ) → 0ℚ <ℚ c → x ≡ c *ℚ t → x /ℚ c ≡ t
 quotient_is x c t h e = same_from_times c (x /ℚ c) t h (swapped x c (x /ℚ c) (quotient-times x c h) ∙ e)
@@ -30,10 +31,7 @@ exit_resetting (Some c) x s t positive f = quotient_is x c t (positive c refl) (
     same_rate a b e = cc
 
 pub exit_full : (capacity : Option ℚ) (x s t : ℚ) → IsPositive capacity → Fills capacity x t → s ≤ℚ t → exit_slope false capacity x s ≡ t
-exit_full None x s t positive f h = absurd (none f.0 f.1)
-  where
-    none : (c : ℚ) → None ≡ Some c → ⊥
-    none c e = cc
+exit_full None x s t positive f h = absurd (none-some f.0 f.1)
 exit_full (Some c) x s t positive f h =
     let q : x /ℚ c ≡ t = exit_resetting (Some c) x s t positive f in
     ap (max_ℚ s) q ∙ max_is_right s t h

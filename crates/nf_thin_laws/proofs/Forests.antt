@@ -1,11 +1,11 @@
 -- A flow on a forest with surplus 0 at each node is 0. If a link carries flow, some link carries as much into the node where it starts,
 -- and so on. These links, each crossed in the direction of its flow, close a trail.
-use Rattle.std.proofs.Common.{◌≡◌, ◌≢◌, ℕ, zero, suc, ◌+◌, ◌<◌, ◌≤◌, List, [], ◌∷◌, length, map, ◌⊎◌, inl, inr, ⊎_elim, Bool, true, false, if◌then◌else◌, ◌||◌, eqb, Some, slice_get, sym, ap, subst, refl, ◌∙◌, arith}
+use Rattle.std.proofs.Common.{◌≡◌, ◌≢◌, ℕ, zero, suc, ◌+◌, ◌<◌, ◌≤◌, List, [], ◌∷◌, length, map, ◌⊎◌, inl, inr, ⊎_elim, Bool, true, false, if◌then◌else◌, eqb, Some, slice_get, sym, ap, subst, refl, ◌∙◌, arith}
 use Rattle.std.specs.Prelude.{Contains}
 use Rattle.std.specs.List.{IsDistinct, list_any}
 use Rattle.std.proofs.lemmas.Bool.Decides.{eqb_tells}
 use Rattle.std.proofs.lemmas.Map.Steps.{length-le_from_distinct_below}
-use Rattle.std.proofs.lemmas.Option.{slice_get_within}
+use Rattle.std.proofs.lemmas.Option.{slice_get_within, same_Some}
 use Rattle.std.proofs.lemmas.List.{length-map}
 use Rattle.nf_rational.specs.Rational.{ℚ}
 use Rattle.nf_rational.specs.Operations.{0ℚ, 1ℚ, ◌+ℚ◌, ◌-ℚ◌, ◌*ℚ◌}
@@ -14,21 +14,16 @@ use Rattle.nf_rational_laws.proofs.Polynomial.{reading_of}
 use Rattle.nf_rational_laws.proofs.Order.{≤ℚ_antisymm, ≤ℚ_of_lt, lt_or_le_ℚ, not_both_ℚ}
 use Rattle.nf_rational_laws.proofs.Linear.{le, lt, eq, linear_le, linear_false}
 use Rattle.nf_rational_laws.proofs.Extremes.{max_is_right, max_left}
+use Rattle.nf_rational_laws.proofs.Results.{or_rest}
 use Rattle.nf_model.specs.Network.{Link, Network, IsLink, IsNetwork, hop_of, hops, sum_in, sum_out}
 use Rattle.nf_model.specs.Pattern.{IsTrail, AllDiffer, IsForest}
 use Rattle.nf_model_laws.proofs.Networks.{hop_at, IsLink-unique}
 use Rattle.nf_model_laws.proofs.Sums.{sum_in-same, sum_out-same, sum_in-none, sum_out-none, sum_in-line, sum_in-order, sum_out-order, sum_in-each, sum_out-each}
 use Rattle.nf_model_laws.proofs.Potential.{out_less_in}
 use Rattle.nf_model_laws.proofs.Ways.{distinct_more, distinct_none}
-use Rattle.nf_model_laws.proofs.Contained.{contains_none, contains_cases, not_any}
+use Rattle.nf_model_laws.proofs.Contained.{contains_none, contains_cases, not_any, contains_more, contains_first}
 
 -- ---- elements of lists
-contains_more : (y : ℕ) (ys : List ℕ) (x : ℕ) → Contains ys x → Contains (y ∷ ys) x
-contains_more y ys x (k, h, e) = (suc k, omega arith, e)
-
-contains_first : (y : ℕ) (ys : List ℕ) (x : ℕ) → y ≡ x → Contains (y ∷ ys) x
-contains_first y ys x e = (zero, omega arith, e)
-
 IsDistinct-differ : (xs : List ℕ) → AllDiffer xs → IsDistinct eqb xs
 IsDistinct-differ [] a = distinct_none
 IsDistinct-differ (x ∷ xs) a = distinct_more x xs (not_any x xs a.0) (IsDistinct-differ xs a.1)
@@ -44,7 +39,7 @@ module _ (links : List Link) (d : ℕ → ℚ) (v : ℕ) (balanced : out_less_in
   out_some = subst (λ (z : ℚ). z ≤ℚ sum_out links d v) (sum_out-none links v) (sum_out-order links (λ _. 0ℚ) d v none_back)
 
   forth : (o i x : ℚ) → o -ℚ i ≡ 0ℚ → i ≤ℚ 0ℚ → 0ℚ <ℚ x → x ≤ℚ o → ⊥
-  forth o i x e h k l = linear_false (o ∷ i ∷ x ∷ []) (eq e ∷ le h ∷ lt k ∷ le l ∷ []) (search reading_of depth 12) tt
+  forth o i x e h k l = linear_false (o ∷ i ∷ x ∷ []) (eq e ∷ le h ∷ lt k ∷ le l ∷ []) (search reading_of) tt
 
   none_leaves_forward : (e : ℕ) (link : Link) → slice_get links e ≡ Some link → link.tail ≡ v → 0ℚ <ℚ d e → ⊥
   none_leaves_forward e link p at h = forth _ _ _ balanced in_none h
@@ -56,10 +51,10 @@ module _ (links : List Link) (d : ℕ → ℚ) (v : ℕ) (balanced : out_less_in
   backward k = 0ℚ +ℚ d k *ℚ (0ℚ -ℚ 1ℚ)
 
   backward_nn : (x : ℚ) → x ≤ℚ 0ℚ → 0ℚ ≤ℚ 0ℚ +ℚ x *ℚ (0ℚ -ℚ 1ℚ)
-  backward_nn x h = linear_le (x ∷ []) (le h ∷ []) (search reading_of depth 12) tt
+  backward_nn x h = linear_le (x ∷ []) (le h ∷ []) (search reading_of) tt
 
   back_sum : (o i n x s : ℚ) → o -ℚ i ≡ 0ℚ → 0ℚ ≤ℚ o → x <ℚ 0ℚ → n ≡ 0ℚ → s ≡ n +ℚ i *ℚ (0ℚ -ℚ 1ℚ) → 0ℚ +ℚ x *ℚ (0ℚ -ℚ 1ℚ) ≤ℚ s → ⊥
-  back_sum o i n x s e h k f g l = linear_false (o ∷ i ∷ n ∷ x ∷ s ∷ []) (eq e ∷ le h ∷ lt k ∷ eq f ∷ eq g ∷ le l ∷ []) (search reading_of depth 12) tt
+  back_sum o i n x s e h k f g l = linear_false (o ∷ i ∷ n ∷ x ∷ s ∷ []) (eq e ∷ le h ∷ lt k ∷ eq f ∷ eq g ∷ le l ∷ []) (search reading_of) tt
 
   none_leaves_backward : (e : ℕ) (link : Link) → slice_get links e ≡ Some link → link.head ≡ v → d e <ℚ 0ℚ → ⊥
   unfolding backward
@@ -84,11 +79,8 @@ find_link (l ∷ links) P test = ⊎_elim
     (find_link links (λ e link. P (suc e) link) (λ e link. test (suc e) link)))
     (test 0 l)
   where
-    same_first : (a b : Link) → Some a ≡ Some b → a ≡ b
-    same_first a b e = cc
-
     apart : (P 0 l → ⊥) → ((e : ℕ) (link : Link) → slice_get links e ≡ Some link → P (suc e) link → ⊥) → (e : ℕ) (link : Link) → slice_get (l ∷ links) e ≡ Some link → P e link → ⊥
-    apart n m zero link p q = n (subst (λ (k : Link). P 0 k) (sym (same_first l link p)) q)
+    apart n m zero link p q = n (subst (λ (k : Link). P 0 k) (sym (same_Some l link p)) q)
     apart n m (suc e) link p q = m e link p q
 
 module _ (net : Network) (d : ℕ → ℚ) where
@@ -185,12 +177,8 @@ module _ (net : Network) (d : ℕ → ℚ) where
   edges_below [] u w t q e = absurd (cc)
   edges_below ((e, forward) ∷ steps) u w (v, dart, t) q h = ⊎_elim
       (λ (k : (eqb q e ≡ true) × (q ≡ e)). subst (λ (i : ℕ). i < length net.links) (sym k.1) (slice_get_within net.links e dart.link dart.is_link))
-      (λ (k : (eqb q e ≡ false) × (q ≢ e)). edges_below steps v w t q (rest _ _ k.0 h))
+      (λ (k : (eqb q e ≡ false) × (q ≢ e)). edges_below steps v w t q (or_rest _ _ k.0 h))
       (eqb_tells q e)
-    where
-      rest : (a b : Bool) → a ≡ false → (a || b) ≡ true → b ≡ true
-      rest true b p e = absurd (cc)
-      rest false b p e = e
 
   -- The beginning of a trail, up to the first step along link f, which starts at u; or the trail does not cross f.
   record Before (f : ℕ) (steps : List (ℕ × Bool)) (v u : ℕ) : Type 0 where

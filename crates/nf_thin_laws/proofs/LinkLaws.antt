@@ -30,10 +30,10 @@ LinkLaw resets (Some c) x s t = BoundedLaw resets x c s t
 
 pub full_of : (x c t q : ℚ) → 0ℚ <ℚ c → 0ℚ ≤ℚ x → 0ℚ ≤ℚ t → q *ℚ c ≡ x → t ≤ℚ q → (0ℚ <ℚ x → q ≡ t) → x ≡ c *ℚ t
 full_of x c t q h n m e l u = ⊎_elim
-    (λ (k : 0ℚ <ℚ x). linear_eq (x ∷ c ∷ t ∷ q ∷ []) (eq e ∷ eq_times c (u k) ∷ []) (search reading_of depth 12) tt tt)
+    (λ (k : 0ℚ <ℚ x). linear_eq (x ∷ c ∷ t ∷ q ∷ []) (eq e ∷ eq_times c (u k) ∷ []) (search reading_of) tt tt)
     (λ (k : x ≤ℚ 0ℚ).
     let low : 0ℚ ≤ℚ c = ≤ℚ_of_lt _ _ h in
-    linear_eq (x ∷ c ∷ t ∷ q ∷ []) (eq e ∷ le k ∷ le n ∷ le_times low l ∷ le_times low m ∷ []) (search reading_of depth 12) tt tt)
+    linear_eq (x ∷ c ∷ t ∷ q ∷ []) (eq e ∷ le k ∷ le n ∷ le_times low l ∷ le_times low m ∷ []) (search reading_of) tt tt)
     (lt_or_le_ℚ 0ℚ x)
 
 BoundedLaw-of : (resets : Bool) (x c s t : ℚ) → 0ℚ <ℚ c → 0ℚ ≤ℚ x → 0ℚ ≤ℚ t → t ≤ℚ exit_slope resets (Some c) x s → (0ℚ <ℚ x → exit_slope resets (Some c) x s ≡ t)
@@ -58,10 +58,10 @@ BoundedLaw-of false x c s t h n m l u = record {
     low = ≤ℚ_of_lt _ _ h
 
     filled : t ≤ℚ q → c *ℚ t ≤ℚ x
-    filled k = linear_le (x ∷ c ∷ t ∷ (x /ℚ c) ∷ []) (eq (quotient-times x c h) ∷ le_times low k ∷ []) (search reading_of depth 12) tt
+    filled k = linear_le (x ∷ c ∷ t ∷ (x /ℚ c) ∷ []) (eq (quotient-times x c h) ∷ le_times low k ∷ []) (search reading_of) tt
 
     at_most : q ≤ℚ t → x ≤ℚ c *ℚ t
-    at_most k = linear_le (x ∷ c ∷ t ∷ (x /ℚ c) ∷ []) (eq (quotient-times x c h) ∷ le_times low k ∷ []) (search reading_of depth 12) tt
+    at_most k = linear_le (x ∷ c ∷ t ∷ (x /ℚ c) ∷ []) (eq (quotient-times x c h) ∷ le_times low k ∷ []) (search reading_of) tt
 
 -- The exit slope is at least the slope of the head, and equals it if there is flow.
 pub LinkLaw-of : (resets : Bool) (capacity : Option ℚ) (x s t : ℚ) → IsPositive capacity → 0ℚ ≤ℚ x → 0ℚ ≤ℚ t → t ≤ℚ exit_slope resets capacity x s
@@ -79,15 +79,15 @@ into_positive x y c s t u v h p q i j k =
     let b : (u ≤ℚ v) × (y ≤ℚ c *ℚ v) = q.used refl k in
     let g : c *ℚ v <ℚ c *ℚ t = grows c v t h j in
     ⊎_elim
-    (λ (l : t ≤ℚ s). absurd (linear_false (s ∷ t ∷ u ∷ v ∷ []) (le l ∷ le i ∷ le b.0 ∷ lt j ∷ []) (search reading_of depth 12) tt))
-    (λ (l : c *ℚ t ≤ℚ x). linear_lt (x ∷ y ∷ c ∷ t ∷ v ∷ []) (le l ∷ le b.1 ∷ lt g ∷ []) (search reading_of depth 12) tt)
+    (λ (l : t ≤ℚ s). absurd (linear_false (s ∷ t ∷ u ∷ v ∷ []) (le l ∷ le i ∷ le b.0 ∷ lt j ∷ []) (search reading_of) tt))
+    (λ (l : c *ℚ t ≤ℚ x). linear_lt (x ∷ y ∷ c ∷ t ∷ v ∷ []) (le l ∷ le b.1 ∷ lt g ∷ []) (search reading_of) tt)
     (p.upper refl)
 
 into_resetting : (x y c s t u v : ℚ) → 0ℚ <ℚ c → BoundedLaw true x c s t → BoundedLaw true y c u v → v <ℚ t → y <ℚ x
-into_resetting x y c s t u v h p q j = linear_lt (x ∷ y ∷ c ∷ t ∷ v ∷ []) (eq (p.full refl) ∷ eq (q.full refl) ∷ lt (grows c v t h j) ∷ []) (search reading_of depth 12) tt
+into_resetting x y c s t u v h p q j = linear_lt (x ∷ y ∷ c ∷ t ∷ v ∷ []) (eq (p.full refl) ∷ eq (q.full refl) ∷ lt (grows c v t h j) ∷ []) (search reading_of) tt
 
 into_unbounded : (x y s t u v : ℚ) → UnboundedLaw x s t → UnboundedLaw y u v → s ≤ℚ u → v <ℚ t → 0ℚ <ℚ y → ⊥
-into_unbounded x y s t u v p q i j k = linear_false (s ∷ t ∷ u ∷ v ∷ []) (le p.upper ∷ eq (q.used k) ∷ le i ∷ lt j ∷ []) (search reading_of depth 12) tt
+into_unbounded x y s t u v p q i j k = linear_false (s ∷ t ∷ u ∷ v ∷ []) (le p.upper ∷ eq (q.used k) ∷ le i ∷ lt j ∷ []) (search reading_of) tt
 
 pub into_le : (resets : Bool) (capacity : Option ℚ) (x y s t u v : ℚ) → IsPositive capacity → 0ℚ ≤ℚ x → LinkLaw resets capacity x s t → LinkLaw resets capacity y u v
     → s ≤ℚ u → v <ℚ t → y ≤ℚ x
@@ -105,17 +105,17 @@ out_bounded x y c s t u v h p q i j k =
     let low : 0ℚ ≤ℚ c = ≤ℚ_of_lt _ _ h in
     let b : (s ≤ℚ t) × (x ≤ℚ c *ℚ t) = p.used refl k in
     ⊎_elim
-    (λ (l : v ≤ℚ u). absurd (linear_false (s ∷ t ∷ u ∷ v ∷ []) (le l ∷ lt i ∷ le b.0 ∷ le j ∷ []) (search reading_of depth 12) tt))
-    (λ (l : c *ℚ v ≤ℚ y). linear_le (x ∷ y ∷ c ∷ t ∷ v ∷ []) (le l ∷ le b.1 ∷ le_times low j ∷ []) (search reading_of depth 12) tt)
+    (λ (l : v ≤ℚ u). absurd (linear_false (s ∷ t ∷ u ∷ v ∷ []) (le l ∷ lt i ∷ le b.0 ∷ le j ∷ []) (search reading_of) tt))
+    (λ (l : c *ℚ v ≤ℚ y). linear_le (x ∷ y ∷ c ∷ t ∷ v ∷ []) (le l ∷ le b.1 ∷ le_times low j ∷ []) (search reading_of) tt)
     (q.upper refl)
 
 out_resetting : (x y c s t u v : ℚ) → 0ℚ <ℚ c → BoundedLaw true x c s t → BoundedLaw true y c u v → t ≤ℚ v → x ≤ℚ y
 out_resetting x y c s t u v h p q j =
     let low : 0ℚ ≤ℚ c = ≤ℚ_of_lt _ _ h in
-    linear_le (x ∷ y ∷ c ∷ t ∷ v ∷ []) (eq (p.full refl) ∷ eq (q.full refl) ∷ le_times low j ∷ []) (search reading_of depth 12) tt
+    linear_le (x ∷ y ∷ c ∷ t ∷ v ∷ []) (eq (p.full refl) ∷ eq (q.full refl) ∷ le_times low j ∷ []) (search reading_of) tt
 
 out_unbounded : (x y s t u v : ℚ) → UnboundedLaw x s t → UnboundedLaw y u v → u <ℚ s → t ≤ℚ v → 0ℚ <ℚ x → ⊥
-out_unbounded x y s t u v p q i j k = linear_false (s ∷ t ∷ u ∷ v ∷ []) (eq (p.used k) ∷ le q.upper ∷ lt i ∷ le j ∷ []) (search reading_of depth 12) tt
+out_unbounded x y s t u v p q i j k = linear_false (s ∷ t ∷ u ∷ v ∷ []) (eq (p.used k) ∷ le q.upper ∷ lt i ∷ le j ∷ []) (search reading_of) tt
 
 pub out_le : (resets : Bool) (capacity : Option ℚ) (x y s t u v : ℚ) → IsPositive capacity → 0ℚ ≤ℚ y → LinkLaw resets capacity x s t → LinkLaw resets capacity y u v
     → u <ℚ s → t ≤ℚ v → x ≤ℚ y
@@ -132,14 +132,14 @@ stuck_bounded : (x y c s t u v : ℚ) → 0ℚ <ℚ c → 0ℚ ≤ℚ y → 0ℚ
 stuck_bounded x y c s t u v h m n p q i j e k = ⊎_elim
     (λ (l : 0ℚ <ℚ y). not_both_ℚ _ _ (into_positive x y c s t u v h p q i j l) (≤ℚ_of_same _ _ e))
     (λ (l : y ≤ℚ 0ℚ). ⊎_elim
-    (λ (l : t ≤ℚ s). linear_false (s ∷ t ∷ u ∷ v ∷ []) (le l ∷ le i ∷ le k ∷ lt j ∷ []) (search reading_of depth 12) tt)
-    (λ (o : c *ℚ t ≤ℚ x). let g : c *ℚ 0ℚ <ℚ c *ℚ t = grows c 0ℚ t h (linear_lt (v ∷ t ∷ []) (le n ∷ lt j ∷ []) (search reading_of depth 12) tt) in
-    linear_false (x ∷ y ∷ c ∷ t ∷ []) (le o ∷ eq e ∷ le l ∷ lt g ∷ []) (search reading_of depth 12) tt)
+    (λ (l : t ≤ℚ s). linear_false (s ∷ t ∷ u ∷ v ∷ []) (le l ∷ le i ∷ le k ∷ lt j ∷ []) (search reading_of) tt)
+    (λ (o : c *ℚ t ≤ℚ x). let g : c *ℚ 0ℚ <ℚ c *ℚ t = grows c 0ℚ t h (linear_lt (v ∷ t ∷ []) (le n ∷ lt j ∷ []) (search reading_of) tt) in
+    linear_false (x ∷ y ∷ c ∷ t ∷ []) (le o ∷ eq e ∷ le l ∷ lt g ∷ []) (search reading_of) tt)
     (p.upper refl))
     (lt_or_le_ℚ 0ℚ y)
 
 stuck_unbounded : (x s t u v : ℚ) → UnboundedLaw x s t → s ≤ℚ u → v <ℚ t → u ≡ v → ⊥
-stuck_unbounded x s t u v p i j e = linear_false (s ∷ t ∷ u ∷ v ∷ []) (le p.upper ∷ le i ∷ lt j ∷ eq e ∷ []) (search reading_of depth 12) tt
+stuck_unbounded x s t u v p i j e = linear_false (s ∷ t ∷ u ∷ v ∷ []) (le p.upper ∷ le i ∷ lt j ∷ eq e ∷ []) (search reading_of) tt
 
 pub stuck : (resets : Bool) (capacity : Option ℚ) (x y s t u v : ℚ) → IsPositive capacity → 0ℚ ≤ℚ y → 0ℚ ≤ℚ v → LinkLaw resets capacity x s t → LinkLaw resets capacity y u v
     → s ≤ℚ u → v <ℚ t → x ≡ y → exit_slope resets capacity y u ≡ v → ⊥

@@ -22,7 +22,7 @@ use Rattle.nf_model.specs.ThinFlow.{Sets, slacks_of, sets_at, surplus}
 use Rattle.nf_model.specs.Pattern.{Pattern, HasState, NeedsState, IsTrail, AllDiffer, IsListedIn, IsBefore, IsFirstInto, IsBase, Equation, Inequality, Solves, IsSolution}
 use Rattle.nf_model.specs.Phases.{AreStartLabels, IsUnending}
 use Rattle.nf_thin_def.specs.Slack.{slack_of, slack_list}
-use Rattle.nf_thin_def.specs.Table.{table_list}
+use Rattle.nf_linear_def.specs.Table.{table_list}
 use Rattle.nf_thin_def.specs.Equations.{equations}
 use Rattle.nf_thin_def.specs.Verdict.{verdict_list}
 use Rattle.nf_thin_def.specs.Extend.{extend_list}
@@ -32,7 +32,8 @@ use Rattle.nf_thin_def.specs.Accepted.{pattern_lists}
 use Rattle.nf_thin_def.specs.Listing.{HasPlace, IsListingIn}
 use Rattle.nf_thin_def.specs.Search.{Found, IsSearch}
 use Rattle.nf_thin_def.specs.PhaseRun.{Standing, Bounds, PhaseStep, IsStart, standing_after, IsSearchHere, phase_lists, Goes, at_horizon, goes, report_of, IsRunReport}
-use Rattle.nf_thin_def.proofs.Examples.{n, in_127_bits, link}
+use Rattle.nf_frac_def.proofs.Examples.{n, in_127_bits}
+use Rattle.nf_thin_def.proofs.Examples.{link}
 use Rattle.nf_thin_def.proofs.Runs.{first_standing}
 use Rattle.nf_thin_laws.proofs.Patterns.{none_leads}
 use Rattle.nf_thin_laws.proofs.Listings.{NextInOrder, all_in_order, ordered_by_place}
@@ -220,7 +221,7 @@ solves = record {
 }
 
 lone_flow : (x : ℚ) → (x +ℚ 0ℚ) -ℚ 0ℚ ≡ n 1 → x ≡ n 1
-lone_flow x e = linear_eq (x ∷ []) (eq e ∷ []) (search reading_of depth 12) tt tt
+lone_flow x e = linear_eq (x ∷ []) (eq e ∷ []) (search reading_of) tt tt
 
 only : (fs ss : List ℚ) → Solves net one_active (n 1) tight fs ss → (fs ≡ flows) × (ss ≡ slopes)
 only [] ss h = absurd (let count = h.flow_count in omega arith)

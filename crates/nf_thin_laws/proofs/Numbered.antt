@@ -10,6 +10,7 @@ use Rattle.nf_rational.specs.Rational.{ℚ}
 use Rattle.nf_frac_def.specs.declared.Part.{Part}
 use Rattle.nf_frac_def.specs.declared.Passed.{Passed}
 use Rattle.nf_frac_def.specs.declared.PassedAt.{PassedAt}
+use Rattle.nf_frac_def.proofs.AtPart.{part_ok}
 use Rattle.nf_frac_def.specs.Checked.{each, at_part, placed}
 use Rattle.nf_frac_def.proofs.Each.{with_front, each_ok, each_err}
 use Rattle.nf_thin_laws.proofs.Ending.{enumerated}
@@ -19,11 +20,6 @@ pub drop_at : {A : Type 0} (xs : List A) (i : ℕ) (x : A) → slice_get xs i �
 drop_at [] i x e = absurd (none-some x e)
 drop_at (y ∷ xs) zero x e = ap (λ (z : _). z ∷ xs) (same_Some y x e)
 drop_at (y ∷ xs) (suc i) x e = drop_at xs i x e
-
--- The value of a step of the work.
-pub part_ok : {A : Type 0} (part : Part) (r : Result A (Passed ℚ)) (x : A) → Ok x ≡ at_part part r → r ≡ Ok x
-part_ok part (Ok y) x e = cc
-part_ok part (Err q) x e = absurd (cc)
 
 module _ {A B : Type 0} (f : ℕ × A → Result B (Passed ℚ)) (xs : List A) where
   abbrev pub SoFar : List B → ℕ → Type 0

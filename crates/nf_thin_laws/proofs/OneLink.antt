@@ -30,6 +30,7 @@ use Rattle.nf_thin_laws.proofs.Flags.{flag}
 use Rattle.nf_thin_laws.proofs.ActiveLinks.{AreSets-sets_at, HoldNoCycle-sets_at}
 use Rattle.nf_thin_laws.proofs.Singular.{IsSolution-met}
 use Rattle.nf_rational_laws.proofs.Chains.{≤ℚ_refl, ≤ℚ_trans}
+use Rattle.nf_rational_laws.proofs.Facts.{zero_plus}
 
 -- A property of the one entry of a list is a property of each entry.
 only_entry : {A : Type 0} (P : ℕ → A → Type 0) (x : A) (e : ℕ) (y : A) → slice_get (x ∷ []) e ≡ Some y → P 0 x → P e y
@@ -52,7 +53,7 @@ module _ (transit : ℚ) (capacity : Option ℚ) (pieces : List Piece) where
 
   -- ---- the first labels: the slack is 0
   no_slack : (t : ℚ) → t -ℚ (0ℚ +ℚ t) ≡ 0ℚ
-  no_slack t = linear_eq (t ∷ []) [] (search reading_of depth 12) tt tt
+  no_slack t = linear_eq (t ∷ []) [] (search reading_of) tt tt
 
   slacks_are : slacks_of (hops net) (first_labels transit) ≡ 0ℚ ∷ []
   slacks_are = ap (λ (s : ℚ). s ∷ []) (no_slack transit)
@@ -132,7 +133,7 @@ module _ (transit : ℚ) (capacity : Option ℚ) (pieces : List Piece) where
 
   -- ---- solutions
   all_out : (r : ℚ) → (r +ℚ 0ℚ) -ℚ 0ℚ ≡ r
-  all_out r = linear_eq (r ∷ []) [] (search reading_of depth 12) tt tt
+  all_out r = linear_eq (r ∷ []) [] (search reading_of) tt tt
 
   solves : (state : State) (rate slope : ℚ) → Equation (Some state) false capacity rate 1ℚ slope → Solves net first_sets rate (Some state ∷ []) (rate ∷ []) (1ℚ ∷ slope ∷ [])
   solves state rate slope e = record {
@@ -187,7 +188,7 @@ module _ (transit : ℚ) (capacity : Option ℚ) (pieces : List Piece) where
 
     -- ---- the link is Tight
     at_one : (x c : ℚ) → x ≤ℚ c → x ≤ℚ c *ℚ 1ℚ
-    at_one x c h = linear_le (x ∷ c ∷ []) (le h ∷ []) (search reading_of depth 12) tt
+    at_one x c h = linear_le (x ∷ c ∷ []) (le h ∷ []) (search reading_of) tt
 
     tight_is_listed : IsListedIn net first_sets (Some Tight ∷ [])
     tight_is_listed = listed Tight not_full (inl refl)
@@ -215,25 +216,19 @@ module _ (transit : ℚ) (capacity : Option ℚ) (pieces : List Piece) where
         nn = ≤ℚ_trans _ _ _ (≤ℚ_of_lt _ _ positive) k
 
         turned : (x c q : ℚ) → q *ℚ c ≡ x → x ≡ c *ℚ q
-        turned x c q e = linear_eq (x ∷ c ∷ q ∷ []) (eq e ∷ []) (search reading_of depth 12) tt tt
+        turned x c q e = linear_eq (x ∷ c ∷ q ∷ []) (eq e ∷ []) (search reading_of) tt tt
 
         at_least : (c x q : ℚ) → c ≤ℚ x → q *ℚ c ≡ x → c *ℚ 1ℚ ≤ℚ c *ℚ q
-        at_least c x q h e = linear_le (c ∷ x ∷ q ∷ []) (le h ∷ eq e ∷ []) (search reading_of depth 12) tt
+        at_least c x q h e = linear_le (c ∷ x ∷ q ∷ []) (le h ∷ eq e ∷ []) (search reading_of) tt
 
         bounded : (o : Option ℚ) → o ≡ Some most → slice_get (is_none o ∷ []) 0 ≡ Some true → ⊥
-        bounded None e u = none most e
-          where
-            none : (x : ℚ) → None ≡ Some x → ⊥
-            none x e = cc
+        bounded None e u = none-some most e
         bounded (Some x) e u = apart_some false true refl refl u
 
         full_is_listed : IsListedIn net first_sets (Some Full ∷ [])
         full_is_listed = listed Full (λ _ u. bounded capacity e u) (inr refl)
 
     -- ---- a phase
-    zero_plus : (t : ℚ) → t ≡ 0ℚ +ℚ t
-    zero_plus t = linear_eq (t ∷ []) [] (search reading_of depth 12) tt tt
-
     labels : AreTransitLabels net (number_at (first_labels transit))
     labels = record {
       source = refl;
@@ -279,7 +274,7 @@ module _ (transit : ℚ) (capacity : Option ℚ) (pieces : List Piece) where
     )
       where
         less_none : (t : ℚ) → t ≡ t -ℚ 0ℚ
-        less_none t = linear_eq (t ∷ []) [] (search reading_of depth 12) tt tt
+        less_none t = linear_eq (t ∷ []) [] (search reading_of) tt tt
 
 -- ---- at one rate from time 0 on
 by_piece : (rate : ℚ) (P : Piece → Type 0) (i : ℕ) (piece : Piece) → IsPiece (at_rate rate []) i piece → P (record { start = 0ℚ; rate = rate }) → P piece
@@ -298,7 +293,7 @@ starts_at_once rate i piece p = by_piece rate (λ q. q.start ≡ 0ℚ) i piece p
 pub ArePieces-rate : (rate : ℚ) → 0ℚ ≤ℚ rate → ArePieces (at_rate rate [])
 ArePieces-rate rate n = record {
   starts = λ i piece p. ≤ℚ_of_same _ _ (sym (starts_at_once rate i piece p));
-  rise = λ i piece next p q. absurd (none next q);
+  rise = λ i piece next p q. absurd (none-some next q);
   rates = λ i piece p. by_piece rate (λ q. 0ℚ ≤ℚ q.rate) i piece p n;
 }
   where
@@ -311,7 +306,4 @@ rate_at-once transit capacity rate = ap (λ (b : Bool). if b then rate else 0ℚ
 pub OneLink-full : (transit most : ℚ) (pieces : List Piece) (rate : ℚ) → 0ℚ ≤ℚ transit → 0ℚ <ℚ most → ArePieces pieces → most ≤ℚ rate
     → IsListedIn (one_link transit (Some most) pieces) first_sets (Some Full ∷ [])
     × IsSolution (one_link transit (Some most) pieces) first_sets rate (Some Full ∷ []) (rate ∷ []) (1ℚ ∷ rate /ℚ most ∷ [])
-OneLink-full transit most pieces rate h c q k = OneLink-full_at transit (Some most) pieces h (λ r e. subst (λ (z : ℚ). 0ℚ <ℚ z) (same most r e) c) q most rate refl k
-  where
-    same : (a b : ℚ) → Some a ≡ Some b → a ≡ b
-    same a b e = cc
+OneLink-full transit most pieces rate h c q k = OneLink-full_at transit (Some most) pieces h (λ r e. subst (λ (z : ℚ). 0ℚ <ℚ z) (same_Some most r e) c) q most rate refl k

@@ -1,6 +1,6 @@
 -- A phase run has one end: the run state determines each phase, and each cause for which none is made.
 use Rattle.std.proofs.Common.{◌≡◌, ℕ, suc, ◌<◌, List, length, refl, sym, ap, ◌∙◌, subst, arith}
-use Rattle.std.specs.Prelude.{Option, Some, None, Result, Ok, Err, map}
+use Rattle.std.specs.Prelude.{Option, Some, None, Result, Ok, map}
 use Rattle.std.proofs.lemmas.Option.{none-some, same_Some}
 use Rattle.std.proofs.lemmas.List.{length-map, length-replicate}
 use Rattle.nf_rational.specs.Rational.{ℚ}
@@ -25,6 +25,7 @@ use Rattle.nf_thin_def.specs.PhaseRun.{Standing, Bounds, PhaseStep, IsStart, sta
 use Rattle.nf_thin_laws.proofs.Bases.{one_base}
 use Rattle.nf_thin_laws.proofs.Searches.{one_answer}
 use Rattle.nf_rational_laws.proofs.Entries.{same_entries}
+use Rattle.nf_rational_laws.proofs.Results.{Ok_not_Err, one_Err}
 
 -- ---- the start
 module _ (net : Network) where
@@ -56,12 +57,6 @@ module _ (net : Network) where
   start_knows s h = ap length h.last ∙ length-replicate (length net.links) None
 
 -- ---- one phase
-ok_is_not_err : {A E : Type 0} (r : Result A E) (x : A) (e : E) → r ≡ Ok x → r ≡ Err e → ⊥
-ok_is_not_err r x e h k = cc
-
-same_error : {A E : Type 0} (r : Result A E) (d e : E) → r ≡ Err d → r ≡ Err e → d ≡ e
-same_error r d e h k = cc
-
 module _ (passes : Passing) (net : Network) (horizon : ℚ) (patterns : ℕ) where
   module _ (s : Standing) (knows : length s.last ≡ length net.links) where
     one_search : (a b : SearchAnswer) → Seeks passes net horizon patterns s a → Seeks passes net horizon patterns s b → a ≡ b
@@ -96,31 +91,31 @@ module _ (passes : Passing) (net : Network) (horizon : ℚ) (patterns : ℕ) whe
 
     pub one_cause : (c d : Cause ℚ) → Fails passes net horizon patterns s c → Fails passes net horizon patterns s d → c ≡ d
     one_cause c d (at_slack p below e) (at_slack q below' f) =
-        ap (λ (w : Passed ℚ). Cause.Passed (suc s.made) None (placed Slack w)) (same_error _ p q e f)
-    one_cause c d (at_slack p below e) (at_search b d' k f) = absurd (ok_is_not_err _ _ p k.slacks e)
-    one_cause c d (at_slack p below e) (at_lists q b g l r k f) = absurd (ok_is_not_err _ _ p k.slacks e)
-    one_cause c d (at_search a c' h e) (at_slack q below f) = absurd (ok_is_not_err _ _ q h.slacks f)
+        ap (λ (w : Passed ℚ). Cause.Passed (suc s.made) None (placed Slack w)) (one_Err _ p q e f)
+    one_cause c d (at_slack p below e) (at_search b d' k f) = absurd (Ok_not_Err _ _ p k.slacks e)
+    one_cause c d (at_slack p below e) (at_lists q b g l r k f) = absurd (Ok_not_Err _ _ p k.slacks e)
+    one_cause c d (at_search a c' h e) (at_slack q below f) = absurd (Ok_not_Err _ _ q h.slacks f)
     one_cause c d (at_search a c' h e) (at_search b d' k f) =
         same_Some c d (sym e ∙ (ap (cause_of_search (suc s.made) patterns) (one_search a b h k) ∙ f))
     one_cause c d (at_search a c' h e) (at_lists q b g l r k f) = absurd (search_finds a c q b g l h e k)
-    one_cause c d (at_lists p a f k r h e) (at_slack q below g) = absurd (ok_is_not_err _ _ q h.slacks g)
+    one_cause c d (at_lists p a f k r h e) (at_slack q below g) = absurd (Ok_not_Err _ _ q h.slacks g)
     one_cause c d (at_lists p a f k r h e) (at_search b d' i g) = absurd (search_finds b d p a f k i g h)
     one_cause c d (at_lists p a f k r h e) (at_lists q b g l t i j) =
         let found = one_search (Found p a f k) (Found q b g l) h i in
         let pattern : a ≡ b = cc in
         let flows : f ≡ g = cc in
         let slopes : k ≡ l = cc in
-        ap (λ (w : PassedAt ℚ). Cause.Passed (suc s.made) None w) (same_error (phase_lists passes net horizon s b g l) r t (sym (same_lists a b f g k l pattern flows slopes) ∙ e) j)
+        ap (λ (w : PassedAt ℚ). Cause.Passed (suc s.made) None w) (one_Err (phase_lists passes net horizon s b g l) r t (sym (same_lists a b f g k l pattern flows slopes) ∙ e) j)
 
     pub goes_or_fails : (t : Standing) (c : Cause ℚ) → Goes passes net horizon patterns s t → Fails passes net horizon patterns s c → ⊥
-    goes_or_fails t c h (at_slack q below f) = ok_is_not_err _ _ q h.finds.slacks f
+    goes_or_fails t c h (at_slack q below f) = Ok_not_Err _ _ q h.finds.slacks f
     goes_or_fails t c h (at_search b c' k f) = search_finds b c h.place h.pattern h.flows h.slopes k f h.finds
     goes_or_fails t c h (at_lists q b g l r k f) =
         let found = one_search (Found h.place h.pattern h.flows h.slopes) (Found q b g l) h.finds k in
         let pattern : h.pattern ≡ b = cc in
         let flows : h.flows ≡ g = cc in
         let slopes : h.slopes ≡ l = cc in
-        ok_is_not_err (phase_lists passes net horizon s b g l) h.step r (sym (same_lists h.pattern b h.flows g h.slopes l pattern flows slopes) ∙ h.lists) f
+        Ok_not_Err (phase_lists passes net horizon s b g l) h.step r (sym (same_lists h.pattern b h.flows g h.slopes l pattern flows slopes) ∙ h.lists) f
 
   pub fails_below : (s : Standing) (c : Cause ℚ) → Fails passes net horizon patterns s c → s.time <ℚ horizon
   fails_below s c (at_slack q below f) = below

@@ -12,7 +12,8 @@ use Rattle.nf_model.specs.Pattern.{Pattern, HasState, NeedsState, IsPattern, IsT
 use Rattle.nf_thin_def.specs.Listing.{HasPlace, IsListingIn}
 use Rattle.nf_thin_laws.proofs.Patterns.{none_leads}
 use Rattle.nf_thin_laws.proofs.Listings.{NextInOrder, all_in_order, ordered_by_place}
-use Rattle.nf_thin_def.proofs.Examples.{n, link}
+use Rattle.nf_frac_def.proofs.Examples.{n}
+use Rattle.nf_thin_def.proofs.Examples.{link}
 use Rattle.nf_thin_def.proofs.Runs.{two_links}
 
 abbrev parallel : Network

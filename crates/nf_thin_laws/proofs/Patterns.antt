@@ -33,11 +33,8 @@ FillBoth-of capacity x t y v positive f g = record {
   rate = f.0;
   positive = positive f.0 f.1;
   first = f.2;
-  second = g.2 ∙ ap (λ (z : ℚ). z *ℚ v) (same_rate g.0 f.0 (sym g.1 ∙ f.1));
+  second = g.2 ∙ ap (λ (z : ℚ). z *ℚ v) (same_Some g.0 f.0 (sym g.1 ∙ f.1));
 }
-  where
-    same_rate : (a b : ℚ) → Some a ≡ Some b → a ≡ b
-    same_rate a b e = cc
 
 -- The cases of a link in a pattern: it has a state, is resetting, or is neither active nor resetting.
 pub data Stands (pattern : Pattern) (sets : Sets) (e : ℕ) : Type 0 where

@@ -35,10 +35,10 @@ use Rattle.nf_rational_laws.proofs.Entries.{entry, same_entries}
 
 -- ---- filled links: x and y are their flows, t and v the slopes of their heads
 fill_more : (x y c t v : ℚ) → 0ℚ <ℚ c → x ≡ c *ℚ t → y ≡ c *ℚ v → v <ℚ t → y <ℚ x
-fill_more x y c t v h e f k = linear_lt (x ∷ y ∷ c ∷ t ∷ v ∷ []) (eq e ∷ eq f ∷ lt (ps-times_gap c v t h k) ∷ []) (search reading_of depth 12) tt
+fill_more x y c t v h e f k = linear_lt (x ∷ y ∷ c ∷ t ∷ v ∷ []) (eq e ∷ eq f ∷ lt (ps-times_gap c v t h k) ∷ []) (search reading_of) tt
 
 fill_at_most : (x y c t v : ℚ) → 0ℚ <ℚ c → x ≡ c *ℚ t → y ≡ c *ℚ v → t ≤ℚ v → x ≤ℚ y
-fill_at_most x y c t v h e f k = let low : 0ℚ ≤ℚ c = ≤ℚ_of_lt _ _ h in linear_le (x ∷ y ∷ c ∷ t ∷ v ∷ []) (eq e ∷ eq f ∷ le_times low k ∷ []) (search reading_of depth 12) tt
+fill_at_most x y c t v h e f k = let low : 0ℚ ≤ℚ c = ≤ℚ_of_lt _ _ h in linear_le (x ∷ y ∷ c ∷ t ∷ v ∷ []) (eq e ∷ eq f ∷ le_times low k ∷ []) (search reading_of) tt
 
 -- flows and slopes as functions, which meet the equations of the links
 abbrev pub MeetsLinks : Network → Sets → Pattern → (ℕ → ℚ) → (ℕ → ℚ) → Type 0
@@ -96,7 +96,7 @@ module _ (net : Network) (sets : Sets) (pattern : Pattern) (good : IsNetwork net
 
       -- Both ends of a Tight link are in the set, or neither is.
       apart : (a b c d : ℚ) → a ≡ b → c ≡ d → c <ℚ a → b ≤ℚ d → ⊥
-      apart a b c d e f h k = linear_false (a ∷ b ∷ c ∷ d ∷ []) (eq e ∷ eq f ∷ lt h ∷ le k ∷ []) (search reading_of depth 12) tt
+      apart a b c d e f h k = linear_false (a ∷ b ∷ c ∷ d ∷ []) (eq e ∷ eq f ∷ lt h ∷ le k ∷ []) (search reading_of) tt
 
       one_side : (link : Link) → l link.head ≡ l link.tail → m link.head ≡ m link.tail → side link.tail ≡ side link.head
       one_side link e f = ⊎_elim
@@ -176,13 +176,13 @@ module _ (net : Network) (sets : Sets) (pattern : Pattern) (good : IsNetwork net
         go (filled f) = inr (f.first ∙ ap (λ (z : ℚ). f.rate *ℚ z) (same_slopes link.head (good.heads e link p)) ∙ sym f.second)
 
     level : (a b : ℚ) → a ≡ b → a +ℚ b *ℚ (0ℚ -ℚ 1ℚ) ≡ 0ℚ
-    level a b e = linear_eq (a ∷ b ∷ []) (eq e ∷ []) (search reading_of depth 12) tt tt
+    level a b e = linear_eq (a ∷ b ∷ []) (eq e ∷ []) (search reading_of) tt tt
 
     level_back : (a b : ℚ) → a +ℚ b *ℚ (0ℚ -ℚ 1ℚ) ≡ 0ℚ → a ≡ b
-    level_back a b e = linear_eq (a ∷ b ∷ []) (eq e ∷ []) (search reading_of depth 12) tt tt
+    level_back a b e = linear_eq (a ∷ b ∷ []) (eq e ∷ []) (search reading_of) tt tt
 
     node_line : (o p i j r s : ℚ) → o ≡ p +ℚ r *ℚ (0ℚ -ℚ 1ℚ) → i ≡ j +ℚ s *ℚ (0ℚ -ℚ 1ℚ) → p -ℚ j ≡ r -ℚ s → o -ℚ i ≡ 0ℚ
-    node_line o p i j r s e f g = linear_eq (o ∷ p ∷ i ∷ j ∷ r ∷ s ∷ []) (eq e ∷ eq f ∷ eq g ∷ []) (search reading_of depth 12) tt tt
+    node_line o p i j r s e f g = linear_eq (o ∷ p ∷ i ∷ j ∷ r ∷ s ∷ []) (eq e ∷ eq f ∷ eq g ∷ []) (search reading_of) tt tt
 
     balanced_inner : (v : ℕ) → v < net.nodes → v ≢ net.sink → out_less_in net.links difference v ≡ 0ℚ
     balanced_inner v h other = node_line _ _ _ _ _ _ (sum_out-line net.links x y (0ℚ -ℚ 1ℚ) v) (sum_in-line net.links x y (0ℚ -ℚ 1ℚ) v) (same_nodes v h other)
@@ -190,7 +190,7 @@ module _ (net : Network) (sets : Sets) (pattern : Pattern) (good : IsNetwork net
     balanced : (v : ℕ) → v < net.nodes → out_less_in net.links difference v ≡ 0ℚ
     balanced v h = ⊎_elim
         (λ (s : (eqb v net.sink ≡ true) × (v ≡ net.sink)). subst (λ (k : ℕ). out_less_in net.links difference k ≡ 0ℚ) (sym s.1)
-        (sink_takes net good difference 0ℚ (balanced_inner net.source good.source good.apart) (λ w k _ o. balanced_inner w k o) ∙ linear_eq [] [] (search reading_of depth 12) tt tt))
+        (sink_takes net good difference 0ℚ (balanced_inner net.source good.source good.apart) (λ w k _ o. balanced_inner w k o) ∙ linear_eq [] [] (search reading_of) tt tt))
         (λ (s : (eqb v net.sink ≡ false) × (v ≢ net.sink)). balanced_inner v h s.1)
         (eqb_tells v net.sink)
 
@@ -233,7 +233,7 @@ module _ (net : Network) (sets : Sets) (pattern : Pattern) (good : IsNetwork net
 
   -- ---- the homogeneous equations: 0 solves them too
   no_fill : (capacity : Option ℚ) (x t : ℚ) → Fills capacity x t → Fills capacity 0ℚ 0ℚ
-  no_fill capacity x t f = (f.0, f.1, linear_eq (f.0 ∷ []) [] (search reading_of depth 12) tt tt)
+  no_fill capacity x t f = (f.0, f.1, linear_eq (f.0 ∷ []) [] (search reading_of) tt tt)
 
   zero_meets : (state : Option State) (b : Bool) (capacity : Option ℚ) (x s t : ℚ) → Equation state b capacity x s t → Equation state b capacity 0ℚ 0ℚ 0ℚ
   zero_meets (Some Tight) b capacity x s t e = refl
@@ -250,7 +250,7 @@ module _ (net : Network) (sets : Sets) (pattern : Pattern) (good : IsNetwork net
     nil_nodes v = less _ _ (sum_out-none net.links v) (sum_in-none net.links v)
       where
         less : (a b : ℚ) → a ≡ 0ℚ → b ≡ 0ℚ → a -ℚ b ≡ 0ℚ
-        less a b e f = linear_eq (a ∷ b ∷ []) (eq e ∷ eq f ∷ []) (search reading_of depth 12) tt tt
+        less a b e f = linear_eq (a ∷ b ∷ []) (eq e ∷ eq f ∷ []) (search reading_of) tt tt
 
     nodes : (v : ℕ) → v < net.nodes → v ≢ net.sink → out_less_in net.links (number_at x) v ≡ out_less_in net.links (λ _. 0ℚ) v
     nodes v h other = p.nodes v h other ∙ sym (nil_nodes v)

@@ -3,7 +3,7 @@
 use Rattle.std.specs.Prelude.{◌≡◌, ℕ, Bool, false, List, length, Option, Ok}
 use Rattle.nf_rational.specs.Rational.{ℚ}
 use Rattle.nf_rational.specs.Operations.{◌-ℚ◌}
-use Rattle.nf_frac_def.specs.Passing.{Passing}
+use Rattle.nf_frac_def.specs.Passing.{Passing, never}
 use Rattle.nf_model.specs.Walk.{Hop}
 use Rattle.nf_model.specs.Network.{Network, IsNetwork}
 use Rattle.nf_model.specs.ThinFlow.{Sets, slacks_of}
@@ -12,7 +12,7 @@ use Rattle.nf_model.specs.Phases.{moved}
 use Rattle.nf_net_def.specs.declared.Cause.{Cause}
 use Rattle.nf_net_def.specs.Report.{Report}
 use Rattle.nf_thin_def.specs.Slack.{slack_list}
-use Rattle.nf_thin_def.specs.Table.{Row, table_list}
+use Rattle.nf_linear_def.specs.Table.{Row, table_list}
 use Rattle.nf_thin_def.specs.Verdict.{verdict_list}
 use Rattle.nf_thin_def.specs.Extend.{extend_list}
 use Rattle.nf_thin_def.specs.Advance.{Advanced, cut_at, advance_list}
@@ -39,10 +39,6 @@ RunEndsAtLabels = (passes : Passing) (net : Network) (bounds : Bounds) (last : S
     → IsPhaseRun passes net bounds last stop → EndsAtLabels net last
 
 -- ---- if no operation of a sequence passes, its value is exact
-
--- No operation passes.
-abbrev pub never : Passing
-never op x y = false
 
 -- If no operation of a sequence passes, its value is the one that it has if no operation can pass.
 pub record ValuesAreExact : Type 0 where

@@ -7,7 +7,7 @@ use Rattle.nf_rational.specs.Rational.{ℚ}
 use Rattle.nf_model.specs.Entries.{number_at, Has}
 use Rattle.nf_model.specs.Network.{Network}
 use Rattle.nf_model.specs.ThinFlow.{Sets}
-use Rattle.nf_thin_def.specs.Table.{Row}
+use Rattle.nf_linear_def.specs.Table.{Row}
 use Rattle.nf_thin_def.specs.Equations.{Unknown, SlopeOf, FlowOn, active_from, unknowns, row}
 
 -- how many links before number e are active

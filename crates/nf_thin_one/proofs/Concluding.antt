@@ -19,7 +19,7 @@ use Rattle.nf_thin_def.specs.Verdict.{verdict_list}
 use Rattle.nf_thin_laws.proofs.Ending.{enumerated}
 use Rattle.nf_thin_laws.proofs.Flags.{number_at-beyond}
 use Rattle.nf_thin_one.specs.Judging.{NoneNegativeBefore, IsFirstFailing, first_of, numbered_verdict, broken_after, first_broken}
-use Rattle.nf_thin_laws.proofs.Numbered.{part_ok}
+use Rattle.nf_frac_def.proofs.AtPart.{part_ok}
 use Rattle.nf_thin_one.proofs.Folds.{goes_on, stops_in, ends}
 use Rattle.nf_thin_one.proofs.Failing.{AllMeet, SoFar, found_means, passes_means}
 use Rattle.nf_rational_laws.proofs.Entries.{entry}

@@ -12,7 +12,7 @@ use Rattle.nf_model.specs.Entries.{Has}
 use Rattle.nf_model.specs.Network.{Link, Network, IsLink}
 use Rattle.nf_model.specs.ThinFlow.{Sets}
 use Rattle.nf_model.specs.Pattern.{Pattern}
-use Rattle.nf_thin_def.specs.Table.{Row, row_at}
+use Rattle.nf_linear_def.specs.Table.{Row, row_at}
 use Rattle.nf_thin_def.specs.Equations.{unknowns, row, source_factor, node_row, link_factor, link_rows, equations}
 use Rattle.nf_linear_laws.proofs.Pivots.{different}
 use Rattle.nf_thin_equation_laws.proofs.Rows.{filtered-length, set_rows-length}

@@ -4,7 +4,7 @@ use Rattle.std.specs.Prelude.{if◌then◌else◌, unwrap_or}
 use Rattle.nf_rational.specs.Rational.{ℚ}
 use Rattle.nf_rational.specs.Operations.{0ℚ, 1ℚ, neg_ℚ}
 use Rattle.nf_model.specs.Network.{Link}
-use Rattle.nf_thin_def.specs.Table.{Row, row_at}
+use Rattle.nf_linear_def.specs.Table.{Row, row_at}
 use Rattle.nf_thin_one.specs.Filling.{ChangesRow, with_entries, tight_entries, full_entries}
 use Rattle.nf_thin_one.proofs.Cells.{none_changes, number_changes, two_changes}
 

@@ -14,7 +14,7 @@ use Rattle.nf_model.specs.declared.State.TheVariants.{Tight, Full, Zero}
 use Rattle.nf_model.specs.Entries.{number_at, Has}
 use Rattle.nf_model.specs.Network.{Link, Network}
 use Rattle.nf_model.specs.ThinFlow.{Sets}
-use Rattle.nf_thin_def.specs.Table.{Row}
+use Rattle.nf_linear_def.specs.Table.{Row}
 use Rattle.nf_thin_def.specs.Equations.{unknowns, row, one_if, fills_factor, link_factor}
 use Rattle.nf_thin_equation_laws.proofs.Equations.{unknowns-length}
 use Rattle.nf_thin_one.specs.Filling.{with_entries, tight_entries, link_entries}

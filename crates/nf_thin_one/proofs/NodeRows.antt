@@ -6,7 +6,7 @@ use Rattle.nf_rational.specs.Rational.{ℚ}
 use Rattle.nf_model.specs.Network.{Network}
 use Rattle.nf_model.specs.ThinFlow.{Sets}
 use Rattle.nf_model.specs.Pattern.{Pattern}
-use Rattle.nf_thin_def.specs.Table.{Row}
+use Rattle.nf_linear_def.specs.Table.{Row}
 use Rattle.nf_thin_def.specs.Equations.{unknowns, node_row, equations}
 use Rattle.nf_thin_equation_laws.proofs.Equations.{unknowns-length}
 use Rattle.nf_thin_one.specs.Filling.{IsBlank, ChangesRow, IsFilledTo}

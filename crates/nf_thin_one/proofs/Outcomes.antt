@@ -10,7 +10,7 @@ use Rattle.nf_frac_def.specs.Checked.{at_part, Stops}
 use Rattle.nf_model.specs.Network.{Network}
 use Rattle.nf_model.specs.ThinFlow.{Sets}
 use Rattle.nf_model.specs.Pattern.{Pattern, IsSolution, IsSolvable}
-use Rattle.nf_thin_def.specs.Table.{table_list}
+use Rattle.nf_linear_def.specs.Table.{table_list}
 use Rattle.nf_thin_def.specs.Verdict.{verdict_list}
 use Rattle.nf_thin_def.specs.Equations.{active_from, equations, slopes_in, flows_in}
 use Rattle.nf_thin_def.specs.Accepted.{pattern_lists}

@@ -12,7 +12,7 @@ use Rattle.nf_model.specs.Entries.{number_at}
 use Rattle.nf_model.specs.Network.{Network}
 use Rattle.nf_model.specs.ThinFlow.{Sets}
 use Rattle.nf_model.specs.Pattern.{Pattern, Meets, IsSolution, IsSolvable}
-use Rattle.nf_thin_def.specs.Table.{table_list}
+use Rattle.nf_linear_def.specs.Table.{table_list}
 use Rattle.nf_thin_def.specs.Verdict.{verdict_list}
 use Rattle.nf_thin_def.specs.Equations.{equations, slopes_in, flows_in}
 use Rattle.nf_thin_def.specs.Accepted.{Solved, after_table, pattern_lists, IsAccepted}

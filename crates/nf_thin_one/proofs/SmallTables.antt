@@ -2,7 +2,7 @@
 use Rattle.std.proofs.Common.{◌≡◌, List, Option, Result, Ok, IfOk, IfSome, subst}
 use Rattle.nf_rational.specs.Rational.{ℚ}
 use Rattle.nf_frac_def.specs.Passing.{passes_Q}
-use Rattle.nf_thin_def.specs.Table.{Row, table_list}
+use Rattle.nf_linear_def.specs.Table.{Row, table_list}
 use Rattle.nf_linear.specs.declared.solution.Solved.{Solved}
 use Rattle.nf_linear.specs.Solved.{values_of}
 

@@ -6,7 +6,7 @@ use Rattle.nf_rational.specs.Operations.{0ℚ, 1ℚ}
 use Rattle.nf_model.specs.Network.{Network}
 use Rattle.nf_model.specs.ThinFlow.{Sets}
 use Rattle.nf_model.specs.Pattern.{Pattern}
-use Rattle.nf_thin_def.specs.Table.{Row, row_at}
+use Rattle.nf_linear_def.specs.Table.{Row, row_at}
 use Rattle.nf_thin_def.specs.Equations.{unknowns, row, source_factor, equations}
 use Rattle.nf_thin_equation_laws.proofs.Equations.{unknowns-length}
 use Rattle.nf_thin_one.specs.Filling.{ChangesRow, IsFilledTo}

@@ -5,7 +5,7 @@ use Rattle.nf_rational.specs.Operations.{0ℚ, 1ℚ, neg_ℚ}
 use Rattle.nf_model.specs.declared.State.{State}
 use Rattle.nf_model.specs.declared.State.TheVariants.{Tight, Full, Zero}
 use Rattle.nf_model.specs.Network.{Link, Network, IsLink}
-use Rattle.nf_thin_def.specs.Table.{Row, row_at}
+use Rattle.nf_linear_def.specs.Table.{Row, row_at}
 use Rattle.nf_thin_def.specs.Equations.{Unknown}
 
 -- ---- rows of a table

@@ -9,7 +9,7 @@ use Rattle.nf_frac_def.specs.Checked.{at_part}
 use Rattle.nf_model.specs.Network.{Network}
 use Rattle.nf_model.specs.ThinFlow.{Sets}
 use Rattle.nf_model.specs.Pattern.{Pattern, Meets, IsSolution, IsSolvable}
-use Rattle.nf_thin_def.specs.Table.{table_list}
+use Rattle.nf_linear_def.specs.Table.{table_list}
 use Rattle.nf_thin_def.specs.Equations.{equations}
 use Rattle.nf_thin_def.specs.Accepted.{pattern_lists, IsAccepted}
 use Rattle.nf_thin_one.specs.declared.trying.Tried.{Tried}

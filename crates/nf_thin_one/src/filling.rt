@@ -5,7 +5,7 @@ ghost use Rattle.nf_rational.specs.Operations.{0ℚ, neg_ℚ, ◌-ℚ◌};
 ghost use Rattle.nf_model.specs.Entries.{number_at};
 ghost use Rattle.nf_model.specs.Pattern.{Pattern as SeenPattern};
 ghost use Rattle.nf_net_def.specs.WellNamed.{IsNamed};
-ghost use Rattle.nf_thin_def.specs.Table.{row_at};
+ghost use Rattle.nf_linear_def.specs.Table.{row_at};
 ghost use Rattle.nf_thin_def.specs.Equations.{unknowns, one_if, leaves_less_enters as leaves_less_enters_of, node_row, equations};
 ghost use Rattle.nf_thin_one.specs.Filling.{all_zero, IsBlank, ChangesRow, IsFilledTo, with_entries, tight_entries, full_entries, link_entries, HoldsCapacity, HoldsCapacities, HoldsNumbers};
 

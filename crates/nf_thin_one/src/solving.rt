@@ -3,7 +3,7 @@ ghost use Rattle.std.specs.Prelude.{◌≡◌, ◌<◌, ◌≤◌, length};
 ghost use Rattle.nf_frac_def.specs.declared.Part.TheVariants as Part;
 ghost use Rattle.nf_frac_def.specs.Passing.{passes_Q};
 ghost use Rattle.nf_frac_def.specs.Checked.{at_part, seen_at};
-ghost use Rattle.nf_thin_def.specs.Table.{table_list};
+ghost use Rattle.nf_linear_def.specs.Table.{table_list};
 ghost use Rattle.nf_thin_def.specs.Equations.{unknowns, equations};
 ghost use Rattle.nf_linear.specs.Grids.{values_if};
 ghost use Rattle.nf_thin_equation_laws.specs.Equations.{IsPatternIn};

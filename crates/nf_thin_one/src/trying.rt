@@ -7,7 +7,7 @@ ghost use Rattle.nf_model.specs.Entries.{Has};
 ghost use Rattle.nf_model.specs.Network.{unbounded};
 ghost use Rattle.nf_model.specs.Pattern.{IsPattern};
 ghost use Rattle.nf_thin_laws.specs.ActiveLinks.{AreSets};
-ghost use Rattle.nf_thin_def.specs.Table.{table_list};
+ghost use Rattle.nf_linear_def.specs.Table.{table_list};
 ghost use Rattle.nf_thin_def.specs.Verdict.{verdict_list};
 ghost use Rattle.nf_thin_def.specs.Equations.{active_from, unknowns, equations, flows_in, slopes_in};
 ghost use Rattle.nf_linear.specs.Solved.{values_of};

@@ -71,30 +71,30 @@ clipped-is last time w = at-is time last (clipped last time) w.0 w.1 (place last
 
 -- Clipping preserves order.
 at-rises : (s t last a b : ℚ) → 0ℚ ≤ℚ last → s ≤ℚ t → Place s last a → Place t last b → a ≤ℚ b
-at-rises s t last a b n h (early i j) (early k m) = linear_le (s ∷ t ∷ last ∷ a ∷ b ∷ []) (eq j ∷ eq m ∷ []) (search reading_of depth 12) tt
-at-rises s t last a b n h (early i j) (inside k l m) = linear_le (s ∷ t ∷ last ∷ a ∷ b ∷ []) (eq j ∷ eq m ∷ le k ∷ []) (search reading_of depth 12) tt
-at-rises s t last a b n h (early i j) (late k m) = linear_le (s ∷ t ∷ last ∷ a ∷ b ∷ []) (eq j ∷ eq m ∷ le n ∷ []) (search reading_of depth 12) tt
-at-rises s t last a b n h (inside i g j) (early k m) = linear_le (s ∷ t ∷ last ∷ a ∷ b ∷ []) (eq j ∷ eq m ∷ le h ∷ le k ∷ []) (search reading_of depth 12) tt
-at-rises s t last a b n h (inside i g j) (inside k l m) = linear_le (s ∷ t ∷ last ∷ a ∷ b ∷ []) (eq j ∷ eq m ∷ le h ∷ []) (search reading_of depth 12) tt
-at-rises s t last a b n h (inside i g j) (late k m) = linear_le (s ∷ t ∷ last ∷ a ∷ b ∷ []) (eq j ∷ eq m ∷ le g ∷ []) (search reading_of depth 12) tt
-at-rises s t last a b n h (late i j) (early k m) = linear_le (s ∷ t ∷ last ∷ a ∷ b ∷ []) (eq j ∷ eq m ∷ le h ∷ le i ∷ le k ∷ []) (search reading_of depth 12) tt
-at-rises s t last a b n h (late i j) (inside k l m) = linear_le (s ∷ t ∷ last ∷ a ∷ b ∷ []) (eq j ∷ eq m ∷ le h ∷ le i ∷ []) (search reading_of depth 12) tt
-at-rises s t last a b n h (late i j) (late k m) = linear_le (s ∷ t ∷ last ∷ a ∷ b ∷ []) (eq j ∷ eq m ∷ []) (search reading_of depth 12) tt
+at-rises s t last a b n h (early i j) (early k m) = linear_le (s ∷ t ∷ last ∷ a ∷ b ∷ []) (eq j ∷ eq m ∷ []) (search reading_of) tt
+at-rises s t last a b n h (early i j) (inside k l m) = linear_le (s ∷ t ∷ last ∷ a ∷ b ∷ []) (eq j ∷ eq m ∷ le k ∷ []) (search reading_of) tt
+at-rises s t last a b n h (early i j) (late k m) = linear_le (s ∷ t ∷ last ∷ a ∷ b ∷ []) (eq j ∷ eq m ∷ le n ∷ []) (search reading_of) tt
+at-rises s t last a b n h (inside i g j) (early k m) = linear_le (s ∷ t ∷ last ∷ a ∷ b ∷ []) (eq j ∷ eq m ∷ le h ∷ le k ∷ []) (search reading_of) tt
+at-rises s t last a b n h (inside i g j) (inside k l m) = linear_le (s ∷ t ∷ last ∷ a ∷ b ∷ []) (eq j ∷ eq m ∷ le h ∷ []) (search reading_of) tt
+at-rises s t last a b n h (inside i g j) (late k m) = linear_le (s ∷ t ∷ last ∷ a ∷ b ∷ []) (eq j ∷ eq m ∷ le g ∷ []) (search reading_of) tt
+at-rises s t last a b n h (late i j) (early k m) = linear_le (s ∷ t ∷ last ∷ a ∷ b ∷ []) (eq j ∷ eq m ∷ le h ∷ le i ∷ le k ∷ []) (search reading_of) tt
+at-rises s t last a b n h (late i j) (inside k l m) = linear_le (s ∷ t ∷ last ∷ a ∷ b ∷ []) (eq j ∷ eq m ∷ le h ∷ le i ∷ []) (search reading_of) tt
+at-rises s t last a b n h (late i j) (late k m) = linear_le (s ∷ t ∷ last ∷ a ∷ b ∷ []) (eq j ∷ eq m ∷ []) (search reading_of) tt
 
 pub clipped-rises : (last s t : ℚ) → 0ℚ ≤ℚ last → s ≤ℚ t → clipped last s ≤ℚ clipped last t
 clipped-rises last s t n h = at-rises s t last (clipped last s) (clipped last t) n h (place last s n) (place last t n)
 
 -- Clipping lengthens no interval.
 at-stretch : (s t last a b : ℚ) → 0ℚ ≤ℚ last → s ≤ℚ t → Place s last a → Place t last b → b -ℚ a ≤ℚ t -ℚ s
-at-stretch s t last a b n h (early i j) (early k m) = linear_le (s ∷ t ∷ last ∷ a ∷ b ∷ []) (eq j ∷ eq m ∷ le h ∷ []) (search reading_of depth 12) tt
-at-stretch s t last a b n h (early i j) (inside k l m) = linear_le (s ∷ t ∷ last ∷ a ∷ b ∷ []) (eq j ∷ eq m ∷ le i ∷ []) (search reading_of depth 12) tt
-at-stretch s t last a b n h (early i j) (late k m) = linear_le (s ∷ t ∷ last ∷ a ∷ b ∷ []) (eq j ∷ eq m ∷ le i ∷ le k ∷ []) (search reading_of depth 12) tt
-at-stretch s t last a b n h (inside i g j) (early k m) = linear_le (s ∷ t ∷ last ∷ a ∷ b ∷ []) (eq j ∷ eq m ∷ le h ∷ le i ∷ []) (search reading_of depth 12) tt
-at-stretch s t last a b n h (inside i g j) (inside k l m) = linear_le (s ∷ t ∷ last ∷ a ∷ b ∷ []) (eq j ∷ eq m ∷ []) (search reading_of depth 12) tt
-at-stretch s t last a b n h (inside i g j) (late k m) = linear_le (s ∷ t ∷ last ∷ a ∷ b ∷ []) (eq j ∷ eq m ∷ le k ∷ []) (search reading_of depth 12) tt
-at-stretch s t last a b n h (late i j) (early k m) = linear_le (s ∷ t ∷ last ∷ a ∷ b ∷ []) (eq j ∷ eq m ∷ le h ∷ le n ∷ []) (search reading_of depth 12) tt
-at-stretch s t last a b n h (late i j) (inside k l m) = linear_le (s ∷ t ∷ last ∷ a ∷ b ∷ []) (eq j ∷ eq m ∷ le h ∷ le l ∷ []) (search reading_of depth 12) tt
-at-stretch s t last a b n h (late i j) (late k m) = linear_le (s ∷ t ∷ last ∷ a ∷ b ∷ []) (eq j ∷ eq m ∷ le h ∷ []) (search reading_of depth 12) tt
+at-stretch s t last a b n h (early i j) (early k m) = linear_le (s ∷ t ∷ last ∷ a ∷ b ∷ []) (eq j ∷ eq m ∷ le h ∷ []) (search reading_of) tt
+at-stretch s t last a b n h (early i j) (inside k l m) = linear_le (s ∷ t ∷ last ∷ a ∷ b ∷ []) (eq j ∷ eq m ∷ le i ∷ []) (search reading_of) tt
+at-stretch s t last a b n h (early i j) (late k m) = linear_le (s ∷ t ∷ last ∷ a ∷ b ∷ []) (eq j ∷ eq m ∷ le i ∷ le k ∷ []) (search reading_of) tt
+at-stretch s t last a b n h (inside i g j) (early k m) = linear_le (s ∷ t ∷ last ∷ a ∷ b ∷ []) (eq j ∷ eq m ∷ le h ∷ le i ∷ []) (search reading_of) tt
+at-stretch s t last a b n h (inside i g j) (inside k l m) = linear_le (s ∷ t ∷ last ∷ a ∷ b ∷ []) (eq j ∷ eq m ∷ []) (search reading_of) tt
+at-stretch s t last a b n h (inside i g j) (late k m) = linear_le (s ∷ t ∷ last ∷ a ∷ b ∷ []) (eq j ∷ eq m ∷ le k ∷ []) (search reading_of) tt
+at-stretch s t last a b n h (late i j) (early k m) = linear_le (s ∷ t ∷ last ∷ a ∷ b ∷ []) (eq j ∷ eq m ∷ le h ∷ le n ∷ []) (search reading_of) tt
+at-stretch s t last a b n h (late i j) (inside k l m) = linear_le (s ∷ t ∷ last ∷ a ∷ b ∷ []) (eq j ∷ eq m ∷ le h ∷ le l ∷ []) (search reading_of) tt
+at-stretch s t last a b n h (late i j) (late k m) = linear_le (s ∷ t ∷ last ∷ a ∷ b ∷ []) (eq j ∷ eq m ∷ le h ∷ []) (search reading_of) tt
 
 pub clipped-stretch : (last s t : ℚ) → 0ℚ ≤ℚ last → s ≤ℚ t → clipped last t -ℚ clipped last s ≤ℚ t -ℚ s
 clipped-stretch last s t n h = at-stretch s t last (clipped last s) (clipped last t) n h (place last s n) (place last t n)

@@ -31,16 +31,16 @@ use Rattle.nf_unique_laws.proofs.OneLink.{AllServed, entered-before, entered-ris
 
 -- ---- plain numbers: the amounts that entered and left, and the supply
 balanced : (i o : ℚ) → i +ℚ 0ℚ ≡ o +ℚ 0ℚ → o ≤ℚ i
-balanced i o e = linear_le (i ∷ o ∷ []) (eq e ∷ []) (search reading_of depth 12) tt
+balanced i o e = linear_le (i ∷ o ∷ []) (eq e ∷ []) (search reading_of) tt
 
 stays : (i o u : ℚ) → i +ℚ 0ℚ ≡ o +ℚ u → 0ℚ ≤ℚ u → o ≤ℚ i
-stays i o u e h = linear_le (i ∷ o ∷ u ∷ []) (eq e ∷ le h ∷ []) (search reading_of depth 12) tt
+stays i o u e h = linear_le (i ∷ o ∷ u ∷ []) (eq e ∷ le h ∷ []) (search reading_of) tt
 
 none_stays : (i o : ℚ) → i +ℚ 0ℚ ≡ o +ℚ 0ℚ → i ≡ o
-none_stays i o e = linear_eq (i ∷ o ∷ []) (eq e ∷ []) (search reading_of depth 12) tt tt
+none_stays i o e = linear_eq (i ∷ o ∷ []) (eq e ∷ []) (search reading_of) tt tt
 
 what_stays : (i o u : ℚ) → i +ℚ 0ℚ ≡ o +ℚ u → i -ℚ o ≡ u
-what_stays i o u e = linear_eq (i ∷ o ∷ u ∷ []) (eq e ∷ []) (search reading_of depth 12) tt tt
+what_stays i o u e = linear_eq (i ∷ o ∷ u ∷ []) (eq e ∷ []) (search reading_of) tt tt
 
 module _ (net : Network) (flow : Flow) (good : IsNetwork net) (is : Equilibrium net flow) where
   abbrev F : ℕ → ℚ → ℚ

@@ -5,8 +5,8 @@ use Rattle.nf_rational.specs.Operations.{0ℚ, ◌+ℚ◌, ◌-ℚ◌, ◌*ℚ�
 use Rattle.nf_rational.specs.Order.{◌≤ℚ◌, ◌<ℚ◌}
 use Rattle.nf_rational_laws.proofs.Polynomial.{reading_of}
 use Rattle.nf_rational_laws.proofs.Order.{≤ℚ_of_lt, ≤ℚ_of_same, ≤ℚ_antisymm, lt_or_le_ℚ}
-use Rattle.nf_rational_laws.proofs.Linear.{le, lt, eq, le_times, linear_le, linear_lt, linear_eq}
-use Rattle.nf_rational_laws.proofs.Chains.{≤ℚ_refl, ≤ℚ_trans}
+use Rattle.nf_rational_laws.proofs.Linear.{le, lt, eq, le_times, linear_le, linear_eq}
+use Rattle.nf_rational_laws.proofs.Chains.{≤ℚ_refl, ≤ℚ_trans, ≤_<_trans}
 use Rattle.nf_model.specs.Curve.{Within, IsLeast, NeverFalls}
 use Rattle.nf_model.specs.Queue.{IsOutflow}
 use Rattle.nf_model_laws.specs.Capacity.{IsPositive}
@@ -17,40 +17,40 @@ use Rattle.nf_unique_laws.proofs.Clipped.{clipped-within, clipped-none, clipped-
 
 -- ---- over plain numbers: r the transit time, c the capacity, f and g what had entered, x and y what has left
 since : (r t : ℚ) → r ≤ℚ t → 0ℚ ≤ℚ t -ℚ r
-since r t h = linear_le (r ∷ t ∷ []) (le h ∷ []) (search reading_of depth 12) tt
+since r t h = linear_le (r ∷ t ∷ []) (le h ∷ []) (search reading_of) tt
 
 sooner : (r s t : ℚ) → s ≤ℚ t → s -ℚ r ≤ℚ t -ℚ r
-sooner r s t h = linear_le (r ∷ s ∷ t ∷ []) (le h ∷ []) (search reading_of depth 12) tt
+sooner r s t h = linear_le (r ∷ s ∷ t ∷ []) (le h ∷ []) (search reading_of) tt
 
 at_once : (r : ℚ) → r ≤ℚ 0ℚ → 0ℚ ≤ℚ r → 0ℚ -ℚ r ≡ 0ℚ
-at_once r h k = linear_eq (r ∷ []) (le h ∷ le k ∷ []) (search reading_of depth 12) tt tt
+at_once r h k = linear_eq (r ∷ []) (le h ∷ le k ∷ []) (search reading_of) tt tt
 
 room_early : (c s t x y : ℚ) → 0ℚ ≤ℚ c → s ≤ℚ t → y ≡ 0ℚ → 0ℚ ≤ℚ x → y -ℚ x ≤ℚ c *ℚ (t -ℚ s)
-room_early c s t x y k h e n = linear_le (c ∷ s ∷ t ∷ x ∷ y ∷ []) (le_times k h ∷ eq e ∷ le n ∷ []) (search reading_of depth 12) tt
+room_early c s t x y k h e n = linear_le (c ∷ s ∷ t ∷ x ∷ y ∷ []) (le_times k h ∷ eq e ∷ le n ∷ []) (search reading_of) tt
 
 room_begins : (c r s t f x y : ℚ) → 0ℚ ≤ℚ c → s ≤ℚ r → x ≡ 0ℚ → f ≡ 0ℚ → y ≤ℚ f +ℚ c *ℚ (t -ℚ r -ℚ 0ℚ) → y -ℚ x ≤ℚ c *ℚ (t -ℚ s)
-room_begins c r s t f x y k h e d l = linear_le (c ∷ r ∷ s ∷ t ∷ f ∷ x ∷ y ∷ []) (le_times k h ∷ eq e ∷ eq d ∷ le l ∷ []) (search reading_of depth 12) tt
+room_begins c r s t f x y k h e d l = linear_le (c ∷ r ∷ s ∷ t ∷ f ∷ x ∷ y ∷ []) (le_times k h ∷ eq e ∷ eq d ∷ le l ∷ []) (search reading_of) tt
 
 room_later : (c r s t u f x y : ℚ) → f +ℚ c *ℚ (s -ℚ r -ℚ u) ≡ x → y ≤ℚ f +ℚ c *ℚ (t -ℚ r -ℚ u) → y -ℚ x ≤ℚ c *ℚ (t -ℚ s)
-room_later c r s t u f x y e l = linear_le (c ∷ r ∷ s ∷ t ∷ u ∷ f ∷ x ∷ y ∷ []) (eq e ∷ le l ∷ []) (search reading_of depth 12) tt
+room_later c r s t u f x y e l = linear_le (c ∷ r ∷ s ∷ t ∷ u ∷ f ∷ x ∷ y ∷ []) (eq e ∷ le l ∷ []) (search reading_of) tt
 
 room_grows : (c a b s t x y : ℚ) → 0ℚ ≤ℚ c → b -ℚ a ≤ℚ t -ℚ s → y -ℚ x ≤ℚ c *ℚ (b -ℚ a) → y -ℚ x ≤ℚ c *ℚ (t -ℚ s)
-room_grows c a b s t x y k h l = linear_le (c ∷ a ∷ b ∷ s ∷ t ∷ x ∷ y ∷ []) (le_times k h ∷ le l ∷ []) (search reading_of depth 12) tt
+room_grows c a b s t x y k h l = linear_le (c ∷ a ∷ b ∷ s ∷ t ∷ x ∷ y ∷ []) (le_times k h ∷ le l ∷ []) (search reading_of) tt
 
 more_served : (c d u f x : ℚ) → 0ℚ ≤ℚ c → u ≤ℚ d → x ≤ℚ f → x ≤ℚ f +ℚ c *ℚ (d -ℚ u)
-more_served c d u f x k h l = linear_le (c ∷ d ∷ u ∷ f ∷ x ∷ []) (le_times k h ∷ le l ∷ []) (search reading_of depth 12) tt
+more_served c d u f x k h l = linear_le (c ∷ d ∷ u ∷ f ∷ x ∷ []) (le_times k h ∷ le l ∷ []) (search reading_of) tt
 
 served_on : (c r s t u f x : ℚ) → 0ℚ ≤ℚ c → s ≤ℚ t → x ≤ℚ f +ℚ c *ℚ (s -ℚ r -ℚ u) → x ≤ℚ f +ℚ c *ℚ (t -ℚ r -ℚ u)
-served_on c r s t u f x k h l = linear_le (c ∷ r ∷ s ∷ t ∷ u ∷ f ∷ x ∷ []) (le_times k h ∷ le l ∷ []) (search reading_of depth 12) tt
+served_on c r s t u f x k h l = linear_le (c ∷ r ∷ s ∷ t ∷ u ∷ f ∷ x ∷ []) (le_times k h ∷ le l ∷ []) (search reading_of) tt
 
 just_taken : (c d u f g x : ℚ) → 0ℚ ≤ℚ c → u ≤ℚ d → f +ℚ c *ℚ (d -ℚ u) ≡ x → g ≤ℚ f → x ≤ℚ g → g +ℚ c *ℚ (d -ℚ u) ≡ x
-just_taken c d u f g x k h e l m = linear_eq (c ∷ d ∷ u ∷ f ∷ g ∷ x ∷ []) (le_times k h ∷ eq e ∷ le l ∷ le m ∷ []) (search reading_of depth 12) tt tt
+just_taken c d u f g x k h e l m = linear_eq (c ∷ d ∷ u ∷ f ∷ g ∷ x ∷ []) (le_times k h ∷ eq e ∷ le l ∷ le m ∷ []) (search reading_of) tt tt
 
 none_served : (c d f : ℚ) → f +ℚ c *ℚ (d -ℚ d) ≡ f
-none_served c d f = linear_eq (c ∷ d ∷ f ∷ []) [] (search reading_of depth 12) tt tt
+none_served c d f = linear_eq (c ∷ d ∷ f ∷ []) [] (search reading_of) tt tt
 
 in_flight : (r s u : ℚ) → 0ℚ ≤ℚ u → u <ℚ s -ℚ r → r ≤ℚ s
-in_flight r s u n h = linear_le (r ∷ s ∷ u ∷ []) (le n ∷ lt h ∷ []) (search reading_of depth 12) tt
+in_flight r s u n h = linear_le (r ∷ s ∷ u ∷ []) (le n ∷ lt h ∷ []) (search reading_of) tt
 
 -- A link up to the last times of its tail and its head: what enters by the one has left by the other.
 pub record AllServed (transit : ℚ) (capacity : Option ℚ) (amount : ℚ → ℚ) (tail_last head_last : ℚ) (out : ℚ → ℚ) : Type 0 where
@@ -204,7 +204,7 @@ module _ (transit : ℚ) (capacity : Option ℚ) (amount : ℚ → ℚ) (tail_la
   -- and after it
   last-queue : (time : ℚ) → head_last ≤ℚ time → IsOutflow transit capacity entered time (amount tail_last)
   last-queue time h = record {
-    early = λ l. all_out.early (before head_last time transit h l);
+    early = λ l. all_out.early (≤_<_trans head_last time transit h l);
     unbounded = λ l none. sym (settled (time -ℚ transit) (since transit time l) (sooner transit head_last time h));
     bounded = λ rate l some.
         let k : 0ℚ ≤ℚ rate = ≤ℚ_of_lt _ _ (positive rate some) in
@@ -222,9 +222,6 @@ module _ (transit : ℚ) (capacity : Option ℚ) (amount : ℚ → ℚ) (tail_la
               (lt_or_le_ℚ t (head_last -ℚ transit));
         };
   }
-    where
-      before : (s t r : ℚ) → s ≤ℚ t → t <ℚ r → s <ℚ r
-      before s t r h l = linear_lt (s ∷ t ∷ r ∷ []) (le h ∷ lt l ∷ []) (search reading_of depth 12) tt
 
   pub left-queue : (time : ℚ) → 0ℚ ≤ℚ time → IsOutflow transit capacity entered time (left time)
   left-queue time n = ⊎_elim

@@ -2,14 +2,15 @@
 -- of the phase's thin flow: it is still a thin flow at the beginning of the interval, and slopes are unique. So the labels do so in the
 -- whole phase, and in one phase after the other.
 use Rattle.std.proofs.Common.{◌≡◌, ℕ, zero, suc, ◌<◌, List, [], ◌∷◌, length, Some, slice_get, ⊎_elim, Bool, true, false, if◌then◌else◌, sym, ap, subst, refl, ◌∙◌}
+use Rattle.std.proofs.lemmas.Option.{same_Some}
 use Rattle.nf_rational.specs.Rational.{ℚ}
 use Rattle.nf_rational.specs.Operations.{0ℚ, ◌+ℚ◌, ◌-ℚ◌, ◌*ℚ◌}
 use Rattle.nf_rational.specs.Order.{◌≤ℚ◌, ◌<ℚ◌, le_ℚ}
 use Rattle.nf_rational_laws.proofs.Polynomial.{reading_of}
-use Rattle.nf_rational_laws.proofs.Order.{≤ℚ_of_lt, ≤ℚ_of_same, ≤ℚ_antisymm, lt_or_le_ℚ, less_ps, not_both_ℚ}
+use Rattle.nf_rational_laws.proofs.Order.{≤ℚ_of_lt, ≤ℚ_of_same, ≤ℚ_antisymm, lt_or_le_ℚ, less_ps, not_both_ℚ, less_nn}
 use Rattle.nf_rational_laws.proofs.Tests.{le_ℚ_cases}
-use Rattle.nf_rational_laws.proofs.Linear.{le, lt, eq, eq_times, linear_le, linear_lt, linear_eq}
-use Rattle.nf_rational_laws.proofs.Chains.{≤ℚ_refl, ≤ℚ_trans}
+use Rattle.nf_rational_laws.proofs.Linear.{lt, eq, eq_times, linear_lt, linear_eq}
+use Rattle.nf_rational_laws.proofs.Chains.{≤ℚ_refl, ≤ℚ_trans, <ℚ_trans, <_≤_trans}
 use Rattle.nf_model.specs.Entries.{number_at}
 use Rattle.nf_model.specs.Curve.{Within}
 use Rattle.nf_model.specs.Network.{Piece, Network, IsNetwork, IsPiece, hops, rate_at, rate_from}
@@ -17,7 +18,7 @@ use Rattle.nf_model.specs.ThinFlow.{slacks_of, sets_at, IsThinFlow}
 use Rattle.nf_model.specs.Phases.{AreStartLabels, Lasts, moved, IsPhase, PhasesFrom, IsPhaseSequence}
 use Rattle.nf_model.specs.Equilibrium.{Flow, label, inflow, points_at, Equilibrium}
 use Rattle.nf_model_laws.specs.Affine.{IsAffine}
-use Rattle.nf_model_laws.proofs.Affine.{<_≤_trans, same_from_times}
+use Rattle.nf_model_laws.proofs.Affine.{same_from_times}
 use Rattle.nf_model_laws.proofs.OneValue.{IsLeastTransit-unique}
 use Rattle.nf_model_laws.proofs.Slacks.{moved-at, length-moved}
 use Rattle.nf_curve_laws.proofs.Turning.{affine_between}
@@ -62,31 +63,25 @@ rate-stays (p ∷ rest) before t u h none = ⊎_elim
 
 -- ---- over plain numbers: x and y are values of lines, k and m slopes
 one_slope : (x y k m t a : ℚ) → x ≡ y +ℚ k *ℚ (t -ℚ a) → x ≡ y +ℚ m *ℚ (t -ℚ a) → (t -ℚ a) *ℚ k ≡ (t -ℚ a) *ℚ m
-one_slope x y k m t a e f = linear_eq (x ∷ y ∷ k ∷ m ∷ t ∷ a ∷ []) (eq e ∷ eq f ∷ []) (search reading_of depth 12) tt tt
+one_slope x y k m t a e f = linear_eq (x ∷ y ∷ k ∷ m ∷ t ∷ a ∷ []) (eq e ∷ eq f ∷ []) (search reading_of) tt tt
 
 farther : (x y z k m t a b : ℚ) → x ≡ y +ℚ k *ℚ (b -ℚ a) → k ≡ m → y ≡ z +ℚ (a -ℚ t) *ℚ m → x ≡ z +ℚ (b -ℚ t) *ℚ m
-farther x y z k m t a b e f g = linear_eq (x ∷ y ∷ z ∷ k ∷ m ∷ t ∷ a ∷ b ∷ []) (eq e ∷ eq_times (b -ℚ a) f ∷ eq g ∷ []) (search reading_of depth 12) tt tt
+farther x y z k m t a b e f g = linear_eq (x ∷ y ∷ z ∷ k ∷ m ∷ t ∷ a ∷ b ∷ []) (eq e ∷ eq_times (b -ℚ a) f ∷ eq g ∷ []) (search reading_of) tt tt
 
 not_yet : (x z m t : ℚ) → x ≡ z → x ≡ z +ℚ (t -ℚ t) *ℚ m
-not_yet x z m t e = linear_eq (x ∷ z ∷ m ∷ t ∷ []) (eq e ∷ []) (search reading_of depth 12) tt tt
-
-since : (t u : ℚ) → t ≤ℚ u → 0ℚ ≤ℚ u -ℚ t
-since t u h = linear_le (t ∷ u ∷ []) (le h ∷ []) (search reading_of depth 12) tt
+not_yet x z m t e = linear_eq (x ∷ z ∷ m ∷ t ∷ []) (eq e ∷ []) (search reading_of) tt tt
 
 within_length : (t u l : ℚ) → u <ℚ t +ℚ l → u -ℚ t <ℚ l
-within_length t u l h = linear_lt (t ∷ u ∷ l ∷ []) (lt h ∷ []) (search reading_of depth 12) tt
+within_length t u l h = linear_lt (t ∷ u ∷ l ∷ []) (lt h ∷ []) (search reading_of) tt
 
 whole_length : (t u l : ℚ) → u ≡ t +ℚ l → u -ℚ t ≡ l
-whole_length t u l e = linear_eq (t ∷ u ∷ l ∷ []) (eq e ∷ []) (search reading_of depth 12) tt tt
+whole_length t u l e = linear_eq (t ∷ u ∷ l ∷ []) (eq e ∷ []) (search reading_of) tt tt
 
 -- A phase ends no earlier than it begins.
 phase-later : (net : Network) (horizon : ℚ) (old new : ℚ × List ℚ) → IsPhase net horizon old new → old.0 ≤ℚ new.0
 phase-later net horizon old new phase = ≤ℚ_of_lt _ _ (IsPhase-some net horizon old new phase)
 
 -- ---- entries
-same_Some : (x y : ℚ × List ℚ) → Some x ≡ Some y → x ≡ y
-same_Some x y e = cc
-
 module _ (net : Network) (good : IsNetwork net) (flow : Flow) (is : Equilibrium net flow) (horizon : ℚ) where
   -- ---- one phase
   module _ (old new : ℚ × List ℚ) (phase : IsPhase net horizon old new) (begins : 0ℚ ≤ℚ old.0) (count : length old.1 ≡ net.nodes) (same : LabelsAre net (label flow) old.0 old.1) where
@@ -121,7 +116,7 @@ module _ (net : Network) (good : IsNetwork net) (flow : Flow) (is : Equilibrium 
 
       still_thin : IsThinFlow net (sets_at net (labels_at a)) (rate_at net a) phase.flows slopes
       still_thin = subst (λ (r : ℚ). IsThinFlow net (sets_at net (labels_at a)) r phase.flows slopes) (sym rate_is)
-          (IsThinFlow-stays net good (rate_at net old.0) old.1 phase.flows slopes phase.thin counts old.0 phase.length (a -ℚ old.0) lasts (since old.0 a from)
+          (IsThinFlow-stays net good (rate_at net old.0) old.1 phase.flows slopes phase.thin counts old.0 phase.length (a -ℚ old.0) lasts (less_nn old.0 a from)
           (within_length old.0 a phase.length (<_≤_trans _ _ _ o in_phase)))
 
       slopes_are : goes.slopes ≡ slopes
@@ -159,14 +154,11 @@ module _ (net : Network) (good : IsNetwork net) (flow : Flow) (is : Equilibrium 
       over_stretch : (a b : ℚ) → 0ℚ ≤ℚ a → a <ℚ b → b ≤ℚ departure → NoneBetween (all_times flow.labels) a b → SameFrom a → SameFrom b
       over_stretch a b _ o l none now from = ⊎_elim
           (λ (k : a <ℚ old.0). ⊎_elim
-          (λ (m : old.0 <ℚ b). same-end old.0 b (≤ℚ_refl old.0) m (in_phase b l) (≤ℚ_trans _ _ _ l described) (λ t x y z. none t x (<_trans a old.0 t k y) z) same-first)
+          (λ (m : old.0 <ℚ b). same-end old.0 b (≤ℚ_refl old.0) m (in_phase b l) (≤ℚ_trans _ _ _ l described) (λ t x y z. none t x (<ℚ_trans a old.0 t k y) z) same-first)
           (λ (m : b ≤ℚ old.0). subst Same (≤ℚ_antisymm _ _ from m) same-first)
           (lt_or_le_ℚ old.0 b))
           (λ (k : old.0 ≤ℚ a). same-end a b k o (in_phase b l) (≤ℚ_trans _ _ _ l described) none (now k))
           (lt_or_le_ℚ a old.0)
-        where
-          <_trans : (x y z : ℚ) → x <ℚ y → y <ℚ z → x <ℚ z
-          <_trans x y z h k = linear_lt (x ∷ y ∷ z ∷ []) (lt h ∷ lt k ∷ []) (search reading_of depth 12) tt
 
       pub phase-labels : LabelsAre net (label flow) departure (moved old.1 phase.slopes (departure -ℚ old.0))
       phase-labels = along_times SameFrom departure (all_times flow.labels) over_stretch (all_times flow.labels) old.0 departure begins w.0 (≤ℚ_refl departure) (λ t x _ _. x) (λ _. same-first) w.0

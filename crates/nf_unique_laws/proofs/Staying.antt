@@ -7,8 +7,9 @@ use Rattle.nf_rational.specs.Operations.{0ℚ, ◌+ℚ◌, ◌-ℚ◌, ◌*ℚ�
 use Rattle.nf_rational.specs.Order.{◌≤ℚ◌, ◌<ℚ◌}
 use Rattle.nf_rational_laws.proofs.Polynomial.{reading_of}
 use Rattle.nf_rational_laws.proofs.Order.{≤ℚ_of_lt, ≤ℚ_antisymm, lt_or_le_ℚ, not_both_ℚ}
-use Rattle.nf_rational_laws.proofs.Linear.{le, lt, eq, le_times, linear_le, linear_lt, linear_false}
+use Rattle.nf_rational_laws.proofs.Linear.{le, lt, eq, le_times, linear_le, linear_false}
 use Rattle.nf_rational_laws.proofs.Chains.{≤ℚ_refl}
+use Rattle.nf_rational_laws.proofs.Facts.{lt_of_gap, below_between, above_between}
 use Rattle.nf_model.specs.Entries.{number_at, Has}
 use Rattle.nf_model.specs.Network.{Link, Network, IsNetwork, IsLink, hops, hop_of}
 use Rattle.nf_model.specs.ThinFlow.{Sets, slack, slacks_of, sets_at, Enters, exit_slope, exit_slope_at, IsThinFlow}
@@ -19,20 +20,17 @@ use Rattle.nf_phase_laws.proofs.Thin.{exit_slope-tail}
 use Rattle.nf_thin_laws.proofs.ActiveLinks.{AreSets-sets_at, HoldNoCycle-sets_at}
 use Rattle.nf_thin_laws.proofs.Flags.{flag, flag-cases}
 use Rattle.nf_thin_laws.proofs.Slopes.{NoneEntersSource-thin}
-use Rattle.nf_unique_laws.proofs.Sides.{below_between, above_between, reset_least, reset_equal}
+use Rattle.nf_unique_laws.proofs.Sides.{reset_least, reset_equal}
 
 -- ---- a slack z, at first 0, that changes at c is w later
 gets_above : (z c d w : ℚ) → w ≡ z +ℚ d *ℚ c → 0ℚ <ℚ w → z ≤ℚ 0ℚ → 0ℚ ≤ℚ d → 0ℚ <ℚ c
 gets_above z c d w e h i j = ⊎_elim
     (λ (k : 0ℚ <ℚ c). k)
-    (λ (k : c ≤ℚ 0ℚ). absurd (linear_false (z ∷ c ∷ d ∷ w ∷ []) (eq e ∷ lt h ∷ le i ∷ le_times j k ∷ []) (search reading_of depth 12) tt))
+    (λ (k : c ≤ℚ 0ℚ). absurd (linear_false (z ∷ c ∷ d ∷ w ∷ []) (eq e ∷ lt h ∷ le i ∷ le_times j k ∷ []) (search reading_of) tt))
     (lt_or_le_ℚ 0ℚ c)
 
 keeps_up : (z l m d w : ℚ) → w ≡ z +ℚ d *ℚ (m -ℚ l) → 0ℚ ≤ℚ z → 0ℚ ≤ℚ d → l ≤ℚ m → 0ℚ ≤ℚ w
-keeps_up z l m d w e i j k = linear_le (z ∷ l ∷ m ∷ d ∷ w ∷ []) (eq e ∷ le i ∷ le_times j k ∷ []) (search reading_of depth 12) tt
-
-faster : (l m : ℚ) → 0ℚ <ℚ m -ℚ l → l <ℚ m
-faster l m h = linear_lt (l ∷ m ∷ []) (lt h ∷ []) (search reading_of depth 12) tt
+keeps_up z l m d w e i j k = linear_le (z ∷ l ∷ m ∷ d ∷ w ∷ []) (eq e ∷ le i ∷ le_times j k ∷ []) (search reading_of) tt
 
 module _ (net : Network) (good : IsNetwork net) (rate : ℚ) (labels flows slopes : List ℚ) (thin : IsThinFlow net (sets_at net labels) rate flows slopes)
     (count : length labels ≡ length slopes) (time whole done : ℚ) (lasts : Lasts net (slacks_of (hops net) labels) slopes time whole) (done_nn : 0ℚ ≤ℚ done) (short : done <ℚ whole) where
@@ -94,7 +92,7 @@ module _ (net : Network) (good : IsNetwork net) (rate : ℚ) (labels flows slope
         (λ (a : (flag after.resetting e ≡ true) × Has after.resetting e). inr (
           a.0,
           b.0,
-          faster (l link) (m link)
+          lt_of_gap (l link) (m link)
               (gets_above (s link) (m link -ℚ l link) done (s' link) moves (slack_of_resetting net later e link p a.1) (not_above b.1) done_nn),
         ))
         (λ (a : (flag after.resetting e ≡ false) × (Has after.resetting e → ⊥)). inl (a.0 ∙ sym b.0))

@@ -1,13 +1,12 @@
 -- Equilibria of networks whose supplies differ only after a departure: up to that departure each is an equilibrium of the other's network.
 use Rattle.std.proofs.Common.{◌≡◌, ℕ, suc, ◌<◌, List, [], ◌∷◌, ◌++◌, sym, ap, subst, refl, ◌∙◌}
 use Rattle.nf_rational.specs.Rational.{ℚ}
-use Rattle.nf_rational.specs.Operations.{0ℚ, ◌+ℚ◌, ◌-ℚ◌, ◌*ℚ◌}
-use Rattle.nf_rational.specs.Order.{◌≤ℚ◌, min_ℚ, max_ℚ}
-use Rattle.nf_rational_laws.proofs.Polynomial.{reading_of}
+use Rattle.nf_rational.specs.Operations.{0ℚ, ◌-ℚ◌}
+use Rattle.nf_rational.specs.Order.{min_ℚ, max_ℚ}
 use Rattle.nf_rational_laws.proofs.Tests.{max0_none}
-use Rattle.nf_rational_laws.proofs.Linear.{le, eq, eq_times, linear_le, linear_eq}
 use Rattle.nf_rational_laws.proofs.Chains.{≤ℚ_refl, ≤ℚ_trans}
 use Rattle.nf_rational_laws.proofs.Extremes.{min_is_left}
+use Rattle.nf_rational_laws.proofs.Facts.{gap_np, term_and_zero, same_terms}
 use Rattle.nf_model.specs.Curve.{Within}
 use Rattle.nf_model.specs.Network.{Link, Piece, Network, IsNetwork, ArePieces, IsLink, time_in, supplied, supply}
 use Rattle.nf_model.specs.Equilibrium.{Flow, Balances, label, inflow, queue, Equilibrium}
@@ -95,25 +94,16 @@ time_in-later : (start : ℚ) (pieces : List Piece) (time : ℚ) → StartFrom p
 time_in-later start [] time h = refl
 time_in-later start (next ∷ rest) time h = ap (λ (t : ℚ). max_ℚ 0ℚ (t -ℚ start)) (min_is_left time next.start (h 0 next refl))
 
-gap_none : (s t : ℚ) → t ≤ℚ s → t -ℚ s ≤ℚ 0ℚ
-gap_none s t h = linear_le (s ∷ t ∷ []) (le h ∷ []) (search reading_of depth 12) tt
-
-nothing_more : (r x y : ℚ) → x ≡ 0ℚ → y ≡ 0ℚ → r *ℚ x +ℚ y ≡ 0ℚ
-nothing_more r x y e f = linear_eq (r ∷ x ∷ y ∷ []) (eq_times r e ∷ eq f ∷ []) (search reading_of depth 12) tt tt
-
 supplied-later : (pieces : List Piece) (time : ℚ) → StartFrom pieces time → supplied pieces time ≡ 0ℚ
 supplied-later [] time h = refl
-supplied-later (p ∷ rest) time h = nothing_more p.rate _ _
-    (time_in-later p.start rest time (rest-from p rest time h) ∙ max0_none _ (gap_none p.start time (h 0 p refl)))
+supplied-later (p ∷ rest) time h = term_and_zero p.rate _ _
+    (time_in-later p.start rest time (rest-from p rest time h) ∙ max0_none _ (gap_np time p.start (h 0 p refl)))
     (supplied-later rest time (rest-from p rest time h))
-
-both_parts : (r a b x y : ℚ) → a ≡ b → x ≡ y → r *ℚ a +ℚ x ≡ r *ℚ b +ℚ y
-both_parts r a b x y e f = linear_eq (r ∷ a ∷ b ∷ x ∷ y ∷ []) (eq_times r e ∷ eq f ∷ []) (search reading_of depth 12) tt tt
 
 supplied-front : (front back others : List Piece) (time : ℚ) → StartFrom back time → StartFrom others time → supplied (front ++ back) time ≡ supplied (front ++ others) time
 supplied-front [] back others time h k = supplied-later back time h ∙ sym (supplied-later others time k)
-supplied-front (p ∷ []) back others time h k = both_parts p.rate _ _ _ _ (time_in-later p.start back time h ∙ sym (time_in-later p.start others time k)) (supplied-front [] back others time h k)
-supplied-front (p ∷ q ∷ front) back others time h k = both_parts p.rate _ _ _ _ refl (supplied-front (q ∷ front) back others time h k)
+supplied-front (p ∷ []) back others time h k = same_terms p.rate _ _ _ _ (time_in-later p.start back time h ∙ sym (time_in-later p.start others time k)) (supplied-front [] back others time h k)
+supplied-front (p ∷ q ∷ front) back others time h k = same_terms p.rate _ _ _ _ refl (supplied-front (q ∷ front) back others time h k)
 
 pub pieces-alike : (front back others : List Piece) (until : ℚ) → StartFrom back until → StartFrom others until → SupplyAlike (front ++ back) (front ++ others) until
 pieces-alike front back others until h k time w = supplied-front front back others time (λ i piece p. ≤ℚ_trans _ _ _ w.1 (h i piece p)) (λ i piece p. ≤ℚ_trans _ _ _ w.1 (k i piece p))

@@ -9,12 +9,12 @@ use Rattle.nf_rational_laws.proofs.Chains.{≤ℚ_refl, ≤ℚ_trans}
 use Rattle.nf_rational_laws.proofs.order_laws.Goals as goal
 
 sums_keep : (x y z : ℚ) → x <ℚ y → x +ℚ z <ℚ y +ℚ z
-sums_keep x y z h = linear_lt (x ∷ y ∷ z ∷ []) (lt h ∷ []) (search reading_of depth 12) tt
+sums_keep x y z h = linear_lt (x ∷ y ∷ z ∷ []) (lt h ∷ []) (search reading_of) tt
 
 products_keep : (x y z : ℚ) → 0ℚ <ℚ z → x <ℚ y → x *ℚ z <ℚ y *ℚ z
 products_keep x y z h k =
     let p : 0ℚ <ℚ (y -ℚ x) *ℚ z = ps_times _ _ (less_ps x y k) h in
-    linear_lt (x ∷ y ∷ z ∷ []) (lt p ∷ []) (search reading_of depth 12) tt
+    linear_lt (x ∷ y ∷ z ∷ []) (lt p ∷ []) (search reading_of) tt
 
 pub returns : goal.returns
 returns c = record {

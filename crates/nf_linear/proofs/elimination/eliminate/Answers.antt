@@ -3,7 +3,7 @@ use Rattle.nf_rational.specs.Rational.{ℚ}
 use Rattle.nf_frac_def.specs.declared.Part.TheVariants as Part
 use Rattle.nf_frac_def.specs.Checked.{at_part}
 use Rattle.nf_model.specs.Entries.{number_at}
-use Rattle.nf_thin_def.specs.Table.{row_at}
+use Rattle.nf_linear_def.specs.Table.{row_at}
 use Rattle.nf_linear.specs.Rows.{meant, some_from}
 use Rattle.nf_linear.proofs.Clearing.{row_got, later_fit, eliminated, within_row}
 use Rattle.nf_linear.proofs.elimination.eliminate.Goals as goal

@@ -1,6 +1,6 @@
 use Rattle.std.proofs.Common.{◌≡◌, ◌<◌, false, length, refl, sym, subst, ◌∙◌}
 use Rattle.std.proofs.Math.Nat.{lt_of_lt_of_le}
-use Rattle.nf_thin_def.specs.Table.{Row, row_at}
+use Rattle.nf_linear_def.specs.Table.{Row, row_at}
 use Rattle.nf_linear.proofs.Clearing.{row_read}
 use Rattle.nf_linear.proofs.Columns.{candidate_read, pivot_here, pivot_later, pivot_nowhere}
 use Rattle.nf_linear.proofs.elimination.pivot_of.Goals as goal

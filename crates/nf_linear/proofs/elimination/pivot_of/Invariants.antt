@@ -1,5 +1,5 @@
 use Rattle.std.proofs.Common.{◌≡◌, ℕ, List, drop}
-use Rattle.nf_thin_def.specs.Table.{pivot_from}
+use Rattle.nf_linear_def.specs.Table.{pivot_from}
 use Rattle.nf_linear.specs.Pivots.{AreTaken}
 use Rattle.nf_linear.proofs.elimination.pivot_of.Given as goal
 

@@ -4,7 +4,7 @@ use Rattle.nf_rational.specs.Operations.{0ℚ}
 use Rattle.nf_frac_def.specs.declared.Part.TheVariants as Part
 use Rattle.nf_frac_def.specs.Passing.{passes_Q}
 use Rattle.nf_frac_def.specs.Checked.{at_part}
-use Rattle.nf_thin_def.specs.Table.{Row, table_list}
+use Rattle.nf_linear_def.specs.Table.{Row, table_list}
 use Rattle.nf_linear.specs.Grids.{IsTrueWith}
 use Rattle.nf_linear.proofs.Written.{seen_long, zero_seen, zeros_square, still_long}
 use Rattle.nf_linear.proofs.grid.solve_grid.Goals as goal

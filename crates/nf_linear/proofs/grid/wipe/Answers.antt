@@ -2,7 +2,7 @@ use Rattle.std.proofs.Common.{ℕ, ◌+◌, ◌<◌, List, [], ◌∷◌, ◌++�
 use Rattle.std.proofs.lemmas.List.{take_more_set}
 use borrow.Author.Rules.{scaled_Fits}
 use Rattle.nf_rational.specs.Operations.{0ℚ}
-use Rattle.nf_thin_def.specs.Table.{Row}
+use Rattle.nf_linear_def.specs.Table.{Row}
 use Rattle.nf_linear.proofs.Grids.{all_copies}
 use Rattle.nf_linear.proofs.Taken.{replicate_more}
 use Rattle.nf_linear.proofs.grid.wipe.Goals as goal

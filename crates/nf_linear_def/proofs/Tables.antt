@@ -8,8 +8,8 @@ use Rattle.nf_frac_def.specs.Passing.{beyond, bound_of}
 use Rattle.nf_frac_def.specs.Checked.{Checked, checked}
 use Rattle.nf_frac_def.specs.declared.Op.{Op}
 use Rattle.nf_frac_def.specs.declared.Op.TheVariants.{Quotient}
-use Rattle.nf_thin_def.proofs.Examples.{n, in_127_bits, Parts, parts_of}
-use Rattle.nf_thin_def.specs.Table.{Row, table_list}
+use Rattle.nf_frac_def.proofs.Examples.{n, in_127_bits, Parts, parts_of}
+use Rattle.nf_linear_def.specs.Table.{Row, table_list}
 
 abbrev parts_in : Option (List ℚ) → Option (List Parts)
 parts_in None = None
