@@ -1,5 +1,6 @@
 pub mod Flags
 pub mod Walks
+pub mod Entries
 pub mod Reaching
 pub mod Cycles
 pub mod Orders
