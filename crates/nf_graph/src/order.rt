@@ -4,7 +4,7 @@ ghost use Rattle.nf_rational.specs.Operations.{0ℚ};
 ghost use Rattle.nf_frac.specs.Order.{same_ℚ};
 ghost use Rattle.nf_model.specs.Entries.{Has};
 ghost use Rattle.nf_graph.specs.Graph.{AreBelow};
-ghost use Rattle.nf_graph.specs.Order.{IsOrder, IsChosenCycle, IsZeroCycle, Enters, IsReady, IsStuck, Turns};
+ghost use Rattle.nf_graph.specs.Order.{IsOrder, IsChosenCycle, IsZeroCycle, Enters, NoneEnters, IsFirstEntering, AreSearched, IsReady, IsStuck, Turns};
 ghost use Rattle.nf_graph.specs.Found.{IsFound};
 
 use crate::ids::{Hop, LinkId, NodeId};
@@ -21,15 +21,24 @@ fn leads_in(hop: &Hop, placed: &[bool], node: NodeId) -> bool
     hop.head == node && !placed[tail.index()]
 }
 
-// Returns whether this link is chosen and leads to this node from one that is not placed.
-fn entering(hops: &[Hop], chosen: &[bool], placed: &[bool], node: NodeId) -> Option<LinkId>
+// Returns the first link from number `start` on that is chosen and leads to this node from one that is not placed. Returns None if
+// there is none.
+fn entering_from(
+    hops: &[Hop],
+    chosen: &[bool],
+    placed: &[bool],
+    node: NodeId,
+    start: usize,
+) -> Option<LinkId>
     requires ends { AreBelow (length placed.now) hops.now }
     requires count { length chosen.now ≡ length hops.now }
     requires fewer { length hops.now < 2 ^ 32 }
-    ensures { MatchOption result ((e : ℕ) → Enters hops.now chosen.now placed.now e node → ⊥)
-        (λ e. Enters hops.now chosen.now placed.now e node) }
+    requires before { NoneEnters hops.now chosen.now placed.now node start }
+    ensures { MatchOption result (NoneEnters hops.now chosen.now placed.now node (length hops.now))
+        (λ e. IsFirstEntering hops.now chosen.now placed.now node e) }
 {
-    for (e, hop) in hops.iter().enumerate() {
+    for e in start..hops.len() {
+        let hop = &hops[e];
         if chosen[e] {
             if leads_in(hop, placed, node) {
                 return Some(LinkId(e as u32));
@@ -39,34 +48,55 @@ fn entering(hops: &[Hop], chosen: &[bool], placed: &[bool], node: NodeId) -> Opt
     None
 }
 
-// The node is not placed, and no chosen link leads into it from one that is not placed.
-fn is_ready(hops: &[Hop], chosen: &[bool], placed: &[bool], node: NodeId) -> bool
+// Returns whether the node is not placed, and no chosen link leads to it from one that is not placed. The links before number
+// `searched` do not; the number rises to the first link that does.
+fn is_ready(
+    hops: &[Hop],
+    chosen: &[bool],
+    placed: &[bool],
+    node: NodeId,
+    searched: &mut usize,
+) -> bool
     requires ends { AreBelow (length placed.now) hops.now }
     requires count { length chosen.now ≡ length hops.now }
     requires fewer { length hops.now < 2 ^ 32 }
     requires below { node < length placed.now }
-    ensures { MatchBool result (IsReady hops.now chosen.now placed.now node)
+    requires searched { NoneEnters hops.now chosen.now placed.now node searched.old }
+    ensures ready { MatchBool result (IsReady hops.now chosen.now placed.now node)
         ((Has placed.now node → ⊥) → (e : ℕ) × Enters hops.now chosen.now placed.now e node) }
+    ensures searched { NoneEnters hops.now chosen.now placed.now node searched.new }
 {
     if placed[node.index()] {
         return false;
     }
-    entering(hops, chosen, placed, node).is_none()
+    match entering_from(hops, chosen, placed, node, *searched) {
+        None => true,
+        Some(link) => {
+            *searched = link.index();
+            false
+        }
+    }
 }
 
-// A node that may be placed next.
-fn next_ready(hops: &[Hop], chosen: &[bool], placed: &[bool]) -> Option<NodeId>
+// Returns a node that may be placed next. Returns None if there is none. No link before the number searched of a node enters it.
+fn next_ready(
+    hops: &[Hop],
+    chosen: &[bool],
+    placed: &[bool],
+    searched: &mut [usize],
+) -> Option<NodeId>
     requires ends { AreBelow (length placed.now) hops.now }
     requires count { length chosen.now ≡ length hops.now }
     requires fewer { length hops.now < 2 ^ 32 }
     requires nodes { length placed.now < 2 ^ 32 }
-    ensures { MatchOption result (IsStuck hops.now chosen.now placed.now)
+    requires searched { AreSearched hops.now chosen.now placed.now searched.old }
+    ensures ready { MatchOption result (IsStuck hops.now chosen.now placed.now)
         (λ v. IsReady hops.now chosen.now placed.now v) }
+    ensures searched { AreSearched hops.now chosen.now placed.now searched.new }
 {
     for v in 0..placed.len() {
-        let node = NodeId(v as u32);
-        if is_ready(hops, chosen, placed, node) {
-            return Some(node);
+        if is_ready(hops, chosen, placed, NodeId(v as u32), &mut searched[v]) {
+            return Some(NodeId(v as u32));
         }
     }
     None
@@ -121,7 +151,7 @@ fn entering_link(hops: &[Hop], chosen: &[bool], placed: &[bool], node: NodeId) -
     requires some { (e : ℕ) × Enters hops.now chosen.now placed.now e node }
     ensures { Enters hops.now chosen.now placed.now result node }
 {
-    match entering(hops, chosen, placed, node) {
+    match entering_from(hops, chosen, placed, node, 0) {
         Some(link) => link,
         None => unreachable!(),
     }
@@ -178,8 +208,9 @@ fn order_or_cycle(
     ensures { IfOk result (λ found. IsFound nodes hops.now chosen.now found) }
 {
     let mut placed = vec![in alloc; false; nodes as usize]?;
+    let mut searched = vec![in alloc; 0; nodes as usize]?;
     let mut order = Vec::new(alloc);
-    while let Some(node) = next_ready(hops, chosen, &placed) {
+    while let Some(node) = next_ready(hops, chosen, &placed, &mut searched) {
         placed[node.index()] = true;
         order.push(node)?;
     }
