@@ -56,9 +56,11 @@ offered_less : (offers : List (Option ℚ)) (v : ℕ) (known : Option ℚ) (sum 
     → (best : ℚ) × HasSum (set offers v (Some (lesser_offer known sum))) w best × (best ≤ℚ q)
 offered_less offers v known sum w q k h = ⊎_elim
     (λ (e : (eqb w v ≡ true) × (w ≡ v)).
-    let same : known ≡ Some q = cc in
-    (lesser_offer known sum, subst (λ (n : ℕ). HasSum (set offers v (Some (lesser_offer known sum))) n (lesser_offer known sum)) (sym e.1) (set_same offers v _ (slice_get_within offers v known k)),
-    subst (λ (o : Option ℚ). lesser_offer o sum ≤ℚ q) (sym same) (min_left q sum)))
+    let same : known ≡ Some q = cc in (
+      lesser_offer known sum,
+      subst (λ (n : ℕ). HasSum (set offers v (Some (lesser_offer known sum))) n (lesser_offer known sum)) (sym e.1) (set_same offers v _ (slice_get_within offers v known k)),
+      subst (λ (o : Option ℚ). lesser_offer o sum ≤ℚ q) (sym same) (min_left q sum),
+    ))
     (λ (e : (eqb w v ≡ false) × (w ≢ v)). (q, set_apart offers v w _ _ e.1 h, ≤ℚ_of_same q q refl))
     (eqb_tells w v)
 
@@ -106,9 +108,11 @@ module _ (hops : List Hop) (sums : List (Option ℚ)) (e : ℕ) (hop : Hop) (p :
         (λ (w : (x.number ≡ e) × (x.hop ≡ hop)).
         let v_is : hop.head ≡ v = ap (λ (y : Hop). y.head) (sym w.1) ∙ x.head in
         let before_is : x.before ≡ step.sum = HasSum-unique sums hop.tail x.before step.sum (subst (λ (y : Hop). HasSum sums y.tail x.before) w.1 x.tail) here in
-        let q_is : q ≡ sum = x.is_sum ∙ ap (λ (y : Hop). x.before +ℚ y.transit) w.1 ∙ ap (λ (y : ℚ). y +ℚ hop.transit) before_is in
-        (lesser_offer known sum, subst (λ (n : ℕ). HasSum (set before hop.head (Some (lesser_offer known sum))) n (lesser_offer known sum)) v_is (set_same before hop.head _ (slice_get_within before hop.head known k)),
-        subst (λ (y : ℚ). lesser_offer known sum ≤ℚ y) (sym q_is) (lesser_at_most_sum known sum)))
+        let q_is : q ≡ sum = x.is_sum ∙ ap (λ (y : Hop). x.before +ℚ y.transit) w.1 ∙ ap (λ (y : ℚ). y +ℚ hop.transit) before_is in (
+          lesser_offer known sum,
+          subst (λ (n : ℕ). HasSum (set before hop.head (Some (lesser_offer known sum))) n (lesser_offer known sum)) v_is (set_same before hop.head _ (slice_get_within before hop.head known k)),
+          subst (λ (y : ℚ). lesser_offer known sum ≤ℚ y) (sym q_is) (lesser_at_most_sum known sum),
+        ))
         (counted x.number x.hop x.is_hop c);
     fits = λ n other q r s c. ⊎_elim
         (λ (w : LinksBefore step.node e n other). h.fits n other q r s w)

@@ -1,12 +1,10 @@
 -- Numbers up to which the links that enter a node were searched.
-use Rattle.std.proofs.Common.{◌≡◌, ◌≢◌, ℕ, zero, suc, ◌+◌, ◌<◌, ◌≤◌, List, length, set, replicate, true, false, not, Bool, Option, Some, None, MatchBool, slice_get, ◌⊎◌, ⊎_elim, eqb, sym, subst, refl, ◌∙◌, ap, arith}
-use Rattle.std.specs.Prelude.{MatchOption}
+use Rattle.std.proofs.Common.{◌≡◌, ◌≢◌, ℕ, zero, suc, ◌+◌, ◌<◌, ◌≤◌, List, length, set, replicate, true, false, Bool, Some, slice_get, ⊎_elim, eqb, sym, subst, ◌∙◌, arith}
 use Rattle.std.proofs.Math.ListN.{length-set}
 use Rattle.std.proofs.lemmas.Option.{slice_get_within}
 use Rattle.std.proofs.lemmas.Bool.Decides.{eqb_tells}
-use Rattle.nf_model.specs.Entries.{Has}
 use Rattle.nf_model.specs.Walk.{Hop}
-use Rattle.nf_graph.specs.Order.{Enters, NoneEnters, AreSearched, IsReady}
+use Rattle.nf_graph.specs.Order.{Enters, NoneEnters, AreSearched}
 use Rattle.nf_graph.proofs.Flags.{Has-set_other}
 use Rattle.nf_graph.proofs.Entries.{set_cases}
 

@@ -1,5 +1,5 @@
 -- Nodes settled one by one, each with its least transit sum.
-use Rattle.std.proofs.Common.{◌≡◌, ℕ, zero, suc, ◌<◌, List, [], ◌∷◌, ◌++◌, length, set, replicate, Option, Some, None, slice_get, ◌⊎◌, inl, inr, ⊎_elim, sym, subst, refl, ◌∙◌, ap, arith}
+use Rattle.std.proofs.Common.{◌≡◌, ℕ, ◌<◌, List, [], ◌∷◌, ◌++◌, length, set, replicate, Option, Some, None, slice_get, ◌⊎◌, ⊎_elim, sym, subst, refl, ◌∙◌, ap}
 use Rattle.std.proofs.Math.ListN.{length-set}
 use Rattle.std.proofs.lemmas.List.{length-replicate}
 use Rattle.nf_rational.specs.Rational.{ℚ}

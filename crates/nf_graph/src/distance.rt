@@ -10,8 +10,8 @@ use nf_frac::Q;
 use std::alloc::{AllocError, AllocFailed, Global};
 use std::cmp::Ordering;
 
-/// Why least transit sums were refused: a sum passed, that of the least transit sum of a link's tail (`left`) and the link's
-/// transit time (`right`); or memory was wanting.
+/// Why least transit sums were refused: the sum of the least transit sum of a link's tail (`left`) and the link's transit time
+/// (`right`) passed, or an allocation failed.
 #[derive(Clone, Copy)]
 pub enum DistanceFault {
     Passed { link: LinkId, left: Q, right: Q },
@@ -161,9 +161,9 @@ fn nearest(sums: &[Option<Q>], offers: &[Option<Q>]) -> Option<Step>
     best
 }
 
-/// Of each node, the least transit sum over the walks from this node to it; None exactly where no walk leads there. No transit
-/// time may be negative. Passed comes exactly where, for some link whose tail's least sum is a fraction that fits, the sum of
-/// that least sum and the link's transit time passes; such a link is kept.
+/// Returns for each node the least transit sum over the walks from `from` to it, or None exactly if no walk leads there. No transit
+/// time may be negative. Fails with `Passed` exactly if, for some link whose tail's least sum is a fraction that fits, the sum of
+/// that least sum and the link's transit time passes, and names such a link. Fails with `Memory` if an allocation fails.
 pub fn distances(
     alloc: Global,
     nodes: u32,

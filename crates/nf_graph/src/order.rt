@@ -11,7 +11,7 @@ use crate::ids::{Hop, LinkId, NodeId};
 use nf_frac::Q;
 use std::alloc::{AllocError, Global};
 
-// The hop leads into this node from one without a flag.
+// Returns whether the hop leads to this node from one that is not placed.
 fn leads_in(hop: &Hop, placed: &[bool], node: NodeId) -> bool
     requires { hop.now.tail < length placed.now }
     ensures { MatchBool result ((hop.now.head ≡ node) × (Has placed.now hop.now.tail → ⊥))
@@ -102,7 +102,7 @@ fn next_ready(
     None
 }
 
-// A node that is not placed.
+// Returns a node that is not placed. Returns None if there is none.
 fn unplaced(placed: &[bool]) -> Option<NodeId>
     requires { length placed.now < 2 ^ 32 }
     ensures { MatchOption result ((v : ℕ) → v < length placed.now → Has placed.now v)
@@ -116,7 +116,7 @@ fn unplaced(placed: &[bool]) -> Option<NodeId>
     None
 }
 
-// How many links of a walk come up to the first one that leads to this node, and with it.
+// Returns how many links the walk has up to and including the first one that leads to this node. Returns None if none does.
 fn turn(hops: &[Hop], walk: &[LinkId], node: NodeId) -> Option<usize>
     requires { (i e : ℕ) → slice_get walk.now i ≡ Some e → e < length hops.now }
     ensures { MatchOption result ((count : ℕ) → Turns hops.now walk.now node count → ⊥)
@@ -131,7 +131,7 @@ fn turn(hops: &[Hop], walk: &[LinkId], node: NodeId) -> Option<usize>
     None
 }
 
-// The same, where there is such a node.
+// Returns the same for a walk with such a link.
 fn turn_back(hops: &[Hop], walk: &[LinkId], node: NodeId) -> usize
     requires within { (i e : ℕ) → slice_get walk.now i ≡ Some e → e < length hops.now }
     requires turns { (count : ℕ) × Turns hops.now walk.now node count }
@@ -143,7 +143,7 @@ fn turn_back(hops: &[Hop], walk: &[LinkId], node: NodeId) -> usize
     }
 }
 
-// A chosen link into this node from one that is not placed, where there is one.
+// Returns a chosen link to this node from one that is not placed. There must be one.
 fn entering_link(hops: &[Hop], chosen: &[bool], placed: &[bool], node: NodeId) -> LinkId
     requires ends { AreBelow (length placed.now) hops.now }
     requires count { length chosen.now ≡ length hops.now }
@@ -157,8 +157,8 @@ fn entering_link(hops: &[Hop], chosen: &[bool], placed: &[bool], node: NodeId) -
     }
 }
 
-// A cycle along chosen links, where each node that is not placed is entered: one goes back from a node until one comes to a
-// node for the second time.
+// Returns a cycle along chosen links. A chosen link must enter each node that is not placed, from another such node. The walk
+// goes back from the start until it comes to a node for the second time. Fails if an allocation fails.
 fn cycle_back(
     alloc: Global,
     hops: &[Hop],
@@ -195,7 +195,8 @@ enum OrderOrCycle {
     Cycle(Vec<LinkId>),
 }
 
-// An order of the nodes in which every chosen link leads to a later one, or a cycle along chosen links.
+// Returns an order of the nodes in which every chosen link leads to a later one, or a cycle along chosen links. Fails if an
+// allocation fails.
 fn order_or_cycle(
     alloc: Global,
     nodes: u32,
@@ -223,8 +224,8 @@ fn order_or_cycle(
     }
 }
 
-/// All nodes, each once, in an order in which every chosen link leads to a later one. None exactly where the chosen links hold
-/// a cycle. There is one flag for each link.
+/// Returns all nodes, each once, in an order in which every chosen link leads to a later one. Returns None exactly if the chosen
+/// links hold a cycle. There is one flag for each link. Fails if an allocation fails.
 pub fn topological(
     alloc: Global,
     nodes: u32,
@@ -243,7 +244,7 @@ pub fn topological(
     }
 }
 
-// Of each link, whether its transit time is 0.
+// Returns for each link whether its transit time is 0. Fails if an allocation fails.
 fn zero_links(alloc: Global, hops: &[Hop]) -> Result<Vec<bool>, AllocError>
     ensures { IfOk result (λ flags. flags.items ≡ map (λ hop. same_ℚ hop.transit 0ℚ) hops.now) }
 {
@@ -252,8 +253,8 @@ fn zero_links(alloc: Global, hops: &[Hop]) -> Result<Vec<bool>, AllocError>
         .collect(alloc)
 }
 
-/// A closed walk of at least one link, each of zero transit time. None exactly where there is none. Where no transit time is
-/// negative, these are the closed walks that take no time.
+/// Returns a closed walk of at least one link, each of zero transit time. Returns None exactly if there is none. If no transit
+/// time is negative, these are the closed walks that take no time. Fails if an allocation fails.
 pub fn zero_cycle(
     alloc: Global,
     nodes: u32,

@@ -1,9 +1,7 @@
-use Rattle.std.proofs.Common.{◌≡◌, ◌<◌, ℕ, length, slice_get, Some, Option, ap, sym, subst, refl, ◌∙◌}
+use Rattle.std.proofs.Common.{◌∙◌}
 use Rattle.std.proofs.lemmas.Result.{err_from_is_err_and}
-use Rattle.nf_rational.specs.Rational.{ℚ}
 use Rattle.nf_model.specs.Walk.{Hop, IsHop}
-use Rattle.nf_graph.specs.Steps.{PassesFrom}
-use Rattle.nf_graph.proofs.Walks.{IsHop-unique, same_from_test, apart_from_test}
+use Rattle.nf_graph.proofs.Walks.{same_from_test, apart_from_test}
 use Rattle.nf_graph.proofs.Offering.{IsHop-read_at, passes_from, offered_along, offered_past}
 use Rattle.nf_graph.proofs.distance.offer_along.Goals as goal
 use Rattle.nf_graph.proofs.distance.offer_along.Goals.{then-eq+in_ok-sum, else-eq}

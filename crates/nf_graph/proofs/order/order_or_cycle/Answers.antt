@@ -32,7 +32,7 @@ pub loop-node-preserved : goal.loop-node-preserved
 loop-node-preserved c =
     let ready : IsReady c.args.hops.now c.args.chosen.now c.loop-node.placed.items c.in-Some.node = subst (λ (f : List Bool). IsReady c.args.hops.now c.args.chosen.now f c.in-Some.node) c.deref.ensures.value c.in-Some.ensures.ready in
     let searched : AreSearched c.args.hops.now c.args.chosen.now c.loop-node.placed.items c.next_ready.new.searched =
-        subst (λ (f : List Bool). AreSearched c.args.hops.now c.args.chosen.now f c.next_ready.new.searched) c.deref.ensures.value c.in-Some.ensures.searched in
+    subst (λ (f : List Bool). AreSearched c.args.hops.now c.args.chosen.now f c.next_ready.new.searched) c.deref.ensures.value c.in-Some.ensures.searched in
     record {
       placed = subst (λ (order : List ℕ). ArePlaced c.args.nodes c.args.hops.now c.args.chosen.now (set c.loop-node.placed.items c.index.result true) order) (sym c.in_ok-push.ensures.items)
           (placed_next c.args.nodes c.args.hops.now c.args.chosen.now c.loop-node.placed.items c.loop-node.order.items c.in-Some.node c.index.result c.requires.ends c.index.ensures ready c.loop-node.invariant.placed);
