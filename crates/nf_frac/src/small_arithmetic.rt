@@ -13,7 +13,7 @@ use crate::small::Small;
 use crate::whole::shortened;
 
 impl Small {
-    // The sum, over the least common denominator.
+    // Returns the sum, over the least common denominator.
     pub(crate) fn plus(self, right: Small) -> Lowest
         ensures { result ≡ self +ℚ right }
     {
@@ -33,7 +33,7 @@ impl Small {
         )
     }
 
-    // The sum of two numbers with equal denominators.
+    // Returns the sum of two numbers with equal denominators.
     fn level_plus(self, right: Small) -> Lowest
         requires { self.den ≡ right.den }
         ensures { result ≡ self +ℚ right }
@@ -42,7 +42,7 @@ impl Small {
         Lowest::over(wide_sum(self.numer(), right.numer()), den, den)
     }
 
-    // The product: each numerator is reduced with the other denominator before the multiplication.
+    // Returns the product: each numerator is reduced with the other denominator before the multiplication.
     pub(crate) fn multiplied(self, right: Small) -> Lowest
         ensures { result ≡ self *ℚ right }
     {
