@@ -22,13 +22,21 @@ impl Small {
         if den == right_den {
             return self.level_plus(right);
         }
+        let num = self.numer();
+        let right_num = right.numer();
+        if num == 0 {
+            return right.lowest();
+        }
+        if right_num == 0 {
+            return self.lowest();
+        }
         let common = common_factor(den, right_den);
         let left_factor = divided_short(right_den, common);
         let right_factor = divided_short(den, common);
-        let num = times(self.numer(), left_factor) + times(right.numer(), right_factor);
-        let rest = rest_factor(num.unsigned_abs(), common);
+        let total = times(num, left_factor) + times(right_num, right_factor);
+        let rest = rest_factor(total.unsigned_abs(), common);
         Lowest::of(
-            shortened(num, rest as u128),
+            shortened(total, rest as u128),
             widened(divided_short(den, rest), left_factor),
         )
     }
