@@ -61,11 +61,7 @@ pub(crate) fn gcd_short(a: u64, b: u64) -> u64
         return a;
     }
     let rest = a % b;
-    if rest == 0 {
-        b
-    } else {
-        gcd_halving(b, rest)
-    }
+    if rest == 0 { b } else { gcd_halving(b, rest) }
 }
 
 // Returns the greatest common divisor of two numbers of any length. It continues in 64 bits once both numbers fit them.
