@@ -6,8 +6,8 @@ ghost use Rattle.nf_frac.specs.Short.{short};
 
 use crate::whole::gcd_short;
 
-// The greatest number of 63 bits.
-const SHORT: u64 = 0x7fff_ffff_ffff_ffff;
+// The greatest part of a small number.
+pub(crate) const SHORT: u64 = 0x7fff_ffff_ffff_ffff;
 
 /// Returns the greatest common divisor. No division is needed if b is 1 or both numbers are equal.
 pub(crate) fn common_factor(a: u64, b: u64) -> u64

@@ -9,13 +9,12 @@ ghost use Rattle.nf_frac.specs.Short.{short, IsShort};
 ghost use Rattle.nf_frac.specs.Order.{same_ℚ};
 
 use crate::lowest::Lowest;
-use crate::short::{common_factor, signed_short, times};
-use crate::whole::SHORT;
+use crate::short::{SHORT, common_factor, signed_short, times};
 use std::cmp::Ordering;
 use std::marker::Model;
 
 // The greatest numerator of a small number.
-const GREATEST_NUMERATOR: i128 = 0x7fff_ffff_ffff_ffff;
+const GREATEST_NUMERATOR: i128 = SHORT as i128;
 
 /// A small number: a rational number whose numerator and denominator, in lowest terms, are at most 2^63 - 1 in magnitude.
 #[derive(Clone, Copy)]
@@ -48,7 +47,7 @@ impl Lowest {
     {
         let num = self.numer();
         let den = self.denom();
-        if -GREATEST_NUMERATOR <= num && num <= GREATEST_NUMERATOR && den <= SHORT {
+        if -GREATEST_NUMERATOR <= num && num <= GREATEST_NUMERATOR && den <= SHORT as u128 {
             Some(Small::of(num as i64, den as u64))
         } else {
             None

@@ -6,10 +6,11 @@ ghost use mir.Syntax.{w64};
 ghost use Rattle.nf_rational.specs.Gcd.{gcd};
 ghost use Rattle.nf_frac.specs.Parts.{greatest, signed};
 
+use crate::short;
 use std::cmp::Ordering;
 
-/// The greatest number of 63 bits.
-pub(crate) const SHORT: u128 = 0x7fff_ffff_ffff_ffff;
+// The greatest number of 63 bits.
+const SHORT: u128 = short::SHORT as u128;
 
 // The greatest number of 64 bits.
 const WORD: u128 = 0xffff_ffff_ffff_ffff;
