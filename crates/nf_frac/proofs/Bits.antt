@@ -12,6 +12,7 @@ use Rattle.nf_rational.specs.Gcd.{gcd}
 use Rattle.nf_rational.specs.Rational.{gcd_pos}
 use Rattle.nf_rational_laws.proofs.Lowest.{gcd-le}
 use Rattle.nf_frac.specs.Parts.{greatest}
+use Rattle.nf_frac.specs.Short.{short}
 
 abbrev pub bits_of : ℤ → ℤ
 bits_of z = to_z w128 (of_z w128 z)
@@ -24,10 +25,10 @@ pub plain : (z : ℤ) → nat_abs z ≤ greatest → bits_of z ≡ z
 plain z h = to_z-of_z (fits_128 z h)
 
 -- the product of two short numbers
-pub short_product : (a b : ℤ) → nat_abs a ≤ 9223372036854775807 → nat_abs b ≤ 9223372036854775807 → nat_abs (a *ℤ b) ≤ greatest
-short_product a b h k = omega (arith, abs-product a b, mul-le (nat_abs a) (nat_abs b) 9223372036854775807 9223372036854775807 h k)
+pub short_product : (a b : ℤ) → nat_abs a ≤ short → nat_abs b ≤ short → nat_abs (a *ℤ b) ≤ greatest
+short_product a b h k = omega (arith, abs-product a b, mul-le (nat_abs a) (nat_abs b) short short h k)
 
-pub short_times : (a b : ℤ) → SFits w128 a → SFits w128 b → nat_abs a ≤ 9223372036854775807 → nat_abs b ≤ 9223372036854775807 → bits_of (bits_of a *ℤ bits_of b) ≡ a *ℤ b
+pub short_times : (a b : ℤ) → SFits w128 a → SFits w128 b → nat_abs a ≤ short → nat_abs b ≤ short → bits_of (bits_of a *ℤ bits_of b) ≡ a *ℤ b
 short_times a b f g h k = ap₂ (λ (x y : ℤ). bits_of (x *ℤ y)) (to_z-of_z f) (to_z-of_z g) ∙ plain (a *ℤ b) (short_product a b h k)
 
 -- a product or a sum of cast numbers fits if its magnitude does

@@ -122,18 +122,12 @@ pub shifted_back : (a b t m z : ℕ) → m ≡ t → 2 ^ t * z ≡ gcd a b → 0
 shifted_back a b t m z n e some fits =
     ap (λ (k : ℕ). k % 18446744073709551616) (ap (λ (k : ℕ). z * 2 ^ k) n ∙ mul_comm z (2 ^ t) ∙ e) ∙ mod-eq_of_lt (omega (arith, gcd-le a b some, fits))
 
--- ---- the cases that both numbers are equal, and that one is 0
+-- ---- the cases that both numbers are equal, and that one is 0 or divides the other
 pub same_number : (a b x y : ℕ) → x ≡ y → ((g : ℕ) → IsGcd x y g → IsGcd a b g) → x ≡ gcd a b
 same_number a b x y e f = same_from_IsGcd a b _ _ (f x (subst (λ (m : ℕ). IsGcd x m x) e (dvd_refl x, dvd_refl x, λ d u v. u))) (IsGcd-gcd a b)
 
-pub gcd_left_zero : (a b : ℕ) → a ≡ 0 → b ≡ gcd a b
-gcd_left_zero a b e = same_from_IsGcd a b _ _ (IsGcd-swap b a b (IsGcd-from_zero b a e)) (IsGcd-gcd a b)
-
 pub gcd_right_zero : (a b : ℕ) → b ≡ 0 → a ≡ gcd a b
 gcd_right_zero a b e = same_from_IsGcd a b _ _ (IsGcd-from_zero a b e) (IsGcd-gcd a b)
-
-pub found : (a b less rest : ℕ) → rest ≡ 0 → ((g : ℕ) → IsGcd less rest g → IsGcd a b g) → less ≡ gcd a b
-found a b less rest e f = same_from_IsGcd a b _ _ (f less (IsGcd-from_zero less rest e)) (IsGcd-gcd a b)
 
 pub gcd_divides : (a b : ℕ) → a % b ≡ 0 → b ≡ gcd a b
 gcd_divides a b e = same_from_IsGcd a b _ _ (IsGcd-from_mod a b b (IsGcd-from_zero b (a % b) e)) (IsGcd-gcd a b)

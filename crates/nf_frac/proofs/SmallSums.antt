@@ -3,16 +3,19 @@ use Rattle.std.proofs.Common.{◌≡◌, ℕ, ◌*◌, ◌/◌, ◌<◌, ◌≤�
 use mathlib.Core.Path.{ap₂}
 use Prim.Native.Nat.{◌∣◌}
 use lib.Signed.{quot_z}
-use mir.Syntax.{w128}
-use mir.Val.{SFits}
+use mir.Syntax.{w64, w128}
+use mir.Val.{to_z, of_z, SFits}
+use mir.Facts.{to_z_pos}
 use native.Mathlib.Nat.{mul-pos, dvd_trans, mul-div_cancel', eq_of_mul-eq-mul_left}
 use Rattle.std.proofs.lemmas.Nat.{mul-le}
 use Rattle.nf_rational.specs.Gcd.{gcd, IsGcd-gcd}
 use Rattle.nf_rational.specs.Rational.{ℚ, ratio, gcd_pos, part_pos}
 use Rattle.nf_rational.specs.Operations.{◌+ℚ◌, ◌*ℚ◌}
+use Rattle.nf_rational_laws.proofs.Field.{+ℚ_idl, +ℚ_comm}
 use Rattle.nf_rational_laws.proofs.Ints.{abs-mul}
 use Rattle.nf_rational_laws.proofs.Lowest.{plus_over_lcm}
 use Rattle.nf_rational_laws.proofs.Products.{num_times, den_times}
+use Rattle.nf_rational_laws.proofs.Quotient.{num_zero}
 use Rattle.nf_frac.specs.Parts.{greatest, InForm, IsWithin, SumFits}
 use Rattle.nf_frac.specs.Short.{short}
 use Rattle.nf_frac.proofs.Bits.{bits_of, plain, fits_128, short_product}
@@ -167,3 +170,13 @@ part_plain p n g e h = plain_64 p (part_within p n g e h) ∙ e
 
 pub part_kept : (p n : ℤ) (g : ℕ) → p ≡ quot_z (bits_64 n) (pos g) → nat_abs n ≤ short → nat_abs (bits_64 p) ≤ short
 part_kept p n g e h = kept_short p (part_within p n g e h)
+
+-- ---- a sum with 0
+pub zero_read : (z : ℤ) → nat_abs z ≤ short → of_z w64 z ≡ 0 → z ≡ pos 0
+zero_read z h e = sym (plain_64 z h) ∙ ap (λ (k : ℕ). to_z w64 k) e ∙ to_z_pos w64 (omega arith)
+
+pub right_alone : (x y : ℚ) → x.num ≡ pos 0 → y ≡ x +ℚ y
+right_alone x y z = sym (ap (λ (q : ℚ). q +ℚ y) (num_zero x z) ∙ +ℚ_idl y)
+
+pub left_alone : (x y : ℚ) → y.num ≡ pos 0 → x ≡ x +ℚ y
+left_alone x y z = right_alone y x z ∙ +ℚ_comm y x

@@ -1,13 +1,14 @@
 -- Small numbers: their parts have at most 63 bits.
-use Rattle.std.specs.Prelude.{◌≡◌, ℕ, ◌-◌, ◌^◌, ◌<◌, ◌≤◌, ℤ, nat_abs}
+use Rattle.std.specs.Prelude.{◌≡◌, ℕ, ◌<◌, ◌≤◌, ℤ, nat_abs}
+use Rattle.nf_frac.specs.declared.short.TheConstants.{SHORT}
 use Rattle.nf_rational.specs.Gcd.{gcd}
 use Rattle.nf_rational.specs.Rational.{ℚ, ratio}
 use Rattle.nf_rational.proofs.Lowest.{num-ratio, den-ratio}
 use Rattle.nf_frac.specs.Parts.{greatest, IsWithin}
 
--- the greatest magnitude of a part with 63 bits
+-- the greatest magnitude of a part with 63 bits: 2^63 - 1
 abbrev pub short : ℕ
-short = 2 ^ 63 - 1
+short = SHORT
 
 -- the parts of a small number, in lowest terms
 pub record IsShort (n : ℤ) (d : ℕ) : Type 0 where

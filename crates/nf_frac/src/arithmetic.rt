@@ -53,7 +53,7 @@ impl<const BITS: u32> Frac<BITS> {
         self.wide_sum(&right)
     }
 
-    // The sum for numbers of any length. It is rarely needed, so it stays out of the callers' code.
+    // Returns the sum for numbers of any length. It is rarely needed, so it stays out of the callers' code.
     #[cold]
     #[inline(never)]
     fn wide_sum(&self, right: &Frac<BITS>) -> Result<Frac<BITS>, Passed<Frac<BITS>>>
@@ -82,7 +82,7 @@ impl<const BITS: u32> Frac<BITS> {
         self.wide_difference(&right)
     }
 
-    // The difference for numbers of any length, as `wide_sum`.
+    // Returns the difference for numbers of any length, as `wide_sum`.
     #[cold]
     #[inline(never)]
     fn wide_difference(&self, right: &Frac<BITS>) -> Result<Frac<BITS>, Passed<Frac<BITS>>>
@@ -120,7 +120,7 @@ impl<const BITS: u32> Frac<BITS> {
         self.wide_product(&right)
     }
 
-    // The product for numbers of any length, as `wide_sum`.
+    // Returns the product for numbers of any length, as `wide_sum`.
     #[cold]
     #[inline(never)]
     fn wide_product(&self, right: &Frac<BITS>) -> Result<Frac<BITS>, Passed<Frac<BITS>>>
@@ -150,7 +150,7 @@ impl<const BITS: u32> Frac<BITS> {
         self.wide_quotient(&right)
     }
 
-    // The quotient for numbers of any length, as `wide_sum`.
+    // Returns the quotient for numbers of any length, as `wide_sum`.
     #[cold]
     #[inline(never)]
     fn wide_quotient(&self, right: &Frac<BITS>) -> Result<Frac<BITS>, Passed<Frac<BITS>>>

@@ -33,7 +33,7 @@ impl<const BITS: u32> Model for Frac<BITS> {
     ghost inverse = { λ q. record { value = q } };
 }
 
-// The greatest magnitude of a part.
+// Returns the greatest magnitude of a part.
 pub(crate) fn bound(bits: u32) -> u128
     ensures value { result ≡ bound_of bits }
     ensures small { result ≤ greatest }

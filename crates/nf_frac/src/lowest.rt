@@ -39,7 +39,7 @@ impl Model for Lowest {
 }
 
 impl Lowest {
-    /// The fraction with these parts.
+    /// Returns the fraction with these parts.
     pub(crate) fn of(num: i128, den: u128) -> Lowest
         requires { InForm num den }
         ensures { result ≡ ratio num den }
@@ -47,7 +47,7 @@ impl Lowest {
         Lowest { num, den }
     }
 
-    /// The numerator.
+    /// Returns the numerator.
     pub(crate) fn numer(self) -> i128
         ensures value { result ≡ self.num }
         ensures small { nat_abs result ≤ greatest }
@@ -55,7 +55,7 @@ impl Lowest {
         self.num
     }
 
-    /// The denominator.
+    /// Returns the denominator.
     pub(crate) fn denom(self) -> u128
         ensures value { result ≡ self.den }
         ensures small { result ≤ greatest }
@@ -63,7 +63,7 @@ impl Lowest {
         self.den
     }
 
-    /// 0 or 1.
+    /// Returns 0 or 1.
     pub(crate) fn natural(number: u32) -> Lowest
         requires { number < 2 }
         ensures value { result ≡ whole (pos number) }
@@ -75,7 +75,8 @@ impl Lowest {
         }
     }
 
-    /// The fraction with this sign, magnitude and denominator, reduced. None exactly if a reduced part exceeds the limit.
+    /// Returns the fraction with this sign, magnitude and denominator, reduced. Returns None exactly if a reduced part exceeds
+    /// the limit.
     pub(crate) fn reduced(negative: bool, magnitude: u128, den: u128, limit: u128) -> Option<Lowest>
         requires positive { 0 < den }
         requires narrow { limit ≤ greatest }
@@ -93,7 +94,7 @@ impl Lowest {
         })
     }
 
-    /// The numerator over the denominator, reduced. Their common factors are those of the numerator and `common`.
+    /// Returns the numerator over the denominator, reduced. Their common factors are those of the numerator and `common`.
     pub(crate) fn over(num: i128, den: u128, common: u128) -> Lowest
         requires positive { 0 < den }
         requires some { 0 < common }
@@ -110,7 +111,7 @@ impl Lowest {
         }
     }
 
-    // The numerator times a factor. None exactly if the product exceeds the limit in magnitude.
+    // Returns the numerator times a factor. Returns None exactly if the product exceeds the limit in magnitude.
     fn scaled(self, factor: u128, limit: u128) -> Option<i128>
         requires bounded { factor ≤ greatest }
         requires narrow { limit ≤ greatest }
@@ -119,7 +120,8 @@ impl Lowest {
         multiplied(self.num, factor as i128, limit)
     }
 
-    /// The sum, computed over the least common denominator. None exactly if a number in this computation exceeds the limit.
+    /// Returns the sum, computed over the least common denominator. Returns None exactly if a number in this computation exceeds
+    /// the limit.
     pub(crate) fn sum(self, right: Lowest, limit: u128) -> Option<Lowest>
         requires { limit ≤ greatest }
         ensures { SomeIff result (SumFits limit self right) (self +ℚ right) }
@@ -134,8 +136,8 @@ impl Lowest {
         Some(Lowest::over(num, den, common))
     }
 
-    /// The product: each numerator is reduced with the other denominator before the multiplication. None exactly if a part of
-    /// the reduced product exceeds the limit.
+    /// Returns the product: each numerator is reduced with the other denominator before the multiplication. Returns None exactly
+    /// if a part of the reduced product exceeds the limit.
     pub(crate) fn product(self, right: Lowest, limit: u128) -> Option<Lowest>
         requires { limit ≤ greatest }
         ensures { SomeIff result (IsWithin limit (self *ℚ right)) (self *ℚ right) }
@@ -151,7 +153,7 @@ impl Lowest {
         Some(Lowest { num, den })
     }
 
-    /// The negated number.
+    /// Returns the negated number.
     pub(crate) fn negated(self) -> Lowest
         ensures { result ≡ neg_ℚ self }
     {
@@ -161,7 +163,7 @@ impl Lowest {
         }
     }
 
-    /// The reciprocal.
+    /// Returns the reciprocal.
     pub(crate) fn inverted(self) -> Lowest
         requires { self ≢ 0ℚ }
         ensures { result ≡ inv_ℚ self }
@@ -172,15 +174,15 @@ impl Lowest {
         }
     }
 
-    /// Whether the two numbers are equal.
+    /// Returns whether the two numbers are equal.
     pub(crate) fn is_same(self, right: Lowest) -> bool
         ensures { result ≡ same_ℚ self right }
     {
         self.num == right.num && self.den == right.den
     }
 
-    /// The order of the two numbers: by the numerators if the denominators are equal, and by products of at most 128 bits if both
-    /// numbers are small.
+    /// Returns the order of the two numbers: by the numerators if the denominators are equal, and by products of at most 128 bits
+    /// if both numbers are small.
     pub(crate) fn compare(self, right: Lowest) -> Ordering
         ensures { result ≡ cmp_ℚ self right }
     {
@@ -193,7 +195,7 @@ impl Lowest {
         self.compare_wide(&right)
     }
 
-    // The order of numbers of any length. It is rarely needed, so it stays out of the callers' code.
+    // Returns the order of numbers of any length. It is rarely needed, so it stays out of the callers' code.
     #[cold]
     #[inline(never)]
     fn compare_wide(&self, right: &Lowest) -> Ordering

@@ -6,10 +6,10 @@ ghost use Rattle.nf_frac.specs.Short.{short};
 
 use crate::whole::gcd_short;
 
-// The greatest number of 63 bits.
-const SHORT: u64 = 0x7fff_ffff_ffff_ffff;
+// The greatest part of a small number.
+pub(crate) const SHORT: u64 = 0x7fff_ffff_ffff_ffff;
 
-/// The greatest common divisor. No division is needed if b is 1 or both numbers are equal.
+/// Returns the greatest common divisor. No division is needed if b is 1 or both numbers are equal.
 pub(crate) fn common_factor(a: u64, b: u64) -> u64
     ensures value { result ≡ gcd a b }
     ensures positive { 0 < b → 0 < result }
@@ -24,7 +24,7 @@ pub(crate) fn common_factor(a: u64, b: u64) -> u64
     }
 }
 
-/// The quotient of two natural numbers, rounded down.
+/// Returns the quotient of two natural numbers, rounded down.
 pub(crate) fn divided_short(a: u64, b: u64) -> u64
     requires { 0 < b }
     ensures { result ≡ a / b }
@@ -38,7 +38,7 @@ pub(crate) fn divided_short(a: u64, b: u64) -> u64
     }
 }
 
-/// The whole number with this sign and magnitude.
+/// Returns the whole number with this sign and magnitude.
 pub(crate) fn signed_short(negative: bool, magnitude: u64) -> i64
     requires { magnitude ≤ short }
     ensures { result ≡ signed negative magnitude }
@@ -50,7 +50,7 @@ pub(crate) fn signed_short(negative: bool, magnitude: u64) -> i64
     }
 }
 
-/// The product.
+/// Returns the product.
 pub(crate) fn times(a: i64, b: u64) -> i128
     requires small { nat_abs a ≤ short }
     requires short { b ≤ short }
@@ -59,7 +59,7 @@ pub(crate) fn times(a: i64, b: u64) -> i128
     a as i128 * (b as i64) as i128
 }
 
-/// The greatest common divisor of a number of any length and a short one.
+/// Returns the greatest common divisor of a number of any length and a short one.
 pub(crate) fn rest_factor(a: u128, b: u64) -> u64
     requires { 0 < b }
     ensures value { result ≡ gcd a b }
@@ -75,7 +75,7 @@ pub(crate) fn rest_factor(a: u128, b: u64) -> u64
     }
 }
 
-/// The quotient, rounded toward zero.
+/// Returns the quotient, rounded toward zero.
 pub(crate) fn part_of(a: i64, b: u64) -> i64
     requires positive { 0 < b }
     requires bounded { b ≤ short }
@@ -84,7 +84,7 @@ pub(crate) fn part_of(a: i64, b: u64) -> i64
     if b == 1 { a } else { a / b as i64 }
 }
 
-/// The product of two short signed numbers.
+/// Returns the product of two short signed numbers.
 pub(crate) fn wide_product(a: i64, b: i64) -> i128
     requires left { nat_abs a ≤ short }
     requires right { nat_abs b ≤ short }
@@ -93,7 +93,7 @@ pub(crate) fn wide_product(a: i64, b: i64) -> i128
     a as i128 * b as i128
 }
 
-/// The sum of two short signed numbers.
+/// Returns the sum of two short signed numbers.
 pub(crate) fn wide_sum(a: i64, b: i64) -> i128
     requires left { nat_abs a ≤ short }
     requires right { nat_abs b ≤ short }
@@ -102,14 +102,14 @@ pub(crate) fn wide_sum(a: i64, b: i64) -> i128
     a as i128 + b as i128
 }
 
-/// The product of two natural numbers.
+/// Returns the product of two natural numbers.
 pub(crate) fn widened(a: u64, b: u64) -> u128
     ensures { result ≡ a * b }
 {
     a as u128 * b as u128
 }
 
-/// The product of two natural numbers. None exactly if it exceeds 2^63 - 1.
+/// Returns the product of two natural numbers. Returns None exactly if it exceeds 2^63 - 1.
 pub(crate) fn product_short(a: u64, b: u64) -> Option<u64>
     ensures { SomeIff result (a * b ≤ short) (a * b) }
 {
@@ -119,7 +119,7 @@ pub(crate) fn product_short(a: u64, b: u64) -> Option<u64>
     }
 }
 
-/// The product. None exactly if its magnitude exceeds 2^63 - 1.
+/// Returns the product. Returns None exactly if its magnitude exceeds 2^63 - 1.
 pub(crate) fn multiplied_short(a: i64, b: i64) -> Option<i64>
     ensures { SomeIff result (nat_abs (a *ℤ b) ≤ short) (a *ℤ b) }
 {
@@ -129,7 +129,7 @@ pub(crate) fn multiplied_short(a: i64, b: i64) -> Option<i64>
     }
 }
 
-/// The sum. None exactly if its magnitude exceeds 2^63 - 1.
+/// Returns the sum. Returns None exactly if its magnitude exceeds 2^63 - 1.
 pub(crate) fn added_short(a: i64, b: i64) -> Option<i64>
     ensures { SomeIff result (nat_abs (a +ℤ b) ≤ short) (a +ℤ b) }
 {

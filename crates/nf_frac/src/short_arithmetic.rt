@@ -12,7 +12,7 @@ use crate::short::{
 use crate::small::Small;
 
 impl Small {
-    // The numerator over the denominator, reduced. Their common factors are those of the numerator and `common`.
+    // Returns the numerator over the denominator, reduced. Their common factors are those of the numerator and `common`.
     fn over(num: i64, den: u64, common: u64) -> Small
         requires positive { 0 < den }
         requires some { 0 < common }
@@ -26,7 +26,7 @@ impl Small {
         Small::of(part_of(num, rest), divided_short(den, rest))
     }
 
-    // The numerator times a factor. None exactly if the product exceeds 2^63 - 1 in magnitude.
+    // Returns the numerator times a factor. Returns None exactly if the product exceeds 2^63 - 1 in magnitude.
     fn scaled(self, factor: u64) -> Option<i64>
         requires { factor ≤ short }
         ensures { SomeIff result (nat_abs (self.num *ℤ pos factor) ≤ short) (self.num *ℤ pos factor) }
@@ -34,7 +34,7 @@ impl Small {
         multiplied_short(self.numer(), factor as i64)
     }
 
-    // The sum of two numbers with equal denominators.
+    // Returns the sum of two numbers with equal denominators.
     fn level_sum(self, right: Small) -> Option<Small>
         requires { self.den ≡ right.den }
         ensures { SomeIff result (SumFits short self right) (self +ℚ right) }
@@ -44,7 +44,8 @@ impl Small {
         Some(Small::over(num, den, den))
     }
 
-    // The sum, computed over the least common denominator. None exactly if a number in this computation exceeds 2^63 - 1.
+    // Returns the sum, computed over the least common denominator. Returns None exactly if a number in this computation exceeds
+    // 2^63 - 1.
     pub(crate) fn short_sum(self, right: Small) -> Option<Small>
         ensures { SomeIff result (SumFits short self right) (self +ℚ right) }
     {
@@ -63,7 +64,7 @@ impl Small {
         Some(Small::over(num, low, common))
     }
 
-    // The product of two whole numbers.
+    // Returns the product of two whole numbers.
     fn whole_product(self, right: Small) -> Option<Small>
         requires left { self.den ≡ 1 }
         requires right { right.den ≡ 1 }
@@ -73,8 +74,8 @@ impl Small {
         Some(Small::of(num, 1))
     }
 
-    // The product: each numerator is reduced with the other denominator before the multiplication. None exactly if a part of
-    // the reduced product exceeds 2^63 - 1.
+    // Returns the product: each numerator is reduced with the other denominator before the multiplication. Returns None exactly
+    // if a part of the reduced product exceeds 2^63 - 1.
     pub(crate) fn short_product(self, right: Small) -> Option<Small>
         ensures { SomeIff result (IsWithin short (self *ℚ right)) (self *ℚ right) }
     {

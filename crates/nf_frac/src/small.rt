@@ -9,13 +9,12 @@ ghost use Rattle.nf_frac.specs.Short.{short, IsShort};
 ghost use Rattle.nf_frac.specs.Order.{same_ℚ};
 
 use crate::lowest::Lowest;
-use crate::short::{common_factor, signed_short, times};
-use crate::whole::SHORT;
+use crate::short::{SHORT, common_factor, signed_short, times};
 use std::cmp::Ordering;
 use std::marker::Model;
 
 // The greatest numerator of a small number.
-const GREATEST_NUMERATOR: i128 = 0x7fff_ffff_ffff_ffff;
+const GREATEST_NUMERATOR: i128 = SHORT as i128;
 
 /// A small number: a rational number whose numerator and denominator, in lowest terms, are at most 2^63 - 1 in magnitude.
 #[derive(Clone, Copy)]
@@ -42,13 +41,13 @@ impl Model for Small {
 }
 
 impl Lowest {
-    /// The same number as a small one. None exactly if a part exceeds 2^63 - 1 in magnitude.
+    /// Returns the same number as a small one. Returns None exactly if a part exceeds 2^63 - 1 in magnitude.
     pub(crate) fn small(self) -> Option<Small>
         ensures { SomeIff result (IsWithin short self) self }
     {
         let num = self.numer();
         let den = self.denom();
-        if -GREATEST_NUMERATOR <= num && num <= GREATEST_NUMERATOR && den <= SHORT {
+        if -GREATEST_NUMERATOR <= num && num <= GREATEST_NUMERATOR && den <= SHORT as u128 {
             Some(Small::of(num as i64, den as u64))
         } else {
             None
@@ -57,7 +56,7 @@ impl Lowest {
 }
 
 impl Small {
-    // The fraction with these parts.
+    // Returns the fraction with these parts.
     pub(crate) fn of(num: i64, den: u64) -> Small
         requires { IsShort num den }
         ensures value { result ≡ ratio num den }
@@ -66,7 +65,7 @@ impl Small {
         Small { num, den }
     }
 
-    // The numerator.
+    // Returns the numerator.
     pub(crate) fn numer(self) -> i64
         ensures value { result ≡ self.num }
         ensures small { nat_abs result ≤ short }
@@ -74,7 +73,7 @@ impl Small {
         self.num
     }
 
-    // The denominator.
+    // Returns the denominator.
     pub(crate) fn denom(self) -> u64
         ensures value { result ≡ self.den }
         ensures small { result ≤ short }
@@ -83,7 +82,7 @@ impl Small {
         self.den
     }
 
-    // The same number with wider parts.
+    // Returns the same number with wider parts.
     pub(crate) fn lowest(self) -> Lowest
         ensures value { result ≡ self }
         ensures small { IsWithin greatest result }
@@ -91,7 +90,7 @@ impl Small {
         Lowest::of(self.num as i128, self.den as u128)
     }
 
-    // The negated number.
+    // Returns the negated number.
     pub(crate) fn negated(self) -> Small
         ensures value { result ≡ neg_ℚ self }
         ensures small { IsWithin short result }
@@ -102,7 +101,7 @@ impl Small {
         }
     }
 
-    // The reciprocal.
+    // Returns the reciprocal.
     pub(crate) fn inverted(self) -> Small
         requires { self ≢ 0ℚ }
         ensures { result ≡ inv_ℚ self }
@@ -113,14 +112,14 @@ impl Small {
         }
     }
 
-    // Whether the two numbers are equal.
+    // Returns whether the two numbers are equal.
     pub(crate) fn is_same(self, right: Small) -> bool
         ensures { result ≡ same_ℚ self right }
     {
         self.num == right.num && self.den == right.den
     }
 
-    // The order of the two numbers.
+    // Returns the order of the two numbers.
     pub(crate) fn compare(self, right: Small) -> Ordering
         ensures { result ≡ cmp_ℚ self right }
     {
@@ -130,7 +129,7 @@ impl Small {
         times(self.num, right.den).cmp(&times(right.num, self.den))
     }
 
-    // The greatest common divisor of this numerator and the other denominator. It is 1 if the two denominators are equal.
+    // Returns the greatest common divisor of this numerator and the other denominator. It is 1 if the two denominators are equal.
     pub(crate) fn common_with(self, other: Small) -> u64
         ensures value { result ≡ gcd (nat_abs self.num) other.den }
         ensures positive { 0 < result }

@@ -13,7 +13,7 @@ use crate::small::Small;
 use crate::whole::shortened;
 
 impl Small {
-    // The sum, over the least common denominator.
+    // Returns the sum, over the least common denominator.
     pub(crate) fn plus(self, right: Small) -> Lowest
         ensures { result ≡ self +ℚ right }
     {
@@ -22,18 +22,26 @@ impl Small {
         if den == right_den {
             return self.level_plus(right);
         }
+        let num = self.numer();
+        let right_num = right.numer();
+        if num == 0 {
+            return right.lowest();
+        }
+        if right_num == 0 {
+            return self.lowest();
+        }
         let common = common_factor(den, right_den);
         let left_factor = divided_short(right_den, common);
         let right_factor = divided_short(den, common);
-        let num = times(self.numer(), left_factor) + times(right.numer(), right_factor);
-        let rest = rest_factor(num.unsigned_abs(), common);
+        let total = times(num, left_factor) + times(right_num, right_factor);
+        let rest = rest_factor(total.unsigned_abs(), common);
         Lowest::of(
-            shortened(num, rest as u128),
+            shortened(total, rest as u128),
             widened(divided_short(den, rest), left_factor),
         )
     }
 
-    // The sum of two numbers with equal denominators.
+    // Returns the sum of two numbers with equal denominators.
     fn level_plus(self, right: Small) -> Lowest
         requires { self.den ≡ right.den }
         ensures { result ≡ self +ℚ right }
@@ -42,7 +50,7 @@ impl Small {
         Lowest::over(wide_sum(self.numer(), right.numer()), den, den)
     }
 
-    // The product: each numerator is reduced with the other denominator before the multiplication.
+    // Returns the product: each numerator is reduced with the other denominator before the multiplication.
     pub(crate) fn multiplied(self, right: Small) -> Lowest
         ensures { result ≡ self *ℚ right }
     {

@@ -6,21 +6,16 @@ ghost use mir.Syntax.{w64};
 ghost use Rattle.nf_rational.specs.Gcd.{gcd};
 ghost use Rattle.nf_frac.specs.Parts.{greatest, signed};
 
+use crate::short;
 use std::cmp::Ordering;
 
-/// The greatest number of 63 bits.
-pub(crate) const SHORT: u128 = 0x7fff_ffff_ffff_ffff;
+// The greatest number of 63 bits.
+const SHORT: u128 = short::SHORT as u128;
 
 // The greatest number of 64 bits.
 const WORD: u128 = 0xffff_ffff_ffff_ffff;
 
-// The greatest number of 32 bits.
-const HALF: u64 = 0xffff_ffff;
-
-// If one number has more than this many bits fewer than another, a division replaces the difference.
-const NEAR: u32 = 6;
-
-// The odd part: the number without its factors 2.
+// Returns the odd part: the number without its factors 2.
 fn odd_part(n: u64) -> u64
     requires { 0 < n }
     ensures power { n ≡ 2 ^ trailing_zeros w64 n * result }
@@ -30,21 +25,7 @@ fn odd_part(n: u64) -> u64
     n >> n.trailing_zeros()
 }
 
-// The greater number minus a multiple of the lesser: the remainder if the lesser is much shorter, else the difference.
-fn less_of(more: u64, less: u64) -> u64
-    requires some { 0 < less }
-    requires ordered { less ≤ more }
-    ensures common { (g : ℕ) → IsGcd less result g → IsGcd more less g }
-    ensures less { result < more }
-{
-    if less < more >> NEAR {
-        more % less
-    } else {
-        more - less
-    }
-}
-
-// The greatest common divisor of two odd numbers.
+// Returns the greatest common divisor of two odd numbers.
 fn gcd_odd(a: u64, b: u64) -> u64
     requires left { a % 2 ≡ 1 }
     requires right { b % 2 ≡ 1 }
@@ -57,46 +38,34 @@ fn gcd_odd(a: u64, b: u64) -> u64
         if less == 1 {
             return 1;
         }
-        let rest = less_of(x.max(y), less);
-        if rest == 0 {
-            return less;
-        }
+        y = odd_part(x.max(y) - less);
         x = less;
-        y = odd_part(rest);
     }
     x
 }
 
-// The greatest common divisor of two numbers, from that of their odd parts.
+// Returns the greatest common divisor of two positive numbers, from that of their odd parts.
 fn gcd_halving(a: u64, b: u64) -> u64
+    requires left { 0 < a }
+    requires right { 0 < b }
     ensures { result ≡ gcd a b }
 {
-    if a == 0 {
-        return b;
-    }
-    if b == 0 {
-        return a;
-    }
     let twos = a.trailing_zeros().min(b.trailing_zeros());
     gcd_odd(odd_part(a), odd_part(b)) << twos
 }
 
-/// The greatest common divisor of two 64-bit numbers. If both have more than 32 bits, two divisions come first.
+/// Returns the greatest common divisor of two 64-bit numbers. One division comes first.
 pub(crate) fn gcd_short(a: u64, b: u64) -> u64
     ensures { result ≡ gcd a b }
 {
-    if a <= HALF || b <= HALF {
-        return gcd_halving(a, b);
+    if b == 0 {
+        return a;
     }
     let rest = a % b;
-    if rest == 0 {
-        b
-    } else {
-        gcd_halving(rest, b % rest)
-    }
+    if rest == 0 { b } else { gcd_halving(b, rest) }
 }
 
-// The greatest common divisor of two numbers of any length. It continues in 64 bits once both numbers fit them.
+// Returns the greatest common divisor of two numbers of any length. It continues in 64 bits once both numbers fit them.
 fn gcd_long(a: u128, b: u128) -> u128
     ensures { result ≡ gcd a b }
 {
@@ -114,7 +83,7 @@ fn gcd_long(a: u128, b: u128) -> u128
     }
 }
 
-/// The greatest common divisor.
+/// Returns the greatest common divisor.
 pub(crate) fn gcd_of(a: u128, b: u128) -> u128
     ensures value { result ≡ gcd a b }
     ensures positive { 0 < b → 0 < result }
@@ -129,7 +98,7 @@ pub(crate) fn gcd_of(a: u128, b: u128) -> u128
     }
 }
 
-/// The quotient of two natural numbers, rounded down.
+/// Returns the quotient of two natural numbers, rounded down.
 pub(crate) fn divided(a: u128, b: u128) -> u128
     requires { 0 < b }
     ensures { result ≡ a / b }
@@ -143,7 +112,7 @@ pub(crate) fn divided(a: u128, b: u128) -> u128
     }
 }
 
-/// The quotient, rounded toward zero.
+/// Returns the quotient, rounded toward zero.
 pub(crate) fn shortened(a: i128, b: u128) -> i128
     requires positive { 0 < b }
     requires bounded { b ≤ greatest }
@@ -158,7 +127,7 @@ pub(crate) fn shortened(a: i128, b: u128) -> i128
     }
 }
 
-/// The whole number with this sign and magnitude.
+/// Returns the whole number with this sign and magnitude.
 pub(crate) fn with_sign(negative: bool, magnitude: u128) -> i128
     requires { magnitude ≤ greatest }
     ensures { result ≡ signed negative magnitude }
@@ -170,7 +139,7 @@ pub(crate) fn with_sign(negative: bool, magnitude: u128) -> i128
     }
 }
 
-/// The product. None exactly if it exceeds the limit.
+/// Returns the product. Returns None exactly if it exceeds the limit.
 pub(crate) fn product(a: u128, b: u128, limit: u128) -> Option<u128>
     ensures { SomeIff result (a * b ≤ limit) (a * b) }
 {
@@ -189,7 +158,7 @@ pub(crate) fn product(a: u128, b: u128, limit: u128) -> Option<u128>
     }
 }
 
-/// The product. None exactly if its magnitude exceeds the limit.
+/// Returns the product. Returns None exactly if its magnitude exceeds the limit.
 pub(crate) fn multiplied(a: i128, b: i128, limit: u128) -> Option<i128>
     requires { limit ≤ greatest }
     ensures { SomeIff result (nat_abs (a *ℤ b) ≤ limit) (a *ℤ b) }
@@ -209,7 +178,7 @@ pub(crate) fn multiplied(a: i128, b: i128, limit: u128) -> Option<i128>
     }
 }
 
-/// The sum. None exactly if its magnitude exceeds the limit.
+/// Returns the sum. Returns None exactly if its magnitude exceeds the limit.
 pub(crate) fn added(a: i128, b: i128, limit: u128) -> Option<i128>
     requires { limit ≤ greatest }
     ensures { SomeIff result (nat_abs (a +ℤ b) ≤ limit) (a +ℤ b) }
@@ -220,7 +189,7 @@ pub(crate) fn added(a: i128, b: i128, limit: u128) -> Option<i128>
     }
 }
 
-// The order of a/b and c/d for numbers of any length: by the quotients, and if these are equal by the remainders.
+// Returns the order of a/b and c/d for numbers of any length: by the quotients, and if these are equal by the remainders.
 fn compare_long(a: u128, b: u128, c: u128, d: u128) -> Ordering
     requires left { 0 < b }
     requires right { 0 < d }
@@ -249,7 +218,7 @@ fn compare_long(a: u128, b: u128, c: u128, d: u128) -> Ordering
     }
 }
 
-/// The order of a/b and c/d. No product exceeds 128 bits.
+/// Returns the order of a/b and c/d. No product exceeds 128 bits.
 pub(crate) fn compare_quotients(a: u128, b: u128, c: u128, d: u128) -> Ordering
     requires left { 0 < b }
     requires right { 0 < d }

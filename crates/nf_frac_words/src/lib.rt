@@ -24,27 +24,27 @@ pub enum NumberFault {
     ZeroDenominator,
 }
 
-/// Parsing the printed form of a number returns this number, with decimals allowed or not.
+/// Proves that parsing the printed form of a number returns this number, with decimals allowed or not.
 pub fn printed_reads_back()
     ensures { PrintedReadsBack }
 {}
 
-/// Different numbers have different printed forms.
+/// Proves that different numbers have different printed forms.
 pub fn printed_is_injective()
     ensures { PrintedIsInjective }
 {}
 
-/// A word is parsed as a count exactly if it consists of the digits of that count.
+/// Proves that a word is parsed as a count exactly if it consists of the digits of that count.
 pub fn counts_are_digits()
     ensures { CountsAreDigits }
 {}
 
-/// The words `a` and `a/b`, and the results of parsing them.
+/// Proves to which number each of ten words `a` or `a/b` is parsed, or which fault it has.
 pub fn fractions_are_read()
     ensures { FractionsAreRead }
 {}
 
-/// The words `a.b`, and the results of parsing them with decimals allowed.
+/// Proves to which number each of seven words is parsed with decimals allowed, or which fault it has.
 pub fn decimals_are_read()
     ensures { DecimalsAreRead }
 {}

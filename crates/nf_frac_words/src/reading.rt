@@ -28,7 +28,7 @@ fn position_of(word: &[u8], byte: u8) -> Option<usize>
     word.iter().position(|c| *c == byte)
 }
 
-// The index of the first such byte, or the word's length if there is none.
+// Returns the index of the first such byte, or the word's length if there is none.
 fn place_of(word: &[u8], byte: u8) -> usize
     ensures place { result ≡ position_or_len (λ c. c == byte) word.now }
     ensures within { result ≤ length word.now }
@@ -69,7 +69,7 @@ fn without_minus(field: &[u8]) -> &[u8]
     }
 }
 
-// The bytes after the first slash, or `1` if there is no slash.
+// Returns the bytes after the first slash, or `1` if there is no slash.
 fn denominator_of(word: &[u8]) -> &[u8]
     ensures { result.now ≡ denominator word.now }
 {
@@ -94,7 +94,7 @@ const FEW_DIGITS: usize = 18;
 // The greatest number of 18 digits.
 const GREATEST_OF_FEW: u128 = 999_999_999_999_999_999;
 
-// The number with these digits, at most 18, computed in 64 bits.
+// Returns the number with these digits, at most 18, computed in 64 bits.
 fn short_value(digits: &[u8]) -> u64
     requires digits { IsTrue (are_digits digits.now) }
     requires few { length digits.now ≤ 18 }
@@ -108,7 +108,7 @@ fn short_value(digits: &[u8]) -> u64
     value
 }
 
-// The number with the digits of `start` followed by `digits`. None if it exceeds the bound.
+// Returns the number with the digits of `start` followed by `digits`. Returns None if it exceeds the bound.
 fn value_within(start: u128, digits: &[u8], bound: u128) -> Option<u128>
     requires digits { IsTrue (are_digits digits.now) }
     requires start { start ≤ bound }
@@ -131,7 +131,7 @@ fn value_within(start: u128, digits: &[u8], bound: u128) -> Option<u128>
     Some(value)
 }
 
-// The power of ten with this exponent. None if it exceeds the bound.
+// Returns the power of ten with this exponent. Returns None if it exceeds the bound.
 fn power_of_ten(exponent: usize, bound: u128) -> Option<u128>
     requires { bound < 2 ^ 127 }
     ensures { SomeIff result (10 ^ exponent ≤ bound) (10 ^ exponent) }
@@ -165,7 +165,7 @@ fn check_fields(left: &[u8], right: &[u8]) -> Result<(), NumberFault>
     Ok(())
 }
 
-// The number with this magnitude and the sign of the field.
+// Returns the number with this magnitude and the sign of the field.
 fn signed(field: &[u8], magnitude: u128) -> i128
     requires { magnitude < 2 ^ 127 }
     ensures sign { result ≡ signed_by field.now magnitude }
@@ -175,7 +175,7 @@ fn signed(field: &[u8], magnitude: u128) -> i128
     if is_negative(field) { -number } else { number }
 }
 
-// The parts of the fraction with a signed numerator field and a denominator field.
+// Returns the parts of the fraction with a signed numerator field and a denominator field.
 fn fraction(left: &[u8], right: &[u8], bound: u128) -> Result<(i128, u128), NumberFault>
     requires { bound < 2 ^ 127 }
     ensures { let digits = unsigned left.now in
@@ -195,7 +195,8 @@ fn fraction(left: &[u8], right: &[u8], bound: u128) -> Result<(i128, u128), Numb
     Ok((signed(left, num), den))
 }
 
-// The number with the digits of the left field followed by those of the right field. None if it exceeds the bound.
+// Returns the number with the digits of the left field followed by those of the right field. Returns None if it exceeds the
+// bound.
 fn decimal_within(left: &[u8], right: &[u8], bound: u128) -> Option<u128>
     requires left { IsTrue (are_digits left.now) }
     requires right { IsTrue (are_digits right.now) }
@@ -207,7 +208,7 @@ fn decimal_within(left: &[u8], right: &[u8], bound: u128) -> Option<u128>
     value_within(whole, right, bound)
 }
 
-// The parts of the decimal with a signed field before the point and a field of digits after it.
+// Returns the parts of the decimal with a signed field before the point and a field of digits after it.
 fn decimal(left: &[u8], right: &[u8], bound: u128) -> Result<(i128, u128), NumberFault>
     requires { bound < 2 ^ 127 }
     ensures { let digits = unsigned left.now in

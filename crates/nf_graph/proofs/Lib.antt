@@ -1,5 +1,7 @@
 pub mod Flags
 pub mod Walks
+pub mod Entries
+pub mod Searching
 pub mod Reaching
 pub mod Cycles
 pub mod Orders

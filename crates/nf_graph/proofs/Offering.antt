@@ -1,11 +1,15 @@
 -- What links offer, and the least of it.
-use Rattle.std.proofs.Common.{◌≡◌, ◌≢◌, ℕ, ◌+◌, ◌<◌, ◌≤◌, List, length, get_or, Bool, true, false, if◌then◌else◌, Option, Some, None, Result, Ok, Err, slice_get, ⊎_elim, eqb, sym, ap, subst, refl, ◌∙◌, arith}
-use Rattle.std.proofs.lemmas.Option.{slice_get_within, slice_get-get_or, same_Some}
+use Rattle.std.proofs.Common.{◌≡◌, ◌≢◌, ℕ, ◌+◌, ◌<◌, ◌≤◌, List, length, set, replicate, get_or, Bool, true, false, if◌then◌else◌, Option, Some, None, Result, Ok, Err, slice_get, ◌⊎◌, inl, inr, ⊎_elim, eqb, sym, ap, subst, refl, ◌∙◌, arith}
+use Rattle.std.proofs.Math.ListN.{length-set}
+use Rattle.std.proofs.lemmas.Option.{slice_get_within, same_Some}
 use Rattle.std.proofs.lemmas.Bool.Decides.{eqb_tells}
 use Rattle.nf_rational.specs.Rational.{ℚ}
 use Rattle.nf_rational.specs.Operations.{◌+ℚ◌}
-use Rattle.nf_rational.specs.Order.{◌≤ℚ◌}
+use Rattle.nf_rational.specs.Order.{◌≤ℚ◌, ◌<ℚ◌, min_ℚ}
 use Rattle.nf_rational_laws.proofs.Order.{≤ℚ_of_same}
+use Rattle.nf_rational_laws.proofs.Chains.{≤ℚ_trans}
+use Rattle.nf_rational_laws.proofs.Tests.{min_ℚ_cases}
+use Rattle.nf_rational_laws.proofs.Extremes.{min_left, min_right}
 use Rattle.nf_frac_def.specs.declared.Op.{Op}
 use Rattle.nf_frac_def.specs.declared.Passed as Work
 use Rattle.nf_frac_def.specs.Passing.{Passing, result_of}
@@ -14,10 +18,10 @@ use Rattle.nf_model.specs.Walk.{Hop, IsHop}
 use Rattle.nf_graph.specs.declared.distance.Step.{Step}
 use Rattle.nf_graph.specs.declared.distance.DistanceFault.{DistanceFault}
 use Rattle.nf_graph.specs.declared.distance.DistanceFault.TheVariants.{Passed, Memory}
-use Rattle.nf_graph.specs.Distances.{HasSum, IsOpen, Offers, SumPasses, StopsAt}
-use Rattle.nf_graph.specs.Steps.{ForPassed, OfferedBy, IsNearer, IsNearestBefore, IsNearest}
+use Rattle.nf_graph.specs.Distances.{HasSum, IsOpen, Offers, SumPasses, AreOffers, AnyLink, LinksBefore, PassesAlong, StopsAt}
+use Rattle.nf_graph.specs.Steps.{ForPassed, lesser_offer, IsOffered, PassesFrom, IsStepTo, IsNearer, IsNearestBefore, IsNearest}
 use Rattle.nf_graph.proofs.Walks.{IsHop-unique, IsHop-read}
-use Rattle.nf_rational_laws.proofs.Chains.{≤ℚ_trans}
+use Rattle.nf_graph.proofs.Entries.{HasSum-unique, entry_cases, set_same, set_cases, set_apart, set_other, replicate_open}
 
 -- ---- an operation that passed, and one that did not
 pub checked-ok : (passes : Passing) (op : Op) (x y r : ℚ) → Ok r ≡ checked passes op x y → (r ≡ result_of op x y) × (passes op x y ≡ true → ⊥)
@@ -36,46 +40,160 @@ checked-err passes op x y p e = go (passes op x y) e
     go true h = refl
     go false h = absurd (cc)
 
--- ---- sums of settled nodes
-pub HasSum-unique : (sums : List (Option ℚ)) (v : ℕ) (a b : ℚ) → HasSum sums v a → HasSum sums v b → a ≡ b
-HasSum-unique sums v a b h k = cc
+-- ---- what a node was offered
+lesser_of_both : (known : Option ℚ) (sum q : ℚ) → q ≡ lesser_offer known sum → (known ≡ Some q) ⊎ (q ≡ sum)
+lesser_of_both None sum q e = inr e
+lesser_of_both (Some k) sum q e = ⊎_elim
+    (λ (w : (min_ℚ k sum ≡ k) × (k ≤ℚ sum)). inl (ap (λ (x : ℚ). Some x) (sym (e ∙ w.0))))
+    (λ (w : (min_ℚ k sum ≡ sum) × (sum <ℚ k)). inr (e ∙ w.0)) (min_ℚ_cases k sum)
 
-pub HasSum-not_open : (sums : List (Option ℚ)) (v : ℕ) (a : ℚ) → HasSum sums v a → IsOpen sums v → ⊥
-HasSum-not_open sums v a h k = cc
+lesser_at_most_sum : (known : Option ℚ) (sum : ℚ) → lesser_offer known sum ≤ℚ sum
+lesser_at_most_sum None sum = ≤ℚ_of_same sum sum refl
+lesser_at_most_sum (Some k) sum = min_right k sum
 
--- ---- what a link offers
--- nothing where its tail is not settled
-pub offered_by_open : (hops : List Hop) (sums : List (Option ℚ)) (e : ℕ) (hop : Hop) → IsHop hops e hop → IsOpen sums hop.tail → OfferedBy hops sums e None
-offered_by_open hops sums e hop p o = record {
-  given = λ step q. absurd (cc);
-  every = λ v sum x q. absurd (HasSum-not_open sums hop.tail x.before (subst (λ (h : Hop). HasSum sums h.tail x.before) (IsHop-unique hops e x.hop hop (subst (λ (n : ℕ). IsHop hops n x.hop) q x.is_hop) p) x.tail) o);
-  fits = λ h before q s _. HasSum-not_open sums hop.tail before (subst (λ (k : Hop). HasSum sums k.tail before) (IsHop-unique hops e h hop q p) s) o;
+-- an offer to a node makes no node's least offer greater
+offered_less : (offers : List (Option ℚ)) (v : ℕ) (known : Option ℚ) (sum : ℚ) (w : ℕ) (q : ℚ) → slice_get offers v ≡ Some known → HasSum offers w q
+    → (best : ℚ) × HasSum (set offers v (Some (lesser_offer known sum))) w best × (best ≤ℚ q)
+offered_less offers v known sum w q k h = ⊎_elim
+    (λ (e : (eqb w v ≡ true) × (w ≡ v)).
+    let same : known ≡ Some q = cc in (
+      lesser_offer known sum,
+      subst (λ (n : ℕ). HasSum (set offers v (Some (lesser_offer known sum))) n (lesser_offer known sum)) (sym e.1) (set_same offers v _ (slice_get_within offers v known k)),
+      subst (λ (o : Option ℚ). lesser_offer o sum ≤ℚ q) (sym same) (min_left q sum),
+    ))
+    (λ (e : (eqb w v ≡ false) × (w ≢ v)). (q, set_apart offers v w _ _ e.1 h, ≤ℚ_of_same q q refl))
+    (eqb_tells w v)
+
+-- ---- the offers of all links but those of a node that are still to come
+module _ (hops : List Hop) (sums : List (Option ℚ)) (e : ℕ) (hop : Hop) (p : IsHop hops e hop) (step : Step) (tail : HasSum sums step.node step.sum)
+    (before after : List (Option ℚ)) (o : IsOffered hops e step before after) (h : AreOffers hops sums (LinksBefore step.node e) before) where
+  -- a link that is counted now and was not before is this one
+  counted : (n : ℕ) (other : Hop) → IsHop hops n other → LinksBefore step.node (e + 1) n other → LinksBefore step.node e n other ⊎ ((n ≡ e) × (other ≡ hop))
+  counted n other q c = ⊎_elim
+      (λ (w : (eqb n e ≡ true) × (n ≡ e)). inr (w.1, IsHop-unique hops e other hop (subst (λ (k : ℕ). IsHop hops k other) w.1 q) p))
+      (λ (w : (eqb n e ≡ false) × (n ≢ e)). inl (λ t. let l : n < e + 1 = c t in let apart : n ≢ e = w.1 in omega arith))
+      (eqb_tells n e)
+
+  -- a link that does not leave the node changes nothing
+  passed_by : (hop.tail ≡ step.node → ⊥) → AreOffers hops sums (LinksBefore step.node (e + 1)) after
+  passed_by n = subst (AreOffers hops sums (LinksBefore step.node (e + 1))) (sym (o.other hop p n)) (record {
+    count = h.count;
+    given = h.given;
+    least = λ v sum x c. h.least v sum x (was x.number x.hop x.is_hop c);
+    fits = λ k other q r t c. h.fits k other q r t (was k other r c);
+  })
+    where
+      was : (k : ℕ) (other : Hop) → IsHop hops k other → LinksBefore step.node (e + 1) k other → LinksBefore step.node e k other
+      was k other q c = ⊎_elim
+          (λ (w : LinksBefore step.node e k other). w)
+          (λ (w : (k ≡ e) × (other ≡ hop)). λ t. absurd (n (ap (λ (x : Hop). x.tail) (sym w.1) ∙ t)))
+          (counted k other q c)
+
+  -- a link that leaves it makes its offer
+  passed_on : (known : Option ℚ) → hop.tail ≡ step.node → slice_get before hop.head ≡ Some known → AreOffers hops sums (LinksBefore step.node (e + 1)) after
+  passed_on known t k = subst (AreOffers hops sums (LinksBefore step.node (e + 1))) (sym (o.leaves hop known p t k)) (record {
+    count = length-set before hop.head _ ∙ h.count;
+    given = λ v q open_yet g. ⊎_elim
+        (λ (w : (v ≡ hop.head) × (Some q ≡ Some (lesser_offer known sum))). ⊎_elim
+        (λ (x : known ≡ Some q). h.given v q open_yet (subst (λ (n : ℕ). slice_get before n ≡ Some (Some q)) (sym w.0) (k ∙ ap (λ (y : Option ℚ). Some y) x)))
+        (λ (x : q ≡ sum). record { number = e; hop = hop; is_hop = p; before = step.sum; tail = here; head = sym w.0; not_settled = open_yet; is_sum = x })
+        (lesser_of_both known sum q (same_Some q (lesser_offer known sum) w.1)))
+        (λ (w : HasSum before v q). h.given v q open_yet w)
+        (set_cases before hop.head v (Some (lesser_offer known sum)) (Some q) g);
+    least = λ v q x c. ⊎_elim
+        (λ (w : LinksBefore step.node e x.number x.hop).
+        let b : (best : ℚ) × HasSum before v best × (best ≤ℚ q) = h.least v q x w in
+        let l : (best : ℚ) × HasSum (set before hop.head (Some (lesser_offer known sum))) v best × (best ≤ℚ b.0) = offered_less before hop.head known sum v b.0 k b.1 in
+        (l.0, l.1, ≤ℚ_trans l.0 b.0 q l.2 b.2))
+        (λ (w : (x.number ≡ e) × (x.hop ≡ hop)).
+        let v_is : hop.head ≡ v = ap (λ (y : Hop). y.head) (sym w.1) ∙ x.head in
+        let before_is : x.before ≡ step.sum = HasSum-unique sums hop.tail x.before step.sum (subst (λ (y : Hop). HasSum sums y.tail x.before) w.1 x.tail) here in
+        let q_is : q ≡ sum = x.is_sum ∙ ap (λ (y : Hop). x.before +ℚ y.transit) w.1 ∙ ap (λ (y : ℚ). y +ℚ hop.transit) before_is in (
+          lesser_offer known sum,
+          subst (λ (n : ℕ). HasSum (set before hop.head (Some (lesser_offer known sum))) n (lesser_offer known sum)) v_is (set_same before hop.head _ (slice_get_within before hop.head known k)),
+          subst (λ (y : ℚ). lesser_offer known sum ≤ℚ y) (sym q_is) (lesser_at_most_sum known sum),
+        ))
+        (counted x.number x.hop x.is_hop c);
+    fits = λ n other q r s c. ⊎_elim
+        (λ (w : LinksBefore step.node e n other). h.fits n other q r s w)
+        (λ (w : (n ≡ e) × (other ≡ hop)).
+        let q_is : q ≡ step.sum = HasSum-unique sums hop.tail q step.sum (subst (λ (y : Hop). HasSum sums y.tail q) w.1 s) here in
+        λ z. o.fits hop p t (subst (λ (y : ℚ). SumPasses y hop.transit) q_is (subst (λ (y : Hop). SumPasses q y.transit) w.1 z)))
+        (counted n other r c);
+  })
+    where
+      sum : ℚ
+      sum = step.sum +ℚ hop.transit
+
+      here : HasSum sums hop.tail step.sum
+      here = subst (λ (n : ℕ). HasSum sums n step.sum) (sym t) tail
+
+  pub offers_next : hop.head < length before → AreOffers hops sums (LinksBefore step.node (e + 1)) after
+  offers_next b = ⊎_elim
+      (λ (w : (eqb hop.tail step.node ≡ true) × (hop.tail ≡ step.node)). ⊎_elim
+      (λ (x : (known : ℚ) × HasSum before hop.head known). passed_on (Some x.0) w.1 x.1)
+      (λ (x : IsOpen before hop.head). passed_on None w.1 x)
+      (entry_cases before hop.head b))
+      (λ (w : (eqb hop.tail step.node ≡ false) × (hop.tail ≢ step.node)). passed_by w.1)
+      (eqb_tells hop.tail step.node)
+
+-- at first nothing is settled or offered
+pub offers_none : (hops : List Hop) (nodes : ℕ) → AreOffers hops (replicate nodes None) AnyLink (replicate nodes None)
+offers_none hops nodes = record {
+  count = refl;
+  given = λ v q _ h. absurd (replicate_open nodes v q h);
+  least = λ v q x _. absurd (replicate_open nodes x.hop.tail x.before x.tail);
+  fits = λ e hop q _ h _ _. replicate_open nodes hop.tail q h;
 }
 
-pub offered_by_settled : (hops : List Hop) (sums : List (Option ℚ)) (e : ℕ) (hop : Hop) (before sum : ℚ) (offered : Option Step) → IsHop hops e hop → HasSum sums hop.tail before
-    → (sum ≡ before +ℚ hop.transit) × (SumPasses before hop.transit → ⊥) → (IsOpen sums hop.head → offered ≡ Some (record { node = hop.head; sum = sum }))
-    → ((step : Step) → offered ≡ Some step → IsOpen sums hop.head) → OfferedBy hops sums e offered
-offered_by_settled hops sums e hop before sum offered p t s unsettled either = record {
-  given = λ step q. let o : IsOpen sums hop.head = either step q in let same : record { node = hop.head; sum = sum } ≡ step = same_step _ _ (sym (unsettled o) ∙ q) in
-      subst (λ (k : Step). Offers hops sums k.node k.sum) same (record { number = e; hop = hop; is_hop = p; before = before; tail = t; head = refl; not_settled = o; is_sum = s.0 });
-  every = λ v more x q.
-      let same : x.hop ≡ hop = IsHop-unique hops e x.hop hop (subst (λ (n : ℕ). IsHop hops n x.hop) q x.is_hop) p in
-      let before_same : x.before ≡ before = HasSum-unique sums hop.tail x.before before (subst (λ (h : Hop). HasSum sums h.tail x.before) same x.tail) t in
-      let o : IsOpen sums hop.head = subst (λ (n : ℕ). IsOpen sums n) (sym x.head ∙ ap (λ (h : Hop). h.head) same) x.not_settled in
-      (record { node = hop.head; sum = sum }, unsettled o, s.0 ∙ ap (λ (b : ℚ). b +ℚ hop.transit) (sym before_same) ∙ ap (λ (h : Hop). x.before +ℚ h.transit) (sym same) ∙ sym x.is_sum);
-  fits = λ h b q k r. s.1 (
-      let same : h ≡ hop = IsHop-unique hops e h hop q p in
-      let before_same : b ≡ before = HasSum-unique sums hop.tail b before (subst (λ (g : Hop). HasSum sums g.tail b) same k) t in
-      subst (λ (g : Hop). SumPasses before g.transit) same (subst (λ (c : ℚ). SumPasses c h.transit) before_same r));
+-- a node that is settled offers nothing yet
+pub offers_settled : (hops : List Hop) (sums offers : List (Option ℚ)) (v : ℕ) (sum : ℚ) → IsOpen sums v → AreOffers hops sums AnyLink offers
+    → AreOffers hops (set sums v (Some sum)) (LinksBefore v 0) offers
+offers_settled hops sums offers v sum o h = record {
+  count = h.count ∙ sym (length-set sums v (Some sum));
+  given = λ w q u g.
+      let x : Offers hops sums w q = h.given w q (was_open w u) g in
+      record { number = x.number; hop = x.hop; is_hop = x.is_hop; before = x.before; tail = set_other sums v x.hop.tail (Some sum) x.before o x.tail; head = x.head; not_settled = u; is_sum = x.is_sum };
+  least = λ w q x c. h.least w q (record { number = x.number; hop = x.hop; is_hop = x.is_hop; before = x.before; tail = was_settled x.hop.tail x.before x.tail (none x.number x.hop c); head = x.head; not_settled = was_open w x.not_settled; is_sum = x.is_sum }) tt;
+  fits = λ e hop q p t c z. h.fits e hop q p (was_settled hop.tail q t (none e hop c)) tt z;
 }
   where
-    same_step : (a b : Step) → Some a ≡ Some b → a ≡ b
-    same_step a b q = cc
+    none : (e : ℕ) (hop : Hop) → LinksBefore v 0 e hop → hop.tail ≡ v → ⊥
+    none e hop c t = let l : e < 0 = c t in omega arith
+
+    was_open : (w : ℕ) → IsOpen (set sums v (Some sum)) w → IsOpen sums w
+    was_open w u = ⊎_elim
+        (λ (e : (w ≡ v) × (None ≡ Some sum)). let f : None ≡ Some sum = e.1 in absurd (cc))
+        (λ (e : IsOpen sums w). e)
+        (set_cases sums v w (Some sum) None u)
+
+    was_settled : (w : ℕ) (q : ℚ) → HasSum (set sums v (Some sum)) w q → (w ≡ v → ⊥) → HasSum sums w q
+    was_settled w q s n = ⊎_elim
+        (λ (e : (w ≡ v) × (Some q ≡ Some sum)). absurd (n e.0))
+        (λ (e : HasSum sums w q). e)
+        (set_cases sums v w (Some sum) (Some q) s)
+
+pub offers_all : (hops : List Hop) (sums offers : List (Option ℚ)) (v count : ℕ) → length hops ≤ count → AreOffers hops sums (LinksBefore v count) offers → AreOffers hops sums AnyLink offers
+offers_all hops sums offers v count l h = record {
+  count = h.count;
+  given = h.given;
+  least = λ w q x _. h.least w q x (λ _. let b : x.number < length hops = slice_get_within hops x.number x.hop x.is_hop in omega arith);
+  fits = λ e hop q p t _. h.fits e hop q p t (λ _. let b : e < length hops = slice_get_within hops e hop p in omega arith);
+}
+
+-- an open node with what it was offered
+pub step_found : (sums offers : List (Option ℚ)) (v : ℕ) (sum : ℚ) → IsOpen sums v → HasSum offers v sum → IsStepTo sums offers v (Some (record { node = v; sum = sum }))
+step_found sums offers v sum o h = record {
+  given = λ step q.
+      let same : record { node = v; sum = sum } ≡ step = same_Some (record { node = v; sum = sum }) step q in
+      (ap (λ (s : Step). s.node) (sym same), o, subst (λ (s : Step). HasSum offers v s.sum) same h);
+  every = λ q _ g. (record { node = v; sum = sum }, refl, HasSum-unique offers v sum q h g);
+}
 
 -- ---- the least offer
-module _ (hops : List Hop) (sums : List (Option ℚ)) (count : ℕ) where
-  given_nearer : (best offered nearer : Option Step) → IsNearer best offered nearer → ((step : Step) → best ≡ Some step → Offers hops sums step.node step.sum)
-      → ((step : Step) → offered ≡ Some step → Offers hops sums step.node step.sum) → (step : Step) → nearer ≡ Some step → Offers hops sums step.node step.sum
+module _ (sums offers : List (Option ℚ)) (count : ℕ) where
+  given_nearer : (best offered nearer : Option Step) → IsNearer best offered nearer → ((step : Step) → best ≡ Some step → IsOpen sums step.node × HasSum offers step.node step.sum)
+      → ((step : Step) → offered ≡ Some step → IsOpen sums step.node × HasSum offers step.node step.sum) → (step : Step) → nearer ≡ Some step → IsOpen sums step.node × HasSum offers step.node step.sum
   given_nearer None offered nearer n g h step q = h step (sym n ∙ q)
   given_nearer (Some best) None nearer n g h step q = g step (sym n ∙ q)
   given_nearer (Some best) (Some offered) nearer n g h step q = ⊎_elim
@@ -103,32 +221,30 @@ module _ (hops : List Hop) (sums : List (Option ℚ)) (count : ℕ) where
       (λ (x : (nearer ≡ Some best) × (best.sum ≤ℚ offered.sum)). through best offered nearer sum x.0 x.1 w)
       (λ (x : (nearer ≡ Some offered) × (offered.sum ≤ℚ best.sum)). (w.0, x.0 ∙ w.1, w.2)) n
 
-  pub nearest_more : (best offered nearer : Option Step) → IsNearestBefore hops sums count best → OfferedBy hops sums count offered → IsNearer best offered nearer
-      → IsNearestBefore hops sums (count + 1) nearer
+  pub nearest_more : (best offered nearer : Option Step) → IsNearestBefore sums offers count best → IsStepTo sums offers count offered → IsNearer best offered nearer
+      → IsNearestBefore sums offers (count + 1) nearer
   nearest_more best offered nearer b o n = record {
-    given = given_nearer best offered nearer n b.given o.given;
-    least = λ v sum x h. ⊎_elim
-        (λ (w : (eqb x.number count ≡ true) × (x.number ≡ count)).
-        let s : (step : Step) × (offered ≡ Some step) × (step.sum ≡ sum) = o.every v sum x w.1 in nearer_than_offered best offered nearer sum n (s.0, s.1, ≤ℚ_of_same _ _ s.2))
-        (λ (w : (eqb x.number count ≡ false) × (x.number ≢ count)). nearer_than_best best offered nearer sum n (b.least v sum x (omega arith)))
-        (eqb_tells x.number count);
-    fits = λ e hop before h p s r. ⊎_elim
-        (λ (w : (eqb e count ≡ true) × (e ≡ count)). o.fits hop before (subst (λ (k : ℕ). IsHop hops k hop) w.1 p) s r)
-        (λ (w : (eqb e count ≡ false) × (e ≢ count)). b.fits e hop before (omega arith) p s r)
-        (eqb_tells e count);
+    given = given_nearer best offered nearer n b.given (λ step q. let g : (step.node ≡ count) × IsOpen sums step.node × HasSum offers step.node step.sum = at_count step q in (g.1, g.2));
+    least = λ v sum u g h. ⊎_elim
+        (λ (w : (eqb v count ≡ true) × (v ≡ count)).
+        let s : (step : Step) × (offered ≡ Some step) × (step.sum ≡ sum) = o.every sum (subst (IsOpen sums) w.1 u) (subst (λ (k : ℕ). HasSum offers k sum) w.1 g) in
+        nearer_than_offered best offered nearer sum n (s.0, s.1, ≤ℚ_of_same _ _ s.2))
+        (λ (w : (eqb v count ≡ false) × (v ≢ count)). nearer_than_best best offered nearer sum n (b.least v sum u g (let apart : v ≢ count = w.1 in omega arith)))
+        (eqb_tells v count);
   }
+    where
+      at_count : (step : Step) → offered ≡ Some step → (step.node ≡ count) × IsOpen sums step.node × HasSum offers step.node step.sum
+      at_count step q =
+          let g : (step.node ≡ count) × IsOpen sums count × HasSum offers count step.sum = o.given step q in
+          (g.0, subst (IsOpen sums) (sym g.0) g.1, subst (λ (k : ℕ). HasSum offers k step.sum) (sym g.0) g.2)
 
-pub nearest_all : (hops : List Hop) (sums : List (Option ℚ)) (count : ℕ) (best : Option Step) → length hops ≤ count → IsNearestBefore hops sums count best → IsNearest hops sums best
-nearest_all hops sums count best h b = record {
+pub nearest_all : (sums offers : List (Option ℚ)) (count : ℕ) (best : Option Step) → length sums ≤ count → IsNearestBefore sums offers count best → IsNearest sums offers best
+nearest_all sums offers count best h b = record {
   given = b.given;
-  least = λ v sum x. b.least v sum x (let l : x.number < length hops = slice_get_within hops x.number x.hop x.is_hop in omega arith);
-  fits = λ e hop before p s r. b.fits e hop before (let l : e < length hops = slice_get_within hops e hop p in omega arith) p s r;
+  least = λ v sum u g. b.least v sum u g (let l : v < length sums = slice_get_within sums v None u in omega arith);
 }
 
 -- ---- what was read
-pub entry_read : (sums : List (Option ℚ)) (i v : ℕ) (d x : Option ℚ) → get_or sums i d ≡ x → i ≡ v → v < length sums → slice_get sums v ≡ Some x
-entry_read sums i v d x e n h = slice_get-get_or sums v d h ∙ ap (λ (o : Option ℚ). Some o) (ap (λ (k : ℕ). get_or sums k d) (sym n) ∙ e)
-
 pub IsHop-read_at : (hops : List Hop) (i e : ℕ) (hop seen : Hop) → e < length hops → i ≡ e → hop ≡ get_or hops i hop → seen ≡ hop → IsHop hops e seen
 IsHop-read_at hops i e hop seen h n r s = subst (λ (x : Hop). IsHop hops e x) (sym s) (IsHop-read hops e hop h (r ∙ ap (λ (k : ℕ). get_or hops k hop) n))
 
@@ -137,25 +253,60 @@ ForPassed-weaker P Q (Passed link left right) f h = f link left right h
 ForPassed-weaker P Q Memory f h = tt
 
 -- a sum along a link that passed
-pub stops_at : (hops : List Hop) (sums : List (Option ℚ)) (link : ℕ) (hop : Hop) (before : ℚ) (fault : DistanceFault) → IsHop hops link hop → HasSum sums hop.tail before
-    → ForPassed (λ e left right. (e ≡ link) × (left ≡ before) × SumPasses left right × ((hop : Hop) → IsHop hops link hop → hop.transit ≡ right)) fault
-    → ForPassed (StopsAt hops sums) fault
-stops_at hops sums link hop before fault p t = ForPassed-weaker _ _ fault (λ e left right w. record {
-  hop = hop;
-  is_hop = subst (λ (k : ℕ). IsHop hops k hop) (sym w.0) p;
-  tail = subst (λ (b : ℚ). HasSum sums hop.tail b) (sym w.1) t;
-  transit = w.3 hop p;
-  passes = w.2;
+pub stops_at : (hops : List Hop) (sums : List (Option ℚ)) (step : Step) (fault : DistanceFault) → HasSum sums step.node step.sum
+    → ForPassed (PassesFrom hops step) fault → ForPassed (StopsAt hops sums) fault
+stops_at hops sums step fault s = ForPassed-weaker _ _ fault (λ e left right w. record {
+  hop = w.hop;
+  is_hop = w.is_hop;
+  tail = subst (λ (n : ℕ). HasSum sums n left) (sym w.tail) (subst (λ (q : ℚ). HasSum sums step.node q) (sym w.left_is) s);
+  transit = w.right_is;
+  passes = w.passes;
 })
 
--- ---- what the least offer says
-pub nearest_least : (hops : List Hop) (sums : List (Option ℚ)) (best : Option Step) (step : Step) → IsNearest hops sums best → best ≡ Some step
-    → (v : ℕ) (more : ℚ) → Offers hops sums v more → step.sum ≤ℚ more
-nearest_least hops sums best step n e v more x =
-    let w : (s : Step) × (best ≡ Some s) × (s.sum ≤ℚ more) = n.least v more x in subst (λ (s : Step). s.sum ≤ℚ more) (same _ _ (sym w.1 ∙ e)) w.2
-  where
-    same : (a b : Step) → Some a ≡ Some b → a ≡ b
-    same a b q = cc
+-- ---- the offer along one link
+module _ (hops : List Hop) (step : Step) (e : ℕ) (hop : Hop) where
+  pub passes_from : (fault : DistanceFault) → IsHop hops e hop → hop.tail ≡ step.node → ForPassed (PassesAlong hops e step.sum) fault → ForPassed (PassesFrom hops step) fault
+  passes_from fault p t = ForPassed-weaker _ _ fault (λ f left right w. record {
+    hop = hop;
+    is_hop = subst (λ (n : ℕ). IsHop hops n hop) (sym w.0) p;
+    tail = t;
+    left_is = w.1;
+    right_is = w.3 hop p;
+    passes = w.2;
+  })
 
-pub nearest_none : (hops : List Hop) (sums : List (Option ℚ)) (best : Option Step) → IsNearest hops sums best → best ≡ None → (v : ℕ) (more : ℚ) → Offers hops sums v more → ⊥
-nearest_none hops sums best n e v more x = let w : (s : Step) × (best ≡ Some s) × (s.sum ≤ℚ more) = n.least v more x in let q : best ≡ Some w.0 = w.1 in cc
+  pub offered_along : (sum : ℚ) (before after : List (Option ℚ)) → IsHop hops e hop → hop.tail ≡ step.node → (sum ≡ step.sum +ℚ hop.transit) × (SumPasses step.sum hop.transit → ⊥)
+      → ((known : Option ℚ) → slice_get before hop.head ≡ Some known → after ≡ set before hop.head (Some (lesser_offer known sum))) → IsOffered hops e step before after
+  offered_along sum before after p t s o = record {
+    leaves = λ other known q _ k.
+        let same : other ≡ hop = IsHop-unique hops e other hop q p in
+        subst (λ (h : Hop). after ≡ set before h.head (Some (lesser_offer known (step.sum +ℚ h.transit)))) (sym same)
+        (subst (λ (r : ℚ). after ≡ set before hop.head (Some (lesser_offer known r))) s.0 (o known (subst (λ (h : Hop). slice_get before h.head ≡ Some known) same k)));
+    fits = λ other q _ z. s.1 (subst (λ (h : Hop). SumPasses step.sum h.transit) (IsHop-unique hops e other hop q p) z);
+    other = λ other q n. absurd (n (ap (λ (h : Hop). h.tail) (IsHop-unique hops e other hop q p) ∙ t));
+  }
+
+  pub offered_past : (before after : List (Option ℚ)) → IsHop hops e hop → (hop.tail ≡ step.node → ⊥) → after ≡ before → IsOffered hops e step before after
+  offered_past before after p n o = record {
+    leaves = λ other known q t k. absurd (n (ap (λ (h : Hop). h.tail) (IsHop-unique hops e hop other p q) ∙ t));
+    fits = λ other q t _. n (ap (λ (h : Hop). h.tail) (IsHop-unique hops e hop other p q) ∙ t);
+    other = λ _ _ _. o;
+  }
+
+-- ---- what the least offer says
+module _ (hops : List Hop) (sums offers : List (Option ℚ)) (best : Option Step) (h : AreOffers hops sums AnyLink offers) (n : IsNearest sums offers best) where
+  pub nearest_offers : (step : Step) → best ≡ Some step → Offers hops sums step.node step.sum
+  nearest_offers step e = let g : IsOpen sums step.node × HasSum offers step.node step.sum = n.given step e in h.given step.node step.sum g.0 g.1
+
+  least_of : (v : ℕ) (more : ℚ) → Offers hops sums v more → (step : Step) × (best ≡ Some step) × (step.sum ≤ℚ more)
+  least_of v more x =
+      let b : (q : ℚ) × HasSum offers v q × (q ≤ℚ more) = h.least v more x tt in
+      let w : (s : Step) × (best ≡ Some s) × (s.sum ≤ℚ b.0) = n.least v b.0 x.not_settled b.1 in
+      (w.0, w.1, ≤ℚ_trans w.0.sum b.0 more w.2 b.2)
+
+  pub nearest_least : (step : Step) → best ≡ Some step → (v : ℕ) (more : ℚ) → Offers hops sums v more → step.sum ≤ℚ more
+  nearest_least step e v more x =
+      let w : (s : Step) × (best ≡ Some s) × (s.sum ≤ℚ more) = least_of v more x in subst (λ (s : Step). s.sum ≤ℚ more) (same_Some w.0 step (sym w.1 ∙ e)) w.2
+
+  pub nearest_none : best ≡ None → (v : ℕ) (more : ℚ) → Offers hops sums v more → ⊥
+  nearest_none e v more x = let w : (s : Step) × (best ≡ Some s) × (s.sum ≤ℚ more) = least_of v more x in let q : None ≡ Some w.0 = sym e ∙ w.1 in cc

@@ -1,6 +1,7 @@
 -- Nodes settled one by one, each with its least transit sum.
-use Rattle.std.proofs.Common.{◌≡◌, ℕ, zero, suc, ◌<◌, List, [], ◌∷◌, ◌++◌, length, set, replicate, Option, Some, None, slice_get, ◌⊎◌, inl, inr, ⊎_elim, sym, subst, refl, ◌∙◌, ap, arith}
+use Rattle.std.proofs.Common.{◌≡◌, ℕ, ◌<◌, List, [], ◌∷◌, ◌++◌, length, set, replicate, Option, Some, None, slice_get, ◌⊎◌, ⊎_elim, sym, subst, refl, ◌∙◌, ap}
 use Rattle.std.proofs.Math.ListN.{length-set}
+use Rattle.std.proofs.lemmas.List.{length-replicate}
 use Rattle.nf_rational.specs.Rational.{ℚ}
 use Rattle.nf_rational.specs.Operations.{0ℚ, ◌+ℚ◌}
 use Rattle.nf_rational.specs.Order.{◌≤ℚ◌}
@@ -9,8 +10,11 @@ use Rattle.nf_rational_laws.proofs.Order.{≤ℚ_of_same, ≤ℚ_antisymm, nn_pl
 use Rattle.nf_rational_laws.proofs.Linear.{le, eq, linear_le, linear_eq}
 use Rattle.nf_model.specs.Walk.{Hop, IsHop, IsWalk, transit_of, transit_sum, IsLeastTransit}
 use Rattle.nf_graph.specs.Graph.{AreBelow}
-use Rattle.nf_graph.specs.Distances.{NoneNegative, AreDistances, PassesAt, StopsAt, HasSum, IsOpen, Offers, AllFit, SumPasses}
-use Rattle.nf_graph.proofs.Offering.{HasSum-not_open}
+use Rattle.nf_graph.specs.declared.distance.Step.{Step}
+use Rattle.nf_graph.specs.Distances.{NoneNegative, AreDistances, PassesAt, StopsAt, HasSum, IsOpen, Offers, AreOffers, AnyLink, AllFit, SumPasses}
+use Rattle.nf_graph.specs.Steps.{IsNearest}
+use Rattle.nf_graph.proofs.Entries.{HasSum-not_open, entry_cases, set_same, set_cases, set_other, unsettled, fewer_unsettled, replicate_open}
+use Rattle.nf_graph.proofs.Offering.{nearest_offers, nearest_least, nearest_none}
 use Rattle.nf_model_laws.proofs.Networks.{IsWalk-append, transit_of-hop}
 
 -- ---- sums along walks
@@ -38,59 +42,23 @@ pub IsLeastTransit-unique : (hops : List Hop) (v w : ℕ) (a b : ℚ) → IsLeas
 IsLeastTransit-unique hops v w a b h k = ≤ℚ_antisymm a b
     (subst (λ (t : ℚ). a ≤ℚ t) k.taken.2 (h.bound k.taken.0 k.taken.1)) (subst (λ (t : ℚ). b ≤ℚ t) h.taken.2 (k.bound h.taken.0 h.taken.1))
 
--- ---- entries of the list of sums
-pub entry_cases : (sums : List (Option ℚ)) (v : ℕ) → v < length sums → ((sum : ℚ) × HasSum sums v sum) ⊎ IsOpen sums v
-entry_cases [] v h = absurd (omega arith)
-entry_cases (Some sum ∷ sums) zero h = inl (sum, refl)
-entry_cases (None ∷ sums) zero h = inr refl
-entry_cases (o ∷ sums) (suc v) h = entry_cases sums v (omega arith)
-
-pub set_same : (sums : List (Option ℚ)) (v : ℕ) (o : Option ℚ) → v < length sums → slice_get (set sums v o) v ≡ Some o
-set_same [] v o h = absurd (omega arith)
-set_same (p ∷ sums) zero o h = refl
-set_same (p ∷ sums) (suc v) o h = set_same sums v o (omega arith)
-
-pub set_cases : (sums : List (Option ℚ)) (v w : ℕ) (o x : Option ℚ) → slice_get (set sums v o) w ≡ Some x → ((w ≡ v) × (x ≡ o)) ⊎ (slice_get sums w ≡ Some x)
-set_cases [] v w o x h = inr h
-set_cases (p ∷ sums) zero zero o x h = inl (refl, same o x h)
-  where
-    same : (a b : Option ℚ) → Some a ≡ Some b → b ≡ a
-    same a b e = cc
-set_cases (p ∷ sums) zero (suc w) o x h = inr h
-set_cases (p ∷ sums) (suc v) zero o x h = inr h
-set_cases (p ∷ sums) (suc v) (suc w) o x h = ⊎_elim (λ (e : (w ≡ v) × (x ≡ o)). inl (ap suc e.0, e.1)) (λ (k : slice_get sums w ≡ Some x). inr k) (set_cases sums v w o x h)
-
--- a settled node stays so where another one is settled
-pub set_other : (sums : List (Option ℚ)) (v w : ℕ) (o : Option ℚ) (sum : ℚ) → IsOpen sums v → HasSum sums w sum → HasSum (set sums v o) w sum
-set_other [] v w o sum h k = k
-set_other (p ∷ sums) zero zero o sum h k = absurd (cc)
-set_other (p ∷ sums) zero (suc w) o sum h k = k
-set_other (p ∷ sums) (suc v) zero o sum h k = k
-set_other (p ∷ sums) (suc v) (suc w) o sum h k = set_other sums v w o sum h k
-
--- how many nodes are not settled
-abbrev pub unsettled : List (Option ℚ) → ℕ
-unsettled [] = 0
-unsettled (Some sum ∷ sums) = unsettled sums
-unsettled (None ∷ sums) = suc (unsettled sums)
-
-pub fewer_unsettled : (sums : List (Option ℚ)) (v : ℕ) (sum : ℚ) → IsOpen sums v → unsettled (set sums v (Some sum)) < unsettled sums
-fewer_unsettled [] v sum h = absurd (cc)
-fewer_unsettled (Some s ∷ sums) zero sum h = absurd (cc)
-fewer_unsettled (None ∷ sums) zero sum h = omega arith
-fewer_unsettled (Some s ∷ sums) (suc v) sum h = fewer_unsettled sums v sum h
-fewer_unsettled (None ∷ sums) (suc v) sum h = let l : unsettled (set sums v (Some sum)) < unsettled sums = fewer_unsettled sums v sum h in omega arith
-
-pub replicate_open : (n v : ℕ) (sum : ℚ) → HasSum (replicate n None) v sum → ⊥
-replicate_open zero v sum h = cc
-replicate_open (suc n) zero sum h = cc
-replicate_open (suc n) (suc v) sum h = replicate_open n v sum h
-
 -- ---- the nodes settled so far have their least sums
 pub record AreSettled (nodes : ℕ) (hops : List Hop) (from : ℕ) (sums : List (Option ℚ)) : Type 0 where
   pub count : length sums ≡ nodes
   pub start : HasSum sums from 0ℚ
   pub least : (v : ℕ) (sum : ℚ) → HasSum sums v sum → IsLeastTransit hops from v sum
+
+-- and the links that leave them have made their offers
+pub record AreOffering (nodes : ℕ) (hops : List Hop) (from : ℕ) (sums offers : List (Option ℚ)) : Type 0 where
+  pub settled : AreSettled nodes hops from sums
+  pub made : AreOffers hops sums AnyLink offers
+
+-- the same of lists that were written anew
+pub offering_along : (nodes : ℕ) (hops : List Hop) (from : ℕ) (sums new_sums offers new_offers : List (Option ℚ)) → new_sums ≡ sums → new_offers ≡ offers
+    → AreSettled nodes hops from sums → AreOffers hops sums AnyLink offers → AreOffering nodes hops from new_sums new_offers
+offering_along nodes hops from sums new_sums offers new_offers e f settled made =
+    subst (λ (ss : List (Option ℚ)). AreOffering nodes hops from ss new_offers) (sym e)
+    (subst (AreOffering nodes hops from sums) (sym f) (record { settled = settled; made = made }))
 
 first_part : (s d t w : ℚ) → s ≤ℚ d +ℚ t → 0ℚ ≤ℚ w → s ≤ℚ d +ℚ (t +ℚ w)
 first_part s d t w h k = linear_le (s ∷ d ∷ t ∷ w ∷ []) (le h ∷ le k ∷ []) (search reading_of depth 12) tt
@@ -106,7 +74,7 @@ module _ (nodes : ℕ) (hops : List Hop) (from : ℕ) (sums : List (Option ℚ))
   entry v h = entry_cases sums v (subst (λ (n : ℕ). v < n) (sym settled.count) h)
 
   -- the sum of a settled node and a link from it is no less than the sum at its head
-  pub along_hop : (e : ℕ) (hop : Hop) (a b : ℚ) → IsHop hops e hop → HasSum sums hop.tail a → HasSum sums hop.head b → b ≤ℚ a +ℚ transit_of hops e
+  along_hop : (e : ℕ) (hop : Hop) (a b : ℚ) → IsHop hops e hop → HasSum sums hop.tail a → HasSum sums hop.head b → b ≤ℚ a +ℚ transit_of hops e
   along_hop e hop a b p s t =
       let tail : IsLeastTransit hops from hop.tail a = settled.least hop.tail a s in
       subst (λ (c : ℚ). b ≤ℚ c) (transit_sum-append hops tail.taken.0 e ∙ ap (λ (c : ℚ). c +ℚ transit_of hops e) tail.taken.2)
@@ -127,7 +95,7 @@ module _ (nodes : ℕ) (hops : List Hop) (from : ℕ) (sums : List (Option ℚ))
       (entry h.0.head (below.heads e h.0 h.1))
 
   -- the least offer is the least transit sum of its node
-  pub offer_is_least : (v : ℕ) (sum : ℚ) → Offers hops sums v sum → ((w : ℕ) (more : ℚ) → Offers hops sums w more → sum ≤ℚ more) → IsLeastTransit hops from v sum
+  offer_is_least : (v : ℕ) (sum : ℚ) → Offers hops sums v sum → ((w : ℕ) (more : ℚ) → Offers hops sums w more → sum ≤ℚ more) → IsLeastTransit hops from v sum
   offer_is_least v sum x m =
       let tail : IsLeastTransit hops from x.hop.tail x.before = settled.least x.hop.tail x.before x.tail in
       record {
@@ -140,15 +108,15 @@ module _ (nodes : ℕ) (hops : List Hop) (from : ℕ) (sums : List (Option ℚ))
         bound = λ walk h. at_zero _ 0ℚ _ (leaves_at walk from v sum 0ℚ m settled.start x.not_settled h) refl;
       }
 
-  pub settled_more : (v i : ℕ) (sum : ℚ) → i ≡ v → Offers hops sums v sum → ((w : ℕ) (more : ℚ) → Offers hops sums w more → sum ≤ℚ more) → AreSettled nodes hops from (set sums i (Some sum))
-  settled_more v i sum n x m = subst (λ (k : ℕ). AreSettled nodes hops from (set sums k (Some sum))) (sym n) (record {
+  settled_more : (v : ℕ) (sum : ℚ) → Offers hops sums v sum → ((w : ℕ) (more : ℚ) → Offers hops sums w more → sum ≤ℚ more) → AreSettled nodes hops from (set sums v (Some sum))
+  settled_more v sum x m = record {
     count = length-set sums v (Some sum) ∙ settled.count;
     start = set_other sums v from (Some sum) 0ℚ x.not_settled settled.start;
     least = λ w s h. ⊎_elim
         (λ (e : (w ≡ v) × (Some s ≡ Some sum)). subst (λ (k : ℕ). IsLeastTransit hops from k s) (sym e.0) (subst (λ (t : ℚ). IsLeastTransit hops from v t) (same _ _ e.1) (offer_is_least v sum x m)))
         (λ (k : slice_get sums w ≡ Some (Some s)). settled.least w s k)
         (set_cases sums v w (Some sum) (Some s) h);
-  })
+  }
     where
       same : (a b : ℚ) → Some a ≡ Some b → b ≡ a
       same a b e = cc
@@ -163,14 +131,14 @@ module _ (nodes : ℕ) (hops : List Hop) (from : ℕ) (sums : List (Option ℚ))
       (λ (x : IsOpen sums h.0.head). absurd (m h.0.head (a +ℚ transit_of hops e) (offer_of e h.0 a h.1 tail x)))
       (entry h.0.head (below.heads e h.0 h.1))
 
-  pub settled_all : ((v : ℕ) (more : ℚ) → Offers hops sums v more → ⊥) → AreDistances nodes hops from sums
+  settled_all : ((v : ℕ) (more : ℚ) → Offers hops sums v more → ⊥) → AreDistances nodes hops from sums
   settled_all m = record {
     count = settled.count;
     least = settled.least;
     none = λ v o walk h. let s : (sum : ℚ) × HasSum sums v sum = stays walk from v 0ℚ m settled.start h in HasSum-not_open sums v s.0 s.1 o;
   }
 
-  pub all_fit : ((v : ℕ) (more : ℚ) → Offers hops sums v more → ⊥) → AllFit hops sums → (e : ℕ) (left right : ℚ) → PassesAt hops from e left right → ⊥
+  all_fit : ((v : ℕ) (more : ℚ) → Offers hops sums v more → ⊥) → AllFit hops sums → (e : ℕ) (left right : ℚ) → PassesAt hops from e left right → ⊥
   all_fit m fits e left right x =
       let s : (sum : ℚ) × HasSum sums x.hop.tail sum = stays x.least.taken.0 from x.hop.tail 0ℚ m settled.start x.least.taken.1 in
       let same : left ≡ s.0 = IsLeastTransit-unique hops from x.hop.tail left s.0 x.least (settled.least x.hop.tail s.0 s.1) in
@@ -179,27 +147,35 @@ module _ (nodes : ℕ) (hops : List Hop) (from : ℕ) (sums : List (Option ℚ))
   pub passes_at : (e : ℕ) (left right : ℚ) → StopsAt hops sums e left right → PassesAt hops from e left right
   passes_at e left right x = record { hop = x.hop; is_hop = x.is_hop; least = settled.least x.hop.tail left x.tail; transit = x.transit; passes = x.passes }
 
+  -- ---- the node that is settled next
+  module _ (offers : List (Option ℚ)) (best : Option Step) (made : AreOffers hops sums AnyLink offers) (near : IsNearest sums offers best) where
+    pub settled_next : (step : Step) (next : List (Option ℚ)) → best ≡ Some step → next ≡ set sums step.node (Some step.sum) → AreSettled nodes hops from next
+    settled_next step next e n = subst (AreSettled nodes hops from) (sym n)
+        (settled_more step.node step.sum (nearest_offers hops sums offers best made near step e) (nearest_least hops sums offers best made near step e))
+
+    pub unsettled_next : (step : Step) (next : List (Option ℚ)) → best ≡ Some step → next ≡ set sums step.node (Some step.sum) → unsettled next < unsettled sums
+    unsettled_next step next e n = subst (λ (ss : List (Option ℚ)). unsettled ss < unsettled sums) (sym n) (fewer_unsettled sums step.node step.sum (near.given step e).0)
+
+    pub settled_last : best ≡ None → AreDistances nodes hops from sums
+    settled_last e = settled_all (nearest_none hops sums offers best made near e)
+
+    pub none_passes : best ≡ None → (e : ℕ) (left right : ℚ) → PassesAt hops from e left right → ⊥
+    none_passes e = all_fit (nearest_none hops sums offers best made near e) (λ k hop before p t. made.fits k hop before p t tt)
+
 -- the node to begin with is settled, and no other
-pub settled_first : (nodes : ℕ) (hops : List Hop) (from i : ℕ) (sums : List (Option ℚ)) (start : ℚ) → NoneNegative hops → sums ≡ replicate nodes None → i ≡ from → from < nodes → start ≡ 0ℚ
-    → AreSettled nodes hops from (set sums i (Some start))
-settled_first nodes hops from i sums start good e n h z = subst (λ (k : ℕ). AreSettled nodes hops from (set sums k (Some start))) (sym n) (subst (λ (q : ℚ). AreSettled nodes hops from (set sums from (Some q))) (sym z) (record {
-  count = length-set sums from (Some 0ℚ) ∙ l;
-  start = set_same sums from (Some 0ℚ) (subst (λ (k : ℕ). from < k) (sym l) h);
+pub settled_first : (nodes : ℕ) (hops : List Hop) (from : ℕ) (sums : List (Option ℚ)) (start : ℚ) → NoneNegative hops → sums ≡ set (replicate nodes None) from (Some start) → from < nodes → start ≡ 0ℚ
+    → AreSettled nodes hops from sums
+settled_first nodes hops from sums start good e h z = subst (AreSettled nodes hops from) (sym (e ∙ ap (λ (q : ℚ). set (replicate nodes None) from (Some q)) z)) (record {
+  count = length-set (replicate nodes None) from (Some 0ℚ) ∙ length-replicate nodes None;
+  start = set_same (replicate nodes None) from (Some 0ℚ) (subst (λ (k : ℕ). from < k) (sym (length-replicate nodes None)) h);
   least = λ w s k. ⊎_elim
       (λ (p : (w ≡ from) × (Some s ≡ Some 0ℚ)). subst (λ (v : ℕ). IsLeastTransit hops from v s) (sym p.0) (subst (λ (t : ℚ). IsLeastTransit hops from from t) (same _ _ p.1) here))
-      (λ (p : slice_get sums w ≡ Some (Some s)). absurd (replicate_open nodes w s (subst (λ (ss : List (Option ℚ)). HasSum ss w s) e p)))
-      (set_cases sums from w (Some 0ℚ) (Some s) k);
-}))
+      (λ (p : slice_get (replicate nodes None) w ≡ Some (Some s)). absurd (replicate_open nodes w s p))
+      (set_cases (replicate nodes None) from w (Some 0ℚ) (Some s) k);
+})
   where
     same : (a b : ℚ) → Some a ≡ Some b → b ≡ a
     same a b q = cc
-
-    length-none : (k : ℕ) → length (replicate {A = Option ℚ} k None) ≡ k
-    length-none zero = refl
-    length-none (suc k) = ap suc (length-none k)
-
-    l : length sums ≡ nodes
-    l = ap length e ∙ length-none nodes
 
     here : IsLeastTransit hops from from 0ℚ
     here = record { taken = ([], refl, refl); bound = λ walk p. transit_sum-nn hops walk from from good p }

@@ -36,6 +36,12 @@ each_all P hops i so_far h k hop q = let w : k < length hops = slice_get_within 
 pub IsHop-read : (hops : List Hop) (i : ℕ) (hop : Hop) → i < length hops → hop ≡ get_or hops i hop → IsHop hops i hop
 IsHop-read hops i hop h e = slice_get_read hops (length hops) i hop refl h e
 
+-- each place of the list has a hop
+pub hop_at : (hops : List Hop) (e : ℕ) → e < length hops → (hop : Hop) × IsHop hops e hop
+hop_at [] e h = absurd (omega arith)
+hop_at (hop ∷ hops) zero h = (hop, refl)
+hop_at (hop ∷ hops) (suc e) h = hop_at hops e (omega arith)
+
 -- ---- tests of numbers
 pub same_from_test : (a b : ℕ) → true ≡ eqb a b → a ≡ b
 same_from_test a b e = ⊎_elim

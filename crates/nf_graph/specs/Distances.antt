@@ -1,5 +1,5 @@
 -- Least transit sums from a node.
-use Rattle.std.specs.Prelude.{◌≡◌, ℕ, true, Option, Some, None, List, length, slice_get}
+use Rattle.std.specs.Prelude.{◌≡◌, ℕ, ◌<◌, true, Option, Some, None, List, length, slice_get}
 use Rattle.nf_rational.specs.Rational.{ℚ}
 use Rattle.nf_rational.specs.Operations.{0ℚ, ◌+ℚ◌}
 use Rattle.nf_rational.specs.Order.{◌≤ℚ◌}
@@ -48,6 +48,22 @@ pub record Offers (hops : List Hop) (sums : List (Option ℚ)) (v : ℕ) (sum : 
   pub head : hop.head ≡ v
   pub not_settled : IsOpen sums v
   pub is_sum : sum ≡ before +ℚ hop.transit
+
+-- the offers made to open nodes along the links that Counted allows: each node has the least one, and no sum along these links passes
+pub record AreOffers (hops : List Hop) (sums : List (Option ℚ)) (Counted : ℕ → Hop → Type 0) (offers : List (Option ℚ)) : Type 0 where
+  pub count : length offers ≡ length sums
+  pub given : (v : ℕ) (sum : ℚ) → IsOpen sums v → HasSum offers v sum → Offers hops sums v sum
+  pub least : (v : ℕ) (sum : ℚ) (o : Offers hops sums v sum) → Counted o.number o.hop → (best : ℚ) × HasSum offers v best × (best ≤ℚ sum)
+  pub fits : (e : ℕ) (hop : Hop) (before : ℚ) → IsHop hops e hop → HasSum sums hop.tail before → Counted e hop
+      → SumPasses before hop.transit → ⊥
+
+-- each link is counted
+abbrev pub AnyLink : ℕ → Hop → Type 0
+AnyLink e hop = Unit {0}
+
+-- of the links that leave node v, those before number `count` are counted, and all other links
+abbrev pub LinksBefore : ℕ → ℕ → ℕ → Hop → Type 0
+LinksBefore v count e hop = hop.tail ≡ v → e < count
 
 -- no sum along a link that leaves a settled node passes
 abbrev pub AllFit : List Hop → List (Option ℚ) → Type 0

@@ -41,6 +41,20 @@ pub record Enters (hops : List Hop) (chosen placed : List Bool) (e v : ℕ) : Ty
   pub head : hop.head ≡ v
   pub free : Has placed hop.tail → ⊥
 
+-- none of the links before number `count` enters node v
+abbrev pub NoneEnters : List Hop → List Bool → List Bool → ℕ → ℕ → Type 0
+NoneEnters hops chosen placed v count = (e : ℕ) → e < count → Enters hops chosen placed e v → ⊥
+
+-- link e enters node v, and none before it does
+pub record IsFirstEntering (hops : List Hop) (chosen placed : List Bool) (v e : ℕ) : Type 0 where
+  pub enters : Enters hops chosen placed e v
+  pub first : NoneEnters hops chosen placed v e
+
+-- each node has a number, and none of the links before it enters the node
+pub record AreSearched (hops : List Hop) (chosen placed : List Bool) (searched : List ℕ) : Type 0 where
+  pub count : length searched ≡ length placed
+  pub none : (v start : ℕ) → slice_get searched v ≡ Some start → NoneEnters hops chosen placed v start
+
 -- node v may be placed next: it is not placed, and no chosen link enters it from an unplaced node
 pub record IsReady (hops : List Hop) (chosen placed : List Bool) (v : ℕ) : Type 0 where
   pub below : v < length placed

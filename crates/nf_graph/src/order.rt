@@ -4,14 +4,14 @@ ghost use Rattle.nf_rational.specs.Operations.{0ℚ};
 ghost use Rattle.nf_frac.specs.Order.{same_ℚ};
 ghost use Rattle.nf_model.specs.Entries.{Has};
 ghost use Rattle.nf_graph.specs.Graph.{AreBelow};
-ghost use Rattle.nf_graph.specs.Order.{IsOrder, IsChosenCycle, IsZeroCycle, Enters, IsReady, IsStuck, Turns};
+ghost use Rattle.nf_graph.specs.Order.{IsOrder, IsChosenCycle, IsZeroCycle, Enters, NoneEnters, IsFirstEntering, AreSearched, IsReady, IsStuck, Turns};
 ghost use Rattle.nf_graph.specs.Found.{IsFound};
 
 use crate::ids::{Hop, LinkId, NodeId};
 use nf_frac::Q;
 use std::alloc::{AllocError, Global};
 
-// The hop leads into this node from one without a flag.
+// Returns whether the hop leads to this node from one that is not placed.
 fn leads_in(hop: &Hop, placed: &[bool], node: NodeId) -> bool
     requires { hop.now.tail < length placed.now }
     ensures { MatchBool result ((hop.now.head ≡ node) × (Has placed.now hop.now.tail → ⊥))
@@ -21,15 +21,24 @@ fn leads_in(hop: &Hop, placed: &[bool], node: NodeId) -> bool
     hop.head == node && !placed[tail.index()]
 }
 
-// Returns whether this link is chosen and leads to this node from one that is not placed.
-fn entering(hops: &[Hop], chosen: &[bool], placed: &[bool], node: NodeId) -> Option<LinkId>
+// Returns the first link from number `start` on that is chosen and leads to this node from one that is not placed. Returns None if
+// there is none.
+fn entering_from(
+    hops: &[Hop],
+    chosen: &[bool],
+    placed: &[bool],
+    node: NodeId,
+    start: usize,
+) -> Option<LinkId>
     requires ends { AreBelow (length placed.now) hops.now }
     requires count { length chosen.now ≡ length hops.now }
     requires fewer { length hops.now < 2 ^ 32 }
-    ensures { MatchOption result ((e : ℕ) → Enters hops.now chosen.now placed.now e node → ⊥)
-        (λ e. Enters hops.now chosen.now placed.now e node) }
+    requires before { NoneEnters hops.now chosen.now placed.now node start }
+    ensures { MatchOption result (NoneEnters hops.now chosen.now placed.now node (length hops.now))
+        (λ e. IsFirstEntering hops.now chosen.now placed.now node e) }
 {
-    for (e, hop) in hops.iter().enumerate() {
+    for e in start..hops.len() {
+        let hop = &hops[e];
         if chosen[e] {
             if leads_in(hop, placed, node) {
                 return Some(LinkId(e as u32));
@@ -39,40 +48,61 @@ fn entering(hops: &[Hop], chosen: &[bool], placed: &[bool], node: NodeId) -> Opt
     None
 }
 
-// The node is not placed, and no chosen link leads into it from one that is not placed.
-fn is_ready(hops: &[Hop], chosen: &[bool], placed: &[bool], node: NodeId) -> bool
+// Returns whether the node is not placed, and no chosen link leads to it from one that is not placed. The links before number
+// `searched` do not; the number rises to the first link that does.
+fn is_ready(
+    hops: &[Hop],
+    chosen: &[bool],
+    placed: &[bool],
+    node: NodeId,
+    searched: &mut usize,
+) -> bool
     requires ends { AreBelow (length placed.now) hops.now }
     requires count { length chosen.now ≡ length hops.now }
     requires fewer { length hops.now < 2 ^ 32 }
     requires below { node < length placed.now }
-    ensures { MatchBool result (IsReady hops.now chosen.now placed.now node)
+    requires searched { NoneEnters hops.now chosen.now placed.now node searched.old }
+    ensures ready { MatchBool result (IsReady hops.now chosen.now placed.now node)
         ((Has placed.now node → ⊥) → (e : ℕ) × Enters hops.now chosen.now placed.now e node) }
+    ensures searched { NoneEnters hops.now chosen.now placed.now node searched.new }
 {
     if placed[node.index()] {
         return false;
     }
-    entering(hops, chosen, placed, node).is_none()
+    match entering_from(hops, chosen, placed, node, *searched) {
+        None => true,
+        Some(link) => {
+            *searched = link.index();
+            false
+        }
+    }
 }
 
-// A node that may be placed next.
-fn next_ready(hops: &[Hop], chosen: &[bool], placed: &[bool]) -> Option<NodeId>
+// Returns a node that may be placed next. Returns None if there is none. No link before the number searched of a node enters it.
+fn next_ready(
+    hops: &[Hop],
+    chosen: &[bool],
+    placed: &[bool],
+    searched: &mut [usize],
+) -> Option<NodeId>
     requires ends { AreBelow (length placed.now) hops.now }
     requires count { length chosen.now ≡ length hops.now }
     requires fewer { length hops.now < 2 ^ 32 }
     requires nodes { length placed.now < 2 ^ 32 }
-    ensures { MatchOption result (IsStuck hops.now chosen.now placed.now)
+    requires searched { AreSearched hops.now chosen.now placed.now searched.old }
+    ensures ready { MatchOption result (IsStuck hops.now chosen.now placed.now)
         (λ v. IsReady hops.now chosen.now placed.now v) }
+    ensures searched { AreSearched hops.now chosen.now placed.now searched.new }
 {
     for v in 0..placed.len() {
-        let node = NodeId(v as u32);
-        if is_ready(hops, chosen, placed, node) {
-            return Some(node);
+        if is_ready(hops, chosen, placed, NodeId(v as u32), &mut searched[v]) {
+            return Some(NodeId(v as u32));
         }
     }
     None
 }
 
-// A node that is not placed.
+// Returns a node that is not placed. Returns None if there is none.
 fn unplaced(placed: &[bool]) -> Option<NodeId>
     requires { length placed.now < 2 ^ 32 }
     ensures { MatchOption result ((v : ℕ) → v < length placed.now → Has placed.now v)
@@ -86,7 +116,7 @@ fn unplaced(placed: &[bool]) -> Option<NodeId>
     None
 }
 
-// How many links of a walk come up to the first one that leads to this node, and with it.
+// Returns how many links the walk has up to and including the first one that leads to this node. Returns None if none does.
 fn turn(hops: &[Hop], walk: &[LinkId], node: NodeId) -> Option<usize>
     requires { (i e : ℕ) → slice_get walk.now i ≡ Some e → e < length hops.now }
     ensures { MatchOption result ((count : ℕ) → Turns hops.now walk.now node count → ⊥)
@@ -101,7 +131,7 @@ fn turn(hops: &[Hop], walk: &[LinkId], node: NodeId) -> Option<usize>
     None
 }
 
-// The same, where there is such a node.
+// Returns the same for a walk with such a link.
 fn turn_back(hops: &[Hop], walk: &[LinkId], node: NodeId) -> usize
     requires within { (i e : ℕ) → slice_get walk.now i ≡ Some e → e < length hops.now }
     requires turns { (count : ℕ) × Turns hops.now walk.now node count }
@@ -113,7 +143,7 @@ fn turn_back(hops: &[Hop], walk: &[LinkId], node: NodeId) -> usize
     }
 }
 
-// A chosen link into this node from one that is not placed, where there is one.
+// Returns a chosen link to this node from one that is not placed. There must be one.
 fn entering_link(hops: &[Hop], chosen: &[bool], placed: &[bool], node: NodeId) -> LinkId
     requires ends { AreBelow (length placed.now) hops.now }
     requires count { length chosen.now ≡ length hops.now }
@@ -121,14 +151,14 @@ fn entering_link(hops: &[Hop], chosen: &[bool], placed: &[bool], node: NodeId) -
     requires some { (e : ℕ) × Enters hops.now chosen.now placed.now e node }
     ensures { Enters hops.now chosen.now placed.now result node }
 {
-    match entering(hops, chosen, placed, node) {
+    match entering_from(hops, chosen, placed, node, 0) {
         Some(link) => link,
         None => unreachable!(),
     }
 }
 
-// A cycle along chosen links, where each node that is not placed is entered: one goes back from a node until one comes to a
-// node for the second time.
+// Returns a cycle along chosen links. A chosen link must enter each node that is not placed, from another such node. The walk
+// goes back from the start until it comes to a node for the second time. Fails if an allocation fails.
 fn cycle_back(
     alloc: Global,
     hops: &[Hop],
@@ -165,7 +195,8 @@ enum OrderOrCycle {
     Cycle(Vec<LinkId>),
 }
 
-// An order of the nodes in which every chosen link leads to a later one, or a cycle along chosen links.
+// Returns an order of the nodes in which every chosen link leads to a later one, or a cycle along chosen links. Fails if an
+// allocation fails.
 fn order_or_cycle(
     alloc: Global,
     nodes: u32,
@@ -178,8 +209,9 @@ fn order_or_cycle(
     ensures { IfOk result (λ found. IsFound nodes hops.now chosen.now found) }
 {
     let mut placed = vec![in alloc; false; nodes as usize]?;
+    let mut searched = vec![in alloc; 0; nodes as usize]?;
     let mut order = Vec::new(alloc);
-    while let Some(node) = next_ready(hops, chosen, &placed) {
+    while let Some(node) = next_ready(hops, chosen, &placed, &mut searched) {
         placed[node.index()] = true;
         order.push(node)?;
     }
@@ -192,8 +224,8 @@ fn order_or_cycle(
     }
 }
 
-/// All nodes, each once, in an order in which every chosen link leads to a later one. None exactly where the chosen links hold
-/// a cycle. There is one flag for each link.
+/// Returns all nodes, each once, in an order in which every chosen link leads to a later one. Returns None exactly if the chosen
+/// links hold a cycle. There is one flag for each link. Fails if an allocation fails.
 pub fn topological(
     alloc: Global,
     nodes: u32,
@@ -212,7 +244,7 @@ pub fn topological(
     }
 }
 
-// Of each link, whether its transit time is 0.
+// Returns for each link whether its transit time is 0. Fails if an allocation fails.
 fn zero_links(alloc: Global, hops: &[Hop]) -> Result<Vec<bool>, AllocError>
     ensures { IfOk result (λ flags. flags.items ≡ map (λ hop. same_ℚ hop.transit 0ℚ) hops.now) }
 {
@@ -221,8 +253,8 @@ fn zero_links(alloc: Global, hops: &[Hop]) -> Result<Vec<bool>, AllocError>
         .collect(alloc)
 }
 
-/// A closed walk of at least one link, each of zero transit time. None exactly where there is none. Where no transit time is
-/// negative, these are the closed walks that take no time.
+/// Returns a closed walk of at least one link, each of zero transit time. Returns None exactly if there is none. If no transit
+/// time is negative, these are the closed walks that take no time. Fails if an allocation fails.
 pub fn zero_cycle(
     alloc: Global,
     nodes: u32,

@@ -6,7 +6,7 @@ ghost use Rattle.nf_graph.specs.Graph.{AreBelow, AreReached, Leaves, IsClosed};
 use crate::ids::{Hop, NodeId};
 use std::alloc::{AllocError, Global};
 
-// The hop leads from a node with a flag to one without.
+// Returns whether the hop leads from a node with a set flag to one without.
 fn leads_out(hop: &Hop, flags: &[bool]) -> bool
     requires tail { hop.now.tail < length flags.now }
     requires head { hop.now.head < length flags.now }
@@ -18,7 +18,7 @@ fn leads_out(hop: &Hop, flags: &[bool]) -> bool
     flags[tail.index()] && !flags[head.index()]
 }
 
-// A node without a flag to which a hop leads from one with a flag.
+// Returns a node without a set flag to which a hop leads from one with a set flag. Returns None if there is none.
 fn next_reached(hops: &[Hop], flags: &[bool]) -> Option<NodeId>
     requires { AreBelow (length flags.now) hops.now }
     ensures { MatchOption result (IsClosed hops.now flags.now) (λ v. Leaves hops.now flags.now v) }
@@ -31,7 +31,7 @@ fn next_reached(hops: &[Hop], flags: &[bool]) -> Option<NodeId>
     None
 }
 
-/// Of each node, whether a walk leads to it from this one; the node itself is one of them.
+/// Returns for each node whether a walk leads from `from` to it. The empty walk leads to `from` itself. Fails if an allocation fails.
 pub fn reached(
     alloc: Global,
     nodes: u32,

@@ -29,8 +29,8 @@ impl LinkSets {
     ghost use Rattle.std.specs.Prelude.{◌≡◌, ◌<◌, length, slice_get, IfOk};
     ghost use Rattle.nf_graph.specs.Sets.{AreSets};
 
-    /// Makes the sets of these flags, two for each link. Both lists must be equally long, and each resetting link active. Fails only
-    /// if an allocation fails.
+    /// Makes the sets of these flags, two for each link. Both lists must be equally long, and each resetting link active. Fails if an
+    /// allocation fails.
     pub fn new(alloc: Global, active: &[bool], resetting: &[bool]) -> Result<LinkSets, AllocError>
         requires { AreSets (record { active = active.now; resetting = resetting.now }) }
         ensures { IfOk result (λ sets. sets ≡ record { active = active.now; resetting = resetting.now }) }

@@ -1,18 +1,12 @@
-use Rattle.std.proofs.Common.{ℕ, sym, subst, arith}
+use Rattle.std.proofs.Common.{ℕ, sym, subst}
 use Rattle.std.specs.Int.{IsGcd}
 use Rattle.nf_rational.specs.Gcd.{IsGcd-gcd}
-use Rattle.nf_frac.proofs.Halving.{whole_gcd, shifted_back, gcd_left_zero, gcd_right_zero}
+use Rattle.nf_frac.proofs.Halving.{whole_gcd, shifted_back}
 use Rattle.nf_frac.proofs.whole.gcd_halving.Goals as goal
-
-pub returns-then-a-eq0 : goal.returns-then-a-eq0
-returns-then-a-eq0 c = gcd_left_zero c.args.a c.args.b c.if-a-eq0.true
-
-pub returns-then-b-eq0 : goal.returns-then-b-eq0
-returns-then-b-eq0 c = gcd_right_zero c.args.a c.args.b c.if-b-eq0.true
 
 pub returns : goal.returns
 returns c =
     let found = subst (λ (m : ℕ). IsGcd c.odd_part.result c.odd_part-2.result m) (sym c.gcd_odd.ensures) (IsGcd-gcd c.odd_part.result c.odd_part-2.result) in
     shifted_back c.args.a c.args.b _ _ c.gcd_odd.result c.min-twos.ensures
     (whole_gcd c.args.a c.args.b _ _ c.odd_part.result c.odd_part-2.result c.gcd_odd.result c.odd_part.ensures.power c.odd_part-2.ensures.power c.odd_part.ensures.odd c.odd_part-2.ensures.odd found)
-    (omega arith) c.ranges.b.fits
+    c.requires.right c.ranges.b.fits

@@ -1,6 +1,6 @@
 use Rattle.nf_graph.specs.Steps.{IsNearestBefore}
 use Rattle.nf_graph.proofs.distance.nearest.Given as goal
 
--- the least offer of the links so far
-abbrev pub invariant-loop-e : goal.invariant-loop-e
-invariant-loop-e l = IsNearestBefore l.hops l.sums l.e l.best
+-- the least offer made to the open nodes so far
+abbrev pub invariant-loop-v : goal.invariant-loop-v
+invariant-loop-v l = IsNearestBefore l.sums l.offers l.v l.best
