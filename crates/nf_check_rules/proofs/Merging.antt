@@ -1,146 +1,225 @@
--- Times of two lists, in rising order.
-use Rattle.std.proofs.Common.{◌≡◌, ℕ, zero, suc, ◌+◌, ◌<◌, ◌≤◌, List, [], ◌∷◌, ◌++◌, length, drop, ◌⊎◌, inl, inr, ⊎_elim, Bool, true, false, cond, Some, slice_get, refl, sym, ap, subst, ◌∙◌, append-nil, append_assoc, arith}
-use Rattle.std.specs.Prelude.{if◌then◌else◌}
-use Rattle.std.specs.List.{AllByRecursion}
-use Rattle.std.specs.Ordering.{is_lt, is_gt}
-use Rattle.std.specs.declared.cmp.Ordering.{Ordering}
+-- The next of the times of three curves.
+use Rattle.std.proofs.Common.{◌≡◌, ℕ, ◌<◌, ◌≤◌, List, [], ◌∷◌, length, ◌⊎◌, inl, inr, ⊎_elim, Bool, true, false, Some, None, slice_get, refl, sym, ap, subst, ◌∙◌, arith}
+use Rattle.std.specs.Prelude.{Option, IfSome, option_map, not, ◌||◌}
+use Rattle.std.proofs.lemmas.Option.{same_Some}
 use Rattle.nf_rational.specs.Rational.{ℚ}
 use Rattle.nf_rational.specs.Operations.{0ℚ}
-use Rattle.nf_rational.specs.Order.{◌≤ℚ◌, ◌<ℚ◌, cmp_ℚ, lt_ℚ, min_ℚ}
-use Rattle.nf_rational_laws.proofs.Order.{≤ℚ_of_lt, ≤ℚ_of_same, not_both_ℚ}
+use Rattle.nf_rational.specs.Order.{◌≤ℚ◌, ◌<ℚ◌, lt_ℚ, min_ℚ}
+use Rattle.nf_rational_laws.proofs.Order.{≤ℚ_of_lt, ≤ℚ_of_same, ≤ℚ_antisymm, not_both_ℚ}
 use Rattle.nf_rational_laws.proofs.Tests.{lt_ℚ_cases}
 use Rattle.nf_rational_laws.proofs.Chains.{≤ℚ_trans}
 use Rattle.nf_rational_laws.proofs.Extremes.{min_is_left, min_is_right}
-use Rattle.nf_frac.proofs.Comparisons.{lt-cmp, gt-cmp, lesser_is_first, lesser_is_second}
 use Rattle.nf_model.specs.Curve.{Point, TimesRise, IsCurve}
 use Rattle.nf_curve_def.specs.Times.{merged, merged_from, times_of}
 use Rattle.nf_curve_laws.proofs.Times.{merged_from-cases}
+use Rattle.nf_curve.specs.Places.{place_of, later, earlier_of}
+use Rattle.nf_curve.proofs.Placing.{curve-rises, place-rises}
+use Rattle.nf_curve.proofs.Walking.{head_of, place-head, later-steps, later-none, later-first, earlier-left, earlier-right, time-first}
 use Rattle.nf_check_def.specs.Routes.{three_times}
-use Rattle.nf_check_rules.specs.Sent.{moved_on}
-use Rattle.nf_check_rules.proofs.PointByPoint.{drop_one, drop_none}
+use Rattle.nf_check_rules.specs.Sent.{AreCurves, ArePlaces, first_time, three_after}
+use Rattle.nf_check_rules.specs.declared.sent.Sent.{Sent}
+use Rattle.nf_check_rules.specs.declared.sent.Places.{Places}
 
--- ---- a place moves on, unless the other time comes first
-stays : (place : ℕ) (here other : ℚ) → other <ℚ here → moved_on place here other ≡ place
-stays place here other h = ⊎_elim
-    (λ (w : (lt_ℚ other here ≡ true) × (other <ℚ here)). ap (λ (b : Bool). if b then place else place + 1) w.0)
-    (λ (w : (lt_ℚ other here ≡ false) × (here ≤ℚ other)). absurd (not_both_ℚ other here h w.1))
-    (lt_ℚ_cases other here)
+-- ---- a time leaves a list if it is the first there, and comes before all of it otherwise
+pub data Leaves (time : ℚ) : Bool → List ℚ → List ℚ → Type 0 where
+  none : Leaves time false [] []
+  waits : (x : ℚ) (xs : List ℚ) → time <ℚ x → Leaves time false (x ∷ xs) (x ∷ xs)
+  leaves : (x : ℚ) (xs : List ℚ) → time ≡ x → Leaves time true (x ∷ xs) xs
 
-moves : (place : ℕ) (here other : ℚ) → here ≤ℚ other → moved_on place here other ≡ place + 1
-moves place here other h = ⊎_elim
-    (λ (w : (lt_ℚ other here ≡ true) × (other <ℚ here)). absurd (not_both_ℚ other here w.1 h))
-    (λ (w : (lt_ℚ other here ≡ false) × (here ≤ℚ other)). ap (λ (b : Bool). if b then place else place + 1) w.0)
-    (lt_ℚ_cases other here)
+module _ (time : ℚ) where
+  -- of two lists, it leaves what they are merged into
+  merged-leaves : {b d : Bool} {xs xs' ys ys' : List ℚ} → Leaves time b xs xs' → Leaves time d ys ys' → Leaves time (b || d) (merged xs ys) (merged xs' ys')
+  merged-leaves none w = w
+  merged-leaves (waits x xs h) none = waits x (merged xs []) h
+  merged-leaves (leaves x xs h) none = leaves x (merged xs []) h
+  merged-leaves (waits x xs h) (waits y ys k) = merged_from-cases (λ (l : List ℚ). Leaves time false l l) x (merged xs) y ys
+      (λ _. waits x (merged xs (y ∷ ys)) h)
+      (λ _. waits y (merged (x ∷ xs) ys) k)
+      (λ _. waits x (merged xs ys) h)
+  merged-leaves (waits x xs h) (leaves y ys k) = merged_from-cases (λ (l : List ℚ). Leaves time true l (merged (x ∷ xs) ys)) x (merged xs) y ys
+      (λ before. absurd (not_both_ℚ x y before (≤ℚ_of_lt _ _ (subst (λ (t : ℚ). t <ℚ x) k h))))
+      (λ _. leaves y (merged (x ∷ xs) ys) k)
+      (λ same. absurd (not_both_ℚ y x (subst (λ (t : ℚ). t <ℚ x) k h) (≤ℚ_of_same _ _ same)))
+  merged-leaves (leaves x xs h) (waits y ys k) = merged_from-cases (λ (l : List ℚ). Leaves time true l (merged xs (y ∷ ys))) x (merged xs) y ys
+      (λ _. leaves x (merged xs (y ∷ ys)) h)
+      (λ before. absurd (not_both_ℚ y x before (≤ℚ_of_lt _ _ (subst (λ (t : ℚ). t <ℚ y) h k))))
+      (λ same. absurd (not_both_ℚ x y (subst (λ (t : ℚ). t <ℚ y) h k) (≤ℚ_of_same _ _ (sym same))))
+  merged-leaves (leaves x xs h) (leaves y ys k) = merged_from-cases (λ (l : List ℚ). Leaves time true l (merged xs ys)) x (merged xs) y ys
+      (λ before. absurd (not_both_ℚ x y before (≤ℚ_of_same _ _ (sym k ∙ h))))
+      (λ before. absurd (not_both_ℚ y x before (≤ℚ_of_same _ _ (sym h ∙ k))))
+      (λ _. leaves x (merged xs ys) h)
 
-module _ (left right : List ℚ) (i j : ℕ) (s t : ℚ) (at : slice_get left i ≡ Some s) (there : slice_get right j ≡ Some t) where
-  abbrev Next : List ℚ → Type 0
-  Next l = l ≡ min_ℚ s t ∷ merged (drop (moved_on i s t) left) (drop (moved_on j t s) right)
+  left_first : {l later : List ℚ} → Leaves time true l later → l ≡ time ∷ later
+  left_first (leaves x xs h) = ap (λ (z : ℚ). z ∷ xs) (sym h)
 
-  from_places : (a b : ℕ) (u : ℚ) (l : List ℚ) → min_ℚ s t ≡ u → moved_on i s t ≡ a → moved_on j t s ≡ b → l ≡ u ∷ merged (drop a left) (drop b right) → Next l
-  from_places a b u l e f g h = h ∙ sym (ap (λ (x : ℚ). x ∷ merged (drop (moved_on i s t) left) (drop (moved_on j t s) right)) e
-      ∙ ap (λ (k : ℕ). u ∷ merged (drop k left) (drop (moved_on j t s) right)) f ∙ ap (λ (k : ℕ). u ∷ merged (drop a left) (drop k right)) g)
+  -- ---- of a curve, by its first time
+  is_first : Option ℚ → Bool
+  is_first None = false
+  is_first (Some x) = not (lt_ℚ time x)
 
-  next_time : merged (drop i left) (drop j right) ≡ min_ℚ s t ∷ merged (drop (moved_on i s t) left) (drop (moved_on j t s) right)
-  next_time =
-      ap (λ (l : List ℚ). merged l (drop j right)) (drop_one left i s at) ∙ ap (merged (s ∷ drop (i + 1) left)) (drop_one right j t there)
-      ∙ merged_from-cases Next s (merged (drop (i + 1) left)) t (drop (j + 1) right)
-      (λ h. from_places (i + 1) j s (s ∷ merged (drop (i + 1) left) (t ∷ drop (j + 1) right)) (min_is_left s t (≤ℚ_of_lt _ _ h)) (moves i s t (≤ℚ_of_lt _ _ h)) (stays j t s h)
-      (ap (λ (l : List ℚ). s ∷ merged (drop (i + 1) left) l) (sym (drop_one right j t there))))
-      (λ h. from_places i (j + 1) t (t ∷ merged (s ∷ drop (i + 1) left) (drop (j + 1) right)) (min_is_right s t (≤ℚ_of_lt _ _ h)) (stays i s t h) (moves j t s (≤ℚ_of_lt _ _ h))
-      (ap (λ (l : List ℚ). t ∷ merged l (drop (j + 1) right)) (sym (drop_one left i s at))))
-      (λ h. from_places (i + 1) (j + 1) s (s ∷ merged (drop (i + 1) left) (drop (j + 1) right)) (min_is_left s t (≤ℚ_of_same _ _ h)) (moves i s t (≤ℚ_of_same _ _ h)) (moves j t s (≤ℚ_of_same _ _ (sym h))) refl)
+  first_is : (x : ℚ) → x ≡ time → is_first (Some x) ≡ true
+  unfolding is_first
+  first_is x e = ⊎_elim
+      (λ (w : (lt_ℚ time x ≡ true) × (time <ℚ x)). absurd (not_both_ℚ time x w.1 (≤ℚ_of_same _ _ e)))
+      (λ (w : (lt_ℚ time x ≡ false) × (x ≤ℚ time)). ap not w.0)
+      (lt_ℚ_cases time x)
 
-  module _ (front all : List ℚ) (so_far : front ++ merged (drop i left) (drop j right) ≡ all) where
-    pub times_go : (next : List ℚ) (a b : ℕ) (u : ℚ) → u ≡ min_ℚ s t → next ≡ front ++ u ∷ [] → a ≡ moved_on i s t → b ≡ moved_on j t s → next ++ merged (drop a left) (drop b right) ≡ all
-    times_go next a b u e n f g =
-        ap (λ (l : List ℚ). l ++ merged (drop a left) (drop b right)) (n ∙ ap (λ (x : ℚ). front ++ x ∷ []) e)
-        ∙ ap (λ (k : ℕ). (front ++ min_ℚ s t ∷ []) ++ merged (drop k left) (drop b right)) f ∙ ap (λ (k : ℕ). (front ++ min_ℚ s t ∷ []) ++ merged (drop (moved_on i s t) left) (drop k right)) g
-        ∙ append_assoc front (min_ℚ s t ∷ []) (merged (drop (moved_on i s t) left) (drop (moved_on j t s) right))
-        ∙ ap (λ (l : List ℚ). front ++ l) (sym next_time) ∙ so_far
+  module _ (now : ℚ) (points : List Point) (r : TimesRise points) (after : now <ℚ time) where
+    curve-leaves : (rest : List Point) → later now points ≡ rest → IfSome (head_of rest) (λ x. time ≤ℚ x) → Leaves time (is_first (head_of rest)) (times_of rest) (times_of (later time points))
+    unfolding is_first
+    curve-leaves [] e h = subst (λ (l : List Point). Leaves time false [] (times_of l)) (sym (later-none now time points e (≤ℚ_of_lt _ _ after))) none
+    curve-leaves (p ∷ rest) e h =
+        let s = later-steps now points p rest r e in
+        ⊎_elim
+        (λ (w : (lt_ℚ time p.0 ≡ true) × (time <ℚ p.0)). subst (λ (b : Bool). Leaves time (not b) (p.0 ∷ times_of rest) (times_of (later time points))) (sym w.0)
+        (subst (λ (l : List Point). Leaves time false (p.0 ∷ times_of rest) (times_of l)) (sym (s.stays time (≤ℚ_of_lt _ _ after) w.1)) (waits p.0 (times_of rest) w.1)))
+        (λ (w : (lt_ℚ time p.0 ≡ false) × (p.0 ≤ℚ time)). subst (λ (b : Bool). Leaves time (not b) (p.0 ∷ times_of rest) (times_of (later time points))) (sym w.0)
+        (subst (λ (l : List Point). Leaves time true (p.0 ∷ times_of rest) (times_of l)) (sym (ap (λ (t : ℚ). later t points) (≤ℚ_antisymm time p.0 h w.1) ∙ s.next))
+        (leaves p.0 (times_of rest) (≤ℚ_antisymm time p.0 h w.1))))
+        (lt_ℚ_cases time p.0)
 
--- how far a place moves
-pub moved_least : (place : ℕ) (here other : ℚ) → place ≤ moved_on place here other
-moved_least place here other = go (lt_ℚ other here)
+-- ---- the earliest of three times
+one_of_two : (s t : Option ℚ) (time : ℚ) → earlier_of s t ≡ Some time → (s ≡ Some time) ⊎ (t ≡ Some time)
+one_of_two None None time e = absurd (cc)
+one_of_two (Some x) None time e = inl e
+one_of_two None (Some y) time e = inr e
+one_of_two (Some x) (Some y) time e = ⊎_elim
+    (λ (w : (lt_ℚ y x ≡ true) × (y <ℚ x)). inr (ap (λ (z : ℚ). Some z) (sym (min_is_right x y (≤ℚ_of_lt _ _ w.1))) ∙ e))
+    (λ (w : (lt_ℚ y x ≡ false) × (x ≤ℚ y)). inl (ap (λ (z : ℚ). Some z) (sym (min_is_left x y w.1)) ∙ e))
+    (lt_ℚ_cases y x)
+
+two_ended : (s t : Option ℚ) → earlier_of s t ≡ None → (s ≡ None) × (t ≡ None)
+two_ended None None e = (refl, refl)
+two_ended (Some x) None e = absurd (cc)
+two_ended None (Some y) e = absurd (cc)
+two_ended (Some x) (Some y) e = absurd (cc)
+
+-- the earlier of two is no later than a time that comes before neither
+from_earlier : (s t : Option ℚ) (time : ℚ) → IfSome (earlier_of s t) (λ x. time ≤ℚ x) → IfSome s (λ x. time ≤ℚ x) × IfSome t (λ x. time ≤ℚ x)
+from_earlier None None time h = (tt, tt)
+from_earlier (Some x) None time h = (h, tt)
+from_earlier None (Some y) time h = (tt, h)
+from_earlier (Some x) (Some y) time h = (≤ℚ_trans _ _ _ h (earlier-left (Some x) (Some y) (min_ℚ x y) refl), ≤ℚ_trans _ _ _ h (earlier-right (Some x) (Some y) (min_ℚ x y) refl))
+
+head_none : (rest : List Point) → head_of rest ≡ None → rest ≡ []
+head_none [] e = refl
+head_none (p ∷ rest) e = absurd (cc)
+
+-- ---- the times of three curves after a time
+module _ (taken exits labels : List Point) (c : TimesRise taken) (d : TimesRise exits) (e : TimesRise labels) (now : ℚ) where
+  abbrev first_of : List Point → Option ℚ
+  first_of points = head_of (later now points)
+
+  pub three-end : earlier_of (earlier_of (first_of taken) (first_of exits)) (first_of labels) ≡ None → three_after now taken exits labels ≡ []
+  three-end h =
+      let w = two_ended (earlier_of (first_of taken) (first_of exits)) (first_of labels) h in
+      let v = two_ended (first_of taken) (first_of exits) w.0 in
+      ap (λ (l : List Point). merged (merged (times_of l) (times_of (later now exits))) (times_of (later now labels))) (head_none (later now taken) v.0)
+      ∙ ap (λ (l : List Point). merged (times_of l) (times_of (later now labels))) (head_none (later now exits) v.1)
+      ∙ ap times_of (head_none (later now labels) w.1)
+
+  -- the earliest of the three comes next
+  pub record Next (time : ℚ) : Type 0 where
+    pub later : now <ℚ time
+    pub times : three_after now taken exits labels ≡ time ∷ three_after time taken exits labels
+    pub taken_at : IfSome (first_of taken) (λ x. time ≤ℚ x)
+    pub exits_at : IfSome (first_of exits) (λ x. time ≤ℚ x)
+    pub labels_at : IfSome (first_of labels) (λ x. time ≤ℚ x)
+
+  module _ (time : ℚ) (h : earlier_of (earlier_of (first_of taken) (first_of exits)) (first_of labels) ≡ Some time) where
+    at_two : IfSome (earlier_of (first_of taken) (first_of exits)) (λ x. time ≤ℚ x)
+    at_two = earlier-left (earlier_of (first_of taken) (first_of exits)) (first_of labels) time h
+
+    at_labels : IfSome (first_of labels) (λ x. time ≤ℚ x)
+    at_labels = earlier-right (earlier_of (first_of taken) (first_of exits)) (first_of labels) time h
+
+    at_each : IfSome (first_of taken) (λ x. time ≤ℚ x) × IfSome (first_of exits) (λ x. time ≤ℚ x)
+    at_each = from_earlier (first_of taken) (first_of exits) time at_two
+
+    one_of_three : (first_of taken ≡ Some time) ⊎ ((first_of exits ≡ Some time) ⊎ (first_of labels ≡ Some time))
+    one_of_three = ⊎_elim
+        (λ (w : earlier_of (first_of taken) (first_of exits) ≡ Some time). ⊎_elim (λ (v : first_of taken ≡ Some time). inl v) (λ (v : first_of exits ≡ Some time). inr (inl v)) (one_of_two (first_of taken) (first_of exits) time w))
+        (λ (w : first_of labels ≡ Some time). inr (inr w))
+        (one_of_two (earlier_of (first_of taken) (first_of exits)) (first_of labels) time h)
+
+    by_curve : (points rest : List Point) → TimesRise points → later now points ≡ rest → head_of rest ≡ Some time → now <ℚ time
+    by_curve points [] r f g = absurd (cc)
+    by_curve points (p ∷ rest) r f g = subst (λ (t : ℚ). now <ℚ t) (same_Some _ _ g) (later-steps now points p rest r f).after
+
+    is_later : now <ℚ time
+    is_later = ⊎_elim
+        (λ (w : first_of taken ≡ Some time). by_curve taken (later now taken) c refl w)
+        (λ (w : (first_of exits ≡ Some time) ⊎ (first_of labels ≡ Some time)). ⊎_elim (λ (v : first_of exits ≡ Some time). by_curve exits (later now exits) d refl v) (λ (v : first_of labels ≡ Some time). by_curve labels (later now labels) e refl v) w)
+        one_of_three
+
+    found : (o : Option ℚ) → o ≡ Some time → is_first time o ≡ true
+    found o g = ap (is_first time) g ∙ first_is time time refl
+
+    one_leaves : (is_first time (first_of taken) || is_first time (first_of exits)) || is_first time (first_of labels) ≡ true
+    one_leaves = ⊎_elim
+        (λ (w : first_of taken ≡ Some time). ap (λ (b : Bool). (b || is_first time (first_of exits)) || is_first time (first_of labels)) (found (first_of taken) w))
+        (λ (w : (first_of exits ≡ Some time) ⊎ (first_of labels ≡ Some time)). ⊎_elim
+        (λ (v : first_of exits ≡ Some time). ap (λ (b : Bool). (is_first time (first_of taken) || b) || is_first time (first_of labels)) (found (first_of exits) v) ∙ ap (λ (b : Bool). b || is_first time (first_of labels)) (or_true (is_first time (first_of taken))))
+        (λ (v : first_of labels ≡ Some time). ap (λ (b : Bool). (is_first time (first_of taken) || is_first time (first_of exits)) || b) (found (first_of labels) v) ∙ or_true (is_first time (first_of taken) || is_first time (first_of exits)))
+        w)
+        one_of_three
+      where
+        or_true : (b : Bool) → b || true ≡ true
+        or_true true = refl
+        or_true false = refl
+
+    all_leave : Leaves time ((is_first time (first_of taken) || is_first time (first_of exits)) || is_first time (first_of labels)) (three_after now taken exits labels) (three_after time taken exits labels)
+    all_leave = merged-leaves time
+        (merged-leaves time (curve-leaves time now taken c is_later (later now taken) refl at_each.0) (curve-leaves time now exits d is_later (later now exits) refl at_each.1))
+        (curve-leaves time now labels e is_later (later now labels) refl at_labels)
+
+    pub three-goes : Next time
+    three-goes = record {
+      later = is_later;
+      times = left_first time
+          (subst (λ (b : Bool). Leaves time b (three_after now taken exits labels) (three_after time taken exits labels)) one_leaves all_leave);
+      taken_at = at_each.0;
+      exits_at = at_each.1;
+      labels_at = at_labels;
+    }
+
+-- ---- the first of all times is 0
+pub three-begin : (taken exits labels : List Point) → IsCurve taken → IsCurve exits → IsCurve labels → three_times taken exits labels ≡ 0ℚ ∷ three_after 0ℚ taken exits labels
+three-begin taken exits labels c d e = left_first 0ℚ
+    (merged-leaves 0ℚ (merged-leaves 0ℚ (starts taken c) (starts exits d)) (starts labels e))
   where
-    go : (b : Bool) → place ≤ (if b then place else place + 1)
-    go true = omega arith
-    go false = omega arith
+    starts : (points : List Point) → IsCurve points → Leaves 0ℚ true (times_of points) (times_of (later 0ℚ points))
+    starts [] c = absurd c
+    starts (p ∷ rest) c = subst (λ (l : List Point). Leaves 0ℚ true (p.0 ∷ times_of rest) (times_of l)) (sym (ap (λ (t : ℚ). later t (p ∷ rest)) (sym c.0) ∙ later-first p rest c.1)) (leaves p.0 (times_of rest) (sym c.0))
 
-pub moved_most : (place : ℕ) (here other : ℚ) → moved_on place here other ≤ place + 1
-moved_most place here other = go (lt_ℚ other here)
-  where
-    go : (b : Bool) → (if b then place else place + 1) ≤ place + 1
-    go true = omega arith
-    go false = omega arith
+-- ---- the next time, by the point counts of a departure
+module _ (sent : Sent) (curves : AreCurves sent) (places : Places) (now : ℚ) (there : ArePlaces sent now places) where
+  abbrev NextOf : ℚ → Type 0
+  NextOf time = Next sent.taken.points sent.exits.points sent.labels.points (curve-rises sent.taken.points curves.taken) (curve-rises sent.exits.points curves.exits) (curve-rises sent.labels.points curves.labels) now time
 
--- one of the two places moves on
-pub one_moves : (i j : ℕ) (s t : ℚ) → i + j < moved_on i s t + moved_on j t s
-one_moves i j s t = ⊎_elim
-    (λ (w : (lt_ℚ t s ≡ true) × (t <ℚ s)). let e = moves j t s (≤ℚ_of_lt _ _ w.1) in let k = moved_least i s t in omega arith)
-    (λ (w : (lt_ℚ t s ≡ false) × (s ≤ℚ t)). let e = moves i s t w.1 in let k = moved_least j t s in omega arith)
-    (lt_ℚ_cases t s)
+  at_place : (points : List Point) (k : ℕ) → k ≡ place_of now points → option_map (λ (p : Point). p.0) (slice_get points k) ≡ head_of (later now points)
+  at_place points k e = ap (λ (n : ℕ). option_map (λ (p : Point). p.0) (slice_get points n)) e ∙ place-head now points
 
--- ---- where one of the lists has ended
-merged_none : (xs : List ℚ) → merged xs [] ≡ xs
-merged_none [] = refl
-merged_none (x ∷ xs) = ap (λ (l : List ℚ). x ∷ l) (merged_none xs)
+  first_is_earliest : first_time sent places ≡ earlier_of (earlier_of (head_of (later now sent.taken.points)) (head_of (later now sent.exits.points))) (head_of (later now sent.labels.points))
+  first_is_earliest =
+      let all : Option ℚ → Option ℚ → Option ℚ → Option ℚ = λ s t u. earlier_of (earlier_of s t) u in
+      ap (λ (o : Option ℚ). all o (option_map (λ (p : Point). p.0) (slice_get sent.exits.points places.exits)) (option_map (λ (p : Point). p.0) (slice_get sent.labels.points places.labels))) (at_place sent.taken.points places.taken there.taken)
+      ∙ ap (λ (o : Option ℚ). all (head_of (later now sent.taken.points)) o (option_map (λ (p : Point). p.0) (slice_get sent.labels.points places.labels))) (at_place sent.exits.points places.exits there.exits)
+      ∙ ap (λ (o : Option ℚ). all (head_of (later now sent.taken.points)) (head_of (later now sent.exits.points)) o) (at_place sent.labels.points places.labels there.labels)
 
-one_ended : (xs ys : List ℚ) → (xs ≡ []) ⊎ (ys ≡ []) → merged xs ys ≡ xs ++ ys
-one_ended xs ys (inl e) = ap (λ (l : List ℚ). merged l ys) e ∙ sym (ap (λ (l : List ℚ). l ++ ys) e)
-one_ended xs ys (inr e) = ap (merged xs) e ∙ merged_none xs ∙ sym (ap (λ (l : List ℚ). xs ++ l) e ∙ append-nil xs)
+  pub none_next : first_time sent places ≡ None → three_after now sent.taken.points sent.exits.points sent.labels.points ≡ []
+  none_next e = three-end sent.taken.points sent.exits.points sent.labels.points (curve-rises sent.taken.points curves.taken) (curve-rises sent.exits.points curves.exits) (curve-rises sent.labels.points curves.labels) now (sym first_is_earliest ∙ e)
 
-pub times_end : (left right front all : List ℚ) (i j : ℕ) → front ++ merged (drop i left) (drop j right) ≡ all → (length left ≤ i) ⊎ (length right ≤ j) → (front ++ drop i left) ++ drop j right ≡ all
-times_end left right front all i j so_far w =
-    append_assoc front (drop i left) (drop j right)
-    ∙ ap (λ (l : List ℚ). front ++ l) (sym (one_ended (drop i left) (drop j right) (⊎_elim (λ (h : length left ≤ i). inl (drop_none left i h)) (λ (h : length right ≤ j). inr (drop_none right j h)) w)))
-    ∙ so_far
+  pub some_next : (time : ℚ) → first_time sent places ≡ Some time → NextOf time
+  some_next time e = three-goes sent.taken.points sent.exits.points sent.labels.points (curve-rises sent.taken.points curves.taken) (curve-rises sent.exits.points curves.exits) (curve-rises sent.labels.points curves.labels) now time (sym first_is_earliest ∙ e)
 
--- ---- what holds of all times on both sides holds of those in order
-module _ (P : ℚ → Type 0) where
-  all_from : (s : ℚ) (later : List ℚ → List ℚ) → P s → ((times : List ℚ) → AllByRecursion P times → AllByRecursion P (later times)) → (times : List ℚ) → AllByRecursion P times → AllByRecursion P (merged_from s later times)
-  all_from s later p keeps [] a = (p, keeps [] tt)
-  all_from s later p keeps (t ∷ rest) a = merged_from-cases (AllByRecursion P) s later t rest
-      (λ _. (p, keeps (t ∷ rest) a))
-      (λ _. (a.0, all_from s later p keeps rest a.1))
-      (λ _. (p, keeps rest a.1))
+  -- what moving on to the next time asks of each curve
+  pub next_from : (time : ℚ) (points : List Point) (k : ℕ) → k ≡ place_of now points → now <ℚ time → k ≤ place_of time points
+  next_from time points k e h = let w = place-rises now time points (≤ℚ_of_lt _ _ h) in omega arith
 
-  pub all_merged : (xs ys : List ℚ) → AllByRecursion P xs → AllByRecursion P ys → AllByRecursion P (merged xs ys)
-  all_merged [] ys a b = b
-  all_merged (s ∷ xs) ys a b = all_from s (merged xs) a.0 (λ times c. all_merged xs times a.1 c) ys b
+  pub next_there : (time : ℚ) (points : List Point) (k : ℕ) → k ≡ place_of now points → IfSome (head_of (later now points)) (λ x. time ≤ℚ x) → IfSome (slice_get points k) (λ p. time ≤ℚ p.0)
+  next_there time points k e h = time-first points k (head_of (later now points)) time (sym (at_place points k e)) h
 
-abbrev pub FromZero : List ℚ → Type 0
-FromZero times = AllByRecursion (λ (t : ℚ). 0ℚ ≤ℚ t) times
-
-times_from : (p : Point) (rest : List Point) → 0ℚ ≤ℚ p.0 → TimesRise (p ∷ rest) → FromZero (times_of (p ∷ rest))
-times_from p [] h r = (h, tt)
-times_from p (q ∷ rest) h r = (h, times_from q rest (≤ℚ_trans _ _ _ h (≤ℚ_of_lt _ _ r.0)) r.1)
-
-curve_times : (points : List Point) → IsCurve points → FromZero (times_of points)
-curve_times [] c = absurd c
-curve_times (p ∷ rest) c = times_from p rest (≤ℚ_of_same _ _ (sym c.0)) c.1
-
-pub three_from : (taken exits labels : List Point) → IsCurve taken → IsCurve exits → IsCurve labels → FromZero (three_times taken exits labels)
-three_from taken exits labels c d e =
-    all_merged (λ (t : ℚ). 0ℚ ≤ℚ t) (merged (times_of taken) (times_of exits)) (times_of labels) (all_merged (λ (t : ℚ). 0ℚ ≤ℚ t) (times_of taken) (times_of exits) (curve_times taken c) (curve_times exits d)) (curve_times labels e)
-
-pub time_from : (times : List ℚ) (k : ℕ) (t : ℚ) → slice_get times k ≡ Some t → FromZero times → 0ℚ ≤ℚ t
-time_from [] k t e a = absurd (cc)
-time_from (x ∷ rest) zero t e a = let same : x ≡ t = cc in subst (λ (z : ℚ). 0ℚ ≤ℚ z) same a.0
-time_from (x ∷ rest) (suc k) t e a = time_from rest k t e a.1
-
--- ---- by the order of two times
-pub earlier_by : (order : Ordering) (here there : ℚ) → order ≡ cmp_ℚ here there → min_ℚ here there ≡ cond (is_gt order) there here
-earlier_by order here there e = by_test (lt_ℚ there here) refl
-  where
-    gt_is : is_gt order ≡ lt_ℚ there here
-    gt_is = ap is_gt e ∙ gt-cmp here there
-
-    by_test : (t : Bool) → lt_ℚ there here ≡ t → min_ℚ here there ≡ cond (is_gt order) there here
-    by_test true f = sym (lesser_is_second here there f) ∙ sym (ap (λ (b : Bool). cond b there here) (gt_is ∙ f))
-    by_test false f = sym (lesser_is_first here there f) ∙ sym (ap (λ (b : Bool). cond b there here) (gt_is ∙ f))
-
-pub left_by : (place : ℕ) (order : Ordering) (here there : ℚ) → order ≡ cmp_ℚ here there → moved_on place here there ≡ cond (is_gt order) place (place + 1)
-left_by place order here there e = ap (λ (b : Bool). if b then place else place + 1) (sym (ap is_gt e ∙ gt-cmp here there))
-
-pub right_by : (place : ℕ) (order : Ordering) (here there : ℚ) → order ≡ cmp_ℚ here there → moved_on place there here ≡ cond (is_lt order) place (place + 1)
-right_by place order here there e = ap (λ (b : Bool). if b then place else place + 1) (sym (ap is_lt e ∙ lt-cmp here there))
+-- ---- each step leaves fewer times
+pub fewer_after : (times rest : List ℚ) (next : ℚ) → times ≡ next ∷ rest → length rest < length times
+fewer_after times rest next e = rw e (omega arith)

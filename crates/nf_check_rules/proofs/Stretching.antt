@@ -1,21 +1,23 @@
 -- Stretches of departures, one after the other.
-use Rattle.std.proofs.Common.{◌≡◌, ℕ, zero, suc, ◌+◌, ◌-◌, ◌<◌, ◌≤◌, List, [], ◌∷◌, length, drop, Bool, true, false, Option, Some, None, slice_get, refl, sym, ap, subst, ◌∙◌, arith}
-use Rattle.std.specs.Prelude.{Result, Ok, Err, pos, OnOk}
+use Rattle.std.proofs.Common.{◌≡◌, List, [], ◌∷◌, ⊎_elim, Bool, true, false, Option, Some, None, slice_get, refl, sym, ap, subst, ◌∙◌, arith}
+use Rattle.std.specs.Prelude.{Result, Ok, Err, pos, OnOk, if◌then◌else◌}
+use Rattle.std.proofs.lemmas.Option.{same_Some}
 use Rattle.nf_rational.specs.Rational.{ℚ}
 use Rattle.nf_rational.specs.Operations.{0ℚ, 1ℚ, whole, ◌+ℚ◌, ◌*ℚ◌, ◌/ℚ◌}
 use Rattle.nf_rational.specs.Order.{◌≤ℚ◌, lt_ℚ}
 use Rattle.nf_rational_laws.proofs.Polynomial.{reading_of}
 use Rattle.nf_rational_laws.proofs.Linear.{le, eq, linear_le, linear_eq, linear_false}
 use Rattle.nf_rational_laws.proofs.Quotient.{/ℚ-times}
-use Rattle.nf_curve_laws.proofs.Operations.{checked-is, then_ok}
+use Rattle.nf_curve_laws.proofs.Operations.{checked-is, then_ok, is_same_cases}
 use Rattle.nf_frac_def.specs.Passing.{Passing, passes_Q}
 use Rattle.nf_frac_def.specs.Checked.{Checked, checked, at_part, ◌>>=◌}
 use Rattle.nf_frac_def.specs.declared.Op.TheVariants.{Sum, Quotient}
 use Rattle.nf_frac_def.specs.declared.Part.TheVariants.{Check}
 use Rattle.nf_frac_def.specs.declared.PassedAt.{PassedAt}
-use Rattle.nf_model.specs.Curve.{Point}
-use Rattle.nf_curve_def.specs.Lines.{Sides}
-use Rattle.nf_curve_def.specs.Values.{checked_value}
+use Rattle.nf_rational.specs.Signs.{is_same}
+use Rattle.nf_model.specs.Curve.{Point, IsCurve}
+use Rattle.nf_curve_def.specs.Lines.{Sides, checked_line}
+use Rattle.nf_curve_def.specs.Values.{value_from, checked_value}
 use Rattle.nf_curve_def.specs.Sums.{sides_at}
 use Rattle.nf_curve_def.specs.Short.{checked_short}
 use Rattle.nf_curve_def.specs.Composed.{checked_composed}
@@ -23,37 +25,28 @@ use Rattle.nf_curve.proofs.Exits.{after_err, after_ok, was_ok}
 use Rattle.nf_check_def.specs.Routes.{three_times, checked_middle, on_rising, on_stretch, or_later, stretches_from, all_stretches, detour_list}
 use Rattle.nf_curve.specs.Differences.{difference_of}
 use Rattle.nf_curve.specs.declared.curve.Difference.{Difference}
-use Rattle.nf_check_rules.specs.Sent.{sent_list}
+use Rattle.nf_check_rules.specs.Sent.{ArePlaces, AreWithin, sent_list}
+use Rattle.nf_curve.proofs.Placing.{place_within}
+use Rattle.nf_check_rules.specs.declared.sent.Places.{Places}
 use Rattle.nf_check_rules.specs.Departures.{IsDeparture}
 use Rattle.nf_check_rules.specs.declared.sent.Sent.{Sent}
 use Rattle.nf_check_rules.specs.declared.stretches.Departure.{Departure}
-use Rattle.nf_check_rules.proofs.PointByPoint.{few_left, drop_two, drop_next}
 
-module _ (passes : Passing) (taken exits labels : List Point) (times : List ℚ) (i : ℕ) (some : 0 < i)
-    (so_far : all_stretches passes taken exits labels (drop (i - 1) times) ≡ all_stretches passes taken exits labels times) where
-  pub no_stretch : length times ≤ i → all_stretches passes taken exits labels times ≡ Ok None
-  no_stretch h = sym so_far ∙ alone (drop (i - 1) times) (few_left times i some h)
-    where
-      alone : (xs : List ℚ) → length xs ≤ 1 → all_stretches passes taken exits labels xs ≡ Ok None
-      alone [] h = refl
-      alone (x ∷ []) h = refl
-      alone (x ∷ y ∷ xs) h = absurd (omega arith)
+pub no_stretch : (passes : Passing) (taken exits labels : List Point) (first : ℚ) (times : List ℚ) (all : Checked (Option Sides)) → times ≡ [] → stretches_from passes taken exits labels first times ≡ all → all ≡ Ok None
+no_stretch passes taken exits labels first times all e so_far = sym so_far ∙ ap (stretches_from passes taken exits labels first) e
 
-  module _ (first next : ℚ) (at : slice_get times (i - 1) ≡ Some first) (there : slice_get times i ≡ Some next) where
-    by_stretch : (on_stretch passes taken exits labels first next >>= λ here. or_later passes here (stretches_from passes taken exits labels next (drop (i + 1) times))) ≡ all_stretches passes taken exits labels times
-    by_stretch = sym (ap (all_stretches passes taken exits labels) (drop_two times i first next some at there)) ∙ so_far
+module _ (passes : Passing) (taken exits labels : List Point) (first next : ℚ) (times rest : List ℚ) (all : Checked (Option Sides)) (is : times ≡ next ∷ rest) (so_far : stretches_from passes taken exits labels first times ≡ all) where
+  by_stretch : (on_stretch passes taken exits labels first next >>= λ here. or_later passes here (stretches_from passes taken exits labels next rest)) ≡ all
+  by_stretch = sym (ap (stretches_from passes taken exits labels first) is) ∙ so_far
 
-    pub stretch_stops : (p : PassedAt ℚ) → at_part Check (on_stretch passes taken exits labels first next) ≡ Err p → at_part Check (all_stretches passes taken exits labels times) ≡ Err p
-    stretch_stops p e = ap (at_part Check) (sym by_stretch) ∙ after_err Check (on_stretch passes taken exits labels first next) _ p e
+  pub stretch_stops : (p : PassedAt ℚ) → at_part Check (on_stretch passes taken exits labels first next) ≡ Err p → at_part Check all ≡ Err p
+  stretch_stops p e = ap (at_part Check) (sym by_stretch) ∙ after_err Check (on_stretch passes taken exits labels first next) _ p e
 
-    pub stretch_found : (sides : Sides) → at_part Check (on_stretch passes taken exits labels first next) ≡ Ok (Some sides) → at_part Check (all_stretches passes taken exits labels times) ≡ Ok (Some sides)
-    stretch_found sides e = ap (at_part Check) (sym by_stretch) ∙ after_ok Check (on_stretch passes taken exits labels first next) _ (Some sides) e
+  pub stretch_found : (sides : Sides) → at_part Check (on_stretch passes taken exits labels first next) ≡ Ok (Some sides) → at_part Check all ≡ Ok (Some sides)
+  stretch_found sides e = ap (at_part Check) (sym by_stretch) ∙ after_ok Check (on_stretch passes taken exits labels first next) _ (Some sides) e
 
-    pub stretch_goes : at_part Check (on_stretch passes taken exits labels first next) ≡ Ok None → all_stretches passes taken exits labels (drop ((i + 1) - 1) times) ≡ all_stretches passes taken exits labels times
-    stretch_goes e =
-        ap (all_stretches passes taken exits labels) (drop_next times i next there)
-        ∙ sym (ap (λ (r : Checked (Option Sides)). r >>= λ here. or_later passes here (stretches_from passes taken exits labels next (drop (i + 1) times))) (was_ok Check (on_stretch passes taken exits labels first next) None e))
-        ∙ by_stretch
+  pub stretch_goes : at_part Check (on_stretch passes taken exits labels first next) ≡ Ok None → stretches_from passes taken exits labels next rest ≡ all
+  stretch_goes e = sym (ap (λ (r : Checked (Option Sides)). r >>= λ here. or_later passes here (stretches_from passes taken exits labels next rest)) (was_ok Check (on_stretch passes taken exits labels first next) None e)) ∙ by_stretch
 
 -- ---- one stretch, where what has been sent by a departure is known
 module _ (passes : Passing) (taken exits labels : List Point) (first next : ℚ) where
@@ -76,16 +69,16 @@ module _ (passes : Passing) (taken exits labels : List Point) (first next : ℚ)
     pub stretch_level : rises ≡ false → on_stretch passes taken exits labels first next ≡ Ok None
     stretch_level t = stretch_is ∙ ap (λ (b : Bool). on_rising passes b exits labels first next) t
 
-module _ (passes : Passing) (taken exits labels : List Point) where
-  pub first_passes : (times : List ℚ) → 2 ≤ length times → (first : ℚ) → slice_get times 0 ≡ Some first → (p : PassedAt ℚ) → at_part Check (checked_value passes taken first) ≡ Err p
-      → at_part Check (all_stretches passes taken exits labels times) ≡ Err p
-  first_passes [] h first at p e = absurd (omega arith)
-  first_passes (x ∷ []) h first at p e = absurd (omega arith)
-  first_passes (x ∷ y ∷ times) h first at p e =
-      after_err Check (on_stretch passes taken exits labels x y) _ p (after_err Check (checked_value passes taken x) _ p (ap (λ (z : ℚ). at_part Check (checked_value passes taken z)) (same x first at) ∙ e))
-    where
-      same : (x y : ℚ) → Some x ≡ Some y → x ≡ y
-      same x y e = cc
+-- ---- the first amount needs no operation
+pub first_amount : (passes : Passing) (points : List Point) (p : Point) (time : ℚ) → IsCurve points → slice_get points 0 ≡ Some p → time ≡ 0ℚ → checked_value passes points time ≡ Ok p.1
+unfolding checked_value
+first_amount passes [] p time c g e = absurd c
+first_amount passes (x ∷ []) p time c g e = ap (λ (p : Point). Ok p.1) (same_Some _ _ g)
+first_amount passes (x ∷ y ∷ rest) p time c g e = ⊎_elim
+    (λ (w : (is_same time x.0 ≡ true) × (time ≡ x.0)). ap (λ (b : Bool). if b then Ok x.1 else (if lt_ℚ time y.0 then checked_line passes x y time else value_from passes y rest time)) w.0
+    ∙ ap (λ (p : Point). Ok p.1) (same_Some _ _ g))
+    (λ (w : (is_same time x.0 ≡ false) × (¬ (time ≡ x.0))). absurd (w.1 (e ∙ sym c.0)))
+    (is_same_cases time x.0)
 
 -- ---- the three curves of a link come first
 abbrev together : {Y E : Type 0} → Y → Y → Result Y E → Result (Y × Y × Y) E
@@ -175,3 +168,11 @@ on_any (Err e) p = tt
 
 pub no_sides : {P : Type 0} (sides : Difference) → None ≡ Some sides → P
 no_sides sides e = absurd (cc)
+
+-- point counts never exceed the curves' lengths
+pub places-within : (sent : Sent) (places : Places) (time : ℚ) → ArePlaces sent time places → AreWithin sent places
+places-within sent places time there =
+    let a = place_within time sent.taken.points in
+    let b = place_within time sent.exits.points in
+    let d = place_within time sent.labels.points in
+    record { taken = omega (arith, there.taken); exits = omega (arith, there.exits); labels = omega (arith, there.labels) }

@@ -1,18 +1,20 @@
 -- Three curves of a link, by departure.
-use Rattle.std.specs.Prelude.{◌≡◌, ℕ, ◌≤◌, List, length, if◌then◌else◌, ◌+◌, Option, Ok}
+use Rattle.std.specs.Prelude.{◌≡◌, ◌≤◌, List, length, slice_get, Option, option_map, Ok}
 use Rattle.nf_rational.specs.Rational.{ℚ}
-use Rattle.nf_rational.specs.Order.{lt_ℚ}
 use Rattle.nf_frac_def.specs.Passing.{Passing, passes_Q}
 use Rattle.nf_frac_def.specs.Checked.{Checked, ◌>>=◌}
 use Rattle.nf_model.specs.Curve.{Point, IsCurve}
 use Rattle.nf_curve_def.specs.Lines.{Sides}
 use Rattle.nf_curve_def.specs.Short.{checked_short}
 use Rattle.nf_curve_def.specs.Composed.{checked_composed}
-use Rattle.nf_check_def.specs.Routes.{detour_list}
-use Rattle.nf_curve.specs.Places.{place_of}
+use Rattle.nf_check_def.specs.Routes.{three_times, all_stretches, detour_list}
+use Rattle.nf_curve_def.specs.Times.{merged, times_of}
+use Rattle.nf_curve.specs.Places.{place_of, later, earlier_of}
+use Rattle.nf_curve.specs.Slopes.{Keeps}
 use Rattle.nf_check_rules.specs.declared.link_curves.LinkCurves.{LinkCurves}
 use Rattle.nf_check_rules.specs.declared.sent.Sent.{Sent}
 use Rattle.nf_check_rules.specs.declared.sent.Places.{Places}
+use Rattle.nf_check_rules.specs.declared.sent.SentSlopes.{SentSlopes}
 
 pub record AreCurves (sent : Sent) : Type 0 where
   pub taken : IsCurve sent.taken.points
@@ -31,9 +33,26 @@ pub record AreWithin (sent : Sent) (places : Places) : Type 0 where
   pub exits : places.exits ≤ length sent.exits.points
   pub labels : places.labels ≤ length sent.labels.points
 
--- an index in one of two lists of times advances, unless the other list's time comes first
-abbrev pub moved_on : ℕ → ℚ → ℚ → ℕ
-moved_on place here other = if lt_ℚ other here then place else place + 1
+-- the slopes kept of the three curves
+pub record KeepSlopes (sent : Sent) (kept : SentSlopes) : Type 0 where
+  pub taken : Keeps sent.taken.points kept.taken
+  pub exits : Keeps sent.exits.points kept.exits
+  pub labels : Keeps sent.labels.points kept.labels
+
+-- the earliest time of the points at these counts
+abbrev pub first_time : Sent → Places → Option ℚ
+first_time sent places = earlier_of
+    (earlier_of (option_map (λ p. p.0) (slice_get sent.taken.points places.taken)) (option_map (λ p. p.0) (slice_get sent.exits.points places.exits)))
+    (option_map (λ p. p.0) (slice_get sent.labels.points places.labels))
+
+-- the times of the points of three curves after a time, in rising order
+abbrev pub three_after : ℚ → List Point → List Point → List Point → List ℚ
+three_after time taken exits labels = merged (merged (times_of (later time taken)) (times_of (later time exits))) (times_of (later time labels))
+
+-- the test of the three curves
+abbrev pub stretches_of : Sent → Checked (Option Sides)
+stretches_of sent = all_stretches passes_Q sent.taken.points sent.exits.points sent.labels.points
+    (three_times sent.taken.points sent.exits.points sent.labels.points)
 
 abbrev pub points_in : Sent → List Point × List Point × List Point
 points_in sent = (sent.taken.points, sent.exits.points, sent.labels.points)

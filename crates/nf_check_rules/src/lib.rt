@@ -15,7 +15,6 @@ mod routes;
 mod sent;
 mod stretches;
 mod subject;
-mod times;
 mod told;
 mod totals;
 mod values;

@@ -35,8 +35,7 @@ fn detour(
     ensures { Gives (option_map difference_of) (λ q. q) result (at_part Check (detours_of link.now)) }
 {
     let sent = Sent::along(alloc, link, kept)?;
-    let times = sent.times(alloc)?;
-    let detour = first_detour(&sent, &times)?;
+    let detour = first_detour(&sent)?;
     Ok(detour)
 }
 

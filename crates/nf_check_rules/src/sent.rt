@@ -6,15 +6,14 @@ ghost use Rattle.nf_frac_def.specs.declared.Part.TheVariants.{Check};
 ghost use Rattle.nf_frac_def.specs.Passing.{passes_Q};
 ghost use Rattle.nf_frac_def.specs.Checked.{at_part, seen_at, Gives};
 ghost use Rattle.nf_curve_def.specs.Sums.{sides_at as sides_by};
-ghost use Rattle.nf_check_def.specs.Routes.{three_times};
 ghost use Rattle.nf_curve.specs.Differences.{difference_of};
-ghost use Rattle.nf_check_rules.specs.Sent.{AreCurves, ArePlaces, AreWithin, points_in, sent_by, known_by, exits_of};
+ghost use Rattle.nf_check_rules.specs.Sent.{AreCurves, ArePlaces, AreWithin, KeepSlopes, first_time, points_in, sent_by, known_by, exits_of};
+ghost use Rattle.nf_check_rules.specs.declared.sent.Sent.{Sent as SeenSent};
 
 use crate::link_curves::LinkCurves;
-use crate::times::{merged, times_of};
-use nf_curve::{Curve, Difference, place_near, value_at};
+use nf_curve::{Curve, Difference, PieceSlope, earlier, place_near, time_at, value_at, value_with};
 use nf_frac::{Halt, Part, PassedAt, Q};
-use std::alloc::{AllocError, Global};
+use std::alloc::Global;
 
 /// Three curves of a link by departure, in short form. `taken` is the amount that has entered the link, `exits` holds its exits, and
 /// `labels` holds the labels of its head.
@@ -31,6 +30,27 @@ pub(crate) struct Places {
     pub taken: usize,
     pub exits: usize,
     pub labels: usize,
+}
+
+/// The slopes kept of the three curves.
+#[derive(Clone, Copy)]
+pub(crate) struct SentSlopes {
+    pub taken: Option<PieceSlope>,
+    pub exits: Option<PieceSlope>,
+    pub labels: Option<PieceSlope>,
+}
+
+impl SentSlopes {
+    /// Returns no kept slopes.
+    pub(crate) fn none() -> SentSlopes
+        ensures { (sent : SeenSent) → KeepSlopes sent result }
+    {
+        SentSlopes {
+            taken: None,
+            exits: None,
+            labels: None,
+        }
+    }
 }
 
 impl Sent {
@@ -87,15 +107,14 @@ impl Sent {
         }
     }
 
-    /// Returns the times of the points of all three curves, in rising order.
-    pub(crate) fn times(&self, alloc: Global) -> Result<Vec<Q>, AllocError>
-        ensures { IfOk result (λ times. times.items ≡ three_times self.now.taken.points self.now.exits.points self.now.labels.points) }
+    /// Returns the time of the next point of the three curves after a departure, from its point counts. Returns None if they have no more.
+    pub(crate) fn next_time(&self, places: &Places) -> Option<Q>
+        ensures { result ≡ first_time self.now places.now }
     {
-        let taken = times_of(alloc, &self.taken)?;
-        let exits = times_of(alloc, &self.exits)?;
-        let labels = times_of(alloc, &self.labels)?;
-        let both = merged(alloc, &taken, &exits)?;
-        merged(alloc, &both, &labels)
+        let taken = time_at(self.taken.as_points(), places.taken);
+        let exits = time_at(self.exits.as_points(), places.exits);
+        let labels = time_at(self.labels.as_points(), places.labels);
+        earlier(earlier(taken, exits), labels)
     }
 
     /// Returns the point counts of a departure. The search starts at the counts `from`.
@@ -120,6 +139,27 @@ impl Sent {
     {
         let left = value_at(self.exits.as_points(), places.exits, time, Part::Check)?;
         let right = value_at(self.labels.as_points(), places.labels, time, Part::Check)?;
+        Ok(Difference { time, left, right })
+    }
+
+    /// Returns the exit and the head label at a departure, as `sides_at` does, with the slopes kept from departure to departure.
+    pub(crate) fn sides_with(
+        &self,
+        places: &Places,
+        time: Q,
+        kept: &mut SentSlopes,
+    ) -> Result<Difference, PassedAt<Q>>
+        requires time { 0ℚ ≤ℚ time }
+        requires places { ArePlaces self.now time places.now }
+        requires kept { KeepSlopes self.now kept.old }
+        ensures list { seen_at difference_of (λ q. q) result
+            ≡ at_part Check (sides_by passes_Q self.now.exits.points self.now.labels.points time) }
+        ensures kept { KeepSlopes self.now kept.new }
+    {
+        let exits = self.exits.as_points();
+        let labels = self.labels.as_points();
+        let left = value_with(exits, places.exits, time, &mut kept.exits, Part::Check)?;
+        let right = value_with(labels, places.labels, time, &mut kept.labels, Part::Check)?;
         Ok(Difference { time, left, right })
     }
 }

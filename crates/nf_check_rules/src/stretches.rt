@@ -1,6 +1,5 @@
 // Tests for flow off the shortest routes, interval by interval. An interval of departures lies between consecutive times of three curves.
-ghost use Rattle.std.specs.Prelude.{◌≡◌, true, pos, option_map, IfOk, OnOk};
-ghost use Rattle.std.specs.List.{AllByRecursion};
+ghost use Rattle.std.specs.Prelude.{◌≡◌, true, pos, option_map, Some, IfOk, OnOk};
 ghost use Rattle.nf_rational.specs.Operations.{0ℚ, whole};
 ghost use Rattle.nf_rational.specs.Order.{◌≤ℚ◌};
 ghost use Rattle.nf_frac_def.specs.declared.Part.TheVariants.{Check};
@@ -9,13 +8,13 @@ ghost use Rattle.nf_frac_def.specs.Checked.{at_part, seen_at};
 ghost use Rattle.nf_curve_def.specs.Values.{checked_value};
 ghost use Rattle.nf_curve_def.specs.Sums.{sides_at as sides_by};
 ghost use Rattle.nf_curve_def.specs.Differences.{do_differ as do_differ_by};
-ghost use Rattle.nf_check_def.specs.Routes.{checked_middle, at_middle as at_middle_by, on_stretch as on_stretch_by, all_stretches};
+ghost use Rattle.nf_check_def.specs.Routes.{checked_middle, at_middle as at_middle_by, on_stretch as on_stretch_by};
 ghost use Rattle.nf_curve.specs.Differences.{difference_of};
 ghost use Rattle.nf_check_rules.specs.Departures.{IsDeparture};
-ghost use Rattle.nf_check_rules.specs.Sent.{AreWithin};
+ghost use Rattle.nf_check_rules.specs.Sent.{AreCurves, ArePlaces, AreWithin, KeepSlopes, first_time, stretches_of};
 
-use crate::sent::{Places, Sent};
-use nf_curve::{Difference, value_at};
+use crate::sent::{Places, Sent, SentSlopes};
+use nf_curve::{Difference, place_next, value_with};
 use nf_frac::{Part, PassedAt, Q, Scalar, Small, at};
 
 // Returns whether the two values differ.
@@ -52,16 +51,59 @@ struct Departure {
     sides: Option<Difference>,
 }
 
-// Computes the amount entered by a departure. The search for its point counts starts at `near`.
-fn departure_at(sent: &Sent, near: &Places, time: Q) -> Result<Departure, PassedAt<Q>>
+// Returns the departure at time 0. The first amount needs no operation.
+fn first_departure(sent: &Sent) -> Departure
+    requires { AreCurves sent.now }
+    ensures there { IsDeparture sent.now result }
+    ensures time { result.time ≡ 0ℚ }
+{
+    let time = Q::zero();
+    let none = Places {
+        taken: 0,
+        exits: 0,
+        labels: 0,
+    };
+    let (_, taken) = sent.taken.point(0);
+    Departure {
+        time,
+        places: sent.places_near(&none, time),
+        taken,
+        sides: None,
+    }
+}
+
+// Returns the point counts at the next time of the curves' points.
+fn places_next(sent: &Sent, here: &Departure, time: Q) -> Places
+    requires curves { AreCurves sent.now }
+    requires here { IsDeparture sent.now here.now }
+    requires next { first_time sent.now here.now.places ≡ Some time }
+    ensures { ArePlaces sent.now time result }
+{
+    let places = here.places;
+    Places {
+        taken: place_next(sent.taken.as_points(), places.taken, time),
+        exits: place_next(sent.exits.as_points(), places.exits, time),
+        labels: place_next(sent.labels.as_points(), places.labels, time),
+    }
+}
+
+// Computes the amount entered by a departure from its point counts.
+fn departure_at(
+    sent: &Sent,
+    places: Places,
+    time: Q,
+    kept: &mut SentSlopes,
+) -> Result<Departure, PassedAt<Q>>
     requires time { 0ℚ ≤ℚ time }
-    requires within { AreWithin sent.now near.now }
+    requires places { ArePlaces sent.now time places }
+    requires kept { KeepSlopes sent.now kept.old }
     ensures taken { seen_at (λ d. d.taken) (λ q. q) result ≡ at_part Check (checked_value passes_Q sent.now.taken.points time) }
     ensures there { IfOk result (IsDeparture sent.now) }
     ensures time { IfOk result (λ d. d.time ≡ time) }
+    ensures kept { KeepSlopes sent.now kept.new }
 {
-    let places = sent.places_near(near, time);
-    let taken = value_at(sent.taken.as_points(), places.taken, time, Part::Check)?;
+    let points = sent.taken.as_points();
+    let taken = value_with(points, places.taken, time, &mut kept.taken, Part::Check)?;
     Ok(Departure {
         time,
         places,
@@ -71,14 +113,16 @@ fn departure_at(sent: &Sent, near: &Places, time: Q) -> Result<Departure, Passed
 }
 
 // Returns exit and head label at a departure. Reuses the stored values if they are there.
-fn sides_of(sent: &Sent, here: &Departure) -> Result<Difference, PassedAt<Q>>
-    requires { IsDeparture sent.now here.now }
-    ensures { seen_at difference_of (λ q. q) result
+fn sides_of(sent: &Sent, here: &Departure, kept: &mut SentSlopes) -> Result<Difference, PassedAt<Q>>
+    requires here { IsDeparture sent.now here.now }
+    requires kept { KeepSlopes sent.now kept.old }
+    ensures list { seen_at difference_of (λ q. q) result
         ≡ at_part Check (sides_by passes_Q sent.now.exits.points sent.now.labels.points here.now.time) }
+    ensures kept { KeepSlopes sent.now kept.new }
 {
     match here.sides {
         Some(sides) => Ok(sides),
-        None => sent.sides_at(&here.places, here.time),
+        None => sent.sides_with(&here.places, here.time, kept),
     }
 }
 
@@ -106,23 +150,26 @@ fn on_stretch(
     sent: &Sent,
     here: &Departure,
     there: &mut Departure,
+    kept: &mut SentSlopes,
 ) -> Result<Option<Difference>, PassedAt<Q>>
     requires here { IsDeparture sent.now here.now }
     requires there { IsDeparture sent.now there.old }
+    requires kept { KeepSlopes sent.now kept.old }
     ensures list { seen_at (option_map difference_of) (λ q. q) result ≡
         at_part Check
         (on_stretch_by passes_Q sent.now.taken.points sent.now.exits.points sent.now.labels.points here.now.time there.old.time) }
     ensures there { OnOk result (IsDeparture sent.now there.new) }
     ensures time { OnOk result (there.new.time ≡ there.old.time) }
+    ensures kept { KeepSlopes sent.now kept.new }
 {
     if !here.taken.is_below(there.taken) {
         return Ok(None);
     }
-    let sides = sides_of(sent, here)?;
+    let sides = sides_of(sent, here, kept)?;
     if do_differ(&sides) {
         return Ok(Some(sides));
     }
-    let end = sent.sides_at(&there.places, there.time)?;
+    let end = sent.sides_with(&there.places, there.time, kept)?;
     there.sides = Some(end);
     if do_differ(&end) {
         at_middle(sent, &here.places, here.time, there.time)
@@ -132,24 +179,17 @@ fn on_stretch(
 }
 
 /// Returns the first departure from which on flow enters the link while exit and head label differ. Tests the intervals between consecutive
-/// `times`. The values at the end of an interval are reused at the start of the next.
-pub(crate) fn first_detour(sent: &Sent, times: &[Q]) -> Result<Option<Difference>, PassedAt<Q>>
-    requires { AllByRecursion (λ time. 0ℚ ≤ℚ time) times.now }
-    ensures { seen_at (option_map difference_of) (λ q. q) result ≡
-        at_part Check (all_stretches passes_Q sent.now.taken.points sent.now.exits.points sent.now.labels.points times.now) }
+/// times of the curves' points. The values at the end of an interval are reused at the start of the next.
+pub(crate) fn first_detour(sent: &Sent) -> Result<Option<Difference>, PassedAt<Q>>
+    requires { AreCurves sent.now }
+    ensures { seen_at (option_map difference_of) (λ q. q) result ≡ at_part Check (stretches_of sent.now) }
 {
-    if times.len() < 2 {
-        return Ok(None);
-    }
-    let start = Places {
-        taken: 0,
-        exits: 0,
-        labels: 0,
-    };
-    let mut here = departure_at(sent, &start, times[0])?;
-    for i in 1..times.len() {
-        let mut there = departure_at(sent, &here.places, times[i])?;
-        if let Some(sides) = on_stretch(sent, &here, &mut there)? {
+    let mut kept = SentSlopes::none();
+    let mut here = first_departure(sent);
+    while let Some(time) = sent.next_time(&here.places) {
+        let places = places_next(sent, &here, time);
+        let mut there = departure_at(sent, places, time, &mut kept)?;
+        if let Some(sides) = on_stretch(sent, &here, &mut there, &mut kept)? {
             return Ok(Some(sides));
         }
         here = there;

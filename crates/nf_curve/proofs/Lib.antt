@@ -1,6 +1,7 @@
 pub mod Points
 pub mod Pieces
 pub mod Placing
+pub mod Sloping
 pub mod Walking
 pub mod Exits
 pub mod Lesser

@@ -1,11 +1,11 @@
 -- Places on curves: what lies before and behind them.
-use Rattle.std.proofs.Common.{◌≡◌, ℕ, zero, suc, ◌+◌, ◌-◌, ◌<◌, ◌≤◌, List, [], ◌∷◌, length, ⊎_elim, Bool, true, false, refl, sym, ap, subst, ◌∙◌, arith}
-use Rattle.std.proofs.lemmas.Option.{none-some, same_Some}
-use Rattle.std.specs.Prelude.{Option, Some, None, slice_get, Result, Ok, if◌then◌else◌}
+use Rattle.std.proofs.Common.{◌≡◌, ℕ, zero, suc, ◌+◌, ◌-◌, ◌<◌, ◌≤◌, List, [], ◌∷◌, length, get_or, ⊎_elim, Bool, true, false, refl, sym, ap, subst, ◌∙◌, arith}
+use Rattle.std.proofs.lemmas.Option.{none-some, same_Some, slice_get-get_or}
+use Rattle.std.specs.Prelude.{Option, Some, None, slice_get, IfSome, Result, Ok, if◌then◌else◌}
 use Rattle.nf_rational.specs.Rational.{ℚ}
 use Rattle.nf_rational.specs.Operations.{0ℚ}
 use Rattle.nf_rational.specs.Order.{◌≤ℚ◌, ◌<ℚ◌, lt_ℚ}
-use Rattle.nf_rational_laws.proofs.Order.{≤ℚ_of_lt, not_both_ℚ}
+use Rattle.nf_rational_laws.proofs.Order.{≤ℚ_of_lt, ≤ℚ_of_same, ≤ℚ_antisymm, not_both_ℚ}
 use Rattle.nf_rational_laws.proofs.Polynomial.{reading_of}
 use Rattle.nf_rational_laws.proofs.Linear.{le, lt, linear_lt}
 use Rattle.nf_rational_laws.proofs.Tests.{lt_ℚ_cases}
@@ -113,6 +113,49 @@ too-far time points i p g t = let h : i < place_of time points → ⊥ = λ h. n
   where
     earlier : time <ℚ p.0
     earlier = ⊎_elim (λ (w : (lt_ℚ time p.0 ≡ true) × (time <ℚ p.0)). w.1) (λ (w : (lt_ℚ time p.0 ≡ false) × (p.0 ≤ℚ time)). absurd (cc)) (lt_ℚ_cases time p.0)
+
+-- ---- the place, if no point from the count on is at or before the time
+pub place-stays : (time : ℚ) (points : List Point) (k : ℕ) → k ≤ place_of time points → ((p : Point) → slice_get points k ≡ Some p → time <ℚ p.0) → k ≡ place_of time points
+place-stays time points k h after = let past : k < place_of time points → ⊥ = beyond in omega arith
+  where
+    beyond : k < place_of time points → ⊥
+    beyond i =
+        let w = place_within time points in
+        let g = slice_get-get_or points k (0ℚ, 0ℚ) (omega arith) in
+        not_both_ℚ time (get_or points k (0ℚ, 0ℚ)).0 (after (get_or points k (0ℚ, 0ℚ)) g) (before-place time points k (get_or points k (0ℚ, 0ℚ)) g i)
+
+-- ---- the place, one further at the time of the next point
+pub place-steps : (time : ℚ) (points : List Point) (k : ℕ) (p : Point) → TimesRise points → slice_get points k ≡ Some p → time ≡ p.0 → k + 1 ≡ place_of time points
+place-steps time points k p r g e = place-stays time points (k + 1) (let past : place_of time points ≤ k → ⊥ = early in omega arith)
+    (λ q i. subst (λ (t : ℚ). t <ℚ q.0) (sym e) (rise-pairs points k (k + 1) p q r g i (omega arith)))
+  where
+    early : place_of time points ≤ k → ⊥
+    early h = not_both_ℚ time p.0 (from-place time points k p r g h) (≤ℚ_of_same p.0 time (sym e))
+
+-- ---- the place, by the test of the next point
+pub place-ended : (time : ℚ) (points : List Point) (k : ℕ) → k ≤ place_of time points → length points ≤ k → k ≡ place_of time points
+place-ended time points k h past = let w = place_within time points in omega arith
+
+pub place-there : (time : ℚ) (points : List Point) (k : ℕ) (p : Point) → TimesRise points → slice_get points k ≡ Some p → is_same p.0 time ≡ true → k + 1 ≡ place_of time points
+place-there time points k p r g t = ⊎_elim
+    (λ (w : (is_same p.0 time ≡ true) × (p.0 ≡ time)). place-steps time points k p r g (sym w.1))
+    (λ (w : (is_same p.0 time ≡ false) × (¬ (p.0 ≡ time))). absurd (cc))
+    (is_same_cases p.0 time)
+
+pub place-apart : (time : ℚ) (points : List Point) (k : ℕ) (p : Point) → k ≤ place_of time points → IfSome (slice_get points k) (λ p. time ≤ℚ p.0) → slice_get points k ≡ Some p → is_same p.0 time ≡ false → k ≡ place_of time points
+place-apart time points k p h next g t = place-stays time points k h (λ q i. subst (λ (p : Point). time <ℚ p.0) (same_Some _ _ (sym g ∙ i)) before)
+  where
+    after : time ≤ℚ p.0
+    after = subst (λ (o : Option Point). IfSome o (λ p. time ≤ℚ p.0)) g next
+
+    before : time <ℚ p.0
+    before = ⊎_elim
+        (λ (w : (lt_ℚ time p.0 ≡ true) × (time <ℚ p.0)). w.1)
+        (λ (w : (lt_ℚ time p.0 ≡ false) × (p.0 ≤ℚ time)). ⊎_elim
+        (λ (v : (is_same p.0 time ≡ true) × (p.0 ≡ time)). absurd (cc))
+        (λ (v : (is_same p.0 time ≡ false) × (¬ (p.0 ≡ time))). absurd (v.1 (≤ℚ_antisymm p.0 time w.1 after)))
+        (is_same_cases p.0 time))
+        (lt_ℚ_cases time p.0)
 
 -- ---- the value, by the two points at the place
 value_from-between : (passes : Passing) (time : ℚ) (p : Point) (rest : List Point) → TimesRise (p ∷ rest) → p.0 ≤ℚ time

@@ -1,6 +1,7 @@
 -- The merge of two curves' times lists their times in order.
 use Rattle.std.proofs.Common.{◌≡◌, ℕ, zero, suc, ◌<◌, List, [], ◌∷◌, length, ⊎_elim, Bool, true, false, refl, sym, ap, subst, ◌∙◌, arith}
-use Rattle.std.specs.Prelude.{Option, Some, None, slice_get, option_map, if◌then◌else◌}
+use Rattle.std.proofs.lemmas.Option.{same_Some}
+use Rattle.std.specs.Prelude.{Option, Some, None, slice_get, option_map, IfSome, if◌then◌else◌}
 use Rattle.nf_rational.specs.Rational.{ℚ}
 use Rattle.nf_rational.specs.Operations.{0ℚ}
 use Rattle.nf_rational.specs.Order.{◌≤ℚ◌, ◌<ℚ◌, lt_ℚ, min_ℚ}
@@ -14,7 +15,7 @@ use Rattle.nf_curve.specs.Moments.{IsMoment, times_left}
 use Rattle.nf_curve.specs.declared.walk.Moment.{Moment}
 use Rattle.nf_curve.proofs.Placing.{rises-rest, curve-rises}
 use Rattle.nf_rational_laws.proofs.Chains.{≤ℚ_refl, ≤ℚ_trans}
-use Rattle.nf_rational_laws.proofs.Extremes.{min_is_left, min_is_right}
+use Rattle.nf_rational_laws.proofs.Extremes.{min_left, min_right, min_is_left, min_is_right}
 
 -- ---- the points after a time
 later-behind : (time : ℚ) (p : Point) (rest : List Point) → time <ℚ p.0 → later time (p ∷ rest) ≡ p ∷ rest
@@ -30,16 +31,16 @@ later-past time p rest h = ⊎_elim
     (lt_ℚ_cases time p.0)
 
 -- all but the first of rising points come after it
-later-first : (p : Point) (rest : List Point) → TimesRise (p ∷ rest) → later p.0 (p ∷ rest) ≡ rest
+pub later-first : (p : Point) (rest : List Point) → TimesRise (p ∷ rest) → later p.0 (p ∷ rest) ≡ rest
 later-first p [] r = later-past p.0 p [] (≤ℚ_refl p.0)
 later-first p (q ∷ rest) r = later-past p.0 p (q ∷ rest) (≤ℚ_refl p.0) ∙ later-behind p.0 q rest r.0
 
-abbrev head_of : List Point → Option ℚ
+abbrev pub head_of : List Point → Option ℚ
 head_of [] = None
 head_of (p ∷ rest) = Some p.0
 
 -- the first of them has the point count of the time as its index
-place-head : (time : ℚ) (points : List Point) → option_map (λ (p : Point). p.0) (slice_get points (place_of time points)) ≡ head_of (later time points)
+pub place-head : (time : ℚ) (points : List Point) → option_map (λ (p : Point). p.0) (slice_get points (place_of time points)) ≡ head_of (later time points)
 place-head time [] = refl
 place-head time (p ∷ rest) = go (lt_ℚ time p.0) (place-head time rest)
   where
@@ -49,12 +50,12 @@ place-head time (p ∷ rest) = go (lt_ℚ time p.0) (place-head time rest)
     go false e = e
 
 -- after the first of them come the others, and it is the first from any time on until then
-record Steps (time : ℚ) (points : List Point) (p : Point) (rest : List Point) : Type 0 where
+pub record Steps (time : ℚ) (points : List Point) (p : Point) (rest : List Point) : Type 0 where
   pub after : time <ℚ p.0
   pub next : later p.0 points ≡ rest
   pub stays : (between : ℚ) → time ≤ℚ between → between <ℚ p.0 → later between points ≡ p ∷ rest
 
-later-steps : (time : ℚ) (points : List Point) (p : Point) (rest : List Point) → TimesRise points → later time points ≡ p ∷ rest → Steps time points p rest
+pub later-steps : (time : ℚ) (points : List Point) (p : Point) (rest : List Point) → TimesRise points → later time points ≡ p ∷ rest → Steps time points p rest
 later-steps time [] p rest r e = absurd (cc)
 later-steps time (x ∷ xs) p rest r e = ⊎_elim
     (λ (w : (lt_ℚ time x.0 ≡ true) × (time <ℚ x.0)). first w.1 (sym (later-behind time x xs w.1) ∙ e))
@@ -75,7 +76,7 @@ later-steps time (x ∷ xs) p rest r e = ⊎_elim
       stays = λ between i j. later-past between x xs (≤ℚ_trans _ _ _ h i) ∙ s.stays between i j;
     }
 
-later-none : (time next : ℚ) (points : List Point) → later time points ≡ [] → time ≤ℚ next → later next points ≡ []
+pub later-none : (time next : ℚ) (points : List Point) → later time points ≡ [] → time ≤ℚ next → later next points ≡ []
 later-none time next [] e h = refl
 later-none time next (x ∷ xs) e h = ⊎_elim
     (λ (w : (lt_ℚ time x.0 ≡ true) × (time <ℚ x.0)). let d : x ∷ xs ≡ [] = sym (later-behind time x xs w.1) ∙ e in absurd (cc))
@@ -150,6 +151,25 @@ module _ (left right : List Point) (c : IsCurve left) (d : IsCurve right) (now :
 
   pub walk-goes : (time : ℚ) → next ≡ Some time → (now.time <ℚ time) × (times_after now.time left right ≡ time ∷ times_after time left right)
   walk-goes time h = subst (λ (o : Option ℚ). ComesNext now.time left right o) h next-is
+
+-- ---- the next time comes at or before the next point of either curve
+pub earlier-left : (s t : Option ℚ) (time : ℚ) → earlier_of s t ≡ Some time → IfSome s (λ here. time ≤ℚ here)
+earlier-left None t time e = tt
+earlier-left (Some here) None time e = ≤ℚ_of_same _ _ (sym (same_Some _ _ e))
+earlier-left (Some here) (Some there) time e = subst (λ (z : ℚ). z ≤ℚ here) (same_Some _ _ e) (min_left here there)
+
+pub earlier-right : (s t : Option ℚ) (time : ℚ) → earlier_of s t ≡ Some time → IfSome t (λ there. time ≤ℚ there)
+earlier-right s None time e = tt
+earlier-right None (Some there) time e = ≤ℚ_of_same _ _ (sym (same_Some _ _ e))
+earlier-right (Some here) (Some there) time e = subst (λ (z : ℚ). z ≤ℚ there) (same_Some _ _ e) (min_right here there)
+
+pub time-first : (points : List Point) (place : ℕ) (first : Option ℚ) (time : ℚ) → first ≡ option_map (λ (p : Point). p.0) (slice_get points place) → IfSome first (λ here. time ≤ℚ here)
+    → IfSome (slice_get points place) (λ p. time ≤ℚ p.0)
+time-first points place first time e h = go (slice_get points place) (rw e at h)
+  where
+    go : (o : Option Point) → IfSome (option_map (λ (p : Point). p.0) o) (λ here. time ≤ℚ here) → IfSome o (λ p. time ≤ℚ p.0)
+    go None k = tt
+    go (Some p) k = k
 
 -- each step of the merge decreases the number of remaining times
 pub fewer_left : (left right : List Point) (now : Option Moment) (moment : Moment) (next : Option Moment) → now ≡ Some moment

@@ -5,3 +5,4 @@ pub mod Places
 pub mod Moments
 pub mod Steps
 pub mod Differences
+pub mod Slopes

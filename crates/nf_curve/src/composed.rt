@@ -10,10 +10,12 @@ ghost use Rattle.nf_model.specs.Curve.{IsCurve, Within, value};
 ghost use Rattle.nf_curve_def.specs.Composed.{corner_at as corner_by, points_along, composed_piece, composed_all, checked_composed};
 ghost use Rattle.nf_curve.specs.Places.{place_of};
 ghost use Rattle.nf_curve.specs.Steps.{behind};
+ghost use Rattle.nf_curve.specs.Slopes.{Keeps};
 
 use crate::cut::{cut_points, ends_at};
 use crate::lines::{Point, inverse};
-use crate::places::{place_near, place_up, value_at};
+use crate::places::{place_near, place_up};
+use crate::values::{PieceSlope, value_with};
 use nf_frac::{Halt, Part, PassedAt, Q};
 use std::alloc::Global;
 
@@ -119,28 +121,38 @@ fn add_corners(
     }
 }
 
-// Appends the points of a piece: its beginning, and where it reaches outer points. Returns the outer point count up to its last value.
+// Where the outer curve is read: the number of its points up to an inner value, and the slope kept of it.
+#[derive(Clone, Copy)]
+struct OuterPlace {
+    count: usize,
+    kept: Option<PieceSlope>,
+}
+
+// Appends the points of a piece: its beginning, and where it reaches outer points. Moves `place` from the piece's first to its last value.
 fn add_piece(
     composed: &mut Vec<Point>,
     outer: &[Point],
-    place: usize,
+    place: &mut OuterPlace,
     p: &Point,
     q: &Point,
     part: Part,
-) -> Result<usize, Halt<Q>>
+) -> Result<(), Halt<Q>>
     requires outer { IsCurve outer.now }
     requires later { p.now.0 <ℚ q.now.0 }
     requires value { 0ℚ ≤ℚ p.now.1 }
-    requires place { place ≡ place_of p.now.1 outer.now }
+    requires place { place.old.count ≡ place_of p.now.1 outer.now }
+    requires kept { Keeps outer.now place.old.kept }
     ensures points { Gives (λ _. composed.new.items) (λ q. q) result
         (at_part part (behind composed.old.items (composed_piece passes_Q outer.now p.now q.now))) }
-    ensures place { IfOk result (λ next. next ≡ place_of q.now.1 outer.now) }
+    ensures place { IfOk result (λ _. place.new.count ≡ place_of q.now.1 outer.now) }
+    ensures kept { Keeps outer.now place.new.kept }
 {
-    let value = value_at(outer, place, p.1, part)?;
+    let value = value_with(outer, place.count, p.1, &mut place.kept, part)?;
     composed.push((p.0, value))?;
-    let next = place_near(outer, place, q.1);
-    add_corners(composed, outer, (place, next), p, q, part)?;
-    Ok(next)
+    let next = place_near(outer, place.count, q.1);
+    add_corners(composed, outer, (place.count, next), p, q, part)?;
+    place.count = next;
+    Ok(())
 }
 
 // Returns the points of the composition, from the first inner point to the last.
@@ -156,12 +168,22 @@ fn composed_points(
     ensures { Gives (λ points. points.items) (λ q. q) result (at_part part (composed_all passes_Q outer.now inner.now)) }
 {
     let mut composed = Vec::with_capacity(alloc, inner.len() + 1)?;
-    let mut place = place_up(outer, 0, inner[0].1);
+    let mut place = OuterPlace {
+        count: place_up(outer, 0, inner[0].1),
+        kept: None,
+    };
     for i in 1..inner.len() {
-        place = add_piece(&mut composed, outer, place, &inner[i - 1], &inner[i], part)?;
+        add_piece(
+            &mut composed,
+            outer,
+            &mut place,
+            &inner[i - 1],
+            &inner[i],
+            part,
+        )?;
     }
     let end = &inner[inner.len() - 1];
-    let value = value_at(outer, place, end.1, part)?;
+    let value = value_with(outer, place.count, end.1, &mut place.kept, part)?;
     composed.push((end.0, value))?;
     Ok(composed)
 }

@@ -10,7 +10,8 @@ ghost use Rattle.nf_curve_def.specs.Values.{points_before, checked_cut};
 ghost use Rattle.nf_curve.specs.Points.{last_time};
 
 use crate::lines::Point;
-use crate::places::{place_up, value_at};
+use crate::places::place_up;
+use crate::values::value_at;
 use nf_frac::{Halt, Part, Q};
 use std::alloc::{AllocError, Global};
 

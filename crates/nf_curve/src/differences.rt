@@ -11,10 +11,11 @@ ghost use Rattle.nf_curve.specs.Sides.{sides_of};
 ghost use Rattle.nf_curve.specs.Places.{place_of};
 ghost use Rattle.nf_curve.specs.Moments.{IsMoment, only_before as only_before_by};
 ghost use Rattle.nf_curve.specs.Steps.{turn_between, difference_step};
+ghost use Rattle.nf_curve.specs.Slopes.{KeepBoth};
 
 use crate::lines::{Point, Sides, slope};
 use crate::places::place_up;
-use crate::walk::{Moment, first_moment, next_moment, sides_at};
+use crate::walk::{KeptSlopes, Moment, first_moment, next_moment, sides_with};
 use nf_frac::{Part, PassedAt, Q};
 
 // Returns whether the two values differ.
@@ -92,14 +93,17 @@ fn difference_at(
     left: &[Point],
     right: &[Point],
     now: &Moment,
+    kept: &mut KeptSlopes,
     part: Part,
 ) -> Result<Option<Sides>, PassedAt<Q>>
     requires left { IsCurve left.now }
     requires right { IsCurve right.now }
     requires there { IsMoment left.now right.now now.now }
-    ensures { seen_at (option_map sides_of) (λ q. q) result ≡ at_part part (difference_step passes_Q left.now right.now now.now.time) }
+    requires kept { KeepBoth left.now right.now kept.old }
+    ensures found { seen_at (option_map sides_of) (λ q. q) result ≡ at_part part (difference_step passes_Q left.now right.now now.now.time) }
+    ensures kept { KeepBoth left.now right.now kept.new }
 {
-    let sides = sides_at(left, right, now, part)?;
+    let sides = sides_with(left, right, now, kept, part)?;
     if do_differ(&sides) && is_corner(left, right, now, part)? {
         Ok(Some(sides))
     } else {
@@ -129,10 +133,11 @@ pub(crate) fn difference_until(
     requires last { 0ℚ ≤ℚ last }
     ensures { seen_at (option_map sides_of) (λ q. q) result ≡ at_part part (checked_difference passes_Q left.now right.now last) }
 {
+    let mut kept = KeptSlopes::none();
     let mut places = (0, 0);
     let mut now = only_before(last, Some(first_moment(left, right)));
     while let Some(moment) = now {
-        if let Some(sides) = difference_at(left, right, &moment, part)? {
+        if let Some(sides) = difference_at(left, right, &moment, &mut kept, part)? {
             return Ok(Some(sides));
         }
         now = only_before(last, next_moment(left, right, &moment));
@@ -143,6 +148,6 @@ pub(crate) fn difference_until(
         left: place_up(left, places.0, last),
         right: place_up(right, places.1, last),
     };
-    let sides = sides_at(left, right, &end, part)?;
+    let sides = sides_with(left, right, &end, &mut kept, part)?;
     Ok(if do_differ(&sides) { Some(sides) } else { None })
 }

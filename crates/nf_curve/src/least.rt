@@ -10,7 +10,7 @@ ghost use Rattle.nf_curve.specs.Sides.{sides_of};
 ghost use Rattle.nf_curve.specs.Steps.{lesser_step};
 
 use crate::lines::{Point, Sides, crossing_time, line};
-use crate::walk::{first_moment, next_moment, sides_at};
+use crate::walk::{KeptSlopes, first_moment, next_moment, sides_with};
 use nf_frac::{Halt, Part, PassedAt, Q};
 use std::alloc::Global;
 
@@ -74,13 +74,14 @@ pub(crate) fn least_points(
     requires right { IsCurve right.now }
     ensures { Gives (λ points. points.items) (λ q. q) result (at_part part (checked_least passes_Q left.now right.now)) }
 {
+    let mut kept = KeptSlopes::none();
     let first = first_moment(left, right);
-    let mut before = sides_at(left, right, &first, part)?;
+    let mut before = sides_with(left, right, &first, &mut kept, part)?;
     let mut points = Vec::with_capacity(alloc, left.len() + right.len())?;
     points.push(least_point(&before))?;
     let mut now = next_moment(left, right, &first);
     while let Some(moment) = now {
-        let sides = sides_at(left, right, &moment, part)?;
+        let sides = sides_with(left, right, &moment, &mut kept, part)?;
         add_points(&mut points, &before, &sides, part)?;
         before = sides;
         now = next_moment(left, right, &moment);

@@ -13,11 +13,13 @@ mod lines;
 mod places;
 mod short;
 mod sums;
+mod values;
 mod walk;
 
 pub use curve::{Curve, Difference};
 pub use cut::ends_at;
 pub use flow::{Flow, Stop, Trace};
 pub use lines::{Point, Sides, line, slope};
-pub use places::{place_near, value_at};
-pub use walk::{Moment, first_moment, next_moment, sides_at};
+pub use places::{place_near, place_next};
+pub use values::{PieceSlope, value_at, value_with};
+pub use walk::{Moment, earlier, first_moment, next_moment, sides_at, time_at};

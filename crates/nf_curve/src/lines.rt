@@ -6,6 +6,7 @@ ghost use Rattle.nf_frac_def.specs.Checked.{at_part};
 ghost use Rattle.nf_curve_def.specs.Lines.{checked_slope, checked_line, checked_inverse, checked_cross};
 ghost use Rattle.nf_curve_def.specs.Least.{is_crossed};
 ghost use Rattle.nf_curve.specs.Sides.{sides_of};
+ghost use Rattle.nf_curve.specs.Slopes.{checked_along};
 
 use nf_frac::{Part, PassedAt, Q, at};
 
@@ -33,18 +34,26 @@ pub fn slope(p: &Point, q: &Point, part: Part) -> Result<Q, PassedAt<Q>>
     Ok(slope)
 }
 
+/// Returns the value at `time` on the line of this slope through a point.
+#[tactic(auto, unfolding(crate::specs::Slopes::checked_along))]
+pub(crate) fn along(p: &Point, slope: Q, time: Q, part: Part) -> Result<Q, PassedAt<Q>>
+    ensures { result ≡ at_part part (checked_along passes_Q p.now slope time) }
+{
+    let run = at!(part, time.difference(p.0));
+    let rise = at!(part, slope.product(run));
+    let value = at!(part, p.1.sum(rise));
+    Ok(value)
+}
+
 /// Returns the value at `time` on the line through a point and a later one. Returns `PassedAt` exactly if an operation of `checked_line`
 /// passes: the first one, with `part`. Does not allocate.
-#[tactic(auto, unfolding(nf_curve_def::specs::Lines::checked_line))]
+#[tactic(auto, unfolding(nf_curve_def::specs::Lines::checked_line, crate::specs::Slopes::checked_along))]
 pub fn line(p: &Point, q: &Point, time: Q, part: Part) -> Result<Q, PassedAt<Q>>
     requires { p.now.0 <ℚ q.now.0 }
     ensures { result ≡ at_part part (checked_line passes_Q p.now q.now time) }
 {
     let slope = slope(p, q, part)?;
-    let run = at!(part, time.difference(p.0));
-    let rise = at!(part, slope.product(run));
-    let value = at!(part, p.1.sum(rise));
-    Ok(value)
+    along(p, slope, time, part)
 }
 
 /// Returns the time at which the line through two points of different values has this value.

@@ -1,15 +1,11 @@
 // Point counts: the number of points of a curve at or before a time.
-ghost use Rattle.std.specs.Prelude.{◌≡◌, ◌≤◌, length};
-ghost use Rattle.nf_rational.specs.Operations.{0ℚ};
+ghost use Rattle.std.specs.Prelude.{◌≡◌, ◌≤◌, length, slice_get, IfSome};
 ghost use Rattle.nf_rational.specs.Order.{◌≤ℚ◌};
-ghost use Rattle.nf_frac_def.specs.Passing.{beyond, passes_Q};
-ghost use Rattle.nf_frac_def.specs.Checked.{at_part};
 ghost use Rattle.nf_model.specs.Curve.{IsCurve, TimesRise};
-ghost use Rattle.nf_curve_def.specs.Values.{checked_value};
 ghost use Rattle.nf_curve.specs.Places.{place_of};
 
-use crate::lines::{Point, line};
-use nf_frac::{Part, PassedAt, Q};
+use crate::lines::Point;
+use nf_frac::Q;
 
 /// Returns the number of points at or before `time`. Counts up from `from`, which must be at most this number.
 pub(crate) fn place_up(points: &[Point], from: usize, time: Q) -> usize
@@ -48,17 +44,20 @@ pub fn place_near(points: &[Point], from: usize, time: Q) -> usize
     place_up(points, down, time)
 }
 
-/// Returns the value at `time`, which must be at least 0. `place` must be the number of points at or before `time`. Returns `PassedAt`
-/// exactly if an operation of `checked_value` passes: the first one, with `part`. Does not allocate.
-pub fn value_at(points: &[Point], place: usize, time: Q, part: Part) -> Result<Q, PassedAt<Q>>
+/// Returns the number of points at or before `time`, in one comparison. Of the points, `place` must be at or before `time`, and the next one
+/// must be at or after it. Never fails, and does not allocate.
+pub fn place_next(points: &[Point], place: usize, time: Q) -> usize
     requires curve { IsCurve points.now }
-    requires time { 0ℚ ≤ℚ time }
-    requires place { place ≡ place_of time points.now }
-    ensures { result ≡ at_part part (checked_value passes_Q points.now time) }
+    requires from { place ≤ place_of time points.now }
+    requires next { IfSome (slice_get points.now place) (λ p. time ≤ℚ p.0) }
+    ensures { result ≡ place_of time points.now }
 {
-    let last = points[place - 1];
-    if place == points.len() || time == last.0 {
-        return Ok(last.1);
+    if place >= points.len() {
+        return place;
     }
-    line(&last, &points[place], time, part)
+    if points[place].0.is_same(time) {
+        place + 1
+    } else {
+        place
+    }
 }

@@ -1,18 +1,20 @@
 // The merge of two curves' times lists the times of the points of either, in increasing order.
-ghost use Rattle.std.specs.Prelude.{◌≡◌, ◌∷◌, slice_get, option_map, IfSome, IfOk};
+ghost use Rattle.std.specs.Prelude.{◌≡◌, List, ◌∷◌, slice_get, option_map, IfSome, IfOk};
 ghost use Rattle.nf_rational.specs.Operations.{0ℚ};
 ghost use Rattle.nf_rational.specs.Order.{◌<ℚ◌};
 ghost use Rattle.nf_frac_def.specs.Passing.{passes_Q};
 ghost use Rattle.nf_frac_def.specs.Checked.{at_part, seen_at};
-ghost use Rattle.nf_model.specs.Curve.{IsCurve};
+ghost use Rattle.nf_model.specs.Curve.{Point as SeenPoint, IsCurve};
 ghost use Rattle.nf_curve_def.specs.Times.{both_times};
 ghost use Rattle.nf_curve_def.specs.Sums.{sides_at as sides_by};
 ghost use Rattle.nf_curve.specs.Sides.{sides_of};
 ghost use Rattle.nf_curve.specs.Places.{earlier_of, times_after};
 ghost use Rattle.nf_curve.specs.Moments.{IsMoment, IsThere, times_left};
+ghost use Rattle.nf_curve.specs.Slopes.{KeepBoth};
 
 use crate::lines::{Point, Sides};
-use crate::places::{place_up, value_at};
+use crate::places::{place_next, place_up};
+use crate::values::{PieceSlope, value_with};
 use nf_frac::{Part, PassedAt, Q};
 
 /// A time in the merge of two curves' times. The fields `left` and `right` hold the number of points of each curve at or before it.
@@ -23,8 +25,8 @@ pub struct Moment {
     pub right: usize,
 }
 
-// Returns the time of the point at this index, if there is one.
-fn time_at(points: &[Point], place: usize) -> Option<Q>
+/// Returns the time of the point at this index, if there is one.
+pub fn time_at(points: &[Point], place: usize) -> Option<Q>
     ensures { result ≡ option_map (λ p. p.0) (slice_get points.now place) }
 {
     if place < points.len() {
@@ -34,8 +36,8 @@ fn time_at(points: &[Point], place: usize) -> Option<Q>
     }
 }
 
-// Returns the earlier of two times, or the only one.
-fn earlier(left: Option<Q>, right: Option<Q>) -> Option<Q>
+/// Returns the earlier of two times, or the only one.
+pub fn earlier(left: Option<Q>, right: Option<Q>) -> Option<Q>
     ensures { result ≡ earlier_of left right }
 {
     match (left, right) {
@@ -77,8 +79,52 @@ pub fn next_moment(left: &[Point], right: &[Point], now: &Moment) -> Option<Mome
     };
     Some(Moment {
         time,
-        left: place_up(left, now.left, time),
-        right: place_up(right, now.right, time),
+        left: place_next(left, now.left, time),
+        right: place_next(right, now.right, time),
+    })
+}
+
+/// The slopes kept of two curves.
+#[derive(Clone, Copy)]
+pub(crate) struct KeptSlopes {
+    pub left: Option<PieceSlope>,
+    pub right: Option<PieceSlope>,
+}
+
+impl KeptSlopes {
+    /// Returns no kept slopes.
+    pub(crate) fn none() -> KeptSlopes
+        ensures { (left right : List SeenPoint) → KeepBoth left right result }
+    {
+        KeptSlopes {
+            left: None,
+            right: None,
+        }
+    }
+}
+
+/// Returns both values at the time `now` of the merge, as `sides_at` does, with the slopes kept from time to time.
+pub(crate) fn sides_with(
+    left: &[Point],
+    right: &[Point],
+    now: &Moment,
+    kept: &mut KeptSlopes,
+    part: Part,
+) -> Result<Sides, PassedAt<Q>>
+    requires left { IsCurve left.now }
+    requires right { IsCurve right.now }
+    requires there { IsMoment left.now right.now now.now }
+    requires kept { KeepBoth left.now right.now kept.old }
+    ensures list { seen_at sides_of (λ q. q) result ≡ at_part part (sides_by passes_Q left.now right.now now.now.time) }
+    ensures time { IfOk result (λ sides. sides.time ≡ now.now.time) }
+    ensures kept { KeepBoth left.now right.now kept.new }
+{
+    let left_value = value_with(left, now.left, now.time, &mut kept.left, part)?;
+    let right_value = value_with(right, now.right, now.time, &mut kept.right, part)?;
+    Ok(Sides {
+        time: now.time,
+        left: left_value,
+        right: right_value,
     })
 }
 
@@ -96,11 +142,5 @@ pub fn sides_at(
     ensures list { seen_at sides_of (λ q. q) result ≡ at_part part (sides_by passes_Q left.now right.now now.now.time) }
     ensures time { IfOk result (λ sides. sides.time ≡ now.now.time) }
 {
-    let left_value = value_at(left, now.left, now.time, part)?;
-    let right_value = value_at(right, now.right, now.time, part)?;
-    Ok(Sides {
-        time: now.time,
-        left: left_value,
-        right: right_value,
-    })
+    sides_with(left, right, now, &mut KeptSlopes::none(), part)
 }

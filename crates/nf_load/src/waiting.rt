@@ -12,7 +12,7 @@ ghost use Rattle.nf_load_def.specs.Loading as lists;
 ghost use Rattle.nf_load.specs.Loadings.{over_list};
 
 use crate::waits::Waits;
-use nf_curve::{Curve, Point};
+use nf_curve::{Curve, Point, line, slope};
 use nf_frac::{Halt, Part, PassedAt, Q, at};
 use std::alloc::{AllocError, Global};
 
@@ -40,28 +40,21 @@ fn empty_at(end: &Point) -> Over
 }
 
 // Returns the inflow rate over a piece.
-#[tactic(auto, unfolding(nf_curve_def::specs::Lines::checked_slope), using(nf_curve::proofs::Pieces::run_apart))]
 fn inflow_rate(before: &Waits, end: &Point) -> Result<Q, PassedAt<Q>>
     requires { before.now.time <ℚ end.now.0 }
     ensures { result ≡ at_part Load (checked_slope passes_Q (before.now.time, before.now.amount) end.now) }
 {
-    let rise = at!(Part::Load, end.1.difference(before.amount));
-    let run = at!(Part::Load, end.0.difference(before.time));
-    let rate = at!(Part::Load, rise.quotient(run));
-    Ok(rate)
+    let start = (before.time, before.amount);
+    slope(&start, end, Part::Load)
 }
 
 // Returns the amount that has entered by a time of a piece.
-#[tactic(auto, unfolding(nf_curve_def::specs::Lines::checked_line))]
 fn amount_at(before: &Waits, end: &Point, time: Q) -> Result<Q, PassedAt<Q>>
     requires { before.now.time <ℚ end.now.0 }
     ensures { result ≡ at_part Load (checked_line passes_Q (before.now.time, before.now.amount) end.now time) }
 {
-    let rate = inflow_rate(before, end)?;
-    let run = at!(Part::Load, time.difference(before.time));
-    let rise = at!(Part::Load, rate.product(run));
-    let amount = at!(Part::Load, before.amount.sum(rise));
-    Ok(amount)
+    let start = (before.time, before.amount);
+    line(&start, end, time, Part::Load)
 }
 
 // Returns the queue at `end` if it changes from `start` at the rate less the capacity.

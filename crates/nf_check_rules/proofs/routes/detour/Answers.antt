@@ -1,13 +1,10 @@
 use Rattle.std.proofs.lemmas.Result.{err_from_is_err_and}
-use Rattle.std.proofs.Common.{List, sym, ap, subst, ◌∙◌}
-use Rattle.nf_rational.specs.Rational.{ℚ}
+use Rattle.std.proofs.Common.{sym, ap, ◌∙◌}
 use Rattle.nf_frac_def.specs.Passing.{passes_Q}
 use Rattle.nf_frac_def.specs.declared.Part.TheVariants.{Check}
 use Rattle.nf_frac_def.specs.Checked.{at_part}
-use Rattle.nf_check_def.specs.Routes.{all_stretches}
 use Rattle.nf_curve.proofs.Exits.{after_ok, after_err, stops_on}
 use Rattle.nf_check_rules.specs.Sent.{points_in, sent_by, detours_of}
-use Rattle.nf_check_rules.proofs.Merging.{FromZero, three_from}
 use Rattle.nf_check_rules.proofs.Stretching.{detour-is}
 use Rattle.nf_check_rules.proofs.routes.detour.Goals as goal
 
@@ -18,16 +15,15 @@ returns-in_err-sent c =
     (λ q e. ap (at_part Check) (detour-is passes_Q c.args.link.now.inflow.now.points c.args.link.now.exit.now.points c.args.link.now.tail_label.now.points c.args.link.now.head_label.now.points c.args.link.now.last) ∙ after_err Check (sent_by c.args.link.now) _ q e) c.in_err-sent.ensures.list)
 
 pub first_detour-requires : goal.first_detour-requires
-first_detour-requires c = subst (λ (l : List ℚ). FromZero l) (sym (c.deref.ensures.value ∙ c.in_ok-times.ensures))
-    (three_from c.in_ok-sent.sent.taken.points c.in_ok-sent.sent.exits.points c.in_ok-sent.sent.labels.points c.in_ok-sent.ensures.curves.taken c.in_ok-sent.ensures.curves.exits c.in_ok-sent.ensures.curves.labels)
+first_detour-requires c = c.in_ok-sent.ensures.curves
 
 pub returns-in_err-detour : goal.returns-in_err-detour
 returns-in_err-detour c =
     let p = err_from_is_err_and c.from_residual-in_err-detour.result c.from_residual-in_err-detour.ensures.1 in
     rw (p.1, p.2) (ap (at_part Check) (detour-is passes_Q c.args.link.now.inflow.now.points c.args.link.now.exit.now.points c.args.link.now.tail_label.now.points c.args.link.now.head_label.now.points c.args.link.now.last) ∙ after_ok Check (sent_by c.args.link.now) _ (points_in c.in_ok-sent.sent) c.in_ok-sent.ensures.list
-    ∙ sym (ap (λ (l : List ℚ). at_part Check (all_stretches passes_Q c.in_ok-sent.sent.taken.points c.in_ok-sent.sent.exits.points c.in_ok-sent.sent.labels.points l)) (c.deref.ensures.value ∙ c.in_ok-times.ensures)) ∙ sym c.in_err-detour.ensures)
+    ∙ sym c.in_err-detour.ensures)
 
 pub returns : goal.returns
 returns c =
     ap (at_part Check) (detour-is passes_Q c.args.link.now.inflow.now.points c.args.link.now.exit.now.points c.args.link.now.tail_label.now.points c.args.link.now.head_label.now.points c.args.link.now.last) ∙ after_ok Check (sent_by c.args.link.now) _ (points_in c.in_ok-sent.sent) c.in_ok-sent.ensures.list
-    ∙ sym (ap (λ (l : List ℚ). at_part Check (all_stretches passes_Q c.in_ok-sent.sent.taken.points c.in_ok-sent.sent.exits.points c.in_ok-sent.sent.labels.points l)) (c.deref.ensures.value ∙ c.in_ok-times.ensures)) ∙ sym c.in_ok-detour.ensures
+    ∙ sym c.in_ok-detour.ensures

@@ -5,11 +5,13 @@ use Rattle.nf_frac_def.specs.Passing.{passes_Q}
 use Rattle.nf_curve_def.specs.Differences.{times_before, difference_from, checked_difference}
 use Rattle.nf_curve.specs.Places.{place_of}
 use Rattle.nf_curve.specs.Moments.{IsThere, times_left}
+use Rattle.nf_curve.specs.Slopes.{KeepBoth}
 use Rattle.nf_curve.proofs.differences.difference_until.Given as goal
 
 -- no difference so far: what the times to come give is what all of them give
 abbrev pub invariant-loop-now : goal.invariant-loop-now
 invariant-loop-now l = record {
+  kept : KeepBoth l.left l.right l.kept;
   there : IsThere l.left l.right l.now;
   before : IfSome l.now (λ moment. moment.time <ℚ l.fn.last);
   left_place : l.places.0 ≤ place_of l.fn.last l.left;

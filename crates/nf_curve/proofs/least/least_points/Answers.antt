@@ -32,6 +32,7 @@ loop-now-init c =
     one
     ∙ first_goes passes_Q c.args.part c.args.left.now c.args.right.now c.first_moment-first.result.time _ _ c.first_moment-first.ensures.times (sides_of c.in_ok-before.before) (sym c.in_ok-before.ensures.list) in
     record {
+      kept = c.in_ok-before.ensures.kept;
       there = c.next_moment-now.ensures.there;
       later = subst (λ (t : ℚ). IfSome c.next_moment-now.result (λ next. t <ℚ next.time)) (sym c.in_ok-before.ensures.time) c.next_moment-now.ensures.later;
       so_far = rw c.next_moment-now.ensures.times at w;
@@ -60,6 +61,7 @@ loop-now-preserved c =
     step_goes passes_Q c.args.part c.args.left.now c.args.right.now c.loop-now.points.items (sides_of c.loop-now.before) c.in-Some.moment.time _ _
     (rw c.in-Some.is at c.loop-now.invariant.so_far) (sides_of c.in_ok-sides.sides) (sym c.in_ok-sides.ensures.list) c.add_points.new.points.items c.in_ok-add_points.ensures in
     record {
+      kept = c.in_ok-sides.ensures.kept;
       there = c.next_moment-now-in-Some.ensures.there;
       later = subst (λ (t : ℚ). IfSome c.next_moment-now-in-Some.result (λ next. t <ℚ next.time)) (sym c.in_ok-sides.ensures.time) c.next_moment-now-in-Some.ensures.later;
       so_far = rw c.next_moment-now-in-Some.ensures.times at w;
@@ -77,8 +79,8 @@ pub returns-in_err-push : goal.returns-in_err-push
 returns-in_err-push c =
     let p = err_from_is_err_and c.from_residual-in_err-push.result c.from_residual-in_err-push.ensures.1 in rw (p.1, p.2) tt
 
-pub sides_at-requires-in-Some-clause-there : goal.sides_at-requires-in-Some-clause-there
-sides_at-requires-in-Some-clause-there c = rw c.in-Some.is at c.loop-now.invariant.there
+pub sides_with-requires-in-Some-clause-there : goal.sides_with-requires-in-Some-clause-there
+sides_with-requires-in-Some-clause-there c = rw c.in-Some.is at c.loop-now.invariant.there
 
 pub next_moment-now-requires-in-Some-clause-there : goal.next_moment-now-requires-in-Some-clause-there
 next_moment-now-requires-in-Some-clause-there c = rw c.in-Some.is at c.loop-now.invariant.there
@@ -87,11 +89,14 @@ pub add_points-requires : goal.add_points-requires
 add_points-requires c =
     subst (λ (t : ℚ). c.loop-now.before.time <ℚ t) (sym c.in_ok-sides.ensures.time) (rw c.in-Some.is at c.loop-now.invariant.later)
 
-pub sides_at-requires-in-Some-clause-left : goal.sides_at-requires-in-Some-clause-left
-sides_at-requires-in-Some-clause-left c = c.requires.left
+pub sides_with-requires-in-Some-clause-left : goal.sides_with-requires-in-Some-clause-left
+sides_with-requires-in-Some-clause-left c = c.requires.left
 
-pub sides_at-requires-in-Some-clause-right : goal.sides_at-requires-in-Some-clause-right
-sides_at-requires-in-Some-clause-right c = c.requires.right
+pub sides_with-requires-in-Some-clause-right : goal.sides_with-requires-in-Some-clause-right
+sides_with-requires-in-Some-clause-right c = c.requires.right
+
+pub sides_with-requires-in-Some-clause-kept : goal.sides_with-requires-in-Some-clause-kept
+sides_with-requires-in-Some-clause-kept c = c.loop-now.invariant.kept
 
 pub next_moment-now-requires-in-Some-clause-left : goal.next_moment-now-requires-in-Some-clause-left
 next_moment-now-requires-in-Some-clause-left c = c.requires.left
@@ -107,3 +112,6 @@ next_moment-now-requires-clause-right c = c.requires.right
 
 pub loop-now-smaller : goal.loop-now-smaller
 loop-now-smaller c = fewer_left c.args.left.now c.args.right.now c.loop-now.now c.in-Some.moment c.next_moment-now-in-Some.result c.in-Some.is c.next_moment-now-in-Some.ensures.times
+
+pub sides_with-requires-clause-kept : goal.sides_with-requires-clause-kept
+sides_with-requires-clause-kept c = c.none-kept.ensures c.args.left.now c.args.right.now

@@ -15,6 +15,7 @@ pub loop-now-init : goal.loop-now-init
 loop-now-init c =
     let sums : List ℚ → Checked (List (ℚ × ℚ)) = each (sum_at passes_Q c.args.left.now c.args.right.now) in
     record {
+      kept = c.none-kept.ensures c.args.left.now c.args.right.now;
       there = c.first_moment.ensures.there;
       so_far = ap (λ (l : List (ℚ × ℚ)). with_front l (sums (c.first_moment.result.time ∷ times_after c.first_moment.result.time c.args.left.now c.args.right.now))) c.in_ok-points.ensures.items
           ∙ front_none (sums (c.first_moment.result.time ∷ times_after c.first_moment.result.time c.args.left.now c.args.right.now)) ∙ ap sums (sym c.first_moment.ensures.times);
@@ -28,7 +29,7 @@ unfolding checked_sum
 returns-in_err-point c =
     let p = err_from_is_err_and c.from_residual-in_err-point.result c.from_residual-in_err-point.ensures.1 in
     rw (p.1, p.2) (each_stops c.args.part (sum_at passes_Q c.args.left.now c.args.right.now) c.loop-now.points.items _ c.in-Some.moment.time _
-    (rw c.in-Some.is at c.loop-now.invariant.so_far) c.in_err-point.field-0.0 (sym c.in_err-point.ensures))
+    (rw c.in-Some.is at c.loop-now.invariant.so_far) c.in_err-point.field-0.0 (sym c.in_err-point.ensures.point))
 
 pub loop-now-preserved : goal.loop-now-preserved
 loop-now-preserved c =
@@ -36,8 +37,8 @@ loop-now-preserved c =
     ≡ each (sum_at passes_Q c.args.left.now c.args.right.now) (both_times c.args.left.now c.args.right.now) =
     ap (λ (l : List (ℚ × ℚ)). with_front l (each (sum_at passes_Q c.args.left.now c.args.right.now) (times_after c.in-Some.moment.time c.args.left.now c.args.right.now))) c.in_ok-push.ensures.items
     ∙ each_goes c.args.part (sum_at passes_Q c.args.left.now c.args.right.now) c.loop-now.points.items _ c.in-Some.moment.time _
-    (rw c.in-Some.is at c.loop-now.invariant.so_far) c.in_ok-point.point (sym c.in_ok-point.ensures) in
-    record { there = c.next_moment-now.ensures.there; so_far = rw c.next_moment-now.ensures.times at w }
+    (rw c.in-Some.is at c.loop-now.invariant.so_far) c.in_ok-point.point (sym c.in_ok-point.ensures.point) in
+    record { kept = c.in_ok-point.ensures.kept; there = c.next_moment-now.ensures.there; so_far = rw c.next_moment-now.ensures.times at w }
 
 pub returns : goal.returns
 unfolding checked_sum
@@ -55,6 +56,9 @@ sum_at-requires-clause-right c = c.requires.right
 
 pub sum_at-requires-clause-there : goal.sum_at-requires-clause-there
 sum_at-requires-clause-there c = rw c.in-Some.is at c.loop-now.invariant.there
+
+pub sum_at-requires-clause-kept : goal.sum_at-requires-clause-kept
+sum_at-requires-clause-kept c = c.loop-now.invariant.kept
 
 pub next_moment-now-requires-clause-left : goal.next_moment-now-requires-clause-left
 next_moment-now-requires-clause-left c = c.requires.left

@@ -5,11 +5,13 @@ use Rattle.nf_frac_def.proofs.Each.{with_front}
 use Rattle.nf_curve_def.specs.Times.{both_times}
 use Rattle.nf_curve_def.specs.Sums.{sum_at}
 use Rattle.nf_curve.specs.Moments.{IsThere, times_left}
+use Rattle.nf_curve.specs.Slopes.{KeepBoth}
 use Rattle.nf_curve.proofs.sums.sum_points.Given as goal
 
 -- the points so far, and those at the times to come
 abbrev pub invariant-loop-now : goal.invariant-loop-now
 invariant-loop-now l = record {
+  kept : KeepBoth l.left l.right l.kept;
   there : IsThere l.left l.right l.now;
   so_far : with_front l.points.items (each (sum_at passes_Q l.left l.right) (times_left l.left l.right l.now)) ≡ each (sum_at passes_Q l.left l.right) (both_times l.left l.right);
 }
