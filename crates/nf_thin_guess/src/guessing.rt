@@ -8,8 +8,9 @@ ghost use Rattle.nf_thin_guess.specs.Guessing.{IsSolved};
 ghost use Rattle.nf_thin_guess.specs.Values.{AreComplete};
 
 use crate::by_parts::part_values;
-use crate::repairs::Repairs;
+use crate::repairs::{Extent, Repairs};
 use crate::reverting::Reverting;
+use crate::rounds::Rounds;
 use crate::values::Values;
 use nf_frac::{Halt, Q};
 use nf_graph::LinkSets;
@@ -26,9 +27,9 @@ pub struct SolvedPattern {
     pub values: Vec<Q>,
 }
 
-// Returns the most repairs of a pattern. A few usually suffice, and many similar links need up to two repairs each.
+// Returns the most repairs of a pattern. A few usually suffice, and many similar links need several repairs each.
 fn most_repairs(net: &Network) -> u32 {
-    net.link_count().saturating_mul(3).saturating_add(64)
+    net.link_count().saturating_mul(20).saturating_add(64)
 }
 
 // Returns the values that solve a pattern's table. Returns `None` if there is not exactly one solution, or an operation passes. Fails if an
@@ -68,8 +69,9 @@ fn solved_pattern(
     }
 }
 
-// Repairs the pattern until no link violates its inequality, and returns its values then. Returns `None` if the repairs do not end, the
-// table does not have exactly one solution, or an operation passes.
+// Repairs the pattern until no link violates its inequality, and returns its values then. If repairs of each link go round, goes on with
+// repairs of one link. Returns `None` if these go round too, there are too many repairs, the table does not have exactly one solution, or
+// an operation passes. Fails if an allocation fails.
 fn repaired(
     alloc: Global,
     net: &Network,
@@ -81,6 +83,8 @@ fn repaired(
     ensures pattern { IsPatternIn net.now.net sets.now pattern.new }
     ensures values { IfOk result (λ found. IfSome found (λ values. AreComplete net.now.net values)) }
 {
+    let mut rounds = Rounds::start(alloc, pattern)?;
+    let mut extent = Extent::Each;
     for _ in 0..most_repairs(net) {
         let Some(values) = part_values(alloc, net, sets, rate, pattern)? else {
             return Ok(None);
@@ -90,8 +94,14 @@ fn repaired(
             sets,
             values: &values,
         };
-        if !repairs.repair(alloc, pattern)? {
+        if !repairs.repair(alloc, extent, pattern)? {
             return Ok(Some(values));
+        }
+        if rounds.come_back(alloc, net, pattern)? {
+            match extent {
+                Extent::Each => extent = Extent::First,
+                Extent::First => return Ok(None),
+            }
         }
     }
     Ok(None)

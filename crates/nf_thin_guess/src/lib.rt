@@ -12,6 +12,7 @@ mod numbers;
 mod part_slopes;
 mod repairs;
 mod reverting;
+mod rounds;
 mod tight_flows;
 mod values;
 

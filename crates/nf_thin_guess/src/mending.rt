@@ -109,6 +109,28 @@ fn enter_by(
     Ok(change(net, pattern, link, State::Full))
 }
 
+// Changes a link so that it enters its head, if the head is not entered and the link has a state.
+fn enter_head(
+    net: &Network,
+    link: LinkId,
+    entered: &mut [bool],
+    forest: &mut Forest,
+    pattern: &mut Pattern,
+) -> Result<(), AllocError>
+    requires pattern { (sets : Sets) × IsPatternIn net.now.net sets pattern.old }
+    requires link { link < length net.now.net.links }
+    ensures { (sets : Sets) → IsPatternIn net.now.net sets pattern.old → IsPatternIn net.now.net sets pattern.new }
+{
+    let head = net.link(link).head;
+    if is_noted(entered, head) {
+        return Ok(());
+    }
+    if enter_by(net, link, forest, pattern)? {
+        note(entered, head);
+    }
+    Ok(())
+}
+
 // Changes a link into each node that is not entered, if it has one with a state.
 fn enter_nodes(
     net: &Network,
@@ -120,12 +142,7 @@ fn enter_nodes(
     ensures { (sets : Sets) → IsPatternIn net.now.net sets pattern.old → IsPatternIn net.now.net sets pattern.new }
 {
     for e in 0..net.link_count() {
-        let head = net.link(LinkId(e)).head;
-        if !is_noted(entered, head) {
-            if enter_by(net, LinkId(e), forest, pattern)? {
-                note(entered, head);
-            }
-        }
+        enter_head(net, LinkId(e), entered, forest, pattern)?;
     }
     Ok(())
 }

@@ -99,6 +99,13 @@ fn breaks(state: Option<State>, tail_slope: Q, head_slope: Q) -> bool {
     }
 }
 
+/// Which links one repair of a pattern changes, of those that violate their inequalities.
+#[derive(Clone, Copy)]
+pub(crate) enum Extent {
+    Each,
+    First,
+}
+
 /// A borrowed view of what the repairs of a pattern read: a network with its sets, and the values that solve the pattern's table.
 #[derive(Clone, Copy)]
 pub(crate) struct Repairs<'a> {
@@ -190,13 +197,49 @@ impl<'a> Repairs<'a> {
         Ok(changes)
     }
 
-    /// Repairs once each link that violates its inequality. Returns whether a state changes. Fails if an allocation fails.
-    pub(crate) fn repair(&self, alloc: Global, pattern: &mut Pattern) -> Result<bool, AllocError>
+    // Repairs once each link that violates its inequality. Returns whether a state changes. Fails if an allocation fails.
+    fn repair_each(&self, alloc: Global, pattern: &mut Pattern) -> Result<bool, AllocError>
         requires { IsPatternIn self.now.net.now.net self.now.sets.now pattern.old }
         ensures { IsPatternIn self.now.net.now.net self.now.sets.now pattern.new }
     {
         let loosened = self.loosen(pattern);
         let tightened = self.tighten(alloc, pattern)?;
         Ok(loosened || tightened)
+    }
+    // Repairs the first link that violates its inequality and changes its state. Returns whether there is one. Fails if an allocation
+    // fails.
+    fn repair_first(&self, alloc: Global, pattern: &mut Pattern) -> Result<bool, AllocError>
+        requires { IsPatternIn self.now.net.now.net self.now.sets.now pattern.old }
+        ensures { IsPatternIn self.now.net.now.net self.now.sets.now pattern.new }
+    {
+        let Some(mut forest) = tight_forest(alloc, self.net, self.sets, pattern)? else {
+            return Ok(false);
+        };
+        for e in 0..self.net.link_count() {
+            if self.loosen_link(LinkId(e), pattern) {
+                return Ok(true);
+            }
+            if self.tighten_link(LinkId(e), &mut forest, pattern)? {
+                return Ok(true);
+            }
+        }
+        Ok(false)
+    }
+
+    /// Repairs once each link that violates its inequality, or the first one. Returns whether a state changes. Fails if an allocation
+    /// fails.
+    pub(crate) fn repair(
+        &self,
+        alloc: Global,
+        extent: Extent,
+        pattern: &mut Pattern,
+    ) -> Result<bool, AllocError>
+        requires { IsPatternIn self.now.net.now.net self.now.sets.now pattern.old }
+        ensures { IsPatternIn self.now.net.now.net self.now.sets.now pattern.new }
+    {
+        match extent {
+            Extent::Each => self.repair_each(alloc, pattern),
+            Extent::First => self.repair_first(alloc, pattern),
+        }
     }
 }

@@ -8,7 +8,7 @@ ghost use Rattle.nf_thin_guess.specs.Values.{AreComplete};
 use crate::by_parts::part_values;
 use crate::forest::Forest;
 use crate::node_parts::tight_forest;
-use crate::repairs::{Repairs, set_state};
+use crate::repairs::{Extent, Repairs, set_state};
 use crate::values::Values;
 use nf_frac::Q;
 use nf_graph::{LinkId, LinkSets};
@@ -129,7 +129,7 @@ impl<'a> Reverting<'a> {
             sets: self.sets,
             values,
         };
-        let changes = repairs.repair(alloc, &mut repaired)?;
+        let changes = repairs.repair(alloc, Extent::Each, &mut repaired)?;
         Ok(!changes)
     }
 

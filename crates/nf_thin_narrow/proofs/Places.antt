@@ -22,6 +22,13 @@ module _ (q : Question) (listing : List Pattern) (is : IsListingOf q listing) wh
       let b : IsBefore q.base r r = subst (λ (x : Pattern). IsBefore q.base x r) s before in IsBefore-asymmetric q.base r r b b)
       (before_or_at i j (omega arith))
 
+  -- A pattern before another one has a lower index.
+  pub earlier_index : (i j : ℕ) (p r : Pattern) → slice_get listing i ≡ Some p → slice_get listing j ≡ Some r → IsBefore q.base p r → i < j
+  earlier_index i j p r at_p at_r before = ⊎_elim
+      (λ (less : i < j). less)
+      (λ (w : (i ≡ j) ⊎ (j < i)). absurd (not_after_itself j i p r (⊎_elim (λ (e : i ≡ j). omega arith) (λ (h : j < i). omega arith) w) at_p at_r before))
+      (compared i j)
+
   module _ (last : Last) (p : Pattern) (next : IsNext q last p) where
     place : (place : ℕ) × HasPlace listing place p
     place = is.whole p next.listed

@@ -15,6 +15,6 @@ pub use filling::fill;
 pub use firm::{Firm, firm_ways_before};
 pub use forcing::forced_by;
 pub use listing::narrow_listing;
-pub use row::ways_before;
+pub use row::{count_changes, ways_before};
 pub use sole::sole_flags;
 pub use within::goes_on_to;

@@ -101,8 +101,8 @@ fn add_link(row: &mut [u64], base: Option<State>, unbounded: bool, sole: bool)
     }
 }
 
-// Returns how many links differ from the base.
-pub(crate) fn count_changes(base: &Pattern, pattern: &Pattern, links: u32) -> usize
+/// Returns how many links differ from the base.
+pub fn count_changes(base: &Pattern, pattern: &Pattern, links: u32) -> usize
     requires base { length base.now ≡ links }
     requires pattern { length pattern.now ≡ links }
     ensures changes { result ≡ changes_of base.now pattern.now }

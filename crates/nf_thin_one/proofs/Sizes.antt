@@ -1,13 +1,13 @@
 -- How many unknowns a table has, and at most.
 use Rattle.std.proofs.Common.{◌≡◌, ℕ, ◌+◌, ◌≤◌, List, length, Bool, ap, ◌∙◌, arith}
-use Rattle.std.proofs.lemmas.List.{length-map}
-use Rattle.nf_model.specs.Network.{Network, hop_of, hops}
+use Rattle.nf_model.specs.Network.{Network, hops}
 use Rattle.nf_model.specs.Walk.{Hop}
 use Rattle.nf_model.specs.ThinFlow.{Sets}
 use Rattle.nf_net_def.specs.Named.{Named}
 use Rattle.nf_net_def.specs.WellNamed.{IsNamed}
 use Rattle.nf_thin_def.specs.Equations.{unknowns}
 use Rattle.nf_thin_equation_laws.proofs.Equations.{unknowns-length}
+use Rattle.nf_graph.proofs.NetworkHops.{hops_length}
 use Rattle.nf_net.proofs.Limits.{few_nodes, few_links}
 use Rattle.nf_thin_one.proofs.ActivePlaces.{active_before, few_before, all_before}
 
@@ -17,7 +17,7 @@ module _ (n : Named) (named : IsNamed n) (flags : List Bool) where
       let a = few_nodes n named in let b = few_links n named in let c = few_before flags e in let d = named.numbered.nodes in omega arith
 
 pub as_many_hops : (n : Named) (seen : List Hop) → seen ≡ hops n.net → length seen ≡ length n.net.links
-as_many_hops n seen e = ap length e ∙ length-map n.net.links hop_of
+as_many_hops n seen e = ap length e ∙ hops_length n.net
 
 pub counted : (net : Network) (sets : Sets) (e count : ℕ) → length sets.active ≤ e → count ≡ net.nodes + active_before sets.active e → count ≡ length (unknowns net sets)
 counted net sets e count all is = let a = all_before sets.active 0 e all in let u = unknowns-length net sets in omega arith

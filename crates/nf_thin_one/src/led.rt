@@ -1,12 +1,13 @@
 // Whether a pattern leads to each node: if it is accepted, its slopes are then those of a thin flow.
-ghost use Rattle.std.specs.Prelude.{◌≡◌, ◌<◌, ℕ, length, IsTrue};
+ghost use Rattle.std.specs.Prelude.{◌≡◌, ◌<◌, ◌≤◌, ℕ, length, IsTrue};
+ghost use Rattle.nf_model.specs.Entries.{Has};
 ghost use Rattle.nf_thin_equation_laws.specs.Equations.{IsPatternIn};
 ghost use Rattle.nf_thin_laws.specs.PatternLaws.{EachIsLed};
-ghost use Rattle.nf_thin_one.specs.Leading.{MayCarry, IsLed};
+ghost use Rattle.nf_thin_one.specs.Leading.{MayCarry, AreLed};
 
-use nf_graph::{LinkId, LinkSets, NodeId};
+use nf_graph::{LinkId, LinkSets};
 use nf_model::State;
-use nf_net::Network;
+use nf_net::{MOST_NODES, Network};
 use nf_pattern::Pattern;
 
 /// Whether the link is Tight, Full or resetting: one that may carry flow. Where it answers true, it is.
@@ -25,20 +26,33 @@ pub fn may_carry(sets: &LinkSets, pattern: &Pattern, link: LinkId) -> bool
     }
 }
 
-// Such a link leads to the node.
-fn is_led(net: &Network, sets: &LinkSets, pattern: &Pattern, node: NodeId) -> bool
-    requires { IsPatternIn net.now.net sets.now pattern.now }
-    ensures { IsTrue result → IsLed net.now.net sets.now pattern.now node }
+// Sets the flags of the nodes to which links that may carry flow lead.
+fn flag_led(net: &Network, sets: &LinkSets, pattern: &Pattern, led: &mut [bool])
+    requires pattern { IsPatternIn net.now.net sets.now pattern.now }
+    requires nodes { net.now.net.nodes ≤ length led.old }
+    requires led { AreLed net.now.net sets.now pattern.now led.old }
+    ensures { AreLed net.now.net sets.now pattern.now led.new }
 {
     for e in 0..net.link_count() {
-        let here = net.link(LinkId(e));
-        if here.head == node {
-            if may_carry(sets, pattern, LinkId(e)) {
-                return true;
-            }
+        let link = LinkId(e);
+        if may_carry(sets, pattern, link) {
+            let head = net.link(link).head;
+            led[head.index()] = true;
         }
     }
-    false
+}
+
+// Whether the flags of the first nodes are set. Where it answers true, they are.
+fn are_set(flags: &[bool], nodes: u32) -> bool
+    requires { nodes ≤ length flags.now }
+    ensures { IsTrue result → (v : ℕ) → v < nodes → Has flags.now v }
+{
+    for v in 0..nodes {
+        if !flags[v as usize] {
+            return false;
+        }
+    }
+    true
 }
 
 /// Whether a link that may carry flow leads to each node but the source. Where it answers true, one does.
@@ -46,14 +60,10 @@ pub fn each_is_led(net: &Network, sets: &LinkSets, pattern: &Pattern) -> bool
     requires { IsPatternIn net.now.net sets.now pattern.now }
     ensures { IsTrue result → EachIsLed net.now.net sets.now pattern.now }
 {
-    let source = net.source();
-    for v in 0..net.node_count() {
-        let node = NodeId(v);
-        if node != source {
-            if !is_led(net, sets, pattern, node) {
-                return false;
-            }
-        }
-    }
-    true
+    // Proof: a network has at most 64 nodes.
+    net.recall();
+    let mut led = [false; MOST_NODES];
+    led[net.source().index()] = true;
+    flag_led(net, sets, pattern, &mut led);
+    are_set(&led, net.node_count())
 }

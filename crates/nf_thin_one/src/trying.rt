@@ -89,7 +89,7 @@ fn judge(
     flows: &[Q],
     slopes: &[Q],
 ) -> Result<Tried, PassedAt<Q>>
-    requires pattern { IsPatternIn net.now.net sets.now pattern.now }
+    requires states { length pattern.now ≡ length net.now.net.links }
     requires flows { length flows.now ≡ length net.now.net.links }
     requires slopes { length slopes.now ≡ net.now.net.nodes }
     ensures { JudgesFlows net.now.net pattern.now flows.now slopes.now

@@ -6,9 +6,7 @@ ghost use Rattle.nf_frac_def.specs.declared.Part.TheVariants.{Verdict};
 ghost use Rattle.nf_frac_def.specs.Passing.{passes_Q};
 ghost use Rattle.nf_frac_def.specs.Checked.{at_part};
 ghost use Rattle.nf_model.specs.Entries.{number_at};
-ghost use Rattle.nf_model.specs.Network.{Link as SeenLink, IsLink, unbounded};
-ghost use Rattle.nf_model.specs.Pattern.{IsPattern};
-ghost use Rattle.nf_thin_laws.specs.ActiveLinks.{AreSets};
+ghost use Rattle.nf_model.specs.Network.{Link as SeenLink, IsLink};
 ghost use Rattle.nf_thin_def.specs.Verdict.{bound_on, verdict_list};
 ghost use Rattle.nf_thin_one.specs.Judging.{keeps, link_verdict, numbered_verdict, first_of, first_broken, NoneNegativeBefore, IsFirstNegative, IsJudged, Judges};
 
@@ -167,9 +165,10 @@ fn first_negative(net: &Network, slopes: &[Q]) -> Option<NodeId>
 
 /// Returns whether flows and slopes meet a pattern: no flow or slope is negative, and each link meets the inequality of its state.
 /// `flows` has one number for each link, an amount per unit of time; `labels` one for each node, the slope of its label: the label's change
-/// per unit of departure time. If they don't meet it, returns the first node that fails, or else the first link. The pattern must be one of
-/// these sets: it gives a state to exactly the active links that aren't resetting. Returns `Passed` exactly at the first operation of
-/// `verdict_list` (nf_thin_def/specs/Verdict.antt) that passes, with the part Verdict, even if something fails. Doesn't allocate.
+/// per unit of departure time. If they don't meet it, returns the first node that fails, or else the first link. The pattern must have an
+/// entry for each link. The answer depends on the pattern's states alone, so `sets` may be any sets. Returns `Passed` exactly at the
+/// first operation of `verdict_list` (nf_thin_def/specs/Verdict.antt) that passes, with the part Verdict, even if something fails.
+/// Doesn't allocate.
 pub fn verdict(
     net: &Network,
     sets: &LinkSets,
@@ -177,14 +176,13 @@ pub fn verdict(
     flows: &[Q],
     labels: &[Q],
 ) -> Result<Judged, PassedAt<Q>>
-    requires sets { AreSets net.now.net sets.now }
-    requires pattern { IsPattern sets.now (unbounded net.now.net) pattern.now }
+    requires states { length pattern.now ≡ length net.now.net.links }
     requires flows { length flows.now ≡ length net.now.net.links }
     requires labels { length labels.now ≡ net.now.net.nodes }
     ensures { Judges (IsJudged net.now.net pattern.now flows.now labels.now)
         (at_part Verdict (verdict_list passes_Q net.now.net pattern.now labels.now)) result }
 {
-    // Only the condition on the pattern speaks of the sets: the pattern's states say which links they are.
+    // The pattern's states say which links are judged.
     let _ = sets;
     let failing = first_failing(net, pattern, flows, labels)?;
     match first_negative(net, labels) {

@@ -1,12 +1,11 @@
 use Rattle.std.proofs.Common.{List, length, sym, ap, subst, ◌∙◌, arith}
-use Rattle.std.proofs.lemmas.List.{length-map}
 use Rattle.nf_model.specs.Walk.{Hop}
-use Rattle.nf_model.specs.Network.{hop_of}
 use Rattle.nf_model.specs.ThinFlow.{Sets}
 use Rattle.nf_model.specs.Pattern.{Pattern, IsPattern}
 use Rattle.nf_net.proofs.Limits.{few_links}
 use Rattle.nf_thin_laws.specs.Forcing.{sets_left}
 use Rattle.nf_thin_laws.proofs.Forced.{left_pattern, sets_count, flags_count}
+use Rattle.nf_graph.proofs.NetworkHops.{hops_length}
 use Rattle.nf_thin_narrow.proofs.listing.narrow_listing.Goals as goal
 
 pub new-requires-clause-ends : goal.new-requires-clause-ends
@@ -15,21 +14,21 @@ new-requires-clause-ends c = rw (c.node_count-nodes.ensures, c.hops-hops.ensures
 pub new-requires-clause-active : goal.new-requires-clause-active
 new-requires-clause-active c =
     ap (λ (s : Sets). length s.active) c.in_ok-left.ensures ∙ (sets_count c.args.sets.now c.args.unbounded.now c.args.forced.now c.requires.forcing ∙ (c.requires.active
-    ∙ (sym (length-map c.args.net.now.net.links hop_of) ∙ ap (λ (l : List Hop). length l) (sym c.hops-hops.ensures.value))))
+    ∙ (sym (hops_length c.args.net.now.net) ∙ ap (λ (l : List Hop). length l) (sym c.hops-hops.ensures.value))))
 
 pub new-requires-clause-resetting : goal.new-requires-clause-resetting
 new-requires-clause-resetting c =
     ap (λ (s : Sets). length s.resetting) c.in_ok-left.ensures ∙ (flags_count c.args.sets.now c.args.unbounded.now c.args.forced.now c.requires.forcing ∙ (c.requires.active
-    ∙ (sym (length-map c.args.net.now.net.links hop_of) ∙ ap (λ (l : List Hop). length l) (sym c.hops-hops.ensures.value))))
+    ∙ (sym (hops_length c.args.net.now.net) ∙ ap (λ (l : List Hop). length l) (sym c.hops-hops.ensures.value))))
 
 pub new-requires-clause-unbounded : goal.new-requires-clause-unbounded
 new-requires-clause-unbounded c =
-    c.requires.unbounded ∙ (sym (length-map c.args.net.now.net.links hop_of) ∙ ap (λ (l : List Hop). length l) (sym c.hops-hops.ensures.value))
+    c.requires.unbounded ∙ (sym (hops_length c.args.net.now.net) ∙ ap (λ (l : List Hop). length l) (sym c.hops-hops.ensures.value))
 
 pub new-requires-clause-fewer : goal.new-requires-clause-fewer
 new-requires-clause-fewer c =
     let few = few_links c.args.net.now c.hops-hops.ensures.named in
-    let same = length-map c.args.net.now.net.links hop_of in rw (c.hops-hops.ensures.value) (omega arith)
+    let same = hops_length c.args.net.now.net in rw (c.hops-hops.ensures.value) (omega arith)
 
 pub new-requires-clause-base : goal.new-requires-clause-base
 new-requires-clause-base c =

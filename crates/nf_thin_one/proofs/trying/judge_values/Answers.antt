@@ -11,11 +11,8 @@ pub verdict-requires-clause-flows : goal.verdict-requires-clause-flows
 verdict-requires-clause-flows c =
     ap (λ (l : List ℚ). length l) c.deref-2.ensures.value ∙ (ap (λ (l : List ℚ). length l) c.in_ok-flows.ensures ∙ (onto-length c.args.sets.now.active _ ∙ c.requires.pattern.sets_are.count))
 
-pub verdict-requires-clause-sets : goal.verdict-requires-clause-sets
-verdict-requires-clause-sets c = c.requires.pattern.sets_are
-
-pub verdict-requires-clause-pattern : goal.verdict-requires-clause-pattern
-verdict-requires-clause-pattern c = c.requires.pattern.pattern_is
+pub verdict-requires-clause-states : goal.verdict-requires-clause-states
+verdict-requires-clause-states c = c.requires.pattern.pattern_is.count ∙ c.requires.pattern.sets_are.count
 
 pub returns-in-Meets : goal.returns-in-Meets
 returns-in-Meets c =

@@ -1,4 +1,3 @@
-use Rattle.std.proofs.Common.{◌∙◌}
 use Rattle.std.proofs.lemmas.Result.{err_from_is_err_and}
 use Rattle.nf_frac_def.specs.Passing.{passes_Q}
 use Rattle.nf_thin_one.proofs.Concluding.{judged_err, none_passes, first_fails, all_meet}
@@ -11,16 +10,16 @@ returns-in_err-failing c =
 
 pub returns-in-Some : goal.returns-in-Some
 returns-in-Some c =
-    (none_passes passes_Q c.args.net.now.net c.args.pattern.now c.args.flows.now c.args.labels.now (c.requires.pattern.count ∙ c.requires.sets.count) c.in_ok-failing.failing c.in_ok-failing.ensures, c.in-Some.ensures)
+    (none_passes passes_Q c.args.net.now.net c.args.pattern.now c.args.flows.now c.args.labels.now c.requires.states c.in_ok-failing.failing c.in_ok-failing.ensures, c.in-Some.ensures)
 
 pub returns-in-Some-failing : goal.returns-in-Some-failing
 returns-in-Some-failing c = (
-  none_passes passes_Q c.args.net.now.net c.args.pattern.now c.args.flows.now c.args.labels.now (c.requires.pattern.count ∙ c.requires.sets.count) c.in_ok-failing.failing c.in_ok-failing.ensures,
-  first_fails passes_Q c.args.net.now.net c.args.pattern.now c.args.flows.now c.args.labels.now (c.requires.pattern.count ∙ c.requires.sets.count) c.in_ok-failing.failing c.in_ok-failing.ensures c.in-Some-failing.link c.in-Some-failing.is c.in-None.ensures,
+  none_passes passes_Q c.args.net.now.net c.args.pattern.now c.args.flows.now c.args.labels.now c.requires.states c.in_ok-failing.failing c.in_ok-failing.ensures,
+  first_fails passes_Q c.args.net.now.net c.args.pattern.now c.args.flows.now c.args.labels.now c.requires.states c.in_ok-failing.failing c.in_ok-failing.ensures c.in-Some-failing.link c.in-Some-failing.is c.in-None.ensures,
 )
 
 pub returns-in-None-failing : goal.returns-in-None-failing
 returns-in-None-failing c = (
-  none_passes passes_Q c.args.net.now.net c.args.pattern.now c.args.flows.now c.args.labels.now (c.requires.pattern.count ∙ c.requires.sets.count) c.in_ok-failing.failing c.in_ok-failing.ensures,
-  all_meet passes_Q c.args.net.now.net c.args.pattern.now c.args.flows.now c.args.labels.now (c.requires.pattern.count ∙ c.requires.sets.count) c.in_ok-failing.failing c.in_ok-failing.ensures c.in-None-failing.is c.requires.flows c.in-None.ensures,
+  none_passes passes_Q c.args.net.now.net c.args.pattern.now c.args.flows.now c.args.labels.now c.requires.states c.in_ok-failing.failing c.in_ok-failing.ensures,
+  all_meet passes_Q c.args.net.now.net c.args.pattern.now c.args.flows.now c.args.labels.now c.requires.states c.in_ok-failing.failing c.in_ok-failing.ensures c.in-None-failing.is c.requires.flows c.in-None.ensures,
 )

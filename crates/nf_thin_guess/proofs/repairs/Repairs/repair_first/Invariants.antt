@@ -1,0 +1,6 @@
+use Rattle.nf_thin_equation_laws.specs.Equations.{IsPatternIn}
+use Rattle.nf_thin_guess.proofs.repairs.Repairs.repair_first.Given as goal
+
+-- The pattern is still a pattern.
+abbrev pub invariant-loop-e : goal.invariant-loop-e
+invariant-loop-e l = IsPatternIn l.self.net.now.net l.self.sets.now l.pattern
