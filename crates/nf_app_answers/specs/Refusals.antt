@@ -3,7 +3,8 @@ use Rattle.nf_edge.specs.declared.FetchFault.{FetchFault}
 use Rattle.nf_edge.specs.declared.FetchFault.TheVariants.{Failed, TooLong, Memory}
 use Rattle.nf_rational.specs.Rational.{ℚ}
 use Rattle.nf_frac_def.specs.declared.Halt.{Halt}
-use Rattle.nf_net_file.specs.declared.fault.NetFault.{NetFault}
+use Rattle.nf_text.specs.declared.fault.FileFault.{FileFault}
+use Rattle.nf_net_def.specs.declared.NetRule.{NetRule}
 use Rattle.nf_side.specs.declared.fault.SideFault.{SideFault}
 use Rattle.nf_report_def.specs.declared.LoadRule.{LoadRule}
 use Rattle.nf_complete_def.specs.declared.FlowsRule.{FlowsRule}
@@ -32,9 +33,9 @@ refusal_of_fetch Failed = Refusal.ShelfFailed
 refusal_of_fetch TooLong = Refusal.ShelfTooLong
 refusal_of_fetch Memory = Refusal.NoMemory
 
-abbrev pub refusal_of_net : NetFault → Refusal
-refusal_of_net (NetFault.Broken rule line) = Refusal.Malformed rule line
-refusal_of_net NetFault.Memory = Refusal.NoMemory
+abbrev pub refusal_of_net : FileFault NetRule → Refusal
+refusal_of_net (FileFault.Broken rule line) = Refusal.Malformed rule line
+refusal_of_net FileFault.Memory = Refusal.NoMemory
 
 abbrev pub refusal_of_loads : SideFault LoadRule → Refusal
 refusal_of_loads (SideFault.Broken rule line) = Refusal.MalformedLoads rule line
