@@ -5,7 +5,6 @@ use Rattle.nf_rational.specs.Rational.{ℚ}
 use Rattle.nf_frac_def.specs.declared.Halt.{Halt}
 use Rattle.nf_text.specs.declared.fault.FileFault.{FileFault}
 use Rattle.nf_net_def.specs.declared.NetRule.{NetRule}
-use Rattle.nf_side.specs.declared.fault.SideFault.{SideFault}
 use Rattle.nf_report_def.specs.declared.LoadRule.{LoadRule}
 use Rattle.nf_complete_def.specs.declared.FlowsRule.{FlowsRule}
 use Rattle.nf_routes_def.specs.declared.RoutesRule.{RoutesRule}
@@ -33,21 +32,22 @@ refusal_of_fetch Failed = Refusal.ShelfFailed
 refusal_of_fetch TooLong = Refusal.ShelfTooLong
 refusal_of_fetch Memory = Refusal.NoMemory
 
+-- the refusal of a file, from its fault
+abbrev pub refusal_of_file : {Rule : Type 0} → (Rule → ℕ → Refusal) → FileFault Rule → Refusal
+refusal_of_file malformed (FileFault.Broken rule line) = malformed rule line
+refusal_of_file malformed FileFault.Memory = Refusal.NoMemory
+
 abbrev pub refusal_of_net : FileFault NetRule → Refusal
-refusal_of_net (FileFault.Broken rule line) = Refusal.Malformed rule line
-refusal_of_net FileFault.Memory = Refusal.NoMemory
+refusal_of_net fault = refusal_of_file (λ rule line. Refusal.Malformed rule line) fault
 
-abbrev pub refusal_of_loads : SideFault LoadRule → Refusal
-refusal_of_loads (SideFault.Broken rule line) = Refusal.MalformedLoads rule line
-refusal_of_loads SideFault.Memory = Refusal.NoMemory
+abbrev pub refusal_of_loads : FileFault LoadRule → Refusal
+refusal_of_loads fault = refusal_of_file (λ rule line. Refusal.MalformedLoads rule line) fault
 
-abbrev pub refusal_of_flows : SideFault FlowsRule → Refusal
-refusal_of_flows (SideFault.Broken rule line) = Refusal.MalformedFlows rule line
-refusal_of_flows SideFault.Memory = Refusal.NoMemory
+abbrev pub refusal_of_flows : FileFault FlowsRule → Refusal
+refusal_of_flows fault = refusal_of_file (λ rule line. Refusal.MalformedFlows rule line) fault
 
-abbrev pub refusal_of_routes : SideFault RoutesRule → Refusal
-refusal_of_routes (SideFault.Broken rule line) = Refusal.MalformedRoutes rule line
-refusal_of_routes SideFault.Memory = Refusal.NoMemory
+abbrev pub refusal_of_routes : FileFault RoutesRule → Refusal
+refusal_of_routes fault = refusal_of_file (λ rule line. Refusal.MalformedRoutes rule line) fault
 
 abbrev pub refusal_of_report : ReportFault → Refusal
 refusal_of_report (ReportFault.Broken rule line) = Refusal.MalformedReport rule line
