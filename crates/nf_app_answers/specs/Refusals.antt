@@ -6,9 +6,9 @@ use Rattle.nf_frac_def.specs.declared.Halt.{Halt}
 use Rattle.nf_text.specs.declared.fault.FileFault.{FileFault}
 use Rattle.nf_net_def.specs.declared.NetRule.{NetRule}
 use Rattle.nf_report_def.specs.declared.LoadRule.{LoadRule}
+use Rattle.nf_report_def.specs.declared.ReportRule.{ReportRule}
 use Rattle.nf_complete_def.specs.declared.FlowsRule.{FlowsRule}
 use Rattle.nf_routes_def.specs.declared.RoutesRule.{RoutesRule}
-use Rattle.nf_report_read.specs.declared.fault.ReportFault.{ReportFault}
 use Rattle.nf_app_answers.specs.declared.refusal.Refusal.{Refusal}
 use Rattle.nf_app_answers.specs.Answers.{ProgramAnswer, NoMemory, NoRequest, ShelfFailed, ShelfTooLong, Malformed, MalformedLoads, MalformedFlows, MalformedRoutes, MalformedReport, Passes, Unbounded, NotThin, Earlier}
 
@@ -49,9 +49,8 @@ refusal_of_flows fault = refusal_of_file (λ rule line. Refusal.MalformedFlows r
 abbrev pub refusal_of_routes : FileFault RoutesRule → Refusal
 refusal_of_routes fault = refusal_of_file (λ rule line. Refusal.MalformedRoutes rule line) fault
 
-abbrev pub refusal_of_report : ReportFault → Refusal
-refusal_of_report (ReportFault.Broken rule line) = Refusal.MalformedReport rule line
-refusal_of_report ReportFault.Memory = Refusal.NoMemory
+abbrev pub refusal_of_report : FileFault ReportRule → Refusal
+refusal_of_report fault = refusal_of_file (λ rule line. Refusal.MalformedReport rule line) fault
 
 abbrev pub refusal_of_halt : Halt ℚ → Refusal
 refusal_of_halt (Halt.Passed at) = Refusal.Passes at
