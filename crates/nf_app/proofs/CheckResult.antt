@@ -13,7 +13,8 @@ use Rattle.nf_check_def.specs.Rules.{Checks}
 use Rattle.nf_check_def.specs.CheckList.{check_list}
 use Rattle.nf_check.specs.Answers.{IsExact}
 use Rattle.nf_report_def.specs.ReportFile.{report_in}
-use Rattle.nf_report_read.specs.declared.fault.ReportFault.{ReportFault}
+use Rattle.nf_text.specs.declared.fault.FileFault.{FileFault}
+use Rattle.nf_report_def.specs.declared.ReportRule.{ReportRule}
 use Rattle.nf_report_read.specs.Files.{IfBroken}
 use Rattle.nf_app_answers.specs.declared.refusal.Refusal.{Refusal}
 use Rattle.nf_app_words.specs.Requests.{Check}
@@ -26,10 +27,10 @@ module _ (n : Named) (named : IsNamed n) (file name text : List ℕ) where
   abbrev Answers : Refusal → Type 0
   Answers refusal = (refusal ≡ Refusal.NoMemory) ⊎ IsResultOf n text (Check file name) (answer_of refusal)
 
-  pub report_refused : (fault : ReportFault) → IfBroken fault (λ broken. report_in n text ≡ Err broken) → Answers (refusal_of_report fault)
-  report_refused (ReportFault.Broken rule line) e =
+  pub report_refused : (fault : FileFault ReportRule) → IfBroken fault (λ broken. report_in n text ≡ Err broken) → Answers (refusal_of_report fault)
+  report_refused (FileFault.Broken rule line) e =
       inr (inr (inl (record { rule = rule; line = line }, refl, no_report n named text (record { rule = rule; line = line }) e)))
-  report_refused ReportFault.Memory e = inl refl
+  report_refused FileFault.Memory e = inl refl
 
   module _ (report : Report) (read : report_in n text ≡ Ok report) where
     pub checking_stopped : (halt : Halt ℚ) → Stops (λ (q : ℚ). q) halt (check_list passes_Q n.net report.flow) → Answers (refusal_of_halt halt)

@@ -15,7 +15,7 @@ use Rattle.nf_load_def.specs.Loads.{load_list}
 use Rattle.nf_load_laws.proofs.Loads.{links_loaded}
 use Rattle.nf_curve.proofs.Exits.{was_ok}
 use Rattle.nf_report_def.specs.LoadsFile.{loads_in, pieces_at}
-use Rattle.nf_side.specs.declared.fault.SideFault.{SideFault}
+use Rattle.nf_text.specs.declared.fault.FileFault.{FileFault}
 use Rattle.nf_side.specs.Faults.{IfBroken}
 use Rattle.nf_report_def.specs.declared.LoadRule.{LoadRule}
 use Rattle.nf_app_answers.specs.declared.refusal.Refusal.{Refusal}
@@ -29,9 +29,9 @@ module _ (n : Named) (file name : List ℕ) (horizon : ℚ) (text : List ℕ) wh
   abbrev Answers : Refusal → Type 0
   Answers refusal = (refusal ≡ Refusal.NoMemory) ⊎ IsResultOf n text (Load file name horizon) (answer_of refusal)
 
-  pub loads_refused : (fault : SideFault LoadRule) → IfBroken fault (λ broken. loads_in n text ≡ Err broken) → Answers (refusal_of_loads fault)
-  loads_refused (SideFault.Broken rule line) e = inr (inr (inl (record { rule = rule; line = line }, refl, e)))
-  loads_refused SideFault.Memory e = inl refl
+  pub loads_refused : (fault : FileFault LoadRule) → IfBroken fault (λ broken. loads_in n text ≡ Err broken) → Answers (refusal_of_loads fault)
+  loads_refused (FileFault.Broken rule line) e = inr (inr (inl (record { rule = rule; line = line }, refl, e)))
+  loads_refused FileFault.Memory e = inl refl
 
   module _ (pieces : List (List Piece)) (read : loads_in n text ≡ Ok pieces) where
     pub loading_stopped : (halt : Halt ℚ) → Stops (λ (q : ℚ). q) halt (loading_list n pieces horizon) → Answers (refusal_of_halt halt)

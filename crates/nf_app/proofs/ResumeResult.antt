@@ -11,7 +11,8 @@ use Rattle.nf_net_def.specs.WellNamed.{IsNamed}
 use Rattle.nf_net_def.specs.Report.{Report, IsWellFormed}
 use Rattle.nf_check_def.specs.declared.Answer.{Answer as Verdict}
 use Rattle.nf_report_def.specs.ReportFile.{report_in}
-use Rattle.nf_report_read.specs.declared.fault.ReportFault.{ReportFault}
+use Rattle.nf_text.specs.declared.fault.FileFault.{FileFault}
+use Rattle.nf_report_def.specs.declared.ReportRule.{ReportRule}
 use Rattle.nf_report_read.specs.Files.{IfBroken}
 use Rattle.nf_thin_def.specs.PhaseRun.{IsShortFlow}
 use Rattle.nf_phase_run_laws.specs.ReadableLaws.{ReadsBack}
@@ -32,10 +33,10 @@ module _ (n : Named) (file name text : List ℕ) (horizon : ℚ) (phases pattern
   abbrev Answers : Refusal → Type 0
   Answers refusal = (refusal ≡ Refusal.NoMemory) ⊎ IsResultOf n text (Resume file name horizon phases patterns) (answer_of refusal)
 
-  pub old_refused : (named : IsNamed n) (fault : ReportFault) → IfBroken fault (λ broken. report_in n text ≡ Err broken) → Answers (refusal_of_report fault)
-  old_refused named (ReportFault.Broken rule line) e =
+  pub old_refused : (named : IsNamed n) (fault : FileFault ReportRule) → IfBroken fault (λ broken. report_in n text ≡ Err broken) → Answers (refusal_of_report fault)
+  old_refused named (FileFault.Broken rule line) e =
       inr (inr (inl (record { rule = rule; line = line }, refl, no_report n named text (record { rule = rule; line = line }) e)))
-  old_refused named ReportFault.Memory e = inl refl
+  old_refused named FileFault.Memory e = inl refl
 
   module _ (old : Report) (read : IsReportText n text old) where
     pub gone_on_given : (new : Report) (made : ℕ) → old.flow.reached ≤ℚ horizon → IsResumedReport passes_Q n.net (bounds_to horizon phases patterns) old made new → IsWellFormed n.net new

@@ -13,7 +13,7 @@ use Rattle.nf_routes_def.specs.RoutesList.{Routed}
 use Rattle.nf_routes_def.specs.Meanings.{IsRouted, RoutesArrive}
 use Rattle.nf_routes.specs.declared.carried.Carried.{Carried}
 use Rattle.nf_routes.specs.Carried.{carried_of}
-use Rattle.nf_side.specs.declared.fault.SideFault.{SideFault}
+use Rattle.nf_text.specs.declared.fault.FileFault.{FileFault}
 use Rattle.nf_side.specs.Faults.{IfBroken}
 use Rattle.nf_routes_def.specs.declared.RoutesRule.{RoutesRule}
 use Rattle.nf_app_answers.specs.declared.refusal.Refusal.{Refusal}
@@ -27,9 +27,9 @@ module _ (n : Named) (file name : List ℕ) (horizon : ℚ) (text : List ℕ) wh
   abbrev Answers : Refusal → Type 0
   Answers refusal = (refusal ≡ Refusal.NoMemory) ⊎ IsResultOf n text (Routes file name horizon) (answer_of refusal)
 
-  pub routes_refused : (fault : SideFault RoutesRule) → IfBroken fault (λ broken. ReadsRoutes n text (Err broken)) → Answers (refusal_of_routes fault)
-  routes_refused (SideFault.Broken rule line) e = inr (inr (inl (record { rule = rule; line = line }, refl, e)))
-  routes_refused SideFault.Memory e = inl refl
+  pub routes_refused : (fault : FileFault RoutesRule) → IfBroken fault (λ broken. ReadsRoutes n text (Err broken)) → Answers (refusal_of_routes fault)
+  routes_refused (FileFault.Broken rule line) e = inr (inr (inl (record { rule = rule; line = line }, refl, e)))
+  routes_refused FileFault.Memory e = inl refl
 
   module _ (routes : List NamedRoute) (read : ReadsRoutes n text (Ok routes)) where
     pub distributing_stopped : (halt : Halt ℚ) → Stops (λ (q : ℚ). q) halt (by_route_list n routes horizon) → Answers (refusal_of_halt halt)

@@ -7,7 +7,7 @@ use Rattle.nf_net_def.specs.Named.{Named}
 use Rattle.nf_thin_laws.proofs.ActiveLinks.{AreSets-sets_at}
 use Rattle.nf_complete_def.specs.FlowsFile.{GivenFlows, flows_in}
 use Rattle.nf_complete.specs.declared.settled.Settled.{Settled as CodeSettled}
-use Rattle.nf_side.specs.declared.fault.SideFault.{SideFault}
+use Rattle.nf_text.specs.declared.fault.FileFault.{FileFault}
 use Rattle.nf_side.specs.Faults.{IfBroken}
 use Rattle.nf_complete_def.specs.declared.FlowsRule.{FlowsRule}
 use Rattle.nf_app_answers.specs.declared.refusal.Refusal.{Refusal}
@@ -21,9 +21,9 @@ module _ (n : Named) (file name : List ℕ) (text : List ℕ) where
   abbrev Answers : Refusal → Type 0
   Answers refusal = (refusal ≡ Refusal.NoMemory) ⊎ IsResultOf n text (Settle file name) (answer_of refusal)
 
-  pub flows_refused : (fault : SideFault FlowsRule) → IfBroken fault (λ broken. flows_in n text ≡ Err broken) → Answers (refusal_of_flows fault)
-  flows_refused (SideFault.Broken rule line) e = inr (inr (inl (record { rule = rule; line = line }, refl, e)))
-  flows_refused SideFault.Memory e = inl refl
+  pub flows_refused : (fault : FileFault FlowsRule) → IfBroken fault (λ broken. flows_in n text ≡ Err broken) → Answers (refusal_of_flows fault)
+  flows_refused (FileFault.Broken rule line) e = inr (inr (inl (record { rule = rule; line = line }, refl, e)))
+  flows_refused FileFault.Memory e = inl refl
 
   module _ (given : GivenFlows) (read : flows_in n text ≡ Ok given) where
     pub settling_halted : (halt : Halt ℚ) → SettlesAtStart n.net given (Err halt) → Answers (refusal_of_halt halt)

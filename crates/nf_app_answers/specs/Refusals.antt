@@ -3,12 +3,12 @@ use Rattle.nf_edge.specs.declared.FetchFault.{FetchFault}
 use Rattle.nf_edge.specs.declared.FetchFault.TheVariants.{Failed, TooLong, Memory}
 use Rattle.nf_rational.specs.Rational.{ℚ}
 use Rattle.nf_frac_def.specs.declared.Halt.{Halt}
-use Rattle.nf_net_file.specs.declared.fault.NetFault.{NetFault}
-use Rattle.nf_side.specs.declared.fault.SideFault.{SideFault}
+use Rattle.nf_text.specs.declared.fault.FileFault.{FileFault}
+use Rattle.nf_net_def.specs.declared.NetRule.{NetRule}
 use Rattle.nf_report_def.specs.declared.LoadRule.{LoadRule}
+use Rattle.nf_report_def.specs.declared.ReportRule.{ReportRule}
 use Rattle.nf_complete_def.specs.declared.FlowsRule.{FlowsRule}
 use Rattle.nf_routes_def.specs.declared.RoutesRule.{RoutesRule}
-use Rattle.nf_report_read.specs.declared.fault.ReportFault.{ReportFault}
 use Rattle.nf_app_answers.specs.declared.refusal.Refusal.{Refusal}
 use Rattle.nf_app_answers.specs.Answers.{ProgramAnswer, NoMemory, NoRequest, ShelfFailed, ShelfTooLong, Malformed, MalformedLoads, MalformedFlows, MalformedRoutes, MalformedReport, Passes, Unbounded, NotThin, Earlier}
 
@@ -32,25 +32,25 @@ refusal_of_fetch Failed = Refusal.ShelfFailed
 refusal_of_fetch TooLong = Refusal.ShelfTooLong
 refusal_of_fetch Memory = Refusal.NoMemory
 
-abbrev pub refusal_of_net : NetFault → Refusal
-refusal_of_net (NetFault.Broken rule line) = Refusal.Malformed rule line
-refusal_of_net NetFault.Memory = Refusal.NoMemory
+-- the refusal of a file, from its fault
+abbrev pub refusal_of_file : {Rule : Type 0} → (Rule → ℕ → Refusal) → FileFault Rule → Refusal
+refusal_of_file malformed (FileFault.Broken rule line) = malformed rule line
+refusal_of_file malformed FileFault.Memory = Refusal.NoMemory
 
-abbrev pub refusal_of_loads : SideFault LoadRule → Refusal
-refusal_of_loads (SideFault.Broken rule line) = Refusal.MalformedLoads rule line
-refusal_of_loads SideFault.Memory = Refusal.NoMemory
+abbrev pub refusal_of_net : FileFault NetRule → Refusal
+refusal_of_net fault = refusal_of_file (λ rule line. Refusal.Malformed rule line) fault
 
-abbrev pub refusal_of_flows : SideFault FlowsRule → Refusal
-refusal_of_flows (SideFault.Broken rule line) = Refusal.MalformedFlows rule line
-refusal_of_flows SideFault.Memory = Refusal.NoMemory
+abbrev pub refusal_of_loads : FileFault LoadRule → Refusal
+refusal_of_loads fault = refusal_of_file (λ rule line. Refusal.MalformedLoads rule line) fault
 
-abbrev pub refusal_of_routes : SideFault RoutesRule → Refusal
-refusal_of_routes (SideFault.Broken rule line) = Refusal.MalformedRoutes rule line
-refusal_of_routes SideFault.Memory = Refusal.NoMemory
+abbrev pub refusal_of_flows : FileFault FlowsRule → Refusal
+refusal_of_flows fault = refusal_of_file (λ rule line. Refusal.MalformedFlows rule line) fault
 
-abbrev pub refusal_of_report : ReportFault → Refusal
-refusal_of_report (ReportFault.Broken rule line) = Refusal.MalformedReport rule line
-refusal_of_report ReportFault.Memory = Refusal.NoMemory
+abbrev pub refusal_of_routes : FileFault RoutesRule → Refusal
+refusal_of_routes fault = refusal_of_file (λ rule line. Refusal.MalformedRoutes rule line) fault
+
+abbrev pub refusal_of_report : FileFault ReportRule → Refusal
+refusal_of_report fault = refusal_of_file (λ rule line. Refusal.MalformedReport rule line) fault
 
 abbrev pub refusal_of_halt : Halt ℚ → Refusal
 refusal_of_halt (Halt.Passed at) = Refusal.Passes at

@@ -3,11 +3,12 @@ use Rattle.std.proofs.Common.{◌≡◌, ℕ, List, [], ◌∷◌, ◌++◌, ref
 use Rattle.std.specs.Prelude.{None, Result, Ok, Err}
 use Rattle.std.specs.List.{All}
 use Rattle.std.proofs.lemmas.List.Elements.{All-cons, All-nil, All-head, All-tail}
+use Rattle.nf_text.specs.declared.fault.FileFault.{FileFault}
+use Rattle.nf_net_def.specs.declared.NetRule.{NetRule}
 use Rattle.nf_net_def.specs.Named.{Named}
 use Rattle.nf_net_def.specs.NetLines.{Broken}
 use Rattle.nf_net_def.specs.NetFile.{Reads}
 use Rattle.nf_net_file.specs.Contents.{IfBroken}
-use Rattle.nf_net_file.specs.declared.fault.NetFault.{NetFault}
 use Rattle.nf_app_answers.specs.declared.refusal.Refusal.{Refusal}
 use Rattle.nf_app_answers.specs.Refusals.{refusal_of_net}
 use Rattle.nf_app_files.specs.Files.{Wanted, Visit, names_of, Fits, FetchedAll, FetchedTo}
@@ -65,9 +66,9 @@ module _ (shelf : Visit) (file : Wanted) (others : List Wanted) (text : List ℕ
   pub network_wants_memory : AreRead shelf file others (Err Refusal.NoMemory)
   network_wants_memory = inr (all_reached shelf file others fetched.0)
 
-  pub network_refused : (fault : NetFault) → IfBroken fault (λ broken. Reads text (Err broken)) → AreRead shelf file others (Err (refusal_of_net fault))
-  network_refused (NetFault.Broken rule line) h = network_broken (record { rule = rule; line = line }) h
-  network_refused NetFault.Memory h = network_wants_memory
+  pub network_refused : (fault : FileFault NetRule) → IfBroken fault (λ broken. Reads text (Err broken)) → AreRead shelf file others (Err (refusal_of_net fault))
+  network_refused (FileFault.Broken rule line) h = network_broken (record { rule = rule; line = line }) h
+  network_refused FileFault.Memory h = network_wants_memory
 
 -- nothing was read, since a file is missing
 pub network_missing : (shelf : Visit) (file : Wanted) (others : List Wanted) (refusal : Refusal) → AreMissing shelf (file ∷ others) refusal → AreRead shelf file others (Err refusal)

@@ -9,11 +9,11 @@ use crate::draft::Draft;
 use crate::flows::Flows;
 use nf_complete_def::FlowsRule;
 use nf_net::Network;
-use nf_side::{SideFault, read_draft};
+use nf_side::{FileFault, read_draft};
 use std::alloc::Global;
 
 /// A reason to refuse a flows file.
-pub type FlowsFault = SideFault<FlowsRule>;
+pub type FlowsFault = FileFault<FlowsRule>;
 
 /// Reads the flows and slopes of a network from a text of at most 67,108,864 bytes. Refuses with the first broken rule and its line. Rules
 /// of all bytes and lines come first, then rules of single lines in order, then the rule of the whole file, with line 0.

@@ -2,7 +2,7 @@
 use Rattle.std.proofs.Common.{◌≡◌, ℕ, List, [], ◌∷◌, ◌++◌, codes, ◌∙◌, ap, append_assoc}
 use Rattle.nf_text_def.specs.Words.{line_of_words}
 
-pub pushed : (out a b one two : List ℕ) → one ≡ out ++ a → two ≡ one ++ b → two ≡ out ++ (a ++ b)
+pushed : (out a b one two : List ℕ) → one ≡ out ++ a → two ≡ one ++ b → two ≡ out ++ (a ++ b)
 pushed out a b one two e f = f ∙ ap (λ (text : List ℕ). text ++ b) e ∙ append_assoc out a b
 
 words_joined : (a b c d e : List ℕ) → (((a ++ 32 ∷ b) ++ 32 ∷ c) ++ 32 ∷ d) ++ 32 ∷ e ≡ a ++ 32 ∷ (b ++ 32 ∷ (c ++ 32 ∷ (d ++ 32 ∷ e)))
@@ -22,10 +22,3 @@ link_line_pushed out name tail head transit capacity one two three four five six
     let whole = pushed out ((((codes "link" ++ 32 ∷ name) ++ 32 ∷ tail) ++ 32 ∷ head) ++ 32 ∷ transit) (32 ∷ capacity) five six timed j in
     pushed out (((((codes "link" ++ 32 ∷ name) ++ 32 ∷ tail) ++ 32 ∷ head) ++ 32 ∷ transit) ++ 32 ∷ capacity) (10 ∷ []) six seven whole k
     ∙ ap (λ (words : List ℕ). out ++ (codes "link" ++ (32 ∷ (words ++ 10 ∷ [])))) (words_joined name tail head transit capacity)
-
-pub piece_line_pushed : (out start rate one two three four : List ℕ) → one ≡ out ++ codes "inflow" → two ≡ one ++ 32 ∷ start → three ≡ two ++ 32 ∷ rate → four ≡ three ++ 10 ∷ []
-    → four ≡ out ++ line_of_words (codes "inflow" ∷ start ∷ rate ∷ [])
-piece_line_pushed out start rate one two three four e f g h =
-    let started = pushed out (codes "inflow") (32 ∷ start) one two e f in
-    let whole = pushed out (codes "inflow" ++ 32 ∷ start) (32 ∷ rate) two three started g in
-    pushed out ((codes "inflow" ++ 32 ∷ start) ++ 32 ∷ rate) (10 ∷ []) three four whole h

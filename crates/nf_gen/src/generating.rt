@@ -6,9 +6,10 @@ ghost use Rattle.nf_gen.specs.Ladder.{most_rungs, ladder};
 ghost use Rattle.nf_gen.specs.Writing.{pieces_after};
 
 use crate::draws::Draws;
-use crate::lines::{push_bytes, push_piece_line};
+use crate::lines::push_piece_line;
 use crate::rails::push_links;
 use nf_net::{NetFault, Network, parse};
+use nf_text::push_bytes;
 use std::alloc::{AllocError, Global};
 
 // Appends the lines of the three pieces. The next two draws give the rates.

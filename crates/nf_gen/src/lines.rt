@@ -4,24 +4,8 @@ ghost use Rattle.nf_frac_words.specs.Digits.{digits_of};
 ghost use Rattle.nf_text_def.specs.Words.{line_of_words};
 
 use nf_frac_words::{TextBuf, write_count};
+use nf_text::{push_bytes, push_line, push_word};
 use std::alloc::AllocError;
-
-/// Appends the bytes. Fails only if an allocation fails.
-pub fn push_bytes(out: &mut Vec<u8>, bytes: &[u8]) -> Result<(), AllocError>
-    ensures { OnOk result (out.new.items ≡ out.old.items ++ bytes.now) }
-{
-    out.extend_from_slice(bytes)?;
-    Ok(())
-}
-
-// Appends a space and a word.
-fn push_word(out: &mut Vec<u8>, word: &[u8]) -> Result<(), AllocError>
-    ensures { OnOk result (out.new.items ≡ out.old.items ++ 32 ∷ word.now) }
-{
-    push_bytes(out, b" ")?;
-    push_bytes(out, word)?;
-    Ok(())
-}
 
 // Appends a space and the digits of a count.
 fn push_count(out: &mut Vec<u8>, count: u64) -> Result<(), AllocError>
@@ -59,9 +43,9 @@ pub fn push_link_line(
 pub fn push_piece_line(out: &mut Vec<u8>, start: u64, rate: u64) -> Result<(), AllocError>
     ensures { OnOk result (out.new.items ≡ out.old.items ++ line_of_words (codes "inflow" ∷ digits_of start ∷ digits_of rate ∷ [])) }
 {
-    push_bytes(out, b"inflow")?;
-    push_count(out, start)?;
-    push_count(out, rate)?;
-    push_bytes(out, b"\n")?;
-    Ok(())
+    let mut time = TextBuf::new();
+    write_count(start, &mut time);
+    let mut amount = TextBuf::new();
+    write_count(rate, &mut amount);
+    push_line(out, b"inflow", &[time.text(), amount.text()])
 }

@@ -10,12 +10,9 @@ use crate::loads::Pieces;
 use crate::reading::LoadsFault;
 use nf_net::{LinkId, Network};
 use nf_report_def::LoadRule;
-use nf_side::{FileHead, LineFault, PieceRules, ReadLine, SideDraft, piece_rule};
+use nf_side::{FileHead, LineFault, MOST_LINES, PieceRules, ReadLine, SideDraft, piece_rule};
 use std::alloc::{AllocError, Global};
 use std::marker::Model;
-
-/// The most lines of a link.
-const MOST_LINES: usize = 200;
 
 // The rules of the pieces of a link.
 const PIECE_RULES: PieceRules<LoadRule> = PieceRules {

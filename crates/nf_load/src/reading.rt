@@ -8,11 +8,11 @@ use crate::draft::Draft;
 use crate::loads::Loads;
 use nf_net::Network;
 use nf_report_def::LoadRule;
-use nf_side::{SideFault, read_draft};
+use nf_side::{FileFault, read_draft};
 use std::alloc::Global;
 
 /// Why a text is no loads file.
-pub type LoadsFault = SideFault<LoadRule>;
+pub type LoadsFault = FileFault<LoadRule>;
 
 /// The loads of a network that a text of at most 67,108,864 bytes stands for; or the first rule that it breaks, and the line. The
 /// rules of all bytes and lines come first, then those of the lines one by one, then that of the file as a whole, with line 0.

@@ -15,40 +15,8 @@ use crate::network::Network;
 use nf_frac::{Q, TextBuf};
 use nf_graph::{LinkId, NodeId};
 use nf_net_file::{NamedLink, Piece};
+use nf_text::{push_bytes, push_line, push_word};
 use std::alloc::{AllocError, Global};
-
-fn push_bytes(out: &mut Vec<u8>, bytes: &[u8]) -> Result<(), AllocError>
-    ensures { OnOk result (out.new.items ≡ out.old.items ++ bytes.now) }
-{
-    out.extend_from_slice(bytes)?;
-    Ok(())
-}
-
-// Appends a space and a word.
-fn push_word(out: &mut Vec<u8>, word: &[u8]) -> Result<(), AllocError>
-    ensures { OnOk result (out.new.items ≡ out.old.items ++ 32 ∷ word.now) }
-{
-    push_bytes(out, b" ")?;
-    push_bytes(out, word)?;
-    Ok(())
-}
-
-fn push_one(out: &mut Vec<u8>, key: &[u8]) -> Result<(), AllocError>
-    ensures { OnOk result (out.new.items ≡ out.old.items ++ line_of_words (key.now ∷ [])) }
-{
-    push_bytes(out, key)?;
-    push_bytes(out, b"\n")?;
-    Ok(())
-}
-
-fn push_two(out: &mut Vec<u8>, key: &[u8], word: &[u8]) -> Result<(), AllocError>
-    ensures { OnOk result (out.new.items ≡ out.old.items ++ line_of_words (key.now ∷ word.now ∷ [])) }
-{
-    push_bytes(out, key)?;
-    push_word(out, word)?;
-    push_bytes(out, b"\n")?;
-    Ok(())
-}
 
 // Returns the word for a capacity: its number, or `inf` for an unbounded link.
 fn capacity_text(capacity: Option<Q>, room: &mut TextBuf) -> &[u8]
@@ -133,11 +101,7 @@ fn push_piece(out: &mut Vec<u8>, piece: &Piece) -> Result<(), AllocError>
     piece.start.write(&mut start);
     let mut rate = TextBuf::new();
     piece.rate.write(&mut rate);
-    push_bytes(out, b"inflow")?;
-    push_word(out, start.text())?;
-    push_word(out, rate.text())?;
-    push_bytes(out, b"\n")?;
-    Ok(())
+    push_line(out, b"inflow", &[start.text(), rate.text()])
 }
 
 fn push_pieces(out: &mut Vec<u8>, pieces: &[Piece]) -> Result<(), AllocError>
@@ -155,9 +119,9 @@ fn push_version(out: &mut Vec<u8>, version: u32) -> Result<(), AllocError>
     ensures { OnOk result (out.new.items ≡ out.old.items ++ line_of_words (codes "nfot" ∷ digits_of version ∷ [])) }
 {
     if version == 1 {
-        return push_two(out, b"nfot", b"1");
+        return push_line(out, b"nfot", &[b"1"]);
     }
-    push_two(out, b"nfot", b"2")
+    push_line(out, b"nfot", &[b"2"])
 }
 
 // Appends a line with the keyword `key` and the name of the node.
@@ -166,7 +130,7 @@ fn push_node(out: &mut Vec<u8>, key: &[u8], net: &Network, node: NodeId) -> Resu
     ensures { OnOk result (out.new.items ≡ out.old.items ++ line_of_words (key.now ∷ name_at net.now.node_names node ∷ [])) }
 {
     let name = net.node_name(node);
-    push_two(out, key, name.as_bytes())
+    push_line(out, key, &[name.as_bytes()])
 }
 
 // Appends the head: the lines of version, source and sink.
@@ -192,7 +156,7 @@ fn whole_text(alloc: Global, net: &Network) -> Result<Vec<u8>, AllocError>
     push_links(&mut out, net)?;
     push_idle(&mut out, net.idle_links())?;
     push_pieces(&mut out, pieces)?;
-    push_one(&mut out, b"end")?;
+    push_line(&mut out, b"end", &[])?;
     Ok(out)
 }
 

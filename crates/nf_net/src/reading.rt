@@ -1,46 +1,30 @@
 // Parsing a network file.
-ghost use Rattle.std.specs.Prelude.{◌≡◌, ◌≤◌, length, map, None, Ok, Err, IfOk, IfErr, OnOk, MatchResult};
-ghost use Rattle.nf_text_def.specs.Words.{read_lines};
+ghost use Rattle.std.specs.Prelude.{◌≡◌, ◌≤◌, length, None, Ok, Err, IfOk, IfErr, OnOk, MatchResult};
+ghost use Rattle.nf_text_def.specs.Words.{read_lines, content_lines};
 ghost use Rattle.nf_text_def.specs.Faults.{first_fault, longest_text};
-ghost use Rattle.nf_text.specs.Reading.{seen_line};
 ghost use Rattle.nf_net_def.specs.NetFile.{Closes, Reads};
 ghost use Rattle.nf_net_file.specs.Drafts.{seen_draft};
-ghost use Rattle.nf_net_file.specs.Contents.{AreLinesWithin, IfBroken, IsRead};
+ghost use Rattle.nf_net_file.specs.Contents.{IfBroken, IsRead};
 ghost use Rattle.nf_net_file.specs.Closing.{IsWhole};
 
 use crate::building::{network_of, parts_of};
 use crate::network::Network;
 use nf_net_def::NetRule;
 use nf_net_file::{Draft, NetFault, flags_of, hops_of, names_rule, read_draft, walk_rule};
-use nf_text::{Line, TextFault, lines};
+use nf_text::{ReadLine, contents};
 use std::alloc::Global;
 
-// Splits the text into lines, or returns the fault of the first line that has one.
-#[tactic(auto, using(nf_net_file::proofs::ContentLines::lines_within))]
-fn lines_of(alloc: Global, text: &[u8]) -> Result<Vec<Line>, NetFault>
+// Returns the lines of the text that have words, or the fault of the first line that has one.
+fn lines_of<'a>(alloc: Global, text: &'a [u8]) -> Result<Vec<ReadLine<'a>>, NetFault>
     requires { length text.now ≤ longest_text }
-    ensures ok { IfOk result (λ read. map (seen_line text.now) read.items ≡ read_lines text.now) }
-    ensures within { IfOk result (λ read. AreLinesWithin text.now read.items) }
+    ensures lines { IfOk result (λ lines. lines.items ≡ content_lines (read_lines text.now)) }
     ensures fine { OnOk result (first_fault text.now ≡ None) }
     ensures fault { IfErr result (λ fault. IfBroken fault (λ broken. Reads text.now (Err broken))) }
 {
-    let read = match lines(alloc, text) {
-        Ok(read) => read,
-        Err(TextFault::NotAscii { line }) => {
-            return Err(NetFault::Broken {
-                rule: NetRule::N1,
-                line,
-            });
-        }
-        Err(TextFault::LongLine { line }) => {
-            return Err(NetFault::Broken {
-                rule: NetRule::N2,
-                line,
-            });
-        }
-        Err(TextFault::Memory) => return Err(NetFault::Memory),
-    };
-    Ok(read)
+    match contents(alloc, text) {
+        Ok(lines) => Ok(lines),
+        Err(fault) => Err(fault.in_file(NetRule::N1, NetRule::N2)),
+    }
 }
 
 // Returns a flag for each node, which states whether the node is reached. Fails with the first rule of the whole file that is broken.
@@ -79,6 +63,6 @@ pub fn parse(alloc: Global, text: &[u8]) -> Result<Network, NetFault>
     ensures { MatchResult result (λ net. Reads text.now (Ok net)) (λ fault. IfBroken fault (λ broken. Reads text.now (Err broken))) }
 {
     let lines = lines_of(alloc, text)?;
-    let draft = read_draft(alloc, text, &lines)?;
+    let draft = read_draft(alloc, &lines)?;
     close(alloc, draft)
 }

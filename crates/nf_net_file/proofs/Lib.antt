@@ -1,6 +1,5 @@
 pub mod NameText
 pub mod LineWords
-pub mod SpanWords
 pub mod NodeCounts
 pub mod LastPiece
 pub mod HeadLine

@@ -9,7 +9,7 @@ use Rattle.nf_net_def.specs.Names.{Name, is_name}
 use Rattle.nf_net_def.specs.Numbers.{number_in, capacity_in}
 use Rattle.nf_net_def.specs.NetLines.{Entry, node_line, link_entry, link_line, inflow_entry, inflow_line, end_line, entry_of, Sink, End}
 use Rattle.nf_net_file.specs.Reading.{said_by}
-use Rattle.nf_net_file.specs.Words.{word_at}
+use Rattle.nf_text.specs.Within.{word_at}
 
 -- ---- a wrong number of words
 pub node_count_wrong : (make : Name → Entry) (words : List (List ℕ)) → 0 < length words → length words ≢ 2 → node_line make (drop 1 words) ≡ Err N6

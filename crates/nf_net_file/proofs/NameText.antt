@@ -11,7 +11,7 @@ use Rattle.nf_net_def.specs.Limits.{longest_name}
 use Rattle.nf_net_file.specs.Names.{IsKeptName}
 use Rattle.std.proofs.Common.{[], ◌∷◌, ◌++◌, ◌∙◌, ◌≤◌, ◌&&◌, refl, ap, take, nat_le, length}
 use Rattle.std.proofs.lemmas.List.{take_at}
-use Rattle.std.proofs.lemmas.Bool.{and_from, and_parts, le-leb}
+use Rattle.std.proofs.lemmas.Bool.{and_parts}
 
 small_byte : (b : ℕ) → is_name_byte b ≡ true → b < 128
 small_byte b e = grind (arith, nat_tests)
@@ -31,13 +31,14 @@ ok_by_cases (Ok x) P Q h never = refl
 ok_by_cases (Err y) P Q h never = absurd (never y h)
 
 -- ---- a name that is kept
-pub is_name_by : (word : List ℕ) → (length word ≡ 0 → ⊥) → length word ≤ longest_name → list_all is_name_byte word ≡ true → is_name word ≡ true
-is_name_by word some fits all =
-    let more : 1 ≤ length word = omega arith in
-    and_from _ _ (le-leb 1 (length word) more) (and_from _ _ (le-leb (length word) longest_name fits) all)
+pub name_fits : (word : List ℕ) → is_name word ≡ true → length word ≤ longest_name
+name_fits word e =
+    let p = and_parts (nat_le 1 (length word)) (nat_le (length word) longest_name && list_all is_name_byte word) e in
+    let fits : nat_le (length word) longest_name ≡ true = (and_parts (nat_le (length word) longest_name) (list_all is_name_byte word) p.1).0 in
+    grind (arith, nat_tests)
 
 pub name_front : (word bytes rest : List ℕ) → bytes ≡ word → take (length word) (bytes ++ rest) ≡ word
 name_front word bytes rest e = take_at bytes rest (length word) (ap length e) ∙ e
 
-pub kept_name : (word bytes rest : List ℕ) → bytes ≡ word → length word ≤ longest_name → is_name word ≡ true → IsKeptName (bytes ++ rest) (length word)
-kept_name word bytes rest e fits name = record { fits = fits; is_name = ap is_name (name_front word bytes rest e) ∙ name }
+pub kept_name : (word bytes rest : List ℕ) → bytes ≡ word → is_name word ≡ true → IsKeptName (bytes ++ rest) (length word)
+kept_name word bytes rest e name = record { fits = name_fits word name; is_name = ap is_name (name_front word bytes rest e) ∙ name }

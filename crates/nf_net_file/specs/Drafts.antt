@@ -1,10 +1,7 @@
 -- What the lines of a network file say, as the definitions have it.
 use Rattle.std.specs.Prelude.{ℕ, Bool, if◌then◌else◌}
-use Rattle.nf_net_def.specs.declared.NetRule.{NetRule}
 use Rattle.nf_net_def.specs.NetLines as lines
 use Rattle.nf_net_file.specs.declared.draft.Draft.{Draft}
-use Rattle.nf_net_file.specs.declared.draft.NetLineFault.{NetLineFault}
-use Rattle.nf_net_file.specs.declared.draft.NetLineFault.TheVariants.{Broken, Memory}
 
 abbrev pub seen_draft : Draft → lines.Draft
 seen_draft d = record {
@@ -16,11 +13,6 @@ seen_draft d = record {
   pieces = d.pieces.items;
   ended = d.ended;
 }
-
--- of a rule that is broken, unless memory is wanting
-abbrev pub IfRule : NetLineFault → (NetRule → Type 0) → Type 0
-IfRule (Broken rule) P = P rule
-IfRule Memory P = Unit {0}
 
 -- how many names more there are with one that is known already, or isn't
 abbrev pub one_unless : Bool → ℕ

@@ -1,5 +1,4 @@
 pub mod Names
-pub mod Words
 pub mod Reading
 pub mod Drafts
 pub mod Contents

@@ -6,9 +6,9 @@ ghost use Rattle.nf_net_def.specs.declared.NetRule.TheVariants.{N9, N10};
 ghost use Rattle.nf_net_def.specs.Names.{has_name, with_name, with_names};
 ghost use Rattle.nf_net_def.specs.Named.{names_of};
 ghost use Rattle.nf_net_def.specs.NetLines.{LinkLine, InflowLine, empty_draft, after, first_rule, too_many_nodes, is_no_capacity, is_not_after, broken_rule, add_line};
-ghost use Rattle.nf_net_file.specs.declared.draft.NetLineFault.TheVariants as NetLineFault;
 ghost use Rattle.nf_net_file.specs.Reading.{seen_entry};
-ghost use Rattle.nf_net_file.specs.Drafts.{seen_draft, IfRule, one_unless};
+ghost use Rattle.nf_text.specs.Faults.{IfRule};
+ghost use Rattle.nf_net_file.specs.Drafts.{seen_draft, one_unless};
 ghost use Rattle.nf_net_def.specs.Limits.{most_nodes};
 
 use crate::entry::{Entry, read_entry};
@@ -16,10 +16,10 @@ use crate::link::{NamedLink, Piece};
 use crate::name::Name;
 use crate::names::Names;
 use crate::sizes::{MOST_LINKS, MOST_NODES, MOST_PIECES};
-use crate::words::Words;
 use nf_frac::Q;
 use nf_net_def::NetRule;
-use std::alloc::{AllocError, AllocFailed, Global};
+use nf_text::{LineFault, ReadLine};
+use std::alloc::{AllocError, Global};
 
 /// What the lines so far say: the source and the sink, the nodes that they name, in the order of first appearance, the links,
 /// the pieces, and whether there was an `end` line.
@@ -32,21 +32,6 @@ pub struct Draft {
     pub links: Vec<NamedLink>,
     pub pieces: Vec<Piece>,
     pub ended: bool,
-}
-
-/// Why a line is not added.
-#[derive(Drop)]
-pub enum NetLineFault {
-    Broken(NetRule),
-    Memory,
-}
-
-impl From<AllocError> for NetLineFault {
-    ghost from_gives = { λ _ fault. fault ≡ NetLineFault.Memory };
-
-    fn from(_: AllocError) -> Self {
-        NetLineFault::Memory
-    }
 }
 
 // How many names more there are with a name that is known, or isn't.
@@ -230,20 +215,19 @@ impl Draft {
     }
 
     // Adds what a line says, or answers the first of N4 to N16 that it breaks.
-    pub(crate) fn add_line(&mut self, words: &Words) -> Result<(), NetLineFault>
-        requires { 0 < length words.now }
-        ensures { MatchResult result (λ _. add_line (seen_draft self.old) words.now ≡ Ok (seen_draft self.new))
-            (λ fault. IfRule fault (λ rule. add_line (seen_draft self.old) words.now ≡ Err rule)) }
+    pub(crate) fn add_line(&mut self, line: &ReadLine) -> Result<(), LineFault<NetRule>>
+        ensures { MatchResult result (λ _. add_line (seen_draft self.old) line.now.words ≡ Ok (seen_draft self.new))
+            (λ fault. IfRule fault (λ rule. add_line (seen_draft self.old) line.now.words ≡ Err rule)) }
     {
         if self.ended {
-            return Err(NetLineFault::Broken(NetRule::N4));
+            return Err(LineFault::Broken(NetRule::N4));
         }
-        let entry = match read_entry(self.version, words) {
+        let entry = match read_entry(self.version, line) {
             Ok(entry) => entry,
-            Err(rule) => return Err(NetLineFault::Broken(rule)),
+            Err(rule) => return Err(LineFault::Broken(rule)),
         };
         if let Some(rule) = self.rule(&entry) {
-            return Err(NetLineFault::Broken(rule));
+            return Err(LineFault::Broken(rule));
         }
         self.add(entry)?;
         Ok(())

@@ -5,14 +5,14 @@ ghost use Rattle.nf_net_def.specs.Names.{is_name};
 ghost use Rattle.nf_net_def.specs.Numbers.{number_in, capacity_in};
 ghost use Rattle.nf_net_def.specs.NetLines as lines;
 ghost use Rattle.nf_net_def.specs.NetLines.{node_line, link_line, inflow_line, end_line, entry_of};
-ghost use Rattle.nf_net_file.specs.Words.{word_at};
+ghost use Rattle.nf_text.specs.Within.{word_at};
 ghost use Rattle.nf_net_file.specs.Reading.{seen_entry, said_by};
 
 use crate::link::{NamedLink, Piece};
 use crate::name::Name;
-use crate::words::{Words, is_word};
 use nf_frac::Q;
 use nf_net_def::NetRule;
+use nf_text::{ReadLine, is_word};
 
 /// What a line says.
 #[derive(Drop)]
@@ -61,33 +61,33 @@ fn read_capacity(version: u32, word: &[u8]) -> Option<Option<Q>>
 
 // `source NODE`, `sink NODE`
 #[tactic(auto, using(crate::proofs::LineWords::node_count_wrong, crate::proofs::LineWords::node_is, crate::proofs::LineWords::node_bad))]
-fn read_node(words: &Words) -> Result<Name, NetRule>
-    requires { 0 < length words.now }
-    ensures source { node_line (λ name. lines.Source name) (drop 1 words.now) ≡ said_by (λ name. lines.Source name) result }
-    ensures sink { node_line (λ name. lines.Sink name) (drop 1 words.now) ≡ said_by (λ name. lines.Sink name) result }
+fn read_node(line: &ReadLine) -> Result<Name, NetRule>
+    requires { 0 < length line.now.words }
+    ensures source { node_line (λ name. lines.Source name) (drop 1 line.now.words) ≡ said_by (λ name. lines.Source name) result }
+    ensures sink { node_line (λ name. lines.Sink name) (drop 1 line.now.words) ≡ said_by (λ name. lines.Sink name) result }
 {
-    if words.len() != 2 {
+    if line.len() != 2 {
         return Err(NetRule::N6);
     }
-    read_name(words.at(1))
+    read_name(line.at(1))
 }
 
 // `link NAME TAIL HEAD TRANSIT CAPACITY`
 #[tactic(auto, using(crate::proofs::LineWords::link_count_wrong, crate::proofs::LineWords::link_is, crate::proofs::LineWords::link_bad_name, crate::proofs::LineWords::link_bad_tail, crate::proofs::LineWords::link_bad_head))]
-fn read_link(version: u32, words: &Words) -> Result<NamedLink, NetRule>
-    requires { 0 < length words.now }
-    ensures { link_line version (drop 1 words.now) ≡ said_by (λ l. lines.LinkLine l) result }
+fn read_link(version: u32, line: &ReadLine) -> Result<NamedLink, NetRule>
+    requires { 0 < length line.now.words }
+    ensures { link_line version (drop 1 line.now.words) ≡ said_by (λ l. lines.LinkLine l) result }
 {
-    if words.len() != 6 {
+    if line.len() != 6 {
         return Err(NetRule::N6);
     }
-    let name = read_name(words.at(1))?;
-    let tail = read_name(words.at(2))?;
-    let head = read_name(words.at(3))?;
-    let Some(transit) = read_number(version, words.at(4)) else {
+    let name = read_name(line.at(1))?;
+    let tail = read_name(line.at(2))?;
+    let head = read_name(line.at(3))?;
+    let Some(transit) = read_number(version, line.at(4)) else {
         return Err(NetRule::N8);
     };
-    let Some(capacity) = read_capacity(version, words.at(5)) else {
+    let Some(capacity) = read_capacity(version, line.at(5)) else {
         return Err(NetRule::N8);
     };
     Ok(NamedLink {
@@ -101,17 +101,17 @@ fn read_link(version: u32, words: &Words) -> Result<NamedLink, NetRule>
 
 // `inflow START RATE`
 #[tactic(auto, using(crate::proofs::LineWords::inflow_count_wrong, crate::proofs::LineWords::inflow_count_right))]
-fn read_inflow(version: u32, words: &Words) -> Result<Piece, NetRule>
-    requires { 0 < length words.now }
-    ensures { inflow_line version (drop 1 words.now) ≡ said_by (λ piece. lines.InflowLine piece) result }
+fn read_inflow(version: u32, line: &ReadLine) -> Result<Piece, NetRule>
+    requires { 0 < length line.now.words }
+    ensures { inflow_line version (drop 1 line.now.words) ≡ said_by (λ piece. lines.InflowLine piece) result }
 {
-    if words.len() != 3 {
+    if line.len() != 3 {
         return Err(NetRule::N6);
     }
-    let Some(start) = read_number(version, words.at(1)) else {
+    let Some(start) = read_number(version, line.at(1)) else {
         return Err(NetRule::N8);
     };
-    let Some(rate) = read_number(version, words.at(2)) else {
+    let Some(rate) = read_number(version, line.at(2)) else {
         return Err(NetRule::N8);
     };
     Ok(Piece { start, rate })
@@ -119,36 +119,38 @@ fn read_inflow(version: u32, words: &Words) -> Result<Piece, NetRule>
 
 // `end`
 #[tactic(auto, using(crate::proofs::LineWords::end_count_wrong, crate::proofs::LineWords::end_count_right))]
-fn read_end(words: &Words) -> Result<(), NetRule>
-    requires { 0 < length words.now }
-    ensures { end_line (drop 1 words.now) ≡ said_by (λ _. lines.End) result }
+fn read_end(line: &ReadLine) -> Result<(), NetRule>
+    requires { 0 < length line.now.words }
+    ensures { end_line (drop 1 line.now.words) ≡ said_by (λ _. lines.End) result }
 {
-    if words.len() != 1 {
+    if line.len() != 1 {
         return Err(NetRule::N6);
     }
     Ok(())
 }
 
 /// What the words of a line say in a file of this version, or the first of N5 to N8 that they break.
-pub fn read_entry(version: u32, words: &Words) -> Result<Entry, NetRule>
-    requires { 0 < length words.now }
-    ensures { entry_of version words.now ≡ said_by seen_entry result }
+pub fn read_entry(version: u32, line: &ReadLine) -> Result<Entry, NetRule>
+    ensures { entry_of version line.now.words ≡ said_by seen_entry result }
 {
-    let key = words.at(0);
+    if line.len() == 0 {
+        return Err(NetRule::N5);
+    }
+    let key = line.at(0);
     if is_word(key, b"source") {
-        return Ok(Entry::Source(read_node(words)?));
+        return Ok(Entry::Source(read_node(line)?));
     }
     if is_word(key, b"sink") {
-        return Ok(Entry::Sink(read_node(words)?));
+        return Ok(Entry::Sink(read_node(line)?));
     }
     if is_word(key, b"link") {
-        return Ok(Entry::Link(read_link(version, words)?));
+        return Ok(Entry::Link(read_link(version, line)?));
     }
     if is_word(key, b"inflow") {
-        return Ok(Entry::Inflow(read_inflow(version, words)?));
+        return Ok(Entry::Inflow(read_inflow(version, line)?));
     }
     if is_word(key, b"end") {
-        read_end(words)?;
+        read_end(line)?;
         return Ok(Entry::End);
     }
     Err(NetRule::N5)

@@ -12,14 +12,13 @@ mod name;
 mod names;
 mod pieces;
 mod sizes;
-mod words;
 
 pub use closing::{flags_of, hops_of, names_rule, walk_rule};
 pub use contents::read_draft;
 pub use draft::Draft;
 pub use fault::NetFault;
 pub use link::{Link, NamedLink, Piece};
-pub use name::{LONGEST_NAME, Name};
+pub use name::{LONGEST_NAME, Name, is_name};
 pub use names::Names;
 pub use pieces::{rate_of, start_after};
-pub use sizes::{LONGEST_FILE, MOST_NODES};
+pub use sizes::{LONGEST_FILE, MOST_NODES, MOST_PIECES};

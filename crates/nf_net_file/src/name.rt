@@ -3,7 +3,8 @@ ghost use Rattle.std.specs.Prelude.{◌≡◌, true, false, length, SomeIff, tak
 ghost use Rattle.std.specs.List.{list_all};
 ghost use Rattle.std.specs.Str.{bytes_eq};
 ghost use Rattle.std.specs.Hash as fed;
-ghost use Rattle.nf_net_def.specs.Names.{is_name, is_name_byte};
+ghost use Rattle.nf_net_def.specs.Names as names;
+ghost use Rattle.nf_net_def.specs.Names.{is_name_byte};
 ghost use Rattle.nf_net_file.specs.Names.{IsKeptName, name_equivalence, name_partial_equivalence, same_name_hash};
 
 use std::hash::{Hash, Hasher};
@@ -42,15 +43,23 @@ fn are_bytes_of_name(word: &[u8]) -> bool
     word.iter().all(|byte| is_byte_of_name(*byte))
 }
 
+/// Returns whether a word is a name: 1 to 24 letters, digits, `_`, `-` and `.`.
+pub fn is_name(word: &[u8]) -> bool
+    ensures { result ≡ names.is_name word.now }
+{
+    !word.is_empty() && word.len() <= LONGEST_NAME && are_bytes_of_name(word)
+}
+
 impl Name {
     /// The name that a word is, if it is one.
+    #[tactic(auto, using(crate::proofs::NameText::name_fits))]
     pub fn read(word: &[u8]) -> Option<Name>
-        ensures { SomeIff result (is_name word.now ≡ true) word.now }
+        ensures { SomeIff result (names.is_name word.now ≡ true) word.now }
     {
-        let len = word.len();
-        if len == 0 || len > LONGEST_NAME || !are_bytes_of_name(word) {
+        if !is_name(word) {
             return None;
         }
+        let len = word.len();
         let mut bytes = [0; LONGEST_NAME];
         bytes[..len].copy_from_slice(word);
         Some(Name { bytes, len })
@@ -69,7 +78,7 @@ impl Name {
     /// Its bytes.
     pub fn bytes(&self) -> &[u8]
         ensures value { result.now ≡ self.now }
-        ensures name { is_name result.now ≡ true }
+        ensures name { names.is_name result.now ≡ true }
     {
         &self.bytes[..self.len]
     }

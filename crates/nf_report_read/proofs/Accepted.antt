@@ -10,27 +10,28 @@ use Rattle.nf_report_laws.specs.Readable.{IsReadable}
 use Rattle.nf_report_laws.proofs.ReportBack.{report_back}
 use Rattle.nf_report_laws.proofs.ReportFit.{fit}
 use Rattle.nf_report_laws.proofs.ReportKept.{report_kept}
-use Rattle.nf_report_read.specs.declared.fault.ReportFault.{ReportFault}
+use Rattle.nf_text.specs.declared.fault.FileFault.{FileFault}
+use Rattle.nf_report_def.specs.declared.ReportRule.{ReportRule}
 use Rattle.nf_report_read.specs.declared.report.Report.{Report}
 use Rattle.nf_report_read.specs.Files.{IfBroken, report_of, Shows}
 
-abbrev pub Answers : Named → List ℕ → Result Report ReportFault → Type 0
+abbrev pub Answers : Named → List ℕ → Result Report (FileFault ReportRule) → Type 0
 Answers n text result = MatchResult result (λ report. report_in n text ≡ Ok (report_of report)) (λ fault. IfBroken fault (λ broken. report_in n text ≡ Err broken))
 
 module _ (n : Named) (text : List ℕ) (named : IsNamed n) where
-  pub formed : (result : Result Report ReportFault) → Answers n text result → IfOk result (λ report. IsWellFormed n.net (report_of report))
+  pub formed : (result : Result Report (FileFault ReportRule)) → Answers n text result → IfOk result (λ report. IsWellFormed n.net (report_of report))
   formed (Ok report) e = (report_kept n text (report_of report) named e).0
   formed (Err fault) e = tt
 
-  pub its_text : (result : Result Report ReportFault) → Answers n text result → IfOk result (λ report. text ≡ report_text n (report_of report))
+  pub its_text : (result : Result Report (FileFault ReportRule)) → Answers n text result → IfOk result (λ report. text ≡ report_text n (report_of report))
   its_text (Ok report) e = (report_kept n text (report_of report) named e).2
   its_text (Err fault) e = tt
 
-  pub all_read : (result : Result Report ReportFault) → Answers n text result → (report : formats.Report) → IsWellFormed n.net report → IsReadable report → text ≡ report_text n report → Shows report result
+  pub all_read : (result : Result Report (FileFault ReportRule)) → Answers n text result → (report : formats.Report) → IsWellFormed n.net report → IsReadable report → text ≡ report_text n report → Shows report result
   all_read (Ok read) e report well readable is =
       let same : report_in n text ≡ Ok report = ap (report_in n) is ∙ report_back n report named (fit n report named well readable) in
       same_Ok (report_of read) report (sym e ∙ same)
-  all_read (Err (ReportFault.Broken rule line)) e report well readable is =
+  all_read (Err (FileFault.Broken rule line)) e report well readable is =
       let same : report_in n text ≡ Ok report = ap (report_in n) is ∙ report_back n report named (fit n report named well readable) in
       absurd (cc)
-  all_read (Err ReportFault.Memory) e report well readable is = tt
+  all_read (Err FileFault.Memory) e report well readable is = tt

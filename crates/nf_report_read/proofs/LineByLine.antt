@@ -7,10 +7,14 @@ use Rattle.nf_text_def.specs.Words.{ReadLine, read_line, read_lines}
 use Rattle.nf_text_def.specs.Faults.{LineFault, first_fault, first_fault_of}
 use Rattle.nf_net_def.specs.Named.{Named}
 use Rattle.nf_net_def.specs.Report as formats
-use Rattle.nf_report_def.specs.declared.ReportRule.TheVariants.{P4}
+use Rattle.nf_report_def.specs.declared.ReportRule.TheVariants.{P1, P2, P4}
 use Rattle.nf_report_def.specs.ReportLines.{ReportDraft, report_line, empty_report}
 use Rattle.nf_report_def.specs.ReportFile.{ReportBroken, next_words, in_report_line, report_lines_from, report_draft, if_at_end, as_report_rule, report_by_bytes, report_in}
-use Rattle.nf_report_read.specs.declared.fault.ReportFault.{ReportFault}
+use Rattle.nf_text.specs.declared.TextFault.{TextFault}
+use Rattle.nf_text.specs.declared.fault.FileFault.{FileFault}
+use Rattle.nf_text.specs.Reading.{Tells}
+use Rattle.nf_text.specs.Faults.{fault_of_text}
+use Rattle.nf_report_def.specs.declared.ReportRule.{ReportRule}
 use Rattle.nf_report_read.specs.declared.report.Report.{Report}
 use Rattle.nf_report_lines.specs.declared.draft.Draft.{Draft}
 use Rattle.nf_report_lines.specs.Drafts.{seen_draft, seen_stage}
@@ -18,9 +22,19 @@ use Rattle.nf_report_lines.specs.Lines.{words_behind}
 use Rattle.nf_report_read.specs.Files.{IfBroken, closed_by}
 
 -- of a rule that is broken, what follows
-pub broken_more : (fault : ReportFault) (P Q : ReportBroken → Type 0) → ((broken : ReportBroken) → P broken → Q broken) → IfBroken fault P → IfBroken fault Q
-broken_more (ReportFault.Broken rule line) P Q f h = f (record { rule = rule; line = line }) h
-broken_more ReportFault.Memory P Q f h = tt
+pub broken_more : (fault : FileFault ReportRule) (P Q : ReportBroken → Type 0) → ((broken : ReportBroken) → P broken → Q broken) → IfBroken fault P → IfBroken fault Q
+broken_more (FileFault.Broken rule line) P Q f h = f (record { rule = rule; line = line }) h
+broken_more FileFault.Memory P Q f h = tt
+
+-- a line with a fault
+pub text_refused : (found : Option LineFault) (fault : TextFault) (answer : FileFault ReportRule) → answer ≡ fault_of_text P1 P2 fault → Tells fault found
+    → IfBroken answer (λ broken. option_map as_report_rule found ≡ Some broken)
+text_refused found fault answer e tells = subst (λ (f : FileFault ReportRule). IfBroken f (λ broken. option_map as_report_rule found ≡ Some broken)) (sym e) (at fault tells)
+  where
+    at : (fault : TextFault) → Tells fault found → IfBroken (fault_of_text P1 P2 fault) (λ broken. option_map as_report_rule found ≡ Some broken)
+    at (TextFault.NotAscii line) e = ap (option_map as_report_rule) e
+    at (TextFault.LongLine line) e = ap (option_map as_report_rule) e
+    at TextFault.Memory e = tt
 
 -- ---- a line and those behind it
 abbrev pub from_line : Option ReadLine → List TextLine → List ReadLine
@@ -135,7 +149,7 @@ module _ (n : Named) (text : List ℕ) (before after : List TextLine) (all : bef
         text_closes n text first (map read_line after) lines_are (seen_draft n read) (faults_are ∙ f)
         (ap (λ (d : ReportDraft). report_lines_from n d (first ∷ map read_line after)) (sym empty) ∙ e)
 
-    pub fault_read : (fault : ReportFault)
+    pub fault_read : (fault : FileFault ReportRule)
         → IfBroken fault (λ broken. report_by_bytes (first_fault_of after) (closed_by (report_lines_from n draft (first ∷ map read_line after))) ≡ Err broken)
         → IfBroken fault (λ broken. report_in n text ≡ Err broken)
     fault_read fault h =

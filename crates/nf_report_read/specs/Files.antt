@@ -6,12 +6,13 @@ use Rattle.nf_net_def.specs.Report as formats
 use Rattle.nf_report_def.specs.ReportLines.{ReportDraft}
 use Rattle.nf_report_def.specs.ReportFile.{ReportBroken, if_at_end}
 use Rattle.nf_report_read.specs.declared.report.Report.{Report}
-use Rattle.nf_report_read.specs.declared.fault.ReportFault.{ReportFault}
+use Rattle.nf_text.specs.declared.fault.FileFault.{FileFault}
+use Rattle.nf_report_def.specs.declared.ReportRule.{ReportRule}
 
 -- P holds of the broken rule, unless an allocation failed
-abbrev pub IfBroken : ReportFault → (ReportBroken → Type 0) → Type 0
-IfBroken (ReportFault.Broken rule line) P = P (record { rule = rule; line = line })
-IfBroken ReportFault.Memory P = Unit {0}
+abbrev pub IfBroken : FileFault ReportRule → (ReportBroken → Type 0) → Type 0
+IfBroken (FileFault.Broken rule line) P = P (record { rule = rule; line = line })
+IfBroken FileFault.Memory P = Unit {0}
 
 -- returns the report of the parser state at the end of the text
 abbrev pub closed_by : Result ReportDraft ReportBroken → Result formats.Report ReportBroken
@@ -22,7 +23,7 @@ abbrev pub report_of : Report → formats.Report
 report_of r = record { horizon = r.horizon; flow = flow_of r.flow; stop = r.stopped; last = r.last }
 
 -- the result is this report, unless an allocation failed
-abbrev pub Shows : formats.Report → Result Report ReportFault → Type 0
+abbrev pub Shows : formats.Report → Result Report (FileFault ReportRule) → Type 0
 Shows report (Ok read) = report_of read ≡ report
-Shows report (Err (ReportFault.Broken rule line)) = ⊥
-Shows report (Err ReportFault.Memory) = Unit {0}
+Shows report (Err (FileFault.Broken rule line)) = ⊥
+Shows report (Err FileFault.Memory) = Unit {0}

@@ -16,7 +16,7 @@ use crate::report::{Report, report_at_end};
 use nf_net::Network;
 use nf_report_def::ReportRule;
 use nf_report_lines::Draft;
-use nf_text::{Cursor, ReadLine, TextFault};
+use nf_text::{Cursor, ReadLine};
 use std::alloc::Global;
 
 // Reads the next line of a text. Fails with P1 or P2 if the line breaks one of them.
@@ -32,15 +32,7 @@ fn next_line<'a>(
 {
     match cursor.next_line(alloc) {
         Ok(line) => Ok(line),
-        Err(TextFault::NotAscii { line }) => Err(ReportFault::Broken {
-            rule: ReportRule::P1,
-            line,
-        }),
-        Err(TextFault::LongLine { line }) => Err(ReportFault::Broken {
-            rule: ReportRule::P2,
-            line,
-        }),
-        Err(TextFault::Memory) => Err(ReportFault::Memory),
+        Err(fault) => Err(fault.in_file(ReportRule::P1, ReportRule::P2)),
     }
 }
 

@@ -5,8 +5,8 @@ use Rattle.nf_model.specs.Network.{Piece, Network}
 use Rattle.nf_frac_def.specs.Checked.{◌>>=◌}
 use Rattle.nf_net_def.specs.Named.{Named}
 use Rattle.nf_side_def.specs.Lines.{unless_rule}
-use Rattle.nf_side.specs.declared.fault.LineFault.{LineFault}
-use Rattle.nf_side.specs.Faults.{IfRule}
+use Rattle.nf_text.specs.declared.fault.LineFault.{LineFault}
+use Rattle.nf_text.specs.Faults.{IfRule}
 use Rattle.nf_routes_def.specs.declared.RoutesRule.{RoutesRule}
 use Rattle.nf_routes_def.specs.declared.RoutesRule.TheVariants.{G4}
 use Rattle.nf_routes_def.specs.RoutesFile.{NamedRoute, RoutesEntry, RoutesDraft, RouteLine, RateLine, route_names, pieces_of, routes_entry, routes_rule_of, routes_after, add_route_line, with_piece, longer, rule_behind}

@@ -4,8 +4,8 @@ use Rattle.std.specs.List.{list_all}
 use Rattle.std.proofs.lemmas.Bool.{cond-true, cond-false}
 use Rattle.nf_net_def.specs.Names.{Name, is_name, has_name, place_of}
 use Rattle.nf_text.specs.Within.{word_at}
-use Rattle.nf_side.specs.declared.fault.LineFault.{LineFault}
-use Rattle.nf_side.specs.Faults.{IfRule}
+use Rattle.nf_text.specs.declared.fault.LineFault.{LineFault}
+use Rattle.nf_text.specs.Faults.{IfRule}
 use Rattle.nf_routes_def.specs.declared.RoutesRule.{RoutesRule}
 use Rattle.nf_routes_def.specs.declared.RoutesRule.TheVariants.{G6, G7, G8}
 use Rattle.nf_routes_def.specs.RoutesFile.{RoutesEntry, RouteLine, route_line, rate_line, end_line, routes_entry}

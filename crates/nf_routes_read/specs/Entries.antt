@@ -5,8 +5,8 @@ use Rattle.nf_net_def.specs.Names.{Name, has_name, place_of}
 use Rattle.nf_routes_def.specs.declared.RoutesRule.{RoutesRule}
 use Rattle.nf_routes_def.specs.declared.RoutesRule.TheVariants.{G8}
 use Rattle.nf_routes_def.specs.RoutesFile as file
-use Rattle.nf_side.specs.declared.fault.LineFault.{LineFault}
-use Rattle.nf_side.specs.Faults.{IfRule}
+use Rattle.nf_text.specs.declared.fault.LineFault.{LineFault}
+use Rattle.nf_text.specs.Faults.{IfRule}
 use Rattle.nf_routes_read.specs.declared.entry.Entry.{Entry}
 use Rattle.nf_routes_read.specs.declared.entry.Entry.TheVariants.{Route, Rate, End}
 

@@ -15,15 +15,12 @@ use crate::routes::Routes;
 use crate::walk::is_walk;
 use nf_net::Network;
 use nf_routes_def::RoutesRule;
-use nf_side::{FileHead, LineFault, PieceRules, ReadLine, SideDraft, piece_rule};
+use nf_side::{FileHead, LineFault, MOST_LINES, PieceRules, ReadLine, SideDraft, piece_rule};
 use std::alloc::{AllocError, Global};
 use std::marker::Model;
 
 /// The greatest number of routes.
 const MOST_ROUTES: usize = 100;
-
-/// The greatest number of rate lines of a route.
-const MOST_LINES: usize = 200;
 
 // The rules of the pieces of a route.
 const PIECE_RULES: PieceRules<RoutesRule> = PieceRules {

@@ -11,11 +11,11 @@ use crate::draft::Draft;
 use crate::routes::Routes;
 use nf_net::Network;
 use nf_routes_def::RoutesRule;
-use nf_side::{SideFault, read_draft};
+use nf_side::{FileFault, read_draft};
 use std::alloc::Global;
 
 /// A reason to refuse a routes file.
-pub type RoutesFault = SideFault<RoutesRule>;
+pub type RoutesFault = FileFault<RoutesRule>;
 
 // Reads a routes file. The loading order decides G17.
 fn read_routes(alloc: Global, net: &Network, text: &[u8]) -> Result<Routes, RoutesFault>

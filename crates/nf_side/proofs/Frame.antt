@@ -6,23 +6,24 @@ use Rattle.nf_frac_def.specs.Checked.{◌>>=◌}
 use Rattle.nf_text_def.specs.Words.{ReadLine, read_lines, content_lines}
 use Rattle.nf_text_def.specs.Faults.{LineFault as TextLineFault, NotAscii, LongLine, first_fault}
 use Rattle.nf_text.specs.declared.TextFault.{TextFault}
+use Rattle.nf_text.specs.declared.fault.FileFault.{FileFault}
+use Rattle.nf_text.specs.declared.fault.LineFault.{LineFault}
 use Rattle.nf_text.specs.Reading.{Tells}
+use Rattle.nf_text.specs.Faults.{IfRule, fault_in_line, fault_of_text}
 use Rattle.nf_side_def.specs.Lines.{is_head}
 use Rattle.nf_side_def.specs.Frame.{Broken, Frame, in_line, add_lines, draft_of, by_bytes, file_in}
-use Rattle.nf_side.specs.declared.fault.SideFault.{SideFault}
-use Rattle.nf_side.specs.declared.fault.LineFault.{LineFault}
 use Rattle.nf_side.specs.declared.head.FileHead.{FileHead}
-use Rattle.nf_side.specs.Faults.{IfBroken, IfRule, fault_in_line}
-use Rattle.nf_side.specs.Heads.{IsHeadOf, fault_of_text}
+use Rattle.nf_side.specs.Faults.{IfBroken}
+use Rattle.nf_side.specs.Heads.{IsHeadOf}
 use Rattle.nf_side.specs.Drafted.{open_frame, drafted_in}
 
 -- what follows for a broken rule
-pub broken_more : {Rule : Type 0} (fault : SideFault Rule) (P Q : Broken Rule → Type 0) → ((broken : Broken Rule) → P broken → Q broken) → IfBroken fault P → IfBroken fault Q
-broken_more (SideFault.Broken rule line) P Q f h = f (record { rule = rule; line = line }) h
-broken_more SideFault.Memory P Q f h = tt
+pub broken_more : {Rule : Type 0} (fault : FileFault Rule) (P Q : Broken Rule → Type 0) → ((broken : Broken Rule) → P broken → Q broken) → IfBroken fault P → IfBroken fault Q
+broken_more (FileFault.Broken rule line) P Q f h = f (record { rule = rule; line = line }) h
+broken_more FileFault.Memory P Q f h = tt
 
 -- the same answer of an equal reading
-pub same_read : {A B Rule : Type 0} (seen : A → B) (result : Result A (SideFault Rule)) (read other : Result B (Broken Rule)) → other ≡ read
+pub same_read : {A B Rule : Type 0} (seen : A → B) (result : Result A (FileFault Rule)) (read other : Result B (Broken Rule)) → other ≡ read
     → MatchResult result (λ x. read ≡ Ok (seen x)) (λ fault. IfBroken fault (λ broken. read ≡ Err broken))
     → MatchResult result (λ x. other ≡ Ok (seen x)) (λ fault. IfBroken fault (λ broken. other ≡ Err broken))
 same_read {B = B} {Rule = Rule} seen result read other e h =
@@ -44,10 +45,10 @@ module _ {Draft Rule : Type 0} (add : Draft → List (List ℕ) → Result Draft
     line_breaks (LineFault.Broken rule) e = sym so_far ∙ line_reads (Err (record { rule = rule; line = line.number })) (ap (in_line line.number) e)
     line_breaks LineFault.Memory e = tt
 
-    pub line_refused : (fault : LineFault Rule) (number : ℕ) (answer : SideFault Rule) → answer ≡ fault_in_line number fault → number ≡ line.number
+    pub line_refused : (fault : LineFault Rule) (number : ℕ) (answer : FileFault Rule) → answer ≡ fault_in_line number fault → number ≡ line.number
         → IfRule fault (λ rule. add draft line.words ≡ Err rule) → IfBroken answer (λ broken. read ≡ Err broken)
     line_refused fault number answer e same h =
-        subst (λ (f : SideFault Rule). IfBroken f (λ broken. read ≡ Err broken)) (sym (e ∙ ap (λ (k : ℕ). fault_in_line k fault) same)) (line_breaks fault h)
+        subst (λ (f : FileFault Rule). IfBroken f (λ broken. read ≡ Err broken)) (sym (e ∙ ap (λ (k : ℕ). fault_in_line k fault) same)) (line_breaks fault h)
 
 module _ {Rule Draft Given : Type 0} (frame : Frame Rule Draft Given) where
   -- ---- the first line, and the rest
@@ -108,11 +109,11 @@ module _ {Rule Draft : Type 0} (frame : Frame Rule Draft Draft) (text : List ℕ
   by_fault fault = by_bytes frame fault (draft_of frame (content_lines (read_lines text)))
 
   -- a line with a fault
-  pub text_refused : (head : FileHead Rule) → IsHeadOf frame head → (fault : TextFault) (answer : SideFault Rule) → answer ≡ fault_of_text head fault → Tells fault (first_fault text)
+  pub text_refused : (head : FileHead Rule) → IsHeadOf frame head → (fault : TextFault) (answer : FileFault Rule) → answer ≡ fault_of_text head.not_ascii head.long_line fault → Tells fault (first_fault text)
       → IfBroken answer (λ broken. drafted_in frame text ≡ Err broken)
-  text_refused head of_frame fault answer e tells = subst (λ (f : SideFault Rule). IfBroken f (λ broken. drafted_in frame text ≡ Err broken)) (sym e) (at fault tells)
+  text_refused head of_frame fault answer e tells = subst (λ (f : FileFault Rule). IfBroken f (λ broken. drafted_in frame text ≡ Err broken)) (sym e) (at fault tells)
     where
-      at : (fault : TextFault) → Tells fault (first_fault text) → IfBroken (fault_of_text head fault) (λ broken. drafted_in frame text ≡ Err broken)
+      at : (fault : TextFault) → Tells fault (first_fault text) → IfBroken (fault_of_text head.not_ascii head.long_line fault) (λ broken. drafted_in frame text ≡ Err broken)
       at (TextFault.NotAscii line) e = ap by_fault e ∙ ap (λ (r : Rule). Err (record { rule = r; line = line })) (sym of_frame.not_ascii)
       at (TextFault.LongLine line) e = ap by_fault e ∙ ap (λ (r : Rule). Err (record { rule = r; line = line })) (sym of_frame.long_line)
       at TextFault.Memory e = tt

@@ -1,5 +1,4 @@
 pub mod NamesOf
-pub mod ContentLines
 pub mod WordCounts
 pub mod LineWords
 pub mod HeadWords

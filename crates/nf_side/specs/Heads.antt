@@ -1,8 +1,6 @@
 -- The rules of bytes and of the first line, for one kind of side file.
 use Rattle.std.specs.Prelude.{◌≡◌}
-use Rattle.nf_text.specs.declared.TextFault.{TextFault}
 use Rattle.nf_side_def.specs.Frame.{Frame}
-use Rattle.nf_side.specs.declared.fault.SideFault.{SideFault}
 use Rattle.nf_side.specs.declared.head.FileHead.{FileHead}
 
 -- the rules and the keyword are those of a frame
@@ -11,9 +9,3 @@ pub record IsHeadOf {Rule Draft Given : Type 0} (frame : Frame Rule Draft Given)
   pub long_line : head.long_line ≡ frame.long_line
   pub no_head : head.no_head ≡ frame.no_head
   pub keyword : head.keyword.now ≡ frame.keyword
-
--- the fault of the file, from the fault of its text
-abbrev pub fault_of_text : {Rule : Type 0} → FileHead Rule → TextFault → SideFault Rule
-fault_of_text head (TextFault.NotAscii line) = SideFault.Broken head.not_ascii line
-fault_of_text head (TextFault.LongLine line) = SideFault.Broken head.long_line line
-fault_of_text head TextFault.Memory = SideFault.Memory

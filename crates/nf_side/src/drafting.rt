@@ -3,15 +3,14 @@ ghost use Rattle.std.specs.Prelude.{◌≡◌, ◌≤◌, length, Ok, Err, IfOk,
 ghost use Rattle.nf_text_def.specs.Faults.{longest_text};
 ghost use Rattle.nf_net_def.specs.Named.{Named};
 ghost use Rattle.nf_side_def.specs.Frame.{Frame, add_lines as add_lines_by, draft_of};
-ghost use Rattle.nf_side.specs.Faults.{IfBroken, IfRule};
+ghost use Rattle.nf_text.specs.Faults.{IfRule};
+ghost use Rattle.nf_side.specs.Faults.{IfBroken};
 ghost use Rattle.nf_side.specs.Heads.{IsHeadOf};
 ghost use Rattle.nf_side.specs.Drafted.{drafted_in};
 
-use crate::fault::{LineFault, SideFault};
-use crate::head::FileHead;
-use crate::reading::{contents, is_head};
+use crate::head::{FileHead, is_head};
 use nf_net::Network;
-use nf_text::ReadLine;
+use nf_text::{FileFault, LineFault, ReadLine, contents};
 use std::alloc::{AllocError, Global};
 
 /// The parser state of one kind of side file.
@@ -47,7 +46,7 @@ fn add_lines<D: SideDraft>(
     net: &Network,
     mut draft: D,
     lines: &[ReadLine],
-) -> Result<D, SideFault<D::Rule>>
+) -> Result<D, FileFault<D::Rule>>
     requires { D.fits net.now draft }
     ensures adds { MatchResult result (λ next. add_lines_by (D.frame net.now).add draft lines.now ≡ Ok next)
         (λ fault. IfBroken fault (λ broken. add_lines_by (D.frame net.now).add draft lines.now ≡ Err broken)) }
@@ -67,20 +66,20 @@ fn read_lines<D: SideDraft>(
     alloc: Global,
     net: &Network,
     lines: &[ReadLine],
-) -> Result<D, SideFault<D::Rule>>
+) -> Result<D, FileFault<D::Rule>>
     ensures reads { MatchResult result (λ draft. draft_of (D.frame net.now) lines.now ≡ Ok draft)
         (λ fault. IfBroken fault (λ broken. draft_of (D.frame net.now) lines.now ≡ Err broken)) }
     ensures fits { IfOk result (λ draft. D.fits net.now draft) }
 {
     let head = D::head();
     let [first, rest @ ..] = lines else {
-        return Err(SideFault::Broken {
+        return Err(FileFault::Broken {
             rule: head.no_head,
             line: 1,
         });
     };
     if !is_head(first, head.keyword) {
-        return Err(SideFault::Broken {
+        return Err(FileFault::Broken {
             rule: head.no_head,
             line: first.number(),
         });
@@ -94,7 +93,7 @@ pub fn read_draft<D: SideDraft>(
     alloc: Global,
     net: &Network,
     text: &[u8],
-) -> Result<D, SideFault<D::Rule>>
+) -> Result<D, FileFault<D::Rule>>
     requires { length text.now ≤ longest_text }
     ensures reads { MatchResult result (λ draft. drafted_in (D.frame net.now) text.now ≡ Ok draft)
         (λ fault. IfBroken fault (λ broken. drafted_in (D.frame net.now) text.now ≡ Err broken)) }
@@ -102,7 +101,10 @@ pub fn read_draft<D: SideDraft>(
 {
     let lines = match contents(alloc, text) {
         Ok(lines) => lines,
-        Err(fault) => return Err(D::head().text_fault(fault)),
+        Err(fault) => {
+            let head = D::head();
+            return Err(fault.in_file(head.not_ascii, head.long_line));
+        }
     };
     read_lines(alloc, net, &lines)
 }

@@ -1,9 +1,8 @@
 // The rules of bytes and of the first line, for one kind of side file.
 ghost use Rattle.std.specs.Prelude.{◌≡◌};
-ghost use Rattle.nf_side.specs.Heads.{fault_of_text};
+ghost use Rattle.nf_side_def.specs.Lines.{is_head as is_head_by};
 
-use crate::fault::SideFault;
-use nf_text::TextFault;
+use nf_text::{ReadLine, is_word};
 
 /// The rules of one kind of side file that need no line of it to be read, and the keyword of its first line.
 #[derive(Drop)]
@@ -17,21 +16,10 @@ pub struct FileHead<R> {
     pub keyword: &'static [u8],
 }
 
-impl<R: Copy> FileHead<R> {
-    // Returns the fault of the file if this is the fault of its text.
-    pub(crate) fn text_fault(&self, fault: TextFault) -> SideFault<R>
-        ensures { result ≡ fault_of_text self.now fault }
-    {
-        match fault {
-            TextFault::NotAscii { line } => SideFault::Broken {
-                rule: self.not_ascii,
-                line,
-            },
-            TextFault::LongLine { line } => SideFault::Broken {
-                rule: self.long_line,
-                line,
-            },
-            TextFault::Memory => SideFault::Memory,
-        }
-    }
+// Returns whether the words of a line are a keyword and the version 1.
+#[tactic(auto, using(crate::proofs::HeadWords::head_count_wrong, crate::proofs::HeadWords::head_is))]
+pub(crate) fn is_head(line: &ReadLine, keyword: &[u8]) -> bool
+    ensures { result ≡ is_head_by keyword.now line.now.words }
+{
+    line.len() == 2 && is_word(line.at(0), keyword) && is_word(line.at(1), b"1")
 }

@@ -4,15 +4,13 @@
 #![tactic(auto)]
 
 mod drafting;
-mod fault;
 mod head;
 mod pieces;
-mod reading;
 mod words;
 
 pub use drafting::{SideDraft, read_draft};
-pub use fault::{LineFault, SideFault};
 pub use head::FileHead;
-pub use nf_text::{ReadLine, is_word};
-pub use pieces::{PieceRules, piece_rule};
-pub use words::{is_name, link_near, link_of, node_of, number_of};
+pub use nf_net_file::is_name;
+pub use nf_text::{FileFault, LineFault, ReadLine, is_word};
+pub use pieces::{MOST_LINES, PieceRules, piece_rule};
+pub use words::{link_near, link_of, node_of, number_of};

@@ -7,6 +7,9 @@ ghost use Rattle.nf_side_def.specs.Lines.{piece_rule as piece_rule_by};
 use nf_frac::Q;
 use nf_net::Piece;
 
+/// The most lines of a link in a loads file, and of a route in a routes file.
+pub const MOST_LINES: usize = 200;
+
 /// The rules that a piece can break behind others, for one kind of side file.
 #[derive(Clone, Copy)]
 pub struct PieceRules<R> {

@@ -1,15 +1,13 @@
-// The links, nodes, numbers and names that words stand for.
+// The links, nodes and numbers that words stand for.
 ghost use Rattle.std.specs.Prelude.{◌≡◌, false, MatchOption};
-ghost use Rattle.std.specs.List.{list_all};
 ghost use Rattle.std.specs.Result.{result_ok};
 ghost use Rattle.nf_frac_words.specs.Numbers as numerals;
-ghost use Rattle.nf_net_def.specs.Names as names;
-ghost use Rattle.nf_net_def.specs.Names.{has_name, is_name_byte};
+ghost use Rattle.nf_net_def.specs.Names.{has_name};
 ghost use Rattle.nf_net_def.specs.Numbers.{greatest};
 ghost use Rattle.nf_side.specs.NameAt.{IsNameAt};
 
 use nf_frac::Q;
-use nf_net::{LONGEST_NAME, LinkId, Network, NodeId};
+use nf_net::{LinkId, Network, NodeId};
 use nf_text::is_word;
 
 /// Returns the link that a word names; None exactly if no link has this name. Idle links are not considered.
@@ -59,23 +57,4 @@ pub fn number_of(word: &[u8]) -> Option<Q>
     ensures { result ≡ result_ok (numerals.number_of greatest word.now) }
 {
     Q::read(word).ok()
-}
-
-fn is_byte_of_name(byte: u8) -> bool
-    ensures { result ≡ is_name_byte byte }
-{
-    byte.is_ascii_alphanumeric() || byte == b'_' || byte == b'-' || byte == b'.'
-}
-
-fn are_bytes_of_name(word: &[u8]) -> bool
-    ensures { result ≡ list_all is_name_byte word.now }
-{
-    word.iter().all(|byte| is_byte_of_name(*byte))
-}
-
-/// Returns whether a word is a name: 1 to 24 letters, digits, `_`, `-` and `.`.
-pub fn is_name(word: &[u8]) -> bool
-    ensures { result ≡ names.is_name word.now }
-{
-    !word.is_empty() && word.len() <= LONGEST_NAME && are_bytes_of_name(word)
 }

@@ -6,3 +6,5 @@ pub mod LineWords
 pub mod LineSteps
 pub mod FirstLines
 pub mod CursorSteps
+pub mod ContentLines
+pub mod Pushed

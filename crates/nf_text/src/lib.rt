@@ -9,18 +9,27 @@ ghost use Rattle.nf_text.specs.Reading.{seen_line, spans_of, WordsAreIn, Tells};
 ghost use Rattle.nf_text.specs.Spans.{text_of, Rise};
 ghost use Rattle.nf_text.specs.declared.TextFault.TheVariants as TextFault;
 
+mod content;
 mod cursor;
 mod cursor_line;
+mod fault;
 mod places;
 mod reading;
 mod sameness;
 mod words;
+mod writing;
 
+pub use content::contents;
 pub use cursor::Cursor;
 pub use cursor_line::{ReadLine, is_word};
+pub use fault::{FileFault, LineFault};
 use reading::read_line;
 use std::alloc::{AllocError, AllocFailed, Global};
 use thiserror::Error;
+pub use writing::{push_bytes, push_line, push_word};
+
+/// The most bytes of a text.
+pub const LONGEST_TEXT: u32 = 67_108_864;
 
 // A line has at most this many bytes, without its ending.
 const LONGEST_LINE: usize = 1000;

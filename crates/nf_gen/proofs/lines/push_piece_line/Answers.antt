@@ -1,8 +1,9 @@
+use Rattle.std.proofs.Common.{[], ◌∷◌, codes}
 use Rattle.nf_frac_words.specs.Digits.{digits_of}
-use Rattle.nf_gen.proofs.Pushed.{piece_line_pushed}
+use Rattle.nf_text.proofs.Pushed.{same_line}
 use Rattle.nf_gen.proofs.lines.push_piece_line.Goals as goal
 
 pub returns : goal.returns
 returns c =
-    piece_line_pushed c.args.out.now.items (digits_of c.args.start) (digits_of c.args.rate) _ _ _ _
-    c.in_ok-push_bytes.ensures c.in_ok-push_count.ensures c.in_ok-push_count-2.ensures c.in_ok-push_bytes-2.ensures
+    same_line c.push_line.result c.args.out.now.items c.push_line.new.text.items (codes "inflow" ∷ c.text.result.now ∷ c.text-2.result.now ∷ [])
+    (codes "inflow" ∷ digits_of c.args.start ∷ digits_of c.args.rate ∷ []) (cc) c.push_line.ensures

@@ -1,15 +1,17 @@
-use Rattle.std.proofs.Common.{◌≡◌, ℕ, List, [], ◌∷◌, ◌++◌, subst, codes}
-use Rattle.std.specs.Prelude.{OnOk}
-use Rattle.nf_text_def.specs.Words.{line_of_words}
+use Rattle.std.proofs.Common.{[], ◌∷◌, codes}
+use Rattle.nf_frac_words.specs.Digits.{digits_of}
+use Rattle.nf_text.proofs.Pushed.{same_line}
 use Rattle.nf_net.proofs.Versions.{first_version, second_version}
 use Rattle.nf_net.proofs.printing.push_version.Goals as goal
 
 pub returns-then-version-eq1 : goal.returns-then-version-eq1
 returns-then-version-eq1 c =
-    subst (λ (w : List ℕ). OnOk c.push_two.result (c.push_two.new.out.items ≡ c.args.out.now.items ++ line_of_words (codes "nfot" ∷ w ∷ [])))
-    (first_version c.args.version c.if-version-eq1.true) c.push_two.ensures
+    let same = first_version c.args.version c.if-version-eq1.true in
+    same_line c.push_line.result c.args.out.now.items c.push_line.new.text.items (codes "nfot" ∷ codes "1" ∷ []) (codes "nfot" ∷ digits_of c.args.version ∷ [])
+    (λ i. codes "nfot" ∷ same i ∷ []) c.push_line.ensures
 
 pub returns : goal.returns
 returns c =
-    subst (λ (w : List ℕ). OnOk c.push_two-2.result (c.push_two-2.new.out.items ≡ c.args.out.now.items ++ line_of_words (codes "nfot" ∷ w ∷ [])))
-    (second_version c.args.version c.requires c.if-version-eq1.false) c.push_two-2.ensures
+    let same = second_version c.args.version c.requires c.if-version-eq1.false in
+    same_line c.push_line-2.result c.args.out.now.items c.push_line-2.new.text.items (codes "nfot" ∷ codes "2" ∷ []) (codes "nfot" ∷ digits_of c.args.version ∷ [])
+    (λ i. codes "nfot" ∷ same i ∷ []) c.push_line-2.ensures

@@ -1,7 +1,7 @@
 use Rattle.std.proofs.Common.{◌≡◌, ◌++◌, length, map}
 use Rattle.nf_text_def.specs.Words.{read_line, read_lines, content_lines}
 use Rattle.nf_text_def.specs.Faults.{first_fault, first_fault_of}
-use Rattle.nf_side.proofs.reading.contents.Given as goal
+use Rattle.nf_text.proofs.content.contents.Given as goal
 
 abbrev pub invariant-loop-line : goal.invariant-loop-line
 invariant-loop-line l = (l.lines.items ++ content_lines (map read_line l.cursor) ≡ content_lines (read_lines l.text)) × (first_fault_of l.cursor ≡ first_fault l.text)
