@@ -21,4 +21,4 @@ pub use link::{Link, NamedLink, Piece};
 pub use name::{LONGEST_NAME, Name, is_name};
 pub use names::Names;
 pub use pieces::{rate_of, start_after};
-pub use sizes::{LONGEST_FILE, MOST_NODES, MOST_PIECES};
+pub use sizes::{LONGEST_FILE, MOST_NODES};

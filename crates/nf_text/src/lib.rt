@@ -28,9 +28,6 @@ use std::alloc::{AllocError, AllocFailed, Global};
 use thiserror::Error;
 pub use writing::{push_bytes, push_line, push_word};
 
-/// The most bytes of a text.
-pub const LONGEST_TEXT: u32 = 67_108_864;
-
 // A line has at most this many bytes, without its ending.
 const LONGEST_LINE: usize = 1000;
 
