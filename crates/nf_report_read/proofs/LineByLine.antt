@@ -102,9 +102,9 @@ no_fault o read e = ap (λ (f : Option LineFault). report_by_bytes f read) e
 
 -- ---- the whole text
 module _ (n : Named) (text : List ℕ) where
-  pub fault_of_text : (broken : ReportBroken) → option_map as_report_rule (first_fault text) ≡ Some broken → report_in n text ≡ Err broken
+  pub fault_breaks_text : (broken : ReportBroken) → option_map as_report_rule (first_fault text) ≡ Some broken → report_in n text ≡ Err broken
   unfolding report_in
-  fault_of_text broken e = fault_breaks (first_fault text) broken (closed_by (report_draft n (read_lines text))) e
+  fault_breaks_text broken e = fault_breaks (first_fault text) broken (closed_by (report_draft n (read_lines text))) e
 
   pub empty_text : lines text ≡ [] → report_in n text ≡ Err (record { rule = P4; line = 1 })
   unfolding report_in

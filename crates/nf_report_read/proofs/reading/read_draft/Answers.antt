@@ -3,7 +3,7 @@ use Rattle.nf_text_def.specs.Lines.{TextLine}
 use Rattle.nf_text_def.specs.Faults.{first_fault_of}
 use Rattle.nf_report_def.specs.ReportFile.{as_report_rule}
 use Rattle.nf_report_lines.specs.Drafts.{seen_draft}
-use Rattle.nf_report_read.proofs.LineByLine.{broken_more, fault_of_text, no_line, draft_read, fault_read}
+use Rattle.nf_report_read.proofs.LineByLine.{broken_more, fault_breaks_text, no_line, draft_read, fault_read}
 use Rattle.nf_report_read.proofs.reading.read_draft.Goals as goal
 
 pub returns-in_default-clause-fault : goal.returns-in_default-clause-fault
@@ -12,7 +12,7 @@ returns-in_default-clause-fault c =
 
 pub returns-in-Err-clause-fault : goal.returns-in-Err-clause-fault
 returns-in-Err-clause-fault c =
-    broken_more _ _ _ (λ broken h. fault_of_text c.args.net.now c.args.text.now broken
+    broken_more _ _ _ (λ broken h. fault_breaks_text c.args.net.now c.args.text.now broken
     (ap (λ (l : List TextLine). option_map as_report_rule (first_fault_of l)) (sym c.new-cursor.ensures) ∙ h)) c.in-Err.ensures.fault
 
 pub returns-in-Ok-add_lines-clause-draft : goal.returns-in-Ok-add_lines-clause-draft
