@@ -1,4 +1,5 @@
 -- Refusals of the code, as answers of the definitions.
+use Rattle.std.specs.Prelude.{ℕ}
 use Rattle.nf_edge.specs.declared.FetchFault.{FetchFault}
 use Rattle.nf_edge.specs.declared.FetchFault.TheVariants.{Failed, TooLong, Memory}
 use Rattle.nf_rational.specs.Rational.{ℚ}
