@@ -7,8 +7,8 @@ usage() {
 usage: tools/release.sh FOLDER
 
 Writes FOLDER/nfot-VERSION-linux-x86_64.tar.gz from this tree, as it is committed. Build it first (`bash .ci/run`).
-The archive holds bin/nfot, the wheel, examples, docs, README.md, CHANGELOG.md, CONTRIBUTING.md, CITATION.cff, BUILD (commit, version, kit)
-and SHA256SUMS. The same commit and program give the same bytes. The unpacked program is tried on examples/one.net.
+The archive holds bin/nfot, the wheel, examples, docs, README.md, CHANGELOG.md, CONTRIBUTING.md, CITATION.cff, BUILD (commit, version, kit),
+all definitions (crates/*/specs) and other files that the pages link, and SHA256SUMS. The same commit and program give the same bytes. The unpacked program is tried on examples/one.net.
 
 Statuses: 0 written and tried; 1 something is missing, differs or fails; 2 wrong arguments.
 TEXT
@@ -44,6 +44,7 @@ mkdir -p "$work/tree" "$work/$name/bin"
 git archive HEAD | tar xf - -C "$work/tree"
 (cd "$work/tree" && python3 -m pip wheel --quiet --no-deps --no-build-isolation --no-cache-dir --wheel-dir "$work/$name" .) || refuse "the wheel could not be built"
 cp -r "$work/tree/examples" "$work/tree/docs" "$work/tree/README.md" "$work/tree/CHANGELOG.md" "$work/tree/CONTRIBUTING.md" "$work/tree/CITATION.cff" "$work/$name"
+(cd "$work/tree" && tar cf - bench/README.md crates/*/specs crates/*/CALLING.md crates/nf_app/src/running.rt) | tar xf - -C "$work/$name"
 cp "$program" "$work/$name/bin/nfot"
 chmod 755 "$work/$name/bin/nfot"
 cat >"$work/$name/BUILD" <<TEXT
