@@ -132,6 +132,16 @@ def group(pieces: Sequence[Piece]) -> Group:
     return Group(vehicles, together / vehicles, most, -departure, tuple(joined))
 
 
+def alike(net: Network, run: Report, other_net: Network, other_run: Report) -> Optional[str]:
+    """The sentence that says that two cases are the same, up to the departure that both reach; None where some label differs."""
+    until = min(run.reached, other_run.reached)
+    if list(run.labels) != list(other_run.labels) or any(run.label(node).cut(until) != other_run.label(node).cut(until) for node in run.labels):
+        return None
+    if net == other_net:
+        return "both networks are the same, so look whether a change was made"
+    return "the networks differ, and no travel time does"
+
+
 def compare(net: Network, run: Report, other_net: Network, other_run: Report) -> Comparison:
     """Compares two cases: who gains, who loses, how much, when, up to the departure that both reports reach.
 

@@ -8,6 +8,7 @@ from .curves import Curve
 from .faults import OutOfRange, Refused
 from .labels import earliest
 from .loading import FedLink, Piece
+from .near import near
 from .networks import Network
 from .numbers import Number, exact, short
 from .reports import Report
@@ -33,7 +34,7 @@ def loaded_links(net: Network, loads: Loads) -> Dict[str, FedLink]:
     used = {link.name: link for link in net.used_links()}
     unknown = [name for name in loads if name not in used]
     if unknown:
-        raise OutOfRange(f"the network has no link {unknown[0]} whose tail is reached")
+        raise OutOfRange(f"the network has no link {unknown[0]} whose tail is reached{near(unknown[0], used)}")
     return {name: FedLink(link, pieces_of(loads.get(name, ()), f"link {name}")) for name, link in used.items()}
 
 

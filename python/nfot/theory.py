@@ -7,6 +7,7 @@ from typing import Dict, Iterator, List, Mapping, Optional, Tuple
 
 from .drafts import Link
 from .faults import OutOfRange
+from .near import near
 from .networks import Network
 from .numbers import Number, Time, exact, short, time_of
 from .phases import Course, Phase, Sets
@@ -67,7 +68,7 @@ def _all(names: List[str], given: Mapping[str, Number], what: str) -> Dict[str, 
     """The number of each name, 0 where none is given."""
     unknown = [name for name in given if name not in names]
     if unknown:
-        raise OutOfRange(f"the network has no {what} {unknown[0]} that is reached")
+        raise OutOfRange(f"the network has no {what} {unknown[0]} that is reached{near(unknown[0], names)}")
     return {name: exact(given.get(name, 0)) for name in names}
 
 

@@ -14,7 +14,8 @@ from ..commands import solve
 from ..inputs import read_flows
 from ..networks import read_network
 from ..theory import all_broken, candidate, thin
-from .common import natural, read_run
+from .common import read_run
+from .options import natural
 
 NOT_THIN = 15  # as `nfot settle` ends
 

@@ -18,7 +18,8 @@ from ..queues import queues_of
 from ..reports import Report
 from ..rows import Rows, grid
 from ..wording import Words
-from .common import add_clock, add_csv, add_pair, departures, positive, read_run, warn, write_rows
+from .common import departures, read_run, warn, write_rows
+from .options import add_clock, add_csv, add_pair, positive
 
 
 def add_arguments(parser: argparse.ArgumentParser) -> None:
