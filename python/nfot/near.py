@@ -18,7 +18,7 @@ def near(name: str, names: Iterable[str]) -> str:
         known.setdefault(each.lower(), []).append(each)
     found = known.get(name.lower(), [])
     if not found and not name.isdigit():
-        found = [each for low in get_close_matches(name.lower(), known, MOST, 0.7) for each in known[low]]
+        found = [each for low in get_close_matches(name.lower(), known, MOST, 0.6) for each in known[low]]
     if not found:
         return ""
     return f" (the nearest name{' is' if len(found) == 1 else 's are'} {', '.join(found[:MOST])})"
