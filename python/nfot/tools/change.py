@@ -1,4 +1,4 @@
-"""Prints a network with other capacities or times of links, or without links, and says what changed.
+"""Prints a network with other capacities or times of links, without links, or with a later begin of the supply, and says what changed.
 
 A change that changes nothing is refused, and so is a link that isn't there.
 
@@ -14,6 +14,7 @@ from typing import Optional
 from ..faults import Refused
 from ..networks import Link, Network, read_network
 from ..numbers import exact, short
+from .options import positive
 
 
 def add_arguments(parser: argparse.ArgumentParser) -> None:
@@ -22,6 +23,7 @@ def add_arguments(parser: argparse.ArgumentParser) -> None:
     parser.add_argument("--capacity", metavar="LINK=C", action="append", default=[], help="the new capacity of a link (`inf`: no limit), in units of the file")
     parser.add_argument("--time", metavar="LINK=T", action="append", default=[], help="the new transit time of a link")
     parser.add_argument("--without", metavar="LINK", action="append", default=[], help="leave a link out: the road is closed")
+    parser.add_argument("--begin", metavar="T", type=positive, help="nobody leaves before T")
 
 
 def changed(network: Network, word: str, what: str) -> tuple[Network, str]:
@@ -38,6 +40,14 @@ def changed(network: Network, word: str, what: str) -> tuple[Network, str]:
     return network.with_link(new), f"{what} of {name}: {shown(before)} becomes {shown(number)}"
 
 
+def begun(network: Network, time: Fraction) -> Network:
+    """The network whose supply begins at a departure."""
+    if not network.supplied(time):
+        raise Refused(f"nobody leaves before {short(time)}, so nothing would change", status=1)
+    rate = [rate for start, rate in network.supply if start <= time][-1]
+    return network.with_supply([(time, rate), *(piece for piece in network.supply if piece[0] > time)])
+
+
 def shown(value: Optional[Fraction]) -> str:
     """A capacity or a time as a line has it."""
     return "inf" if value is None else short(value)
@@ -46,8 +56,8 @@ def shown(value: Optional[Fraction]) -> str:
 def main(arguments: argparse.Namespace) -> int:
     """Prints the network, and on standard error what changed."""
     network, lines = read_network(arguments.net), []
-    if not arguments.capacity + arguments.time + arguments.without:
-        raise Refused("say what changes: --capacity LINK=C, --time LINK=T or --without LINK")
+    if not arguments.capacity + arguments.time + arguments.without and arguments.begin is None:
+        raise Refused("say what changes: --capacity LINK=C, --time LINK=T, --without LINK or --begin T")
     for what, words in (("capacity", arguments.capacity), ("time", arguments.time)):
         for word in words:
             network, line = changed(network, word, what)
@@ -55,6 +65,9 @@ def main(arguments: argparse.Namespace) -> int:
     for name in arguments.without:
         network = network.without(name)
         lines.append(f"{name} is left out")
+    if arguments.begin is not None:
+        network = begun(network, arguments.begin)
+        lines.append(f"the supply begins at {short(arguments.begin)}")
     print(network.text(), end="", flush=True)
     for line in lines:
         print(f"change: {line}", file=sys.stderr)
