@@ -119,6 +119,7 @@ def grown(curve: Curve, start: Fraction, end: Fraction) -> Optional[Fraction]:
 
 
 Column = Callable[[Fraction, Fraction], Cell]  # of the time of a row and of the next one
+NO_COLUMNS: Dict[str, Column] = {word: lambda time, after: None for word in ("queue", "wait", "in", "out")}  # of a link that isn't there
 
 
 def clock_column(clock: Union[str, Fraction]) -> Column:
@@ -179,21 +180,13 @@ def side_by_side(runs: dict[str, Report], link: Union[str, Sequence[str], None],
     stop = Fraction(0)
     for name, run in runs.items():
         stop = max(stop, run.reached, *(run.queue(each).until for each in links if each in run.queues))
-        for each in links or [None]:
-            offered = arrival_columns(run) if each is None else link_columns(run, each, "") if each in run.queues else dict.fromkeys(OF_LINKS, nothing)
+        for of in links or [None]:
+            offered = arrival_columns(run) if of is None else link_columns(run, of, "") if of in run.queues else NO_COLUMNS
             for word in show:
                 if word not in offered:
                     raise Refused(f"{word} is none of the columns: {', '.join(offered)}")
-                columns[f"{name} {each} {word}" if len(links) > 1 else f"{name} {word}"] = offered[word]
+                columns[f"{name} {of} {word}" if len(links) > 1 else f"{name} {word}"] = offered[word]
     return rows_until(stop, every, columns)
-
-
-OF_LINKS = ("queue", "wait", "in", "out")
-
-
-def nothing(time: Fraction, after: Fraction) -> Cell:
-    """The cell of a scenario without the link."""
-    return None
 
 
 def check_link(runs: dict[str, Report], link: str) -> None:

@@ -43,7 +43,7 @@ def odd_time(roads: Sequence[Road], columns: Columns, quickest: Fraction) -> Opt
     """The line on speeds or times that nobody drives; None where all are usual."""
     def with_minutes(odd: Callable[[Fraction], bool]) -> list[Road]:
         return [road for road in roads if road.minutes and odd(road.minutes)]
-    fast, slow = (with_speed(roads, odd) for odd in (lambda speed: speed > FASTEST, lambda speed: speed < SLOWEST))
+    fast, slow = with_speed(roads, lambda speed: speed > FASTEST), with_speed(roads, lambda speed: speed < SLOWEST)
     short = with_minutes(lambda minutes: minutes < ROAD)
     if fast or slow:
         return odd_speed(fast or slow, columns)

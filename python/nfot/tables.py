@@ -73,7 +73,7 @@ class Made:
 
     def names_text(self, semicolon: bool = False) -> str:
         """The names as CSV; with `semicolon` as `Rows.csv_text` has it."""
-        rows = ([str(cell) if isinstance(cell, int) else cell for cell in name] for name in self.names)
+        rows = ([name.id, name.kind, name.name, None if name.line is None else str(name.line), name.km, name.lanes] for name in self.names)
         return Rows(Name._fields, rows).csv_text(exact=True, semicolon=semicolon)
 
     def write_names(self, path: str, semicolon: bool = False) -> None:

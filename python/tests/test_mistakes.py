@@ -151,6 +151,23 @@ class Change(Results):
             self.refused(status, wanted, "change", EXAMPLES / "bridge.net", *words)
 
 
+    def test_a_later_begin(self) -> None:
+        status, out, err = self.run_tool("change", EXAMPLES / "bridge.net", "--begin", "12.5")
+        self.assertEqual((status, err), (0, "change: the supply begins at 12.5\n"))
+        self.assertEqual(nfot.network_of(out).supply, ((Fraction(25, 2), 4), (60, 0)))
+        self.refused(1, "nobody leaves before 12.5", "change", "-", "--begin", "12.5", stdin=out)
+
+    def test_last_departure_at_a_node(self) -> None:
+        """In paradox.net the label of v is 2 + 2 d up to 8, so departure 4 is at v at 10."""
+        pair = self.solved("paradox.net", 60)
+        self.assertEqual(self.fine("times", *pair, "--node", "v", "--by", 10), "departures up to 4.00 are at v by 10.00\n")
+        self.assertEqual(self.fine("times", *pair, "--node", "v", "--by", "7:10", "--clock", "7:00"), "departures up to 07:04 are at v by 07:10\n")
+        self.assertEqual(self.fine("times", *pair, "--by", 2), "no departure is at t by 2.00\n")
+        self.assertEqual(self.fine("times", *pair, "--by", 500), "departures up to 60.00 are at t by 500.00\n")
+        self.assertTrue(self.fine("times", *pair, "4", "--node", "v").startswith("leave 4.00  arrive 10.00  takes 6.00\n"))
+        self.refused(1, "no node V (the nearest name is v)", "times", *pair, "--node", "V")
+
+
 class Why(Results):
     def test_rules_statuses_and_lines_as_words(self) -> None:
         self.write("x.net", "nfot 1\nsource s\nsink t\nlink a s t 1.5 1\nend\n")

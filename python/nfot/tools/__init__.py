@@ -12,7 +12,7 @@ import os
 import signal
 import sys
 from types import FrameType, ModuleType
-from typing import IO, NoReturn, Optional, Sequence
+from typing import Any, NoReturn, Optional, Sequence
 
 from ..faults import Fault, Refused
 from .passing import COMMANDS, pass_through
@@ -29,7 +29,7 @@ class Parser(argparse.ArgumentParser):
     def error(self, message: str) -> NoReturn:
         raise Refused(f"{message} (nfot-py {self.prog.split()[-1]} --help says more)")
 
-    def print_help(self, file: Optional[IO[str]] = None) -> None:
+    def print_help(self, file: Any = None) -> None:
         """Prints the help text; other than that of argparse it doesn't hide that the output fails."""
         print(self.format_help(), end="", file=file)
 

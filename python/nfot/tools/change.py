@@ -55,7 +55,8 @@ def shown(value: Optional[Fraction]) -> str:
 
 def main(arguments: argparse.Namespace) -> int:
     """Prints the network, and on standard error what changed."""
-    network, lines = read_network(arguments.net), []
+    network = read_network(arguments.net)
+    lines: list[str] = []
     if not arguments.capacity + arguments.time + arguments.without and arguments.begin is None:
         raise Refused("say what changes: --capacity LINK=C, --time LINK=T, --without LINK or --begin T")
     for what, words in (("capacity", arguments.capacity), ("time", arguments.time)):
