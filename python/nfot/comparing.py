@@ -7,6 +7,7 @@ from typing import Iterator, NamedTuple, Optional, Sequence
 
 from .curves import Curve
 from .faults import Refused
+from .given import Net, Run, as_pair
 from .networks import Network
 from .reports import Report, mismatch
 
@@ -142,11 +143,12 @@ def alike(net: Network, run: Report, other_net: Network, other_run: Report) -> O
     return "the networks differ, and no travel time does"
 
 
-def compare(net: Network, run: Report, other_net: Network, other_run: Report) -> Comparison:
+def compare(net: Net, run: Run, other_net: Net, other_run: Run) -> Comparison:
     """Compares two cases: who gains, who loses, how much, when, up to the departure that both reports reach.
 
     Where the supplies differ, `same_supply` is false, and `lose` and `gain` count the vehicles that leave at the same time in both cases
     (at each time the lesser rate). Raises a Fault with status 1 where a report isn't one of its network."""
+    (net, run), (other_net, other_run) = as_pair(net, run), as_pair(other_net, other_run)
     for network, report, what in ((net, run, "first"), (other_net, other_run, "second")):
         if why := mismatch(network, report):
             raise Refused(f"the {what} report is none of its network: {why}", status=1)

@@ -203,6 +203,8 @@ def report_of(text: Text, name: str = "report", net: Optional[Network] = None) -
         number = 0
         return reader.report()
     except Refused as fault:
+        if fault.rule in ("P3", "P6", "P8", "P12") and lines[-1].strip() != "end":
+            fault.why += ": is the report cut? Its last line isn't `end`"
         raise fault.placed(name, number) from None
 
 

@@ -9,6 +9,7 @@ from typing import Any, Callable, Collection, Dict, Iterable, Iterator, Optional
 
 from .curves import Curve
 from .faults import Fault, OutOfRange, Refused
+from .given import with_network
 from .near import near
 from .numbers import Time, clock as clock_of, decimal, parse, short, time_of
 from .program import write_beside
@@ -130,9 +131,7 @@ def clock_column(clock: Union[str, Fraction]) -> Column:
 
 def arrival_columns(run: Report, name: str = "") -> dict[str, Column]:
     """Arrival and travel time at the sink of a driver who leaves at the time of a row."""
-    if run.network is None:
-        raise Refused("the report has no network: read it by read_report(path, net)")
-    label = run.label(run.network.sink)
+    label = run.label(with_network(run).sink)
 
     def takes(time: Fraction, after: Fraction) -> Cell:
         arrival = known(label, time)
@@ -153,7 +152,7 @@ def rows_of(times: Sequence[Fraction], step: Fraction, columns: dict[str, Column
 
 
 def table(run: Report, every: Time = 5, links: Optional[Sequence[str]] = None, clock: Optional[str] = None) -> Rows:
-    """A report on a grid of times, `every` minutes from 0 on, up to the last time that is known.
+    """A report on a grid of times, `every` minutes from 0 on, up to the last one at which the queues are known (outflows may be longer).
 
     Columns: `time`; with `clock` (the time of day of time 0, as "6:00") `clock`; `arrive` and `takes` of a driver who leaves the source
     then; of each link `LINK queue` and `LINK wait` at that time, and `LINK in` and `LINK out`, the vehicles that enter and leave it until

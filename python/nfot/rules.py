@@ -6,7 +6,7 @@ import re
 from typing import Dict, List, Optional, Sequence, Tuple
 
 from .faults import Fault
-from .lines import MOST_REPORT_BYTES, read_bytes
+from .lines import MOST_BYTES, MOST_REPORT_BYTES, read_bytes
 from .networks import read_network
 from .numbers import LONGEST_WORD, file_number, hint
 from .report_file import WINDOWS, read_report
@@ -122,6 +122,9 @@ def _unread(files: Sequence[str]) -> Optional[str]:
             return f"{name} is a folder"
         if not os.access(name, os.R_OK):
             return f"{name}: no right to read it"
+        most = MOST_REPORT_BYTES if name in files[1:] else MOST_BYTES
+        if os.path.isfile(name) and os.path.getsize(name) > most:
+            return f"{name} has {os.path.getsize(name)} bytes, and {most} are allowed"
     return None
 
 

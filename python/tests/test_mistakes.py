@@ -189,6 +189,34 @@ class Why(Results):
         self.assertEqual((done.returncode, done.stdout, told(done.stderr).split(b": the line")[0]), (4, b"", b"nfot: report line 1: P3\nnfot-py check: w.report"))
 
 
+class Given(Results):
+    def test_names_of_files_do_as_well(self) -> None:
+        net, report = self.solved("bridge.net", 60)
+        value, run = nfot.read_pair(net, report)
+        for call in (nfot.phases, nfot.gap, nfot.same, nfot.unsaid, nfot.mismatch, lambda *given: nfot.compare(*given, *given), lambda *given: nfot.thin(*given, 3),
+                     lambda *given: nfot.candidate(*given, 3, {}, {}), lambda one, two: nfot.report_of_flows(one, {"bridge": [(0, 1)]}, 1)):
+            self.assertEqual(repr(call(net, report)), repr(call(value, run)))
+        for given in (lambda: nfot.queues_of(report), lambda: nfot.table(report), lambda: nfot.supply_of("x.routes", 1), lambda: nfot.report_of_flows(net, "x.loads", 1)):
+            with self.assertRaisesRegex(nfot.Refused, "read it by read_report|read the file by read_"):
+                given()
+
+    def test_a_report_that_is_cut(self) -> None:
+        net, report = self.solved("bridge.net", 60)
+        text = (self.folder / report).read_text()
+        for end in (text.index("inflow bridge") + 8, text.index("-\n") + 2 - 4):
+            self.write("cut.report", text[:end])
+            self.assertIn("is the report cut? Its last line isn't `end`", self.run_tool("times", net, "cut.report")[2])
+
+    def test_a_file_that_is_too_long(self) -> None:
+        self.write("long.net", "#" * 1048577)
+        self.assertIn("long.net has 1048577 bytes, and 1048576 are allowed", self.run_tool("why", "--", "nfot", "show", "long.net")[2])
+
+    def test_slopes_that_are_missing(self) -> None:
+        self.write("x.flows", "flows 1\nflow bridge 4\nslope home 1\nend\n")
+        status, _, err = self.run_tool("thin", EXAMPLES / "bridge.net", 0, "x.flows")
+        self.assertEqual((status, err), (15, "nfot-py thin: x.flows has no line `slope` of work, so the slope counts as 0\n"))
+
+
 class Outputs(Results):
     def test_closed(self) -> None:
         """Nothing is done where standard output is closed; a help text that can't be written isn't hidden."""
