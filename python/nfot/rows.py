@@ -131,7 +131,8 @@ def clock_column(clock: Union[str, Fraction]) -> Column:
 
 def arrival_columns(run: Report, name: str = "") -> dict[str, Column]:
     """Arrival and travel time at the sink of a driver who leaves at the time of a row."""
-    label = run.label(with_network(run).sink)
+    sink = with_network(run).sink
+    label = run.label(sink)
 
     def takes(time: Fraction, after: Fraction) -> Cell:
         arrival = known(label, time)
