@@ -9,10 +9,8 @@ from .commands import check
 from .drafts import Link
 from .given import Net, Run, as_form, as_network, as_pair
 from .matching import mismatches
-from .networks import Network
 from .numbers import short
 from .phases import Course
-from .reports import Report
 
 
 def same(net: Net, report: Run) -> List[str]:

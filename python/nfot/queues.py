@@ -6,7 +6,6 @@ from fractions import Fraction
 from typing import Optional, Sequence
 
 from .curves import Curve
-from .faults import Refused
 from .given import with_network
 from .reports import Report
 from .sheets import read_sheet

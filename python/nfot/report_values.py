@@ -3,7 +3,7 @@ from __future__ import annotations
 
 from fractions import Fraction
 from types import MappingProxyType
-from typing import Any, Dict, Iterable, Iterator, List, Mapping, Optional, Sequence, Tuple, Union, Set
+from typing import Any, Dict, Iterable, Iterator, Mapping, Optional, Sequence, Tuple, Union, Set
 
 from .causes import check_cause
 from .curves import Curve

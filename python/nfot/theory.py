@@ -12,7 +12,6 @@ from .near import near
 from .networks import Network
 from .numbers import Number, Time, exact, short, time_of
 from .phases import Course, Phase, Sets
-from .reports import Report
 
 ZERO = Fraction(0)
 

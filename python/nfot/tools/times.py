@@ -18,7 +18,6 @@ from ..demand import minutes_at
 from ..faults import Refused
 from ..numbers import clock, decimal
 from ..queues import queues_of
-from ..reports import Report
 from ..rows import Rows, grid
 from ..wording import Words
 from .common import departures, read_run, warn, write_rows
