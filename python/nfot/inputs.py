@@ -7,6 +7,7 @@ from typing import Callable, Dict, Iterator, List, Optional, Sequence, Tuple, Ty
 from .faults import Refused
 from .lines import PathLike, Text, as_bytes, broken, content_words, is_name, read_bytes, shown_name, split_lines
 from .loading import Piece
+from .near import near
 from .networks import Network
 from .numbers import file_number, hint, short
 from .routing import in_order, walk_fault
@@ -67,7 +68,7 @@ def loads_of(text: Text, net: Network) -> Loads:
     loads: Loads = {link.name: [] for link in net.used_links()}
     for line, words in lines_of(as_bytes(text), "loads", "L", ["rate"], "L12"):
         if words[1] not in loads:
-            raise broken("L7", f"the network has no link {words[1][:40]} whose tail is reached", line)
+            raise broken("L7", f"the network has no link {words[1][:40]} whose tail is reached{near(words[1], loads)}", line)
         add_piece(loads[words[1]], words, ("L8", "L9", "L10", "L11"), line)
     return {name: pieces for name, pieces in loads.items() if pieces}
 
@@ -79,7 +80,7 @@ def routes_of(text: Text, net: Network) -> Routes:
         if words[0] == "route":
             add_route(routes, words[1], words[2:], net, line)
         elif words[1] not in routes:
-            raise broken("G8", f"no line above is of a route {words[1][:40]}", line)
+            raise broken("G8", f"no line above is of a route {words[1][:40]}{near(words[1], routes)}", line)
         else:
             add_piece(routes[words[1]][1], words, ("G9", "G13", "G14", "G15"), line)
     in_order([links for links, _ in routes.values()])
@@ -93,7 +94,7 @@ def add_route(routes: Routes, name: str, links: List[str], net: Network, line: i
     if not is_name(name):
         raise broken("G7", f"{name[:40]} is no name of a route", line)
     if unknown:
-        raise broken("G8", f"the network has no link {unknown[0][:40]} whose tail is reached", line)
+        raise broken("G8", f"the network has no link {unknown[0][:40]} whose tail is reached{near(unknown[0], used)}", line)
     if name in routes:
         raise broken("G10", f"there are two routes {name}", line)
     if len(routes) == MOST_ROUTES:
@@ -110,7 +111,7 @@ def flows_of(text: Text, net: Network) -> Tuple[Values, Values]:
     values: Dict[str, Values] = {"flow": {}, "slope": {}}
     for line, (first, name, word) in lines_of(as_bytes(text), "flows", "S", ["flow", "slope"], "S11"):
         if name not in names[first]:
-            raise broken("S7", f"the network has no {'link' if first == 'flow' else 'node'} {name[:40]} that is reached", line)
+            raise broken("S7", f"the network has no {'link' if first == 'flow' else 'node'} {name[:40]} that is reached{near(name, names[first])}", line)
         number = number_of(word, "S8", line)
         if number < 0:
             raise broken("S9", f"the {first} of {name} is negative", line)

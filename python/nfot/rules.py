@@ -6,10 +6,10 @@ import re
 from typing import Dict, List, Optional, Sequence, Tuple
 
 from .faults import Fault
-from .lines import MOST_REPORT_BYTES, read_bytes
+from .lines import MOST_BYTES, MOST_REPORT_BYTES, read_bytes
 from .networks import read_network
 from .numbers import LONGEST_WORD, file_number, hint
-from .report_file import read_report
+from .report_file import WINDOWS, read_report
 from .meanings import RULE, meaning, status, tables
 
 __all__ = ["explain", "files_of", "meaning", "status", "wrong_words"]
@@ -50,7 +50,23 @@ def _of_rule(kind: str, number: int, rule: str, files: Sequence[str]) -> List[st
     if name is not None and number:
         sentences.insert(0, _line_of(name, number))
     why = _why(kind, rule, files)
+    if rule == "P3" and not why and name is not None and has_windows_ends(name):
+        why = WINDOWS
     return [*sentences, why] if why else sentences
+
+
+def has_windows_ends(name: str) -> bool:
+    """Whether a file, which is no pipe, has lines that end with CR LF."""
+    try:
+        return os.path.isfile(name) and b"\r\n" in read_bytes(name, MOST_REPORT_BYTES)
+    except Fault:
+        return False
+
+
+def windows_lines(words: Sequence[str]) -> List[str]:
+    """The line on a report with the line ends of Windows, which P3 refuses, of a command that `nfot` ended with status 4."""
+    reports = files_of(words)[1:2] if words[0] in ("check", "resume") else []
+    return [f"{name}: {WINDOWS}" for name in reports if has_windows_ends(name)]
 
 
 def _line_of(name: str, number: int) -> str:
@@ -106,6 +122,9 @@ def _unread(files: Sequence[str]) -> Optional[str]:
             return f"{name} is a folder"
         if not os.access(name, os.R_OK):
             return f"{name}: no right to read it"
+        most = MOST_REPORT_BYTES if name in files[1:] else MOST_BYTES
+        if os.path.isfile(name) and os.path.getsize(name) > most:
+            return f"{name} has {os.path.getsize(name)} bytes, and {most} are allowed"
     return None
 
 

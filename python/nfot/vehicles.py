@@ -6,6 +6,7 @@ from typing import Dict, Iterable, List, Mapping, Optional, Sequence, Tuple, Uni
 
 from .faults import OutOfRange, Refused
 from .loading import Piece, pieces_of_changes
+from .near import near
 from .networks import Network
 from .numbers import Number, Time, exact, short, time_of
 
@@ -28,7 +29,7 @@ def loads_of_vehicles(net: Network, vehicles: Union[Entries, Iterable[Trip]], si
     pairs = vehicles.items() if isinstance(vehicles, Mapping) else ((link, [time]) for trip in vehicles for link, time in trip)
     for link, times in pairs:
         if link not in entries:
-            raise OutOfRange(f"the network has no link {link} whose tail is reached")
+            raise OutOfRange(f"the network has no link {link} whose tail is reached{near(link, entries)}")
         entries[link] += [entry_time(time, round_to, f"link {link}") for time in times]
     return {link: rates_of_entries(times, exact(size), spread, f"link {link}") for link, times in entries.items() if times}
 
