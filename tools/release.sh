@@ -46,8 +46,8 @@ git archive HEAD | tar xf - -C "$work/tree"
 (cd "$work/tree" && python3 -m pip wheel --quiet --no-deps --no-build-isolation --no-cache-dir --wheel-dir "$work/$name" .) || refuse "the wheel could not be built"
 cp -r "$work/tree/examples" "$work/tree/docs" "$work/tree/README.md" "$work/tree/CHANGELOG.md" "$work/tree/CONTRIBUTING.md" "$work/tree/CITATION.cff" "$work/$name"
 # The files of crates and bench that the pages link, with their paths, so that these links work in the archive.
-linked=$(cd "$work/$name" && grep -ohE '\]\((\.\./)?(crates|bench)/[^)#]+' README.md CONTRIBUTING.md docs/*.md | sed -E 's,^\]\((\.\./)?,,' | LC_ALL=C sort -u)
-[ -n "$linked" ] || refuse "the pages link no definition"
+linked=$(cd "$work/$name" && grep -ohE '\]\((\.\./)?(crates|bench)/[^)#]+' README.md CONTRIBUTING.md docs/*.md \
+    | sed -E 's,^\]\((\.\./)?,,' | LC_ALL=C sort -u) || refuse "the pages link no definition"
 while read -r file; do
     [ -f "$work/tree/$file" ] || refuse "$file: a page links it, and it is not in the commit"
     (cd "$work/tree" && cp --parents "$file" "$work/$name")
