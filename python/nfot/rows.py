@@ -178,9 +178,10 @@ def side_by_side(runs: dict[str, Report], link: Union[str, Sequence[str], None],
     for each in links:
         check_link(runs, each)
     stop = Fraction(0)
+    columns_of: Sequence[Optional[str]] = links or [None]
     for name, run in runs.items():
         stop = max(stop, run.reached, *(run.queue(each).until for each in links if each in run.queues))
-        for of in links or [None]:
+        for of in columns_of:
             offered = arrival_columns(run) if of is None else link_columns(run, of, "") if of in run.queues else NO_COLUMNS
             for word in show:
                 if word not in offered:

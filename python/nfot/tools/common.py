@@ -39,7 +39,7 @@ def is_kind(name: str, kind: str) -> bool:
     word = "report" if kind == "report" else "nfot"
     try:
         with open(name, encoding="ascii", errors="replace") as file:
-            words = next((line.split() for line in file if line.partition("#")[0].strip()), [])
+            words: list[str] = next((line.split() for line in file if line.partition("#")[0].strip()), [])
     except OSError:
         return False
     return words[:1] == [word] and len(words) > 1 and words[1] in ("1", "2")
