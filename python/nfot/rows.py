@@ -178,7 +178,7 @@ def side_by_side(runs: dict[str, Report], link: Union[str, Sequence[str], None],
     for each in links:
         check_link(runs, each)
     stop = Fraction(0)
-    columns_of: Sequence[Optional[str]] = links or [None]
+    columns_of: list[Optional[str]] = [*links] if links else [None]
     for name, run in runs.items():
         stop = max(stop, run.reached, *(run.queue(each).until for each in links if each in run.queues))
         for of in columns_of:
