@@ -32,7 +32,9 @@ def as_form(run: Run) -> Report:
 
 def with_network(run: Report) -> Network:
     """The network of a report; Refused for the name of a file, and where there is none."""
-    if not isinstance(run, Report) or run.network is None:
+    if not isinstance(run, Report):
+        raise Refused("a report is needed here, and no name of a file: read it by read_report(path, net)")
+    if run.network is None:
         raise Refused("the report has no network: read it by read_report(path, net)")
     return run.network
 

@@ -5,6 +5,7 @@ from fractions import Fraction
 from typing import Callable, Dict, Iterator, List, Optional, Sequence, Tuple, TypeVar
 
 from .faults import Refused
+from .given import Net, as_network
 from .lines import PathLike, Text, as_bytes, broken, content_words, is_name, read_bytes, shown_name, split_lines
 from .loading import Piece
 from .near import near
@@ -121,30 +122,31 @@ def flows_of(text: Text, net: Network) -> Tuple[Values, Values]:
     return values["flow"], values["slope"]
 
 
-def _read(reader: Callable[[Text, Network], Made], path: PathLike, net: Network, data: Optional[bytes] = None) -> Made:
+def _read(reader: Callable[[Text, Network], Made], path: PathLike, net: Net, data: Optional[bytes] = None) -> Made:
     """What a reader makes of a file, or of its bytes; faults name the file."""
+    network = as_network(net)
     try:
-        return reader(read_bytes(path) if data is None else data, net)
+        return reader(read_bytes(path) if data is None else data, network)
     except Refused as fault:
         raise fault.placed(shown_name(path)) from None
 
 
-def read_loads(path: PathLike, net: Network) -> Loads:
+def read_loads(path: PathLike, net: Net) -> Loads:
     """The pieces (start, rate) by link of a loads file; `-` is standard input."""
     return _read(loads_of, path, net)
 
 
-def read_routes(path: PathLike, net: Network) -> Routes:
+def read_routes(path: PathLike, net: Net) -> Routes:
     """The routes of a routes file; `-` is standard input."""
     return _read(routes_of, path, net)
 
 
-def read_flows(path: PathLike, net: Network) -> Tuple[Values, Values]:
+def read_flows(path: PathLike, net: Net) -> Tuple[Values, Values]:
     """Flows of links and slopes of nodes of a flows file; `-` is standard input."""
     return _read(flows_of, path, net)
 
 
-def read_sent(path: PathLike, net: Network) -> Tuple[Loads, Routes]:
+def read_sent(path: PathLike, net: Net) -> Tuple[Loads, Routes]:
     """The loads of a loads file, or the routes of a routes file, whichever it is; the other one is empty. `-` is standard input."""
     data = read_bytes(path)
     words = [words for line in data.decode("ascii", "replace").splitlines() if (words := content_words(line))]

@@ -177,11 +177,11 @@ def side_by_side(runs: dict[str, Report], link: Union[str, Sequence[str], None],
     columns: dict[str, Column] = {"clock": clock_column(clock)} if clock is not None else {}
     for each in links:
         check_link(runs, each)
-    shown: list[Optional[str]] = [*links] or [None]
     stop = Fraction(0)
+    columns_of: list[Optional[str]] = [*links] if links else [None]
     for name, run in runs.items():
         stop = max(stop, run.reached, *(run.queue(each).until for each in links if each in run.queues))
-        for of in shown:
+        for of in columns_of:
             offered = arrival_columns(run) if of is None else link_columns(run, of, "") if of in run.queues else NO_COLUMNS
             for word in show:
                 if word not in offered:

@@ -36,7 +36,7 @@ def explain(line: str, files: Sequence[str] = (), words: Sequence[str] = (), end
     if number is None or _status_of(line) is None:
         return []
     when, advice = status(number)
-    reason = wrong_words(words) if number == 2 and words else _unread(files) if number == 3 else None
+    reason = wrong_words(words) if number == 2 and words else _unread(files, words) if number == 3 else None
     sentences = [f"status {number}: {when}", reason, f"to do: {advice}" if advice else None]
     return [text for text in sentences if text]
 
@@ -113,8 +113,9 @@ def _status_of(line: str) -> Optional[int]:
     return None
 
 
-def _unread(files: Sequence[str]) -> Optional[str]:
-    """Which of the files can't be read, and why, as far as it can be seen."""
+def _unread(files: Sequence[str], words: Sequence[str]) -> Optional[str]:
+    """Which of the files of a command can't be read, and why, as far as it can be seen. A second file may be a report, which may be longer."""
+    longest = MOST_BYTES if words and words[0] in ("load", "routes", "settle") else MOST_REPORT_BYTES
     for name in files:
         if not os.path.exists(name):
             return f"{name}: there is no file of this name"
@@ -122,7 +123,7 @@ def _unread(files: Sequence[str]) -> Optional[str]:
             return f"{name} is a folder"
         if not os.access(name, os.R_OK):
             return f"{name}: no right to read it"
-        most = MOST_REPORT_BYTES if name in files[1:] else MOST_BYTES
+        most = longest if name in files[1:] else MOST_BYTES
         if os.path.isfile(name) and os.path.getsize(name) > most:
             return f"{name} has {os.path.getsize(name)} bytes, and {most} are allowed"
     return None

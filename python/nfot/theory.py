@@ -7,7 +7,7 @@ from typing import Dict, Iterator, List, Mapping, Optional, Tuple
 
 from .drafts import Link
 from .faults import OutOfRange
-from .given import Net, Run, as_pair
+from .given import Net, Run, as_network, as_pair
 from .near import near
 from .networks import Network
 from .numbers import Number, Time, exact, short, time_of
@@ -72,13 +72,13 @@ def _all(names: List[str], given: Mapping[str, Number], what: str) -> Dict[str, 
     return {name: exact(given.get(name, 0)) for name in names}
 
 
-def broken(net: Network, phase: Phase) -> Optional[Broken]:
+def broken(net: Net, phase: Phase) -> Optional[Broken]:
     """The first condition of a thin flow with resetting that flows and slopes break for their sets and rate; None where all hold.
 
     The flows go from source to sink at the supply's rate, on active links alone. The slope of the source is 1. The slope of each other
     node is the least exit slope of the active links into it, and that of each of them with flow. Nothing is negative.
     """
-    return next(all_broken(net, phase), None)
+    return next(all_broken(as_network(net), phase), None)
 
 
 def all_broken(net: Network, phase: Phase) -> Iterator[Broken]:

@@ -196,6 +196,10 @@ class Given(Results):
         for call in (nfot.phases, nfot.gap, nfot.same, nfot.unsaid, nfot.mismatch, lambda *given: nfot.compare(*given, *given), lambda *given: nfot.thin(*given, 3),
                      lambda *given: nfot.candidate(*given, 3, {}, {}), lambda one, two: nfot.report_of_flows(one, {"bridge": [(0, 1)]}, 1)):
             self.assertEqual(repr(call(net, report)), repr(call(value, run)))
+        phase = nfot.candidate(value, run, 3, {"bridge": 4}, {"home": 1, "work": 1})
+        for reader in (lambda given: nfot.read_loads(EXAMPLES / "tolled.loads", given), lambda given: nfot.loads_of_vehicles(given, {"bridge": [0, 1]}),
+                       lambda given: nfot.broken(given, phase)):
+            self.assertEqual(reader(net), reader(value))
         for given in (lambda: nfot.queues_of(report), lambda: nfot.table(report), lambda: nfot.supply_of("x.routes", 1), lambda: nfot.report_of_flows(net, "x.loads", 1)):
             with self.assertRaisesRegex(nfot.Refused, "read it by read_report|read the file by read_"):
                 given()
@@ -210,6 +214,9 @@ class Given(Results):
     def test_a_file_that_is_too_long(self) -> None:
         self.write("long.net", "#" * 1048577)
         self.assertIn("long.net has 1048577 bytes, and 1048576 are allowed", self.run_tool("why", "--", "nfot", "show", "long.net")[2])
+        self.write("long.loads", "#" * 1048577)
+        told_why = self.run_tool("why", "--", "nfot", "load", EXAMPLES / "bridge.net", "long.loads", "--horizon", 1)[2]
+        self.assertIn("long.loads has 1048577 bytes, and 1048576 are allowed", told_why)
 
     def test_slopes_that_are_missing(self) -> None:
         self.write("x.flows", "flows 1\nflow bridge 4\nslope home 1\nend\n")
