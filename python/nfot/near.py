@@ -19,6 +19,7 @@ def near(name: str, names: Iterable[str]) -> str:
     found = known.get(name.lower(), [])
     if not found and not name.isdigit():
         found = [each for low in get_close_matches(name.lower(), known, MOST, 0.6) for each in known[low]]
+    found = list(dict.fromkeys(found))
     if not found:
         return ""
     return f" (the nearest name{' is' if len(found) == 1 else 's are'} {', '.join(found[:MOST])})"

@@ -45,6 +45,8 @@ def begun(network: Network, time: Fraction) -> Network:
     if not network.supplied(time):
         raise Refused(f"nobody leaves before {short(time)}, so nothing would change", status=1)
     rate = [rate for start, rate in network.supply if start <= time][-1]
+    if not rate and all(start <= time or not later for start, later in network.supply):
+        raise Refused(f"nobody leaves after {short(time)}, so no supply would be left", status=1)
     return network.with_supply([(time, rate), *(piece for piece in network.supply if piece[0] > time)])
 
 
