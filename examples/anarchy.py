@@ -1,6 +1,8 @@
 #!/usr/bin/env python3
 """anarchy.py [--nested] N ..: what selfish choice costs in a family of networks, as the rows of a LaTeX table with exact fractions.
 
+A word may be a range: 1..8 is each N from 1 to 8.
+
 Without --nested: N + 1 parallel roads of 0 to N minutes. Each lets 1 a minute through, and N + 1 a minute leave for N minutes.
 With --nested (N at least 2): a street of short links that let N - 1, N - 2, .. and M a minute through. From the tail of the link that lets
 k - 1 through, a road of N - N M/k minutes and capacity 1 leads to the end. N a minute leave for M minutes, and M is the least number for
@@ -33,14 +35,24 @@ def fraction(number):
     return str(number) if number.denominator == 1 else rf"\frac{{{number.numerator}}}{{{number.denominator}}}"
 
 
+def sizes_of(words):
+    """The whole numbers of words as 3 or 1..8, a range; a ValueError for any other word."""
+    for word in words:
+        first, dots, last = word.partition("..")
+        yield from range(int(first), int(last if dots else first) + 1)
+
+
 def main(words):
     family, least = (street, 2) if words[:1] == ["--nested"] else (roads, 1)
-    sizes = words[1:] if family is street else words
-    if not sizes or not all(word.isdigit() and int(word) >= least for word in sizes):
-        print("usage: anarchy.py N .., whole numbers above 0, or anarchy.py --nested N .., whole numbers above 1", file=sys.stderr)
+    try:
+        sizes = list(sizes_of(words[1:] if family is street else words))
+    except ValueError:
+        sizes = []
+    if not sizes or min(sizes) < least:
+        print("usage: anarchy.py N .., whole numbers above 0 or ranges as 1..8, or anarchy.py --nested N .., above 1", file=sys.stderr)
         return 2
     print(r"\begin{tabular}{cccc} $n$ & least time & equilibrium & price of anarchy \\ \hline")
-    for n in map(int, sizes):
+    for n in sizes:
         net = family(n)
         answer = nfot.quick(net, net.supplied(n))
         times = [answer.time, answer.equilibrium, answer.equilibrium / answer.time]

@@ -23,13 +23,15 @@ def trips(net, k):
 
 def main(words):
     if not words or not all(word.isdigit() and int(word) for word in words):
-        sys.exit("usage: packets.py K .., whole numbers above 0")
+        print("usage: packets.py K .., whole numbers above 0", file=sys.stderr)
+        return 2
     net = nfot.read_network(pathlib.Path(__file__).with_name("two.net"))
     for k in map(int, words):
         routes = nfot.routes_of_vehicles(trips(net, k), size=Fraction(1, k), spread=1 / (3 * Fraction(k)))
         gap = nfot.gap(net, nfot.report_of_routes(net, routes, MINUTES))
         print(f"{k:3}  {float(gap.gap / net.supplied(MINUTES)):.4f}  {float(gap.worst.time):.4f}")
+    return 0
 
 
 if __name__ == "__main__":
-    main(sys.argv[1:])
+    sys.exit(main(sys.argv[1:]))

@@ -3,8 +3,7 @@
 
 At the start of each step drivers look at the queues, and all who leave within the step take the road that is quicker then (half
 take each where both are equal). A report asks for exact fractions, for curves by their corners, also those between two steps, and for
-labels that are the least exit at every departure. The package writes its lines.
-Statuses: 0 printed; 2 wrong arguments."""
+labels that are the least exit at every departure. The package writes its lines. Statuses: 0 printed; 2 wrong arguments."""
 import pathlib
 import sys
 from fractions import Fraction
@@ -60,12 +59,14 @@ def main(words):
     try:
         step, horizon = map(Fraction, words)
     except (ValueError, ZeroDivisionError):
-        sys.exit("usage: simulate.py STEP HORIZON, two numbers as 3/4")
-    if step <= 0 or horizon <= 0:
-        sys.exit("simulate: STEP and HORIZON are above 0")
+        step = horizon = 0
+    if min(step, horizon) <= 0:
+        print("usage: simulate.py STEP HORIZON, two numbers above 0, as 3/4", file=sys.stderr)
+        return 2
     net = nfot.read_network(pathlib.Path(__file__).with_name("two.net"))
     nfot.write_report(report_of(net, simulate(net, step, horizon), horizon), "-")
+    return 0
 
 
 if __name__ == "__main__":
-    main(sys.argv[1:])
+    sys.exit(main(sys.argv[1:]))

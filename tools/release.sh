@@ -1,5 +1,5 @@
 #!/usr/bin/env bash
-# Makes the archive of a release from a built tree: the program, the wheel of the Python package, examples, pages and checksums.
+# Makes the archive of a release from a built tree: the program, the wheel of the Python package, examples, pages, the files that pages link, checksums.
 set -euo pipefail
 
 usage() {
@@ -8,7 +8,8 @@ usage: tools/release.sh FOLDER
 
 Writes FOLDER/nfot-VERSION-linux-x86_64.tar.gz from this tree, as it is committed. Build it first (`bash .ci/run`).
 The archive holds bin/nfot, the wheel, examples, docs, README.md, CHANGELOG.md, CONTRIBUTING.md, CITATION.cff, BUILD (commit, version, kit)
-and SHA256SUMS. The same commit and program give the same bytes. The unpacked program is tried on examples/one.net.
+and SHA256SUMS. Of crates and bench it holds only the files that pages link, such as the definitions that docs/CLAIMS.md cites.
+The same commit and program give the same bytes. The unpacked program is tried on examples/one.net.
 
 Statuses: 0 written and tried; 1 something is missing, differs or fails; 2 wrong arguments.
 TEXT
@@ -44,6 +45,13 @@ mkdir -p "$work/tree" "$work/$name/bin"
 git archive HEAD | tar xf - -C "$work/tree"
 (cd "$work/tree" && python3 -m pip wheel --quiet --no-deps --no-build-isolation --no-cache-dir --wheel-dir "$work/$name" .) || refuse "the wheel could not be built"
 cp -r "$work/tree/examples" "$work/tree/docs" "$work/tree/README.md" "$work/tree/CHANGELOG.md" "$work/tree/CONTRIBUTING.md" "$work/tree/CITATION.cff" "$work/$name"
+# The files of crates and bench that the pages link, with their paths, so that these links work in the archive.
+linked=$(cd "$work/$name" && grep -ohE '\]\((\.\./)?(crates|bench)/[^)#]+' README.md CONTRIBUTING.md docs/*.md \
+    | sed -E 's,^\]\((\.\./)?,,' | LC_ALL=C sort -u) || refuse "the pages link no definition"
+while read -r file; do
+    [ -f "$work/tree/$file" ] || refuse "$file: a page links it, and it is not in the commit"
+    (cd "$work/tree" && cp --parents "$file" "$work/$name")
+done <<<"$linked"
 cp "$program" "$work/$name/bin/nfot"
 chmod 755 "$work/$name/bin/nfot"
 cat >"$work/$name/BUILD" <<TEXT

@@ -4,11 +4,12 @@ from __future__ import annotations
 import os
 import re
 from dataclasses import dataclass
+from fractions import Fraction
 from typing import Collection, List, Mapping, NoReturn, Optional, Sequence
 
 from .faults import Fault, NotFound, Refused, Stopped
 from .lines import PathLike, shown_name
-from .numbers import short
+from .numbers import decimal, short
 from .program import Done, in_files, run
 from .report_values import Report
 from .meanings import sentence
@@ -16,6 +17,7 @@ from .meanings import sentence
 _BROKEN = re.compile(r"nfot: (\w+) line (\d+): (\w+)")
 _STOPPED = re.compile(r"nfot: stopped: (.*)")
 
+LONGEST_SHOWN = 20  # letters of an exact number in a message
 CAUSES = {"phases": 5, "patterns": 6, "passed": 7, "nopattern": 8}
 TO_DO = {5: "allow more phases, or resume", 6: "allow more patterns, or let transit times differ a little",
          7: "round capacities and rates to multiples of one unit", 11: "allow more augments, or ask for a smaller amount",
@@ -80,9 +82,14 @@ def _unread(names: Sequence[str], done: Done) -> Fault:
     return Refused("it has too many bytes" if "too long" in done.err else "it can't be read", status=3, file=names[0])
 
 
+def near_time(time: Fraction) -> str:
+    """A departure for a message: exact, or a decimal where that is long."""
+    return short(time) if len(str(time)) <= LONGEST_SHOWN else f"{decimal(time)} (rounded)"
+
+
 def stop_of(cause: str, report: Optional[Report], status: Optional[int] = None) -> Stopped:
     """The fault of a run that ended early, by its cause."""
     ended = CAUSES.get(cause.split(" ")[0], 1) if status is None else status
-    reached = f" at departure {short(report.reached)}" if report else ""
+    reached = f" at departure {near_time(report.reached)}" if report else ""
     reached += f" of {short(report.horizon)}" if report and report.horizon > report.reached else ""
     return Stopped(f"the run stopped{reached} (cause {cause}): {TO_DO.get(ended, 'see the cause')}", status=ended, cause=cause, report=report)

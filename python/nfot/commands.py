@@ -11,24 +11,18 @@ from typing import Iterable, List, Mapping, Optional, Sequence, Tuple, Union
 from .answers import Carried, Forever, Generated, Lines, Loaded, Quickest, Settled, Verdict, lines_of
 from .calling import Answer, ask, stop_of, words_of_budgets
 from .faults import Fault, Refused, Stopped, Unbounded
+from .given import Net, Run, as_network
 from .graph import path_of
 from .hints import go_on_past
 from .lines import PathLike
 from .drafts import fitting
-from .networks import Network, read_network
+from .networks import Network
 from .numbers import Number
 from .report_file import read_report, report_of
 from .report_values import Report, belonging
 from .meanings import meaning
 
-Net = Union[Network, PathLike]
-Run = Union[Report, PathLike]
 Pieces = Iterable[Tuple[Number, Number]]
-
-
-def _network(net: Net) -> Network:
-    """The network, read where it is the name of a file."""
-    return net if isinstance(net, Network) else read_network(net)
 
 
 def _report(net: Network, report: Run) -> Report:
@@ -44,7 +38,7 @@ def solve(net: Net, horizon: Number, *, phases: Optional[int] = None, patterns: 
     a phase are used up, the run goes on from a pattern that the package finds, unless `go_on` is false. Raises Stopped, with the
     report, where the horizon isn't reached.
     """
-    network = _network(net)
+    network = as_network(net)
     words = ["--horizon", str(_horizon(horizon)), *words_of_budgets(phases=phases, patterns=patterns)]
     answer = ask("solve", words, {"network": network.text()}, timeout=timeout, statuses=(0, 5, 6, 7))
     return _reached(network, answer, words, timeout, go_on)
@@ -56,7 +50,7 @@ def resume(net: Net, report: Run, horizon: Number, *, phases: Optional[int] = No
 
     Refused with status 10 where the report is no equilibrium, and with 16 where it has reached a departure after the horizon.
     """
-    network = _network(net)
+    network = as_network(net)
     words = ["--horizon", str(_horizon(horizon)), *words_of_budgets(phases=phases, patterns=patterns)]
     files = {"network": network.text(), "report": _report(network, report).text()}
     answer = ask("resume", words, files, timeout=timeout, statuses=(0, 5, 6, 7, 10))
@@ -88,7 +82,7 @@ def check(net: Net, report: Run, *, timeout: Optional[float] = None) -> Verdict:
 
     Stopped where an operation passes (status 7). Refused where the report breaks a rule.
     """
-    network = _network(net)
+    network = as_network(net)
     files = {"network": network.text(), "report": _report(network, report).text()}
     return _verdict(ask("check", [], files, timeout=timeout, statuses=(0, 10)).out)
 
@@ -113,7 +107,7 @@ def _lines(kind: str, pieces: Mapping[str, Pieces]) -> List[str]:
 
 def _loading(command: str, net: Net, horizon: Number, given: Union[PathLike, List[str]], timeout: Optional[float]) -> Lines:
     """The lines of the answer of `load` or `routes`, given the name of their file or its lines."""
-    texts, kind = {"network": _network(net).text()}, {"load": "loads"}.get(command, command)
+    texts, kind = {"network": as_network(net).text()}, {"load": "loads"}.get(command, command)
     named = {} if isinstance(given, list) else {kind: given}
     texts.update({kind: "\n".join(given)} if isinstance(given, list) else {})
     return lines_of(ask(command, ["--horizon", str(_horizon(horizon))], texts, named, timeout=timeout).out)
@@ -147,7 +141,7 @@ def routes(net: Net, routes: Union[PathLike, Mapping[str, Tuple[Sequence[str], P
 
 def show(net: Net) -> str:
     """The canonical text of a network, as `nfot show` writes it."""
-    return ask("show", [], {"network": _network(net).text()}).out
+    return ask("show", [], {"network": as_network(net).text()}).out
 
 
 def quick(net: Net, amount: Number, *, augments: Optional[int] = None, timeout: Optional[float] = None) -> Quickest:
@@ -156,7 +150,7 @@ def quick(net: Net, amount: Number, *, augments: Optional[int] = None, timeout: 
     Unbounded, with a walk of links without capacity, where any amount arrives in no time. Stopped (status 11) where `augments` is
     used up, or 7.
     """
-    network = _network(net)
+    network = as_network(net)
     words = ["--amount", str(fitting(amount, "amount")), *words_of_budgets(augments=augments)]
     answer = ask("quick", words, {"network": network.text()}, timeout=timeout, statuses=(0, 14))
     if answer.status == 14:
@@ -180,7 +174,7 @@ def forever(net: Net, *, phases: Optional[int] = None, patterns: Optional[int] =
 
     Stopped, with the report up to the departure reached, where a budget is used up (status 12 or 6) or an operation passes (7).
     """
-    network = _network(net)
+    network = as_network(net)
     words = ["--forever", *words_of_budgets(phases=phases, patterns=patterns)]
     answer = ask("solve", words, {"network": network.text()}, timeout=timeout, statuses=(0, 6, 7, 12))
     found = lines_of(answer.out)
@@ -201,7 +195,7 @@ def settle(net: Net, flows: Union[PathLike, Mapping[str, Number]], slopes: Mappi
     `flows` has the flow of each link that carries some and `slopes` the slope of each node, or `flows` is the name of a flows file.
     Refused by S1 to S11, and with status 15 where they are no thin flow.
     """
-    texts, named = {"network": _network(net).text()}, {}
+    texts, named = {"network": as_network(net).text()}, {}
     if isinstance(flows, Mapping):
         lines = [f"flow {link} {fitting(flow, 'flow')}" for link, flow in flows.items()]
         lines += [f"slope {node} {fitting(slope, 'slope')}" for node, slope in slopes.items()]

@@ -7,6 +7,7 @@ from typing import Iterator, NamedTuple, Optional, Sequence
 
 from .curves import Curve
 from .faults import Refused
+from .given import Net, Run, as_pair
 from .networks import Network
 from .reports import Report, mismatch
 
@@ -132,11 +133,22 @@ def group(pieces: Sequence[Piece]) -> Group:
     return Group(vehicles, together / vehicles, most, -departure, tuple(joined))
 
 
-def compare(net: Network, run: Report, other_net: Network, other_run: Report) -> Comparison:
+def alike(net: Network, run: Report, other_net: Network, other_run: Report) -> Optional[str]:
+    """The sentence that says that two cases are the same, up to the departure that both reach; None where some label differs."""
+    until = min(run.reached, other_run.reached)
+    if list(run.labels) != list(other_run.labels) or any(run.label(node).cut(until) != other_run.label(node).cut(until) for node in run.labels):
+        return None
+    if net == other_net:
+        return "both networks are the same, so look whether a change was made"
+    return "the networks differ, and no travel time does"
+
+
+def compare(net: Net, run: Run, other_net: Net, other_run: Run) -> Comparison:
     """Compares two cases: who gains, who loses, how much, when, up to the departure that both reports reach.
 
     Where the supplies differ, `same_supply` is false, and `lose` and `gain` count the vehicles that leave at the same time in both cases
     (at each time the lesser rate). Raises a Fault with status 1 where a report isn't one of its network."""
+    (net, run), (other_net, other_run) = as_pair(net, run), as_pair(other_net, other_run)
     for network, report, what in ((net, run, "first"), (other_net, other_run, "second")):
         if why := mismatch(network, report):
             raise Refused(f"the {what} report is none of its network: {why}", status=1)

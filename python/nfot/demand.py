@@ -63,7 +63,8 @@ def read_demand(path: str, each: Fraction, begin: Optional[Fraction] = None, sta
         if starts is not None:
             at, begin = start_of(row, starts, begin, pieces[-1][0] if pieces else None)
             if due is not None and at != due:
-                raise row.fault(starts, f"{row.text(starts)} is {short(at - pieces[-1][0])} minutes after the row before, and an interval has {short(each)}")
+                raise row.fault(starts, f"{row.text(starts)} is {short(at - pieces[-1][0])} minutes after the row before, and an interval has {short(each)}: "
+                                f"write a row for each interval, with the count 0 where nobody leaves")
         pieces.append((at, row.number(counts) / each))
     pieces.append((pieces[-1][0] + each, Fraction(0)))
     return Demand(merged(pieces), begin)
@@ -72,9 +73,9 @@ def read_demand(path: str, each: Fraction, begin: Optional[Fraction] = None, sta
 def columns_of(sheet: Sheet, start: Optional[str], count: Optional[str]) -> tuple[str, Optional[str]]:
     """The column of counts, and that of starts if there is one."""
     if not count and not sheet.has(*COUNTS) and len(sheet.columns) <= 2:
-        return sheet.columns[-1], sheet.column(start or sheet.columns[0]) if len(sheet.columns) == 2 else None
-    counts = sheet.column(count, *COUNTS)
-    return counts, sheet.column(start, *STARTS) if start or sheet.has(*STARTS) else None
+        return sheet.columns[-1], sheet.column(start or sheet.columns[0], option="--start") if len(sheet.columns) == 2 else None
+    counts = sheet.column(count, *COUNTS, option="--count")
+    return counts, sheet.column(start, *STARTS, option="--start") if start or sheet.has(*STARTS) else None
 
 
 def start_of(row: Row, column: str, begin: Optional[Fraction], before: Optional[Fraction]) -> tuple[Fraction, Optional[Fraction]]:
@@ -89,6 +90,8 @@ def start_of(row: Row, column: str, begin: Optional[Fraction], before: Optional[
     if ":" not in word:
         minute = time
     elif begin is None:
+        if time >= DAY:
+            raise row.fault(column, f"{word} is no time of day: a day begins at 0:00 and ends before 24:00")
         minute, begin = Fraction(0), time
     else:
         minute = time - begin

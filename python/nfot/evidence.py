@@ -7,19 +7,19 @@ from typing import Iterator, List, Optional
 
 from .commands import check
 from .drafts import Link
+from .given import Net, Run, as_form, as_network, as_pair
 from .matching import mismatches
-from .networks import Network
 from .numbers import short
 from .phases import Course
-from .reports import Report
 
 
-def same(net: Network, report: Report) -> List[str]:
+def same(net: Net, report: Run) -> List[str]:
     """What speaks against the report being one that `nfot` wrote of the network, a sentence each; an empty list where nothing does.
 
     Where names and simple sums fit, `check` looks at the whole report. An empty list proves that the flow is an equilibrium of this
     network, and not that it was computed for it: other networks have the same one. `unsaid` lists which.
     """
+    net, report = as_network(net), as_form(report)
     found = list(mismatches(net, report))
     if report.version != net.version:
         found.insert(0, f"it is a report of version {report.version}, and the network is of version {net.version}")
@@ -47,12 +47,13 @@ class Open:
         return f"{subject}: any{'' if self.least is None else f' of at least {self.least}'} ({self.why})"
 
 
-def unsaid(net: Network, report: Report) -> List[Open]:
+def unsaid(net: Net, report: Run) -> List[Open]:
     """What might be otherwise in the network, and the same report would be an equilibrium of it.
 
     A link that never has a queue may have a greater capacity, a link that is never on a quickest route a greater transit time. What
     is supplied after the last departure is not in the report, nor are links whose tail isn't reached.
     """
+    net, report = as_pair(net, report)
     course = Course(net, report)
     found = [Open("supply", net.source, None, f"after departure {short(report.reached)}")]
     for link in net.used_links():

@@ -9,6 +9,7 @@ from typing import Dict, Iterable, List, Mapping, NamedTuple, Optional, Sequence
 from .commands import check
 from .curves import Curve
 from .faults import UNFIT, Fault
+from .given import Net, Run, as_pair
 from .latest import Segment, latest, overlay
 from .loading import FedLink
 from .merging import Row, merged
@@ -54,12 +55,13 @@ def rounded(value: Fraction, digits: int = 2) -> str:
     return decimal(value, digits)
 
 
-def gap(net: Network, report: Report) -> Gap:
+def gap(net: Net, report: Run) -> Gap:
     """How far the flow of a report is from an equilibrium: 0 exactly where `check` says yes.
 
     Raises a Fault with status 1 where `check` says no by another rule than C7, or where others than those who left by the departure
     reached are on their way, or not all of these arrive: then times on the way aren't theirs.
     """
+    net, report = as_pair(net, report)
     given = belonging(report, net)
     verdict = check(net, given)
     if not verdict and verdict.rule != "C7":

@@ -7,6 +7,7 @@ from fractions import Fraction
 from typing import Any, Hashable, Iterable, Iterator, Mapping, Optional, Union
 
 from .faults import Fault, OutOfRange, Refused
+from .given import Net, as_network
 from .networks import Link, Network
 from .numbers import Number, exact, time_of
 from .renaming import Names, joined
@@ -94,7 +95,7 @@ def from_networkx(graph: Any, source: Hashable, sink: Hashable, *, supply: Itera
     return Network(str(source), str(sink), links, supply)
 
 
-def to_networkx(net: Network) -> Any:
+def to_networkx(net: Net) -> Any:
     """The network as a MultiDiGraph of networkx: keys are the names of links, `transit` and `capacity` are Fractions (None: unbounded).
 
     The graph's attributes `source`, `sink` and `supply` hold the rest, so `from_networkx(graph, source, sink, supply=supply)` gives the
@@ -103,6 +104,7 @@ def to_networkx(net: Network) -> Any:
         networkx: Any = importlib.import_module("networkx")
     except ImportError:
         raise Fault("networkx isn't installed: `pip install networkx`") from None
+    net = as_network(net)
     graph = networkx.MultiDiGraph(source=net.source, sink=net.sink, supply=net.supply)
     graph.add_nodes_from([*net.nodes(), *net.idle_nodes()])
     for link in net.links.values():

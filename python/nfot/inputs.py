@@ -5,8 +5,10 @@ from fractions import Fraction
 from typing import Callable, Dict, Iterator, List, Optional, Sequence, Tuple, TypeVar
 
 from .faults import Refused
+from .given import Net, as_network
 from .lines import PathLike, Text, as_bytes, broken, content_words, is_name, read_bytes, shown_name, split_lines
 from .loading import Piece
+from .near import near
 from .networks import Network
 from .numbers import file_number, hint, short
 from .routing import in_order, walk_fault
@@ -67,7 +69,7 @@ def loads_of(text: Text, net: Network) -> Loads:
     loads: Loads = {link.name: [] for link in net.used_links()}
     for line, words in lines_of(as_bytes(text), "loads", "L", ["rate"], "L12"):
         if words[1] not in loads:
-            raise broken("L7", f"the network has no link {words[1][:40]} whose tail is reached", line)
+            raise broken("L7", f"the network has no link {words[1][:40]} whose tail is reached{near(words[1], loads)}", line)
         add_piece(loads[words[1]], words, ("L8", "L9", "L10", "L11"), line)
     return {name: pieces for name, pieces in loads.items() if pieces}
 
@@ -79,7 +81,7 @@ def routes_of(text: Text, net: Network) -> Routes:
         if words[0] == "route":
             add_route(routes, words[1], words[2:], net, line)
         elif words[1] not in routes:
-            raise broken("G8", f"no line above is of a route {words[1][:40]}", line)
+            raise broken("G8", f"no line above is of a route {words[1][:40]}{near(words[1], routes)}", line)
         else:
             add_piece(routes[words[1]][1], words, ("G9", "G13", "G14", "G15"), line)
     in_order([links for links, _ in routes.values()])
@@ -93,7 +95,7 @@ def add_route(routes: Routes, name: str, links: List[str], net: Network, line: i
     if not is_name(name):
         raise broken("G7", f"{name[:40]} is no name of a route", line)
     if unknown:
-        raise broken("G8", f"the network has no link {unknown[0][:40]} whose tail is reached", line)
+        raise broken("G8", f"the network has no link {unknown[0][:40]} whose tail is reached{near(unknown[0], used)}", line)
     if name in routes:
         raise broken("G10", f"there are two routes {name}", line)
     if len(routes) == MOST_ROUTES:
@@ -110,7 +112,7 @@ def flows_of(text: Text, net: Network) -> Tuple[Values, Values]:
     values: Dict[str, Values] = {"flow": {}, "slope": {}}
     for line, (first, name, word) in lines_of(as_bytes(text), "flows", "S", ["flow", "slope"], "S11"):
         if name not in names[first]:
-            raise broken("S7", f"the network has no {'link' if first == 'flow' else 'node'} {name[:40]} that is reached", line)
+            raise broken("S7", f"the network has no {'link' if first == 'flow' else 'node'} {name[:40]} that is reached{near(name, names[first])}", line)
         number = number_of(word, "S8", line)
         if number < 0:
             raise broken("S9", f"the {first} of {name} is negative", line)
@@ -120,30 +122,31 @@ def flows_of(text: Text, net: Network) -> Tuple[Values, Values]:
     return values["flow"], values["slope"]
 
 
-def _read(reader: Callable[[Text, Network], Made], path: PathLike, net: Network, data: Optional[bytes] = None) -> Made:
+def _read(reader: Callable[[Text, Network], Made], path: PathLike, net: Net, data: Optional[bytes] = None) -> Made:
     """What a reader makes of a file, or of its bytes; faults name the file."""
+    network = as_network(net)
     try:
-        return reader(read_bytes(path) if data is None else data, net)
+        return reader(read_bytes(path) if data is None else data, network)
     except Refused as fault:
         raise fault.placed(shown_name(path)) from None
 
 
-def read_loads(path: PathLike, net: Network) -> Loads:
+def read_loads(path: PathLike, net: Net) -> Loads:
     """The pieces (start, rate) by link of a loads file; `-` is standard input."""
     return _read(loads_of, path, net)
 
 
-def read_routes(path: PathLike, net: Network) -> Routes:
+def read_routes(path: PathLike, net: Net) -> Routes:
     """The routes of a routes file; `-` is standard input."""
     return _read(routes_of, path, net)
 
 
-def read_flows(path: PathLike, net: Network) -> Tuple[Values, Values]:
+def read_flows(path: PathLike, net: Net) -> Tuple[Values, Values]:
     """Flows of links and slopes of nodes of a flows file; `-` is standard input."""
     return _read(flows_of, path, net)
 
 
-def read_sent(path: PathLike, net: Network) -> Tuple[Loads, Routes]:
+def read_sent(path: PathLike, net: Net) -> Tuple[Loads, Routes]:
     """The loads of a loads file, or the routes of a routes file, whichever it is; the other one is empty. `-` is standard input."""
     data = read_bytes(path)
     words = [words for line in data.decode("ascii", "replace").splitlines() if (words := content_words(line))]

@@ -6,8 +6,10 @@ from typing import Dict, List, Mapping, Sequence, Tuple
 
 from .curves import Curve
 from .faults import OutOfRange, Refused
+from .given import Net, as_network, as_values
 from .labels import earliest
 from .loading import FedLink, Piece
+from .near import near
 from .networks import Network
 from .numbers import Number, exact, short
 from .reports import Report
@@ -31,13 +33,13 @@ def pieces_of(pieces: Sequence[Tuple[Number, Number]], what: str) -> List[Piece]
 def loaded_links(net: Network, loads: Loads) -> Dict[str, FedLink]:
     """Each link that is reached, with the flow that enters it; a link without pieces carries nothing."""
     used = {link.name: link for link in net.used_links()}
-    unknown = [name for name in loads if name not in used]
+    unknown = [name for name in as_values(loads, "read_loads") if name not in used]
     if unknown:
-        raise OutOfRange(f"the network has no link {unknown[0]} whose tail is reached")
+        raise OutOfRange(f"the network has no link {unknown[0]} whose tail is reached{near(unknown[0], used)}")
     return {name: FedLink(link, pieces_of(loads.get(name, ()), f"link {name}")) for name, link in used.items()}
 
 
-def report_of_flows(net: Network, loads: Loads, reached: Number) -> Report:
+def report_of_flows(net: Net, loads: Loads, reached: Number) -> Report:
     """The report of a flow that is given by what enters each link, as pieces (start, rate) in amounts per unit of time.
 
     Queues and outflows follow from the law of the point queue, and labels are the earliest arrivals for departures from 0 to
@@ -50,19 +52,20 @@ def report_of_flows(net: Network, loads: Loads, reached: Number) -> Report:
     >>> print(report.arrival(4), report.queue("a")(4))
     17/2 7/2
     """
-    return report_of_loaded(net, loaded_links(net, loads), exact(reached))
+    network = as_network(net)
+    return report_of_loaded(network, loaded_links(network, loads), exact(reached))
 
 
-def report_of_routes(net: Network, routes: Routes, horizon: Number) -> Report:
+def report_of_routes(net: Net, routes: Routes, horizon: Number) -> Report:
     """The report of a flow that is given by routes, each a pair of links and pieces (start, rate), sent until `horizon`.
 
     Flow that shares a link waits in one queue, first in, first out. The rest is as in `report_of_flows`. Refused where a route is no
     walk from source to sink, or links of routes follow each other round a cycle.
     """
-    end = exact(horizon)
-    given = {name: (links, pieces_of(pieces, f"route {name}")) for name, (links, pieces) in routes.items()}
-    loaded = loaded_routes(net, given, end)
-    return report_of_loaded(net, {**loaded_links(net, {}), **loaded}, end)
+    network, end = as_network(net), exact(horizon)
+    given = {name: (links, pieces_of(pieces, f"route {name}")) for name, (links, pieces) in as_values(routes, "read_routes").items()}
+    loaded = loaded_routes(network, given, end)
+    return report_of_loaded(network, {**loaded_links(network, {}), **loaded}, end)
 
 
 def supply_of(routes: Routes, horizon: Number) -> List[Piece]:
@@ -71,7 +74,7 @@ def supply_of(routes: Routes, horizon: Number) -> List[Piece]:
     Take it where vehicles don't leave at the rates of the network's own supply.
     """
     end = exact(horizon)
-    return rates_of([Curve.of_rates(pieces_of(pieces, f"route {name}"), end) for name, (_, pieces) in routes.items()])
+    return rates_of([Curve.of_rates(pieces_of(pieces, f"route {name}"), end) for name, (_, pieces) in as_values(routes, "read_routes").items()])
 
 
 def report_of_loaded(net: Network, loaded: Mapping[str, FedLink], reached: Fraction) -> Report:

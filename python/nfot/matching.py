@@ -6,6 +6,7 @@ from typing import Iterator, List, Optional, Tuple
 
 from .faults import UNFIT, Refused
 from .drafts import Link
+from .given import Net, Run, as_form, as_network
 from .graph import least_sums
 from .lines import MOST_REPORT_BYTES, PathLike, read_bytes, shown_name
 from .networks import Network, read_network
@@ -14,9 +15,9 @@ from .report_file import report_of
 from .report_values import Report
 
 
-def mismatch(net: Network, report: Report) -> Optional[str]:
+def mismatch(net: Net, report: Run) -> Optional[str]:
     """What speaks against the report being one of the network, in words; None where nothing does. (`check` looks at all of it.)"""
-    return next(mismatches(net, report), None)
+    return next(mismatches(as_network(net), as_form(report)), None)
 
 
 def mismatches(net: Network, report: Report) -> Iterator[str]:

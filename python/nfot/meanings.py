@@ -5,11 +5,12 @@ import json
 import pathlib
 import re
 from functools import lru_cache
-from typing import Any, Dict, Tuple
+from typing import Any, Dict, List, Tuple
 
 from .faults import OutOfRange
 
 RULE = re.compile(r"[NPLSGC][0-9]+")
+_STATUS = re.compile(r"(?:status )?(\d{1,2})")
 _SAME = re.compile(r"as ([NPLSGC]\d+)(?: and ([NPLSGC]\d+))?")
 
 
@@ -44,3 +45,14 @@ def status(number: int) -> Tuple[str, str]:
     if str(number) not in found["statuses"]:
         raise OutOfRange(f"there is no status {number} of nfot")
     return found["statuses"][str(number)], found["advice"].get(str(number), "")
+
+
+def told_of_word(word: str) -> List[str]:
+    """What a word means that is a rule, as N8, or a status, as `status 7`; nothing for another word."""
+    if RULE.fullmatch(word):
+        return [f"{word}: {meaning(word)}"]
+    number = _STATUS.fullmatch(word)
+    if not number:
+        return []
+    when, advice = status(int(number[1]))
+    return [f"status {number[1]}: {when}"] + [f"to do: {advice}"] * bool(advice)

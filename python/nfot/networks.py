@@ -10,6 +10,7 @@ from .drafts import Draft, Link, Piece, fitting
 from .faults import OutOfRange, Refused
 from .graph import reached_from
 from .lines import PathLike, Text, as_bytes, broken, check_name, content_words, read_bytes, shown_name, split_lines
+from .near import near
 from .numbers import Number, file_number, hint
 from .program import write_beside
 
@@ -119,15 +120,15 @@ class Network:
     def _with(self, links: Iterable[Link], supply: Iterable[Tuple[Number, Number]]) -> "Network":
         return Network(self.source, self.sink, links, supply, self.version)
 
-    def _known(self, name: str) -> Link:
+    def known(self, name: str) -> Link:
         """The link of a name; OutOfRange where there is none."""
         if name not in self.links:
-            raise OutOfRange(f"the network has no link {name}")
+            raise OutOfRange(f"the network has no link {name}{near(name, self.links)}")
         return self.links[name]
 
     def with_capacity(self, name: str, value: Optional[Number]) -> "Network":
         """The network with another capacity of a link (None: unbounded)."""
-        link = self._known(name)
+        link = self.known(name)
         return self.with_link(Link(name, link.tail, link.head, link.transit, value))
 
     def with_link(self, link: Link) -> "Network":
@@ -136,7 +137,7 @@ class Network:
 
     def without(self, *names: str) -> "Network":
         """The network without some links."""
-        gone = {self._known(name).name for name in names}
+        gone = {self.known(name).name for name in names}
         return self._with([link for link in self.links.values() if link.name not in gone], self.supply)
 
     def with_supply(self, pieces: Iterable[Tuple[Number, Number]]) -> "Network":

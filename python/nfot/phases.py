@@ -7,6 +7,7 @@ from typing import Dict, Iterator, List, Mapping, Tuple
 
 from .curves import Curve
 from .faults import UNFIT, Refused
+from .given import Net, Run, as_pair
 from .networks import Network
 from .numbers import short
 from .reports import Report, belonging, mismatch
@@ -103,13 +104,13 @@ def comes_to_zero(slack: Curve) -> Iterator[Fraction]:
             yield start - value / slope
 
 
-def phases(net: Network, run: Report) -> List[Phase]:
+def phases(net: Net, run: Run) -> List[Phase]:
     """The phases of an equilibrium, in order, from departure 0 to the last one of the report.
 
     A phase begins where the supply's rate, the flow into a link or the slope of a label changes, and where a link that wasn't active
     becomes so or a queue runs empty. No phase has the length 0. Refused with status 1 where the report is none of the network, or no
     equilibrium by its labels. `check` says whether it is one; only then each phase is a thin flow with resetting.
     """
-    course = Course(net, run)
+    course = Course(*as_pair(net, run))
     starts = course.starts()
     return [course.phase(start, end) for start, end in zip(starts, starts[1:])]

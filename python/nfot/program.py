@@ -17,7 +17,7 @@ from . import slow
 from .faults import Fault, Killed, NotFound, Timeout
 
 PathLike = Union[str, "os.PathLike[str]"]
-WARNING = "nfot: no proved program found; using the slow one"
+WARNING = "nfot: no proved program found; using the slow one (put nfot on the PATH, or set NFOT)"
 NO_PROGRAM = 127  # the status of shells where there is no program
 
 _warned = False

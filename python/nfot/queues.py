@@ -6,7 +6,7 @@ from fractions import Fraction
 from typing import Optional, Sequence
 
 from .curves import Curve
-from .faults import Refused
+from .given import with_network
 from .reports import Report
 from .sheets import read_sheet
 
@@ -55,10 +55,8 @@ def queues_of(run: Report, stretches: bool = False) -> list[Queue]:
     """The queues of a report, in the order of its links; links that never queue are left out.
 
     With `stretches` each of the times with a queue has a Queue of its own, with one span and the longest wait in it."""
-    if run.network is None:
-        raise Refused("the report has no network: read it by read_report(path, net)")
     found = []
-    for link in run.network.used_links():
+    for link in with_network(run).used_links():
         if link.capacity is None:
             continue
         queue = run.queue(link.name)

@@ -160,10 +160,13 @@ class _Reader:
                       self.states, self.cause, self.net, self.version, never, wrong)
 
 
+WINDOWS = "the line has the ending of Windows (CR LF): write the report with LF alone, as by tr -d '\\r' < REPORT > NEW"
+
+
 def _check_form(words: List[str], line: str, index: int, net: Optional[Network]) -> None:
     """Rules P3 to P6 of a line; `index` counts from 0."""
     if not words or " ".join(words) != line:
-        raise broken("P3", "the line isn't its words with single spaces between them")
+        raise broken("P3", WINDOWS if line.endswith("\r") else "the line isn't its words with single spaces between them")
     if index == 0:
         wanted = [["report", str(version)] for version in ((1, 2) if net is None else (net.version,))]
         if words not in wanted:
@@ -200,6 +203,8 @@ def report_of(text: Text, name: str = "report", net: Optional[Network] = None) -
         number = 0
         return reader.report()
     except Refused as fault:
+        if fault.rule in ("P3", "P6", "P8", "P12") and lines[-1].strip() != "end":
+            fault.why += ": is the report cut? Its last line isn't `end`"
         raise fault.placed(name, number) from None
 
 

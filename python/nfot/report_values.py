@@ -3,7 +3,7 @@ from __future__ import annotations
 
 from fractions import Fraction
 from types import MappingProxyType
-from typing import Any, Dict, Iterable, Iterator, List, Mapping, Optional, Sequence, Tuple, Union, Set
+from typing import Any, Dict, Iterable, Iterator, Mapping, Optional, Sequence, Tuple, Union, Set
 
 from .causes import check_cause
 from .curves import Curve
@@ -11,6 +11,7 @@ from .faults import OutOfRange, Refused
 from .drafts import Link, fitting
 from .lines import check_name
 from .merging import slopes_of
+from .near import near
 from .networks import Network
 from .numbers import Number, Time, short, time_of, within
 
@@ -194,16 +195,16 @@ class Report:
 def _of(curves: Mapping[str, Curve], name: str, what: str) -> Curve:
     """The curve of a name; OutOfRange where there is none."""
     if name not in curves:
-        raise OutOfRange(f"the report has no {what} {name}")
+        raise OutOfRange(f"the report has no {what} {name}{near(name, curves)}")
     return curves[name]
 
 
 def _check_names(owner: str, nodes: Set[str], used: Set[str], labels: Mapping[str, Points], *links: Mapping[str, object]) -> None:
     """Refuses names of nodes and links that aren't among the owner's, and those that the format refuses."""
-    unknown = [f"node {name}" for name in labels if name not in nodes]
-    unknown += [f"link {name}" for given in links for name in given if name not in used]
-    if unknown:
-        raise OutOfRange(f"{owner} has no {unknown[0]}{' that is reached' if owner == 'the network' else ' with an inflow'}")
+    unknown = [("node", name, nodes) for name in labels if name not in nodes]
+    unknown += [("link", name, used) for given in links for name in given if name not in used]
+    for what, name, known in unknown:
+        raise OutOfRange(f"{owner} has no {what} {name}{' that is reached' if owner == 'the network' else ' with an inflow'}{near(name, known)}")
     for name in [*nodes, *used]:
         check_name(name, "node or link")
 

@@ -46,11 +46,12 @@ class Road:
 
 @dataclass(frozen=True)
 class Roads:
-    """The roads of a table, the closed ones apart."""
+    """The roads of a table, the closed ones apart, and the columns that were asked for."""
     file: str
     encoding: str
     open: Sequence[Road]
     closed: Sequence[Road]
+    columns: Columns = Columns()
 
     def places(self) -> set[str]:
         """The names at both ends of all roads, closed ones too."""
@@ -65,10 +66,10 @@ def length_of(sheet: Sheet, columns: Columns) -> Optional[Measure]:
     if columns.length_m and columns.length_km:
         raise Refused("the length is in kilometres or in metres, not in both columns", file=sheet.file)
     if columns.length_m:
-        metres = sheet.column(columns.length_m)
+        metres = sheet.column(columns.length_m, option="--length-m")
         return lambda row: row.number(metres) / 1000
     if columns.length_km or sheet.has("length_km"):
-        kilometres = sheet.column(columns.length_km, "length_km")
+        kilometres = sheet.column(columns.length_km, "length_km", option="--length-km")
         return lambda row: row.number(kilometres)
     return None
 
@@ -80,7 +81,7 @@ def minutes_of(sheet: Sheet, columns: Columns, length: Optional[Measure]) -> Mea
     if columns.speed_kmh or not (columns.minutes or sheet.has("minutes", "time")) and sheet.has("speed_kmh"):
         if length is None:
             raise Refused("a speed needs a length: name its column by --length-km or --length-m", file=sheet.file, line=1)
-        speed = sheet.column(columns.speed_kmh, "speed_kmh")
+        speed = sheet.column(columns.speed_kmh, "speed_kmh", option="--speed-kmh")
         measured = length
 
         def driven(row: Row) -> Fraction:
@@ -88,7 +89,7 @@ def minutes_of(sheet: Sheet, columns: Columns, length: Optional[Measure]) -> Mea
                 raise row.fault(speed, "0 is no speed")
             return (measured(row) or Fraction(0)) * 60 / row.number(speed)
         return driven
-    minutes = sheet.column(columns.minutes, "minutes", "time")
+    minutes = sheet.column(columns.minutes, "minutes", "time", option="--minutes")
     return lambda row: row.number(minutes)
 
 
@@ -99,9 +100,9 @@ def capacity_of(sheet: Sheet, columns: Columns, hourly: bool) -> Measure:
     if columns.lane_capacity is not None:
         if columns.capacity:
             raise Refused("the capacity is given by its column or by lanes, not by both", file=sheet.file)
-        lanes, each = sheet.column(columns.lanes, "lanes"), columns.lane_capacity
+        lanes, each = sheet.column(columns.lanes, "lanes", option="--lanes"), columns.lane_capacity
         return lambda row: row.number(lanes) * each / 60
-    capacity = sheet.column(columns.capacity, "capacity")
+    capacity = sheet.column(columns.capacity, "capacity", option="--capacity")
 
     def limit(row: Row) -> Optional[Fraction]:
         if row.text(capacity).lower() in ("", "inf"):
@@ -114,9 +115,9 @@ def read_roads(path: str, columns: Columns = Columns(), *, two_way: bool = False
     """The roads of a table (CSV; `-` is standard input). With `two_way` a row is a road with both directions; with `hourly` the column
     of capacities counts vehicles an hour. A capacity of 0 closes a road. Raises a Fault with file, row and column."""
     sheet = read_sheet(path)
-    tail, head = sheet.column(columns.tail, "from"), sheet.column(columns.head, "to")
-    name = sheet.column(columns.name, "name") if columns.name or sheet.has("name") else None
-    lanes = sheet.column(columns.lanes, "lanes") if columns.lanes or sheet.has("lanes") else None
+    tail, head = sheet.column(columns.tail, "from", option="--from"), sheet.column(columns.head, "to", option="--to")
+    name = sheet.column(columns.name, "name", option="--name") if columns.name or sheet.has("name") else None
+    lanes = sheet.column(columns.lanes, "lanes", option="--lanes") if columns.lanes or sheet.has("lanes") else None
     length = length_of(sheet, columns)
     minutes, capacity = minutes_of(sheet, columns, length), capacity_of(sheet, columns, hourly)
     found: list[Road] = []
@@ -127,7 +128,7 @@ def read_roads(path: str, columns: Columns = Columns(), *, two_way: bool = False
         road = Road(row.line, (name and row.text(name)) or None, row.text(tail), row.text(head), minutes(row) or Fraction(0), capacity(row),
                     length(row) if length else None, row.number(lanes) if lanes and row.text(lanes) else None)
         found += [road, reverse(road)] if two_way else [road]
-    return Roads(sheet.file, sheet.encoding, [road for road in found if road.capacity != 0], [road for road in found if road.capacity == 0])
+    return Roads(sheet.file, sheet.encoding, [road for road in found if road.capacity != 0], [road for road in found if road.capacity == 0], columns)
 
 
 def reverse(road: Road) -> Road:

@@ -2,6 +2,7 @@
 from __future__ import annotations
 
 from fractions import Fraction
+from math import gcd, lcm
 from typing import Iterable, Optional, Sequence
 
 from .faults import Refused
@@ -79,7 +80,32 @@ def round_number(most: Fraction, digits: Sequence[int] = (1, 2, 5)) -> Fraction:
     return max(power * digit for digit in digits if power * digit <= most)
 
 
-def unit_for(amounts: Iterable[Fraction], share: Fraction, greatest: Optional[Fraction] = None, digits: Sequence[int] = (1, 2, 5)) -> Fraction:
-    """The round number, of these digits, that is at most this share of the smallest amount above 0, and at most `greatest`."""
-    most = min((amount * share for amount in amounts if amount > 0), default=Fraction(1))
-    return round_number(most if greatest is None else min(most, greatest), digits)
+def unit_for(amounts: Iterable[Fraction], share: Fraction, greatest: Optional[Fraction] = None, digits: Sequence[int] = (1, 2, 5),
+             finer: int = 10) -> Fraction:
+    """The round number, of these digits, that is at most this share of the smallest amount above 0, and at most `greatest`.
+
+    Where it would change an amount, and all are multiples of another round number, at most so many times finer: that one.
+
+    >>> unit_for(map(Fraction, (60, 25, 20)), Fraction(1, 10)), unit_for(map(Fraction, (61, 25, 20)), Fraction(1, 10))
+    (Fraction(5, 1), Fraction(1, 1))
+    >>> unit_for([Fraction(20), Fraction(207, 10000)], Fraction(1, 10))
+    Fraction(1, 500)
+    """
+    given = [amount for amount in amounts if amount > 0]
+    most = min((amount * share for amount in given), default=Fraction(1))
+    unit = round_number(most if greatest is None else min(most, greatest), digits)
+    return unit if divides(unit, given) else unit_of_all(given, unit / finer, digits) or unit
+
+
+def divides(unit: Fraction, amounts: Iterable[Fraction]) -> bool:
+    """Whether all amounts are multiples of the unit."""
+    return all((amount / unit).denominator == 1 for amount in amounts)
+
+
+def unit_of_all(amounts: Sequence[Fraction], least: Fraction, digits: Sequence[int]) -> Optional[Fraction]:
+    """The greatest round number, of these digits, of which all amounts (above 0) are multiples; None where it is below `least`."""
+    common = Fraction(gcd(*(amount.numerator for amount in amounts)), lcm(*(amount.denominator for amount in amounts)))
+    unit = round_number(common, digits)
+    while unit >= least and not divides(unit, [common]):
+        unit = round_number(unit * Fraction(9, 10), digits)
+    return unit if unit >= least else None

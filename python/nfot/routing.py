@@ -9,6 +9,7 @@ from .curves import Curve
 from .faults import BROKEN, OutOfRange, Refused
 from .loading import FedLink, Piece, pieces_of_changes
 from .merging import Point, merged, tidied
+from .near import near
 from .networks import Network
 
 Route = Tuple[Sequence[str], Sequence[Piece]]  # links, pieces (start, rate)
@@ -33,7 +34,7 @@ def check_route(net: Network, name: str, links: Sequence[str]) -> None:
     """Refuses what is no walk from source to sink."""
     unknown = [link for link in links if link not in net.links]
     if unknown:
-        raise OutOfRange(f"route {name}: the network has no link {unknown[0]}")
+        raise OutOfRange(f"route {name}: the network has no link {unknown[0]}{near(unknown[0], net.links)}")
     why = walk_fault(net, links)
     if why:
         raise Refused(f"route {name} {why}", status=BROKEN, rule="G12")

@@ -5,10 +5,12 @@ import csv
 import importlib
 import io
 from fractions import Fraction
-from typing import Any, Callable, Dict, Iterable, Iterator, Optional, Sequence, Union, overload
+from typing import Any, Callable, Collection, Dict, Iterable, Iterator, Optional, Sequence, Union, overload
 
 from .curves import Curve
 from .faults import Fault, OutOfRange, Refused
+from .given import with_network
+from .near import near
 from .numbers import Time, clock as clock_of, decimal, parse, short, time_of
 from .program import write_beside
 from .reports import Report
@@ -16,6 +18,11 @@ from .reports import Report
 Cell = Union[str, Fraction, None]  # None: nothing is known
 RowDict = Dict[str, Cell]
 MOST_ROWS = 1_000_000
+
+
+def count_columns(columns: Sequence[str]) -> set[str]:
+    """The columns that count vehicles."""
+    return {name for name in columns if name.split(" ")[-1] in ("vehicles", "holds", "amount", "queue", "in", "out")}
 
 
 def cell_text(cell: Cell, digits: int, exact: bool) -> str:
@@ -50,18 +57,22 @@ class Rows(Sequence[RowDict]):
     def __repr__(self) -> str:
         return f"Rows({len(self)} rows: {', '.join(self.columns)})"
 
-    def csv_text(self, exact: bool = False) -> str:
-        """The table as CSV: decimals with at most six digits behind the point, or with `exact` the fractions themselves."""
+    def csv_text(self, exact: bool = False, semicolon: bool = False, counts: Collection[str] = ()) -> str:
+        """The table as CSV: decimals with at most six digits behind the point, or with `exact` the fractions themselves.
+
+        With `semicolon` fields are parted by `;`, and decimals have a comma, as spreadsheets in German want it. Columns of `counts` have at
+        most two digits from 10 on."""
         text = io.StringIO()
-        lines = csv.writer(text, lineterminator="\n")
+        lines = csv.writer(text, lineterminator="\n", delimiter=";" if semicolon else ",")
         lines.writerow(self.columns)
         for row in self._rows:
-            lines.writerow([cell if isinstance(cell, str) else bare(cell_text(cell, 6, exact)) for cell in row.values()])
+            words = [cell if isinstance(cell, str) else bare(cell_text(cell, 2 if name in counts and cell and cell >= 10 else 6, exact)) for name, cell in row.items()]
+            lines.writerow([word.replace(".", ",") if semicolon and not isinstance(cell, str) else word for word, cell in zip(words, row.values())])
         return text.getvalue()
 
-    def csv(self, path: str, exact: bool = False) -> None:
+    def csv(self, path: str, exact: bool = False, semicolon: bool = False, counts: Collection[str] = ()) -> None:
         """Writes the table as CSV; `-` is standard output. Raises a Fault where the file can't be written."""
-        write_beside(path, self.csv_text(exact))
+        write_beside(path, self.csv_text(exact, semicolon, counts))
 
     def text(self, exact: bool = False) -> str:
         """The table in columns, numbers with two digits behind the point, or with `exact` as they are."""
@@ -109,6 +120,7 @@ def grown(curve: Curve, start: Fraction, end: Fraction) -> Optional[Fraction]:
 
 
 Column = Callable[[Fraction, Fraction], Cell]  # of the time of a row and of the next one
+NO_COLUMNS: Dict[str, Column] = {word: lambda time, after: None for word in ("queue", "wait", "in", "out")}  # of a link that isn't there
 
 
 def clock_column(clock: Union[str, Fraction]) -> Column:
@@ -119,9 +131,8 @@ def clock_column(clock: Union[str, Fraction]) -> Column:
 
 def arrival_columns(run: Report, name: str = "") -> dict[str, Column]:
     """Arrival and travel time at the sink of a driver who leaves at the time of a row."""
-    if run.network is None:
-        raise Refused("the report has no network: read it by read_report(path, net)")
-    label = run.label(run.network.sink)
+    sink = with_network(run).sink
+    label = run.label(sink)
 
     def takes(time: Fraction, after: Fraction) -> Cell:
         arrival = known(label, time)
@@ -142,7 +153,7 @@ def rows_of(times: Sequence[Fraction], step: Fraction, columns: dict[str, Column
 
 
 def table(run: Report, every: Time = 5, links: Optional[Sequence[str]] = None, clock: Optional[str] = None) -> Rows:
-    """A report on a grid of times, `every` minutes from 0 on, up to the last time that is known.
+    """A report on a grid of times, `every` minutes from 0 on, up to the last one at which the queues are known (outflows may be longer).
 
     Columns: `time`; with `clock` (the time of day of time 0, as "6:00") `clock`; `arrive` and `takes` of a driver who leaves the source
     then; of each link `LINK queue` and `LINK wait` at that time, and `LINK in` and `LINK out`, the vehicles that enter and leave it until
@@ -157,25 +168,40 @@ def table(run: Report, every: Time = 5, links: Optional[Sequence[str]] = None, c
     return rows_of(times, times[1] - times[0] if len(times) > 1 else stop, columns)
 
 
-def side_by_side(runs: dict[str, Report], link: Optional[str], show: Sequence[str], every: Time = 5, clock: Optional[str] = None) -> Rows:
+def side_by_side(runs: dict[str, Report], link: Union[str, Sequence[str], None], show: Sequence[str], every: Time = 5, clock: Optional[str] = None) -> Rows:
     """Scenarios beside each other on one grid of times: of each run, by its name, the columns `NAME queue` and so on.
 
-    `show` names them: queue, wait, in, out of the link; without a link arrive and takes. A link that a scenario doesn't have is left empty."""
+    `show` names them: queue, wait, in, out of the link, or of several, then as `NAME LINK queue`; without a link arrive and takes. A link
+    that a scenario doesn't have is left empty. The last row is at the last time that is known."""
+    links = [link] if isinstance(link, str) else list(link or [])
     columns: dict[str, Column] = {"clock": clock_column(clock)} if clock is not None else {}
-    stop, found = Fraction(0), link is None
+    for each in links:
+        check_link(runs, each)
+    stop = Fraction(0)
+    columns_of: list[Optional[str]] = [*links] if links else [None]
     for name, run in runs.items():
-        offered, stop = arrival_columns(run), max(stop, run.reached)
-        if link is not None:
-            has = link in run.queues
-            found = found or has
-            offered = link_columns(run, link, "") if has else {word: lambda time, after: None for word in ("queue", "wait", "in", "out")}
-            stop = max(stop, run.queue(link).until if has else stop)
-        for word in show:
-            if word not in offered:
-                raise Refused(f"{word} is none of the columns: {', '.join(offered)}")
-            columns[f"{name} {word}"] = offered[word]
-    if not found:
-        idle = any(run.network is not None and link in run.network.links for run in runs.values())
-        raise OutOfRange(f"the link {link} is idle: no walk from the source reaches it" if idle else f"no scenario has a link {link}")
+        stop = max(stop, run.reached, *(run.queue(each).until for each in links if each in run.queues))
+        for of in columns_of:
+            offered = arrival_columns(run) if of is None else link_columns(run, of, "") if of in run.queues else NO_COLUMNS
+            for word in show:
+                if word not in offered:
+                    raise Refused(f"{word} is none of the columns: {', '.join(offered)}")
+                columns[f"{name} {of} {word}" if len(links) > 1 else f"{name} {word}"] = offered[word]
+    return rows_until(stop, every, columns)
+
+
+def check_link(runs: dict[str, Report], link: str) -> None:
+    """Raises a Fault where no scenario has the link, or where it is idle."""
+    if any(link in run.queues for run in runs.values()):
+        return
+    if any(run.network is not None and link in run.network.links for run in runs.values()):
+        raise OutOfRange(f"the link {link} is idle: no walk from the source reaches it")
+    raise OutOfRange(f"no scenario has a link {link}{near(link, [name for run in runs.values() for name in run.queues])}")
+
+
+def rows_until(stop: Fraction, every: Time, columns: dict[str, Column]) -> Rows:
+    """The rows of these columns in steps of `every`, and one at the last time."""
     times = grid(every, stop)
-    return rows_of(times, times[1] - times[0] if len(times) > 1 else stop, columns)
+    times += [stop] * (times[-1] < stop)
+    ends = [*times[1:], times[-1] + (times[-1] - times[-2] if len(times) > 1 else stop)]
+    return Rows(["time", *columns], ([time, *(column(time, end) for column in columns.values())] for time, end in zip(times, ends)))

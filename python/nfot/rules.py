@@ -6,10 +6,10 @@ import re
 from typing import Dict, List, Optional, Sequence, Tuple
 
 from .faults import Fault
-from .lines import MOST_REPORT_BYTES, read_bytes
+from .lines import MOST_BYTES, MOST_REPORT_BYTES, read_bytes
 from .networks import read_network
 from .numbers import LONGEST_WORD, file_number, hint
-from .report_file import read_report
+from .report_file import WINDOWS, read_report
 from .meanings import RULE, meaning, status, tables
 
 __all__ = ["explain", "files_of", "meaning", "status", "wrong_words"]
@@ -36,7 +36,7 @@ def explain(line: str, files: Sequence[str] = (), words: Sequence[str] = (), end
     if number is None or _status_of(line) is None:
         return []
     when, advice = status(number)
-    reason = wrong_words(words) if number == 2 and words else _unread(files) if number == 3 else None
+    reason = wrong_words(words) if number == 2 and words else _unread(files, words) if number == 3 else None
     sentences = [f"status {number}: {when}", reason, f"to do: {advice}" if advice else None]
     return [text for text in sentences if text]
 
@@ -50,7 +50,23 @@ def _of_rule(kind: str, number: int, rule: str, files: Sequence[str]) -> List[st
     if name is not None and number:
         sentences.insert(0, _line_of(name, number))
     why = _why(kind, rule, files)
+    if rule == "P3" and not why and name is not None and has_windows_ends(name):
+        why = WINDOWS
     return [*sentences, why] if why else sentences
+
+
+def has_windows_ends(name: str) -> bool:
+    """Whether a file, which is no pipe, has lines that end with CR LF."""
+    try:
+        return os.path.isfile(name) and b"\r\n" in read_bytes(name, MOST_REPORT_BYTES)
+    except Fault:
+        return False
+
+
+def windows_lines(words: Sequence[str]) -> List[str]:
+    """The line on a report with the line ends of Windows, which P3 refuses, of a command that `nfot` ended with status 4."""
+    reports = files_of(words)[1:2] if words[0] in ("check", "resume") else []
+    return [f"{name}: {WINDOWS}" for name in reports if has_windows_ends(name)]
 
 
 def _line_of(name: str, number: int) -> str:
@@ -97,8 +113,9 @@ def _status_of(line: str) -> Optional[int]:
     return None
 
 
-def _unread(files: Sequence[str]) -> Optional[str]:
-    """Which of the files can't be read, and why, as far as it can be seen."""
+def _unread(files: Sequence[str], words: Sequence[str]) -> Optional[str]:
+    """Which of the files of a command can't be read, and why, as far as it can be seen. A second file may be a report, which may be longer."""
+    longest = MOST_BYTES if words and words[0] in ("load", "routes", "settle") else MOST_REPORT_BYTES
     for name in files:
         if not os.path.exists(name):
             return f"{name}: there is no file of this name"
@@ -106,6 +123,9 @@ def _unread(files: Sequence[str]) -> Optional[str]:
             return f"{name} is a folder"
         if not os.access(name, os.R_OK):
             return f"{name}: no right to read it"
+        most = longest if name in files[1:] else MOST_BYTES
+        if os.path.isfile(name) and os.path.getsize(name) > most:
+            return f"{name} has {os.path.getsize(name)} bytes, and {most} are allowed"
     return None
 
 

@@ -14,6 +14,7 @@ from typing import Iterator, Mapping, Optional, Sequence
 
 from .faults import Refused
 from .lines import read_bytes, shown_name
+from .near import near
 
 MOST_BYTES = 2 ** 28
 NUMBER = re.compile(r"[+-]?(\d+(\.\d*)?|\.\d+)([eE][+-]?\d{1,3})?|[+-]?\d+/0*[1-9]\d*")
@@ -65,21 +66,31 @@ class Row:
 
 @dataclass(frozen=True)
 class Sheet:
-    """A table: its file, the columns of its first line (in small letters), its rows, and the encoding that was found."""
+    """A table: its file, the columns of its first line (in small letters), its rows, the encoding that was found, and the columns as they
+    are spelled."""
     file: str
     columns: Sequence[str]
     rows: Sequence[Row]
     encoding: str
+    heads: Sequence[str] = ()
 
-    def column(self, asked: Optional[str], *usual: str) -> str:
-        """The column that was asked for, else the first usual one that is there; a Fault where there is none."""
+    def column(self, asked: Optional[str], *usual: str, option: str = "") -> str:
+        """The column that was asked for, else the first usual one that is there; a Fault where there is none, which names the option."""
         for name in [asked] if asked else usual:
             if name.strip().lower() in self.columns:
                 if self.columns.count(name.strip().lower()) > 1:
                     raise Refused(f"two columns are called `{name}`", file=self.file, line=1)
                 return name.strip().lower()
-        wanted = f"`{asked}`" if asked else " or ".join(f"`{name}`" for name in usual)
-        raise Refused(f"no column {wanted}; the first line has {', '.join(f'`{name}`' for name in self.columns)}", file=self.file, line=1)
+        raise Refused(self.missing(asked, usual, option), file=self.file, line=1)
+
+    def missing(self, asked: Optional[str], usual: Sequence[str], option: str) -> str:
+        """Why a column isn't found, and what to write."""
+        blank = next((head for head in self.heads if asked and head.lower().startswith(f"{asked.strip().lower()} ")), None)
+        if blank is not None:
+            return f"no column `{asked}`: put a name with blanks in quotes, as {option} \"{blank}\""
+        wanted = f"`{asked}`{near(asked, self.heads)}" if asked else " or ".join(f"`{name}`" for name in usual)
+        named = f": name the right one by {option}" if option else ""
+        return f"no column {wanted}{named}; the first line has {', '.join(f'`{head}`' for head in self.heads)}"
 
     def has(self, *usual: str) -> bool:
         """Whether one of these columns is there."""
@@ -116,6 +127,7 @@ def read_sheet(path: str) -> Sheet:
         if not heads:
             raise Refused("the file is empty", file=name)
         columns = [head.strip().lower() for head in heads]
+        heads = [head.strip() for head in heads]
         rows = list(rows_of(table, name, columns, separator != ","))
         if any(WITH_COMMA.fullmatch(cell) for row in rows if row.decimal_comma for cell in row.cells.values()):
             rows = [replace(row, has_commas=True) for row in rows]
@@ -123,7 +135,7 @@ def read_sheet(path: str) -> Sheet:
         raise Refused(f"{fault}", file=name, line=table.line_num) from None
     if not rows:
         raise Refused("no rows follow the first line", file=name)
-    return Sheet(name, columns, rows, encoding)
+    return Sheet(name, columns, rows, encoding, heads)
 
 
 def rows_of(table: Iterator[list[str]], name: str, columns: Sequence[str], decimal_comma: bool) -> Iterator[Row]:

@@ -7,8 +7,6 @@
 Times are minutes. Capacities and rates are vehicles a minute."""
 from __future__ import annotations
 
-import csv
-import io
 from dataclasses import dataclass, field
 from fractions import Fraction
 from typing import Iterable, NamedTuple, Optional, Sequence
@@ -16,15 +14,19 @@ from typing import Iterable, NamedTuple, Optional, Sequence
 from .demand import Demand
 from .faults import OutOfRange, Refused
 from .graph import least_sums
+from .near import near
 from .networks import Link, Network
 from .numbers import decimal, short
 from .program import write_beside
 from .renaming import Names, joined
 from .roads import Corridor, Road, Roads, corridor
 from .rounding import MOST, Rounding, readable, unit_for
+from .rows import Rows
+from .suspects import odd_units, same_roads
 
 NODES, LINKS, SUPPLIES = 64, 200, 200
 LISTED = 12  # how many roads a note names
+RENAMED = 5  # how many changed names are told
 
 
 @dataclass(frozen=True)
@@ -53,29 +55,30 @@ class Name(NamedTuple):
 class Made:
     """A network made from a table: what was rounded, left out and renamed, in lines; the names of the table by those of the network.
 
-    `renamed` has the notes on changed names alone."""
+    `renamed` has the notes on changed names alone, `warnings` what may be a mistake. Both are among the notes, first and last."""
     network: Network
     notes: list[str] = field(default_factory=list)
     names: list[Name] = field(default_factory=list)
     renamed: list[str] = field(default_factory=list)
+    warnings: list[str] = field(default_factory=list)
 
-    def notes_with(self, names: str) -> list[str]:
-        """The notes, with one line for all changed names, which stand in the file of this name."""
+    def notes_with(self, names: Optional[str]) -> list[str]:
+        """The notes for a terminal: one line for all changed names, which stand in the file of this name; without it the first few names."""
         count = sum(name.id != name.name for name in self.names)
         changed = [f"{count} name{'s' * (count > 1)} changed, see {'standard output' if names == '-' else names}"] if count else []
-        return [note for note in self.notes if note not in self.renamed] + changed
+        if names is None:
+            changed, more = self.renamed[:RENAMED], len(self.renamed) - RENAMED
+            changed += [f"and {more} more name{'s' * (more > 1)} changed: --names FILE writes them all"] * (more > 0)
+        return changed + [note for note in self.notes if note not in self.renamed]
 
-    def names_text(self) -> str:
-        """The names as CSV."""
-        text = io.StringIO()
-        rows = csv.writer(text, lineterminator="\n")
-        rows.writerow(Name._fields)
-        rows.writerows([short(cell) if isinstance(cell, Fraction) else "" if cell is None else cell for cell in name] for name in self.names)
-        return text.getvalue()
+    def names_text(self, semicolon: bool = False) -> str:
+        """The names as CSV; with `semicolon` as `Rows.csv_text` has it."""
+        rows = ([name.id, name.kind, name.name, None if name.line is None else str(name.line), name.km, name.lanes] for name in self.names)
+        return Rows(Name._fields, rows).csv_text(exact=True, semicolon=semicolon)
 
-    def write_names(self, path: str) -> None:
+    def write_names(self, path: str, semicolon: bool = False) -> None:
         """Writes the names as CSV with the columns id, kind (node or link), name, line, km and lanes. `-` is standard output."""
-        write_beside(path, self.names_text())
+        write_beside(path, self.names_text(semicolon))
 
 
 def goals_of(roads: Roads, origin: str, destination: str) -> list[str]:
@@ -84,7 +87,7 @@ def goals_of(roads: Roads, origin: str, destination: str) -> list[str]:
     goals = [destination] if destination in places else [goal.strip() for goal in destination.split(",")]
     for node in [origin, *goals]:
         if node not in places:
-            raise OutOfRange(f"{node} is no node of {roads.file}")
+            raise OutOfRange(f"{node} is no node of {roads.file}{near(node, places)}")
     if origin in goals:
         raise Refused(f"{origin} is the origin and a destination")
     return goals
@@ -118,7 +121,7 @@ class Maker:
         self.per = 60 if units.hourly else 1
         capacities = [road.capacity * self.per for road in kept if road.capacity is not None]
         self.capacity = Rounding("capacities", units.capacity or unit_for(capacities, Fraction(1, 10)), "--round-capacity ", units.most)
-        step = unit_for([road.minutes for road in kept], Fraction(2, 5), Fraction(1, 10))
+        step = unit_for([road.minutes for road in kept], Fraction(2, 5), Fraction(1, 10), finer=2)
         self.time = Rounding("times", units.time or step, "--round-time ", units.most)
         rate_unit = units.rate or unit_for(rates, Fraction(1, 100), digits=(1,))
         self.rate = Rounding("rates", rate_unit, "--round-rate ", units.most)
@@ -149,14 +152,14 @@ class Maker:
         return [(start, self.rate(rate, f"from {short(start)} on") if rate else Fraction(0)) for start, rate in demand.pieces]
 
     def notes(self) -> list[str]:
-        """What was rounded, and which names changed."""
+        """What was rounded."""
         found = [self.capacity.note(f"vehicles {'an hour' if self.per > 1 else 'a minute'}") if self.capacity.least is not None else "no road has a capacity",
                  self.time.note("minutes")]
         if self.time.zeros:
             found.append(f"{self.time.zeros} times of 0 became {short(self.time.unit)}, since no walk may take no time")
         if self.rate.least is not None:
             found.append(self.rate.note("vehicles a minute"))
-        return found + self.renamed
+        return found
 
 
 def left_out(found: Corridor, closed: Sequence[Road]) -> list[str]:
@@ -192,10 +195,12 @@ def network_of_table(roads: Roads, origin: str, destination: str, demand: Demand
         raise Refused(f"the demand has {len(supply)} pieces, and nfot takes {SUPPLIES}: take longer intervals", status=1)
     network = Network(source, sink, links, supply)
     notes = [] if roads.encoding in ("utf-8-sig", "utf-16") else [f"{roads.file} is read as {roads.encoding}"]
-    notes += left_out(found, roads.closed) + maker.notes() + supply_notes(demand, network)
+    notes = maker.renamed + notes + left_out(found, roads.closed) + maker.notes() + supply_notes(demand, network)
     quickest = least_sums(source, links)[sink]
+    warnings = same_roads(kept, roads.file) + odd_units(kept, roads.columns, quickest, units.hourly)
     notes.append(f"the quickest route from {origin} to {destination} takes {decimal(quickest)} minutes on empty roads")
-    return Made(network, [*notes, f"{len(network.nodes())} nodes, {len(links)} links"], maker.names, maker.renamed)
+    notes.append(f"{len(network.nodes())} nodes, {len(links)} links")
+    return Made(network, notes + warnings, maker.names, maker.renamed, warnings)
 
 
 def supply_notes(demand: Demand, network: Network) -> list[str]:

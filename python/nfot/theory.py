@@ -7,10 +7,11 @@ from typing import Dict, Iterator, List, Mapping, Optional, Tuple
 
 from .drafts import Link
 from .faults import OutOfRange
+from .given import Net, Run, as_network, as_pair
+from .near import near
 from .networks import Network
 from .numbers import Number, Time, exact, short, time_of
 from .phases import Course, Phase, Sets
-from .reports import Report
 
 ZERO = Fraction(0)
 
@@ -39,24 +40,24 @@ def known(course: Course, departure: Time) -> Fraction:
     return moment
 
 
-def thin(net: Network, run: Report, departure: Time) -> Phase:
+def thin(net: Net, run: Run, departure: Time) -> Phase:
     """The thin flow with resetting at a departure of an equilibrium: it holds from there to the end of its phase.
 
     The sets are those at this departure. OutOfRange where the report doesn't go on after it.
     """
-    course = Course(net, run)
+    course = Course(*as_pair(net, run))
     moment = known(course, departure)
-    if moment == run.reached:
+    if moment == course.run.reached:
         raise OutOfRange(f"the report ends at departure {short(moment)}, so no flow is known from there on: solve to a later horizon")
     return course.phase(moment, min(start for start in course.starts() if start > moment))
 
 
-def candidate(net: Network, run: Report, departure: Time, flows: Mapping[str, Number], slopes: Mapping[str, Number]) -> Phase:
+def candidate(net: Net, run: Run, departure: Time, flows: Mapping[str, Number], slopes: Mapping[str, Number]) -> Phase:
     """Flows of links and slopes of nodes that somebody worked out for a departure of an equilibrium, to be tested by `broken`.
 
     The sets and the rate are those of the run at this departure. What isn't named is 0. OutOfRange for a name that isn't there.
     """
-    course = Course(net, run)
+    course = Course(*as_pair(net, run))
     moment = known(course, departure)
     sets = course.sets(moment)
     return Phase(sets.rate, sets.active, sets.resetting, moment, moment, _all(list(course.slacks), flows, "link"),
@@ -67,17 +68,17 @@ def _all(names: List[str], given: Mapping[str, Number], what: str) -> Dict[str, 
     """The number of each name, 0 where none is given."""
     unknown = [name for name in given if name not in names]
     if unknown:
-        raise OutOfRange(f"the network has no {what} {unknown[0]} that is reached")
+        raise OutOfRange(f"the network has no {what} {unknown[0]} that is reached{near(unknown[0], names)}")
     return {name: exact(given.get(name, 0)) for name in names}
 
 
-def broken(net: Network, phase: Phase) -> Optional[Broken]:
+def broken(net: Net, phase: Phase) -> Optional[Broken]:
     """The first condition of a thin flow with resetting that flows and slopes break for their sets and rate; None where all hold.
 
     The flows go from source to sink at the supply's rate, on active links alone. The slope of the source is 1. The slope of each other
     node is the least exit slope of the active links into it, and that of each of them with flow. Nothing is negative.
     """
-    return next(all_broken(net, phase), None)
+    return next(all_broken(as_network(net), phase), None)
 
 
 def all_broken(net: Network, phase: Phase) -> Iterator[Broken]:

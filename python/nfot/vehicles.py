@@ -5,8 +5,9 @@ from fractions import Fraction
 from typing import Dict, Iterable, List, Mapping, Optional, Sequence, Tuple, Union
 
 from .faults import OutOfRange, Refused
+from .given import Net, as_network
 from .loading import Piece, pieces_of_changes
-from .networks import Network
+from .near import near
 from .numbers import Number, Time, exact, short, time_of
 
 Entries = Mapping[str, Iterable[Time]]  # by link: the times at which vehicles enter it
@@ -14,7 +15,7 @@ Trip = Iterable[Tuple[str, Time]]  # the links of a vehicle, each with the time 
 ZERO = Fraction(0)
 
 
-def loads_of_vehicles(net: Network, vehicles: Union[Entries, Iterable[Trip]], size: Number = 1, spread: Optional[Number] = None,
+def loads_of_vehicles(net: Net, vehicles: Union[Entries, Iterable[Trip]], size: Number = 1, spread: Optional[Number] = None,
                       round_to: Optional[Number] = None) -> Dict[str, List[Piece]]:
     """What enters each link, as pieces (start, rate) for `report_of_flows`, given when vehicles enter links.
 
@@ -23,12 +24,12 @@ def loads_of_vehicles(net: Network, vehicles: Union[Entries, Iterable[Trip]], si
     just the vehicles before have entered (the last one as long as the one before it). `round_to` rounds times to its multiples.
     Floats are taken with `round_to` alone. Refused where a time is negative, OutOfRange where a link isn't there.
     """
-    entries: Dict[str, List[Fraction]] = {link.name: [] for link in net.used_links()}
+    entries: Dict[str, List[Fraction]] = {link.name: [] for link in as_network(net).used_links()}
     pairs: Iterable[Tuple[str, Iterable[Time]]]
     pairs = vehicles.items() if isinstance(vehicles, Mapping) else ((link, [time]) for trip in vehicles for link, time in trip)
     for link, times in pairs:
         if link not in entries:
-            raise OutOfRange(f"the network has no link {link} whose tail is reached")
+            raise OutOfRange(f"the network has no link {link} whose tail is reached{near(link, entries)}")
         entries[link] += [entry_time(time, round_to, f"link {link}") for time in times]
     return {link: rates_of_entries(times, exact(size), spread, f"link {link}") for link, times in entries.items() if times}
 

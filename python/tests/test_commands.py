@@ -3,7 +3,7 @@ import unittest
 from fractions import Fraction
 
 import nfot
-from nfot import Curve
+from nfot import Curve, calling
 
 from .cases import EXAMPLES, Case, example
 
@@ -109,6 +109,7 @@ class Faults(Case):
     def test_too_wide_numbers(self) -> None:
         wide = nfot.Network("s", "t", [nfot.Link("a", "s", "t", 2 ** 127 - 1, 1)], [(0, 1)])
         stop = self.faulted(nfot.Stopped, "stopped at departure 0 of 1 .*round capacities and rates", nfot.solve, wide, 1)
+        self.assertEqual([calling.near_time(Fraction(1, 3)), calling.near_time(Fraction(10 ** 20, 3 * 10 ** 19 + 1))], ["1/3", "3.33 (rounded)"])
         assert isinstance(stop, nfot.Stopped)
         self.assertEqual((stop.status, stop.cause), (7, f"passed 1 advance - sum {2 ** 127 - 1} 1"))
         stop = self.faulted(nfot.Stopped, "round capacities", nfot.load, wide, {"a": [(0, 1)]}, 1)

@@ -39,7 +39,13 @@ class Examples(Case):
         rows = [[Fraction(above or whole) / Fraction(below or 1) for above, below, whole in re.findall(r"\$(?:\\frac\{(\d+)\}\{(\d+)\}|(\d+))\$", line)]
                 for line in out.splitlines()[1:-1]]
         self.assertEqual((status, rows), (0, [[Fraction(n), Fraction(3 * n, 2), last_arrival(n), last_arrival(n) / Fraction(3 * n, 2)] for n in range(1, 9)]))
-        self.assertEqual(run("anarchy.py", "x")[:2], (2, ""))
+        self.assertEqual(run("anarchy.py", "1..8"), (0, out, ""))
+        self.assertEqual([run("anarchy.py", *words)[:2] for words in (["x"], ["3..x"], ["3..1"], ["0..2"], [])], [(2, "")] * 5)
+
+    def test_wrong_words(self) -> None:
+        for name, *words in (["packets.py", "x"], ["packets.py"], ["simulate.py", "1"], ["simulate.py", "0", "1"], ["simulate.py", "x", "1"]):
+            status, out, err = run(name, *words)
+            self.assertEqual((status, out, err.startswith("usage: ")), (2, "", True))
 
     def test_price_of_anarchy_of_a_nested_family(self) -> None:
         """By hand: nobody leaves the street, so the last driver arrives at n. The links into the end bring n m by n - m (1/(m + 1) + .. + 1/n)."""

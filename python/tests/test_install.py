@@ -36,7 +36,7 @@ class Installed(Case):
         done = self.run_there("python", "-c", script, str(EXAMPLES / "one.net"))
         status, report, _ = independent("app").run(["solve", str(EXAMPLES / "one.net"), "--horizon", "2"])
         self.assertEqual((done.stdout, status), (f"{report.decode()}yes False {nfot.__version__}\n", 0))
-        self.assertEqual(done.stderr, "nfot: no proved program found; using the slow one\n")
+        self.assertEqual(done.stderr, "nfot: no proved program found; using the slow one (put nfot on the PATH, or set NFOT)\n")
         if (ROOT / "python/nfot/__main__.py").exists():
             done = self.run_there("nfot-py", "solve", str(EXAMPLES / "one.net"), "--horizon", "2")
             self.assertEqual((done.returncode, done.stdout.encode()), (0, report), done.stderr)

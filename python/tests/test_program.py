@@ -45,7 +45,7 @@ class Which(Case):
             with mock.patch.object(MODULE, "__file__", str(self.folder() / "python/nfot/program.py")):
                 found = [nfot.program(), nfot.program()]
         self.assertEqual((found[0].words, found[0].proved), ((sys.executable, str(ROOT / "tests/independent")), False))
-        self.assertEqual(told.getvalue(), "nfot: no proved program found; using the slow one\n")
+        self.assertEqual(told.getvalue(), "nfot: no proved program found; using the slow one (put nfot on the PATH, or set NFOT)\n")
         checkout = self.folder()
         build = checkout / "crates/nfot/out/nfot"
         build.parent.mkdir(parents=True)

@@ -83,7 +83,7 @@ class Warned(Results):
             status, _, err = self.run_tool(*words)
             self.assertEqual((status, err.count("\n")), (0, 1), err)
             self.assertTrue(err.startswith(f"nfot-py {words[0]}: {late} is no equilibrium: C3 doesn't hold for t at 2: the report has 7, and 5 is right"), err)
-        for words in (["times", net, good, 1], ["queues", net, good], ["series", net, good], ["compare", net, good, net, good]):
+        for words in (["times", net, good, 1], ["queues", net, good], ["series", net, good]):
             self.assertEqual(self.run_tool(*words)[2], "")
 
     def test_not_checked(self) -> None:

@@ -97,9 +97,11 @@ class Names(Table):
         net, err = self.made(rows + "u_v,ein sehr langer Name eines Orts,1,1,Brücke\n", "123#1", "ein sehr langer Name eines Orts", "0:1")
         self.assertEqual(net.nodes(), ["123_1", "ein_sehr_langer_Name.rts", "u_v", "Hoehe_2", "u_v.2"])
         self.assertEqual(list(net.links), ["123_1-u_v", "Bruecke", "Hoehe_2-u_v.2", "Bruecke.2"])
-        for line in ("node `u:v` is called u_v", "node `u_v` is called u_v.2", "node `Höhe 2` is called Hoehe_2", "link `Brücke` is called Bruecke",
-                     "link `Brücke` is called Bruecke.2"):
+        for line in ("node `u:v` is called u_v", "node `Höhe 2` is called Hoehe_2", "link `Brücke` is called Bruecke", "and 2 more names changed: --names FILE writes them all"):
             self.assertIn(f"table: {line}\n", err)
+        self.assertTrue(err.startswith("table: node `123#1` is called 123_1\n") and err.endswith("table: 5 nodes, 4 links\n"), err)
+        made = nfot.network_of_table(nfot.read_roads("roads.csv"), "123#1", "ein sehr langer Name eines Orts")
+        self.assertEqual(made.renamed[-2:], ["node `u_v` is called u_v.2", "link `Brücke` is called Bruecke.2"])
 
     def test_one_line_where_the_names_are_written(self) -> None:
         rows = "from,to,time,capacity,name\nA#1,B,1,1,\nB,C,1,1,Brücke\n"
@@ -242,7 +244,7 @@ class Files(Table):
 
     def test_faults_name_file_row_and_column(self) -> None:
         for text, wanted in [
-                ("from,to,capacity\ns,t,1\n", "roads.csv line 1: no column `minutes` or `time`; the first line has `from`, `to`, `capacity`"),
+                ("from,to,capacity\ns,t,1\n", "roads.csv line 1: no column `minutes` or `time`: name the right one by --minutes; the first line has `from`, `to`, `capacity`"),
                 ("from,to,time,capacity\ns,t,1x,1\n", "roads.csv line 2: column `time`: `1x` is no number"),
                 ("from,to,time,capacity\ns,t,1,1\ns,t,1,-1\n", "roads.csv line 3: column `capacity`: -1 is below 0"),
                 ("from,to,time,capacity\ns,t,1\n", "roads.csv line 2: 3 cells, the first line has 4"),

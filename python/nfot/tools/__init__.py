@@ -1,8 +1,9 @@
 """The command `nfot-py`, also `python3 -m nfot`: the ten commands of nfot, and tools beside them.
 
 A tool is a module of this folder, named in TOOLS. Its docstring is its help text: the first line is a sentence that says what it does,
-and the text has an example. It has two functions: `add_arguments(parser)` and `main(arguments) -> int`, the status. The words behind `--`
-are in `arguments.behind` (None without `--`). A tool prints to standard output, and raises a Fault; this module tells it."""
+and the text has an example. It has two functions: `add_arguments(parser)` and `main(arguments) -> int`, the status; perhaps a third,
+`check_words(words)`, which may refuse words before they are read. The words behind `--` are in `arguments.behind` (None without `--`).
+A tool prints to standard output, and raises a Fault; this module tells it."""
 from __future__ import annotations
 
 import argparse
@@ -11,12 +12,12 @@ import os
 import signal
 import sys
 from types import FrameType, ModuleType
-from typing import NoReturn, Optional, Sequence
+from typing import Any, NoReturn, Optional, Sequence
 
 from ..faults import Fault, Refused
 from .passing import COMMANDS, pass_through
 
-TOOLS = ["table", "city", "solve-on", "times", "queues", "series", "compare", "phases", "judge", "gap", "same", "cut", "bottleneck", "thin", "why"]
+TOOLS = ["table", "change", "city", "solve-on", "times", "queues", "series", "compare", "phases", "judge", "gap", "same", "cut", "bottleneck", "thin", "why"]
 OUTPUT, INTERNAL, INTERRUPTED, ENDED, CLOSED = 9, 70, 130, 143, 141  # statuses
 
 Words = Sequence[str]
@@ -27,6 +28,10 @@ class Parser(argparse.ArgumentParser):
 
     def error(self, message: str) -> NoReturn:
         raise Refused(f"{message} (nfot-py {self.prog.split()[-1]} --help says more)")
+
+    def print_help(self, file: Any = None) -> None:
+        """Prints the help text; other than that of argparse it doesn't hide that the output fails."""
+        print(self.format_help(), end="", file=file)
 
 
 def tool(name: str) -> ModuleType:
@@ -57,6 +62,7 @@ def run_tool(name: str, words: Words) -> int:
     module = tool(name)
     parser = Parser(prog=f"nfot-py {name}", description=module.__doc__, formatter_class=argparse.RawDescriptionHelpFormatter, allow_abbrev=False)
     module.add_arguments(parser)
+    getattr(module, "check_words", len)(words)
     cut = list(words).index("--") if "--" in words else len(words)
     arguments = parser.parse_intermixed_args(list(words[:cut]))
     arguments.behind = list(words[cut + 1:]) if cut < len(words) else None
@@ -103,6 +109,8 @@ def tried(name: str, words: Words) -> int:
     """Runs the command or the tool, and prints a Fault in one line."""
     try:
         return chosen(words)
+    except SystemExit as end:  # argparse, behind --help
+        return int(end.code or 0)
     except Fault as fault:
         if isinstance(fault.__context__, BrokenPipeError):
             raise BrokenPipeError from None
@@ -113,6 +121,10 @@ def main(words: Optional[Words] = None) -> int:
     """Runs `nfot-py` with these words (None: those of the command line); the status. Prints each fault in one line."""
     words = sys.argv[1:] if words is None else words
     name = f"nfot-py {words[0]}" if words and words[0] in TOOLS + list(COMMANDS) else "nfot-py"
+    if sys.stderr is None:
+        sys.stderr = open(os.devnull, "w")
+    if sys.stdout is None:
+        return told(name, "standard output is closed, so nothing was done and no file was written", OUTPUT)
     try:
         signal.signal(signal.SIGTERM, ended)
     except ValueError:

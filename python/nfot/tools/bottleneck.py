@@ -18,7 +18,8 @@ from ..faults import Refused
 from ..lines import read_bytes
 from ..networks import Network, read_network
 from ..rows import Rows
-from .common import add_csv, write_rows
+from .common import write_rows
+from .options import add_csv
 
 
 def add_arguments(parser: argparse.ArgumentParser) -> None:

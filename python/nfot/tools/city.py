@@ -14,7 +14,7 @@ from pathlib import Path
 from ..demand import demand_of_words
 from ..faults import Refused
 from ..rows import Rows
-from .common import positive
+from .options import add_semicolon, positive
 
 ROADS = Path(__file__).resolve().parents[1] / "data/siouxfalls.txt"
 
@@ -26,6 +26,7 @@ def add_arguments(parser: argparse.ArgumentParser) -> None:
     parser.add_argument("destination", metavar="TO", nargs="?", help="another zone")
     parser.add_argument("rates", metavar="START:RATE", nargs="*", help="from START on RATE vehicles a minute leave zone FROM")
     parser.add_argument("--roads", action="store_true", help="print the roads as CSV: from, to, minutes, capacity an hour")
+    add_semicolon(parser)
 
 
 def roads() -> list[list[str]]:
@@ -50,7 +51,8 @@ def main(arguments: argparse.Namespace) -> int:
     if arguments.roads:
         if arguments.unit is not None:
             raise Refused("--roads stands alone")
-        print(Rows(["from", "to", "minutes", "capacity"], [(tail, head, minutes, capacity) for tail, head, capacity, minutes in roads()]).csv_text(), end="")
+        rows = [(tail, head, Fraction(minutes), Fraction(capacity)) for tail, head, capacity, minutes in roads()]
+        print(Rows(["from", "to", "minutes", "capacity"], rows).csv_text(semicolon=arguments.semicolon), end="")
         return 0
     if arguments.destination is None:
         raise Refused("UNIT, FROM and TO are needed, or --roads (nfot-py city --help says more)")

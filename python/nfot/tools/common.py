@@ -1,72 +1,56 @@
-"""What several tools share: kinds of arguments, reading a network with its report, and writing rows."""
+"""What several tools share: reading a network with its report, warnings, and writing rows."""
 from __future__ import annotations
 
 import argparse
+import os
 import sys
 from fractions import Fraction
-from typing import Callable, Optional
+from typing import Optional, Sequence
 
 from ..commands import check
+from ..comparing import alike
 from ..demand import minutes_at
 from ..faults import Fault, OutOfRange, Refused
 from ..lines import shown_name
 from ..networks import Network
-from ..numbers import decimal, parse, short
+from ..numbers import decimal, short
 from ..reports import Report, read_pair
-from ..rows import Rows
+from ..rows import Rows, count_columns
 
 CHECK_SECONDS = 10  # a report of a city is checked in 0.02 s
-
-
-def number(word: str) -> Fraction:
-    """A number of the command line: 2.5, 7/2, 1e6 or 7:30."""
-    try:
-        return parse(word)
-    except Fault as fault:
-        raise argparse.ArgumentTypeError(fault.why) from None
-
-
-def least(bound: Fraction, open_end: bool = False) -> Callable[[str], Fraction]:
-    """A kind of number that is at least a bound, or above it."""
-    def read(word: str) -> Fraction:
-        found = number(word)
-        if found < bound or open_end and found == bound:
-            raise argparse.ArgumentTypeError(f"{word} isn't {'above' if open_end else 'at least'} {short(bound)}")
-        return found
-    return read
-
-
-def count(word: str) -> int:
-    """A whole number above 0."""
-    if not word.isdecimal() or not int(word):
-        raise argparse.ArgumentTypeError(f"{word} is no whole number above 0")
-    return int(word)
-
-
-positive, natural = least(Fraction(0), True), least(Fraction(0))
-
-
-def add_pair(parser: argparse.ArgumentParser) -> None:
-    """The arguments NET REPORT."""
-    parser.add_argument("net", metavar="NET", help="the network file")
-    parser.add_argument("report", metavar="REPORT", help="a report of this network, as `nfot-py solve` writes it")
-
-
-def add_clock(parser: argparse.ArgumentParser) -> None:
-    """The option --clock."""
-    parser.add_argument("--clock", metavar="TIME", type=natural, help="the time of day of minute 0, as 6:00")
-
-
-def add_csv(parser: argparse.ArgumentParser) -> None:
-    """The options --csv and --exact."""
-    parser.add_argument("--csv", metavar="PATH", help="write the table as CSV to this file (`-`: to standard output)")
-    parser.add_argument("--exact", action="store_true", help="write exact numbers, as 16/3, where a decimal would be rounded")
 
 
 def read_run(net: str, report: str) -> tuple[Network, Report]:
     """A network and its report; a Fault where they don't belong together."""
     check_inputs(net, report)
+    check_kinds(net, report)
     return read_pair(net, report)
+
+
+def check_kinds(net: str, report: str) -> None:
+    """Refuses a report in the place of a network, and a network in that of a report, as far as files show it."""
+    for name, kind, other in ((net, "network", "report"), (report, "report", "network")):
+        if os.path.isfile(name) and is_kind(name, other):
+            raise Refused(f"{name} is a {other}, and stands in the place of a {kind}: the order is NETWORK REPORT, for each pair")
+
+
+def is_kind(name: str, kind: str) -> bool:
+    """Whether a file begins as a report, or as a network."""
+    word = "report" if kind == "report" else "nfot"
+    try:
+        with open(name, encoding="ascii", errors="replace") as file:
+            words: list[str] = next((line.split() for line in file if line.partition("#")[0].strip()), [])
+    except OSError:
+        return False
+    return words[:1] == [word] and len(words) > 1 and words[1] in ("1", "2")
+
+
+def tell_alike(tool: str, names: Sequence[str], runs: Sequence[tuple[Network, Report]]) -> None:
+    """Says on standard error which cases are the same, each beside the first one. `names` are those of their networks."""
+    for name, run in zip(names[1:], runs[1:]):
+        said = alike(*runs[0], *run)
+        if said:
+            print(f"nfot-py {tool}: {said} ({names[0]} and {name})", file=sys.stderr)
 
 
 def warn(tool: str, report: str, run: Report, so: str = "") -> None:
@@ -93,18 +77,20 @@ def check_inputs(*paths: Optional[str]) -> None:
 def departures(words: list[str], clock: Optional[Fraction], run: Report, name: str) -> list[Fraction]:
     """Departures of the command line, as minutes or times of day; a Fault where the report doesn't come to one."""
     found = [minutes_at(word, clock) for word in words]
-    for departure in found:
+    for word, departure in zip(words, found):
         if not 0 <= departure <= run.reached:
-            raise OutOfRange(f"{name} has the departures from 0 to {decimal(run.reached - run.reached % Fraction(1, 100))}, not {short(departure)}")
+            until = decimal(run.reached - run.reached % Fraction(1, 100))
+            hint = f" ({word} without --clock is minute {short(departure)}: give --clock, the time of day of minute 0)" if ":" in word and clock is None else ""
+            raise OutOfRange(f"{name} has the departures from 0 to {until}, not {short(departure)}{hint}")
     return found
 
 
 def write_rows(rows: Rows, arguments: argparse.Namespace) -> None:
     """Writes rows as CSV where that is asked for, else prints them in columns."""
-    if arguments.csv not in (None, "-"):
-        rows.csv(arguments.csv, arguments.exact)
+    if arguments.csv is not None:
+        rows.csv(arguments.csv, arguments.exact, arguments.semicolon, count_columns(rows.columns))
     else:
-        print(rows.text(arguments.exact) if arguments.csv is None else rows.csv_text(arguments.exact), end="")
+        print(rows.text(arguments.exact), end="")
 
 
 def amounts(exact: bool, *values: tuple[Optional[Fraction], int]) -> list[str]:

@@ -1,4 +1,4 @@
-"""Prints which links limit an amount: capacity, for how long, and how much goes through.
+"""Prints which links limit an amount: capacity, for how long, and how much goes through, the greatest amount first.
 
 The output of `nfot quick` comes from standard input, or --amount has it made. The amounts of the links add up to the whole amount.
 
@@ -14,7 +14,8 @@ from ..cuts import links_of_cut, numbers_of
 from ..faults import Refused
 from ..networks import read_network
 from ..rows import Rows
-from .common import add_csv, amounts, natural, write_rows
+from .common import amounts, write_rows
+from .options import add_csv, natural
 
 
 def add_arguments(parser: argparse.ArgumentParser) -> None:
@@ -33,7 +34,7 @@ def main(arguments: argparse.Namespace) -> int:
         cut = numbers_of(sys.stdin, "cut", "standard input")
     if set(cut) != set(network.nodes()):
         raise Refused(f"standard input has no lines `cut` of {arguments.net}", status=1)
-    found = links_of_cut(network, cut)
+    found = sorted(links_of_cut(network, cut), key=lambda link: -link.amount)
     if arguments.csv is not None:
         write_rows(Rows(["link", "capacity", "minutes", "amount"], [(cut.link.name, cut.link.capacity, cut.lasts, cut.amount) for cut in found]), arguments)
         return 0

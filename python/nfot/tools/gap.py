@@ -11,7 +11,8 @@ import argparse
 
 from ..gaps import gap
 from ..rows import Rows
-from .common import add_csv, add_pair, read_run, write_rows
+from .common import read_run, write_rows
+from .options import add_csv, add_pair
 
 
 def add_arguments(parser: argparse.ArgumentParser) -> None:

@@ -13,7 +13,7 @@ from ..inputs import read_sent
 from ..judging import report_of_flows, report_of_routes
 from ..networks import read_network
 from ..reports import write_report
-from .common import natural
+from .options import natural
 
 
 def add_arguments(parser: argparse.ArgumentParser) -> None:

@@ -8,9 +8,10 @@ import sys
 import time
 from typing import NamedTuple, Sequence
 
-from ..faults import Fault, NotFound
+from ..faults import BROKEN, Fault, NotFound
 from ..numbers import parse
 from ..program import program, progress
+from ..rules import windows_lines
 
 TAKEN = re.compile(r"-?\d+(/0*[1-9]\d*)?")  # a number as nfot takes it on its command line
 
@@ -85,6 +86,8 @@ def pass_through(words: Sequence[str]) -> int:
     except OSError as fault:
         raise NotFound(f"the program doesn't start: {fault.strerror}", file=os.fspath(program().words[0])) from None
     status = status_of(process, f"nfot {words[0]}")
+    for line in windows_lines(words) if status == BROKEN else []:
+        print(f"nfot-py {words[0]}: {line}", file=sys.stderr)
     return status if status >= 0 else 128 - status
 
 

@@ -10,7 +10,8 @@ import argparse
 
 from ..rows import Cell, Rows
 from ..phases import Phase, phases
-from .common import add_csv, add_pair, read_run, warn, write_rows
+from .common import read_run, warn, write_rows
+from .options import add_csv, add_pair
 
 
 def add_arguments(parser: argparse.ArgumentParser) -> None:

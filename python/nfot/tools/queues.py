@@ -16,7 +16,8 @@ from ..numbers import clock
 from ..queues import VEHICLE, Place, Queue, longest_first, queues_of, read_places
 from ..reports import Report
 from ..rows import Cell, Rows
-from .common import add_clock, add_csv, add_pair, count, positive, read_run, warn, write_rows
+from .common import read_run, warn, write_rows
+from .options import add_clock, add_csv, add_pair, count, positive
 
 
 def add_arguments(parser: argparse.ArgumentParser) -> None:

@@ -11,7 +11,8 @@ import argparse
 from ..evidence import same, unsaid
 from ..networks import read_network
 from ..reports import read_report
-from .common import add_pair
+from .common import check_kinds
+from .options import add_pair
 
 NO = 10  # as `nfot check` ends
 
@@ -23,6 +24,7 @@ def add_arguments(parser: argparse.ArgumentParser) -> None:
 
 def main(arguments: argparse.Namespace) -> int:
     """Prints the answer."""
+    check_kinds(arguments.net, arguments.report)
     network, report = read_network(arguments.net), read_report(arguments.report)
     against = same(network, report)
     print("\n".join([f"no: {why}" for why in against] or ["yes", *(f"open: {what}" for what in unsaid(network, report))]))

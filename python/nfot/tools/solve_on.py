@@ -14,7 +14,7 @@ from ..commands import solve
 from ..faults import Stopped
 from ..networks import read_network
 from ..reports import Report, write_report
-from .common import count, natural
+from .options import count, natural
 
 
 def add_arguments(parser: argparse.ArgumentParser) -> None:

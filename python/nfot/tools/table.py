@@ -2,8 +2,8 @@
 
 The first line of the table names its columns: from, to, minutes (or time) and capacity, perhaps name; other names are given by options. A
 row is a one-way link. An empty capacity, or inf, is unbounded; 0 closes the road. Roads on no route from ORIGIN to DESTINATION are left out.
-Names get the characters that nfot allows; standard error says what was rounded, left out and renamed
-(with --names only how many names changed).
+Names get the characters that nfot allows; standard error says what was renamed (with --names how many names), left out and rounded, and what
+may be a mistake: a road that stands there twice, an unusual unit.
 
 example, a table of a map program (length, speed, lanes) and counts of each quarter of an hour:
   nfot-py table roads.csv A B --from a_node --to b_node --length-km km --speed-kmh vmax --lanes n --lane-capacity 1800 \\
@@ -22,7 +22,8 @@ from ..faults import Refused
 from ..numbers import clock
 from ..roads import Columns, read_roads
 from ..tables import Units, network_of_table
-from .common import check_inputs, natural, number, positive
+from .common import check_inputs
+from .options import add_semicolon, natural, number, positive, time_of_day
 
 COLUMNS = [("--from", "tail", "node at which a road begins (usual: from)"), ("--to", "head", "node at which it ends (usual: to)"),
            ("--name", "name", "name of the road (usual: name)"), ("--minutes", "minutes", "minutes on the empty road (usual: minutes or time)"),
@@ -48,14 +49,15 @@ def add_arguments(parser: argparse.ArgumentParser) -> None:
     demand.add_argument("--each", metavar="MINUTES", type=positive, help="the length of an interval, as 15")
     demand.add_argument("--start", metavar="COLUMN", help="the column with the start of an interval: minutes, or a time of day as 7:30")
     demand.add_argument("--count", metavar="COLUMN", help="the column with the count")
-    demand.add_argument("--clock", metavar="TIME", type=natural, help="the time of day of minute 0, as 6:00; then STARTs may be times of day")
+    demand.add_argument("--clock", metavar="TIME", type=time_of_day, help="the time of day of minute 0, as 6:00; then STARTs may be times of day")
     rounding = parser.add_argument_group("rounding (short numbers let a run go further)")
-    rounding.add_argument("--round-capacity", metavar="UNIT", type=positive, help="multiples for capacities (else by the smallest capacity)")
+    rounding.add_argument("--round-capacity", metavar="UNIT", type=positive, help="multiples for capacities (else one that changes nothing, or by the smallest capacity)")
     rounding.add_argument("--round-time", metavar="UNIT", type=positive, help="multiples for minutes (else 0.1, or less where a time is shorter)")
     rounding.add_argument("--round-rate", metavar="UNIT", type=positive, help="multiples for rates (else by the smallest rate)")
     rounding.add_argument("--most-change", metavar="PERCENT", type=number, default=Fraction(20), help="the greatest change that is not refused (20)")
     parser.add_argument("--detour", metavar="MINUTES", type=natural, help="keep routes that take at most so much longer than the quickest one, on empty roads")
     parser.add_argument("--names", metavar="PATH", help="write the names as CSV: id (in the network), kind, name (in the table), line, km, lanes")
+    add_semicolon(parser)
 
 
 def demand_of(arguments: argparse.Namespace) -> Demand:
@@ -77,16 +79,16 @@ def main(arguments: argparse.Namespace) -> int:
     columns = Columns(**{name: getattr(arguments, name) for _, name, _ in COLUMNS}, lane_capacity=arguments.lane_capacity)
     hourly = arguments.hourly or arguments.lane_capacity is not None
     check_inputs(arguments.table, arguments.demand)
-    demand = demand_of(arguments)
     roads = read_roads(arguments.table, columns, two_way=arguments.two_way, hourly=arguments.hourly)
+    demand = demand_of(arguments)
     units = Units(arguments.round_capacity, arguments.round_time, arguments.round_rate, hourly, arguments.most_change)
     made = network_of_table(roads, arguments.origin, arguments.destination, demand, units=units, detour=arguments.detour)
     if demand.begin is not None:
         begin = clock(Fraction(0), demand.begin)
-        made.notes.append(f"minute 0 is {begin}; the other tools take --clock {begin}")
+        made.notes.insert(len(made.notes) - len(made.warnings), f"minute 0 is {begin}; the other tools take --clock {begin}")
     if arguments.names is not None:
-        made.write_names(arguments.names)
+        made.write_names(arguments.names, arguments.semicolon)
     print(made.network.text(), end="", flush=True)
-    for note in made.notes if arguments.names is None else made.notes_with(arguments.names):
+    for note in made.notes_with(arguments.names):
         print(f"table: {note}", file=sys.stderr)
     return 0

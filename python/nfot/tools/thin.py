@@ -9,12 +9,14 @@ example: nfot-py thin bridge.net 20"""
 from __future__ import annotations
 
 import argparse
+import sys
 
 from ..commands import solve
 from ..inputs import read_flows
 from ..networks import read_network
 from ..theory import all_broken, candidate, thin
-from .common import natural, read_run
+from .common import read_run
+from .options import natural
 
 NOT_THIN = 15  # as `nfot settle` ends
 
@@ -36,6 +38,9 @@ def main(arguments: argparse.Namespace) -> int:
         phase = thin(network, run, departure)
         print(str(phase).replace(f"[{phase.start}, {phase.end})", f"at {departure}"))
         return 0
+    unnamed = [node for node in network.nodes() if node not in given[1]]
+    if unnamed:
+        print(f"nfot-py thin: {arguments.flows} has no line `slope` of {', '.join(unnamed)}, so the slope counts as 0", file=sys.stderr)
     phase = candidate(network, run, departure, *given)
     faults = list(all_broken(network, phase))
     print("\n".join(["no: " + str(fault) for fault in faults] or ["yes"]))

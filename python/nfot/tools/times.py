@@ -1,7 +1,8 @@
 """Prints when departures arrive, which links have queues, and the time that all spend.
 
 DEPARTUREs are minutes, or with --clock times of day. With --every the table has all departures in steps; with --csv it is written for a
-spreadsheet, alone. A wait is the amount in the queue divided by the capacity.
+spreadsheet, alone. A wait is the amount in the queue divided by the capacity. With --node the arrivals are those at this node, in place of the
+destination; with --by the last departure that is there by a time is printed, alone.
 
 example: nfot-py times bridge.net bridge.report 0 30 60
 example: nfot-py times bridge.net bridge.report --every 5 --clock 6:00 --csv times.csv"""
@@ -9,16 +10,18 @@ from __future__ import annotations
 
 import argparse
 from fractions import Fraction
+from typing import Optional
 
 from ..comparing import spent
+from ..curves import Curve
+from ..demand import minutes_at
 from ..faults import Refused
-from ..networks import Network
 from ..numbers import clock, decimal
 from ..queues import queues_of
-from ..reports import Report
 from ..rows import Rows, grid
 from ..wording import Words
-from .common import add_clock, add_csv, add_pair, departures, positive, read_run, warn, write_rows
+from .common import departures, read_run, warn, write_rows
+from .options import add_clock, add_csv, add_pair, positive
 
 
 def add_arguments(parser: argparse.ArgumentParser) -> None:
@@ -26,13 +29,33 @@ def add_arguments(parser: argparse.ArgumentParser) -> None:
     add_pair(parser)
     parser.add_argument("departures", metavar="DEPARTURE", nargs="*", help="a departure from the source")
     parser.add_argument("--every", metavar="MINUTES", type=positive, help="all departures from 0 on in steps of so many minutes")
+    parser.add_argument("--node", metavar="NODE", help="arrivals at this node, in place of the destination")
+    parser.add_argument("--by", metavar="TIME", help="print the last departure that is there by this time")
     add_clock(parser)
     add_csv(parser)
 
 
-def rows_of(network: Network, run: Report, times: list[Fraction], begin: Fraction | None) -> Rows:
+def last_by(label: Curve, time: Fraction) -> Optional[Fraction]:
+    """The last departure whose label is at most a time; None where there is none."""
+    found = None
+    for (start, value), (end, after) in zip(label.points, [*label.points[1:], label.points[-1]]):
+        if value <= time:
+            found = end if after <= time else start + (end - start) * (time - value) / (after - value)
+    return found
+
+
+def line_by(arguments: argparse.Namespace, label: Curve, node: str) -> str:
+    """The line on the last departure that is at a node by a time."""
+    words = Words(arguments.exact, arguments.clock)
+    time = minutes_at(arguments.by, arguments.clock)
+    last = last_by(label, time)
+    if last is None:
+        return f"no departure is at {node} by {words.time(time)}"
+    return f"departures up to {words.time(last)} are at {node} by {words.time(time)}"
+
+
+def rows_of(label: Curve, times: list[Fraction], begin: Fraction | None) -> Rows:
     """A row for each departure."""
-    label = run.label(network.sink)
     columns = ["leave", "arrive", "takes"] if begin is None else ["clock", "leave", "arrive", "takes"]
     return Rows(columns, ([*([] if begin is None else [clock(time, begin)]), time, label(time), label(time) - time] for time in times))
 
@@ -43,12 +66,16 @@ def main(arguments: argparse.Namespace) -> int:
     times = departures(arguments.departures, arguments.clock, run, arguments.report)
     if arguments.every is not None:
         times = sorted({*times, *grid(arguments.every, run.reached)})
-    rows = rows_of(network, run, times, arguments.clock)
+    node = network.sink if arguments.node is None else arguments.node
+    rows = rows_of(run.label(node), times, arguments.clock)
     if arguments.csv is not None and not times:
         raise Refused("--csv has a row for each departure: name some, or take --every")
     warn("times", arguments.report, run)
     if arguments.csv is not None:
         write_rows(rows, arguments)
+        return 0
+    if arguments.by is not None:
+        print(line_by(arguments, run.label(node), node))
         return 0
     words = Words(arguments.exact, arguments.clock)
     for row in rows:

@@ -1,0 +1,46 @@
+"""Networks and reports that a caller gives as values, or by the names of their files."""
+from __future__ import annotations
+
+from typing import Mapping, Tuple, TypeVar, Union
+
+from .faults import Refused
+from .lines import PathLike
+from .networks import Network, read_network
+from .report_file import read_report
+from .report_values import Report
+
+Net = Union[Network, PathLike]
+Run = Union[Report, PathLike]
+Value = TypeVar("Value")
+
+
+def as_network(net: Net) -> Network:
+    """The network, read where it is the name of a file."""
+    return net if isinstance(net, Network) else read_network(net)
+
+
+def as_pair(net: Net, run: Run) -> Tuple[Network, Report]:
+    """A network and its report, read where they are names of files."""
+    network = as_network(net)
+    return network, run if isinstance(run, Report) else read_report(run, network)
+
+
+def as_form(run: Run) -> Report:
+    """A report, read by its form alone where it is the name of a file."""
+    return run if isinstance(run, Report) else read_report(run)
+
+
+def with_network(run: Report) -> Network:
+    """The network of a report; Refused for the name of a file, and where there is none."""
+    if not isinstance(run, Report):
+        raise Refused("a report is needed here, and no name of a file: read it by read_report(path, net)")
+    if run.network is None:
+        raise Refused("the report has no network: read it by read_report(path, net)")
+    return run.network
+
+
+def as_values(given: Mapping[str, Value], reader: str) -> Mapping[str, Value]:
+    """Loads or routes by name; Refused for the name of a file, which `reader` reads."""
+    if not isinstance(given, Mapping):
+        raise Refused(f"values by name are needed here: read the file by {reader}(path, net)")
+    return given
