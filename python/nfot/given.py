@@ -7,7 +7,7 @@ from .faults import Refused
 from .lines import PathLike
 from .networks import Network, read_network
 from .report_file import read_report
-from .report_values import Report
+from .report_values import Report, belonging
 
 Net = Union[Network, PathLike]
 Run = Union[Report, PathLike]
@@ -23,6 +23,11 @@ def as_pair(net: Net, run: Run) -> Tuple[Network, Report]:
     """A network and its report, read where they are names of files."""
     network = as_network(net)
     return network, run if isinstance(run, Report) else read_report(run, network)
+
+
+def as_report(net: Network, run: Run) -> Report:
+    """The report as one of the network, read where it is the name of a file; OutOfRange for names that the network doesn't have."""
+    return belonging(run, net) if isinstance(run, Report) else read_report(run, net)
 
 
 def as_form(run: Run) -> Report:

@@ -243,6 +243,19 @@ class Library(Results):
         with self.assertRaisesRegex(nfot.OutOfRange, "tunnel"):
             nfot.table(self.run_of("bridge.net", 60), links=["tunnel"])
 
+    def test_columns_that_are_picked(self) -> None:
+        run = self.run_of("bridge.net", 60)
+        self.assertEqual(nfot.table(run, every=60, show=["in"]).columns, ("time", "bridge in", "bay in"))
+        self.assertEqual([dict(row) for row in nfot.table(run, every=30, links="bay", show=("in", "takes"))],
+                         [{"time": 0, "takes": 10, "bay in": 20}, {"time": 30, "takes": 30, "bay in": 60}, {"time": 60, "takes": 30, "bay in": None}])
+        self.assertEqual(nfot.table(run, every=60, show="takes").columns, ("time", "takes"))
+        for wrong in (["inflow"], "inflow"):
+            with self.assertRaisesRegex(nfot.Refused, "inflow is none of the columns: arrive, takes, queue, wait, in, out"):
+                nfot.table(run, show=wrong)
+        idle = nfot.network_of("nfot 2\nsource s\nsink t\nlink a s t 1 2\nlink b u t 1 2\ninflow 0 2\nend\n")
+        with self.assertRaisesRegex(nfot.OutOfRange, "the link b is idle"):
+            nfot.table(nfot.solve(idle, 2), links=idle.links)
+
     def test_compare(self) -> None:
         net, other = (nfot.read_network(EXAMPLES / name) for name in ("paradox.net", "paradox-closed.net"))
         found = nfot.compare(net, self.run_of("paradox.net", 60), other, self.run_of("paradox-closed.net", 60))
