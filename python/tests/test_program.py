@@ -60,6 +60,13 @@ class Which(Case):
                 self.faulted(nfot.NotFound, "neither the program nfot nor the slow one is here", nfot.program)
 
 
+    def test_the_slow_one_by_itself(self) -> None:
+        """It runs whatever NFOT is, with its own output and status."""
+        words = [sys.executable, "-m", "nfot.slow", "check", str(EXAMPLES / "two.net"), str(EXAMPLES / "late.report")]
+        done = subprocess.run(words, env={**os.environ, "NFOT": "/nowhere/nfot", "PYTHONPATH": str(ROOT / "python")}, stdout=subprocess.PIPE, stderr=subprocess.PIPE, text=True)
+        self.assertEqual((done.returncode, done.stdout, done.stderr), (10, "no C3 t 2 7 5\n", "nfot: no equilibrium\n"))
+
+
 class Ends(Case):
     def test_a_killed_program(self) -> None:
         for name in ("KILL", "TERM", "XFSZ"):
