@@ -229,5 +229,7 @@ def read_network(path: PathLike) -> Network:
 
 
 def write_network(net: Network, path: PathLike) -> None:
-    """Writes the network file, whole or not at all; `-` is standard output."""
+    """Writes the network file, whole or not at all; `-` is standard output. Refused where the first argument is no network."""
+    if not isinstance(net, Network):
+        raise Refused(f"write_network(net, path) takes a network first, not {net!r:.60}")
     write_beside(path, net.text())

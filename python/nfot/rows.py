@@ -18,6 +18,7 @@ from .reports import Report
 Cell = Union[str, Fraction, None]  # None: nothing is known
 RowDict = Dict[str, Cell]
 MOST_ROWS = 1_000_000
+MARK = "\ufeff"  # a byte order mark: with it spreadsheets read UTF-8
 
 
 def count_columns(columns: Sequence[str]) -> set[str]:
@@ -71,8 +72,10 @@ class Rows(Sequence[RowDict]):
         return text.getvalue()
 
     def csv(self, path: str, exact: bool = False, semicolon: bool = False, counts: Collection[str] = ()) -> None:
-        """Writes the table as CSV; `-` is standard output. Raises a Fault where the file can't be written."""
-        write_beside(path, self.csv_text(exact, semicolon, counts))
+        """Writes the table as CSV; `-` is standard output. Raises a Fault where the file can't be written.
+
+        With `semicolon` it begins with a byte order mark (Python's `utf-8-sig`), so that spreadsheets read umlauts rightly."""
+        write_beside(path, MARK * semicolon + self.csv_text(exact, semicolon, counts))
 
     def text(self, exact: bool = False) -> str:
         """The table in columns, numbers with two digits behind the point, or with `exact` as they are."""

@@ -121,13 +121,33 @@ class Cases(Results):
     def test_semicolons_and_counts(self) -> None:
         """Decimal commas; from 10 vehicles on two digits."""
         pair = self.solved("bridge.net", 60)
-        self.assertEqual(self.fine("times", *pair, "1/3", "--csv", "-", "--semicolon").splitlines(), ["leave;arrive;takes", "0,333333;10,666667;10,333333"])
+        self.assertEqual(self.fine("times", *pair, "1/3", "--csv", "-", "--semicolon").splitlines(), ["\ufeffleave;arrive;takes", "0,333333;10,666667;10,333333"])
         self.assertEqual(self.fine("series", *pair, "--link", "bridge", "--every", "20/3", "--csv", "-").splitlines()[2:3], ["6.666667,13.33"])
-        self.assertTrue(self.fine("city", "--roads", "--semicolon").startswith("from;to;minutes;capacity\n1;2;6;25900,20064\n"))
+        self.assertTrue(self.fine("city", "--roads", "--semicolon").startswith("\ufefffrom;to;minutes;capacity\n1;2;6;25900,20064\n"))
         self.write("roads.csv", "from;to;length_km;time;capacity\nA;B;1,5;2,5;1\n")
         self.fine("table", "roads.csv", "A", "B", "0:1", "--names", "names.csv", "--semicolon")
+        self.assertEqual((self.folder / "names.csv").read_bytes()[:5], b"\xef\xbb\xbfid")
         self.assertIn("\nA-B;link;A-B;2;1,5;\n", (self.folder / "names.csv").read_text())
+        self.fine("times", *pair, "1", "--csv", "plain.csv")
+        self.assertEqual((self.folder / "plain.csv").read_bytes()[:5], b"leave")
         self.assertEqual(nfot.queues.read_places("names.csv")["A-B"].room, Fraction(1500, 7))
+
+    def test_times_of_day_without_the_one_of_minute_0(self) -> None:
+        """7:30 is minute 450 then, and that is said."""
+        pair = self.solved("bridge.net", 60)
+        for words, told in ((["--by", "1:30"], "1:30 is minute 90"), (["0:20", "0:30"], "0:20 is minute 20, 0:30 is minute 30")):
+            status, out, err = self.run_tool("times", *pair, *words)
+            self.assertEqual((status, err), (0, f"nfot-py times: {told} of the run; for times of day give --clock, the time of day of minute 0\n"))
+            status, _, err = self.run_tool("times", *pair, *(word.replace("0:", "6:").replace("1:", "7:") for word in words), "--clock", "6:00")
+            self.assertEqual((status, err), (0, ""))
+        _, _, err = self.run_tool("compare", *pair, *pair, "0:30")
+        self.assertIn("nfot-py compare: 0:30 is minute 30 of the run", err)
+
+    def test_a_queue_beyond_the_report_has_one_word(self) -> None:
+        pair = self.solved("bridge.net", 60)
+        self.assertIn("bridge: queue from 0.00 to end of report", self.fine("times", *pair, "0"))
+        self.assertEqual(self.fine("queues", *pair).splitlines()[1].split(), "bridge 0.00 end of report 20.00 20.00 40.00".split())
+        self.assertEqual(self.fine("queues", *pair, "--csv", "-").splitlines()[1], "bridge,0,,20,20,40")
 
     def test_the_greatest_amount_of_a_cut_is_first(self) -> None:
         """7 have come by 5.5, as docs/PYTHON.md has it: 4.5 over a, 2.5 over b, which stands first here."""
@@ -203,6 +223,15 @@ class Given(Results):
         for given in (lambda: nfot.queues_of(report), lambda: nfot.table(report), lambda: nfot.supply_of("x.routes", 1), lambda: nfot.report_of_flows(net, "x.loads", 1)):
             with self.assertRaisesRegex(nfot.Refused, "read it by read_report|read the file by read_"):
                 given()
+
+    def test_values_in_the_wrong_order(self) -> None:
+        net, report = self.solved("bridge.net", 60)
+        value, run = nfot.read_pair(net, report)
+        for given in (lambda: nfot.write_network("x.net", value), lambda: nfot.write_report("x.report", run), lambda: nfot.write_network(run, "x.net"),
+                      lambda: nfot.write_report(value, "x.report")):
+            with self.assertRaisesRegex(nfot.Refused, r"^write_(network|report)\((net|report), path\) takes a (network|report) first, not "):
+                given()
+        self.assertEqual(os.listdir(), [report])
 
     def test_a_report_that_is_cut(self) -> None:
         net, report = self.solved("bridge.net", 60)

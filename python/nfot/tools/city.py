@@ -52,7 +52,7 @@ def main(arguments: argparse.Namespace) -> int:
         if arguments.unit is not None:
             raise Refused("--roads stands alone")
         rows = [(tail, head, Fraction(minutes), Fraction(capacity)) for tail, head, capacity, minutes in roads()]
-        print(Rows(["from", "to", "minutes", "capacity"], rows).csv_text(semicolon=arguments.semicolon), end="")
+        Rows(["from", "to", "minutes", "capacity"], rows).csv("-", semicolon=arguments.semicolon)
         return 0
     if arguments.destination is None:
         raise Refused("UNIT, FROM and TO are needed, or --roads (nfot-py city --help says more)")

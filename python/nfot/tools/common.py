@@ -74,6 +74,13 @@ def check_inputs(*paths: Optional[str]) -> None:
         raise Refused("only one of the files can be standard input")
 
 
+def tell_minutes(tool: str, words: Sequence[str], clock: Optional[Fraction]) -> None:
+    """Says on standard error how words as 7:30 are read where minute 0 has no time of day."""
+    read = [f"{word} is minute {short(minutes_at(word, None))}" for word in words if ":" in word and clock is None]
+    if read:
+        print(f"nfot-py {tool}: {', '.join(read)} of the run; for times of day give --clock, the time of day of minute 0", file=sys.stderr)
+
+
 def departures(words: list[str], clock: Optional[Fraction], run: Report, name: str) -> list[Fraction]:
     """Departures of the command line, as minutes or times of day; a Fault where the report doesn't come to one."""
     found = [minutes_at(word, clock) for word in words]

@@ -67,4 +67,5 @@ def add_csv(parser: argparse.ArgumentParser) -> None:
 
 def add_semicolon(parser: argparse.ArgumentParser) -> None:
     """The option --semicolon."""
-    parser.add_argument("--semicolon", action="store_true", help="CSV with `;` between fields and decimal commas, as spreadsheets in German want it")
+    parser.add_argument("--semicolon", action="store_true", help="CSV for spreadsheets in German: `;` between fields, decimal commas, "
+                        "and a byte order mark (UTF-8), so that umlauts are read rightly")

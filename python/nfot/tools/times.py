@@ -20,7 +20,7 @@ from ..numbers import clock, decimal
 from ..queues import queues_of
 from ..rows import Rows, grid
 from ..wording import Words
-from .common import departures, read_run, warn, write_rows
+from .common import departures, read_run, tell_minutes, warn, write_rows
 from .options import add_clock, add_csv, add_pair, positive
 
 
@@ -70,6 +70,7 @@ def main(arguments: argparse.Namespace) -> int:
     rows = rows_of(run.label(node), times, arguments.clock)
     if arguments.csv is not None and not times:
         raise Refused("--csv has a row for each departure: name some, or take --every")
+    tell_minutes("times", [*arguments.departures, *([arguments.by] if arguments.by else [])], arguments.clock)
     warn("times", arguments.report, run)
     if arguments.csv is not None:
         write_rows(rows, arguments)
