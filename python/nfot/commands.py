@@ -17,7 +17,7 @@ from .hints import go_on_past
 from .lines import PathLike
 from .drafts import fitting
 from .networks import Network
-from .numbers import Number
+from .numbers import Number, pairs_of
 from .report_file import report_of
 from .report_values import Report
 from .meanings import meaning
@@ -96,7 +96,7 @@ def _verdict(text: str) -> Verdict:
 
 def _lines(kind: str, pieces: Mapping[str, Pieces]) -> List[str]:
     """The lines `rate NAME START RATE` of pieces by name, between the first line of their file and its last one."""
-    rates = [f"rate {name} {fitting(start, 'start')} {fitting(rate, 'rate')}" for name, given in pieces.items() for start, rate in given]
+    rates = [f"rate {name} {fitting(start, 'start')} {fitting(rate, 'rate')}" for name, given in pieces.items() for start, rate in pairs_of(given, f"rates of {name}")]
     return [f"{kind} 1", *rates, "end", ""]
 
 

@@ -197,6 +197,8 @@ def side_by_side(runs: dict[str, Report], link: Union[str, Sequence[str], None],
 
     `show` names them: queue, wait, in, out of the link, or of several, then as `NAME LINK queue`; without a link arrive and takes. A link
     that a scenario doesn't have is left empty. The last row is at the last time that is known."""
+    if not isinstance(runs, dict) or not all(isinstance(run, Report) for run in runs.values()):
+        raise Refused("reports by name are needed, as {\"closed\": run}, not " + f"{runs!r:.60}")
     links = names_in(link)
     columns: dict[str, Column] = {"clock": clock_column(clock)} if clock is not None else {}
     for each in links:

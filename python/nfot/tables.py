@@ -82,6 +82,8 @@ class Made:
 
 def goals_of(roads: Roads, origin: str, destination: str) -> list[str]:
     """The destinations: one node, or several joined by commas; a Fault where a name is no node of the table."""
+    if not isinstance(roads, Roads):
+        raise Refused(f"roads are needed, as read_roads(path) has them, not {roads!r:.60}")
     places = roads.places()
     goals = [destination] if destination in places else [goal.strip() for goal in destination.split(",")]
     for node in [origin, *goals]:
@@ -177,7 +179,8 @@ def network_of_table(roads: Roads, origin: str, destination: str, demand: Demand
 
     `detour` keeps routes that take at most so many minutes longer than the quickest one on empty roads. Raises a Fault where there is no
     route, more than 64 nodes or 200 links, or a number changes too much."""
-    goals = goals_of(roads, origin, destination)
+    origin = str(origin)
+    goals = goals_of(roads, origin, str(destination))
     found = corridor(roads.open, origin, goals, detour)
     check_size(found.kept, len(goals) if len(goals) > 1 else 0)
     kept = [road for _, road in found.kept]
