@@ -143,6 +143,12 @@ class Cases(Results):
         _, _, err = self.run_tool("compare", *pair, *pair, "0:30")
         self.assertIn("nfot-py compare: 0:30 is minute 30 of the run", err)
 
+    def test_cases_with_other_ends(self) -> None:
+        pairs = [*self.solved("bridge.net", 60), *self.solved("two.net", 4)]
+        for words in (["compare", *pairs], ["series", *pairs]):
+            status, _, err = self.run_tool(*words)
+            self.assertEqual((status, err), (0, f"nfot-py {words[0]}: {pairs[0]} leads from home to work, and {pairs[2]} from s to t\n"))
+
     def test_options_that_would_be_left_out(self) -> None:
         pair = self.solved("bridge.net", 60)
         self.write("roads.csv", HEAD + "A,B,1,5,\n")

@@ -53,6 +53,14 @@ def tell_alike(tool: str, names: Sequence[str], runs: Sequence[tuple[Network, Re
             print(f"nfot-py {tool}: {said} ({names[0]} and {name})", file=sys.stderr)
 
 
+def tell_ends(tool: str, names: Sequence[str], runs: Sequence[tuple[Network, Report]]) -> None:
+    """Says on standard error which cases have another source or sink than the first one. `names` are those of their networks."""
+    ends = [(net.source, net.sink) for net, _ in runs]
+    for name, other in zip(names[1:], ends[1:]):
+        if other != ends[0]:
+            print(f"nfot-py {tool}: {names[0]} leads from {' to '.join(ends[0])}, and {name} from {' to '.join(other)}", file=sys.stderr)
+
+
 def warn(tool: str, report: str, run: Report, so: str = "") -> None:
     """Says on standard error that a report is no equilibrium, where `check` says no, or that it couldn't be checked.
 

@@ -17,7 +17,7 @@ from ..numbers import decimal
 from ..reports import Report
 from ..rows import Rows, grid
 from ..wording import Words
-from .common import check_inputs, departures, read_run, tell_alike, tell_minutes, warn, write_rows
+from .common import check_inputs, departures, read_run, tell_alike, tell_ends, tell_minutes, warn, write_rows
 from .options import add_clock, add_csv, positive
 
 
@@ -66,7 +66,8 @@ def main(arguments: argparse.Namespace) -> int:
         times = sorted({*times, *grid(arguments.every, found.until)})
     times = times or [start for start, _ in pairs[0][0].supply if start <= found.until]
     tell_minutes("compare", arguments.departures, arguments.clock)
-    tell_alike("compare", (arguments.net1, arguments.net2), pairs)
+    for tell in (tell_alike, tell_ends):
+        tell("compare", (arguments.net1, arguments.net2), pairs)
     for report, (_, run) in zip((arguments.report1, arguments.report2), pairs):
         warn("compare", report, run)
     if arguments.csv is not None:
