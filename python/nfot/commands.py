@@ -11,7 +11,7 @@ from typing import Iterable, List, Mapping, Optional, Sequence, Tuple, Union
 from .answers import Carried, Forever, Generated, Lines, Loaded, Quickest, Settled, Verdict, lines_of
 from .calling import Answer, ask, stop_of, words_of_budgets
 from .faults import Fault, Refused, Stopped, Unbounded
-from .given import Net, Run, as_network, as_report
+from .given import Net, Run, as_network, as_report, as_routes
 from .graph import path_of
 from .hints import go_on_past
 from .lines import PathLike
@@ -126,8 +126,9 @@ def routes(net: Net, routes: Union[PathLike, Mapping[str, Tuple[Sequence[str], P
     """
     given: Union[PathLike, List[str]]
     if isinstance(routes, Mapping):
-        given = _lines("routes", {name: pieces for name, (_, pieces) in routes.items()})
-        given[1:1] = [f"route {name} {' '.join(links)}" for name, (links, _) in routes.items()]
+        parts = as_routes(routes)
+        given = _lines("routes", {name: pieces for name, (_, pieces) in parts.items()})
+        given[1:1] = [f"route {name} {' '.join(links)}" for name, (links, _) in parts.items()]
     else:
         given = routes
     found = _loading("routes", net, horizon, given, timeout)

@@ -1,7 +1,7 @@
 """Networks and reports that a caller gives as values, or by the names of their files."""
 from __future__ import annotations
 
-from typing import Mapping, Tuple, TypeVar, Union
+from typing import Dict, List, Mapping, Sequence, Tuple, TypeVar, Union
 
 from .faults import Refused
 from .lines import PathLike
@@ -49,3 +49,15 @@ def as_values(given: Mapping[str, Value], reader: str) -> Mapping[str, Value]:
     if not isinstance(given, Mapping):
         raise Refused(f"values by name are needed here: read the file by {reader}(path, net)")
     return given
+
+
+def as_routes(given: Mapping[str, Tuple[Sequence[str], Value]]) -> Dict[str, Tuple[List[str], Value]]:
+    """Routes by name, each a pair of links (one may be a text) and pieces; Refused for anything else, and for the name of a file."""
+    found = {}
+    for name, route in as_values(given, "read_routes").items():
+        try:
+            links, pieces = route
+        except (TypeError, ValueError):
+            raise Refused(f"route {name}: a pair of links and pieces is needed, as (['a'], [(0, 3)]), not {route!r:.60}") from None
+        found[name] = ([links] if isinstance(links, str) else list(links), pieces)
+    return found

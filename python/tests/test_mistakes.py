@@ -263,9 +263,12 @@ class Given(Results):
                               ("reports by name are needed", lambda: nfot.side_by_side([run], "bridge", ["queue"])), ("reports by name", lambda: nfot.side_by_side({"a": report}, None, ["takes"])),
                               ("the phase has other nodes or links", lambda: nfot.broken(EXAMPLES / "two.net", nfot.phases(value, run)[0])),
                               ("roads are needed, as read_roads", lambda: nfot.network_of_table("roads.csv", "1", "2")),
+                              ("route r: a pair of links and pieces is needed", lambda: nfot.routes(value, {"r": ["bridge"]}, 1)),
+                              ("route r: a pair of links and pieces", lambda: nfot.report_of_routes(value, {"r": 3}, 1)), ("link bridge: pairs are", lambda: nfot.report_of_flows(value, {"bridge": [1]}, 1)),
                               ("nothing.net: there is no file", lambda: nfot.read_network(b"nothing.net"))]:
             with self.assertRaisesRegex(nfot.Fault, wanted):
                 given()
+        self.assertEqual(nfot.supply_of({"r": ("bridge", [(0, 4)])}, 1), [(0, 4), (1, 0)])
         self.assertEqual(nfot.network_of_table(nfot.read_roads("roads.csv"), 1, 2).network.source, "1")
         self.assertEqual((nfot.clock(1.5, "6:00"), nfot.short(0.5), nfot.parse(3), nfot.read_demand(self.write("c.csv", "10\n20\n"), 7.5).pieces[1][0]), ("06:01:30", "0.5", 3, Fraction(15, 2)))
 
