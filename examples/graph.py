@@ -17,11 +17,8 @@ def main():
     graph.add_edge("home", "work", minutes=30.25, per_minute=4)
     net = nfot.from_networkx(graph, "home", "work", supply=[(0, 4), (60, 0)], transit="minutes", capacity="per_minute", round_to="1/4")
     run = nfot.solve(net, 60)
-    flows = nfot.table(run, every=5, links=list(net.links), clock="6:00")
-    for row in flows:
-        entered = [row[f"{link} in"] for link in net.links]
-        print(row["clock"], *("-" if amount is None else f"{float(amount):.2f}" for amount in entered))
-    back = nfot.to_networkx(net)
+    print(nfot.table(run, every=5, clock="6:00", show=["in"]).text(), end="")
+    back = nfot.to_networkx(net, run, every=5)  # with flows and queues on its edges
     for tail, head, link in back.edges(keys=True):
         back.edges[tail, head, link]["longest_wait"] = float(run.waits(link).greatest()[1])
     print(max(back.edges(data="longest_wait"), key=lambda edge: edge[2]))

@@ -25,7 +25,7 @@ from .comparing import Comparison, compare
 from .curves import Curve
 from .demand import Demand, demand_of_words, read_demand
 from .evidence import Open, same, unsaid
-from .faults import Fault, Killed, NotFound, OutOfRange, Refused, Stopped, Timeout, Unbounded
+from .faults import Fault, Killed, NotFound, OutOfRange, Refused, Stopped, Timeout, Unbounded, outcome
 from .gaps import Gap, gap
 from .graphs import clean_names, from_networkx, to_networkx
 from .inputs import read_flows, read_loads, read_routes
@@ -48,7 +48,7 @@ __all__ = [
     "Made", "Network", "NotFound", "Open", "OutOfRange", "Phase", "Program", "Queue", "Quickest", "Refused", "Report", "Roads", "Rows",
     "Settled", "Stopped", "Timeout", "Unbounded", "Units", "Verdict", "broken", "candidate", "check", "clean_names", "clock", "compare",
     "decimal", "demand_of_words", "exact", "explain", "forever", "from_networkx", "gap", "gen", "load", "loads_of_vehicles",
-    "longest_first", "meaning", "mismatch", "network_of", "network_of_table", "parse", "phases", "program", "queues_of", "quick",
+    "longest_first", "meaning", "mismatch", "network_of", "network_of_table", "outcome", "parse", "phases", "program", "queues_of", "quick",
     "read_demand", "read_flows", "read_loads", "read_network", "read_pair", "read_report", "read_roads", "read_routes", "report_of",
     "report_of_flows", "report_of_routes", "resume", "routes", "routes_of_vehicles", "same", "settle", "short", "show", "side_by_side",
     "solve", "status", "supply_of", "table", "thin", "to_networkx", "unsaid", "write_network", "write_report",

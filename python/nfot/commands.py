@@ -11,23 +11,18 @@ from typing import Iterable, List, Mapping, Optional, Sequence, Tuple, Union
 from .answers import Carried, Forever, Generated, Lines, Loaded, Quickest, Settled, Verdict, lines_of
 from .calling import Answer, ask, stop_of, words_of_budgets
 from .faults import Fault, Refused, Stopped, Unbounded
-from .given import Net, Run, as_network
+from .given import Net, Run, as_network, as_report, as_routes
 from .graph import path_of
 from .hints import go_on_past
 from .lines import PathLike
 from .drafts import fitting
 from .networks import Network
-from .numbers import Number
-from .report_file import read_report, report_of
-from .report_values import Report, belonging
+from .numbers import Number, pairs_of
+from .report_file import report_of
+from .report_values import Report
 from .meanings import meaning
 
 Pieces = Iterable[Tuple[Number, Number]]
-
-
-def _report(net: Network, report: Run) -> Report:
-    """The report as one of the network, read where it is the name of a file."""
-    return belonging(report, net) if isinstance(report, Report) else read_report(report, net)
 
 
 def solve(net: Net, horizon: Number, *, phases: Optional[int] = None, patterns: Optional[int] = None,
@@ -52,7 +47,7 @@ def resume(net: Net, report: Run, horizon: Number, *, phases: Optional[int] = No
     """
     network = as_network(net)
     words = ["--horizon", str(_horizon(horizon)), *words_of_budgets(phases=phases, patterns=patterns)]
-    files = {"network": network.text(), "report": _report(network, report).text()}
+    files = {"network": network.text(), "report": as_report(network, report).text()}
     answer = ask("resume", words, files, timeout=timeout, statuses=(0, 5, 6, 7, 10))
     if answer.status == 10:
         raise Refused(f"the report is no equilibrium: {_verdict(answer.out).why}", status=10)
@@ -83,7 +78,7 @@ def check(net: Net, report: Run, *, timeout: Optional[float] = None) -> Verdict:
     Stopped where an operation passes (status 7). Refused where the report breaks a rule.
     """
     network = as_network(net)
-    files = {"network": network.text(), "report": _report(network, report).text()}
+    files = {"network": network.text(), "report": as_report(network, report).text()}
     return _verdict(ask("check", [], files, timeout=timeout, statuses=(0, 10)).out)
 
 
@@ -101,7 +96,7 @@ def _verdict(text: str) -> Verdict:
 
 def _lines(kind: str, pieces: Mapping[str, Pieces]) -> List[str]:
     """The lines `rate NAME START RATE` of pieces by name, between the first line of their file and its last one."""
-    rates = [f"rate {name} {fitting(start, 'start')} {fitting(rate, 'rate')}" for name, given in pieces.items() for start, rate in given]
+    rates = [f"rate {name} {fitting(start, 'start')} {fitting(rate, 'rate')}" for name, given in pieces.items() for start, rate in pairs_of(given, f"rates of {name}")]
     return [f"{kind} 1", *rates, "end", ""]
 
 
@@ -131,8 +126,9 @@ def routes(net: Net, routes: Union[PathLike, Mapping[str, Tuple[Sequence[str], P
     """
     given: Union[PathLike, List[str]]
     if isinstance(routes, Mapping):
-        given = _lines("routes", {name: pieces for name, (_, pieces) in routes.items()})
-        given[1:1] = [f"route {name} {' '.join(links)}" for name, (links, _) in routes.items()]
+        parts = as_routes(routes)
+        given = _lines("routes", {name: pieces for name, (_, pieces) in parts.items()})
+        given[1:1] = [f"route {name} {' '.join(links)}" for name, (links, _) in parts.items()]
     else:
         given = routes
     found = _loading("routes", net, horizon, given, timeout)

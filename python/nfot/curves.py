@@ -7,7 +7,7 @@ from typing import Callable, Iterable, Iterator, List, Optional, Sequence, Tuple
 
 from .faults import OutOfRange, Refused
 from .merging import Point, Row, clipped, composed, lesser, merged, on_line, slope_between, tidied
-from .numbers import Number, Time, exact, short, time_of
+from .numbers import Number, Time, exact, pairs_of, short, time_of
 
 ZERO = Fraction(0)
 
@@ -26,7 +26,7 @@ class Curve:
     __slots__ = ("_points", "_until", "_times")
 
     def __init__(self, points: Iterable[Tuple[Number, Number]], until: Optional[Number] = None) -> None:
-        made = tuple((exact(time), exact(value)) for time, value in points)
+        made = tuple((exact(time), exact(value)) for time, value in pairs_of(points, "points of a curve"))
         if not made:
             raise Refused("a curve has at least one point")
         for (before, _), (time, _) in zip(made, made[1:]):
@@ -48,7 +48,7 @@ class Curve:
     def of_rates(cls, pieces: Iterable[Tuple[Number, Number]], until: Number) -> "Curve":
         """The amount that has come by a time, from 0 to `until`, given pieces (start, rate); each rate holds up to the next start."""
         end, points, rate = exact(until), [(ZERO, ZERO)], ZERO
-        for start, following in ((exact(start), exact(rate)) for start, rate in pieces):
+        for start, following in ((exact(start), exact(rate)) for start, rate in pairs_of(pieces, "pieces")):
             time, amount = points[-1]
             if start < time:
                 raise Refused(f"start {short(start)} comes after start {short(time)}: the starts of pieces rise from 0 on")

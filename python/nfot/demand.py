@@ -6,7 +6,7 @@ from fractions import Fraction
 from typing import Optional, Sequence
 
 from .faults import Refused
-from .numbers import parse, short
+from .numbers import Time, parse, short, time_of
 from .sheets import Row, Sheet, read_sheet
 
 DAY = 1440  # minutes
@@ -47,11 +47,12 @@ def demand_of_words(words: Sequence[str], begin: Optional[Fraction] = None) -> D
     return Demand(tuple(pieces), begin)
 
 
-def read_demand(path: str, each: Fraction, begin: Optional[Fraction] = None, start: Optional[str] = None, count: Optional[str] = None) -> Demand:
+def read_demand(path: str, each: Time, begin: Optional[Fraction] = None, start: Optional[str] = None, count: Optional[str] = None) -> Demand:
     """The supply of a table of counts, one row for each interval of `each` minutes: the rate is the count divided by `each`.
 
     `start` and `count` name the columns. Without a column of starts the first interval begins at minute 0 and each follows the one before.
     Starts are minutes, or times of day; then minute 0 is `begin`, else the first start. Raises a Fault with file, row and column."""
+    each = time_of(each)
     if each <= 0:
         raise Refused(f"--each {short(each)}: an interval is longer than 0 minutes")
     sheet = read_sheet(path)

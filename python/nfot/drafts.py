@@ -70,7 +70,9 @@ class Draft:
             raise broken("N10", f"{nodes[-1]} is node {MOST_NODES + 1}, and {MOST_NODES} are allowed")
 
     def add_link(self, link: Link) -> None:
-        """A link whose name and ends are names."""
+        """A link whose name and ends are names; Refused where it is no Link."""
+        if not isinstance(link, Link):
+            raise Refused(f"a link is made by Link(name, tail, head, transit, capacity), not {link!r:.60}")
         self.before_link(link.name, link.tail, link.head)
         if link.capacity is None and self.version == 1:
             raise broken("N8", f"{link.name} has no capacity: `inf` needs a file of version 2")

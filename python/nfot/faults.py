@@ -1,10 +1,12 @@
 """Faults: everything that can go wrong, as one sentence with its status, file, line and rule."""
 from __future__ import annotations
 
-from typing import TYPE_CHECKING, List, Optional, Sequence
+from typing import TYPE_CHECKING, Any, Callable, List, Optional, Sequence, TypeVar, Union
 
 if TYPE_CHECKING:
     from .reports import Report
+
+Value = TypeVar("Value")
 
 WORDS, NO_FILE, BROKEN, UNFIT = 2, 3, 4, 1  # statuses: arguments, a file that can't be read, a broken rule, values that don't fit
 
@@ -33,6 +35,9 @@ class Fault(Exception):
         if self.rule is not None:
             parts.append(self.rule)
         return ": ".join([*parts, self.why])
+
+    def __repr__(self) -> str:
+        return f"{type(self).__name__}({str(self)!r})"
 
     def placed(self, file: Optional[str] = None, line: Optional[int] = None) -> "Fault":
         """This fault with a file and a line, where it has none yet."""
@@ -86,3 +91,13 @@ class OutOfRange(Fault):
 
     def __init__(self, why: str, *, status: int = UNFIT) -> None:
         super().__init__(why, status=status)
+
+
+def outcome(call: Callable[..., Value], *given: Any, **named: Any) -> Union[Value, Fault]:
+    """What a call of the package returns, or the Fault that it raises: `outcome(solve, net, 60, phases=3)`.
+
+    So one run that fails doesn't end the others. Any other exception is raised."""
+    try:
+        return call(*given, **named)
+    except Fault as fault:
+        return fault

@@ -7,11 +7,12 @@ from fractions import Fraction
 from typing import Any, Hashable, Iterable, Iterator, Mapping, Optional, Union
 
 from .faults import Fault, OutOfRange, Refused
-from .given import Net, as_network
+from .given import Net, Run, as_network, as_report
 from .networks import Link, Network
-from .numbers import Number, exact, time_of
+from .numbers import Number, Time, exact, time_of
 from .renaming import Names, joined
 from .rounding import MOST, Rounding
+from .rows import LINK_WORDS, table
 
 
 def clean_names(graph: Iterable[Hashable]) -> dict[Hashable, str]:
@@ -95,11 +96,13 @@ def from_networkx(graph: Any, source: Hashable, sink: Hashable, *, supply: Itera
     return Network(str(source), str(sink), links, supply)
 
 
-def to_networkx(net: Net) -> Any:
+def to_networkx(net: Net, run: Optional[Run] = None, every: Time = 5) -> Any:
     """The network as a MultiDiGraph of networkx: keys are the names of links, `transit` and `capacity` are Fractions (None: unbounded).
 
+    With a report each edge also has the lists `queue`, `wait`, `in` and `out`, as the columns of `table`: one value for each of the
+    times, `every` minutes apart, that the graph's attribute `times` has. An idle link has 0.
     The graph's attributes `source`, `sink` and `supply` hold the rest, so `from_networkx(graph, source, sink, supply=supply)` gives the
-    network back. Raises a Fault where networkx isn't installed."""
+    network back. Raises a Fault where networkx isn't installed, and where the report is one of another network."""
     try:
         networkx: Any = importlib.import_module("networkx")
     except ImportError:
@@ -109,4 +112,9 @@ def to_networkx(net: Net) -> Any:
     graph.add_nodes_from([*net.nodes(), *net.idle_nodes()])
     for link in net.links.values():
         graph.add_edge(link.tail, link.head, key=link.name, transit=link.transit, capacity=link.capacity)
+    if run is not None:
+        rows = table(as_report(net, run), every, show=LINK_WORDS)
+        graph.graph["times"] = [row["time"] for row in rows]
+        for _, _, name, data in graph.edges(keys=True, data=True):
+            data.update({word: [row.get(f"{name} {word}", Fraction(0)) for row in rows] for word in LINK_WORDS})
     return graph

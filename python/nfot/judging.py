@@ -6,12 +6,12 @@ from typing import Dict, List, Mapping, Sequence, Tuple
 
 from .curves import Curve
 from .faults import OutOfRange, Refused
-from .given import Net, as_network, as_values
+from .given import Net, as_network, as_routes, as_values
 from .labels import earliest
 from .loading import FedLink, Piece
 from .near import near
 from .networks import Network
-from .numbers import Number, exact, short
+from .numbers import Number, exact, pairs_of, short
 from .reports import Report
 from .routing import loaded_routes, rates_of
 
@@ -21,7 +21,7 @@ Routes = Mapping[str, Tuple[Sequence[str], Sequence[Tuple[Number, Number]]]]  # 
 
 def pieces_of(pieces: Sequence[Tuple[Number, Number]], what: str) -> List[Piece]:
     """The pieces (start, rate) as Fractions; Refused where one is negative or the starts don't rise. `what` names them in faults."""
-    made = [(exact(start), exact(rate)) for start, rate in pieces]
+    made = [(exact(start), exact(rate)) for start, rate in pairs_of(pieces, what)]
     for number, (start, rate) in enumerate(made):
         if start < 0 or rate < 0:
             raise Refused(f"{what}: the rate {short(rate)} from {short(start)} on has a negative number")
@@ -63,7 +63,7 @@ def report_of_routes(net: Net, routes: Routes, horizon: Number) -> Report:
     walk from source to sink, or links of routes follow each other round a cycle.
     """
     network, end = as_network(net), exact(horizon)
-    given = {name: (links, pieces_of(pieces, f"route {name}")) for name, (links, pieces) in as_values(routes, "read_routes").items()}
+    given = {name: (links, pieces_of(pieces, f"route {name}")) for name, (links, pieces) in as_routes(routes).items()}
     loaded = loaded_routes(network, given, end)
     return report_of_loaded(network, {**loaded_links(network, {}), **loaded}, end)
 
@@ -74,7 +74,7 @@ def supply_of(routes: Routes, horizon: Number) -> List[Piece]:
     Take it where vehicles don't leave at the rates of the network's own supply.
     """
     end = exact(horizon)
-    return rates_of([Curve.of_rates(pieces_of(pieces, f"route {name}"), end) for name, (_, pieces) in as_values(routes, "read_routes").items()])
+    return rates_of([Curve.of_rates(pieces_of(pieces, f"route {name}"), end) for name, (_, pieces) in as_routes(routes).items()])
 
 
 def report_of_loaded(net: Network, loaded: Mapping[str, FedLink], reached: Fraction) -> Report:

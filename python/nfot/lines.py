@@ -31,7 +31,7 @@ def broken(rule: str, why: str, line: int = 0) -> Refused:
 
 def system_fault(name: PathLike, fault: OSError) -> Fault:
     """The fault of a call of the operating system."""
-    shown = "standard input" if os.fspath(name) == "-" else os.fspath(name)
+    shown = shown_name(name)
     if isinstance(fault, FileNotFoundError):
         return NotFound("there is no file of this name", status=NO_FILE, file=shown)
     return Fault(f"{fault.strerror or fault}", status=NO_FILE, file=shown)
@@ -39,7 +39,8 @@ def system_fault(name: PathLike, fault: OSError) -> Fault:
 
 def shown_name(path: PathLike) -> str:
     """The name of a file as faults have it."""
-    return "standard input" if os.fspath(path) == "-" else os.fspath(path)
+    name = os.fsdecode(path)
+    return "standard input" if name == "-" else name
 
 
 def read_bytes(path: PathLike, most: int = MOST_BYTES) -> bytes:

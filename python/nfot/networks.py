@@ -11,7 +11,7 @@ from .faults import OutOfRange, Refused
 from .graph import reached_from
 from .lines import PathLike, Text, as_bytes, broken, check_name, content_words, read_bytes, shown_name, split_lines
 from .near import near
-from .numbers import Number, file_number, hint
+from .numbers import Number, file_number, hint, pairs_of
 from .program import write_beside
 
 __all__ = ["Link", "Network", "network_of", "read_network", "write_network"]
@@ -46,7 +46,7 @@ class Network:
             links = links.values()
         for link in links:
             draft.add_link(link)
-        for start, rate in supply:
+        for start, rate in pairs_of(supply, "supply"):
             draft.add_piece(fitting(start, "start"), fitting(rate, "rate"))
         self._take(draft)
 
@@ -229,5 +229,7 @@ def read_network(path: PathLike) -> Network:
 
 
 def write_network(net: Network, path: PathLike) -> None:
-    """Writes the network file, whole or not at all; `-` is standard output."""
+    """Writes the network file, whole or not at all; `-` is standard output. Refused where the first argument is no network."""
+    if not isinstance(net, Network):
+        raise Refused(f"write_network(net, path) takes a network first, not {net!r:.60}")
     write_beside(path, net.text())

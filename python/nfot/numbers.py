@@ -6,9 +6,12 @@ import re
 from decimal import Decimal
 from fractions import Fraction
 from math import gcd
-from typing import Optional, Union
+from typing import Iterable, List, Optional, Tuple, TypeVar, Union
 
 from .faults import Refused
+
+First = TypeVar("First")
+Second = TypeVar("Second")
 
 Number = Union[int, Fraction, Decimal, str]  # what a network or a report takes
 Time = Union[int, float, Fraction, Decimal, str]  # what the calls of a curve take; a float exactly as it is
@@ -75,9 +78,17 @@ def time_of(value: object) -> Fraction:
     return exact(value)
 
 
-def parse(word: str) -> Fraction:
-    """The number of a word of the command line: "2.5", "7/2", "1e6", or a time of day "7:30" in minutes."""
-    day = _CLOCK.fullmatch(word.strip())
+def pairs_of(given: Iterable[Tuple[First, Second]], what: str) -> List[Tuple[First, Second]]:
+    """The pairs of points or pieces; Refused where `given` isn't made of pairs. `what` names it."""
+    try:
+        return [(first, second) for first, second in given]
+    except (TypeError, ValueError):
+        raise Refused(f"{what}: pairs are needed, as [(0, 4), (60, 0)], not {given!r:.60}") from None
+
+
+def parse(word: Number) -> Fraction:
+    """The number of a word of the command line: "2.5", "7/2", "1e6", or a time of day "7:30" in minutes. Else as `exact`."""
+    day = _CLOCK.fullmatch(word.strip()) if isinstance(word, str) else None
     if day:
         return Fraction(int(day[1]) * 60 + int(day[2])) + Fraction(int(day[3] or 0), 60)
     return exact(word)
@@ -114,8 +125,9 @@ def file_number(word: str, decimals: bool) -> Optional[Fraction]:
     return Fraction(-above if parts[1] else above, below)
 
 
-def short(value: Fraction) -> str:
+def short(value: Time) -> str:
     """The number as a decimal where six digits behind the point are exact, else as a fraction."""
+    value = time_of(value)
     scaled = value * 10 ** 6
     if scaled.denominator != 1 or value.denominator == 1:
         return str(value)
@@ -132,11 +144,12 @@ def decimal(value: Fraction, digits: int = 2) -> str:
     return f"{sign}{whole}.{rest:0{digits}}" if digits else f"{sign}{whole}"
 
 
-def clock(minutes: Fraction, start: Fraction) -> str:
-    """The time of day `minutes` after `start` (in minutes after midnight), as 07:30; with seconds where it isn't a whole minute.
+def clock(minutes: Time, start: Time) -> str:
+    """The time of day `minutes` after `start` (in minutes after midnight, or as "6:00"), as 07:30; with seconds where it isn't a whole minute.
 
     Seconds are rounded. Hours go on after 24: 25:10 is ten past one on the next day.
     """
+    minutes, start = time_of(minutes), parse(start) if isinstance(start, str) else time_of(start)
     seconds = round((start + minutes) * 60)
     sign, seconds = ("-", -seconds) if seconds < 0 else ("", seconds)
     hours, rest = divmod(seconds, 3600)

@@ -54,9 +54,9 @@ def program() -> Program:
         place = shutil.which(str(build))
     if place is not None:
         return Program((place,), not slow.is_slow(place), place)
-    where = slow.place()
+    words = slow.words()
     _warn()
-    return Program((sys.executable, where), False, where)
+    return Program(words, False, words[-1])
 
 
 def _warn() -> None:

@@ -13,7 +13,7 @@ from .lines import check_name
 from .merging import slopes_of
 from .near import near
 from .networks import Network
-from .numbers import Number, Time, short, time_of, within
+from .numbers import Number, Time, pairs_of, short, time_of, within
 
 Points = Union[Curve, Iterable[Tuple[Number, Number]]]
 Rates = Mapping[Tuple[str, str], Sequence[Fraction]]
@@ -30,7 +30,7 @@ def curve_of(points: Points, what: str, until: Optional[Fraction] = None, begins
         if isinstance(points, Curve) and points.start == 0 and all(within(time) and within(value) for time, value in points.points):
             return Curve._made(points.points, max(points.until, until or ZERO))
         pairs = points.points if isinstance(points, Curve) else points
-        made = [(fitting(time, "time"), fitting(value, "value")) for time, value in pairs]
+        made = [(fitting(time, "time"), fitting(value, "value")) for time, value in pairs_of(pairs, "points")]
         kept = [point for at, point in enumerate(made) if at == 0 or point != made[at - 1]]
         if begins and (not kept or kept[0][0] > 0):
             kept.insert(0, (ZERO, ZERO))

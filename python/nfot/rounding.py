@@ -2,8 +2,9 @@
 from __future__ import annotations
 
 from fractions import Fraction
+from itertools import takewhile
 from math import gcd, lcm
-from typing import Iterable, Optional, Sequence
+from typing import Iterable, Iterator, Optional, Sequence
 
 from .faults import Refused
 from .numbers import short
@@ -92,9 +93,14 @@ def unit_for(amounts: Iterable[Fraction], share: Fraction, greatest: Optional[Fr
     Fraction(1, 500)
     """
     given = [amount for amount in amounts if amount > 0]
-    most = min((amount * share for amount in given), default=Fraction(1))
-    unit = round_number(most if greatest is None else min(most, greatest), digits)
+    unit = unit_of_least(given, share, greatest, digits)
     return unit if divides(unit, given) else unit_of_all(given, unit / finer, digits) or unit
+
+
+def unit_of_least(amounts: Sequence[Fraction], share: Fraction, greatest: Optional[Fraction], digits: Sequence[int]) -> Fraction:
+    """The round number, of these digits, that is at most this share of the least amount, and at most `greatest`; of no amounts at most 1."""
+    most = min((amount * share for amount in amounts), default=Fraction(1))
+    return round_number(most if greatest is None else min(most, greatest), digits)
 
 
 def divides(unit: Fraction, amounts: Iterable[Fraction]) -> bool:
@@ -105,7 +111,13 @@ def divides(unit: Fraction, amounts: Iterable[Fraction]) -> bool:
 def unit_of_all(amounts: Sequence[Fraction], least: Fraction, digits: Sequence[int]) -> Optional[Fraction]:
     """The greatest round number, of these digits, of which all amounts (above 0) are multiples; None where it is below `least`."""
     common = Fraction(gcd(*(amount.numerator for amount in amounts)), lcm(*(amount.denominator for amount in amounts)))
-    unit = round_number(common, digits)
-    while unit >= least and not divides(unit, [common]):
-        unit = round_number(unit * Fraction(9, 10), digits)
-    return unit if unit >= least else None
+    tried = takewhile(lambda unit: unit >= least, round_numbers(common, digits))
+    return next((unit for unit in tried if divides(unit, [common])), None)
+
+
+def round_numbers(most: Fraction, digits: Sequence[int]) -> Iterator[Fraction]:
+    """The round numbers, of these digits, that are at most this one (above 0), from the greatest on, without end."""
+    while True:
+        unit = round_number(most, digits)
+        yield unit
+        most = unit * Fraction(9, 10)

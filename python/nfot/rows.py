@@ -18,6 +18,7 @@ from .reports import Report
 Cell = Union[str, Fraction, None]  # None: nothing is known
 RowDict = Dict[str, Cell]
 MOST_ROWS = 1_000_000
+MARK = "\ufeff"  # a byte order mark: with it spreadsheets read UTF-8
 
 
 def count_columns(columns: Sequence[str]) -> set[str]:
@@ -71,8 +72,10 @@ class Rows(Sequence[RowDict]):
         return text.getvalue()
 
     def csv(self, path: str, exact: bool = False, semicolon: bool = False, counts: Collection[str] = ()) -> None:
-        """Writes the table as CSV; `-` is standard output. Raises a Fault where the file can't be written."""
-        write_beside(path, self.csv_text(exact, semicolon, counts))
+        """Writes the table as CSV; `-` is standard output. Raises a Fault where the file can't be written.
+
+        With `semicolon` it begins with a byte order mark (Python's `utf-8-sig`), so that spreadsheets read umlauts rightly."""
+        write_beside(path, MARK * semicolon + self.csv_text(exact, semicolon, counts))
 
     def text(self, exact: bool = False) -> str:
         """The table in columns, numbers with two digits behind the point, or with `exact` as they are."""
@@ -152,20 +155,41 @@ def rows_of(times: Sequence[Fraction], step: Fraction, columns: dict[str, Column
     return Rows([first, *columns], ([time, *(column(time, time + step) for column in columns.values())] for time in times))
 
 
-def table(run: Report, every: Time = 5, links: Optional[Sequence[str]] = None, clock: Optional[str] = None) -> Rows:
+DRIVER_WORDS, LINK_WORDS = ("arrive", "takes"), ("queue", "wait", "in", "out")
+
+
+def names_in(given: Union[str, Iterable[str], None]) -> list[str]:
+    """Several names, or one as a text."""
+    return [given] if isinstance(given, str) else list(given or [])
+
+
+def table(run: Report, every: Time = 5, links: Union[str, Iterable[str], None] = None, clock: Optional[str] = None,
+          show: Union[str, Iterable[str], None] = None) -> Rows:
     """A report on a grid of times, `every` minutes from 0 on, up to the last one at which the queues are known (outflows may be longer).
 
     Columns: `time`; with `clock` (the time of day of time 0, as "6:00") `clock`; `arrive` and `takes` of a driver who leaves the source
     then; of each link `LINK queue` and `LINK wait` at that time, and `LINK in` and `LINK out`, the vehicles that enter and leave it until
-    the next row. A value that isn't known is None. Raises a Fault for a name that isn't in the network."""
+    the next row. `show` picks some of arrive, takes, queue, wait, in, out; with one of a link, and without `links`, all links have it.
+    A value that isn't known is None. Raises a Fault for a link that isn't in the network or is idle, and for a word that is no column."""
+    wanted = names_in(show) or [*DRIVER_WORDS, *LINK_WORDS]
+    check_words(wanted, [*DRIVER_WORDS, *LINK_WORDS])
+    every_link = with_network(run).used_links() if links is None and show is not None and set(wanted) & set(LINK_WORDS) else []
     columns: dict[str, Column] = {"clock": clock_column(clock)} if clock is not None else {}
-    columns.update(arrival_columns(run))
+    columns.update((word, column) for word, column in arrival_columns(run).items() if word in wanted)
     stop = run.reached
-    for link in links or []:
-        columns.update(link_columns(run, link, f"{link} "))
+    for link in names_in(links) or [each.name for each in every_link]:
+        check_link({"": run}, link, "the report has no")
+        columns.update((f"{link} {word}", column) for word, column in link_columns(run, link, "").items() if word in wanted)
         stop = max(stop, run.queue(link).until)
     times = grid(every, stop)
     return rows_of(times, times[1] - times[0] if len(times) > 1 else stop, columns)
+
+
+def check_words(wanted: Sequence[str], offered: Sequence[str]) -> None:
+    """Raises a Fault for a word that is no column."""
+    for word in wanted:
+        if word not in offered:
+            raise Refused(f"{word} is none of the columns: {', '.join(offered)}")
 
 
 def side_by_side(runs: dict[str, Report], link: Union[str, Sequence[str], None], show: Sequence[str], every: Time = 5, clock: Optional[str] = None) -> Rows:
@@ -173,7 +197,9 @@ def side_by_side(runs: dict[str, Report], link: Union[str, Sequence[str], None],
 
     `show` names them: queue, wait, in, out of the link, or of several, then as `NAME LINK queue`; without a link arrive and takes. A link
     that a scenario doesn't have is left empty. The last row is at the last time that is known."""
-    links = [link] if isinstance(link, str) else list(link or [])
+    if not isinstance(runs, dict) or not all(isinstance(run, Report) for run in runs.values()):
+        raise Refused("reports by name are needed, as {\"closed\": run}, not " + f"{runs!r:.60}")
+    links = names_in(link)
     columns: dict[str, Column] = {"clock": clock_column(clock)} if clock is not None else {}
     for each in links:
         check_link(runs, each)
@@ -183,20 +209,19 @@ def side_by_side(runs: dict[str, Report], link: Union[str, Sequence[str], None],
         stop = max(stop, run.reached, *(run.queue(each).until for each in links if each in run.queues))
         for of in columns_of:
             offered = arrival_columns(run) if of is None else link_columns(run, of, "") if of in run.queues else NO_COLUMNS
+            check_words(show, list(offered))
             for word in show:
-                if word not in offered:
-                    raise Refused(f"{word} is none of the columns: {', '.join(offered)}")
                 columns[f"{name} {of} {word}" if len(links) > 1 else f"{name} {word}"] = offered[word]
     return rows_until(stop, every, columns)
 
 
-def check_link(runs: dict[str, Report], link: str) -> None:
-    """Raises a Fault where no scenario has the link, or where it is idle."""
+def check_link(runs: dict[str, Report], link: str, owner: str = "no scenario has a") -> None:
+    """Raises a Fault where no report has the link, or where it is idle; `owner` begins the sentence."""
     if any(link in run.queues for run in runs.values()):
         return
     if any(run.network is not None and link in run.network.links for run in runs.values()):
         raise OutOfRange(f"the link {link} is idle: no walk from the source reaches it")
-    raise OutOfRange(f"no scenario has a link {link}{near(link, [name for run in runs.values() for name in run.queues])}")
+    raise OutOfRange(f"{owner} link {link}{near(link, [name for run in runs.values() for name in run.queues])}")
 
 
 def rows_until(stop: Fraction, every: Time, columns: dict[str, Column]) -> Rows:

@@ -17,7 +17,6 @@ from .graph import least_sums
 from .near import near
 from .networks import Link, Network
 from .numbers import decimal, short
-from .program import write_beside
 from .renaming import Names, joined
 from .roads import Corridor, Road, Roads, corridor
 from .rounding import MOST, Rounding, readable, unit_for
@@ -71,18 +70,20 @@ class Made:
             changed += [f"and {more} more name{'s' * (more > 1)} changed: --names FILE writes them all"] * (more > 0)
         return changed + [note for note in self.notes if note not in self.renamed]
 
-    def names_text(self, semicolon: bool = False) -> str:
-        """The names as CSV; with `semicolon` as `Rows.csv_text` has it."""
+    def name_rows(self) -> Rows:
+        """The names as a table."""
         rows = ([name.id, name.kind, name.name, None if name.line is None else str(name.line), name.km, name.lanes] for name in self.names)
-        return Rows(Name._fields, rows).csv_text(exact=True, semicolon=semicolon)
+        return Rows(Name._fields, rows)
 
     def write_names(self, path: str, semicolon: bool = False) -> None:
         """Writes the names as CSV with the columns id, kind (node or link), name, line, km and lanes. `-` is standard output."""
-        write_beside(path, self.names_text(semicolon))
+        self.name_rows().csv(path, exact=True, semicolon=semicolon)
 
 
 def goals_of(roads: Roads, origin: str, destination: str) -> list[str]:
     """The destinations: one node, or several joined by commas; a Fault where a name is no node of the table."""
+    if not isinstance(roads, Roads):
+        raise Refused(f"roads are needed, as read_roads(path) has them, not {roads!r:.60}")
     places = roads.places()
     goals = [destination] if destination in places else [goal.strip() for goal in destination.split(",")]
     for node in [origin, *goals]:
@@ -178,7 +179,8 @@ def network_of_table(roads: Roads, origin: str, destination: str, demand: Demand
 
     `detour` keeps routes that take at most so many minutes longer than the quickest one on empty roads. Raises a Fault where there is no
     route, more than 64 nodes or 200 links, or a number changes too much."""
-    goals = goals_of(roads, origin, destination)
+    origin = str(origin)
+    goals = goals_of(roads, origin, str(destination))
     found = corridor(roads.open, origin, goals, detour)
     check_size(found.kept, len(goals) if len(goals) > 1 else 0)
     kept = [road for _, road in found.kept]

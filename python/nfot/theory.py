@@ -82,7 +82,9 @@ def broken(net: Net, phase: Phase) -> Optional[Broken]:
 
 
 def all_broken(net: Network, phase: Phase) -> Iterator[Broken]:
-    """All conditions that are broken, in the order in which a reader would look at them."""
+    """All conditions that are broken, in the order in which a reader would look at them; OutOfRange for a phase of another network."""
+    if set(phase.slopes) != set(net.nodes()) or set(phase.flows) != {link.name for link in net.used_links()}:
+        raise OutOfRange("the phase has other nodes or links than the network")
     yield from _signs(net, phase)
     yield from _balances(net, phase)
     if phase.slopes[net.source] != 1:

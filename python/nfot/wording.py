@@ -9,6 +9,8 @@ from .comparing import Group
 from .numbers import clock, decimal, short
 from .queues import Queue
 
+BEYOND = "end of report"  # in place of a time: the queue is still there at the last time that the report knows
+
 
 @dataclass(frozen=True)
 class Words:
@@ -31,7 +33,7 @@ class Words:
 
     def queue(self, queue: Queue) -> str:
         """When a link has a queue, and how long its longest wait is."""
-        spans = [f"from {self.time(start)} to {'(the end of its curve)' if end is None else self.time(end)}" for start, end in queue.spans]
+        spans = [f"from {self.time(start)} to {BEYOND if end is None else self.time(end)}" for start, end in queue.spans]
         return f"{queue.link}: queue {', '.join(spans)}, longest wait {self.number(queue.wait)}"
 
     def group(self, word: str, group: Group) -> str:

@@ -81,7 +81,7 @@ class Examples(Case):
         status, out, err = run("graph.py")
         self.assertEqual((status, err), (0, ""))
         lines = out.splitlines()
-        self.assertEqual((lines[0], lines[3], lines[5]), ("06:00 20.00 0.00 12.00", "06:15 16.50 3.50 20.00", "06:25 10.00 10.00 10.00"))
+        self.assertEqual([lines[at].split()[1:] for at in (1, 4, 6)], [["06:00", "20.00", "0.00", "12.00"], ["06:15", "16.50", "3.50", "20.00"], ["06:25", "10.00", "10.00", "10.00"]])
         self.assertEqual(lines[-1], "('bridge', 'work', 18.25)")
 
     def test_sample(self) -> None:

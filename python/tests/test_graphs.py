@@ -42,6 +42,23 @@ class Graphs(unittest.TestCase):
             again = nfot.from_networkx(graph, graph.graph["source"], graph.graph["sink"], supply=graph.graph["supply"])
             self.assertEqual((set(again.links.values()), again.supply), (set(net.links.values()), net.supply))
 
+    def test_results_stand_on_edges(self) -> None:
+        """Up to 20 all 4 a minute take the bridge, which lets 2 through; then both roads take 2. The bay road's end is known up to 60."""
+        net = nfot.read_network(EXAMPLES / "bridge.net")
+        run = nfot.solve(net, 60)
+        graph = nfot.to_networkx(net, run, every=20)
+        self.assertEqual(graph.graph["times"], [0, 20, 40, 60])
+        self.assertEqual({word: graph.edges["home", "work", "bridge"][word] for word in ("in", "queue", "wait")},
+                         {"in": [80, 40, 40, None], "queue": [0, 40, 40, 40], "wait": [0, 20, 20, 20]})
+        self.assertEqual(graph.edges["home", "work", "bay"]["in"], [0, 40, 40, None])
+        with self.assertRaisesRegex(nfot.OutOfRange, "no label of the node s"):
+            nfot.to_networkx(nfot.read_network(EXAMPLES / "two.net"), run)
+
+    def test_an_idle_link_carries_nothing(self) -> None:
+        net = nfot.network_of("nfot 2\nsource s\nsink t\nlink a s t 1 2\nlink b u t 1 2\ninflow 0 2\nend\n")
+        graph = nfot.to_networkx(net, nfot.solve(net, 2), every=1)
+        self.assertEqual((graph.edges["s", "t", "a"]["in"], graph.edges["u", "t", "b"]["in"]), ([2, 2, None], [0, 0, 0]))
+
     def test_rounding(self) -> None:
         net = self.made(self.graph(minutes=9.96, per_minute=1.93), round_to="1/10")
         self.assertEqual((net.links["home-work"].transit, net.links["home-work"].capacity), (10, Fraction(19, 10)))

@@ -31,6 +31,8 @@ class Installed(Case):
             words = ["--python", str(self.bin / "python"), "install", "--no-index", "--no-compile", *options, str(ROOT)]
             pip = subprocess.run([sys.executable, "-m", "pip", *words], cwd=self.place, stdout=subprocess.PIPE, stderr=subprocess.STDOUT, text=True)
             self.assertEqual(pip.returncode, 0, pip.stdout)
+        shown = self.run_there("python", "-m", "nfot.slow", "solve", str(EXAMPLES / "one.net"), "--horizon", "-1")
+        self.assertEqual((shown.returncode, shown.stdout), (2, ""), shown.stderr)
         script = ("import nfot, sys\nnet = nfot.read_network(sys.argv[1])\nrun = nfot.solve(net, 2)\nprint(run.text(), end='')\n"
                   "print(nfot.check(net, run), nfot.program().proved, nfot.__version__)")
         done = self.run_there("python", "-c", script, str(EXAMPLES / "one.net"))

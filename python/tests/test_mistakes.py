@@ -121,13 +121,51 @@ class Cases(Results):
     def test_semicolons_and_counts(self) -> None:
         """Decimal commas; from 10 vehicles on two digits."""
         pair = self.solved("bridge.net", 60)
-        self.assertEqual(self.fine("times", *pair, "1/3", "--csv", "-", "--semicolon").splitlines(), ["leave;arrive;takes", "0,333333;10,666667;10,333333"])
+        self.assertEqual(self.fine("times", *pair, "1/3", "--csv", "-", "--semicolon").splitlines(), ["\ufeffleave;arrive;takes", "0,333333;10,666667;10,333333"])
         self.assertEqual(self.fine("series", *pair, "--link", "bridge", "--every", "20/3", "--csv", "-").splitlines()[2:3], ["6.666667,13.33"])
-        self.assertTrue(self.fine("city", "--roads", "--semicolon").startswith("from;to;minutes;capacity\n1;2;6;25900,20064\n"))
+        self.assertTrue(self.fine("city", "--roads", "--semicolon").startswith("\ufefffrom;to;minutes;capacity\n1;2;6;25900,20064\n"))
         self.write("roads.csv", "from;to;length_km;time;capacity\nA;B;1,5;2,5;1\n")
         self.fine("table", "roads.csv", "A", "B", "0:1", "--names", "names.csv", "--semicolon")
+        self.assertEqual((self.folder / "names.csv").read_bytes()[:5], b"\xef\xbb\xbfid")
         self.assertIn("\nA-B;link;A-B;2;1,5;\n", (self.folder / "names.csv").read_text())
+        self.fine("times", *pair, "1", "--csv", "plain.csv")
+        self.assertEqual((self.folder / "plain.csv").read_bytes()[:5], b"leave")
         self.assertEqual(nfot.queues.read_places("names.csv")["A-B"].room, Fraction(1500, 7))
+
+    def test_times_of_day_without_the_one_of_minute_0(self) -> None:
+        """7:30 is minute 450 then, and that is said."""
+        pair = self.solved("bridge.net", 60)
+        for words, told in ((["--by", "1:30"], "1:30 is minute 90"), (["0:20", "0:30"], "0:20 is minute 20, 0:30 is minute 30")):
+            status, out, err = self.run_tool("times", *pair, *words)
+            self.assertEqual((status, err), (0, f"nfot-py times: {told} of the run; for times of day give --clock, the time of day of minute 0\n"))
+            status, _, err = self.run_tool("times", *pair, *(word.replace("0:", "6:").replace("1:", "7:") for word in words), "--clock", "6:00")
+            self.assertEqual((status, err), (0, ""))
+        _, _, err = self.run_tool("compare", *pair, *pair, "0:30")
+        self.assertIn("nfot-py compare: 0:30 is minute 30 of the run", err)
+
+    def test_cases_with_other_ends(self) -> None:
+        pairs = [*self.solved("bridge.net", 60), *self.solved("two.net", 4)]
+        for words in (["compare", *pairs], ["series", *pairs]):
+            status, _, err = self.run_tool(*words)
+            self.assertEqual((status, err), (0, f"nfot-py {words[0]}: {pairs[0]} leads from home to work, and {pairs[2]} from s to t\n"))
+
+    def test_options_that_would_be_left_out(self) -> None:
+        pair = self.solved("bridge.net", 60)
+        self.write("roads.csv", HEAD + "A,B,1,5,\n")
+        for wanted, words in [("--by stands alone", ["times", *pair, "--by", 30, "--every", 5]), ("--by stands alone", ["times", *pair, "--by", 30, "--csv", "x.csv"]),
+                              ("give --csv too", ["queues", *pair, "--semicolon"]), ("give --names too", ["table", "roads.csv", "A", "B", "0:1", "--semicolon"]),
+                              ("nan is no number", ["solve-on", pair[0], "--horizon", 1, "--timeout", "nan"]), ("0 isn't above 0", ["solve-on", pair[0], "--horizon", 1, "--timeout", 0])]:
+            self.refused(2, wanted, *words)
+        self.assertEqual(self.fine("times", *pair, "--by", 1000), "departures up to 60.00 (end of report) are at work by 1000.00\n")
+        self.assertEqual(self.fine("times", *pair, "--by", 30), "departures up to 10.00 are at work by 30.00\n")
+        err = self.run_tool("table", "roads.csv", "A", "B", "7:30:2")[2]
+        self.assertIn("nfot-py table: 7:30 is minute 450 of the run; for times of day give --clock", err)
+
+    def test_a_queue_beyond_the_report_has_one_word(self) -> None:
+        pair = self.solved("bridge.net", 60)
+        self.assertIn("bridge: queue from 0.00 to end of report", self.fine("times", *pair, "0"))
+        self.assertEqual(self.fine("queues", *pair).splitlines()[1].split(), "bridge 0.00 end of report 20.00 20.00 40.00".split())
+        self.assertEqual(self.fine("queues", *pair, "--csv", "-").splitlines()[1], "bridge,0,,20,20,40")
 
     def test_the_greatest_amount_of_a_cut_is_first(self) -> None:
         """7 have come by 5.5, as docs/PYTHON.md has it: 4.5 over a, 2.5 over b, which stands first here."""
@@ -163,7 +201,7 @@ class Change(Results):
         self.assertEqual(self.fine("times", *pair, "--node", "v", "--by", 10), "departures up to 4.00 are at v by 10.00\n")
         self.assertEqual(self.fine("times", *pair, "--node", "v", "--by", "7:10", "--clock", "7:00"), "departures up to 07:04 are at v by 07:10\n")
         self.assertEqual(self.fine("times", *pair, "--by", 2), "no departure is at t by 2.00\n")
-        self.assertEqual(self.fine("times", *pair, "--by", 500), "departures up to 60.00 are at t by 500.00\n")
+        self.assertEqual(self.fine("times", *pair, "--by", 500), "departures up to 60.00 (end of report) are at t by 500.00\n")
         self.assertTrue(self.fine("times", *pair, "4", "--node", "v").startswith("leave 4.00  arrive 10.00  takes 6.00\n"))
         self.refused(1, "no node V (the nearest name is v)", "times", *pair, "--node", "V")
 
@@ -203,6 +241,36 @@ class Given(Results):
         for given in (lambda: nfot.queues_of(report), lambda: nfot.table(report), lambda: nfot.supply_of("x.routes", 1), lambda: nfot.report_of_flows(net, "x.loads", 1)):
             with self.assertRaisesRegex(nfot.Refused, "read it by read_report|read the file by read_"):
                 given()
+
+    def test_values_in_the_wrong_order(self) -> None:
+        net, report = self.solved("bridge.net", 60)
+        value, run = nfot.read_pair(net, report)
+        for given in (lambda: nfot.write_network("x.net", value), lambda: nfot.write_report("x.report", run), lambda: nfot.write_network(run, "x.net"),
+                      lambda: nfot.write_report(value, "x.report")):
+            with self.assertRaisesRegex(nfot.Refused, r"^write_(network|report)\((net|report), path\) takes a (network|report) first, not "):
+                given()
+        self.assertEqual(os.listdir(), [report])
+
+    def test_values_of_another_kind(self) -> None:
+        """A pair in place of pairs, a tuple in place of a link, a name of a file in place of a table or a report."""
+        net, report = self.solved("bridge.net", 60)
+        value, run = nfot.read_pair(net, report)
+        link = nfot.Link("a", "s", "t", 1, 1)
+        self.write("roads.csv", HEAD + "1,2,1,5,\n")
+        for wanted, given in [("supply: pairs are needed, as", lambda: nfot.Network("s", "t", [link], (0, 4))), ("a link is made by Link", lambda: nfot.Network("s", "t", [("a", "s")])),
+                              ("rates of bridge: pairs are needed", lambda: nfot.load(value, {"bridge": 4}, 1)), ("points of a curve: pairs", lambda: nfot.Curve([1, 2])),
+                              ("queues?: pairs|queue of bridge: points: pairs", lambda: nfot.Report(1, 1, {"home": [(0, 0)], "work": [(0, 10)]}, queues={"bridge": [3]}, network=value)),
+                              ("reports by name are needed", lambda: nfot.side_by_side([run], "bridge", ["queue"])), ("reports by name", lambda: nfot.side_by_side({"a": report}, None, ["takes"])),
+                              ("the phase has other nodes or links", lambda: nfot.broken(EXAMPLES / "two.net", nfot.phases(value, run)[0])),
+                              ("roads are needed, as read_roads", lambda: nfot.network_of_table("roads.csv", "1", "2")),
+                              ("route r: a pair of links and pieces is needed", lambda: nfot.routes(value, {"r": ["bridge"]}, 1)),
+                              ("route r: a pair of links and pieces", lambda: nfot.report_of_routes(value, {"r": 3}, 1)), ("link bridge: pairs are", lambda: nfot.report_of_flows(value, {"bridge": [1]}, 1)),
+                              ("nothing.net: there is no file", lambda: nfot.read_network(b"nothing.net"))]:
+            with self.assertRaisesRegex(nfot.Fault, wanted):
+                given()
+        self.assertEqual(nfot.supply_of({"r": ("bridge", [(0, 4)])}, 1), [(0, 4), (1, 0)])
+        self.assertEqual(nfot.network_of_table(nfot.read_roads("roads.csv"), 1, 2).network.source, "1")
+        self.assertEqual((nfot.clock(1.5, "6:00"), nfot.short(0.5), nfot.parse(3), nfot.read_demand(self.write("c.csv", "10\n20\n"), 7.5).pieces[1][0]), ("06:01:30", "0.5", 3, Fraction(15, 2)))
 
     def test_a_report_that_is_cut(self) -> None:
         net, report = self.solved("bridge.net", 60)

@@ -7,6 +7,7 @@ import signal
 import subprocess
 import sys
 import tempfile
+import time
 import unittest
 from unittest import mock
 
@@ -44,7 +45,7 @@ class Which(Case):
         with self.alone(), mock.patch.object(MODULE, "_warned", False), contextlib.redirect_stderr(told):
             with mock.patch.object(MODULE, "__file__", str(self.folder() / "python/nfot/program.py")):
                 found = [nfot.program(), nfot.program()]
-        self.assertEqual((found[0].words, found[0].proved), ((sys.executable, str(ROOT / "tests/independent")), False))
+        self.assertEqual((found[0].words, found[0].proved), ((sys.executable, str(ROOT / "python/nfot/slow/guard.py"), str(ROOT / "tests/independent")), False))
         self.assertEqual(told.getvalue(), "nfot: no proved program found; using the slow one (put nfot on the PATH, or set NFOT)\n")
         checkout = self.folder()
         build = checkout / "crates/nfot/out/nfot"
@@ -60,6 +61,13 @@ class Which(Case):
                 self.faulted(nfot.NotFound, "neither the program nfot nor the slow one is here", nfot.program)
 
 
+    def test_the_slow_one_by_itself(self) -> None:
+        """It runs whatever NFOT is, with its own output and status."""
+        words = [sys.executable, "-m", "nfot.slow", "check", str(EXAMPLES / "two.net"), str(EXAMPLES / "late.report")]
+        done = subprocess.run(words, env={**os.environ, "NFOT": "/nowhere/nfot", "PYTHONPATH": str(ROOT / "python")}, stdout=subprocess.PIPE, stderr=subprocess.PIPE, text=True)
+        self.assertEqual((done.returncode, done.stdout, done.stderr), (10, "no C3 t 2 7 5\n", "nfot: no equilibrium\n"))
+
+
 class Ends(Case):
     def test_a_killed_program(self) -> None:
         for name in ("KILL", "TERM", "XFSZ"):
@@ -67,6 +75,22 @@ class Ends(Case):
                 fault = self.faulted(nfot.Killed, f"nfot solve was ended by the signal SIG{name}", nfot.solve, example("one"), 2)
                 assert isinstance(fault, nfot.Killed)
                 self.assertEqual((fault.signal, fault.status), (f"SIG{name}", 128 + getattr(signal, f"SIG{name}")))
+
+    @unittest.skipUnless(os.name == "posix", "another system tells no new parent")
+    def test_a_slow_program_ends_with_its_parent(self) -> None:
+        """Also where the parent is killed at once, and can do nothing about it."""
+        script = ("import subprocess, sys\nfrom nfot import slow\n"
+                  "process = subprocess.Popen([*slow.words(), 'solve', sys.argv[1], '--horizon', '1200'])\nprint(process.pid, flush=True)\nprocess.wait()")
+        environment = {**os.environ, "PYTHONPATH": str(ROOT / "python")}
+        with subprocess.Popen([sys.executable, "-c", script, str(EXAMPLES / "siouxfalls.net")], env=environment, stdout=subprocess.PIPE) as parent:
+            assert parent.stdout is not None
+            child = int(parent.stdout.readline())
+            time.sleep(1)
+            parent.kill()
+            begun = time.monotonic()
+            parent.stdout.read()  # the child has this pipe too, so it ends with the child
+        self.assertLess(time.monotonic() - begun, 5)
+        self.assertGreater(child, 0)
 
     def test_a_timeout_ends_the_program(self) -> None:
         with self.program_of("exec sleep 60"):

@@ -37,7 +37,7 @@ class Times(Results):
         """Who leaves at 30 takes 30; 40 cars at 2 a minute are a wait of 20. In all 6,400 minutes, as docs/GUIDE.md works out."""
         self.assertEqual(self.fine("times", *self.solved("bridge.net", 60), "0", "20", "30", "1:00").splitlines(), [
             "leave 0.00  arrive 10.00  takes 10.00", "leave 20.00  arrive 50.00  takes 30.00", "leave 30.00  arrive 60.00  takes 30.00",
-            "leave 60.00  arrive 90.00  takes 30.00", "bridge: queue from 0.00 to (the end of its curve), longest wait 20.00",
+            "leave 60.00  arrive 90.00  takes 30.00", "bridge: queue from 0.00 to end of report, longest wait 20.00",
             "all together on the way: 6400.0, a vehicle 26.67"])
 
     def test_report_from_standard_input(self) -> None:
@@ -110,7 +110,7 @@ class Queues(Results):
         """The bridge of bridge.net has 140 metres, so 20 vehicles of 7 metres: its queue grows by 2 a minute, and is longer from 10 on."""
         self.write("names.csv", "id,kind,name,line,km,lanes\nhome,node,Zuhause,,,\nbridge,link,Brücke,2,0.14,1\nbay,link,Bucht,3,,\n")
         out = self.fine("queues", *self.solved("bridge.net", 60), "--names", "names.csv").splitlines()
-        self.assertEqual([out[0].split("  ")[-1], out[1].split()], ["too long from", ["bridge", "0.00", "20.00", "20.00", "40.00", "Brücke", "20.00", "10.00"]])
+        self.assertEqual([out[0].split("  ")[-1], out[1].split()], ["too long from", "bridge 0.00 end of report 20.00 20.00 40.00 Brücke 20.00 10.00".split()])
 
     def test_a_row_for_each_stretch(self) -> None:
         """A capacity of 1 takes 2 a minute up to 4, so 4 wait then, until 8; and 3 a minute from 30 to 35, so 10 wait then, until 45."""
@@ -242,6 +242,19 @@ class Library(Results):
         self.assertEqual(self.rows("table.csv")[3]["bridge in"], "")
         with self.assertRaisesRegex(nfot.OutOfRange, "tunnel"):
             nfot.table(self.run_of("bridge.net", 60), links=["tunnel"])
+
+    def test_columns_that_are_picked(self) -> None:
+        run = self.run_of("bridge.net", 60)
+        self.assertEqual(nfot.table(run, every=60, show=["in"]).columns, ("time", "bridge in", "bay in"))
+        self.assertEqual([dict(row) for row in nfot.table(run, every=30, links="bay", show=("in", "takes"))],
+                         [{"time": 0, "takes": 10, "bay in": 20}, {"time": 30, "takes": 30, "bay in": 60}, {"time": 60, "takes": 30, "bay in": None}])
+        self.assertEqual(nfot.table(run, every=60, show="takes").columns, ("time", "takes"))
+        for wrong in (["inflow"], "inflow"):
+            with self.assertRaisesRegex(nfot.Refused, "inflow is none of the columns: arrive, takes, queue, wait, in, out"):
+                nfot.table(run, show=wrong)
+        idle = nfot.network_of("nfot 2\nsource s\nsink t\nlink a s t 1 2\nlink b u t 1 2\ninflow 0 2\nend\n")
+        with self.assertRaisesRegex(nfot.OutOfRange, "the link b is idle"):
+            nfot.table(nfot.solve(idle, 2), links=idle.links)
 
     def test_compare(self) -> None:
         net, other = (nfot.read_network(EXAMPLES / name) for name in ("paradox.net", "paradox-closed.net"))

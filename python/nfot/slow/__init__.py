@@ -6,6 +6,8 @@ from __future__ import annotations
 
 import os
 import pathlib
+import sys
+from typing import Tuple
 
 from ..faults import NotFound
 
@@ -18,6 +20,11 @@ def place() -> str:
         if (folder / "__main__.py").is_file():
             return str(folder)
     raise NotFound("neither the program nfot nor the slow one is here: install the package again, or set NFOT to the program", status=127)
+
+
+def words() -> Tuple[str, ...]:
+    """The words that run the slow program as long as this process lives; NotFound where the package is incomplete."""
+    return sys.executable, str(HERE / "guard.py"), place()
 
 
 def is_slow(path: str) -> bool:

@@ -65,9 +65,17 @@ def run_tool(name: str, words: Words) -> int:
     getattr(module, "check_words", len)(words)
     cut = list(words).index("--") if "--" in words else len(words)
     arguments = parser.parse_intermixed_args(list(words[:cut]))
+    check_semicolon(arguments)
     arguments.behind = list(words[cut + 1:]) if cut < len(words) else None
     status: int = module.main(arguments)
     return status
+
+
+def check_semicolon(arguments: argparse.Namespace) -> None:
+    """Refuses --semicolon where no CSV is written."""
+    wanted = next((option for option in ("csv", "names", "roads") if hasattr(arguments, option)), None)
+    if getattr(arguments, "semicolon", False) and wanted is not None and getattr(arguments, wanted) in (None, False):
+        raise Refused(f"--semicolon is a form of CSV: give --{wanted} too")
 
 
 def chosen(words: Words) -> int:

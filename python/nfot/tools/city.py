@@ -13,7 +13,7 @@ from pathlib import Path
 
 from ..demand import demand_of_words
 from ..faults import Refused
-from ..rows import Rows
+from ..rows import MARK, Rows
 from .options import add_semicolon, positive
 
 ROADS = Path(__file__).resolve().parents[1] / "data/siouxfalls.txt"
@@ -52,7 +52,7 @@ def main(arguments: argparse.Namespace) -> int:
         if arguments.unit is not None:
             raise Refused("--roads stands alone")
         rows = [(tail, head, Fraction(minutes), Fraction(capacity)) for tail, head, capacity, minutes in roads()]
-        print(Rows(["from", "to", "minutes", "capacity"], rows).csv_text(semicolon=arguments.semicolon), end="")
+        print(MARK * arguments.semicolon + Rows(["from", "to", "minutes", "capacity"], rows).csv_text(semicolon=arguments.semicolon), end="")
         return 0
     if arguments.destination is None:
         raise Refused("UNIT, FROM and TO are needed, or --roads (nfot-py city --help says more)")

@@ -53,6 +53,14 @@ def tell_alike(tool: str, names: Sequence[str], runs: Sequence[tuple[Network, Re
             print(f"nfot-py {tool}: {said} ({names[0]} and {name})", file=sys.stderr)
 
 
+def tell_ends(tool: str, names: Sequence[str], runs: Sequence[tuple[Network, Report]]) -> None:
+    """Says on standard error which cases have another source or sink than the first one. `names` are those of their networks."""
+    ends = [(net.source, net.sink) for net, _ in runs]
+    for name, other in zip(names[1:], ends[1:]):
+        if other != ends[0]:
+            print(f"nfot-py {tool}: {names[0]} leads from {' to '.join(ends[0])}, and {name} from {' to '.join(other)}", file=sys.stderr)
+
+
 def warn(tool: str, report: str, run: Report, so: str = "") -> None:
     """Says on standard error that a report is no equilibrium, where `check` says no, or that it couldn't be checked.
 
@@ -72,6 +80,13 @@ def check_inputs(*paths: Optional[str]) -> None:
     """Refuses a second file that is standard input."""
     if paths.count("-") > 1:
         raise Refused("only one of the files can be standard input")
+
+
+def tell_minutes(tool: str, words: Sequence[str], clock: Optional[Fraction]) -> None:
+    """Says on standard error how words as 7:30 are read where minute 0 has no time of day."""
+    read = [f"{word} is minute {short(minutes_at(word, None))}" for word in words if ":" in word and clock is None]
+    if read:
+        print(f"nfot-py {tool}: {', '.join(read)} of the run; for times of day give --clock, the time of day of minute 0", file=sys.stderr)
 
 
 def departures(words: list[str], clock: Optional[Fraction], run: Report, name: str) -> list[Fraction]:

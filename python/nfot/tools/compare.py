@@ -17,7 +17,7 @@ from ..numbers import decimal
 from ..reports import Report
 from ..rows import Rows, grid
 from ..wording import Words
-from .common import check_inputs, departures, read_run, tell_alike, warn, write_rows
+from .common import check_inputs, departures, read_run, tell_alike, tell_ends, tell_minutes, warn, write_rows
 from .options import add_clock, add_csv, positive
 
 
@@ -65,7 +65,9 @@ def main(arguments: argparse.Namespace) -> int:
     if arguments.every is not None:
         times = sorted({*times, *grid(arguments.every, found.until)})
     times = times or [start for start, _ in pairs[0][0].supply if start <= found.until]
-    tell_alike("compare", (arguments.net1, arguments.net2), pairs)
+    tell_minutes("compare", arguments.departures, arguments.clock)
+    for tell in (tell_alike, tell_ends):
+        tell("compare", (arguments.net1, arguments.net2), pairs)
     for report, (_, run) in zip((arguments.report1, arguments.report2), pairs):
         warn("compare", report, run)
     if arguments.csv is not None:

@@ -28,6 +28,14 @@ def least(bound: Fraction, open_end: bool = False) -> Callable[[str], Fraction]:
     return read
 
 
+positive, natural = least(Fraction(0), True), least(Fraction(0))
+
+
+def seconds(word: str) -> float:
+    """A time limit: a number of seconds above 0."""
+    return float(positive(word))
+
+
 def time_of_day(word: str) -> Fraction:
     """A time of day, as 6:00, in minutes."""
     found = number(word)
@@ -42,9 +50,6 @@ def count(word: str) -> int:
     if not word.isdecimal() or not int(word):
         raise argparse.ArgumentTypeError(f"{word} is no whole number above 0")
     return int(word)
-
-
-positive, natural = least(Fraction(0), True), least(Fraction(0))
 
 
 def add_pair(parser: argparse.ArgumentParser) -> None:
@@ -67,4 +72,5 @@ def add_csv(parser: argparse.ArgumentParser) -> None:
 
 def add_semicolon(parser: argparse.ArgumentParser) -> None:
     """The option --semicolon."""
-    parser.add_argument("--semicolon", action="store_true", help="CSV with `;` between fields and decimal commas, as spreadsheets in German want it")
+    parser.add_argument("--semicolon", action="store_true", help="CSV for spreadsheets in German: `;` between fields, decimal commas, "
+                        "and a byte order mark (UTF-8), so that umlauts are read rightly")

@@ -1,6 +1,7 @@
 """Prints the queues of a report, the longest wait first: when, how long, how many vehicles.
 
-A link whose queue is empty in between has a row for each stretch of time with a queue.
+A link whose queue is empty in between has a row for each stretch of time with a queue. A queue that is still there at the last time that the
+report knows is there until `end of report` (in CSV the cell is empty).
 With --names, a file that `nfot-py table --names` wrote, the table has the names of the roads; and where their lengths are known, how many
 vehicles the road holds, and from when on the queue is longer than the road (in the model queues take no room).
 
@@ -16,6 +17,7 @@ from ..numbers import clock
 from ..queues import VEHICLE, Place, Queue, longest_first, queues_of, read_places
 from ..reports import Report
 from ..rows import Cell, Rows
+from ..wording import BEYOND
 from .common import read_run, warn, write_rows
 from .options import add_clock, add_csv, add_pair, count, positive
 
@@ -41,11 +43,12 @@ def exceeded(run: Report, queue: Queue, room: Fraction) -> Optional[Fraction]:
     return None
 
 
-def row_of(run: Report, queue: Queue, begin: Optional[Fraction], places: Optional[dict[str, Place]]) -> list[Cell]:
-    """The cells of a stretch with a queue."""
+def row_of(run: Report, queue: Queue, begin: Optional[Fraction], places: Optional[dict[str, Place]], beyond: Cell) -> list[Cell]:
+    """The cells of a stretch with a queue; `beyond` stands for an end that the report doesn't know."""
     def at(time: Optional[Fraction]) -> Cell:
         return time if time is None or begin is None else clock(time, begin)
-    cells: list[Cell] = [queue.link, at(queue.spans[0][0]), at(queue.spans[0][1]), queue.wait, at(queue.time), queue.vehicles]
+    until = at(queue.spans[0][1])
+    cells: list[Cell] = [queue.link, at(queue.spans[0][0]), beyond if until is None else until, queue.wait, at(queue.time), queue.vehicles]
     if places is not None:
         place = places.get(queue.link, Place(queue.link, None))
         over = None if place.room is None else exceeded(run, queue, place.room)
@@ -63,5 +66,6 @@ def main(arguments: argparse.Namespace) -> int:
     if not found and arguments.csv is None:
         print("no link has a queue")
         return 0
-    write_rows(Rows(columns, [row_of(run, queue, arguments.clock, places) for queue in found]), arguments)
+    beyond = BEYOND if arguments.csv is None else None
+    write_rows(Rows(columns, [row_of(run, queue, arguments.clock, places, beyond) for queue in found]), arguments)
     return 0

@@ -14,7 +14,7 @@ from ..faults import Refused
 from ..networks import Network
 from ..reports import Report
 from ..rows import side_by_side
-from .common import check_inputs, read_run, tell_alike, warn, write_rows
+from .common import check_inputs, read_run, tell_alike, tell_ends, warn, write_rows
 from .options import add_clock, add_csv, positive
 
 
@@ -48,7 +48,8 @@ def main(arguments: argparse.Namespace) -> int:
     found = runs_of(arguments.files)
     runs = {name: run for name, (_, run) in found.items()}
     rows = side_by_side(runs, arguments.link, show, arguments.every, clock)
-    tell_alike("series", arguments.files[::2], list(found.values()))
+    for tell in (tell_alike, tell_ends):
+        tell("series", arguments.files[::2], list(found.values()))
     for report, run in zip(arguments.files[1::2], runs.values()):
         warn("series", report, run)
     write_rows(rows, arguments)

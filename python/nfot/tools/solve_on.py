@@ -14,7 +14,7 @@ from ..commands import solve
 from ..faults import Stopped
 from ..networks import read_network
 from ..reports import Report, write_report
-from .options import count, natural
+from .options import count, natural, seconds
 
 
 def add_arguments(parser: argparse.ArgumentParser) -> None:
@@ -23,7 +23,7 @@ def add_arguments(parser: argparse.ArgumentParser) -> None:
     parser.add_argument("--horizon", metavar="Q", type=natural, required=True, help="the last departure")
     parser.add_argument("--phases", metavar="N", type=count, help="the most phases of a run (10000)")
     parser.add_argument("--patterns", metavar="N", type=count, help="the most patterns that a phase tries before the package helps (100000)")
-    parser.add_argument("--timeout", metavar="SECONDS", type=float, help="the most seconds of each run of nfot")
+    parser.add_argument("--timeout", metavar="SECONDS", type=seconds, help="the most seconds of each run of nfot")
     parser.add_argument("--out", metavar="PATH", help="write the report to this file, whole or not at all")
 
 

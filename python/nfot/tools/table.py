@@ -22,7 +22,7 @@ from ..faults import Refused
 from ..numbers import clock
 from ..roads import Columns, read_roads
 from ..tables import Units, network_of_table
-from .common import check_inputs
+from .common import check_inputs, tell_minutes
 from .options import add_semicolon, natural, number, positive, time_of_day
 
 COLUMNS = [("--from", "tail", "node at which a road begins (usual: from)"), ("--to", "head", "node at which it ends (usual: to)"),
@@ -81,6 +81,7 @@ def main(arguments: argparse.Namespace) -> int:
     check_inputs(arguments.table, arguments.demand)
     roads = read_roads(arguments.table, columns, two_way=arguments.two_way, hourly=arguments.hourly)
     demand = demand_of(arguments)
+    tell_minutes("table", [word.rpartition(":")[0] for word in arguments.rates], demand.begin)
     units = Units(arguments.round_capacity, arguments.round_time, arguments.round_rate, hourly, arguments.most_change)
     made = network_of_table(roads, arguments.origin, arguments.destination, demand, units=units, detour=arguments.detour)
     if demand.begin is not None:

@@ -2,7 +2,7 @@
 
 DEPARTUREs are minutes, or with --clock times of day. With --every the table has all departures in steps; with --csv it is written for a
 spreadsheet, alone. A wait is the amount in the queue divided by the capacity. With --node the arrivals are those at this node, in place of the
-destination; with --by the last departure that is there by a time is printed, alone.
+destination. With --by the last departure that is there by a time is printed, alone; `end of report` says that the report has no later ones.
 
 example: nfot-py times bridge.net bridge.report 0 30 60
 example: nfot-py times bridge.net bridge.report --every 5 --clock 6:00 --csv times.csv"""
@@ -19,8 +19,8 @@ from ..faults import Refused
 from ..numbers import clock, decimal
 from ..queues import queues_of
 from ..rows import Rows, grid
-from ..wording import Words
-from .common import departures, read_run, warn, write_rows
+from ..wording import BEYOND, Words
+from .common import departures, read_run, tell_minutes, warn, write_rows
 from .options import add_clock, add_csv, add_pair, positive
 
 
@@ -51,7 +51,8 @@ def line_by(arguments: argparse.Namespace, label: Curve, node: str) -> str:
     last = last_by(label, time)
     if last is None:
         return f"no departure is at {node} by {words.time(time)}"
-    return f"departures up to {words.time(last)} are at {node} by {words.time(time)}"
+    beyond = f" ({BEYOND})" if last == label.points[-1][0] and label.points[-1][1] < time else ""
+    return f"departures up to {words.time(last)}{beyond} are at {node} by {words.time(time)}"
 
 
 def rows_of(label: Curve, times: list[Fraction], begin: Fraction | None) -> Rows:
@@ -68,8 +69,11 @@ def main(arguments: argparse.Namespace) -> int:
         times = sorted({*times, *grid(arguments.every, run.reached)})
     node = network.sink if arguments.node is None else arguments.node
     rows = rows_of(run.label(node), times, arguments.clock)
+    if arguments.by is not None and (times or arguments.csv is not None):
+        raise Refused("--by stands alone: it has no departures, no --every and no --csv")
     if arguments.csv is not None and not times:
         raise Refused("--csv has a row for each departure: name some, or take --every")
+    tell_minutes("times", [*arguments.departures, *([arguments.by] if arguments.by else [])], arguments.clock)
     warn("times", arguments.report, run)
     if arguments.csv is not None:
         write_rows(rows, arguments)
