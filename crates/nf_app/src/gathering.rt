@@ -14,11 +14,8 @@ use nf_app_files::{fetch_network, fetch_network_with};
 use nf_app_words::Request;
 use nf_edge::Shelf;
 use nf_gen::generated;
-use nf_net::Network;
+use nf_net::{LONGEST_FILE, Network};
 use std::alloc::Global;
-
-/// The most bytes that a loads, flows or routes file may have.
-const LONGEST_INPUT: u32 = 1_048_576;
 
 /// The most bytes that a report may have.
 const LONGEST_REPORT: u32 = 67_108_864;
@@ -69,7 +66,7 @@ pub(crate) fn gather<S: Shelf>(
         Request::SolveForever { file, .. } => fetch_one(alloc, shelf, file),
         Request::Show { file } => fetch_one(alloc, shelf, file),
         Request::Load { file, loads, .. } => {
-            fetch_network_with(alloc, shelf, file, loads, LONGEST_INPUT)
+            fetch_network_with(alloc, shelf, file, loads, LONGEST_FILE)
         }
         Request::Check { file, report } => {
             fetch_network_with(alloc, shelf, file, report, LONGEST_REPORT)
@@ -77,13 +74,13 @@ pub(crate) fn gather<S: Shelf>(
         Request::Quick { file, .. } => fetch_one(alloc, shelf, file),
         Request::Gen { number, rungs, .. } => make_ladder(alloc, *number, *rungs),
         Request::Settle { file, flows } => {
-            fetch_network_with(alloc, shelf, file, flows, LONGEST_INPUT)
+            fetch_network_with(alloc, shelf, file, flows, LONGEST_FILE)
         }
         Request::Resume { file, report, .. } => {
             fetch_network_with(alloc, shelf, file, report, LONGEST_REPORT)
         }
         Request::Routes { file, routes, .. } => {
-            fetch_network_with(alloc, shelf, file, routes, LONGEST_INPUT)
+            fetch_network_with(alloc, shelf, file, routes, LONGEST_FILE)
         }
     }
 }

@@ -1,7 +1,7 @@
 -- Lines on standard error, in pieces.
 use Rattle.std.proofs.Common.{◌≡◌, ℕ, List, [], ◌∷◌, ◌++◌, refl, sym, subst, ap, ◌∙◌, append_assoc, append-nil}
 use Rattle.std.specs.Prelude.{flat_map, codes, Option, Result}
-use Rattle.nf_edge.specs.Taken.{Wrote}
+use Rattle.nf_edge.specs.Writing.{SinkState, Wrote}
 use Rattle.nf_text_def.specs.Words.{line_of_words}
 use Rattle.nf_app_answers.specs.ErrorLines.{said}
 
@@ -19,6 +19,6 @@ pub augments_pieces : (digits : List ℕ) → codes "nfot: augments " ++ (digits
 augments_pieces digits = refl
 
 -- the same text, in other words
-pub same_text : {E : Type 0} {old now : Option (List ℕ)} {f g : ℕ} {r : Result (Unit {0}) E} (first text : List ℕ) → first ≡ text → Wrote old now f g first r
-    → Wrote old now f g text r
-same_text {E} {old} {now} {f} {g} {r} first text e w = subst (λ (t : List ℕ). Wrote old now f g t r) e w
+pub same_text : {E : Type 0} {old now : SinkState} {r : Result (Unit {0}) E} (first text : List ℕ) → first ≡ text → Wrote old now first r
+    → Wrote old now text r
+same_text {E} {old} {now} {r} first text e w = subst (λ (t : List ℕ). Wrote old now t r) e w

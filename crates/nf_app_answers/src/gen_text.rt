@@ -4,7 +4,7 @@ ghost use Rattle.std.specs.Option.{option_copied};
 ghost use Rattle.nf_rational.specs.Rational.{ℚ};
 ghost use Rattle.nf_frac_words.specs.Digits.{digits_of};
 ghost use Rattle.nf_frac_words.specs.Printed.{printed};
-ghost use Rattle.nf_edge.specs.Taken.{Wrote};
+ghost use Rattle.nf_edge.specs.Writing.{state_of, Wrote};
 ghost use Rattle.nf_net_def.specs.Causes.{cause_words};
 ghost use Rattle.nf_phase.specs.Solution.{report_in};
 ghost use Rattle.nf_report_pages.specs.Written.{WroteLines};
@@ -27,8 +27,7 @@ pub struct Ladder {
 
 // Writes a line: the name, and a count.
 fn write_counted<O: Sink>(out: &mut O, name: &[u8], count: u64) -> Result<(), SinkFault>
-    ensures { WroteLines (O.took out.old) (O.took out.new) (O.faults out.old) (O.faults out.new)
-        ((name.now ∷ digits_of count ∷ []) ∷ []) result }
+    ensures { WroteLines (state_of O.Sink out.old) (state_of O.Sink out.new) ((name.now ∷ digits_of count ∷ []) ∷ []) result }
 {
     let mut word = TextBuf::new();
     write_count(count, &mut word);
@@ -37,8 +36,7 @@ fn write_counted<O: Sink>(out: &mut O, name: &[u8], count: u64) -> Result<(), Si
 
 // Writes a line: the name, and a number.
 fn write_number<O: Sink>(out: &mut O, name: &[u8], number: Q) -> Result<(), SinkFault>
-    ensures { WroteLines (O.took out.old) (O.took out.new) (O.faults out.old) (O.faults out.new)
-        ((name.now ∷ printed number ∷ []) ∷ []) result }
+    ensures { WroteLines (state_of O.Sink out.old) (state_of O.Sink out.new) ((name.now ∷ printed number ∷ []) ∷ []) result }
 {
     let mut word = TextBuf::new();
     number.write(&mut word);
@@ -47,8 +45,7 @@ fn write_number<O: Sink>(out: &mut O, name: &[u8], number: Q) -> Result<(), Sink
 
 // Writes the line of a ladder: its number, and its number of rungs.
 fn write_ladder<O: Sink>(out: &mut O, ladder: Ladder) -> Result<(), SinkFault>
-    ensures { WroteLines (O.took out.old) (O.took out.new) (O.faults out.old) (O.faults out.new)
-        (ladder_lines ladder.number ladder.rungs) result }
+    ensures { WroteLines (state_of O.Sink out.old) (state_of O.Sink out.new) (ladder_lines ladder.number ladder.rungs) result }
 {
     let mut first = TextBuf::new();
     let mut second = TextBuf::new();
@@ -59,7 +56,7 @@ fn write_ladder<O: Sink>(out: &mut O, ladder: Ladder) -> Result<(), SinkFault>
 
 // Writes the numbers of nodes and links.
 fn write_size<O: Sink>(out: &mut O, net: &Network) -> Result<(), SinkFault>
-    ensures { WroteLines (O.took out.old) (O.took out.new) (O.faults out.old) (O.faults out.new) (size_lines net.now) result }
+    ensures { WroteLines (state_of O.Sink out.old) (state_of O.Sink out.new) (size_lines net.now) result }
 {
     write_counted(out, b"nodes", u64::from(net.node_count()))?;
     write_counted(out, b"links", u64::from(net.link_count()))
@@ -67,7 +64,7 @@ fn write_size<O: Sink>(out: &mut O, net: &Network) -> Result<(), SinkFault>
 
 // Writes the number of phases, and the departure reached.
 fn write_run<O: Sink>(out: &mut O, phases: u64, reached: Q) -> Result<(), SinkFault>
-    ensures { WroteLines (O.took out.old) (O.took out.new) (O.faults out.old) (O.faults out.new) (run_lines phases reached) result }
+    ensures { WroteLines (state_of O.Sink out.old) (state_of O.Sink out.new) (run_lines phases reached) result }
 {
     write_counted(out, b"phases", phases)?;
     write_number(out, b"reached", reached)
@@ -75,8 +72,7 @@ fn write_run<O: Sink>(out: &mut O, phases: u64, reached: Q) -> Result<(), SinkFa
 
 // Writes the cause of the run's end, or `done` without a stop.
 fn write_cause<O: Sink>(out: &mut O, stop: Option<&Stop>) -> Result<(), SinkFault>
-    ensures { WroteLines (O.took out.old) (O.took out.new) (O.faults out.old) (O.faults out.new)
-        ((codes "cause" ∷ cause_words (option_copied stop.entry)) ∷ []) result }
+    ensures { WroteLines (state_of O.Sink out.old) (state_of O.Sink out.new) ((codes "cause" ∷ cause_words (option_copied stop.entry)) ∷ []) result }
 {
     match stop {
         None => write_line(out, b"cause", &[b"done"]),
@@ -86,8 +82,7 @@ fn write_cause<O: Sink>(out: &mut O, stop: Option<&Stop>) -> Result<(), SinkFaul
 
 // Writes the cause of the run's end, and the arrival of the last departure.
 fn write_end<O: Sink>(out: &mut O, stop: Option<&Stop>, arrival: Q) -> Result<(), SinkFault>
-    ensures { WroteLines (O.took out.old) (O.took out.new) (O.faults out.old) (O.faults out.new)
-        (end_lines (option_copied stop.entry) arrival) result }
+    ensures { WroteLines (state_of O.Sink out.old) (state_of O.Sink out.new) (end_lines (option_copied stop.entry) arrival) result }
 {
     write_cause(out, stop)?;
     write_number(out, b"arrival", arrival)
@@ -106,12 +101,10 @@ pub fn write_summary<O: Sink>(
     arrival: Q,
 ) -> Result<(), SinkFault>
     ensures text { (horizon : ℚ) → arrival ≡ last_arrival net.now (report_in horizon solution.now)
-        → Wrote (O.took out.old) (O.took out.new) (O.faults out.old) (O.faults out.new)
-        (gen_text ladder.number ladder.rungs net.now solution.now.phases (report_in horizon solution.now)) result }
+        → Wrote (state_of O.Sink out.old) (state_of O.Sink out.new) (gen_text ladder.number ladder.rungs net.now solution.now.phases (report_in horizon solution.now)) result }
 
     // `lines` states the same for any `arrival`, line by line.
-    ensures lines { WroteLines (O.took out.old) (O.took out.new) (O.faults out.old) (O.faults out.new)
-        (ladder_lines ladder.number ladder.rungs ++ size_lines net.now ++ run_lines solution.now.phases solution.now.flow.reached
+    ensures lines { WroteLines (state_of O.Sink out.old) (state_of O.Sink out.new) (ladder_lines ladder.number ladder.rungs ++ size_lines net.now ++ run_lines solution.now.phases solution.now.flow.reached
         ++ end_lines solution.now.stopped arrival) result }
 {
     write_ladder(out, ladder)?;

@@ -4,7 +4,7 @@ ghost use Rattle.std.specs.List.{enumerate_from};
 ghost use Rattle.nf_frac_words.specs.Printed.{printed};
 ghost use Rattle.nf_text_def.specs.Words.{line_of_words};
 ghost use Rattle.nf_net_def.specs.Names.{name_at};
-ghost use Rattle.nf_edge.specs.Taken.{Wrote};
+ghost use Rattle.nf_edge.specs.Writing.{state_of, Wrote};
 ghost use Rattle.nf_report_pages.specs.Written.{after_words};
 ghost use Rattle.nf_app_answers.specs.QuickText.{walk_line, cut_line, flow_text, arrival_text};
 
@@ -99,7 +99,7 @@ pub fn flow_text(alloc: Global, net: &Network, quick: &Quick) -> Result<Vec<u8>,
 ///
 /// The first fault ends the writing; the sink then took a proper prefix of the line.
 pub fn write_arrival<O: Sink>(out: &mut O, arrival: &Arrival) -> Result<(), SinkFault>
-    ensures { Wrote (O.took out.old) (O.took out.new) (O.faults out.old) (O.faults out.new) (arrival_text arrival.now) result }
+    ensures { Wrote (state_of O.Sink out.old) (state_of O.Sink out.new) (arrival_text arrival.now) result }
 {
     match arrival {
         Arrival::Never => write_line(out, b"equilibrium", &[b"none"]),

@@ -3,7 +3,7 @@ ghost use Rattle.std.specs.Prelude.{◌≡◌, ◌<◌, [], ◌∷◌, length, c
 ghost use Rattle.nf_frac_words.specs.Printed.{printed};
 ghost use Rattle.nf_net_def.specs.Names.{name_at};
 ghost use Rattle.nf_net_def.specs.Report.{for_each};
-ghost use Rattle.nf_edge.specs.Taken.{Wrote};
+ghost use Rattle.nf_edge.specs.Writing.{state_of, Wrote};
 ghost use Rattle.nf_report_pages.specs.Pages.{GatheredLines};
 ghost use Rattle.nf_complete_def.specs.SettleText.{flow_line, settled_lines, settled_text};
 
@@ -22,7 +22,7 @@ fn put_flow<O: Sink>(
     flow: Q,
 ) -> Result<(), SinkFault>
     requires { link < length net.now.net.links }
-    ensures { GatheredLines (O.took out.old) (O.took out.new) (O.faults out.old) (O.faults out.new) page.old page.new
+    ensures { GatheredLines (state_of O.Sink out.old) (state_of O.Sink out.new) page.old page.new
         ((codes "flow" ∷ name_at net.now.link_names link ∷ printed flow ∷ []) ∷ []) result }
 {
     let name = net.link_name(LinkId(link)).as_bytes();
@@ -39,7 +39,7 @@ fn put_flows<O: Sink>(
     flows: &[Q],
 ) -> Result<(), SinkFault>
     requires { length flows.now ≡ length net.now.net.links }
-    ensures { GatheredLines (O.took out.old) (O.took out.new) (O.faults out.old) (O.faults out.new) page.old page.new
+    ensures { GatheredLines (state_of O.Sink out.old) (state_of O.Sink out.new) page.old page.new
         (for_each (length net.now.net.links) (flow_line net.now flows.now)) result }
 {
     for link in 0..net.link_count() {
@@ -57,7 +57,7 @@ fn put_settled<O: Sink>(
 ) -> Result<(), SinkFault>
     requires flows { length settled.now.flows.items ≡ length net.now.net.links }
     requires states { length settled.now.pattern ≡ length net.now.net.links }
-    ensures { GatheredLines (O.took out.old) (O.took out.new) (O.faults out.old) (O.faults out.new) page.old page.new
+    ensures { GatheredLines (state_of O.Sink out.old) (state_of O.Sink out.new) page.old page.new
         (settled_lines net.now settled.now.pattern settled.now.flows.items) result }
 {
     put_states(out, page, net, &settled.pattern)?;
@@ -76,8 +76,7 @@ pub fn write_settled<O: Sink>(
 ) -> Result<(), SinkFault>
     requires flows { length settled.now.flows.items ≡ length net.now.net.links }
     requires states { length settled.now.pattern ≡ length net.now.net.links }
-    ensures { Wrote (O.took out.old) (O.took out.new) (O.faults out.old) (O.faults out.new)
-        (settled_text net.now settled.now.pattern settled.now.flows.items) result }
+    ensures { Wrote (state_of O.Sink out.old) (state_of O.Sink out.new) (settled_text net.now settled.now.pattern settled.now.flows.items) result }
 {
     let mut page = Page::new();
     put_settled(out, &mut page, net, settled)?;

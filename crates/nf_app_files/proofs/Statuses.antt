@@ -11,7 +11,7 @@ use Rattle.nf_net_def.specs.Named.{Named}
 use Rattle.nf_app_answers.specs.declared.outcome.Computed.{Computed}
 use Rattle.nf_app_answers.specs.declared.outcome.Outcome.{Outcome}
 use Rattle.nf_app_answers.specs.Answers.{HasOutput, out_text, err_text, text_of_stop, status_of, status_of_stop, status_of_forever}
-use Rattle.nf_edge.specs.Taken.{Wrote}
+use Rattle.nf_edge.specs.Writing.{SinkState, Wrote}
 use Rattle.nf_app_files.specs.Sinks.{Took, TookText}
 use Rattle.nf_app_answers.specs.Outcomes.{answer_in, answer_with, text_with, stop_of, HasTextWith}
 
@@ -94,7 +94,7 @@ text_is net (Computed.Distributed routes horizon routed) h = refl
 pub took_same : (sink : Took) (first text : List ℕ) → first ≡ text → TookText sink first → TookText sink text
 took_same sink first text same took = subst (λ (t : List ℕ). TookText sink t) same took
 
-pub took_text : {E : Type 0} (old now : Option (List ℕ)) (f g : ℕ) (text : List ℕ) (r : Result (Unit {0}) E) → Wrote old now f g text r
-    → TookText (record { before = old; now = now; faults_before = f; faults_now = g }) text
-took_text old now f g text (Ok u) w = inl (record { all = w.whole; no_fault = w.no_fault })
-took_text old now f g text (Err e) w = inr (record { front = w.front; cause = w.cause })
+pub took_text : {E : Type 0} (old now : SinkState) (text : List ℕ) (r : Result (Unit {0}) E) → Wrote old now text r
+    → TookText (record { before = old.took; now = now.took; faults_before = old.faults; faults_now = now.faults }) text
+took_text old now text (Ok u) w = inl (record { all = w.whole; no_fault = w.no_fault })
+took_text old now text (Err e) w = inr (record { front = w.front; cause = w.cause })

@@ -1,6 +1,7 @@
 -- The files that a request wants, and what a shelf did for it.
 use Rattle.std.specs.Prelude.{◌≡◌, ◌⊎◌, ℕ, ◌<◌, ◌≤◌, List, [], ◌∷◌, ◌++◌, length, map, Option, None, IfSome}
 use Rattle.std.specs.List.{All, last_or}
+use Rattle.nf_text_def.specs.Faults.{longest_text}
 use Rattle.nf_edge.specs.declared.Shelf.{Ghosts}
 use Rattle.nf_edge.specs.Faults.{Rose}
 
@@ -9,7 +10,7 @@ abbrev pub input_limit : ℕ
 input_limit = 1048576
 
 abbrev pub report_limit : ℕ
-report_limit = 67108864
+report_limit = longest_text
 
 -- the name of a file that is wanted, and the most bytes that it may have
 pub record Wanted : Type 0 where

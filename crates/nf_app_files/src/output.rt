@@ -1,7 +1,7 @@
 // Writing an answer to the two sinks.
 ghost use Rattle.std.specs.Prelude.{◌≡◌, ◌≤◌, ◌++◌};
 ghost use Rattle.std.specs.Option.{option_copied};
-ghost use Rattle.nf_edge.specs.Taken.{Wrote};
+ghost use Rattle.nf_edge.specs.Writing.{state_of, Wrote};
 ghost use Rattle.nf_net_def.specs.Named.{Named};
 ghost use Rattle.nf_app_answers.specs.Answers.{status_of, status_of_cause, status_of_stop, status_of_forever, status_of_verdict, err_text, text_of_stop, text_of_verdict};
 ghost use Rattle.nf_app_answers.specs.QuickText.{arrival_text};
@@ -23,7 +23,7 @@ use nf_report::write_report;
 
 // Writes the text of a quickest flow, and then that of the arrival.
 fn write_quick<O: Sink>(text: &[u8], arrival: &Arrival, out: &mut O) -> Result<(), SinkFault>
-    ensures { Wrote (O.took out.old) (O.took out.new) (O.faults out.old) (O.faults out.new) (text.now ++ arrival_text arrival.now) result }
+    ensures { Wrote (state_of O.Sink out.old) (state_of O.Sink out.new) (text.now ++ arrival_text arrival.now) result }
 {
     write_text(out, text)?;
     write_arrival(out, arrival)
@@ -32,7 +32,7 @@ fn write_quick<O: Sink>(text: &[u8], arrival: &Arrival, out: &mut O) -> Result<(
 // Writes the text of an outcome.
 fn write_found<O: Sink>(net: &Network, found: &Computed, out: &mut O) -> Result<(), SinkFault>
     requires { HasTextWith net.now found.now }
-    ensures { Wrote (O.took out.old) (O.took out.new) (O.faults out.old) (O.faults out.new) (text_with net.now found.now) result }
+    ensures { Wrote (state_of O.Sink out.old) (state_of O.Sink out.new) (text_with net.now found.now) result }
 {
     match found {
         Computed::Solved { horizon, solution } => write_report(

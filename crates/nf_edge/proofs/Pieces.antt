@@ -4,7 +4,8 @@ use Rattle.std.proofs.Common.{arith, sym, ap, ◌∙◌, append_assoc, length-dr
 use Rattle.std.proofs.lemmas.List.{take-append-le}
 use Rattle.std.proofs.Math.Seq.{take-add, take-length, take-append-add}
 use Rattle.nf_edge.specs.Faults.{one_more}
-use Rattle.nf_edge.specs.Taken.{with_more, Wrote}
+use Rattle.nf_edge.specs.Taken.{with_more}
+use Rattle.nf_edge.specs.Writing.{SinkState, Wrote}
 
 -- the text without its first bytes
 abbrev pub rest : List ℕ → ℕ → List ℕ
@@ -30,39 +31,38 @@ still_within text done count h k =
 
 -- ---- one text after another
 -- a text written whole, and then the next one
-pub Wrote-append : {E F : Type 0} (old before now : Option (List ℕ)) (first_faults faults_before faults_now : ℕ) (first next : List ℕ) (r : Result (Unit {0}) E)
-    → Wrote {E = F} old before first_faults faults_before first (Ok tt) → Wrote before now faults_before faults_now next r
-    → Wrote old now first_faults faults_now (first ++ next) r
-Wrote-append old before now f g h first next (Ok u) v w = record {
-  whole = w.whole ∙ ap (λ t. with_more t next) v.whole ∙ with_more-with_more old first next;
+pub Wrote-append : {E F : Type 0} (old before now : SinkState) (first next : List ℕ) (r : Result (Unit {0}) E)
+    → Wrote {E = F} old before first (Ok tt) → Wrote before now next r → Wrote old now (first ++ next) r
+Wrote-append old before now first next (Ok u) v w = record {
+  whole = w.whole ∙ ap (λ t. with_more t next) v.whole ∙ with_more-with_more old.took first next;
   no_fault = w.no_fault ∙ v.no_fault;
   front = w.front;
   cause = w.cause;
   never_falls = omega (arith, v.never_falls, w.never_falls);
 }
-Wrote-append old before now f g h first next (Err e) v w = record {
+Wrote-append old before now first next (Err e) v w = record {
   whole = w.whole;
   no_fault = w.no_fault;
   front = record {
     count = length first + w.front.count;
     not_all = let a : length (first ++ next) ≡ length first + length next = length-append first next in omega (arith, w.front.not_all, a);
-    front = w.front.front ∙ ap (λ t. with_more t (take w.front.count next)) v.whole ∙ with_more-with_more old first (take w.front.count next)
-        ∙ ap (with_more old) (sym (take-append-add first next w.front.count));
+    front = w.front.front ∙ ap (λ t. with_more t (take w.front.count next)) v.whole ∙ with_more-with_more old.took first (take w.front.count next)
+        ∙ ap (with_more old.took) (sym (take-append-add first next w.front.count));
   };
   cause = w.cause ∙ ap one_more v.no_fault;
   never_falls = omega (arith, v.never_falls, w.never_falls);
 }
 
 -- a proper prefix of a text is one of each longer text
-pub Wrote-longer : {E F : Type 0} (old now : Option (List ℕ)) (faults_before faults_now : ℕ) (first rest : List ℕ) (e : E) (d : F)
-    → Wrote old now faults_before faults_now first (Err e) → Wrote old now faults_before faults_now (first ++ rest) (Err d)
-Wrote-longer old now f g first rest e d w = record {
+pub Wrote-longer : {E F : Type 0} (old now : SinkState) (first rest : List ℕ) (e : E) (d : F)
+    → Wrote old now first (Err e) → Wrote old now (first ++ rest) (Err d)
+Wrote-longer old now first rest e d w = record {
   whole = tt;
   no_fault = tt;
   front = record {
     count = w.front.count;
     not_all = let a : length (first ++ rest) ≡ length first + length rest = length-append first rest in omega (arith, w.front.not_all, a);
-    front = w.front.front ∙ ap (with_more old) (sym (take-append-le w.front.count first rest (omega (arith, w.front.not_all))));
+    front = w.front.front ∙ ap (with_more old.took) (sym (take-append-le w.front.count first rest (omega (arith, w.front.not_all))));
   };
   cause = w.cause;
   never_falls = w.never_falls;

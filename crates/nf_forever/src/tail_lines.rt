@@ -1,5 +1,6 @@
 // The lines of a tail: the slope of each node's label, and the flow of each link.
 ghost use Rattle.std.specs.Prelude.{◌≡◌, ◌<◌, [], ◌∷◌, ◌++◌, length};
+ghost use Rattle.nf_edge.specs.Writing.{state_of};
 ghost use Rattle.nf_model.specs.Entries.{number_at};
 ghost use Rattle.nf_frac_words.specs.Printed.{printed};
 ghost use Rattle.nf_net_def.specs.Report.{for_each};
@@ -29,7 +30,7 @@ fn put_named<O: Sink>(
     name: &[u8],
     number: Q,
 ) -> Result<(), SinkFault>
-    ensures { GatheredLines (O.took out.old) (O.took out.new) (O.faults out.old) (O.faults out.new) page.old page.new
+    ensures { GatheredLines (state_of O.Sink out.old) (state_of O.Sink out.new) page.old page.new
         ((key.now ∷ name.now ∷ printed number ∷ []) ∷ []) result }
 {
     let mut text = TextBuf::new();
@@ -47,7 +48,7 @@ fn put_slope<O: Sink>(
 ) -> Result<(), SinkFault>
     requires node { node < net.now.net.nodes }
     requires slopes { length tail.now.slopes.items ≡ net.now.net.nodes }
-    ensures { GatheredLines (O.took out.old) (O.took out.new) (O.faults out.old) (O.faults out.new) page.old page.new
+    ensures { GatheredLines (state_of O.Sink out.old) (state_of O.Sink out.new) page.old page.new
         (slope_line net.now (tail_in tail.now) node) result }
 {
     let name = net.node_name(NodeId(node)).as_bytes();
@@ -63,7 +64,7 @@ fn put_slopes<O: Sink>(
     tail: &Tail,
 ) -> Result<(), SinkFault>
     requires { length tail.now.slopes.items ≡ net.now.net.nodes }
-    ensures { GatheredLines (O.took out.old) (O.took out.new) (O.faults out.old) (O.faults out.new) page.old page.new
+    ensures { GatheredLines (state_of O.Sink out.old) (state_of O.Sink out.new) page.old page.new
         (for_each net.now.net.nodes (slope_line net.now (tail_in tail.now))) result }
 {
     for node in 0..net.node_count() {
@@ -82,7 +83,7 @@ fn put_flow<O: Sink>(
 ) -> Result<(), SinkFault>
     requires link { link < length net.now.net.links }
     requires flows { length tail.now.flows.items ≡ length net.now.net.links }
-    ensures { GatheredLines (O.took out.old) (O.took out.new) (O.faults out.old) (O.faults out.new) page.old page.new
+    ensures { GatheredLines (state_of O.Sink out.old) (state_of O.Sink out.new) page.old page.new
         (flow_line net.now (tail_in tail.now) link) result }
 {
     let name = net.link_name(LinkId(link)).as_bytes();
@@ -98,7 +99,7 @@ fn put_flows<O: Sink>(
     tail: &Tail,
 ) -> Result<(), SinkFault>
     requires { length tail.now.flows.items ≡ length net.now.net.links }
-    ensures { GatheredLines (O.took out.old) (O.took out.new) (O.faults out.old) (O.faults out.new) page.old page.new
+    ensures { GatheredLines (state_of O.Sink out.old) (state_of O.Sink out.new) page.old page.new
         (for_each (length net.now.net.links) (flow_line net.now (tail_in tail.now))) result }
 {
     for link in 0..net.link_count() {
@@ -116,7 +117,7 @@ pub(crate) fn put_tail<O: Sink>(
 ) -> Result<(), SinkFault>
     requires slopes { length tail.now.slopes.items ≡ net.now.net.nodes }
     requires flows { length tail.now.flows.items ≡ length net.now.net.links }
-    ensures { GatheredLines (O.took out.old) (O.took out.new) (O.faults out.old) (O.faults out.new) page.old page.new
+    ensures { GatheredLines (state_of O.Sink out.old) (state_of O.Sink out.new) page.old page.new
         (for_each net.now.net.nodes (slope_line net.now (tail_in tail.now))
         ++ for_each (length net.now.net.links) (flow_line net.now (tail_in tail.now))) result }
 {

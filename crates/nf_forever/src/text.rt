@@ -1,7 +1,7 @@
 // The text of a run without a horizon.
 ghost use Rattle.std.specs.Prelude.{◌≡◌, [], ◌∷◌, ◌++◌, length, codes, IfSome};
 ghost use Rattle.std.specs.Option.{option_copied};
-ghost use Rattle.nf_edge.specs.Taken.{Wrote};
+ghost use Rattle.nf_edge.specs.Writing.{state_of, Wrote};
 ghost use Rattle.nf_report_pages.specs.Pages.{GatheredLines};
 ghost use Rattle.nf_forever_def.specs.ForeverText.{HasForm, tail_lines, forever_lines, forever_text};
 ghost use Rattle.nf_forever.specs.Seen.{forever_in};
@@ -22,7 +22,7 @@ fn put_head<O: Sink>(
     reached: Q,
     stopped: Option<&Stop>,
 ) -> Result<(), SinkFault>
-    ensures { GatheredLines (O.took out.old) (O.took out.new) (O.faults out.old) (O.faults out.new) page.old page.new
+    ensures { GatheredLines (state_of O.Sink out.old) (state_of O.Sink out.new) page.old page.new
         (head_lines reached (option_copied stopped.entry)) result }
 {
     put_line(out, page, b"forever", &[b"1"])?;
@@ -39,7 +39,7 @@ fn put_tail_of<O: Sink>(
 ) -> Result<(), SinkFault>
     requires { IfSome (forever_in forever.now).tail
         (λ tail. (length tail.slopes ≡ net.now.net.nodes) × (length tail.flows ≡ length net.now.net.links)) }
-    ensures { GatheredLines (O.took out.old) (O.took out.new) (O.faults out.old) (O.faults out.new) page.old page.new
+    ensures { GatheredLines (state_of O.Sink out.old) (state_of O.Sink out.new) page.old page.new
         (tail_lines net.now (forever_in forever.now).tail) result }
 {
     match &forever.tail {
@@ -56,7 +56,7 @@ fn put_end<O: Sink>(
     forever: &Forever,
 ) -> Result<(), SinkFault>
     requires { HasForm net.now.net (forever_in forever.now) }
-    ensures { GatheredLines (O.took out.old) (O.took out.new) (O.faults out.old) (O.faults out.new) page.old page.new
+    ensures { GatheredLines (state_of O.Sink out.old) (state_of O.Sink out.new) page.old page.new
         (end_lines net.now (forever_in forever.now)) result }
 {
     put_states(out, page, net, &forever.last)?;
@@ -72,7 +72,7 @@ fn put_forever<O: Sink>(
     forever: &Forever,
 ) -> Result<(), SinkFault>
     requires { HasForm net.now.net (forever_in forever.now) }
-    ensures { GatheredLines (O.took out.old) (O.took out.new) (O.faults out.old) (O.faults out.new) page.old page.new
+    ensures { GatheredLines (state_of O.Sink out.old) (state_of O.Sink out.new) page.old page.new
         (forever_lines net.now (forever_in forever.now)) result }
 {
     put_head(out, page, forever.flow.reached, forever.stopped.as_ref())?;
@@ -92,8 +92,7 @@ pub fn write_forever<O: Sink>(
     out: &mut O,
 ) -> Result<(), SinkFault>
     requires { HasForm net.now.net (forever_in forever.now) }
-    ensures { Wrote (O.took out.old) (O.took out.new) (O.faults out.old) (O.faults out.new)
-        (forever_text net.now (forever_in forever.now)) result }
+    ensures { Wrote (state_of O.Sink out.old) (state_of O.Sink out.new) (forever_text net.now (forever_in forever.now)) result }
 {
     let mut page = Page::new();
     put_forever(out, &mut page, net, forever)?;

@@ -2,7 +2,7 @@
 ghost use Rattle.std.specs.Prelude.{◌≡◌, [], ◌∷◌, length, codes, Ok};
 ghost use Rattle.std.specs.Option.{option_copied};
 ghost use Rattle.nf_frac_words.specs.Digits.{digits_of};
-ghost use Rattle.nf_edge.specs.Taken.{Wrote};
+ghost use Rattle.nf_edge.specs.Writing.{state_of, Wrote};
 ghost use Rattle.nf_model.specs.Equilibrium.{HasShape};
 ghost use Rattle.nf_net_def.specs.Report.{IsWellFormed, report_text};
 ghost use Rattle.nf_report_def.specs.ReportFile.{report_in};
@@ -22,7 +22,7 @@ use nf_report_pages::{
 
 // Puts the first line, which has the version.
 fn put_version<O: Sink>(out: &mut O, page: &mut Page, version: u32) -> Result<(), SinkFault>
-    ensures { GatheredLines (O.took out.old) (O.took out.new) (O.faults out.old) (O.faults out.new) page.old page.new
+    ensures { GatheredLines (state_of O.Sink out.old) (state_of O.Sink out.new) page.old page.new
         ((codes "report" ∷ digits_of version ∷ []) ∷ []) result }
 {
     let mut text = TextBuf::new();
@@ -39,7 +39,7 @@ fn put_head<O: Sink>(
     flow: &Flow,
     stopped: Option<&Stop>,
 ) -> Result<(), SinkFault>
-    ensures { GatheredLines (O.took out.old) (O.took out.new) (O.faults out.old) (O.faults out.new) page.old page.new
+    ensures { GatheredLines (state_of O.Sink out.old) (state_of O.Sink out.new) page.old page.new
         (head_lines net.now.version horizon flow.now.reached (option_copied stopped.entry)) result }
 {
     put_version(out, page, net.version())?;
@@ -58,7 +58,7 @@ fn put_body<O: Sink>(
 ) -> Result<(), SinkFault>
     requires shape { HasShape net.now.net (flow_of flow.now) }
     requires states { length last.now ≡ length net.now.net.links }
-    ensures { GatheredLines (O.took out.old) (O.took out.new) (O.faults out.old) (O.faults out.new) page.old page.new
+    ensures { GatheredLines (state_of O.Sink out.old) (state_of O.Sink out.new) page.old page.new
         (body_lines net.now (flow_of flow.now) last.now) result }
 {
     put_flow(out, page, net, flow)?;
@@ -81,8 +81,7 @@ pub fn write_report<O: Sink>(
 ) -> Result<(), SinkFault>
     requires { IsWellFormed net.now.net
         (record { horizon = horizon; flow = flow_of flow.now; stop = option_copied stopped; last = last.now }) }
-    ensures wrote { Wrote (O.took out.old) (O.took out.new) (O.faults out.old) (O.faults out.new)
-        (report_text net.now (record { horizon = horizon; flow = flow_of flow.now; stop = option_copied stopped.entry; last = last.now }))
+    ensures wrote { Wrote (state_of O.Sink out.old) (state_of O.Sink out.new) (report_text net.now (record { horizon = horizon; flow = flow_of flow.now; stop = option_copied stopped.entry; last = last.now }))
         result }
     ensures reads_back { report_in net.now
         (report_text net.now (record { horizon = horizon; flow = flow_of flow.now; stop = option_copied stopped.entry; last = last.now }))

@@ -3,7 +3,7 @@ use Rattle.std.specs.Prelude.{ℕ, List, [], ◌∷◌, flat_map, map, Option, S
 use Rattle.nf_rational.specs.Rational.{ℚ}
 use Rattle.nf_model.specs.Equilibrium.{Flow}
 use Rattle.nf_frac_words.specs.Printed.{printed}
-use Rattle.nf_edge.specs.Taken.{Wrote}
+use Rattle.nf_edge.specs.Writing.{SinkState, Wrote}
 use Rattle.nf_text_def.specs.Words.{line_of_words}
 use Rattle.nf_net_def.specs.Names.{Name}
 use Rattle.nf_net_def.specs.Named.{Named}
@@ -18,9 +18,8 @@ abbrev pub after_words : Line → List ℕ
 after_words words = flat_map (λ word. 32 ∷ word) words
 
 -- lines were written to a sink: all of them without a fault, or a proper prefix of their text with one fault
-abbrev pub WroteLines : {E : Type 0} → Option (List ℕ) → Option (List ℕ) → ℕ → ℕ → List Line → Result (Unit {0}) E → Type 0
-WroteLines took_before took_now faults_before faults_now lines result =
-    Wrote took_before took_now faults_before faults_now (flat_map line_of_words lines) result
+abbrev pub WroteLines : {E : Type 0} → SinkState → SinkState → List Line → Result (Unit {0}) E → Type 0
+WroteLines before now lines result = Wrote before now (flat_map line_of_words lines) result
 
 -- ---- a line of a curve
 abbrev pub point_line : List ℕ → Name → ℚ × ℚ → Line

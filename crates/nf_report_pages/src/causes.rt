@@ -1,6 +1,7 @@
 // The line that says why a run stopped, and the line of a link's state.
 ghost use Rattle.std.specs.Prelude.{◌≡◌, [], ◌∷◌, Some, None, codes};
 ghost use Rattle.std.specs.Option.{option_copied};
+ghost use Rattle.nf_edge.specs.Writing.{state_of};
 ghost use Rattle.nf_frac_words.specs.Digits.{digits_of};
 ghost use Rattle.nf_frac_words.specs.Printed.{printed};
 ghost use Rattle.nf_net_def.specs.Causes.{part_word, op_word, count_word, cause_words, passed_words};
@@ -73,7 +74,7 @@ pub fn put_number<O: Sink>(
     key: &[u8],
     number: Q,
 ) -> Result<(), SinkFault>
-    ensures { GatheredLines (O.took out.old) (O.took out.new) (O.faults out.old) (O.faults out.new) page.old page.new
+    ensures { GatheredLines (state_of O.Sink out.old) (state_of O.Sink out.new) page.old page.new
         ((key.now ∷ printed number ∷ []) ∷ []) result }
 {
     let mut text = TextBuf::new();
@@ -89,7 +90,7 @@ fn put_counted<O: Sink>(
     word: &[u8],
     count: u64,
 ) -> Result<(), SinkFault>
-    ensures { GatheredLines (O.took out.old) (O.took out.new) (O.faults out.old) (O.faults out.new) page.old page.new
+    ensures { GatheredLines (state_of O.Sink out.old) (state_of O.Sink out.new) page.old page.new
         ((key.now ∷ word.now ∷ digits_of count ∷ []) ∷ []) result }
 {
     let mut text = TextBuf::new();
@@ -104,7 +105,7 @@ fn put_patterns<O: Sink>(
     phase: u64,
     tried: u64,
 ) -> Result<(), SinkFault>
-    ensures { GatheredLines (O.took out.old) (O.took out.new) (O.faults out.old) (O.faults out.new) page.old page.new
+    ensures { GatheredLines (state_of O.Sink out.old) (state_of O.Sink out.new) page.old page.new
         ((key.now ∷ codes "patterns" ∷ digits_of phase ∷ digits_of tried ∷ []) ∷ []) result }
 {
     let mut first = TextBuf::new();
@@ -123,7 +124,7 @@ fn put_passed<O: Sink>(
     place: Option<u64>,
     at: &PassedAt<Q>,
 ) -> Result<(), SinkFault>
-    ensures { GatheredLines (O.took out.old) (O.took out.new) (O.faults out.old) (O.faults out.new) page.old page.new
+    ensures { GatheredLines (state_of O.Sink out.old) (state_of O.Sink out.new) page.old page.new
         ((key.now ∷ passed_words phase place at.now) ∷ []) result }
 {
     let mut phase_text = TextBuf::new();
@@ -160,8 +161,7 @@ pub fn write_passed_call<O: Sink>(
     key: &[u8],
     at: &PassedAt<Q>,
 ) -> Result<(), SinkFault>
-    ensures { WroteLines (O.took out.old) (O.took out.new) (O.faults out.old) (O.faults out.new)
-        ((key.now ∷ passed_words None None at.now) ∷ []) result }
+    ensures { WroteLines (state_of O.Sink out.old) (state_of O.Sink out.new) ((key.now ∷ passed_words None None at.now) ∷ []) result }
 {
     let mut page = Page::new();
     put_passed(out, &mut page, key, None, None, at)?;
@@ -170,7 +170,7 @@ pub fn write_passed_call<O: Sink>(
 
 // Puts a line: this word, and why a run stopped.
 fn put_stop<O: Sink>(out: &mut O, page: &mut Page, key: &[u8], stop: &Stop) -> Result<(), SinkFault>
-    ensures { GatheredLines (O.took out.old) (O.took out.new) (O.faults out.old) (O.faults out.new) page.old page.new
+    ensures { GatheredLines (state_of O.Sink out.old) (state_of O.Sink out.new) page.old page.new
         ((key.now ∷ cause_words (Some stop.now)) ∷ []) result }
 {
     match stop {
@@ -185,8 +185,7 @@ fn put_stop<O: Sink>(out: &mut O, page: &mut Page, key: &[u8], stop: &Stop) -> R
 ///
 /// The first fault ends the writing; the sink then took a proper prefix of the line.
 pub fn write_stop<O: Sink>(out: &mut O, key: &[u8], stop: &Stop) -> Result<(), SinkFault>
-    ensures { WroteLines (O.took out.old) (O.took out.new) (O.faults out.old) (O.faults out.new)
-        ((key.now ∷ cause_words (Some stop.now)) ∷ []) result }
+    ensures { WroteLines (state_of O.Sink out.old) (state_of O.Sink out.new) ((key.now ∷ cause_words (Some stop.now)) ∷ []) result }
 {
     let mut page = Page::new();
     put_stop(out, &mut page, key, stop)?;
@@ -199,7 +198,7 @@ pub fn put_cause<O: Sink>(
     page: &mut Page,
     stop: Option<&Stop>,
 ) -> Result<(), SinkFault>
-    ensures { GatheredLines (O.took out.old) (O.took out.new) (O.faults out.old) (O.faults out.new) page.old page.new
+    ensures { GatheredLines (state_of O.Sink out.old) (state_of O.Sink out.new) page.old page.new
         ((codes "cause" ∷ cause_words (option_copied stop.entry)) ∷ []) result }
 {
     match stop {
@@ -215,7 +214,7 @@ fn put_named_state<O: Sink>(
     name: &[u8],
     word: &[u8],
 ) -> Result<(), SinkFault>
-    ensures { GatheredLines (O.took out.old) (O.took out.new) (O.faults out.old) (O.faults out.new) page.old page.new
+    ensures { GatheredLines (state_of O.Sink out.old) (state_of O.Sink out.new) page.old page.new
         ((codes "state" ∷ name.now ∷ word.now ∷ []) ∷ []) result }
 {
     put_line(out, page, b"state", &[name, word])
@@ -228,7 +227,7 @@ pub(crate) fn put_state<O: Sink>(
     name: &[u8],
     state: Option<State>,
 ) -> Result<(), SinkFault>
-    ensures { GatheredLines (O.took out.old) (O.took out.new) (O.faults out.old) (O.faults out.new) page.old page.new
+    ensures { GatheredLines (state_of O.Sink out.old) (state_of O.Sink out.new) page.old page.new
         (state_line name.now state) result }
 {
     match state {

@@ -1,5 +1,6 @@
 // The lines of a curve: one for each of its points.
 ghost use Rattle.std.specs.Prelude.{◌≡◌, [], ◌∷◌, ◌++◌, slice_get, codes};
+ghost use Rattle.nf_edge.specs.Writing.{state_of};
 ghost use Rattle.nf_net_def.specs.Report.{point_lines, trace_lines};
 ghost use Rattle.nf_report_pages.specs.Written.{WroteLines, point_line, trace_line};
 ghost use Rattle.nf_report_pages.specs.Pages.{GatheredLines};
@@ -18,7 +19,7 @@ fn put_point<O: Sink>(
     name: &[u8],
     point: (Q, Q),
 ) -> Result<(), SinkFault>
-    ensures { GatheredLines (O.took out.old) (O.took out.new) (O.faults out.old) (O.faults out.new) page.old page.new
+    ensures { GatheredLines (state_of O.Sink out.old) (state_of O.Sink out.new) page.old page.new
         (point_line key.now name.now point ∷ []) result }
 {
     let mut time = TextBuf::new();
@@ -36,7 +37,7 @@ pub(crate) fn put_curve<O: Sink>(
     name: &[u8],
     curve: &Curve,
 ) -> Result<(), SinkFault>
-    ensures { GatheredLines (O.took out.old) (O.took out.new) (O.faults out.old) (O.faults out.new) page.old page.new
+    ensures { GatheredLines (state_of O.Sink out.old) (state_of O.Sink out.new) page.old page.new
         (point_lines key.now name.now curve.now.points) result }
 {
     for index in 0..curve.len() {
@@ -54,8 +55,7 @@ pub fn write_curve<O: Sink>(
     name: &[u8],
     curve: &Curve,
 ) -> Result<(), SinkFault>
-    ensures { WroteLines (O.took out.old) (O.took out.new) (O.faults out.old) (O.faults out.new)
-        (point_lines key.now name.now curve.now.points) result }
+    ensures { WroteLines (state_of O.Sink out.old) (state_of O.Sink out.new) (point_lines key.now name.now curve.now.points) result }
 {
     let mut page = Page::new();
     put_curve(out, &mut page, key, name, curve)?;
@@ -71,7 +71,7 @@ fn put_rated_point<O: Sink>(
     point: (Q, Q),
     rate: Option<Q>,
 ) -> Result<(), SinkFault>
-    ensures { GatheredLines (O.took out.old) (O.took out.new) (O.faults out.old) (O.faults out.new) page.old page.new
+    ensures { GatheredLines (state_of O.Sink out.old) (state_of O.Sink out.new) page.old page.new
         (trace_line key.now name.now point rate ∷ []) result }
 {
     let mut time = TextBuf::new();
@@ -112,7 +112,7 @@ pub(crate) fn put_trace<O: Sink>(
     name: &[u8],
     trace: &Trace,
 ) -> Result<(), SinkFault>
-    ensures { GatheredLines (O.took out.old) (O.took out.new) (O.faults out.old) (O.faults out.new) page.old page.new
+    ensures { GatheredLines (state_of O.Sink out.old) (state_of O.Sink out.new) page.old page.new
         (trace_lines key.now name.now trace.now.curve.points trace.now.rates.items) result }
 {
     for index in 0..trace.curve.len() {
@@ -137,7 +137,7 @@ pub(crate) fn put_link<O: Sink>(
     outflow: &Trace,
     queue: &Curve,
 ) -> Result<(), SinkFault>
-    ensures { GatheredLines (O.took out.old) (O.took out.new) (O.faults out.old) (O.faults out.new) page.old page.new
+    ensures { GatheredLines (state_of O.Sink out.old) (state_of O.Sink out.new) page.old page.new
         (trace_lines (codes "inflow") name.now inflow.now.curve.points inflow.now.rates.items
         ++ trace_lines (codes "outflow") name.now outflow.now.curve.points outflow.now.rates.items
         ++ point_lines (codes "queue") name.now queue.now.points) result }

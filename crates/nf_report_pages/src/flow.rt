@@ -1,5 +1,6 @@
 // The lines of a flow by the nodes and links of a network, and the states of the links.
 ghost use Rattle.std.specs.Prelude.{◌≡◌, ◌<◌, [], ◌∷◌, length, codes};
+ghost use Rattle.nf_edge.specs.Writing.{state_of};
 ghost use Rattle.nf_model.specs.Equilibrium.{HasShape};
 ghost use Rattle.nf_net_def.specs.Names.{name_at};
 ghost use Rattle.nf_net_def.specs.Report.{for_each, label_lines, link_lines, state_lines};
@@ -26,7 +27,7 @@ fn put_label<O: Sink>(
 ) -> Result<(), SinkFault>
     requires node { node < net.now.net.nodes }
     requires labels { length flow.now.labels.items ≡ net.now.net.nodes }
-    ensures { GatheredLines (O.took out.old) (O.took out.new) (O.faults out.old) (O.faults out.new) page.old page.new
+    ensures { GatheredLines (state_of O.Sink out.old) (state_of O.Sink out.new) page.old page.new
         (label_lines net.now (flow_of flow.now) node) result }
 {
     let name = net.node_name(NodeId(node)).as_bytes();
@@ -42,7 +43,7 @@ fn put_labels<O: Sink>(
     flow: &Flow,
 ) -> Result<(), SinkFault>
     requires { length flow.now.labels.items ≡ net.now.net.nodes }
-    ensures { GatheredLines (O.took out.old) (O.took out.new) (O.faults out.old) (O.faults out.new) page.old page.new
+    ensures { GatheredLines (state_of O.Sink out.old) (state_of O.Sink out.new) page.old page.new
         (for_each net.now.net.nodes (label_lines net.now (flow_of flow.now))) result }
 {
     for node in 0..net.node_count() {
@@ -63,7 +64,7 @@ fn put_curves<O: Sink>(
     requires inflows { length flow.now.inflows.items ≡ length net.now.net.links }
     requires outflows { length flow.now.outflows.items ≡ length net.now.net.links }
     requires queues { length flow.now.queues.items ≡ length net.now.net.links }
-    ensures { GatheredLines (O.took out.old) (O.took out.new) (O.faults out.old) (O.faults out.new) page.old page.new
+    ensures { GatheredLines (state_of O.Sink out.old) (state_of O.Sink out.new) page.old page.new
         (link_lines net.now (flow_of flow.now) link) result }
 {
     let name = net.link_name(LinkId(link)).as_bytes();
@@ -83,7 +84,7 @@ fn put_links<O: Sink>(
     requires inflows { length flow.now.inflows.items ≡ length net.now.net.links }
     requires outflows { length flow.now.outflows.items ≡ length net.now.net.links }
     requires queues { length flow.now.queues.items ≡ length net.now.net.links }
-    ensures { GatheredLines (O.took out.old) (O.took out.new) (O.faults out.old) (O.faults out.new) page.old page.new
+    ensures { GatheredLines (state_of O.Sink out.old) (state_of O.Sink out.new) page.old page.new
         (for_each (length net.now.net.links) (link_lines net.now (flow_of flow.now))) result }
 {
     for link in 0..net.link_count() {
@@ -102,7 +103,7 @@ fn put_state_of<O: Sink>(
 ) -> Result<(), SinkFault>
     requires link { link < length net.now.net.links }
     requires states { length last.now ≡ length net.now.net.links }
-    ensures { GatheredLines (O.took out.old) (O.took out.new) (O.faults out.old) (O.faults out.new) page.old page.new
+    ensures { GatheredLines (state_of O.Sink out.old) (state_of O.Sink out.new) page.old page.new
         (state_lines net.now last.now link) result }
 {
     let name = net.link_name(LinkId(link)).as_bytes();
@@ -119,7 +120,7 @@ pub fn put_states<O: Sink>(
     last: &Pattern,
 ) -> Result<(), SinkFault>
     requires { length last.now ≡ length net.now.net.links }
-    ensures { GatheredLines (O.took out.old) (O.took out.new) (O.faults out.old) (O.faults out.new) page.old page.new
+    ensures { GatheredLines (state_of O.Sink out.old) (state_of O.Sink out.new) page.old page.new
         (for_each (length net.now.net.links) (state_lines net.now last.now)) result }
 {
     for link in 0..net.link_count() {
@@ -136,7 +137,7 @@ fn put_never<O: Sink>(
     node: u32,
 ) -> Result<(), SinkFault>
     requires { node < length net.now.idle_nodes }
-    ensures { GatheredLines (O.took out.old) (O.took out.new) (O.faults out.old) (O.faults out.new) page.old page.new
+    ensures { GatheredLines (state_of O.Sink out.old) (state_of O.Sink out.new) page.old page.new
         ((codes "never" ∷ name_at net.now.idle_nodes node ∷ []) ∷ []) result }
 {
     let name = net.idle_name(node).as_bytes();
@@ -145,7 +146,7 @@ fn put_never<O: Sink>(
 
 // Puts the unreached nodes.
 fn put_idle<O: Sink>(out: &mut O, page: &mut Page, net: &Network) -> Result<(), SinkFault>
-    ensures { GatheredLines (O.took out.old) (O.took out.new) (O.faults out.old) (O.faults out.new) page.old page.new
+    ensures { GatheredLines (state_of O.Sink out.old) (state_of O.Sink out.new) page.old page.new
         (never_lines net.now.idle_nodes) result }
 {
     for node in 0..net.idle_count() {
@@ -163,7 +164,7 @@ pub fn put_flow<O: Sink>(
     flow: &Flow,
 ) -> Result<(), SinkFault>
     requires { HasShape net.now.net (flow_of flow.now) }
-    ensures { GatheredLines (O.took out.old) (O.took out.new) (O.faults out.old) (O.faults out.new) page.old page.new
+    ensures { GatheredLines (state_of O.Sink out.old) (state_of O.Sink out.new) page.old page.new
         (flow_lines net.now (flow_of flow.now)) result }
 {
     put_labels(out, page, net, flow)?;

@@ -1,5 +1,6 @@
 // A line of words.
 ghost use Rattle.std.specs.Prelude.{[], ◌∷◌, map};
+ghost use Rattle.nf_edge.specs.Writing.{state_of};
 ghost use Rattle.nf_report_pages.specs.Written.{after_words, WroteLines};
 ghost use Rattle.nf_report_pages.specs.Pages.{Gathered, GatheredLines};
 
@@ -8,7 +9,7 @@ use nf_edge::{Sink, SinkFault, write_text};
 
 // Puts a word that isn't the first of its line.
 fn put_word<O: Sink>(out: &mut O, page: &mut Page, word: &[u8]) -> Result<(), SinkFault>
-    ensures { Gathered (O.took out.old) (O.took out.new) (O.faults out.old) (O.faults out.new) page.old page.new
+    ensures { Gathered (state_of O.Sink out.old) (state_of O.Sink out.new) page.old page.new
         (32 ∷ word.now) result }
 {
     put_byte(out, page, b' ')?;
@@ -17,7 +18,7 @@ fn put_word<O: Sink>(out: &mut O, page: &mut Page, word: &[u8]) -> Result<(), Si
 
 // Puts the words after the first of their line.
 fn put_words<O: Sink>(out: &mut O, page: &mut Page, words: &[&[u8]]) -> Result<(), SinkFault>
-    ensures { Gathered (O.took out.old) (O.took out.new) (O.faults out.old) (O.faults out.new) page.old page.new
+    ensures { Gathered (state_of O.Sink out.old) (state_of O.Sink out.new) page.old page.new
         (after_words (map (λ w. w.now) words.now)) result }
 {
     for word in words {
@@ -36,7 +37,7 @@ pub fn put_line<O: Sink>(
     first: &[u8],
     words: &[&[u8]],
 ) -> Result<(), SinkFault>
-    ensures { GatheredLines (O.took out.old) (O.took out.new) (O.faults out.old) (O.faults out.new) page.old page.new
+    ensures { GatheredLines (state_of O.Sink out.old) (state_of O.Sink out.new) page.old page.new
         ((first.now ∷ map (λ w. w.now) words.now) ∷ []) result }
 {
     put(out, page, first)?;
@@ -48,8 +49,7 @@ pub fn put_line<O: Sink>(
 ///
 /// The first fault ends the writing; the sink then took a proper prefix of the line.
 pub fn write_line<O: Sink>(out: &mut O, first: &[u8], words: &[&[u8]]) -> Result<(), SinkFault>
-    ensures { WroteLines (O.took out.old) (O.took out.new) (O.faults out.old) (O.faults out.new)
-        ((first.now ∷ map (λ w. w.now) words.now) ∷ []) result }
+    ensures { WroteLines (state_of O.Sink out.old) (state_of O.Sink out.new) ((first.now ∷ map (λ w. w.now) words.now) ∷ []) result }
 {
     let mut page = Page::new();
     put_line(out, &mut page, first, words)?;

@@ -1,6 +1,6 @@
 // Bytes gathered on a page before they are written.
 ghost use Rattle.std.specs.Prelude.{◌≡◌, [], ◌∷◌, ◌++◌, OnOk, OnErr};
-ghost use Rattle.nf_edge.specs.Taken.{Wrote};
+ghost use Rattle.nf_edge.specs.Writing.{state_of, Wrote};
 ghost use Rattle.nf_report_pages.specs.Pages.{Gathered};
 
 use arrayvec::{ArrayVec, CapacityError};
@@ -64,7 +64,7 @@ impl Page {
 
 // Writes the page and empties it.
 fn write_page<O: Sink>(out: &mut O, page: &mut Page) -> Result<(), SinkFault>
-    ensures wrote { Wrote (O.took out.old) (O.took out.new) (O.faults out.old) (O.faults out.new) page.old result }
+    ensures wrote { Wrote (state_of O.Sink out.old) (state_of O.Sink out.new) page.old result }
     ensures empty { page.new ≡ [] }
 {
     let wrote = write_text(out, page.as_slice());
@@ -74,8 +74,7 @@ fn write_page<O: Sink>(out: &mut O, page: &mut Page) -> Result<(), SinkFault>
 
 // Writes the page, and then puts bytes on it for which it had no room.
 fn put_on_next<O: Sink>(out: &mut O, page: &mut Page, bytes: &[u8]) -> Result<(), SinkFault>
-    ensures { Gathered (O.took out.old) (O.took out.new) (O.faults out.old)
-        (O.faults out.new) page.old page.new bytes.now result }
+    ensures { Gathered (state_of O.Sink out.old) (state_of O.Sink out.new) page.old page.new bytes.now result }
 {
     write_page(out, page)?;
     match page.append(bytes) {
@@ -86,8 +85,7 @@ fn put_on_next<O: Sink>(out: &mut O, page: &mut Page, bytes: &[u8]) -> Result<()
 
 /// Puts bytes on the page. Writes the page first if they don't fit.
 pub(crate) fn put<O: Sink>(out: &mut O, page: &mut Page, bytes: &[u8]) -> Result<(), SinkFault>
-    ensures { Gathered (O.took out.old) (O.took out.new) (O.faults out.old)
-        (O.faults out.new) page.old page.new bytes.now result }
+    ensures { Gathered (state_of O.Sink out.old) (state_of O.Sink out.new) page.old page.new bytes.now result }
 {
     match page.append(bytes) {
         Ok(()) => Ok(()),
@@ -97,8 +95,7 @@ pub(crate) fn put<O: Sink>(out: &mut O, page: &mut Page, bytes: &[u8]) -> Result
 
 /// Puts a byte on the page, as `put` does. For speed: a byte takes no copying of a slice.
 pub(crate) fn put_byte<O: Sink>(out: &mut O, page: &mut Page, byte: u8) -> Result<(), SinkFault>
-    ensures { Gathered (O.took out.old) (O.took out.new) (O.faults out.old)
-        (O.faults out.new) page.old page.new (byte ∷ []) result }
+    ensures { Gathered (state_of O.Sink out.old) (state_of O.Sink out.new) page.old page.new (byte ∷ []) result }
 {
     match page.append_byte(byte) {
         Ok(()) => Ok(()),

@@ -6,6 +6,7 @@ use Rattle.nf_app_answers.specs.declared.refusal.Refusal.{Refusal}
 use Rattle.nf_app_words.specs.declared.request.Request as code
 use Rattle.nf_app_words.specs.Requests.{Request, CanBeAsked}
 use Rattle.nf_app_words.specs.RequestViews.{requested}
+use Rattle.nf_app_files.specs.Files.{input_limit}
 use Rattle.nf_app.specs.Gathered.{OtherFits}
 use Rattle.nf_app.specs.Outcomes.{FindsResult}
 use Rattle.nf_app.proofs.answering.find.Goals as goal
@@ -35,7 +36,7 @@ distribute-requires-clause-horizon c = (subst (λ (r : Request). CanBeAsked r) (
 
 pub load_to-requires-clause-within : goal.load_to-requires-clause-within
 load_to-requires-clause-within c =
-    let few : length c.args.other.items ≤ 1048576 = subst (λ (r : code.Request). OtherFits (requested r) c.args.other.items) c.in-Load.is c.requires.fits in
+    let few : length c.args.other.items ≤ input_limit = subst (λ (r : code.Request). OtherFits (requested r) c.args.other.items) c.in-Load.is c.requires.fits in
     omega (arith, few, ap (λ (l : List ℕ). length l) c.deref.ensures.value)
 
 pub check_report-requires : goal.check_report-requires
@@ -43,7 +44,7 @@ check_report-requires c = subst (λ (r : code.Request). OtherFits (requested r) 
 
 pub settle_to-requires : goal.settle_to-requires
 settle_to-requires c =
-    let few : length c.args.other.items ≤ 1048576 = subst (λ (r : code.Request). OtherFits (requested r) c.args.other.items) c.in-Settle.is c.requires.fits in
+    let few : length c.args.other.items ≤ input_limit = subst (λ (r : code.Request). OtherFits (requested r) c.args.other.items) c.in-Settle.is c.requires.fits in
     omega (arith, few, ap (λ (l : List ℕ). length l) c.deref-in-Settle.ensures.value)
 
 pub resume_to-requires : goal.resume_to-requires
@@ -51,7 +52,7 @@ resume_to-requires c = subst (λ (r : code.Request). OtherFits (requested r) c.a
 
 pub distribute-requires-clause-within : goal.distribute-requires-clause-within
 distribute-requires-clause-within c =
-    let few : length c.args.other.items ≤ 1048576 = subst (λ (r : code.Request). OtherFits (requested r) c.args.other.items) c.in-Routes.is c.requires.fits in
+    let few : length c.args.other.items ≤ input_limit = subst (λ (r : code.Request). OtherFits (requested r) c.args.other.items) c.in-Routes.is c.requires.fits in
     omega (arith, few, ap (λ (l : List ℕ). length l) c.deref-in-Routes.ensures.value)
 
 pub returns-in-Solve : goal.returns-in-Solve

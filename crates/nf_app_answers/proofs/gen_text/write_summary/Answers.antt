@@ -2,7 +2,7 @@ use Rattle.std.proofs.Common.{◌≡◌, ℕ, List, ◌++◌, refl, ap}
 use Rattle.std.specs.Prelude.{Option, Result}
 use Rattle.std.specs.Option.{option_copied}
 use Rattle.nf_rational.specs.Rational.{ℚ}
-use Rattle.nf_edge.specs.Taken.{Wrote}
+use Rattle.nf_edge.specs.Writing.{SinkState, Wrote}
 use Rattle.nf_net_def.specs.declared.Cause.{Cause}
 use Rattle.nf_net_def.specs.Named.{Named}
 use Rattle.nf_net_def.specs.Report.{Report}
@@ -13,9 +13,9 @@ use Rattle.nf_app_answers.specs.GenText.{ladder_lines, size_lines, run_lines, en
 use Rattle.nf_app_answers.proofs.gen_text.write_summary.Goals as goal
 
 -- with the arrival of the last departure, the lines are the text
-as_text : {E : Type 0} {old now : Option (List ℕ)} {f g : ℕ} {r : Result (Unit {0}) E} (number rungs : ℕ) (n : Named) (made : ℕ) (report : Report) (arrival : ℚ)
-    → WroteLines old now f g (ladder_lines number rungs ++ size_lines n ++ run_lines made report.flow.reached ++ end_lines report.stop arrival) r
-    → arrival ≡ last_arrival n report → Wrote old now f g (gen_text number rungs n made report) r
+as_text : {E : Type 0} {old now : SinkState} {r : Result (Unit {0}) E} (number rungs : ℕ) (n : Named) (made : ℕ) (report : Report) (arrival : ℚ)
+    → WroteLines old now (ladder_lines number rungs ++ size_lines n ++ run_lines made report.flow.reached ++ end_lines report.stop arrival) r
+    → arrival ≡ last_arrival n report → Wrote old now (gen_text number rungs n made report) r
 as_text number rungs n made report arrival w last =
     same_lines (ladder_lines number rungs ++ size_lines n ++ run_lines made report.flow.reached ++ end_lines report.stop arrival)
     (ladder_lines number rungs ++ size_lines n ++ run_lines made report.flow.reached ++ end_lines report.stop (last_arrival n report))

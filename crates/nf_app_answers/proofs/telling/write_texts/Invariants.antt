@@ -1,9 +1,9 @@
 use Rattle.std.proofs.Common.{take}
 use Rattle.std.specs.Prelude.{Ok, flat_map}
-use Rattle.nf_edge.specs.Taken.{Wrote}
+use Rattle.nf_edge.specs.Writing.{state_of, Wrote}
 use Rattle.nf_edge.specs.declared.SinkFault.{SinkFault}
 use Rattle.nf_app_answers.proofs.telling.write_texts.Given as goal
 
 abbrev pub invariant-loop-text : goal.invariant-loop-text
 invariant-loop-text g l = let err = g.E.Sink in
-    Wrote {E = SinkFault} (err.took l.initial.err) (err.took l.err) (err.faults l.initial.err) (err.faults l.err) (flat_map (λ t. t.now) (take l.text-index l.texts)) (Ok tt)
+    Wrote {E = SinkFault} (state_of err l.initial.err) (state_of err l.err) (flat_map (λ t. t.now) (take l.text-index l.texts)) (Ok tt)

@@ -3,15 +3,16 @@ use Rattle.std.specs.Prelude.{Ok, Err}
 use Rattle.std.proofs.lemmas.Result.{err_from_is_err_and}
 use Rattle.nf_net_def.specs.NetFile.{Reads}
 use Rattle.nf_net_file.specs.Contents.{IfBroken}
-use Rattle.nf_app_files.specs.Files.{visit, input_file}
+use Rattle.nf_text_def.specs.Faults.{longest_text}
+use Rattle.nf_app_files.specs.Files.{visit, input_limit, input_file}
 use Rattle.nf_app_files.proofs.Networks.{network_read, network_refused, network_missing}
 use Rattle.nf_app_files.proofs.fetching.fetch_network_with.Goals as goal
 
 pub parse-requires : goal.parse-requires
 parse-requires g c =
-    let first : length c.in_ok-text.text.items ≤ 1048576 = c.in_ok-text.ensures.first in
-    let within : length c.in_ok-text.text.items ≤ 67108864 = omega arith in
-    subst (λ (t : List ℕ). length t ≤ 67108864) (sym c.deref.ensures.value) within
+    let first : length c.in_ok-text.text.items ≤ input_limit = c.in_ok-text.ensures.first in
+    let within : length c.in_ok-text.text.items ≤ longest_text = omega arith in
+    subst (λ (t : List ℕ). length t ≤ longest_text) (sym c.deref.ensures.value) within
 
 pub returns-in_err-net-clause-read : goal.returns-in_err-net-clause-read
 returns-in_err-net-clause-read g c =

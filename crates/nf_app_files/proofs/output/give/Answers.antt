@@ -26,5 +26,5 @@ returns-in-Err-clause-shown g c =
         front = subst (λ (text : List ℕ). TookFront (g.O.Sink.took c.args.out.now) (g.O.Sink.took c.write_found.new.out) text) (text_is net found c.requires) c.in-Err.ensures.front;
         cause = c.in-Err.ensures.cause;
       };
-      told = took_text _ _ _ _ _ c.write_text.result c.write_text.ensures;
+      told = took_text _ _ _ c.write_text.result c.write_text.ensures;
     })

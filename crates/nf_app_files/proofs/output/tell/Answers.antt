@@ -7,7 +7,7 @@ use Rattle.nf_app_files.proofs.output.tell.Goals as goal
 
 pub returns-in-TooManyWalks-clause-told : goal.returns-in-TooManyWalks-clause-told
 returns-in-TooManyWalks-clause-told g c net = took_same _ _ _ (sym (ap (λ (f : Computed). err_text (answer_with net f)) c.in-TooManyWalks.is))
-    (took_text _ _ _ _ _ c.write_over_budget.result c.write_over_budget.ensures)
+    (took_text _ _ _ c.write_over_budget.result c.write_over_budget.ensures)
 
 pub returns-in_default-clause-status : goal.returns-in_default-clause-status
 returns-in_default-clause-status g c net =

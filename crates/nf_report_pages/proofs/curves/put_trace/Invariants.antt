@@ -1,11 +1,12 @@
 use Rattle.std.proofs.Common.{take}
 use Rattle.std.specs.Prelude.{Ok}
 use Rattle.nf_edge.specs.declared.SinkFault.{SinkFault}
+use Rattle.nf_edge.specs.Writing.{state_of}
 use Rattle.nf_net_def.specs.Report.{trace_lines}
 use Rattle.nf_report_pages.specs.Pages.{GatheredLines}
 use Rattle.nf_report_pages.proofs.curves.put_trace.Given as goal
 
 abbrev pub invariant-loop-index : goal.invariant-loop-index
 invariant-loop-index g l = let out = g.O.Sink in
-    GatheredLines {E = SinkFault} (out.took l.initial.out) (out.took l.out) (out.faults l.initial.out) (out.faults l.out) l.initial.page l.page
+    GatheredLines {E = SinkFault} (state_of out l.initial.out) (state_of out l.out) l.initial.page l.page
     (trace_lines l.key l.name (take l.index l.trace.curve.points) l.trace.rates.items) (Ok tt)

@@ -1,10 +1,11 @@
 use Rattle.std.proofs.Common.{take}
 use Rattle.std.specs.Prelude.{Ok}
 use Rattle.nf_edge.specs.declared.SinkFault.{SinkFault}
+use Rattle.nf_edge.specs.Writing.{state_of}
 use Rattle.nf_report_pages.specs.Written.{never_lines}
 use Rattle.nf_report_pages.specs.Pages.{GatheredLines}
 use Rattle.nf_report_pages.proofs.flow.put_idle.Given as goal
 
 abbrev pub invariant-loop-node : goal.invariant-loop-node
 invariant-loop-node g l = let out = g.O.Sink in
-    GatheredLines {E = SinkFault} (out.took l.initial.out) (out.took l.out) (out.faults l.initial.out) (out.faults l.out) l.initial.page l.page (never_lines (take l.node l.net.idle_nodes)) (Ok tt)
+    GatheredLines {E = SinkFault} (state_of out l.initial.out) (state_of out l.out) l.initial.page l.page (never_lines (take l.node l.net.idle_nodes)) (Ok tt)

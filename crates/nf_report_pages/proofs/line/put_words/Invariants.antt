@@ -2,9 +2,10 @@ use Rattle.std.proofs.Common.{take, map}
 use Rattle.std.specs.Prelude.{Ok}
 use Rattle.nf_report_pages.specs.Pages.{Gathered}
 use Rattle.nf_edge.specs.declared.SinkFault.{SinkFault}
+use Rattle.nf_edge.specs.Writing.{state_of}
 use Rattle.nf_report_pages.specs.Written.{after_words}
 use Rattle.nf_report_pages.proofs.line.put_words.Given as goal
 
 abbrev pub invariant-loop-word : goal.invariant-loop-word
 invariant-loop-word g l = let out = g.O.Sink in
-    Gathered {E = SinkFault} (out.took l.initial.out) (out.took l.out) (out.faults l.initial.out) (out.faults l.out) l.initial.page l.page (after_words (take l.word-index (map (λ w. w.now) l.words))) (Ok tt)
+    Gathered {E = SinkFault} (state_of out l.initial.out) (state_of out l.out) l.initial.page l.page (after_words (take l.word-index (map (λ w. w.now) l.words))) (Ok tt)
