@@ -11,12 +11,11 @@ use Rattle.nf_model.specs.Pattern.{IsTrail, AllDiffer, IsForest}
 use Rattle.nf_graph.proofs.Flags.{Has-set_same, Has-set_other, Has-set_cases, Has-within, Has-replicate}
 use Rattle.nf_thin_laws.proofs.Flags.{flag, flag-cases}
 use Rattle.nf_complete_def.specs.Interior.{links_of, turn_of}
-use Rattle.nf_complete_laws.proofs.Trails.{contains_more, contains_first}
 use Rattle.nf_complete_laws.proofs.ForestMore.{forest-more}
 use Rattle.nf_complete_laws.proofs.OneCycle.{weaker}
 use Rattle.nf_complete_cycles.specs.Trees.{IsWay, AreApart}
 use Rattle.nf_complete_cycles.specs.Cycles.{IsClosed, IsFirstCycle, round_onto, lower, lowest_from}
-use Rattle.nf_model_laws.proofs.Contained.{contains_cases}
+use Rattle.nf_model_laws.proofs.Contained.{contains_cases, contains_more, contains_first}
 use Rattle.nf_complete_cycles.proofs.Rounding.{round-trail, round-contains, contains-round, round-differ, round-turn, turn-same, turn-other}
 
 -- ---- forests

@@ -1,6 +1,5 @@
 pub mod Standings
 pub mod RestoreList
-pub mod Restarting
 pub mod Opened
 pub mod Reached
 pub mod ShortReached

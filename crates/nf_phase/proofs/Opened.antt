@@ -15,8 +15,8 @@ use Rattle.nf_thin_def.specs.PhaseRun.{Standing}
 use Rattle.nf_curve_laws.proofs.Operations.{same_of, same_test}
 use Rattle.nf_rational_laws.proofs.Naturals.{before_or_at}
 use Rattle.nf_rational_laws.proofs.Entries.{entry}
-use Rattle.nf_resume_def.specs.Open.{IsOpen, Continues}
-use Rattle.nf_phase.specs.Restarting.{none_starts, ApartAt, AreApart}
+use Rattle.nf_phase_def.specs.Open.{IsOpen, Continues}
+use Rattle.nf_phase.specs.OpenRuns.{none_starts, ApartAt, AreApart}
 
 -- ---- no piece starts at a time
 not_both : (b : Bool) → b ≡ true → b ≡ false → ⊥

@@ -23,9 +23,9 @@ use Rattle.nf_phase_laws.proofs.StepValues.{steps-length}
 use Rattle.nf_phase_laws.proofs.Run.{IsPhase-goes, Equilibrium-well}
 use Rattle.nf_phase_laws.proofs.Standing.{label_count_at, source_label_at, ends_at}
 use Rattle.nf_phase_laws.proofs.Moving.{inflow_moves, outflow_moves, queue_steps}
-use Rattle.nf_resume_def.specs.Open.{Continues, Steps, continues, begins}
+use Rattle.nf_phase_def.specs.Open.{Continues, Steps, continues, begins}
 use Rattle.nf_phase.specs.declared.phase.Phase.{Phase}
-use Rattle.nf_phase.specs.Restarting.{after_rest}
+use Rattle.nf_phase.specs.OpenRuns.{after_rest}
 use Rattle.nf_phase.specs.Stepping.{Reaches, goes_on, keeps_on, LeadsOnlyTo}
 use Rattle.nf_phase.specs.Finding.{step_in, after_phase, LeadsOn}
 use Rattle.nf_phase_curves.specs.LinkGrowth.{AllLinksEndBefore}

@@ -11,7 +11,7 @@ use Rattle.nf_model.specs.Network.{Network, hops}
 use Rattle.nf_model.specs.ThinFlow.{slacks_of}
 use Rattle.nf_net_def.specs.declared.Cause.TheVariants as Cause
 use Rattle.nf_thin_def.specs.PhaseRun.{Standing}
-use Rattle.nf_forever_def.specs.ForeverRun.{end_list, GoesToEnd, GoesForever, FailsOn}
+use Rattle.nf_phase_def.specs.ToEnd.{end_list, GoesToEnd, GoesForever, FailsOn}
 use Rattle.nf_frac_def.proofs.AtPart.{part_ok}
 use Rattle.nf_phase.specs.declared.fault.StepFault.{StepFault}
 use Rattle.nf_phase.specs.declared.finding.PhaseStart.{PhaseStart}

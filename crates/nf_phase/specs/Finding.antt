@@ -14,7 +14,7 @@ use Rattle.nf_net_def.specs.declared.Cause.{Cause}
 use Rattle.nf_thin_def.specs.Slack.{slack_list}
 use Rattle.nf_thin_def.specs.Search.{SearchAnswer, Found}
 use Rattle.nf_thin_def.specs.PhaseRun.{Standing, PhaseStep, Seeks, cause_of_search, phase_lists, standing_after}
-use Rattle.nf_forever_def.specs.ForeverRun.{SeeksOn}
+use Rattle.nf_phase_def.specs.ToEnd.{SeeksOn}
 use Rattle.nf_phase.specs.declared.finding.PhaseStart as code
 use Rattle.nf_phase.specs.declared.phase.Phase.{Phase}
 

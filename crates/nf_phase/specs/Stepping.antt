@@ -6,13 +6,13 @@ use Rattle.nf_model.specs.Network.{Network}
 use Rattle.nf_model.specs.Phases.{IsPhase}
 use Rattle.nf_net_def.specs.declared.Cause.{Cause}
 use Rattle.nf_thin_def.specs.PhaseRun.{Standing, IsStart, Goes, Fails}
-use Rattle.nf_resume_def.specs.Open.{Continues, with_last}
-use Rattle.nf_forever_def.specs.Tails.{Tail}
-use Rattle.nf_forever_def.specs.ForeverRun.{FailsOn}
+use Rattle.nf_phase_def.specs.Open.{Continues, with_last}
+use Rattle.nf_phase_def.specs.ToEnd.{Tail}
+use Rattle.nf_phase_def.specs.ToEnd.{FailsOn}
 use Rattle.nf_thin.specs.declared.fault.SearchFault.TheVariants as SearchFault
 use Rattle.nf_thin.specs.declared.thin.ThinFlow.{ThinFlow}
 use Rattle.nf_phase.specs.declared.fault.StepFault.{StepFault}
-use Rattle.nf_phase.specs.Restarting.{IsRestored}
+use Rattle.nf_phase_def.specs.Restoring.{IsRestored}
 
 -- A run begins at departure 0, or is restored from a flow. It is extended phase by phase, each phase with its own horizon and budget of
 -- patterns. A phase that is the remainder of an interrupted one may keep the last pattern.

@@ -6,7 +6,7 @@ ghost use Rattle.nf_model.specs.Entries.{number_at};
 ghost use Rattle.nf_net_def.specs.WellNamed.{IsNamed};
 ghost use Rattle.nf_phase.specs.Stepping.{Reaches};
 ghost use Rattle.nf_phase.specs.Finding.{LeadsOn, after_phase};
-ghost use Rattle.nf_phase.specs.Restarting.{after_rest};
+ghost use Rattle.nf_phase.specs.OpenRuns.{after_rest};
 
 use crate::phase::{NextPhase, Phase};
 use crate::run::Run;

@@ -7,7 +7,7 @@ ghost use Rattle.nf_model.specs.ThinFlow.{slacks_of};
 ghost use Rattle.nf_model.specs.Phases.{IsPhaseLength};
 ghost use Rattle.nf_net_def.specs.WellNamed.{IsNamed};
 ghost use Rattle.nf_thin_def.specs.PhaseRun.{phase_lists};
-ghost use Rattle.nf_resume_def.specs.Open.{Continues};
+ghost use Rattle.nf_phase_def.specs.Open.{Continues};
 ghost use Rattle.nf_phase.specs.Stepping.{Reaches, StandsFor, IsCause};
 ghost use Rattle.nf_phase.specs.Finding.{IsFound, ListsPass, LeadsOn};
 

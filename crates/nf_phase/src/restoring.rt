@@ -6,10 +6,10 @@ ghost use Rattle.nf_frac_def.specs.Checked.{at_part, Gives};
 ghost use Rattle.nf_model.specs.Equilibrium.{Equilibrium};
 ghost use Rattle.nf_thin_def.specs.PhaseRun.{IsShortFlow, flow_of};
 ghost use Rattle.nf_thin_def.specs.Ends.{EndsAtLabels};
-ghost use Rattle.nf_resume_def.specs.Restoring.{value_at_end, restore_list};
+ghost use Rattle.nf_phase_def.specs.Restoring.{value_at_end, restore_list};
 ghost use Rattle.nf_phase_laws.specs.RunLaws.{KeepsLabels};
 ghost use Rattle.nf_curve.specs.Flows.{flow_of as flow_in};
-ghost use Rattle.nf_phase.specs.Restarting.{EndsAtItsLabels, NoneFull};
+ghost use Rattle.nf_phase_def.specs.Restoring.{EndsAtItsLabels, NoneFull};
 ghost use Rattle.nf_phase.specs.Stepping.{Reaches};
 
 use crate::run::Run;

@@ -17,7 +17,7 @@ use Rattle.nf_complete_laws.proofs.Stopped.{end_stops, stops_for_none}
 use Rattle.nf_forever_def.specs.ForeverRun.{End, Stops, NeverEnds, Forever, forever_of, IsForever}
 use Rattle.nf_forever_laws.proofs.Run.{Equilibrium-forever}
 use Rattle.nf_forever_laws.proofs.Stopped.{forever_stops_for_none}
-use Rattle.nf_resume_def.specs.Open.{RunsOn}
+use Rattle.nf_phase_def.specs.Open.{RunsOn}
 use Rattle.nf_resume_def.specs.Meanings.{IsResumedReport}
 use Rattle.nf_phase_run_laws.proofs.Stopping.{resumed_ends, resumed_stops_for_none}
 use Rattle.nf_complete_laws.proofs.Numbers.{number_at-numbers}

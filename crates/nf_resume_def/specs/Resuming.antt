@@ -8,15 +8,15 @@ use Rattle.nf_frac_def.specs.declared.Part.TheVariants.{Curve}
 use Rattle.nf_frac_def.specs.declared.PassedAt.{PassedAt}
 use Rattle.nf_model.specs.Curve.{Point}
 use Rattle.nf_model.specs.Network.{Link, Network}
-use Rattle.nf_model.specs.Equilibrium.{Trace, Flow, points_at, points_of}
+use Rattle.nf_model.specs.Equilibrium.{Trace, Flow, points_at}
 use Rattle.nf_net_def.specs.Report.{Report}
 use Rattle.nf_thin_def.specs.PhaseRun.{Standing}
 use Rattle.nf_curve_def.specs.Values.{checked_cut}
 use Rattle.nf_curve_def.specs.Short.{checked_slopes, checked_short}
 use Rattle.nf_check_def.specs.declared.Answer.{Answer}
-use Rattle.nf_check_def.specs.declared.Answer.TheVariants.{Yes, No}
+use Rattle.nf_check_def.specs.declared.Answer.TheVariants.{Yes}
 use Rattle.nf_check_def.specs.CheckList.{check_list}
-use Rattle.nf_resume_def.specs.Restoring.{value_at_end, restore_list}
+use Rattle.nf_phase_def.specs.Restoring.{value_at_end, restore_list}
 
 -- The result for a report: its flow is no equilibrium, or the run state at its end.
 pub data Outcome : Type 0 where

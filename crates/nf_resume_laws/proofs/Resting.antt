@@ -11,7 +11,7 @@ use Rattle.nf_model.specs.ThinFlow.{slack, slacks_of, sets_at}
 use Rattle.nf_model.specs.Pattern.{Pattern, IsListedIn, IsBase, IsSolution}
 use Rattle.nf_model.specs.Phases.{IsExtension}
 use Rattle.nf_thin_def.specs.PhaseRun.{Standing}
-use Rattle.nf_resume_def.specs.Open.{IsOpen}
+use Rattle.nf_phase_def.specs.Open.{IsOpen}
 use Rattle.nf_resume_laws.specs.ResumeLaws.{IsPartOf, IsRestOf}
 use Rattle.nf_resume_laws.proofs.CutPhase.{IsOpen-cut, IsExtension-left, stays-below, stays-above, slack-moves}
 use Rattle.nf_resume_laws.proofs.Restricted.{IsSolution-restricted, IsListed-restricted}

@@ -6,7 +6,7 @@ use Rattle.nf_frac_def.specs.Passing.{passes_Q}
 use Rattle.nf_frac_def.specs.Checked.{each, at_part}
 use Rattle.nf_model.specs.Equilibrium.{HasSlopes}
 use Rattle.nf_thin_def.specs.PhaseRun.{Standing}
-use Rattle.nf_resume_def.specs.Restoring.{value_at_end, growing, restore_list}
+use Rattle.nf_phase_def.specs.Restoring.{value_at_end, growing, restore_list}
 use Rattle.nf_curve.specs.Points.{Grown}
 use Rattle.nf_curve.specs.Flows.{trace_of, flow_of as flow_in}
 use Rattle.nf_curve.specs.declared.flow.Trace as code
@@ -14,7 +14,7 @@ use Rattle.nf_curve.proofs.Exits.{was_ok, stops_on}
 use Rattle.nf_phase_curves.specs.Growing.{all_grown}
 use Rattle.nf_phase_curves.specs.Restoring.{of_links}
 use Rattle.nf_phase.specs.Stepping.{restored}
-use Rattle.nf_phase.proofs.Restarting.{flow_restored}
+use Rattle.nf_phase_equilibrium_laws.proofs.RestoredRun.{flow_restored}
 use Rattle.nf_phase.proofs.RestoreList.{labels_pass, links_pass, list_made, ends_same, flow_counts}
 use Rattle.nf_phase.proofs.ShortReached.{keeps_reached}
 use Rattle.nf_phase.proofs.Standings.{same_parts}

@@ -7,7 +7,7 @@ use Rattle.nf_rational.specs.Rational.{ℚ}
 use Rattle.nf_rational.specs.Order.{◌<ℚ◌}
 use Rattle.nf_frac_def.specs.Passing.{passes_Q}
 use Rattle.nf_thin_def.specs.PhaseRun.{Standing}
-use Rattle.nf_forever_def.specs.ForeverRun.{GoesToEnd}
+use Rattle.nf_phase_def.specs.ToEnd.{GoesToEnd}
 use Rattle.nf_phase_curves.proofs.Places.{holds_anyway}
 use Rattle.nf_phase.specs.Stepping.{Reaches, goes_on}
 use Rattle.nf_phase.specs.declared.fault.StepFault.{StepFault}

@@ -26,9 +26,9 @@ use Rattle.nf_model_laws.proofs.Sums.{sum_out-each, sum_out-same, sum_in-some}
 use Rattle.nf_model_laws.proofs.Supply.{supplied-begins}
 use Rattle.nf_model_laws.proofs.Ways.{way_back}
 use Rattle.nf_check_laws.proofs.Rising.{label-rises}
-use Rattle.nf_resume_laws.proofs.Served.{amount-nn, outflow-entered}
-use Rattle.nf_resume_laws.proofs.Sent.{BalancedAt, into, into-is, out-balances, out-is_into, comes_out}
-use Rattle.nf_resume_laws.proofs.Repeating.{Repeats, none_by_repeating}
+use Rattle.nf_phase_equilibrium_laws.proofs.Served.{amount-nn, outflow-entered}
+use Rattle.nf_phase_equilibrium_laws.proofs.Sent.{BalancedAt, into, into-is, out-balances, out-is_into, comes_out}
+use Rattle.nf_phase_equilibrium_laws.proofs.Repeating.{Repeats, none_by_repeating}
 use Rattle.nf_rational_laws.proofs.Chains.{≤ℚ_refl, ≤ℚ_trans}
 use Rattle.nf_rational_laws.proofs.Extremes.{min_left, min_right, min_is_left, min_keeps}
 use Rattle.nf_rational_laws.proofs.Facts.{first_of_sum}

@@ -20,8 +20,8 @@ use Rattle.nf_phase_laws.specs.Invariant.{link_slack, queue_by_slack, sent, Hold
 use Rattle.nf_phase_laws.specs.Description.{DescribesLinks}
 use Rattle.nf_rational_laws.proofs.Tests.{max0_none, max0_of}
 use Rattle.nf_phase_laws.proofs.Holds.{sent-is, queue_early, outflow_early}
-use Rattle.nf_resume_laws.proofs.Served.{outflow-entered, outflow-waits}
-use Rattle.nf_resume_laws.proofs.Printed.{rises-link, starts-link, first, labels-at, source-at, label-nn, label-order, not_undercut, comes_out-at, none-before}
+use Rattle.nf_phase_equilibrium_laws.proofs.Served.{outflow-entered, outflow-waits}
+use Rattle.nf_phase_equilibrium_laws.proofs.Printed.{rises-link, starts-link, first, labels-at, source-at, label-nn, label-order, not_undercut, comes_out-at, none-before}
 use Rattle.nf_rational_laws.proofs.Chains.{≤ℚ_refl, ≤ℚ_trans}
 use Rattle.nf_rational_laws.proofs.Facts.{in_time}
 
