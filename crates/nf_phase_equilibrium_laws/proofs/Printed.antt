@@ -127,7 +127,7 @@ module _ (net : Network) (flow : Flow) (good : IsNetwork net) (is : Equilibrium 
       → IsOutflow link.transit link.capacity (F e) (at link.head) (out_by at e)
   printed-out at e link p w = subst (λ (y : ℚ). IsOutflow link.transit link.capacity (F e) (at link.head) y) (sym (out_by-is at e link p)) (is.outflows e link (at link.head) p w)
 
-  up_to_now : (v : ℕ) (departure : ℚ) → v < net.nodes → Within 0ℚ flow.reached departure → Within 0ℚ (l v flow.reached) (l v departure)
+  pub up_to_now : (v : ℕ) (departure : ℚ) → v < net.nodes → Within 0ℚ flow.reached departure → Within 0ℚ (l v flow.reached) (l v departure)
   up_to_now v departure h w = (label-nn v departure h w, label-order v departure flow.reached h w.0 w.1 (≤ℚ_refl flow.reached))
 
   balanced : (departure : ℚ) → Within 0ℚ flow.reached departure → BalancedAt net F (λ v. l v departure) (out_by (λ v. l v departure)) (supply net departure)
