@@ -15,7 +15,7 @@ use Rattle.nf_complete_laws.proofs.ForestMore.{forest-more}
 use Rattle.nf_complete_laws.proofs.OneCycle.{weaker}
 use Rattle.nf_complete_cycles.specs.Trees.{IsWay, AreApart}
 use Rattle.nf_complete_cycles.specs.Cycles.{IsClosed, IsFirstCycle, round_onto, lower, lowest_from}
-use Rattle.nf_model_laws.proofs.Contained.{contains_cases, contains_more, contains_first}
+use Rattle.nf_model_laws.proofs.Contained.{contains_none, contains_cases, contains_more, contains_first}
 use Rattle.nf_complete_cycles.proofs.Rounding.{round-trail, round-contains, contains-round, round-differ, round-turn, turn-same, turn-other}
 
 -- ---- forests
@@ -129,7 +129,7 @@ module _ (hops : List Hop) (chosen : List Bool) (e : ℕ) (before : List Bool) (
 
   -- ---- a path between the ends of the link at the index closes a cycle
   push_cases : (steps : List (ℕ × Bool)) (k : ℕ) → Contains (links_of (steps ++ (e, true) ∷ [])) k → Contains (links_of steps) k ⊎ (k ≡ e)
-  push_cases [] k c = ⊎_elim (λ (s : e ≡ k). inr (sym s)) (λ (s : Contains [] k). absurd (nothing s)) (contains_cases e [] k c)
+  push_cases [] k c = ⊎_elim (λ (s : e ≡ k). inr (sym s)) (λ (s : Contains [] k). absurd (contains_none s)) (contains_cases e [] k c)
     where
       nothing : Contains [] k → ⊥
       nothing (j, h, q) = absurd (omega arith)
@@ -205,13 +205,10 @@ abbrev LowestOf : List (ℕ × Bool) → ℕ × Bool → ℕ × Bool → Type 0
 LowestOf steps best result = Chosen steps best result × ((result.0 ≤ best.0) × ((e : ℕ) → Contains (links_of steps) e → result.0 ≤ e))
 
 lowest-of : (steps : List (ℕ × Bool)) (best result : ℕ × Bool) → lowest_from (Some best) steps ≡ Some result → LowestOf steps best result
-lowest-of [] best result h = (kept (sym (same_Some best result h)), (at result best (same_Some best result h), λ e c. absurd (nothing e c)))
+lowest-of [] best result h = (kept (sym (same_Some best result h)), (at result best (same_Some best result h), λ e c. absurd (contains_none e c)))
   where
     at : (r b : ℕ × Bool) → b ≡ r → r.0 ≤ b.0
     at r b q = let k : b.0 ≡ r.0 = ap (λ (p : ℕ × Bool). p.0) q in omega arith
-
-    nothing : (e : ℕ) → Contains [] e → ⊥
-    nothing e (j, k, q) = absurd (omega arith)
 lowest-of (s ∷ steps) best result h = by (nat_le best.0 s.0) refl (lowest-of steps (lower (Some best) s) result h)
   where
     old : best.0 ≤ s.0 → LowestOf steps best result → LowestOf (s ∷ steps) best result
@@ -276,11 +273,8 @@ first-backward hops chosen steps e c l =
       least = λ k h. l.least k (from k h);
     }
   where
-    nothing : (k : ℕ) → Contains [] k → ⊥
-    nothing k (j, h, q) = absurd (omega arith)
-
     from : (k : ℕ) → Contains (links_of (round_onto [] steps)) k → Contains (links_of steps) k
-    from k h = ⊎_elim (λ (q : Contains [] k). absurd (nothing k q)) (λ (q : Contains (links_of steps) k). q) (round-contains steps [] k h)
+    from k h = ⊎_elim (λ (q : Contains [] k). absurd (contains_none k q)) (λ (q : Contains (links_of steps) k). q) (round-contains steps [] k h)
 
 -- ---- as it is computed
 lowest_some : (steps : List (ℕ × Bool)) (best : ℕ × Bool) → lowest_from (Some best) steps ≡ None → ⊥

@@ -5,6 +5,7 @@ pub mod Reached
 pub mod ShortReached
 pub mod Ended
 pub mod Stepped
+pub mod RunStates
 pub mod Found
 pub mod PhaseFound
 pub mod Going

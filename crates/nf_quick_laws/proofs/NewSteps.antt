@@ -24,19 +24,17 @@ use Rattle.nf_quick_laws.proofs.Potentials.{Fits, Fits-walk, Fits-between, Fits-
 use Rattle.nf_quick_laws.proofs.Apart.{EachStep, AreApart, IsFine, front_least, all_fine, all_apart}
 use Rattle.nf_quick_laws.proofs.Crossings.{IsTaken, crossed-cases, crossed-balance, crossed-cost, cost_from-same, cost_from-plus, cost_from-times}
 
--- A successful test gives a fact.
-
 -- ---- numbers: y is the new flow, x the old one, c the crossings of the link
 grows : (x y c a : ℚ) → c ≡ 1ℚ → y ≡ x +ℚ c *ℚ a → y ≡ x +ℚ a
 grows x y c a e f = linear_eq (x ∷ y ∷ c ∷ a ∷ []) (eq_times a e ∷ eq f ∷ []) (search reading_of) tt tt
 
-shrinks : (x y c a : ℚ) → c ≡ 0ℚ -ℚ 1ℚ → y ≡ x +ℚ c *ℚ a → y ≡ x -ℚ a
+pub shrinks : (x y c a : ℚ) → c ≡ 0ℚ -ℚ 1ℚ → y ≡ x +ℚ c *ℚ a → y ≡ x -ℚ a
 shrinks x y c a e f = linear_eq (x ∷ y ∷ c ∷ a ∷ []) (eq_times a e ∷ eq f ∷ []) (search reading_of) tt tt
 
 more_nn : (x y a : ℚ) → 0ℚ ≤ℚ x → 0ℚ <ℚ a → y ≡ x +ℚ a → 0ℚ ≤ℚ y
 more_nn x y a h k e = linear_le (x ∷ y ∷ a ∷ []) (le h ∷ lt k ∷ eq e ∷ []) (search reading_of) tt
 
-less_nn : (x y a : ℚ) → a ≤ℚ x → y ≡ x -ℚ a → 0ℚ ≤ℚ y
+pub less_nn : (x y a : ℚ) → a ≤ℚ x → y ≡ x -ℚ a → 0ℚ ≤ℚ y
 less_nn x y a h e = linear_le (x ∷ y ∷ a ∷ []) (le h ∷ eq e ∷ []) (search reading_of) tt
 
 more_within : (x y a m : ℚ) → x +ℚ a ≤ℚ m → y ≡ x +ℚ a → y ≤ℚ m

@@ -1,11 +1,11 @@
 -- The supply by the next start equals the supply by this start plus the amount of the piece between.
-use Rattle.std.proofs.Common.{◌≡◌, ℕ, zero, suc, Bool, true, false, if◌then◌else◌, List, [], ◌∷◌, ⊎_elim, Some, slice_get, refl, sym, ap, subst, ◌∙◌}
+use Rattle.std.proofs.Common.{◌≡◌, ℕ, zero, suc, Bool, if◌then◌else◌, List, [], ◌∷◌, Some, slice_get, refl, sym, ap, subst, ◌∙◌}
 use Rattle.std.specs.Prelude.{Ok, Err}
 use Rattle.nf_rational.specs.Rational.{ℚ}
 use Rattle.nf_rational.specs.Operations.{0ℚ}
-use Rattle.nf_rational.specs.Order.{◌≤ℚ◌, ◌<ℚ◌, lt_ℚ}
-use Rattle.nf_rational_laws.proofs.Tests.{lt_ℚ_cases, test_of_less}
-use Rattle.nf_rational_laws.proofs.Order.{≤ℚ_of_lt, not_both_ℚ}
+use Rattle.nf_rational.specs.Order.{◌≤ℚ◌, ◌<ℚ◌}
+use Rattle.nf_rational_laws.proofs.Tests.{test_of_less, test_of_not_less}
+use Rattle.nf_rational_laws.proofs.Order.{≤ℚ_of_lt}
 use Rattle.nf_rational_laws.proofs.Polynomial.{reading_of}
 use Rattle.nf_rational_laws.proofs.Linear.{le, lt, linear_lt}
 use Rattle.nf_rational_laws.proofs.Chains.{≤ℚ_refl, ≤ℚ_trans}
@@ -16,9 +16,6 @@ use Rattle.nf_model.specs.Network.{Piece}
 use Rattle.nf_model_laws.proofs.Supply.{StartsRise}
 use Rattle.nf_net.specs.Supply.{end_before, with_piece, supplied_after}
 use Rattle.nf_residual.proofs.LegByLeg.{bind_more, bind_same}
-
-not_less : (x y : ℚ) → y ≤ℚ x → lt_ℚ x y ≡ false
-not_less x y h = ⊎_elim (λ (w : (lt_ℚ x y ≡ true) × (x <ℚ y)). absurd (not_both_ℚ x y w.1 h)) (λ (w : (lt_ℚ x y ≡ false) × (y ≤ℚ x)). w.0) (lt_ℚ_cases x y)
 
 bind_end : {A : Type 0} (r : Checked A) → (r >>= λ x. Ok x) ≡ r
 bind_end (Ok x) = refl
@@ -40,9 +37,9 @@ module _ (passes : Passing) where
 
   -- Pieces that start at the time or later supply nothing by then.
   none_yet : (p : Piece) (later : List Piece) (time so_far : ℚ) → StartsRise (p ∷ later) → time ≤ℚ p.start → supplied_after passes so_far (p ∷ later) time ≡ Ok so_far
-  none_yet p [] time so_far s h = ap (λ (b : Bool). from_piece b so_far p [] time) (not_less p.start time h)
+  none_yet p [] time so_far s h = ap (λ (b : Bool). from_piece b so_far p [] time) (test_of_not_less p.start time h)
   none_yet p (q ∷ later) time so_far s h =
-      ap (λ (b : Bool). from_piece b so_far p (q ∷ later) time) (not_less p.start time h) ∙ none_yet q later time so_far s.1 (≤ℚ_trans _ _ _ h (≤ℚ_of_lt _ _ s.0))
+      ap (λ (b : Bool). from_piece b so_far p (q ∷ later) time) (test_of_not_less p.start time h) ∙ none_yet q later time so_far s.1 (≤ℚ_trans _ _ _ h (≤ℚ_of_lt _ _ s.0))
 
   -- The whole amount of a piece that ends before the time.
   whole_piece : (p q : Piece) (later : List Piece) (time so_far : ℚ) → p.start <ℚ time → q.start ≤ℚ time

@@ -60,3 +60,6 @@ returns-clause-time c =
     ap (λ (f : Flow). f.reached) c.in_ok-run.ensures.flow
     ∙ (cut_flow-is passes_Q c.args.net.now.net (flow_of c.args.report.now.flow) (flow_of c.in_ok-flow.flow) c.recall.ensures.network c.requires.equilibrium
     (was_ok OfCurve (cut_flow passes_Q c.args.net.now.net (flow_of c.args.report.now.flow)) (flow_of c.in_ok-flow.flow) c.in_ok-flow.ensures)).reached
+
+pub returns-clause-reaches : goal.returns-clause-reaches
+returns-clause-reaches c = let run = c.in_ok-run.ensures {u = tt} in run.state.reaches
