@@ -40,12 +40,12 @@ impl Run {
             &mut self.label_curves,
             reached,
             &phase.labels,
-            &phase.slopes,
+            &phase.thin.slopes,
         );
         extend_links(&mut self.link_curves, net, &phase.labels, &phase.steps);
         self.reached = reached;
         self.labels = phase.labels;
-        self.last = phase.pattern;
+        self.last = phase.thin.pattern;
         self.made += 1;
         Ok(())
     }

@@ -97,4 +97,3 @@ returns-in_err-label_curves-clause-state c = IfOk-from_err c.from_residual-in_er
 
 pub returns-in_err-link_curves-clause-state : goal.returns-in_err-link_curves-clause-state
 returns-in_err-link_curves-clause-state c = IfOk-from_err c.from_residual-in_err-link_curves.result _ c.from_residual-in_err-link_curves.ensures.0
-

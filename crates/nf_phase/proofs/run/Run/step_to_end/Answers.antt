@@ -54,7 +54,7 @@ returns-clause-phase c =
     goes_to_end passes_Q c.args.net.now.net c.args.patterns c.args.self.now c.in_ok-found.found c.in_ok-found.ensures.found c.deref.result.now c.deref-2.result.now c.self.inside.reached
     c.deref.ensures.value c.deref-2.ensures.value (ap (λ (s : Standing). s.time) c.self.view_is)
     c.in-Some.end (ap (λ (o : Option ℚ). Ok o) (sym c.in-Some.is) ∙ c.in_ok-end.ensures.list)
-    c.in_ok-phase.phase (c.in_ok-phase.ensures.leads c.args.patterns c.in_ok-found.ensures.found) c.in_ok-phase.ensures.slopes c.extend_by.new.self c.in_ok-extend_by.ensures.made
+    c.in_ok-phase.phase (c.in_ok-phase.ensures.leads c.args.patterns c.in_ok-found.ensures.found) c.in_ok-phase.ensures.thin c.extend_by.new.self c.in_ok-extend_by.ensures.made
 
 pub phase_by-requires-clause-reaches : goal.phase_by-requires-clause-reaches
 phase_by-requires-clause-reaches c = c.requires.reaches
