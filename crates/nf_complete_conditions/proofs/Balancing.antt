@@ -22,7 +22,7 @@ use Rattle.nf_complete_def.specs.ThinList.{Sums, sum_more, in_more, out_more, wi
 use Rattle.nf_complete_conditions.specs.NodeSums.{end_by, more_at}
 use Rattle.nf_complete_conditions.specs.declared.node_sums.End.{End}
 use Rattle.nf_complete_conditions.specs.declared.node_sums.End.TheVariants.{Head, Tail}
-use Rattle.nf_complete_conditions.specs.Testing.{Tells, same_test}
+use Rattle.nf_complete_conditions.specs.Testing.{AnswersWhether, same_test}
 use Rattle.nf_complete_conditions.specs.ThinParts.{active_flow, brought, taken_away, IsBalanced}
 use Rattle.nf_complete_conditions.proofs.Deciding.{says_by, Decides-same}
 use Rattle.nf_complete_conditions.proofs.Telling.{value_of, first_passes, then_passes}
@@ -116,7 +116,7 @@ module _ (passes : Passing) (net : Network) (sets : Sets) (rate : ℚ) (flows : 
             (first_passes (stays go) (λ stay. Ok (record { in_sum = come; out_sum = stay })) p (sym e)))
 
         pub balance_told : (all : ℚ) → Ok all ≡ at_part Verdict (stays go) → (answer : Bool) → answer ≡ same_test (if eqb v net.source then rate else come) all
-            → Tells (IsBalanced net sets rate flows v) (sums_at passes net sets rate flows v) (Ok answer)
+            → AnswersWhether (IsBalanced net sets rate flows v) (sums_at passes net sets rate flows v) (Ok answer)
         balance_told all all_ok answer e = (worked, says_by answer (same_test (if eqb v net.source then rate else come) all) e decides)
           where
             come_is : come ≡ sum_in net.links carried v

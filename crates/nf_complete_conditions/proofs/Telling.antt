@@ -11,11 +11,11 @@ use Rattle.nf_frac_def.specs.Checked.{Checked, each, at_part, placed, ◌>>=◌}
 use Rattle.nf_rational_laws.proofs.Naturals.{before_or_at}
 use Rattle.nf_rational_laws.proofs.Results.{same_Err}
 use Rattle.nf_thin_laws.proofs.Ending.{enumerated}
-use Rattle.nf_complete_conditions.specs.Testing.{Tells}
+use Rattle.nf_complete_conditions.specs.Testing.{AnswersWhether}
 use Rattle.nf_complete_conditions.proofs.Deciding.{says_like, says_both}
 
 -- ---- one computation
-pub tells_like : {A P Q : Type 0} (list : Checked A) (result : Result Bool (PassedAt ℚ)) → (P → Q) → (Q → P) → Tells P list result → Tells Q list result
+pub tells_like : {A P Q : Type 0} (list : Checked A) (result : Result Bool (PassedAt ℚ)) → (P → Q) → (Q → P) → AnswersWhether P list result → AnswersWhether Q list result
 tells_like list (Ok b) f g t = (t.0, says_like b f g t.1)
 tells_like list (Err at) f g t = t
 
@@ -80,7 +80,7 @@ module _ {A B : Type 0} (f : A → Checked B) where
       less : {k : ℕ} → k < n → k < n + 1
       less h = omega arith
 
-      pub told_more : (next : Bool) → Tells (Holds x) (f x) (Ok next) → ToldBelow (n + 1) (answer && next)
+      pub told_more : (next : Bool) → AnswersWhether (Holds x) (f x) (Ok next) → ToldBelow (n + 1) (answer && next)
       told_more next t = record {
         none_passes = more (λ y. IsOk (f y)) so.none_passes t.0;
         says = says_like (answer && next)
@@ -96,7 +96,7 @@ module _ {A B : Type 0} (f : A → Checked B) where
           go (Ok y) h k = absurd (cc)
           go (Err q) h k = ap (at_part Verdict) (each_err_first xs n x q at h so.none_passes) ∙ ap Err (same_Err {A = B} (placed Verdict q) p k)
 
-    pub told_all : (n : ℕ) (answer : Bool) → length xs ≤ n → ToldBelow n answer → Tells ((k : ℕ) (x : A) → slice_get xs k ≡ Some x → Holds x) (each f xs) (Ok answer)
+    pub told_all : (n : ℕ) (answer : Bool) → length xs ≤ n → ToldBelow n answer → AnswersWhether ((k : ℕ) (x : A) → slice_get xs k ≡ Some x → Holds x) (each f xs) (Ok answer)
     told_all n answer end so = (
       each_ok_all xs (λ k y s. so.none_passes k y (within k y s) s),
       says_like answer (λ (w : Below n). λ k y s. w k y (within k y s) s) (λ (w : (k : ℕ) (x : A) → slice_get xs k ≡ Some x → Holds x). λ k y h s. w k y s) so.says,

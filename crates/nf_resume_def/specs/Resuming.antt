@@ -19,9 +19,9 @@ use Rattle.nf_check_def.specs.CheckList.{check_list}
 use Rattle.nf_phase_def.specs.Restoring.{value_at_end, restore_list}
 
 -- The result for a report: its flow is no equilibrium, or the run state at its end.
-pub data Outcome : Type 0 where
-  Refused : Answer ℕ ℕ ℚ → Outcome
-  Stands : Standing → Outcome
+pub data Restart : Type 0 where
+  Refused : Answer ℕ ℕ ℚ → Restart
+  Stands : Standing → Restart
 
 -- A link with its curves.
 pub record OfLink : Type 0 where
@@ -84,13 +84,13 @@ module _ (passes : Passing) where
     flow ← cut_flow net report.flow
     restore_list passes flow report.last
 
-  abbrev pub after_check : Network → Report → Answer ℕ ℕ ℚ → Result Outcome (PassedAt ℚ)
+  abbrev pub after_check : Network → Report → Answer ℕ ℕ ℚ → Result Restart (PassedAt ℚ)
   after_check net report Yes = do
     first ← at_part Curve (restart_list net report)
     Ok (Stands first)
   after_check net report answer = Ok (Refused answer)
 
-  unfoldable pub resume_list : Network → Report → Result Outcome (PassedAt ℚ)
+  unfoldable pub resume_list : Network → Report → Result Restart (PassedAt ℚ)
   resume_list net report = do
     answer ← check_list passes net report.flow
     after_check net report answer

@@ -30,7 +30,7 @@ use Rattle.nf_phase_laws.proofs.Goes.{curves_go, description_goes}
 use Rattle.nf_phase_laws.proofs.Run.{parts_of, IsPhase-goes, Equilibrium-well}
 use Rattle.nf_phase_def.specs.Restoring.{EndsAtItsLabels}
 use Rattle.nf_phase_def.specs.Open.{Steps, continues, begins, RunsOn, at_horizon, at_phases, fails, steps}
-use Rattle.nf_resume_def.specs.Resuming.{Outcome, Stands, cut_flow, restart_list, after_check, resume_list}
+use Rattle.nf_resume_def.specs.Resuming.{Restart, Stands, cut_flow, restart_list, after_check, resume_list}
 use Rattle.nf_resume_def.specs.Meanings.{GoesOnFrom, IsResumedReport}
 use Rattle.nf_resume_laws.proofs.CutFlow.{IsCutFlow, cut_flow-is}
 use Rattle.nf_resume_laws.proofs.Restarted.{Equilibrium-cut, GoesOnFrom-cut, EndsAtItsLabels-cut}
@@ -142,7 +142,7 @@ module _ (passes : Passing) (net : Network) (good : IsNetwork net) (bounds : Bou
       }
 
 -- ---- inversion of the operation sequence
-stands-ok : (r : Checked Standing) (s : Standing) → ◌≡◌ {A = Result Outcome (PassedAt ℚ)} (at_part Curve r >>= (λ first. Ok (Stands first))) (Ok (Stands s)) → r ≡ Ok s
+stands-ok : (r : Checked Standing) (s : Standing) → ◌≡◌ {A = Result Restart (PassedAt ℚ)} (at_part Curve r >>= (λ first. Ok (Stands first))) (Ok (Stands s)) → r ≡ Ok s
 stands-ok (Ok x) s e = cc
 stands-ok (Err p) s e = absurd (cc)
 
