@@ -12,7 +12,7 @@ use Rattle.nf_model.specs.Pattern.{NeedsState, Fills}
 use Rattle.nf_model_laws.proofs.Potential.{sum_to, sum_to-nn}
 use Rattle.nf_linear_laws.specs.Systems.{form_value}
 use Rattle.nf_linear_laws.proofs.Choices.{MeetsOne, LeastOfTwo, least_of_two}
-use Rattle.nf_complete_laws.specs.Oversupply.{MatchesSlopes, demand, IsOversupply}
+use Rattle.nf_complete_laws.specs.Oversupply.{Fits, demand, IsOversupply}
 use Rattle.nf_complete_laws.proofs.Deciding.{both}
 use Rattle.nf_complete_laws.proofs.Bare.{flagged, same_node}
 use Rattle.nf_complete_laws.proofs.ExistsDeciding.{not_so, SomeLink}
@@ -62,7 +62,7 @@ abbrev FillsAt : ℕ → Option ℚ → ℕ → (ℕ → ℚ) → Type 0
 FillsAt e capacity head x = Fills capacity (flows_of x e) (slopes_of x head)
 
 abbrev pub FitsAt : ℕ → Option ℚ → ℕ → ℕ → (ℕ → ℚ) → Type 0
-FitsAt e capacity tail head x = MatchesSlopes capacity (flows_of x e) (slopes_of x tail) (slopes_of x head)
+FitsAt e capacity tail head x = Fits capacity (flows_of x e) (slopes_of x tail) (slopes_of x head)
 
 fills_described : (e : ℕ) (capacity : Option ℚ) (head : ℕ) → Described (FillsAt e capacity head)
 fills_described e None head = Described-never (FillsAt e None head) (λ x f. none-some f.0 f.1)

@@ -20,7 +20,7 @@ use Rattle.nf_thin_laws.proofs.Flags.{entry_beyond, flag, flag-cases}
 use Rattle.nf_thin_laws.proofs.ExitSlopes.{exit_resetting}
 use Rattle.nf_thin_laws.proofs.Cuts.{EndsBelow-net}
 use Rattle.nf_model_laws.proofs.Totals.{all_zero, two_cancel}
-use Rattle.nf_complete_laws.specs.Oversupply.{MatchesSlopes, demand, IsOversupply}
+use Rattle.nf_complete_laws.specs.Oversupply.{Fits, demand, IsOversupply}
 use Rattle.nf_complete_laws.proofs.Fitting.{fits_exit, fits_least, fits_used}
 use Rattle.nf_complete_laws.proofs.Numbers.{numbers, length-numbers, number_at-numbers, number_at-past}
 use Rattle.nf_complete_laws.proofs.Spare.{spare, HasSpare, spare_of_enough, not_negative}
@@ -99,7 +99,7 @@ module _ (net : Network) (sets : Sets) (rate : ℚ) (flows slopes : ℕ → ℚ)
       let just : exit_of e link ≡ slopes link.head = exit-is e link p true w.0 ∙ exit_resetting link.capacity (flows e) (slopes link.tail) (slopes link.head) (IsPositive-link net e link good p) (over.resetting e link p w.1) in
       (≤ℚ_of_same _ _ (sym just), λ _. just))
       (λ (w : (flag sets.resetting e ≡ false) × (Has sets.resetting e → ⊥)).
-      let fits : MatchesSlopes link.capacity (flows e) (slopes link.tail) (slopes link.head) = over.others e link p (a, w.1) in
+      let fits : Fits link.capacity (flows e) (slopes link.tail) (slopes link.head) = over.others e link p (a, w.1) in
       let is : exit_of e link ≡ exit_slope false link.capacity (flows e) (slopes link.tail) = exit-is e link p false w.0 in
       let just : slopes link.tail ≤ℚ slopes link.head → exit_of e link ≡ slopes link.head = λ h. is ∙ fits_exit link.capacity (flows e) (slopes link.tail) (slopes link.head) (IsPositive-link net e link good p) fits h in (
         subst (λ (z : ℚ). slopes link.head ≤ℚ z) (sym is) (fits_least link.capacity (flows e) (slopes link.tail) (slopes link.head) (IsPositive-link net e link good p) fits),

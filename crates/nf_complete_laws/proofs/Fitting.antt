@@ -13,7 +13,7 @@ use Rattle.nf_model.specs.ThinFlow.{exit_slope}
 use Rattle.nf_model.specs.Pattern.{Fills}
 use Rattle.nf_model_laws.specs.Capacity.{IsPositive}
 use Rattle.nf_thin_laws.proofs.ExitSlopes.{exit_full, exit_tight, exit_zero}
-use Rattle.nf_complete_laws.specs.Oversupply.{MatchesSlopes}
+use Rattle.nf_complete_laws.specs.Oversupply.{Fits}
 use Rattle.nf_complete_laws.proofs.Deciding.{Decided}
 
 -- ---- flows of at most what fills the link, of exactly that, and of less
@@ -108,9 +108,9 @@ pub capped-fills : (capacity : Option ℚ) (x t u : ℚ) → IsPositive capacity
 capped-fills capacity x t u positive f k = Fills-filled capacity _ u (capped-at_most capacity x u) (capped-filled capacity x t u positive (IsFilled-fills capacity x t f) k)
 
 -- So a flow that fits slopes s and t is cut to one that fits r and u.
-pub MatchesSlopes-capped : (capacity : Option ℚ) (x s t r u : ℚ) → IsPositive capacity → MatchesSlopes capacity x s t → 0ℚ ≤ℚ u → u ≤ℚ t → (x ≤ℚ 0ℚ) ⊎ (r ≤ℚ u) → (u ≤ℚ r) ⊎ IsFilled capacity x t
-    → MatchesSlopes capacity (capped capacity x u) r u
-MatchesSlopes-capped capacity x s t r u positive fits n k used upper = record {
+pub Fits-capped : (capacity : Option ℚ) (x s t r u : ℚ) → IsPositive capacity → Fits capacity x s t → 0ℚ ≤ℚ u → u ≤ℚ t → (x ≤ℚ 0ℚ) ⊎ (r ≤ℚ u) → (u ≤ℚ r) ⊎ IsFilled capacity x t
+    → Fits capacity (capped capacity x u) r u
+Fits-capped capacity x s t r u positive fits n k used upper = record {
   no_negative = capped-not_negative capacity x u positive fits.no_negative n;
   most = capped-at_most capacity x u;
   used = ⊎_elim (λ (h : x ≤ℚ 0ℚ). inl (≤ℚ_trans _ _ _ (capped-le capacity x u) h)) (λ (h : r ≤ℚ u). inr h) used;
@@ -118,19 +118,19 @@ MatchesSlopes-capped capacity x s t r u positive fits n k used upper = record {
 }
 
 -- ---- exit slopes
-pub fits_exit : (capacity : Option ℚ) (x s t : ℚ) → IsPositive capacity → MatchesSlopes capacity x s t → s ≤ℚ t → exit_slope false capacity x s ≡ t
+pub fits_exit : (capacity : Option ℚ) (x s t : ℚ) → IsPositive capacity → Fits capacity x s t → s ≤ℚ t → exit_slope false capacity x s ≡ t
 fits_exit capacity x s t positive fits h = ⊎_elim
     (λ (k : t ≤ℚ s). exit_tight capacity x s t positive (≤ℚ_antisymm _ _ k h) fits.most)
     (λ (f : IsFilled capacity x t). exit_full capacity x s t positive (Fills-filled capacity x t fits.most f) h)
     fits.upper
 
-pub fits_least : (capacity : Option ℚ) (x s t : ℚ) → IsPositive capacity → MatchesSlopes capacity x s t → t ≤ℚ exit_slope false capacity x s
+pub fits_least : (capacity : Option ℚ) (x s t : ℚ) → IsPositive capacity → Fits capacity x s t → t ≤ℚ exit_slope false capacity x s
 fits_least capacity x s t positive fits = ⊎_elim
     (λ (h : s <ℚ t). ≤ℚ_of_same _ _ (sym (fits_exit capacity x s t positive fits (≤ℚ_of_lt _ _ h))))
     (λ (h : t ≤ℚ s). exit_zero capacity x s t h)
     (lt_or_le_ℚ s t)
 
-pub fits_used : (capacity : Option ℚ) (x s t : ℚ) → MatchesSlopes capacity x s t → 0ℚ <ℚ x → s ≤ℚ t
+pub fits_used : (capacity : Option ℚ) (x s t : ℚ) → Fits capacity x s t → 0ℚ <ℚ x → s ≤ℚ t
 fits_used capacity x s t fits h = ⊎_elim (λ (k : x ≤ℚ 0ℚ). absurd (not_both_ℚ _ _ h k)) (λ (k : s ≤ℚ t). k) fits.used
 
 -- ---- slopes that fall by h, or stay, keep their order for small h

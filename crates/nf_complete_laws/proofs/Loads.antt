@@ -13,7 +13,7 @@ use Rattle.nf_rational_laws.proofs.Chains.{≤ℚ_refl}
 use Rattle.nf_rational_laws.proofs.Facts.{times_le}
 use Rattle.nf_model.specs.Pattern.{Fills}
 use Rattle.nf_model_laws.specs.Capacity.{IsPositive}
-use Rattle.nf_complete_laws.specs.Oversupply.{MatchesSlopes}
+use Rattle.nf_complete_laws.specs.Oversupply.{Fits}
 use Rattle.nf_complete_laws.proofs.Powers.{power, power-nn, power-rises, room}
 
 -- The exponent of the head's slope that the link allows.
@@ -31,7 +31,7 @@ pub record Load (k : ℚ) (resets : Bool) (capacity : Option ℚ) (a b t : ℕ) 
   pub flow : ℚ
   pub no_negative : 0ℚ ≤ℚ flow
   pub fills : resets ≡ true → Fills capacity flow (power k b)
-  pub fits : resets ≡ false → MatchesSlopes capacity flow (power k a) (power k b)
+  pub fits : resets ≡ false → Fits capacity flow (power k a) (power k b)
   pub most : flow ≤ℚ room capacity *ℚ power k t
   pub least : b ≡ bound resets capacity a t → room capacity *ℚ power k t ≤ℚ flow
 
@@ -91,7 +91,7 @@ module _ (k : ℚ) (one : 1ℚ ≤ℚ k) (a b t : ℕ) where
       (cases_lt b a)
     where
       within : (x : ℚ) → 0ℚ ≤ℚ x → x ≤ℚ c *ℚ power k b → (x ≤ℚ 0ℚ) ⊎ (power k a ≤ℚ power k b) → (power k b ≤ℚ power k a) ⊎ ((d : ℚ) × (Some c ≡ Some d) × (d *ℚ power k b ≤ℚ x))
-          → MatchesSlopes (Some c) x (power k a) (power k b)
+          → Fits (Some c) x (power k a) (power k b)
       within x positive most used upper = record { no_negative = positive; most = λ d e. same_capacity x c (power k b) d most e; used = used; upper = upper }
 
       empty : b < a → Load k false (Some c) a b t

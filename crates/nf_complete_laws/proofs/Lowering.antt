@@ -20,11 +20,11 @@ use Rattle.nf_thin_laws.specs.ActiveLinks.{AreSets, HoldNoCycle}
 use Rattle.nf_thin_laws.proofs.ActiveLinks.{none_first}
 use Rattle.nf_rational_laws.proofs.Naturals.{before_or_at}
 use Rattle.nf_rational_laws.proofs.Facts.{sum_le, sum_lt_le, sum_le_lt}
-use Rattle.nf_complete_laws.specs.Oversupply.{MatchesSlopes, demand, IsOversupply, ResetsAreBounded}
+use Rattle.nf_complete_laws.specs.Oversupply.{Fits, demand, IsOversupply, ResetsAreBounded}
 use Rattle.nf_complete_laws.proofs.Deciding.{Decided}
 use Rattle.nf_complete_laws.proofs.Small.{Small, Small-map, Small-both, Small-when, Small-at_most, Small-apart, Small-times, Small-to, Small-links}
 use Rattle.nf_complete_laws.proofs.LinkSums.{sum_in-not_negative}
-use Rattle.nf_complete_laws.proofs.Fitting.{IsAtMost, IsFilled, HasRoom, filled_or_room, capped, capped-le, capped-same, capped-none, capped-near, capped-fills, MatchesSlopes-capped, fits_used, ordered-low}
+use Rattle.nf_complete_laws.proofs.Fitting.{IsAtMost, IsFilled, HasRoom, filled_or_room, capped, capped-le, capped-same, capped-none, capped-near, capped-fills, Fits-capped, fits_used, ordered-low}
 use Rattle.nf_complete_laws.proofs.Spare.{spare, HasSpare, spare_or_not, kind_of, at_most, spare-brings}
 
 -- ---- sums of numbers of which none grows and at least one falls
@@ -107,7 +107,7 @@ module _ (net : Network) (sets : Sets) (rate : ℚ) (flows slopes : ℕ → ℚ)
   abbrev Spares : ℕ → Type 0
   Spares v = HasSpare net rate flows v
 
-  fits_of : (e : ℕ) (link : Link) → IsLink net e link → NeedsState sets e → MatchesSlopes link.capacity (flows e) (slopes link.tail) (slopes link.head)
+  fits_of : (e : ℕ) (link : Link) → IsLink net e link → NeedsState sets e → Fits link.capacity (flows e) (slopes link.tail) (slopes link.head)
   fits_of e link p n = over.others e link p n
 
   idle_none : (e : ℕ) (link : Link) → IsLink net e link → (Has sets.active e → ⊥) → 0ℚ <ℚ flows e → ⊥
@@ -250,9 +250,9 @@ module _ (net : Network) (sets : Sets) (rate : ℚ) (flows slopes : ℕ → ℚ)
             (λ (f : IsFilled link.capacity (flows e) (slopes link.head)). absurd (not_both_ℚ _ _ (room f.0 f.1) f.2))
             (fits_of e link p m).upper
 
-    others : (e : ℕ) (link : Link) → IsLink net e link → NeedsState sets e → MatchesSlopes link.capacity (new e) (lowered link.tail) (lowered link.head)
-    others e link p m = subst (λ (x : ℚ). MatchesSlopes link.capacity x (lowered link.tail) (lowered link.head)) (sym (new-is e link p))
-        (MatchesSlopes-capped link.capacity (flows e) (slopes link.tail) (slopes link.head) (lowered link.tail) (lowered link.head) (IsPositive-link net e link good p) (fits_of e link p m)
+    others : (e : ℕ) (link : Link) → IsLink net e link → NeedsState sets e → Fits link.capacity (new e) (lowered link.tail) (lowered link.head)
+    others e link p m = subst (λ (x : ℚ). Fits link.capacity x (lowered link.tail) (lowered link.head)) (sym (new-is e link p))
+        (Fits-capped link.capacity (flows e) (slopes link.tail) (slopes link.head) (lowered link.tail) (lowered link.head) (IsPositive-link net e link good p) (fits_of e link p m)
         (lowered-not_negative link.head (good.heads e link p)) (lowered-le link.head) used upper)
       where
         used : (flows e ≤ℚ 0ℚ) ⊎ (lowered link.tail ≤ℚ lowered link.head)

@@ -14,7 +14,7 @@ use Rattle.nf_model.specs.Pattern.{NeedsState, Fills}
 use Rattle.nf_model_laws.proofs.Networks.{IsLink-unique}
 use Rattle.nf_model_laws.proofs.Sums.{sum_in-line, sum_out-line}
 use Rattle.nf_model_laws.proofs.Potential.{only_at, only_at-here, only_at-else}
-use Rattle.nf_complete_laws.specs.Oversupply.{MatchesSlopes, demand, IsOversupply}
+use Rattle.nf_complete_laws.specs.Oversupply.{Fits, demand, IsOversupply}
 use Rattle.nf_complete_laws.proofs.LinkSums.{at_place, at_place-cases, sum_in-place, sum_out-place}
 use Rattle.nf_complete_laws.proofs.Fitting.{IsAtMost}
 use Rattle.nf_complete_laws.proofs.Spare.{spare, enough_of_spare}
@@ -72,7 +72,7 @@ module _ (net : Network) (rate : ℚ) (flows : ℕ → ℚ) (e : ℕ) (link : Li
   spare-tail h = less_by _ _ (only_at link.head 1ℚ link.tail) (only_at link.tail 1ℚ link.tail) d (only_at-else link.head 1ℚ link.tail h) (only_at-here link.tail 1ℚ) (spare-moved link.tail)
 
   module _ (sets : Sets) (slopes : ℕ → ℚ) (over : IsOversupply net sets rate flows slopes) (needs : NeedsState sets e) (level : slopes link.head ≡ slopes link.tail) where
-    fits : 0ℚ ≤ℚ flows e +ℚ d → IsAtMost link.capacity (flows e +ℚ d) (slopes link.head) → MatchesSlopes link.capacity (flows e +ℚ d) (slopes link.tail) (slopes link.head)
+    fits : 0ℚ ≤ℚ flows e +ℚ d → IsAtMost link.capacity (flows e +ℚ d) (slopes link.head) → Fits link.capacity (flows e +ℚ d) (slopes link.tail) (slopes link.head)
     fits n m = record { no_negative = n; most = m; used = inr (≤ℚ_of_same _ _ (sym level)); upper = inl (≤ℚ_of_same _ _ level) }
 
     pub IsOversupply-pushed : 0ℚ ≤ℚ flows e +ℚ d → IsAtMost link.capacity (flows e +ℚ d) (slopes link.head)
@@ -89,9 +89,9 @@ module _ (net : Network) (rate : ℚ) (flows : ℕ → ℚ) (e : ℕ) (link : Li
           (λ (w : (k ≢ e) × (pushed k ≡ flows k)). subst (λ (x : ℚ). Fills other.capacity x (slopes other.head)) (sym w.1) (over.resetting k other q r))
           (pushed-cases k);
       others = λ k other q a. ⊎_elim
-          (λ (w : (k ≡ e) × (pushed k ≡ flows e +ℚ d)). subst (λ (x : ℚ). MatchesSlopes other.capacity x (slopes other.tail) (slopes other.head)) (sym w.1)
-          (subst (λ (l : Link). MatchesSlopes l.capacity (flows e +ℚ d) (slopes l.tail) (slopes l.head)) (IsLink-unique net e link other p (subst (λ (j : ℕ). IsLink net j other) w.0 q)) (fits n m)))
-          (λ (w : (k ≢ e) × (pushed k ≡ flows k)). subst (λ (x : ℚ). MatchesSlopes other.capacity x (slopes other.tail) (slopes other.head)) (sym w.1) (over.others k other q a))
+          (λ (w : (k ≡ e) × (pushed k ≡ flows e +ℚ d)). subst (λ (x : ℚ). Fits other.capacity x (slopes other.tail) (slopes other.head)) (sym w.1)
+          (subst (λ (l : Link). Fits l.capacity (flows e +ℚ d) (slopes l.tail) (slopes l.head)) (IsLink-unique net e link other p (subst (λ (j : ℕ). IsLink net j other) w.0 q)) (fits n m)))
+          (λ (w : (k ≢ e) × (pushed k ≡ flows k)). subst (λ (x : ℚ). Fits other.capacity x (slopes other.tail) (slopes other.head)) (sym w.1) (over.others k other q a))
           (pushed-cases k);
       led = over.led;
       enough = λ v l other. enough_of_spare _ _ _ (s v l other);

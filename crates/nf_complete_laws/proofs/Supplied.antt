@@ -18,7 +18,7 @@ use Rattle.nf_model.specs.Pattern.{NeedsState, Fills}
 use Rattle.nf_model_laws.proofs.Sums.{sum_in-each}
 use Rattle.nf_thin_laws.specs.ActiveLinks.{AreSets, HoldNoCycle, EachIsEntered}
 use Rattle.nf_thin_laws.proofs.Flags.{flag, flag-cases}
-use Rattle.nf_complete_laws.specs.Oversupply.{MatchesSlopes, demand, IsOversupply, ResetsAreBounded}
+use Rattle.nf_complete_laws.specs.Oversupply.{Fits, demand, IsOversupply, ResetsAreBounded}
 use Rattle.nf_complete_laws.proofs.Powers.{power, power-one, power-nn, power-rises, room, room-positive, rooms, rooms-nn, sum_out-within, IsWide, wide}
 use Rattle.nf_complete_laws.proofs.Loads.{bound, bound-tail, Load, load}
 use Rattle.nf_complete_laws.proofs.Heights.{Heights, heights}
@@ -60,7 +60,7 @@ module _ (net : Network) (sets : Sets) (rate : ℚ) (good : IsNetwork net) (are 
     no_negative : 0ℚ ≤ℚ x
     inactive : (Has sets.active e → ⊥) → x ≡ 0ℚ
     resetting : Has sets.resetting e → Fills link.capacity x (slope_of link.head)
-    others : NeedsState sets e → MatchesSlopes link.capacity x (slope_of link.tail) (slope_of link.head)
+    others : NeedsState sets e → Fits link.capacity x (slope_of link.tail) (slope_of link.head)
     most : x ≤ℚ asked link
     least : Has sets.active e → by.height link.head ≡ bound (flag sets.resetting e) link.capacity (by.height link.tail) (by.time link.head) → asked link ≤ℚ x
 
