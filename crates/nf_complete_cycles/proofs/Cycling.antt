@@ -129,10 +129,7 @@ module _ (hops : List Hop) (chosen : List Bool) (e : ℕ) (before : List Bool) (
 
   -- ---- a path between the ends of the link at the index closes a cycle
   push_cases : (steps : List (ℕ × Bool)) (k : ℕ) → Contains (links_of (steps ++ (e, true) ∷ [])) k → Contains (links_of steps) k ⊎ (k ≡ e)
-  push_cases [] k c = ⊎_elim (λ (s : e ≡ k). inr (sym s)) (λ (s : Contains [] k). absurd (contains_none s)) (contains_cases e [] k c)
-    where
-      nothing : Contains [] k → ⊥
-      nothing (j, h, q) = absurd (omega arith)
+  push_cases [] k c = ⊎_elim (λ (s : e ≡ k). inr (sym s)) (λ (s : Contains [] k). absurd (contains_none k s)) (contains_cases e [] k c)
   push_cases (s ∷ steps) k c = ⊎_elim
       (λ (q : s.0 ≡ k). inl (contains_first s.0 (links_of steps) k q))
       (λ (q : Contains (links_of (steps ++ (e, true) ∷ [])) k). ⊎_elim (λ (r : Contains (links_of steps) k). inl (contains_more s.0 (links_of steps) k r)) (λ (r : k ≡ e). inr r) (push_cases steps k q))
@@ -143,10 +140,7 @@ module _ (hops : List Hop) (chosen : List Bool) (e : ℕ) (before : List Bool) (
   push_contains (s ∷ steps) = contains_more s.0 (links_of (steps ++ (e, true) ∷ [])) e (push_contains steps)
 
   push_differ : (steps : List (ℕ × Bool)) → AllDiffer (links_of steps) → (Contains (links_of steps) e → ⊥) → AllDiffer (links_of (steps ++ (e, true) ∷ []))
-  push_differ [] d n = ((λ c. nothing c), tt)
-    where
-      nothing : Contains [] e → ⊥
-      nothing (j, h, q) = absurd (omega arith)
+  push_differ [] d n = ((λ c. contains_none e c), tt)
   push_differ (s ∷ steps) d n = (
     (λ c. ⊎_elim (λ (q : Contains (links_of steps) s.0). d.0 q) (λ (q : s.0 ≡ e). n (contains_first s.0 (links_of steps) e q)) (push_cases steps s.0 c)),
     push_differ steps d.1 (λ c. n (contains_more s.0 (links_of steps) e c)),
@@ -262,7 +256,7 @@ first-backward hops chosen steps e c l =
         steps_are = s.2;
         start = c.start;
         trail = round-trail hops (Has chosen) steps [] c.start c.start c.start c.trail refl;
-        differ = round-differ steps [] c.differ tt (λ k _ h. nothing k h);
+        differ = round-differ steps [] c.differ tt (λ k _ h. contains_none k h);
         last = c.last;
         closes = contains-round steps [] c.last c.closes;
         highest = λ k h. c.highest k (from k h);
