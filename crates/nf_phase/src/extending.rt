@@ -13,6 +13,7 @@ use crate::run::Run;
 use nf_frac::Q;
 use nf_net::Network;
 use nf_phase_curves::{extend_labels, extend_links, reserve_labels, reserve_links};
+use nf_thin::ThinFlow;
 use std::alloc::{AllocError, Global};
 
 // Returns the label of the source, which equals the departure.
@@ -45,7 +46,12 @@ impl Run {
         extend_links(&mut self.link_curves, net, &phase.labels, &phase.steps);
         self.reached = reached;
         self.labels = phase.labels;
-        self.last = phase.thin.pattern;
+        let ThinFlow {
+            flows: _,
+            slopes: _,
+            pattern,
+        } = phase.thin;
+        self.last = pattern;
         self.made += 1;
         Ok(())
     }
