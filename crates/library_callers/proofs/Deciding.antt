@@ -13,7 +13,7 @@ use Rattle.nf_model.specs.Quickest.{IsQuickest}
 use Rattle.nf_check_def.specs.declared.Answer.{Answer}
 use Rattle.nf_check_def.specs.declared.Answer.TheVariants.{Yes, No}
 use Rattle.nf_check.specs.Answers.{IsExact}
-use Rattle.nf_forever_def.specs.Tails.{Tail}
+use Rattle.nf_phase_def.specs.ToEnd.{Tail}
 use Rattle.nf_forever_laws.specs.TailGrowth.{TailGrows}
 use Rattle.library_callers.specs.Deadlines.{FitsBefore, NothingArrivesBy}
 use Rattle.library_callers.specs.Supplies.{CutsCarry}

@@ -5,10 +5,10 @@ use Rattle.nf_frac_def.specs.Passing.{Passing}
 use Rattle.nf_model.specs.Network.{Network, IsNetwork}
 use Rattle.nf_thin_def.specs.PhaseRun.{Standing, IsShortFlow, flow_of}
 use Rattle.nf_phase.specs.Stepping.{Reaches, starts, goes_on}
-use Rattle.nf_phase.specs.Restarting.{EndsAtItsLabels}
+use Rattle.nf_phase_def.specs.Restoring.{EndsAtItsLabels}
 use Rattle.nf_phase.proofs.ShortReached.{short_reached}
 use Rattle.nf_phase.proofs.Told.{ends_told}
-use Rattle.nf_forever_def.specs.Tails.{Tail}
+use Rattle.nf_phase_def.specs.ToEnd.{Tail}
 use Rattle.nf_forever_def.specs.ForeverRun.{End, Stops, NeverEnds, RunsForever, at_phases, fails, never_ends, goes, Forever, forever_of, IsForever}
 use Rattle.nf_forever.specs.declared.forever.Tail.{Tail as CodeTail}
 use Rattle.nf_forever.specs.Seen.{tail_in}

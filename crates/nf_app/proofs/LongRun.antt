@@ -11,7 +11,7 @@ use Rattle.nf_model.specs.Network.{Network, IsNetwork}
 use Rattle.nf_net_def.specs.Named.{Named}
 use Rattle.nf_net_def.specs.Report.{Report}
 use Rattle.nf_thin_def.specs.PhaseRun.{Standing, Bounds, IsRunReport}
-use Rattle.nf_forever_def.specs.Tails.{Tail}
+use Rattle.nf_phase_def.specs.ToEnd.{Tail}
 use Rattle.nf_forever_def.specs.ForeverRun.{Forever, End, Stops, NeverEnds, IsForeverRun, IsForever, forever_of}
 use Rattle.nf_forever_laws.specs.TailGrowth.{TailGrows}
 use Rattle.nf_settling_laws.specs.Settling.{Settles}

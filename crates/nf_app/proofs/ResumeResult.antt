@@ -16,7 +16,7 @@ use Rattle.nf_report_def.specs.declared.ReportRule.{ReportRule}
 use Rattle.nf_report_read.specs.Files.{IfBroken}
 use Rattle.nf_thin_def.specs.PhaseRun.{IsShortFlow}
 use Rattle.nf_phase_run_laws.specs.ReadableLaws.{ReadsBack}
-use Rattle.nf_phase.specs.Restarting.{EndsAtItsLabels}
+use Rattle.nf_phase_def.specs.Restoring.{EndsAtItsLabels}
 use Rattle.nf_resume_def.specs.Resuming.{resume_list}
 use Rattle.nf_resume_def.specs.Meanings.{IsResumedReport, GoesOnFrom}
 use Rattle.nf_resume.specs.Faults.{IsRefusedReport}

@@ -27,7 +27,7 @@ use Rattle.nf_quick_def.specs.Answers.{IsQuickFlow}
 use Rattle.nf_quick_def.specs.InOrder.{ComesOfPushes}
 use Rattle.nf_quick_def.specs.Departures.{IsDeparture}
 use Rattle.nf_quick.specs.Answered.{HasNoWay}
-use Rattle.nf_phase.specs.Restarting.{EndsAtItsLabels}
+use Rattle.nf_phase_def.specs.Restoring.{EndsAtItsLabels}
 use Rattle.nf_phase.specs.Solution.{EndsAll, IsSolution}
 use Rattle.nf_complete_def.specs.FlowsFile.{GivenFlows, flows_in}
 use Rattle.nf_forever_def.specs.ForeverRun.{Forever, IsForever}

@@ -8,7 +8,7 @@ use Rattle.nf_model.specs.Entries.{number_at}
 use Rattle.nf_model.specs.Network.{Network}
 use Rattle.nf_model.specs.Equilibrium.{Flow}
 use Rattle.nf_net_def.specs.Report.{Report}
-use Rattle.nf_forever_def.specs.Tails.{Tail}
+use Rattle.nf_phase_def.specs.ToEnd.{Tail}
 use Rattle.nf_forever_def.specs.ForeverRun.{Forever}
 use Rattle.nf_settling_laws.specs.Settling.{IsLastSupply, CutsAreWide, Settles}
 use Rattle.nf_settling_laws.specs.Excess.{excess}

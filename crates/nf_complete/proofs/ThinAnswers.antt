@@ -13,7 +13,7 @@ use Rattle.nf_thin_laws.specs.ActiveLinks.{NoneEntersSource}
 use Rattle.nf_complete_def.specs.Cancelling.{fulls_list}
 use Rattle.nf_complete_def.specs.ThinList.{Sums, sums_at, thin_list}
 use Rattle.nf_complete_laws.specs.SettleLaws.{AreGoodSets}
-use Rattle.nf_complete_conditions.specs.Testing.{Tells}
+use Rattle.nf_complete_conditions.specs.Testing.{AnswersWhether}
 use Rattle.nf_complete_conditions.specs.ThinParts.{IsProper}
 use Rattle.nf_complete_conditions.proofs.Deciding.{says_like, says_both}
 use Rattle.nf_complete_conditions.proofs.Telling.{first_passes}
@@ -54,14 +54,14 @@ module _ (passes : Passing) (net : Network) (sets : Sets) (rate : ℚ) (flows sl
     abbrev AllKept : Type 0
     AllKept = Kept net sets rate flows slopes good none_in
 
-    pub balances_pass : (p : PassedAt ℚ) → Tells AllBalanced sums (Err p) → at_part Verdict (thin_list passes net sets rate flows slopes) ≡ Err p
+    pub balances_pass : (p : PassedAt ℚ) → AnswersWhether AllBalanced sums (Err p) → at_part Verdict (thin_list passes net sets rate flows slopes) ≡ Err p
     balances_pass p t = sums_pass p t
 
-    module _ (balanced : Bool) (b : Tells AllBalanced sums (Ok balanced)) where
-      pub slopes_pass : (p : PassedAt ℚ) → Tells AllKept fulls (Err p) → at_part Verdict (thin_list passes net sets rate flows slopes) ≡ Err p
+    module _ (balanced : Bool) (b : AnswersWhether AllBalanced sums (Ok balanced)) where
+      pub slopes_pass : (p : PassedAt ℚ) → AnswersWhether AllKept fulls (Err p) → at_part Verdict (thin_list passes net sets rate flows slopes) ≡ Err p
       slopes_pass p t = fulls_pass p b.0 t
 
-      module _ (kept : Bool) (k : Tells AllKept fulls (Ok kept)) where
+      module _ (kept : Bool) (k : AnswersWhether AllKept fulls (Ok kept)) where
         pub none_passes : IsOk (thin_list passes net sets rate flows slopes)
         none_passes = all_work b.0 k.0
 

@@ -17,14 +17,15 @@ use Rattle.nf_model.specs.Entries.{number_at}
 use Rattle.nf_model.specs.Network.{Link, Network, IsLink, sum_in, sum_out}
 use Rattle.nf_model.specs.ThinFlow.{Sets}
 use Rattle.nf_rational_laws.proofs.Results.{same_Ok}
+use Rattle.nf_frac_def.proofs.Exact.{checked-is}
 use Rattle.nf_complete_def.specs.ThinList.{Sums, sum_more, in_more, out_more, with_rate, sums_at}
 use Rattle.nf_complete_conditions.specs.NodeSums.{end_by, more_at}
 use Rattle.nf_complete_conditions.specs.declared.node_sums.End.{End}
 use Rattle.nf_complete_conditions.specs.declared.node_sums.End.TheVariants.{Head, Tail}
-use Rattle.nf_complete_conditions.specs.Testing.{Tells, same_test}
+use Rattle.nf_complete_conditions.specs.Testing.{AnswersWhether, same_test}
 use Rattle.nf_complete_conditions.specs.ThinParts.{active_flow, brought, taken_away, IsBalanced}
 use Rattle.nf_complete_conditions.proofs.Deciding.{says_by, Decides-same}
-use Rattle.nf_complete_conditions.proofs.Telling.{operation-is, value_of, first_passes, then_passes}
+use Rattle.nf_complete_conditions.proofs.Telling.{value_of, first_passes, then_passes}
 
 module _ (passes : Passing) (net : Network) (sets : Sets) (rate : ℚ) (flows : List ℚ) where
   abbrev carried : ℕ → ℚ
@@ -33,7 +34,7 @@ module _ (passes : Passing) (net : Network) (sets : Sets) (rate : ℚ) (flows : 
   -- one link more
   more-is : (a at : Bool) (so_far next : ℚ) (e : ℕ) → sum_more passes net sets rate flows (a && at) so_far e ≡ Ok next
       → next ≡ (if at then so_far +ℚ (if a then number_at flows e else 0ℚ) else so_far)
-  more-is true true so_far next e h = operation-is passes Sum so_far (number_at flows e) next h
+  more-is true true so_far next e h = checked-is passes Sum so_far (number_at flows e) next h
   more-is true false so_far next e h = sym (same_Ok so_far next h)
   more-is false true so_far next e h = none (sym (same_Ok so_far next h))
     where
@@ -83,7 +84,7 @@ module _ (passes : Passing) (net : Network) (sets : Sets) (rate : ℚ) (flows : 
   goes-is v y h = from_zero y (sum_out net.links carried v) (total-is v (λ l. l.tail) (out_more passes net sets rate flows v) (λ links f. sum_out links f v) (λ so_far e link. refl) (λ f. refl) (λ link links f. refl) net.links 0 carried 0ℚ y at_zero h)
 
   stays-is : (stays : Bool) (sum y : ℚ) → with_rate passes net sets rate flows stays sum ≡ Ok y → y ≡ (if stays then sum +ℚ rate else sum)
-  stays-is true sum y h = operation-is passes Sum sum rate y h
+  stays-is true sum y h = checked-is passes Sum sum rate y h
   stays-is false sum y h = sym (same_Ok sum y h)
 
   -- ---- a link more, by its end
@@ -115,7 +116,7 @@ module _ (passes : Passing) (net : Network) (sets : Sets) (rate : ℚ) (flows : 
             (first_passes (stays go) (λ stay. Ok (record { in_sum = come; out_sum = stay })) p (sym e)))
 
         pub balance_told : (all : ℚ) → Ok all ≡ at_part Verdict (stays go) → (answer : Bool) → answer ≡ same_test (if eqb v net.source then rate else come) all
-            → Tells (IsBalanced net sets rate flows v) (sums_at passes net sets rate flows v) (Ok answer)
+            → AnswersWhether (IsBalanced net sets rate flows v) (sums_at passes net sets rate flows v) (Ok answer)
         balance_told all all_ok answer e = (worked, says_by answer (same_test (if eqb v net.source then rate else come) all) e decides)
           where
             come_is : come ≡ sum_in net.links carried v

@@ -4,7 +4,7 @@ use Rattle.nf_rational.specs.Rational.{ℚ}
 use Rattle.nf_rational.specs.Operations.{0ℚ, ◌*ℚ◌, ◌/ℚ◌}
 use Rattle.nf_rational.specs.Order.{◌≤ℚ◌, ◌<ℚ◌, max_ℚ}
 use Rattle.nf_rational_laws.proofs.Polynomial.{reading_of}
-use Rattle.nf_rational_laws.proofs.Order.{≤ℚ_of_same, ≤ℚ_of_lt, ≤ℚ_antisymm, lt_or_le_ℚ, not_both_ℚ, nn_times}
+use Rattle.nf_rational_laws.proofs.Order.{≤ℚ_of_same, ≤ℚ_antisymm, lt_or_le_ℚ, not_both_ℚ}
 use Rattle.nf_rational_laws.proofs.Linear.{le, eq, linear_le}
 use Rattle.nf_rational_laws.proofs.Chains.{≤ℚ_trans}
 use Rattle.nf_rational_laws.proofs.Extremes.{max_right}
@@ -15,16 +15,10 @@ use Rattle.nf_thin_laws.proofs.ExitSlopes.{exit_resetting, exit_full, exit_tight
 use Rattle.nf_thin_laws.proofs.LinkLaws.{LinkLaw}
 use Rattle.nf_complete_laws.proofs.Deciding.{some_or_none}
 use Rattle.nf_complete_conditions.specs.ThinParts.{filling, KeepsSlopes}
+use Rattle.nf_complete_laws.proofs.Classes.{empty_exit}
 
 quotient_above : (x c t : ℚ) → 0ℚ <ℚ c → c *ℚ t ≤ℚ x → t ≤ℚ x /ℚ c
 quotient_above x c t h k = le_from_times c t (x /ℚ c) h (linear_le (x ∷ c ∷ t ∷ (x /ℚ c) ∷ []) (eq (quotient-times x c h) ∷ le k ∷ []) (search reading_of depth 12) tt)
-
--- a link that carries nothing, and isn't resetting
-pub exit_empty : (capacity : Option ℚ) (x s : ℚ) → IsPositive capacity → x ≡ 0ℚ → 0ℚ ≤ℚ s → exit_slope false capacity x s ≡ s
-exit_empty capacity x s p e n = exit_tight capacity x s s p refl (λ c h. at_most c (≤ℚ_of_lt _ _ (p c h)))
-  where
-    at_most : (c : ℚ) → 0ℚ ≤ℚ c → x ≤ℚ c *ℚ s
-    at_most c h = let w : 0ℚ ≤ℚ c *ℚ s = nn_times c s h n in linear_le (x ∷ c ∷ s ∷ []) (eq e ∷ le w ∷ []) (search reading_of depth 12) tt
 
 some_used : {A : Type 0} (x : ℚ) → 0ℚ <ℚ x → (x ≤ℚ 0ℚ) ⊎ A → A
 some_used {A = A} x h u = ⊎_elim (λ (l : x ≤ℚ 0ℚ). absurd (not_both_ℚ 0ℚ x h l)) (λ (a : A). a) u
@@ -57,7 +51,7 @@ keeps-taken true None x s t p b n m k w = absurd (b refl refl)
 keeps-taken true (Some c) x s t p b n m k w = exit_resetting (Some c) x s t p (c, refl, k)
 keeps-taken false capacity x s t p b n m k w = ⊎_elim
     (λ (h : 0ℚ <ℚ x). keeps-used false capacity x s t p k h)
-    (λ (z : x ≡ 0ℚ). exit_empty capacity x s p z m ∙ sym (level z w))
+    (λ (z : x ≡ 0ℚ). empty_exit capacity x s p z m ∙ sym (level z w))
     (some_or_none x n)
   where
     level : x ≡ 0ℚ → (false ≡ true) ⊎ ((x ≢ 0ℚ) ⊎ (t ≡ s)) → t ≡ s

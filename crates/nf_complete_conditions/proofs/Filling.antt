@@ -13,17 +13,18 @@ use Rattle.nf_model.specs.Entries.{number_at, Has}
 use Rattle.nf_model.specs.Network.{Link, Network, IsLink}
 use Rattle.nf_model.specs.ThinFlow.{Sets}
 use Rattle.nf_rational_laws.proofs.Results.{same_Ok}
+use Rattle.nf_frac_def.proofs.Exact.{checked-is}
 use Rattle.nf_complete_def.specs.Cancelling.{full_on, full_at, fulls_list}
 use Rattle.nf_complete_laws.proofs.Eachs.{each-at, each-length}
-use Rattle.nf_complete_conditions.specs.Testing.{Tells}
+use Rattle.nf_complete_conditions.specs.Testing.{AnswersWhether}
 use Rattle.nf_complete_conditions.specs.ThinParts.{filling, KeepsSlopes, keeps_test, KeepsAt}
 use Rattle.nf_complete_conditions.proofs.Deciding.{says, says_like, Decides-keeps}
-use Rattle.nf_complete_conditions.proofs.Telling.{operation-is, value_of, is_ok_of}
+use Rattle.nf_complete_conditions.proofs.Telling.{value_of, is_ok_of}
 
 full-is : (passes : Passing) (capacity : Option ℚ) (t : ℚ) (y : Option ℚ) → full_on passes true capacity t ≡ Ok y → y ≡ filling capacity t
 full-is passes None t y h = sym (same_Ok None y h)
 full-is passes (Some c) t y h = let b = bind_ok (checked passes Product c t) (λ full. Ok (Some full)) y h in
-    sym (same_Ok (Some b.0) y b.2) ∙ ap (λ (z : ℚ). Some z) (operation-is passes Product c t b.0 b.1)
+    sym (same_Ok (Some b.0) y b.2) ∙ ap (λ (z : ℚ). Some z) (checked-is passes Product c t b.0 b.1)
 
 pub full_none : (passes : Passing) (active : Bool) (t : ℚ) → full_on passes active None t ≡ Ok None
 full_none passes true t = refl
@@ -64,7 +65,7 @@ module _ (passes : Passing) (sets : Sets) (flows slopes : List ℚ) (e : ℕ) (l
       clash q = cc
 
   pub keeps_told : (a r : Bool) (full : Option ℚ) (answer : Bool) → slice_get sets.active e ≡ Some a → slice_get sets.resetting e ≡ Some r → Ok full ≡ at_part Verdict (full_at passes sets slopes (e, link))
-      → answer ≡ (not a || keeps_test r full (number_at flows e) (number_at slopes link.tail) (number_at slopes link.head)) → Tells (KeepsAt sets flows slopes e link) (full_at passes sets slopes (e, link)) (Ok answer)
+      → answer ≡ (not a || keeps_test r full (number_at flows e) (number_at slopes link.tail) (number_at slopes link.head)) → AnswersWhether (KeepsAt sets flows slopes e link) (full_at passes sets slopes (e, link)) (Ok answer)
   keeps_told a r full answer at ar f same = (
     is_ok_of (full_at passes sets slopes (e, link)) full f,
     subst (λ (b : Bool). MatchBool b (KeepsAt sets flows slopes e link) (KeepsAt sets flows slopes e link → ⊥)) (sym same)

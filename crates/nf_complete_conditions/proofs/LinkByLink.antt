@@ -11,7 +11,7 @@ use Rattle.nf_model.specs.Network.{Link, Network, IsLink}
 use Rattle.nf_rational_laws.proofs.Entries.{entry}
 use Rattle.nf_frac_def.proofs.AtPart.{part_ok}
 use Rattle.nf_complete_conditions.proofs.Folds.{FoldsOn, folds_more, fold_stops, fold_ends}
-use Rattle.nf_complete_conditions.proofs.Telling.{numbered_at}
+use Rattle.nf_thin_laws.proofs.Ending.{enumerated}
 
 module _ (f : ℚ → ℕ × Link → Checked ℚ) (net : Network) (start : ℚ) where
   abbrev pub SoFar : ℚ → ℕ → Type 0
@@ -22,7 +22,7 @@ module _ (f : ℚ → ℕ × Link → Checked ℚ) (net : Network) (start : ℚ)
     here = entry net.links e inside
 
     at_here : slice_get (enumerate_from 0 net.links) e ≡ Some (e, here.0)
-    at_here = subst (λ (j : ℕ). slice_get (enumerate_from 0 net.links) e ≡ Some (j, here.0)) (let z : 0 + e ≡ e = omega arith in z) (numbered_at 0 net.links e here.0 here.1)
+    at_here = subst (λ (j : ℕ). slice_get (enumerate_from 0 net.links) e ≡ Some (j, here.0)) (let z : 0 + e ≡ e = omega arith in z) (enumerated 0 net.links e here.0 here.1)
 
     pub adds_on : (next : ℚ) → ((link : Link) → IsLink net e link → Ok next ≡ at_part Verdict (f so_far (e, link))) → SoFar next (e + 1)
     adds_on next said =

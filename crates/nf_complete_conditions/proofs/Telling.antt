@@ -1,5 +1,5 @@
 -- A loop over a list that tests each entry after a computation for it.
-use Rattle.std.proofs.Common.{◌≡◌, ℕ, zero, suc, ◌+◌, ◌<◌, ◌≤◌, List, [], ◌∷◌, length, ⊎_elim, Bool, true, false, ◌&&◌, if◌then◌else◌, sym, ap, subst, refl, ◌∙◌, arith}
+use Rattle.std.proofs.Common.{◌≡◌, ℕ, zero, suc, ◌+◌, ◌<◌, ◌≤◌, List, [], ◌∷◌, length, ⊎_elim, Bool, ◌&&◌, sym, ap, subst, refl, ◌∙◌, arith}
 use Rattle.std.specs.Prelude.{Some, slice_get, Result, Ok, Err, IsOk, MatchBool}
 use Rattle.std.specs.List.{enumerate_from, range_with_len}
 use Rattle.std.proofs.lemmas.Option.{none-some, same_Some, slice_get_within}
@@ -7,25 +7,15 @@ use Rattle.nf_rational.specs.Rational.{ℚ}
 use Rattle.nf_frac_def.specs.declared.Part.TheVariants.{Verdict}
 use Rattle.nf_frac_def.specs.declared.Passed.{Passed}
 use Rattle.nf_frac_def.specs.declared.PassedAt.{PassedAt}
-use Rattle.nf_frac_def.specs.Passing.{Passing, result_of}
-use Rattle.nf_frac_def.specs.declared.Op.{Op}
-use Rattle.nf_frac_def.specs.Checked.{Checked, checked, each, at_part, placed, ◌>>=◌}
+use Rattle.nf_frac_def.specs.Checked.{Checked, each, at_part, placed, ◌>>=◌}
 use Rattle.nf_rational_laws.proofs.Naturals.{before_or_at}
-use Rattle.nf_rational_laws.proofs.Results.{same_Ok, same_Err}
-use Rattle.nf_complete_conditions.specs.Testing.{Tells}
+use Rattle.nf_rational_laws.proofs.Results.{same_Err}
+use Rattle.nf_thin_laws.proofs.Ending.{enumerated}
+use Rattle.nf_complete_conditions.specs.Testing.{AnswersWhether}
 use Rattle.nf_complete_conditions.proofs.Deciding.{says_like, says_both}
 
--- ---- one operation
-exact_by : (b : Bool) (e : Passed ℚ) (x y : ℚ) → (if b then Err e else Ok x) ≡ Ok y → y ≡ x
-exact_by true e x y h = absurd (cc)
-exact_by false e x y h = sym (same_Ok x y h)
-
-pub operation-is : (passes : Passing) (op : Op) (x y z : ℚ) → checked passes op x y ≡ Ok z → z ≡ result_of op x y
-unfolding checked
-operation-is passes op x y z h = exact_by (passes op x y) (record { op = op; left = x; right = y }) (result_of op x y) z h
-
 -- ---- one computation
-pub tells_like : {A P Q : Type 0} (list : Checked A) (result : Result Bool (PassedAt ℚ)) → (P → Q) → (Q → P) → Tells P list result → Tells Q list result
+pub tells_like : {A P Q : Type 0} (list : Checked A) (result : Result Bool (PassedAt ℚ)) → (P → Q) → (Q → P) → AnswersWhether P list result → AnswersWhether Q list result
 tells_like list (Ok b) f g t = (t.0, says_like b f g t.1)
 tells_like list (Err at) f g t = t
 
@@ -90,7 +80,7 @@ module _ {A B : Type 0} (f : A → Checked B) where
       less : {k : ℕ} → k < n → k < n + 1
       less h = omega arith
 
-      pub told_more : (next : Bool) → Tells (Holds x) (f x) (Ok next) → ToldBelow (n + 1) (answer && next)
+      pub told_more : (next : Bool) → AnswersWhether (Holds x) (f x) (Ok next) → ToldBelow (n + 1) (answer && next)
       told_more next t = record {
         none_passes = more (λ y. IsOk (f y)) so.none_passes t.0;
         says = says_like (answer && next)
@@ -106,7 +96,7 @@ module _ {A B : Type 0} (f : A → Checked B) where
           go (Ok y) h k = absurd (cc)
           go (Err q) h k = ap (at_part Verdict) (each_err_first xs n x q at h so.none_passes) ∙ ap Err (same_Err {A = B} (placed Verdict q) p k)
 
-    pub told_all : (n : ℕ) (answer : Bool) → length xs ≤ n → ToldBelow n answer → Tells ((k : ℕ) (x : A) → slice_get xs k ≡ Some x → Holds x) (each f xs) (Ok answer)
+    pub told_all : (n : ℕ) (answer : Bool) → length xs ≤ n → ToldBelow n answer → AnswersWhether ((k : ℕ) (x : A) → slice_get xs k ≡ Some x → Holds x) (each f xs) (Ok answer)
     told_all n answer end so = (
       each_ok_all xs (λ k y s. so.none_passes k y (within k y s) s),
       says_like answer (λ (w : Below n). λ k y s. w k y (within k y s) s) (λ (w : (k : ℕ) (x : A) → slice_get xs k ≡ Some x → Holds x). λ k y h s. w k y s) so.says,
@@ -127,11 +117,6 @@ in_range a (suc n) zero v h = (omega arith, let e : a ≡ v = same_Some a v h in
 in_range a (suc n) (suc k) v h = let r = in_range (a + 1) n k v h in (omega arith, omega arith)
 
 -- the entries of a numbered list
-pub numbered_at : {A : Type 0} (a : ℕ) (xs : List A) (k : ℕ) (x : A) → slice_get xs k ≡ Some x → slice_get (enumerate_from a xs) k ≡ Some (a + k, x)
-numbered_at a [] k x h = absurd (none-some x h)
-numbered_at {A = A} a (y ∷ xs) zero x h = ap (λ (p : ℕ × A). Some p) (ap (λ (z : A). (a, z)) (same_Some y x h) ∙ ap (λ (j : ℕ). (j, x)) (let e : a ≡ a + 0 = omega arith in e))
-numbered_at {A = A} a (y ∷ xs) (suc k) x h = numbered_at (a + 1) xs k x h ∙ ap (λ (j : ℕ). Some (j, x)) (let e : (a + 1) + k ≡ a + suc k = omega arith in e)
-
 pub in_numbered : {A : Type 0} (a : ℕ) (xs : List A) (k : ℕ) (p : ℕ × A) → slice_get (enumerate_from a xs) k ≡ Some p → (p.0 ≡ a + k) × (slice_get xs k ≡ Some p.1)
 in_numbered a [] k p h = absurd (none-some p h)
 in_numbered {A = A} a (y ∷ xs) zero p h = let e = same_Some (a, y) p h in (let n : a ≡ p.0 = ap (λ (q : ℕ × A). q.0) e in omega arith, ap (λ (q : ℕ × A). Some q.1) e)
@@ -142,7 +127,7 @@ pub node_at : (n v : ℕ) → v < n → slice_get (range_with_len 0 n) v ≡ Som
 node_at n v h = range_at 0 n v h ∙ ap (λ (k : ℕ). Some k) (let z : 0 + v ≡ v = omega arith in z)
 
 pub link_at : {A : Type 0} (xs : List A) (k : ℕ) (x : A) → slice_get xs k ≡ Some x → slice_get (enumerate_from 0 xs) k ≡ Some (k, x)
-link_at {A = A} xs k x h = numbered_at 0 xs k x h ∙ ap (λ (j : ℕ). Some (j, x)) (let z : 0 + k ≡ k = omega arith in z)
+link_at {A = A} xs k x h = enumerated 0 xs k x h ∙ ap (λ (j : ℕ). Some (j, x)) (let z : 0 + k ≡ k = omega arith in z)
 
 pub each_node : (P : ℕ → Type 0) (n : ℕ) → ((k v : ℕ) → slice_get (range_with_len 0 n) k ≡ Some v → P v) → (v : ℕ) → v < n → P v
 each_node P n f v h = f v v (node_at n v h)

@@ -20,8 +20,9 @@ use Rattle.nf_model_laws.proofs.Totals.{IsThinFlow-sink}
 use Rattle.nf_complete_laws.specs.SettleLaws.{AreGoodSets}
 use Rattle.nf_complete_laws.proofs.Bare.{flagged, same_node}
 use Rattle.nf_complete_laws.proofs.Deciding.{same_or_not}
+use Rattle.nf_complete_laws.proofs.Classes.{empty_exit}
 use Rattle.nf_complete_conditions.specs.ThinParts.{active_flow, brought, taken_away, IsBalanced, KeepsAt, IsLevelAt, Brings, Takes, CarriesOnActive, IsProper}
-use Rattle.nf_complete_conditions.proofs.ExitsTaken.{exit_empty, keeps-used, keeps-least, keeps-taken, law-keeps}
+use Rattle.nf_complete_conditions.proofs.ExitsTaken.{keeps-used, keeps-least, keeps-taken, law-keeps}
 
 pub if_same : {A : Type 0} (v w : ℕ) (a b : A) → v ≡ w → (if eqb v w then a else b) ≡ a
 if_same {A = A} v w a b e = ⊎_elim
@@ -188,7 +189,7 @@ module _ (net : Network) (sets : Sets) (rate : ℚ) (flows slopes : List ℚ) (g
         level : flag sets.resetting e ≡ false → number_at flows e ≡ 0ℚ → IsLevelAt net slopes e
         level r z other p = subst (λ (k : Link). number_at slopes k.head ≡ number_at slopes k.tail) (IsLink-unique net e link other n.is_link p)
             (ap (number_at slopes) n.head ∙ sym exit ∙ ap (λ (b : Bool). exit_slope b link.capacity (number_at flows e) (number_at slopes link.tail)) r
-            ∙ exit_empty link.capacity (number_at flows e) (number_at slopes link.tail) (IsPositive-link net e link good.network n.is_link) z (thin.no_negative_slope link.tail))
+            ∙ empty_exit link.capacity (number_at flows e) (number_at slopes link.tail) (IsPositive-link net e link good.network n.is_link) z (thin.no_negative_slope link.tail))
 
     pub proper-thin : IsProper net sets flows slopes
     proper-thin = record {

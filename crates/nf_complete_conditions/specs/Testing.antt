@@ -7,9 +7,9 @@ use Rattle.nf_frac_def.specs.declared.PassedAt.{PassedAt}
 use Rattle.nf_frac_def.specs.Checked.{Checked, at_part}
 
 -- the answer says whether `Holds`, and no operation passes; or the error is the first operation that passes
-abbrev pub Tells : {A : Type 0} → Type 0 → Checked A → Result Bool (PassedAt ℚ) → Type 0
-Tells Holds list (Ok answer) = IsOk list × MatchBool answer Holds (Holds → ⊥)
-Tells Holds list (Err at) = at_part Verdict list ≡ Err at
+abbrev pub AnswersWhether : {A : Type 0} → Type 0 → Checked A → Result Bool (PassedAt ℚ) → Type 0
+AnswersWhether Holds list (Ok answer) = IsOk list × MatchBool answer Holds (Holds → ⊥)
+AnswersWhether Holds list (Err at) = at_part Verdict list ≡ Err at
 
 -- two numbers are equal
 abbrev pub same_test : ℚ → ℚ → Bool

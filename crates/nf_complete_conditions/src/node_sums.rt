@@ -10,7 +10,7 @@ ghost use Rattle.nf_model.specs.Network.{Network as SeenNetwork, Link as SeenLin
 ghost use Rattle.nf_model.specs.ThinFlow.{Sets};
 ghost use Rattle.nf_complete_def.specs.ThinList.{is_active, sum_more, with_rate as with_rate_by, sums_at};
 ghost use Rattle.nf_complete_conditions.specs.NodeSums.{end_by, more_at};
-ghost use Rattle.nf_complete_conditions.specs.Testing.{Tells};
+ghost use Rattle.nf_complete_conditions.specs.Testing.{AnswersWhether};
 ghost use Rattle.nf_complete_conditions.specs.ThinParts.{IsBalanced};
 
 use crate::numbers::both;
@@ -110,7 +110,7 @@ fn balances_at(
 ) -> Result<bool, PassedAt<Q>>
     requires sets { length sets.now.active ≡ length net.now.net.links }
     requires flows { length flows.now ≡ length net.now.net.links }
-    ensures { Tells (IsBalanced net.now.net sets.now rate flows.now node)
+    ensures { AnswersWhether (IsBalanced net.now.net sets.now rate flows.now node)
         (sums_at passes_Q net.now.net sets.now rate flows.now node) result }
 {
     let by_links = flow_at(net, sets, flows, End::Head, node)?;
@@ -125,7 +125,7 @@ fn balances_at(
 pub fn balances(net: &Network, sets: &LinkSets, rate: Q, flows: &[Q]) -> Result<bool, PassedAt<Q>>
     requires sets { length sets.now.active ≡ length net.now.net.links }
     requires flows { length flows.now ≡ length net.now.net.links }
-    ensures { Tells ((v : ℕ) → v < net.now.net.nodes → IsBalanced net.now.net sets.now rate flows.now v)
+    ensures { AnswersWhether ((v : ℕ) → v < net.now.net.nodes → IsBalanced net.now.net sets.now rate flows.now v)
         (each (sums_at passes_Q net.now.net sets.now rate flows.now) (range_with_len 0 net.now.net.nodes)) result }
 {
     let mut all = true;

@@ -3,7 +3,7 @@ ghost use Rattle.std.specs.Prelude.{◌≡◌, ◌<◌, ◌||◌, ℕ, Bool, fal
 ghost use Rattle.nf_frac_def.specs.Passing.{passes_Q};
 ghost use Rattle.nf_model.specs.Network.{Link as SeenLink, IsLink};
 ghost use Rattle.nf_complete_def.specs.Cancelling.{full_at as full_at_by, fulls_list};
-ghost use Rattle.nf_complete_conditions.specs.Testing.{Tells};
+ghost use Rattle.nf_complete_conditions.specs.Testing.{AnswersWhether};
 ghost use Rattle.nf_complete_conditions.specs.ThinParts.{keeps_test, KeepsAt};
 
 use crate::filled::full_at;
@@ -72,7 +72,7 @@ fn keeps_at(
     requires flows { length flows.now ≡ length net.now.net.links }
     requires slopes { length slopes.now ≡ net.now.net.nodes }
     ensures { (here : SeenLink) → IsLink net.now.net link here
-        → Tells (KeepsAt sets.now flows.now slopes.now link here) (full_at_by passes_Q sets.now slopes.now (link, here)) result }
+        → AnswersWhether (KeepsAt sets.now flows.now slopes.now link here) (full_at_by passes_Q sets.now slopes.now (link, here)) result }
 {
     let full = full_at(net, sets, slopes, link)?;
     let here = net.link(link);
@@ -98,7 +98,7 @@ pub fn keep_slopes(
     requires sets { length sets.now.active ≡ length net.now.net.links }
     requires flows { length flows.now ≡ length net.now.net.links }
     requires slopes { length slopes.now ≡ net.now.net.nodes }
-    ensures { Tells ((e : ℕ) (link : SeenLink) → IsLink net.now.net e link → KeepsAt sets.now flows.now slopes.now e link)
+    ensures { AnswersWhether ((e : ℕ) (link : SeenLink) → IsLink net.now.net e link → KeepsAt sets.now flows.now slopes.now e link)
         (fulls_list passes_Q net.now.net sets.now slopes.now) result }
 {
     let mut all = true;

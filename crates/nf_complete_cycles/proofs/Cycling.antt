@@ -11,12 +11,11 @@ use Rattle.nf_model.specs.Pattern.{IsTrail, AllDiffer, IsForest}
 use Rattle.nf_graph.proofs.Flags.{Has-set_same, Has-set_other, Has-set_cases, Has-within, Has-replicate}
 use Rattle.nf_thin_laws.proofs.Flags.{flag, flag-cases}
 use Rattle.nf_complete_def.specs.Interior.{links_of, turn_of}
-use Rattle.nf_complete_laws.proofs.Trails.{contains_more, contains_first}
 use Rattle.nf_complete_laws.proofs.ForestMore.{forest-more}
 use Rattle.nf_complete_laws.proofs.OneCycle.{weaker}
 use Rattle.nf_complete_cycles.specs.Trees.{IsWay, AreApart}
 use Rattle.nf_complete_cycles.specs.Cycles.{IsClosed, IsFirstCycle, round_onto, lower, lowest_from}
-use Rattle.nf_model_laws.proofs.Contained.{contains_cases}
+use Rattle.nf_model_laws.proofs.Contained.{contains_none, contains_cases, contains_more, contains_first}
 use Rattle.nf_complete_cycles.proofs.Rounding.{round-trail, round-contains, contains-round, round-differ, round-turn, turn-same, turn-other}
 
 -- ---- forests
@@ -130,10 +129,7 @@ module _ (hops : List Hop) (chosen : List Bool) (e : ℕ) (before : List Bool) (
 
   -- ---- a path between the ends of the link at the index closes a cycle
   push_cases : (steps : List (ℕ × Bool)) (k : ℕ) → Contains (links_of (steps ++ (e, true) ∷ [])) k → Contains (links_of steps) k ⊎ (k ≡ e)
-  push_cases [] k c = ⊎_elim (λ (s : e ≡ k). inr (sym s)) (λ (s : Contains [] k). absurd (nothing s)) (contains_cases e [] k c)
-    where
-      nothing : Contains [] k → ⊥
-      nothing (j, h, q) = absurd (omega arith)
+  push_cases [] k c = ⊎_elim (λ (s : e ≡ k). inr (sym s)) (λ (s : Contains [] k). absurd (contains_none k s)) (contains_cases e [] k c)
   push_cases (s ∷ steps) k c = ⊎_elim
       (λ (q : s.0 ≡ k). inl (contains_first s.0 (links_of steps) k q))
       (λ (q : Contains (links_of (steps ++ (e, true) ∷ [])) k). ⊎_elim (λ (r : Contains (links_of steps) k). inl (contains_more s.0 (links_of steps) k r)) (λ (r : k ≡ e). inr r) (push_cases steps k q))
@@ -144,10 +140,7 @@ module _ (hops : List Hop) (chosen : List Bool) (e : ℕ) (before : List Bool) (
   push_contains (s ∷ steps) = contains_more s.0 (links_of (steps ++ (e, true) ∷ [])) e (push_contains steps)
 
   push_differ : (steps : List (ℕ × Bool)) → AllDiffer (links_of steps) → (Contains (links_of steps) e → ⊥) → AllDiffer (links_of (steps ++ (e, true) ∷ []))
-  push_differ [] d n = ((λ c. nothing c), tt)
-    where
-      nothing : Contains [] e → ⊥
-      nothing (j, h, q) = absurd (omega arith)
+  push_differ [] d n = ((λ c. contains_none e c), tt)
   push_differ (s ∷ steps) d n = (
     (λ c. ⊎_elim (λ (q : Contains (links_of steps) s.0). d.0 q) (λ (q : s.0 ≡ e). n (contains_first s.0 (links_of steps) e q)) (push_cases steps s.0 c)),
     push_differ steps d.1 (λ c. n (contains_more s.0 (links_of steps) e c)),
@@ -206,13 +199,10 @@ abbrev LowestOf : List (ℕ × Bool) → ℕ × Bool → ℕ × Bool → Type 0
 LowestOf steps best result = Chosen steps best result × ((result.0 ≤ best.0) × ((e : ℕ) → Contains (links_of steps) e → result.0 ≤ e))
 
 lowest-of : (steps : List (ℕ × Bool)) (best result : ℕ × Bool) → lowest_from (Some best) steps ≡ Some result → LowestOf steps best result
-lowest-of [] best result h = (kept (sym (same_Some best result h)), (at result best (same_Some best result h), λ e c. absurd (nothing e c)))
+lowest-of [] best result h = (kept (sym (same_Some best result h)), (at result best (same_Some best result h), λ e c. absurd (contains_none e c)))
   where
     at : (r b : ℕ × Bool) → b ≡ r → r.0 ≤ b.0
     at r b q = let k : b.0 ≡ r.0 = ap (λ (p : ℕ × Bool). p.0) q in omega arith
-
-    nothing : (e : ℕ) → Contains [] e → ⊥
-    nothing e (j, k, q) = absurd (omega arith)
 lowest-of (s ∷ steps) best result h = by (nat_le best.0 s.0) refl (lowest-of steps (lower (Some best) s) result h)
   where
     old : best.0 ≤ s.0 → LowestOf steps best result → LowestOf (s ∷ steps) best result
@@ -266,7 +256,7 @@ first-backward hops chosen steps e c l =
         steps_are = s.2;
         start = c.start;
         trail = round-trail hops (Has chosen) steps [] c.start c.start c.start c.trail refl;
-        differ = round-differ steps [] c.differ tt (λ k _ h. nothing k h);
+        differ = round-differ steps [] c.differ tt (λ k _ h. contains_none k h);
         last = c.last;
         closes = contains-round steps [] c.last c.closes;
         highest = λ k h. c.highest k (from k h);
@@ -277,11 +267,8 @@ first-backward hops chosen steps e c l =
       least = λ k h. l.least k (from k h);
     }
   where
-    nothing : (k : ℕ) → Contains [] k → ⊥
-    nothing k (j, h, q) = absurd (omega arith)
-
     from : (k : ℕ) → Contains (links_of (round_onto [] steps)) k → Contains (links_of steps) k
-    from k h = ⊎_elim (λ (q : Contains [] k). absurd (nothing k q)) (λ (q : Contains (links_of steps) k). q) (round-contains steps [] k h)
+    from k h = ⊎_elim (λ (q : Contains [] k). absurd (contains_none k q)) (λ (q : Contains (links_of steps) k). q) (round-contains steps [] k h)
 
 -- ---- as it is computed
 lowest_some : (steps : List (ℕ × Bool)) (best : ℕ × Bool) → lowest_from (Some best) steps ≡ None → ⊥

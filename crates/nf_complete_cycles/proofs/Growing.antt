@@ -13,8 +13,7 @@ use Rattle.nf_graph.specs.Graph.{AreBelow}
 use Rattle.nf_graph.proofs.Flags.{Has-set_same, Has-set_other, Has-set_cases}
 use Rattle.nf_graph.proofs.Walks.{IsHop-unique}
 use Rattle.nf_complete_def.specs.Interior.{links_of}
-use Rattle.nf_complete_laws.proofs.Trails.{contains_more, contains_first}
-use Rattle.nf_model_laws.proofs.Contained.{contains_none, contains_cases}
+use Rattle.nf_model_laws.proofs.Contained.{contains_none, contains_cases, contains_more, contains_first}
 use Rattle.nf_complete_cycles.specs.Trees.{begin_of, end_of, StepsOut, NoneStepsOut, begin_at, end_at, InTree, IsTree, way_back, IsWay, AreApart}
 
 begin_is : (hops : List Hop) (step : ℕ × Bool) (hop : Hop) → IsHop hops step.0 hop → begin_at hops step ≡ begin_of step.1 hop

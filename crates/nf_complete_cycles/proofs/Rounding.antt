@@ -5,9 +5,8 @@ use Rattle.std.proofs.lemmas.Bool.Decides.{eqb_tells}
 use Rattle.nf_model.specs.Walk.{Hop}
 use Rattle.nf_model.specs.Pattern.{IsTrail, AllDiffer}
 use Rattle.nf_complete_def.specs.Interior.{links_of, turn_of}
-use Rattle.nf_complete_laws.proofs.Trails.{contains_more, contains_first}
 use Rattle.nf_complete_cycles.specs.Cycles.{round_onto, lower, lowest_from}
-use Rattle.nf_model_laws.proofs.Contained.{contains_cases}
+use Rattle.nf_model_laws.proofs.Contained.{contains_cases, contains_more, contains_first}
 
 -- one step more is turned
 pub round_more : (steps done next : List (ℕ × Bool)) (i : ℕ) (step turned : ℕ × Bool) → i < length steps → step ≡ get_or steps i step → turned ≡ (step.0, not step.1) → next ≡ turned ∷ done

@@ -1,5 +1,5 @@
 // Cancelling a cycle.
-ghost use Rattle.std.specs.Prelude.{◌≡◌, ◌<◌, ◌^◌, length, Some, None, unwrap_or, slice_get};
+ghost use Rattle.std.specs.Prelude.{◌≡◌, ◌<◌, ◌^◌, length, Some, None, unwrap_or};
 ghost use Rattle.nf_rational.specs.Operations.{0ℚ};
 ghost use Rattle.nf_frac_def.specs.declared.Part.TheVariants.{Verdict};
 ghost use Rattle.nf_frac_def.specs.Passing.{passes_Q};

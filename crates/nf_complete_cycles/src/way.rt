@@ -1,8 +1,7 @@
 // A path between two nodes along chosen links. A tree of steps grows from one node until no chosen link leaves the tree. The newest step
 // comes first.
-ghost use Rattle.std.specs.Prelude.{◌≡◌, ◌<◌, ◌^◌, ◌==◌, length, map, IfOk, MatchBool, MatchOption, true, Bool};
+ghost use Rattle.std.specs.Prelude.{◌≡◌, ◌<◌, ◌^◌, ◌==◌, length, IfOk, MatchOption, true, Bool};
 ghost use Rattle.std.specs.List.{AllByRecursion};
-ghost use Rattle.nf_model.specs.Entries.{Has};
 ghost use Rattle.nf_graph.specs.Graph.{AreBelow};
 ghost use Rattle.nf_complete_cycles.specs.Trees.{Crosses, StepsOut, NoneStepsOut, begin_at, end_at, way_back, IsWay, AreApart};
 

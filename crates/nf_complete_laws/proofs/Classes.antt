@@ -37,11 +37,8 @@ pub fills_or_not : (capacity : Option ℚ) (x t : ℚ) → Decided (Fills capaci
 fills_or_not None x t = inr (λ f. absurd (none-some f.0 f.1))
 fills_or_not (Some c) x t = ⊎_elim
     (λ (e : x ≡ c *ℚ t). inl (c, refl, e))
-    (λ (n : x ≡ c *ℚ t → ⊥). inr (λ f. n (f.2 ∙ ap (λ (z : ℚ). z *ℚ t) (same c f.0 f.1))))
+    (λ (n : x ≡ c *ℚ t → ⊥). inr (λ f. n (f.2 ∙ ap (λ (z : ℚ). z *ℚ t) (sym (same_Some c f.0 f.1)))))
     (same_or_not x (c *ℚ t))
-  where
-    same : (a b : ℚ) → Some a ≡ Some b → b ≡ a
-    same a b e = cc
 
 below_full : (capacity : Option ℚ) (x s t : ℚ) → LinkLaw false capacity x s t → 0ℚ <ℚ x → (Fills capacity x t → ⊥) → (c : ℚ) → capacity ≡ Some c → x <ℚ c *ℚ t
 below_full None x s t l h n c e = absurd (cc)
@@ -64,7 +61,7 @@ empty_slopes (Some c) x s t p l e n = ⊎_elim
     below : t ≤ℚ 0ℚ → t ≤ℚ s
     below w = linear_le (s ∷ t ∷ []) (le w ∷ le n ∷ []) (search reading_of) tt
 
-empty_exit : (capacity : Option ℚ) (x s : ℚ) → IsPositive capacity → x ≡ 0ℚ → 0ℚ ≤ℚ s → exit_slope false capacity x s ≡ s
+pub empty_exit : (capacity : Option ℚ) (x s : ℚ) → IsPositive capacity → x ≡ 0ℚ → 0ℚ ≤ℚ s → exit_slope false capacity x s ≡ s
 empty_exit capacity x s p e n = exit_tight capacity x s s p refl (λ c h. at_most c (≤ℚ_of_lt _ _ (p c h)))
   where
     at_most : (c : ℚ) → 0ℚ ≤ℚ c → x ≤ℚ c *ℚ s

@@ -10,7 +10,8 @@ use Rattle.nf_phase.specs.ThinFlow.{ThinFlow}
 use Rattle.nf_phase.specs.declared.fault.StepFault.{StepFault}
 use Rattle.nf_phase.specs.Stepping.{Reaches, starts, IsCauseOn, tail_of}
 use Rattle.nf_phase.proofs.Stopping.{stands_stop}
-use Rattle.nf_forever_def.specs.ForeverRun.{GoesToEnd, GoesForever, FailsOn, End, Stops, NeverEnds, RunsForever, at_phases, fails, never_ends, goes, IsForeverRun}
+use Rattle.nf_phase_def.specs.ToEnd.{GoesToEnd, GoesForever, FailsOn}
+use Rattle.nf_forever_def.specs.ForeverRun.{End, Stops, NeverEnds, RunsForever, at_phases, fails, never_ends, goes, IsForeverRun}
 use Rattle.nf_forever.specs.declared.solving.End.{End as Told}
 use Rattle.nf_forever.specs.Ends.{end_in, IsStopBy}
 

@@ -17,8 +17,9 @@ use Rattle.nf_thin_laws.proofs.OneRun.{length-sets}
 use Rattle.nf_phase_laws.proofs.WellRun.{WellRun}
 use Rattle.nf_phase_laws.proofs.Run.{HasShape-well, HasSlopes-well}
 use Rattle.nf_curve.specs.Flows.{flow_of as flow_in}
-use Rattle.nf_forever_def.specs.Tails.{Tail}
-use Rattle.nf_forever_def.specs.ForeverRun.{GoesForever, End, Stops, NeverEnds, RunsForever, at_phases, fails, never_ends, goes, IsForeverRun, Forever, forever_of, IsForever}
+use Rattle.nf_phase_def.specs.ToEnd.{Tail}
+use Rattle.nf_phase_def.specs.ToEnd.{GoesForever}
+use Rattle.nf_forever_def.specs.ForeverRun.{End, Stops, NeverEnds, RunsForever, at_phases, fails, never_ends, goes, IsForeverRun, Forever, forever_of, IsForever}
 use Rattle.nf_forever_def.specs.Extended.{flow_until}
 use Rattle.nf_forever_def.specs.ForeverText.{HasForm}
 use Rattle.nf_thin_laws.proofs.OneRun.{goes_knows, start_knows}

@@ -12,8 +12,8 @@ use Rattle.nf_frac_def.proofs.Examples.{n, in_127_bits, Parts, parts_of}
 use Rattle.nf_thin_def.proofs.Examples.{i}
 use Rattle.nf_thin_def.proofs.Runs.{points_in, two_links}
 use Rattle.nf_thin_def.specs.Extend.{extend_list}
-use Rattle.nf_forever_def.specs.Tails.{Tail}
-use Rattle.nf_forever_def.specs.ForeverRun.{end_list}
+use Rattle.nf_phase_def.specs.ToEnd.{Tail}
+use Rattle.nf_phase_def.specs.ToEnd.{end_list}
 use Rattle.nf_forever_def.specs.Extended.{extended}
 
 abbrev three_halves : ℚ

@@ -11,7 +11,7 @@ use Rattle.nf_model.specs.Network.{Link, Network, hop_of}
 use Rattle.nf_model.specs.ThinFlow.{slack}
 use Rattle.nf_model.specs.Equilibrium.{Trace, Flow}
 use Rattle.nf_rational.specs.Signs.{is_positive}
-use Rattle.nf_forever_def.specs.Tails.{Tail}
+use Rattle.nf_phase_def.specs.ToEnd.{Tail}
 
 -- The last point of a curve.
 abbrev pub last_point : List Point → Point

@@ -9,7 +9,7 @@ use Rattle.nf_net_def.specs.Names.{name_at}
 use Rattle.nf_net_def.specs.Named.{Named}
 use Rattle.nf_net_def.specs.Causes.{cause_words}
 use Rattle.nf_net_def.specs.Report.{HaveRates, label_lines, link_lines, state_lines, for_each}
-use Rattle.nf_forever_def.specs.Tails.{Tail}
+use Rattle.nf_phase_def.specs.ToEnd.{Tail}
 use Rattle.nf_forever_def.specs.ForeverRun.{Forever}
 
 -- The result has as many curves, rates, states, slopes and flows as the text writes.

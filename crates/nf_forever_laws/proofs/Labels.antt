@@ -18,7 +18,7 @@ use Rattle.nf_model_laws.proofs.Curves.{EndsAt-value}
 use Rattle.nf_phase_laws.specs.CurveSteps.{LastPoint, GoesOnTo}
 use Rattle.nf_phase_laws.proofs.CurveSteps.{ends_at, GoesOnTo-appended}
 use Rattle.nf_phase_laws.proofs.WellRun.{number_is, points_is}
-use Rattle.nf_forever_def.specs.Tails.{Tail}
+use Rattle.nf_phase_def.specs.ToEnd.{Tail}
 use Rattle.nf_forever_def.specs.Extended.{value_after, labels_then, extended, up_to, flow_until}
 use Rattle.nf_forever_laws.proofs.Entries.{labels_then_at, labels_with_end_at}
 use Rattle.nf_forever_laws.proofs.Steps.{last_point-is}

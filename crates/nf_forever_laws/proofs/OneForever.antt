@@ -19,8 +19,9 @@ use Rattle.nf_thin_laws.proofs.OneRun.{one_start, goes_knows, start_knows}
 use Rattle.nf_curve_laws.proofs.Operations.{checked-is}
 use Rattle.nf_phase_laws.proofs.Length.{IsExtension-some}
 use Rattle.nf_phase_laws.proofs.Extension.{extension_is}
-use Rattle.nf_forever_def.specs.Tails.{Tail}
-use Rattle.nf_forever_def.specs.ForeverRun.{end_after, end_list, End, Stops, NeverEnds, RunsForever, at_phases, fails, never_ends, goes, IsForeverRun, Forever, forever_of, IsForever}
+use Rattle.nf_phase_def.specs.ToEnd.{Tail}
+use Rattle.nf_phase_def.specs.ToEnd.{end_after, end_list}
+use Rattle.nf_forever_def.specs.ForeverRun.{End, Stops, NeverEnds, RunsForever, at_phases, fails, never_ends, goes, IsForeverRun, Forever, forever_of, IsForever}
 use Rattle.nf_forever_laws.proofs.Outcomes.{Moves, Ends, Fault, one_outcome, fails-comes, goes-comes, ends-comes}
 
 -- ---- the end of a phase is later than its beginning

@@ -22,8 +22,9 @@ use Rattle.nf_rational_laws.proofs.Results.{same_Ok}
 use Rattle.nf_phase_laws.proofs.Extension.{unending_is}
 use Rattle.nf_phase_laws.proofs.WellRun.{WellRun, WellRun-start}
 use Rattle.nf_phase_laws.proofs.Run.{HasShape-well, HasSlopes-well, Equilibrium-well, WellRun-goes}
-use Rattle.nf_forever_def.specs.Tails.{Tail}
-use Rattle.nf_forever_def.specs.ForeverRun.{end_after, end_list, GoesForever, End, NeverEnds, RunsForever, at_phases, fails, never_ends, goes, IsForeverRun}
+use Rattle.nf_phase_def.specs.ToEnd.{Tail}
+use Rattle.nf_phase_def.specs.ToEnd.{end_after, end_list, GoesForever}
+use Rattle.nf_forever_def.specs.ForeverRun.{End, NeverEnds, RunsForever, at_phases, fails, never_ends, goes, IsForeverRun}
 use Rattle.nf_forever_def.specs.Extended.{extended, up_to, flow_until}
 use Rattle.nf_forever_laws.proofs.Before.{Equilibrium-before}
 use Rattle.nf_forever_laws.proofs.Tails.{Equilibrium-extended}

@@ -16,8 +16,9 @@ use Rattle.nf_phase_laws.proofs.WellRun.{WellRun}
 use Rattle.nf_complete_def.specs.Reached.{labels_reached, StopsForNoThinFlow}
 use Rattle.nf_complete_laws.proofs.Settled.{none-search}
 use Rattle.nf_complete_laws.proofs.Stopped.{AreGoodSets-well, labels_are, Wants, over_other, passed_other, phases_other}
-use Rattle.nf_forever_def.specs.Tails.{Tail}
-use Rattle.nf_forever_def.specs.ForeverRun.{SeeksOn, FailsOn, at_slack, at_search, at_extend, at_lists, End, Stops, NeverEnds, RunsForever, at_phases, fails, never_ends, goes, Forever, forever_of, IsForever}
+use Rattle.nf_phase_def.specs.ToEnd.{Tail}
+use Rattle.nf_phase_def.specs.ToEnd.{SeeksOn, FailsOn, at_slack, at_search, at_extend, at_lists}
+use Rattle.nf_forever_def.specs.ForeverRun.{End, Stops, NeverEnds, RunsForever, at_phases, fails, never_ends, goes, Forever, forever_of, IsForever}
 use Rattle.nf_forever_laws.proofs.Run.{well_forever}
 
 module _ (passes : Passing) (net : Network) (good : IsNetwork net) (phases patterns : ℕ) (flows slopes : List ℚ) where

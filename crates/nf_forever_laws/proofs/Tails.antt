@@ -24,7 +24,7 @@ use Rattle.nf_phase_laws.proofs.CurveSteps.{ends_at, GoesOnTo-appended}
 use Rattle.nf_phase_laws.proofs.CurveRun.{Grown, Grown-after, Equilibrium-grown}
 use Rattle.nf_phase_laws.proofs.WellRun.{number_is, points_is}
 use Rattle.nf_phase_laws.proofs.Traces.{same_point, TraceStep}
-use Rattle.nf_forever_def.specs.Tails.{Tail}
+use Rattle.nf_phase_def.specs.ToEnd.{Tail}
 use Rattle.nf_forever_def.specs.Extended.{last_point, value_after, labels_then, queue_then, traces_with_end, extended}
 use Rattle.nf_forever_laws.proofs.Entries.{labels_then_at, labels_with_end_at, labels_with_end-length, labels_then-length, trace_new, queue_new, traces_at, traces-length, queues_at, queues-length}
 use Rattle.nf_forever_laws.proofs.Steps.{last_point-is, TraceStep-last, CurveStep, CurveStep-last}

@@ -12,8 +12,9 @@ use Rattle.nf_net_def.specs.declared.Cause.{Cause}
 use Rattle.nf_thin_def.specs.Search.{Found}
 use Rattle.nf_thin_def.specs.PhaseRun.{Standing, Goes, Fails, flow_of}
 use Rattle.nf_complete_def.specs.Reached.{StopsForNoThinFlow}
-use Rattle.nf_forever_def.specs.Tails.{Tail}
-use Rattle.nf_forever_def.specs.ForeverRun.{end_list, SeeksOn, GoesToEnd, FailsOn, End, NeverEnds, IsForeverRun, Forever, IsForever}
+use Rattle.nf_phase_def.specs.ToEnd.{Tail}
+use Rattle.nf_phase_def.specs.ToEnd.{end_list, SeeksOn, GoesToEnd, FailsOn}
+use Rattle.nf_forever_def.specs.ForeverRun.{End, NeverEnds, IsForeverRun, Forever, IsForever}
 use Rattle.nf_forever_def.specs.Extended.{up_to, flow_until}
 
 -- However the run ends, its flow is an equilibrium up to the departure reached.

@@ -8,7 +8,7 @@ use Rattle.nf_rational.specs.Order.{◌≤ℚ◌, max_ℚ}
 use Rattle.nf_model.specs.Entries.{number_at}
 use Rattle.nf_model.specs.Network.{Network}
 use Rattle.nf_model.specs.Equilibrium.{Flow, label}
-use Rattle.nf_forever_def.specs.Tails.{Tail}
+use Rattle.nf_phase_def.specs.ToEnd.{Tail}
 use Rattle.nf_forever_def.specs.Extended.{flow_until}
 use Rattle.nf_forever_laws.specs.Cuts.{Cut, IsStaticCut, cut_capacity, IsLeastCapacity}
 use Rattle.nf_forever_laws.specs.Growth.{GrowsByCuts, GrowsByLeastCut}

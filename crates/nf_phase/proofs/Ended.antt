@@ -15,14 +15,14 @@ use Rattle.nf_net_def.specs.Report.{Report, IsWellFormed}
 use Rattle.nf_net_laws.proofs.ReportFacts.{well_formed}
 use Rattle.nf_thin_def.specs.PhaseRun.{Standing, Bounds, IsStart, Goes, IsPhaseRun, IsShortFlow, flow_of, report_of}
 use Rattle.nf_thin_def.specs.PhaseRun.{Runs, at_horizon as at_horizon_of_run, at_phases as at_phases_of_run, fails as fails_of_run, goes as goes_of_run}
-use Rattle.nf_resume_def.specs.Open.{Continues, Steps, continues, begins, RunsOn, at_horizon, at_phases, fails, steps}
-use Rattle.nf_resume_laws.proofs.FirstPlace.{closed-at_start}
+use Rattle.nf_phase_def.specs.Open.{Continues, Steps, continues, begins, RunsOn, at_horizon, at_phases, fails, steps}
+use Rattle.nf_phase_laws.proofs.RunsOn.{closed-at_start}
 use Rattle.nf_phase_laws.proofs.Sequence.{sequence_ends}
 use Rattle.nf_phase_laws.proofs.ShortRun.{run_keeps}
 use Rattle.nf_curve.specs.Flows.{flow_of as flow_in}
 use Rattle.nf_phase.specs.declared.solution.Solution.{Solution}
 use Rattle.nf_phase.specs.Solution.{IsSolution, IsFinished, report_in}
-use Rattle.nf_phase.specs.Restarting.{EndsAtItsLabels}
+use Rattle.nf_phase_def.specs.Restoring.{EndsAtItsLabels}
 use Rattle.nf_phase.specs.Stepping.{Reaches}
 use Rattle.nf_phase.proofs.Reached.{Stands, Stands-reached}
 use Rattle.nf_phase.proofs.ShortReached.{short_reached}

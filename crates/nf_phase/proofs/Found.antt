@@ -26,8 +26,8 @@ use Rattle.nf_thin_def.specs.ReportCurves.{amount_so_far}
 use Rattle.nf_thin_def.specs.Search.{SearchAnswer, Found, OverBudget, PassesAt, NoPattern}
 use Rattle.nf_thin_def.specs.PhaseRun.{Standing, PhaseStep, Seeks, IsSearchHere, phase_lists}
 use Rattle.nf_thin_def.specs.PhaseRun.{Fails, at_slack as at_slack_below, at_search as at_search_below, at_lists as at_lists_below}
-use Rattle.nf_forever_def.specs.ForeverRun.{end_list, SeeksOn}
-use Rattle.nf_forever_def.specs.ForeverRun.{FailsOn, at_slack as at_slack_on, at_search as at_search_on, at_extend as at_extend_on, at_lists as at_lists_on}
+use Rattle.nf_phase_def.specs.ToEnd.{end_list, SeeksOn}
+use Rattle.nf_phase_def.specs.ToEnd.{FailsOn, at_slack as at_slack_on, at_search as at_search_on, at_extend as at_extend_on, at_lists as at_lists_on}
 use Rattle.nf_thin_laws.proofs.Exact.{slacks_exact, advanced_exact}
 use Rattle.nf_thin.specs.declared.fault.SearchFault.{SearchFault}
 use Rattle.nf_phase.specs.declared.fault.StepFault.{StepFault}

@@ -9,7 +9,7 @@ use Rattle.nf_frac_def.specs.Passing.{Passing}
 use Rattle.nf_model.specs.Network.{Network, IsNetwork}
 use Rattle.nf_net_def.specs.declared.Cause.{Cause}
 use Rattle.nf_thin_def.specs.PhaseRun.{Standing, Bounds, Goes, Fails}
-use Rattle.nf_resume_def.specs.Open.{Steps, continues, begins, RunsOn, at_horizon, at_phases, fails, steps}
+use Rattle.nf_phase_def.specs.Open.{Steps, continues, begins, RunsOn, at_horizon, at_phases, fails, steps}
 use Rattle.nf_phase.specs.declared.fault.StepFault.{StepFault}
 use Rattle.nf_phase.specs.Stepping.{Reaches, IsCause}
 use Rattle.nf_phase.specs.Solution.{cause_of, stop_after}

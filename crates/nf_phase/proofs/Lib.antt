@@ -1,11 +1,11 @@
 pub mod Standings
 pub mod RestoreList
-pub mod Restarting
 pub mod Opened
 pub mod Reached
 pub mod ShortReached
 pub mod Ended
 pub mod Stepped
+pub mod RunStates
 pub mod Found
 pub mod PhaseFound
 pub mod Going

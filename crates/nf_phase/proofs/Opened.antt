@@ -4,6 +4,7 @@ use Rattle.std.specs.Prelude.{◌↔◌, if◌then◌else◌, not, IsTrue, Optio
 use Rattle.std.proofs.lemmas.Option.{slice_get_within}
 use Rattle.nf_rational.specs.Rational.{ℚ}
 use Rattle.nf_rational.specs.Operations.{0ℚ}
+use Rattle.nf_rational_laws.proofs.Results.{not_both}
 use Rattle.nf_model.specs.Entries.{number_at}
 use Rattle.nf_model.specs.declared.State.{State}
 use Rattle.nf_model.specs.Network.{Link, Piece, Network, IsLink, IsPiece, hop_of, hops}
@@ -15,13 +16,10 @@ use Rattle.nf_thin_def.specs.PhaseRun.{Standing}
 use Rattle.nf_curve_laws.proofs.Operations.{same_of, same_test}
 use Rattle.nf_rational_laws.proofs.Naturals.{before_or_at}
 use Rattle.nf_rational_laws.proofs.Entries.{entry}
-use Rattle.nf_resume_def.specs.Open.{IsOpen, Continues}
-use Rattle.nf_phase.specs.Restarting.{none_starts, ApartAt, AreApart}
+use Rattle.nf_phase_def.specs.Open.{IsOpen, Continues}
+use Rattle.nf_phase.specs.OpenRuns.{none_starts, ApartAt, AreApart}
 
 -- ---- no piece starts at a time
-not_both : (b : Bool) → b ≡ true → b ≡ false → ⊥
-not_both b h k = cc
-
 starts_apart : (b : Bool) (rest : Bool) → (if b then false else rest) ≡ true → (b ≡ false) × (rest ≡ true)
 starts_apart true rest h = absurd (cc)
 starts_apart false rest h = (refl, h)

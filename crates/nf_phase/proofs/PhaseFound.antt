@@ -82,14 +82,13 @@ module _ (passes : Passing) (net : Network) (good : IsNetwork net) (horizon : �
 
   pub leads_on : s.time <ℚ horizon → (end : Advanced) (phase : Phase)
       → phase_lists passes net horizon s found.thin.pattern found.thin.flows.items thin_slopes ≡ Ok (record { length = end.length; labels = end.labels; links = phase.steps.items })
-      → IsPhaseLength net (slacks_of (hops net) s.labels) thin_slopes s.time horizon end.length → phase.pattern ≡ found.thin.pattern → phase.slopes.items ≡ thin_slopes
+      → IsPhaseLength net (slacks_of (hops net) s.labels) thin_slopes s.time horizon end.length → phase.thin ≡ found.thin
       → ◌≡◌ {A = Advanced} (record { length = phase.length; labels = phase.labels.items }) end → LeadsOn passes net horizon patterns s phase
-  leads_on below end phase lists long same_pattern same_slopes same_end = let same_step : step_in phase ≡ with_links phase.steps.items end = ap (with_links phase.steps.items) same_end in record {
+  leads_on below end phase lists long same_thin same_end = let same_step : step_in phase ≡ with_links phase.steps.items end = ap (with_links phase.steps.items) same_end in record {
     place = is.seeks.0;
-    flows = found.thin.flows.items;
-    finds = rw (same_pattern, same_slopes) (seeks_below passes net patterns s horizon _ below is.seeks.1);
-    lists = rw (same_pattern, same_slopes, same_step) lists;
-    is_length = rw (ap (λ (a : Advanced). a.length) same_end, same_slopes) long;
+    finds = rw same_thin (seeks_below passes net patterns s horizon _ below is.seeks.1);
+    lists = rw (same_thin, same_step) lists;
+    is_length = rw (ap (λ (a : Advanced). a.length) same_end, same_thin) long;
   }
 
   -- ---- the extension

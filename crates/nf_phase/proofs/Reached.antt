@@ -18,14 +18,13 @@ use Rattle.nf_thin_laws.proofs.Ending.{from_map}
 use Rattle.nf_pattern.proofs.FirstPatterns.{base_is_pattern, none_full}
 use Rattle.nf_thin.specs.Questions.{NoneResetsUnbounded, AreSetsOf}
 use Rattle.nf_thin_laws.proofs.ActiveLinks.{AreSets-sets_at}
-use Rattle.nf_phase_laws.proofs.WellRun.{WellRun, WellRun-start}
+use Rattle.nf_phase_laws.proofs.WellRun.{WellRun, WellRun-start, WellRun-counted}
 use Rattle.nf_phase_laws.proofs.Run.{WellRun-goes}
 use Rattle.nf_phase_laws.proofs.Standing.{unbounded_slack_at}
-use Rattle.nf_resume_def.specs.Open.{with_last}
-use Rattle.nf_resume_laws.proofs.Stepping.{WellRun-last}
-use Rattle.nf_phase.specs.Restarting.{IsRestored}
+use Rattle.nf_phase_def.specs.Open.{with_last}
+use Rattle.nf_phase_def.specs.Restoring.{IsRestored}
 use Rattle.nf_phase.specs.Stepping.{Reaches, starts, restored, goes_on, keeps_on}
-use Rattle.nf_phase.proofs.Restarting.{well_restored, last_restored}
+use Rattle.nf_phase_equilibrium_laws.proofs.RestoredRun.{well_restored, last_restored}
 
 -- The curves are those of a run, and the last pattern is a pattern of the network's links.
 pub record Stands (net : Network) (s : Standing) : Type 0 where
@@ -75,7 +74,7 @@ module _ (passes : Passing) (net : Network) (good : IsNetwork net) where
   -- The last pattern may be that of an earlier phase.
   Stands-last : (horizon : ℚ) (patterns : ℕ) (s t : Standing) → Stands net s → Stands net t → Stands net (with_last s.last t)
   Stands-last horizon patterns s t before after = record {
-    well = WellRun-last passes net good (record { horizon = horizon; phases = 0; patterns = patterns }) s.last t after.well;
+    well = WellRun-counted net t t.made s.last after.well;
     last_count = before.last_count;
     no_full = before.no_full;
   }

@@ -5,7 +5,7 @@ use Rattle.nf_model.specs.Network.{Network}
 use Rattle.nf_thin_def.specs.PhaseRun.{Standing}
 use Rattle.nf_phase.specs.declared.phase.Phase.{Phase}
 use Rattle.nf_phase.specs.Finding.{after_phase}
-use Rattle.nf_phase.specs.Restarting.{after_rest}
+use Rattle.nf_phase.specs.OpenRuns.{after_rest}
 
 pub phase_made : (rests : Bool) (net : Network) (s : Standing) (phase : Phase) → rests ≡ false → after_phase net s phase ≡ after_rest rests net s phase
 phase_made true net s phase e = absurd (false≢true (sym e))

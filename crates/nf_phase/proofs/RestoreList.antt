@@ -13,7 +13,7 @@ use Rattle.nf_model.specs.Network.{Network}
 use Rattle.nf_model.specs.Equilibrium.{Trace, Flow, Equilibrium}
 use Rattle.nf_thin_def.specs.ReportCurves.{GrowingCurve, LinkCurves}
 use Rattle.nf_thin_def.specs.PhaseRun.{Standing}
-use Rattle.nf_resume_def.specs.Restoring.{value_at_end, link_curves_of, growing, restore_list}
+use Rattle.nf_phase_def.specs.Restoring.{value_at_end, link_curves_of, growing, restore_list}
 use Rattle.nf_curve.specs.Points.{Grown}
 use Rattle.nf_curve.specs.Flows.{trace_of, flow_of as flow_in}
 use Rattle.nf_curve.specs.declared.flow.Flow as code

@@ -23,9 +23,9 @@ use Rattle.nf_phase_laws.proofs.StepValues.{steps-length}
 use Rattle.nf_phase_laws.proofs.Run.{IsPhase-goes, Equilibrium-well}
 use Rattle.nf_phase_laws.proofs.Standing.{label_count_at, source_label_at, ends_at}
 use Rattle.nf_phase_laws.proofs.Moving.{inflow_moves, outflow_moves, queue_steps}
-use Rattle.nf_resume_def.specs.Open.{Continues, Steps, continues, begins}
+use Rattle.nf_phase_def.specs.Open.{Continues, Steps, continues, begins}
 use Rattle.nf_phase.specs.declared.phase.Phase.{Phase}
-use Rattle.nf_phase.specs.Restarting.{after_rest}
+use Rattle.nf_phase.specs.OpenRuns.{after_rest}
 use Rattle.nf_phase.specs.Stepping.{Reaches, goes_on, keeps_on, LeadsOnlyTo}
 use Rattle.nf_phase.specs.Finding.{step_in, after_phase, LeadsOn}
 use Rattle.nf_phase_curves.specs.LinkGrowth.{AllLinksEndBefore}
@@ -66,9 +66,9 @@ abbrev pub made_goes : (passes : Passing) (net : Network) (horizon : ℚ) (patte
     → (t : Standing) → t ≡ after_phase net s phase → Goes passes net horizon patterns s t
 made_goes passes net horizon patterns s phase leads t e = record {
   place = leads.place;
-  pattern = phase.pattern;
-  flows = leads.flows;
-  slopes = phase.slopes.items;
+  pattern = phase.thin.pattern;
+  flows = phase.thin.flows.items;
+  slopes = phase.thin.slopes.items;
   finds = leads.finds;
   step = step_in phase;
   lists = leads.lists;
@@ -95,7 +95,7 @@ module _ (passes : Passing) (net : Network) (good : IsNetwork net) (horizon : �
   there = Stands-reached passes net good next (goes_on horizon patterns reaches (goes_made next refl))
 
   some : 0ℚ <ℚ phase.length
-  some = IsPhaseLength-some net (slacks_of (hops net) s.labels) phase.slopes.items s.time horizon phase.length leads.finds.below leads.is_length
+  some = IsPhaseLength-some net (slacks_of (hops net) s.labels) phase.thin.slopes.items s.time horizon phase.length leads.finds.below leads.is_length
 
   -- ---- counts
   pub curve_count : length s.label_curves ≡ net.nodes
@@ -107,14 +107,14 @@ module _ (passes : Passing) (net : Network) (good : IsNetwork net) (horizon : �
   pub new_label_count : length phase.labels.items ≡ net.nodes
   new_label_count = label_count_at net good next there.well
 
-  pub slope_count : length phase.slopes.items ≡ net.nodes
+  pub slope_count : length phase.thin.slopes.items ≡ net.nodes
   slope_count = leads.finds.search.is_search.answers.solution.solves.slope_count
 
-  parts : PhaseParts passes net s phase.pattern leads.flows phase.slopes.items (step_in phase)
-  parts = phase_parts passes net good horizon patterns s phase.pattern leads.flows phase.slopes.items (step_in phase) (slope_count ∙ sym (label_count_at net good s here.well)) leads.lists
+  parts : PhaseParts passes net s phase.thin.pattern phase.thin.flows.items phase.thin.slopes.items (step_in phase)
+  parts = phase_parts passes net good horizon patterns s phase.thin.pattern phase.thin.flows.items phase.thin.slopes.items (step_in phase) (slope_count ∙ sym (label_count_at net good s here.well)) leads.lists
 
   pub step_count : length phase.steps.items ≡ length net.links
-  step_count = steps-length passes net (sets_at net s.labels) phase.pattern phase.length leads.flows phase.slopes.items phase.labels.items _ phase.steps.items parts.links
+  step_count = steps-length passes net (sets_at net s.labels) phase.thin.pattern phase.length phase.thin.flows.items phase.thin.slopes.items phase.labels.items _ phase.steps.items parts.links
 
   -- ---- the labels at the end of the phase
   pub source_next : number_at phase.labels.items net.source ≡ s.time +ℚ phase.length
@@ -133,18 +133,18 @@ module _ (passes : Passing) (net : Network) (good : IsNetwork net) (horizon : �
       let count = slope_count ∙ sym (label_count_at net good s here.well) in
       record {
         inflow = λ rate is. subst (λ (x : ℚ). x <ℚ number_at phase.labels.items link.tail) (sym (ends.inflows e link curves p at))
-            (inflow_moves passes net s phase.pattern leads.flows phase.slopes.items (step_in phase) parts count some e link p step one rate is);
+            (inflow_moves passes net s phase.thin.pattern phase.thin.flows.items phase.thin.slopes.items (step_in phase) parts count some e link p step one rate is);
         outflow = λ rate is. subst (λ (x : ℚ). x <ℚ number_at phase.labels.items link.head) (sym (ends.outflows e link curves p at))
-            (outflow_moves passes net s phase.pattern leads.flows phase.slopes.items (step_in phase) parts count some e link p step one rate is);
+            (outflow_moves passes net s phase.thin.pattern phase.thin.flows.items phase.thin.slopes.items (step_in phase) parts count some e link p step one rate is);
         queue = λ queue is. subst (λ (x : ℚ). x <ℚ number_at phase.labels.items link.tail) (sym (ends.queues e link curves p at))
-            (queue_steps passes net s phase.pattern leads.flows phase.slopes.items (step_in phase) parts count some e link p step one queue is);
+            (queue_steps passes net s phase.thin.pattern phase.thin.flows.items phase.thin.slopes.items (step_in phase) parts count some e link p step one queue is);
       }
 
   -- ---- the run after the phase
   pub new_standing : (reached : ℚ) (label_curves : List GrowingCurve) (link_curves : List LinkCurves) (made : ℕ) (last : Pattern) → reached ≡ s.time +ℚ phase.length
-      → label_curves ≡ label_curves_after reached phase.labels.items phase.slopes.items s.label_curves → link_curves ≡ link_curves_after phase.labels.items net.links s.link_curves phase.steps.items
-      → made ≡ suc s.made → last ≡ phase.pattern
+      → label_curves ≡ label_curves_after reached phase.labels.items phase.thin.slopes.items s.label_curves → link_curves ≡ link_curves_after phase.labels.items net.links s.link_curves phase.steps.items
+      → made ≡ suc s.made → last ≡ phase.thin.pattern
       → record { time = reached; labels = phase.labels.items; label_curves = label_curves; link_curves = link_curves; made = made; last = last } ≡ next
   new_standing reached label_curves link_curves made last e f g h k =
-      let f_next = f ∙ ap (λ (t : ℚ). label_curves_after t phase.labels.items phase.slopes.items s.label_curves) e in
+      let f_next = f ∙ ap (λ (t : ℚ). label_curves_after t phase.labels.items phase.thin.slopes.items s.label_curves) e in
       λ i. record { time = e i; labels = phase.labels.items; label_curves = f_next i; link_curves = g i; made = h i; last = k i }

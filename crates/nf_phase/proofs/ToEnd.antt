@@ -11,8 +11,9 @@ use Rattle.nf_model.specs.Network.{Network, hops}
 use Rattle.nf_model.specs.ThinFlow.{slacks_of}
 use Rattle.nf_net_def.specs.declared.Cause.TheVariants as Cause
 use Rattle.nf_thin_def.specs.PhaseRun.{Standing}
-use Rattle.nf_forever_def.specs.ForeverRun.{end_list, GoesToEnd, GoesForever, FailsOn}
+use Rattle.nf_phase_def.specs.ToEnd.{end_list, GoesToEnd, GoesForever, FailsOn}
 use Rattle.nf_frac_def.proofs.AtPart.{part_ok}
+use Rattle.nf_thin.specs.declared.thin.ThinFlow.{ThinFlow}
 use Rattle.nf_phase.specs.declared.fault.StepFault.{StepFault}
 use Rattle.nf_phase.specs.declared.finding.PhaseStart.{PhaseStart}
 use Rattle.nf_phase.specs.declared.phase.Phase.{Phase}
@@ -60,10 +61,10 @@ module _ (passes : Passing) (net : Network) (patterns : ℕ) (s : Standing) (fou
         (stands_as (ListsPass passes net end s found.thin.pattern found.thin.flows.items found.thin.slopes.items) (FailsOn passes net patterns s) (suc s.made) fault
         (lists_on passes net patterns s is.seeks.0 found.thin.pattern found.thin.flows.items found.thin.slopes.items is.seeks.1 end end_is) h)
 
-    pub goes_to_end : (phase : Phase) → LeadsOn passes net end patterns s phase → phase.slopes.items ≡ found.thin.slopes.items → (t : Standing) → t ≡ after_phase net s phase
+    pub goes_to_end : (phase : Phase) → LeadsOn passes net end patterns s phase → phase.thin ≡ found.thin → (t : Standing) → t ≡ after_phase net s phase
         → GoesToEnd passes net patterns s t
     goes_to_end phase leads same t e = record {
       end = end;
       goes = made_goes passes net end patterns s phase leads t e;
-      is_end = subst (λ (slopes : List ℚ). ends slopes ≡ Ok (Some end)) (sym same) end_is;
+      is_end = subst (λ (thin : ThinFlow). ends thin.slopes.items ≡ Ok (Some end)) (sym same) end_is;
     }

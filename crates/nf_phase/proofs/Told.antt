@@ -11,7 +11,7 @@ use Rattle.nf_thin_def.specs.PhaseRun.{Standing, flow_of}
 use Rattle.nf_thin_def.specs.Ends.{end_of, EndsAtLabels}
 use Rattle.nf_phase_laws.proofs.WellRun.{label_points, inflow_points, outflow_points, queue_points}
 use Rattle.nf_rational_laws.proofs.Entries.{entry}
-use Rattle.nf_phase.specs.Restarting.{EndsAtItsLabels}
+use Rattle.nf_phase_def.specs.Restoring.{EndsAtItsLabels}
 use Rattle.nf_phase.specs.Stepping.{Reaches}
 use Rattle.nf_phase.proofs.Reached.{Stands, Stands-reached}
 use Rattle.nf_phase.proofs.Stepped.{ends_reached}

@@ -14,7 +14,7 @@ use Rattle.nf_net_def.specs.declared.Cause.{Cause}
 use Rattle.nf_thin_def.specs.Slack.{slack_list}
 use Rattle.nf_thin_def.specs.Search.{SearchAnswer, Found}
 use Rattle.nf_thin_def.specs.PhaseRun.{Standing, PhaseStep, Seeks, cause_of_search, phase_lists, standing_after}
-use Rattle.nf_forever_def.specs.ForeverRun.{SeeksOn}
+use Rattle.nf_phase_def.specs.ToEnd.{SeeksOn}
 use Rattle.nf_phase.specs.declared.finding.PhaseStart as code
 use Rattle.nf_phase.specs.declared.phase.Phase.{Phase}
 
@@ -23,7 +23,7 @@ step_in phase = record { length = phase.length; labels = phase.labels.items; lin
 
 -- The run state after a phase.
 abbrev pub after_phase : Network → Standing → Phase → Standing
-after_phase net s phase = standing_after net s phase.pattern phase.slopes.items (step_in phase)
+after_phase net s phase = standing_after net s phase.thin.pattern phase.thin.slopes.items (step_in phase)
 
 -- ---- the search, which doesn't depend on the horizon
 module _ (passes : Passing) (net : Network) (patterns : ℕ) (s : Standing) where
@@ -49,7 +49,6 @@ pub data ListsPass (passes : Passing) (net : Network) (horizon : ℚ) (s : Stand
 -- The phase extends the run state, by the first accepted pattern.
 pub record LeadsOn (passes : Passing) (net : Network) (horizon : ℚ) (patterns : ℕ) (s : Standing) (phase : Phase) : Type 0 where
   pub place : ℕ
-  pub flows : List ℚ
-  pub finds : Seeks passes net horizon patterns s (Found place phase.pattern flows phase.slopes.items)
-  pub lists : phase_lists passes net horizon s phase.pattern flows phase.slopes.items ≡ Ok (step_in phase)
-  pub is_length : IsPhaseLength net (slacks_of (hops net) s.labels) phase.slopes.items s.time horizon phase.length
+  pub finds : Seeks passes net horizon patterns s (Found place phase.thin.pattern phase.thin.flows.items phase.thin.slopes.items)
+  pub lists : phase_lists passes net horizon s phase.thin.pattern phase.thin.flows.items phase.thin.slopes.items ≡ Ok (step_in phase)
+  pub is_length : IsPhaseLength net (slacks_of (hops net) s.labels) phase.thin.slopes.items s.time horizon phase.length

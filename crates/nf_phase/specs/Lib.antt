@@ -2,6 +2,6 @@ pub mod StandingCode
 pub mod Faults
 pub mod Stepping
 pub mod Finding
-pub mod Restarting
+pub mod OpenRuns
 pub mod Solution
 pub use Rattle.nf_thin.specs.declared.thin.ThinFlow

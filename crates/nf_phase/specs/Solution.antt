@@ -8,10 +8,10 @@ use Rattle.nf_model.specs.Equilibrium.{Equilibrium}
 use Rattle.nf_net_def.specs.declared.Cause.{Cause}
 use Rattle.nf_net_def.specs.Report.{Report, IsWellFormed}
 use Rattle.nf_thin_def.specs.PhaseRun.{Standing, Bounds, IsRunReport, IsShortFlow, report_of}
-use Rattle.nf_resume_def.specs.Open.{RunsOn}
+use Rattle.nf_phase_def.specs.Open.{RunsOn}
 use Rattle.nf_phase_laws.specs.RunLaws.{KeepsLabels, reached_by}
 use Rattle.nf_curve.specs.Flows.{flow_of}
-use Rattle.nf_phase.specs.Restarting.{EndsAtItsLabels}
+use Rattle.nf_phase_def.specs.Restoring.{EndsAtItsLabels}
 use Rattle.nf_thin.specs.declared.fault.SearchFault.TheVariants as SearchFault
 use Rattle.nf_phase.specs.declared.fault.StepFault.{StepFault}
 use Rattle.nf_phase.specs.declared.solution.Budgets.{Budgets}

@@ -1,18 +1,21 @@
--- The reachable run states, and the reasons why no further phase is computed.
+-- The reachable run states, what each satisfies, and the reasons why no further phase is computed.
 use Rattle.std.specs.Prelude.{◌≡◌, ℕ, suc, List, Some, None}
 use Rattle.nf_rational.specs.Rational.{ℚ}
 use Rattle.nf_frac_def.specs.Passing.{Passing}
 use Rattle.nf_model.specs.Network.{Network}
 use Rattle.nf_model.specs.Phases.{IsPhase}
+use Rattle.nf_model.specs.Equilibrium.{Equilibrium}
 use Rattle.nf_net_def.specs.declared.Cause.{Cause}
-use Rattle.nf_thin_def.specs.PhaseRun.{Standing, IsStart, Goes, Fails}
-use Rattle.nf_resume_def.specs.Open.{Continues, with_last}
-use Rattle.nf_forever_def.specs.Tails.{Tail}
-use Rattle.nf_forever_def.specs.ForeverRun.{FailsOn}
+use Rattle.nf_thin_def.specs.PhaseRun.{Standing, IsStart, Goes, Fails, IsShortFlow, flow_of}
+use Rattle.nf_thin_def.specs.Ends.{EndsAtLabels}
+use Rattle.nf_phase_def.specs.Restoring.{IsRestored}
+use Rattle.nf_phase_def.specs.Open.{Continues, with_last}
+use Rattle.nf_phase_def.specs.ToEnd.{Tail}
+use Rattle.nf_phase_def.specs.ToEnd.{FailsOn}
+use Rattle.nf_phase_laws.specs.RunLaws.{KeepsLabels}
 use Rattle.nf_thin.specs.declared.fault.SearchFault.TheVariants as SearchFault
 use Rattle.nf_thin.specs.declared.thin.ThinFlow.{ThinFlow}
 use Rattle.nf_phase.specs.declared.fault.StepFault.{StepFault}
-use Rattle.nf_phase.specs.Restarting.{IsRestored}
 
 -- A run begins at departure 0, or is restored from a flow. It is extended phase by phase, each phase with its own horizon and budget of
 -- patterns. A phase that is the remainder of an interrupted one may keep the last pattern.
@@ -23,6 +26,15 @@ pub data Reaches (passes : Passing) (net : Network) : Standing → Type 0 where
       → Reaches passes net new
   keeps_on : (horizon : ℚ) (patterns : ℕ) {s new : Standing} → Reaches passes net s → Continues net s
       → Goes passes net horizon patterns s new → Reaches passes net (with_last s.last new)
+
+-- What each reachable run state satisfies: its flow is an equilibrium up to the departure reached, in short form. The curves end at its
+-- labels, and these are the values of the label curves.
+pub record IsRunState (passes : Passing) (net : Network) (s : Standing) : Type 0 where
+  pub reaches : Reaches passes net s
+  pub equilibrium : Equilibrium net (flow_of s)
+  pub short : IsShortFlow net (flow_of s)
+  pub ends : EndsAtLabels net s
+  pub labels : KeepsLabels net s
 
 -- The fault at phase number `phase` represents one of these causes. An allocation failure implies nothing, and is never the payload of
 -- `Search`.

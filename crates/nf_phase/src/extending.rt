@@ -6,13 +6,14 @@ ghost use Rattle.nf_model.specs.Entries.{number_at};
 ghost use Rattle.nf_net_def.specs.WellNamed.{IsNamed};
 ghost use Rattle.nf_phase.specs.Stepping.{Reaches};
 ghost use Rattle.nf_phase.specs.Finding.{LeadsOn, after_phase};
-ghost use Rattle.nf_phase.specs.Restarting.{after_rest};
+ghost use Rattle.nf_phase.specs.OpenRuns.{after_rest};
 
 use crate::phase::{NextPhase, Phase};
 use crate::run::Run;
 use nf_frac::Q;
 use nf_net::Network;
 use nf_phase_curves::{extend_labels, extend_links, reserve_labels, reserve_links};
+use nf_thin::ThinFlow;
 use std::alloc::{AllocError, Global};
 
 // Returns the label of the source, which equals the departure.
@@ -40,12 +41,17 @@ impl Run {
             &mut self.label_curves,
             reached,
             &phase.labels,
-            &phase.slopes,
+            &phase.thin.slopes,
         );
         extend_links(&mut self.link_curves, net, &phase.labels, &phase.steps);
         self.reached = reached;
         self.labels = phase.labels;
-        self.last = phase.pattern;
+        let ThinFlow {
+            flows: _,
+            slopes: _,
+            pattern,
+        } = phase.thin;
+        self.last = pattern;
         self.made += 1;
         Ok(())
     }

@@ -4,8 +4,8 @@ ghost use Rattle.nf_frac_def.specs.Passing.{passes_Q};
 ghost use Rattle.nf_model.specs.Network.{hops as hops_of};
 ghost use Rattle.nf_model.specs.ThinFlow.{slacks_of};
 ghost use Rattle.nf_net_def.specs.WellNamed.{IsNamed};
-ghost use Rattle.nf_resume_def.specs.Open.{IsOpen, Continues};
-ghost use Rattle.nf_phase.specs.Restarting.{none_starts as none_starts_by, ApartAt, AreApart};
+ghost use Rattle.nf_phase_def.specs.Open.{IsOpen, Continues};
+ghost use Rattle.nf_phase.specs.OpenRuns.{none_starts as none_starts_by, ApartAt, AreApart};
 ghost use Rattle.nf_phase.specs.Stepping.{Reaches};
 
 use crate::run::Run;

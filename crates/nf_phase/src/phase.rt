@@ -7,7 +7,7 @@ ghost use Rattle.nf_model.specs.ThinFlow.{slacks_of};
 ghost use Rattle.nf_model.specs.Phases.{IsPhaseLength};
 ghost use Rattle.nf_net_def.specs.WellNamed.{IsNamed};
 ghost use Rattle.nf_thin_def.specs.PhaseRun.{phase_lists};
-ghost use Rattle.nf_resume_def.specs.Open.{Continues};
+ghost use Rattle.nf_phase_def.specs.Open.{Continues};
 ghost use Rattle.nf_phase.specs.Stepping.{Reaches, StandsFor, IsCause};
 ghost use Rattle.nf_phase.specs.Finding.{IsFound, ListsPass, LeadsOn};
 
@@ -16,20 +16,18 @@ use crate::finding::PhaseStart;
 use crate::run::Run;
 use nf_frac::Q;
 use nf_net::Network;
-use nf_pattern::Pattern;
 use nf_phase_curves::{LinkStep, PhaseView, amounts};
 use nf_phase_length::{Advanced, advance, extension};
 use nf_thin::ThinFlow;
 use std::alloc::Global;
 
-// A phase: its length, the labels at its end, and the step of each link. `slopes` and `pattern` are those of its thin flow.
+// A phase: its length, the labels at its end, the step of each link, and its thin flow.
 #[derive(Drop)]
 pub(crate) struct Phase {
     pub(crate) length: Q,
     pub(crate) labels: Vec<Q>,
-    pub(crate) slopes: Vec<Q>,
     pub(crate) steps: Vec<LinkStep>,
-    pub(crate) pattern: Pattern,
+    pub(crate) thin: ThinFlow,
 }
 
 // A phase, and whether it is the remainder of an interrupted one.
@@ -99,7 +97,7 @@ impl Run {
         requires found { (patterns : ℕ) × IsFound passes_Q net.now.net patterns self.now found }
         ensures leads { (patterns : ℕ) → IsFound passes_Q net.now.net patterns self.now found
             → IfOk result (LeadsOn passes_Q net.now.net horizon patterns self.now) }
-        ensures slopes { IfOk result (λ phase. phase.slopes.items ≡ found.thin.slopes.items) }
+        ensures thin { IfOk result (λ phase. phase.thin ≡ found.thin) }
         ensures cause { IfErr result
             (StandsFor (ListsPass passes_Q net.now.net horizon self.now found.thin.pattern found.thin.flows.items found.thin.slopes.items)
             (suc self.now.made)) }
@@ -110,18 +108,12 @@ impl Run {
             sets: _,
             thin,
         } = found;
-        let ThinFlow {
-            flows: _,
-            slopes,
-            pattern,
-        } = thin;
         let Advanced { length, labels } = end;
         Ok(Phase {
             length,
             labels,
-            slopes,
             steps,
-            pattern,
+            thin,
         })
     }
 

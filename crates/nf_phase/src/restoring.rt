@@ -5,12 +5,10 @@ ghost use Rattle.nf_frac_def.specs.Passing.{passes_Q};
 ghost use Rattle.nf_frac_def.specs.Checked.{at_part, Gives};
 ghost use Rattle.nf_model.specs.Equilibrium.{Equilibrium};
 ghost use Rattle.nf_thin_def.specs.PhaseRun.{IsShortFlow, flow_of};
-ghost use Rattle.nf_thin_def.specs.Ends.{EndsAtLabels};
-ghost use Rattle.nf_resume_def.specs.Restoring.{value_at_end, restore_list};
-ghost use Rattle.nf_phase_laws.specs.RunLaws.{KeepsLabels};
+ghost use Rattle.nf_phase_def.specs.Restoring.{value_at_end, restore_list};
 ghost use Rattle.nf_curve.specs.Flows.{flow_of as flow_in};
-ghost use Rattle.nf_phase.specs.Restarting.{EndsAtItsLabels, NoneFull};
-ghost use Rattle.nf_phase.specs.Stepping.{Reaches};
+ghost use Rattle.nf_phase_def.specs.Restoring.{EndsAtItsLabels, NoneFull};
+ghost use Rattle.nf_phase.specs.Stepping.{IsRunState};
 
 use crate::run::Run;
 use nf_curve::{Curve, Flow};
@@ -45,9 +43,7 @@ impl Run {
         requires states { length last ≡ length net.now.net.links }
         requires no_full { NoneFull net.now.net last }
         ensures list { Gives (λ run. run) (λ q. q) result (at_part CurvePart (restore_list passes_Q (flow_in flow) last)) }
-        ensures reaches { IfOk result (Reaches passes_Q net.now.net) }
-        ensures ends { IfOk result (EndsAtLabels net.now.net) }
-        ensures labels { IfOk result (KeepsLabels net.now.net) }
+        ensures state { IfOk result (IsRunState passes_Q net.now.net) }
         ensures flow { IfOk result (λ run. flow_of run ≡ flow_in flow) }
         ensures fresh { IfOk result (λ run. run.made ≡ 0) }
         ensures last { IfOk result (λ run. run.last ≡ last) }

@@ -2,14 +2,12 @@
 ghost use Rattle.std.specs.Prelude.{◌≡◌, ◌<◌, ◌^◌, ◌-◌, MatchOption, IsSome, IfOk, OnOk, OnErr, IfErr};
 ghost use Rattle.nf_rational.specs.Order.{◌<ℚ◌};
 ghost use Rattle.nf_frac_def.specs.Passing.{passes_Q};
-ghost use Rattle.nf_model.specs.Equilibrium.{Equilibrium};
-ghost use Rattle.nf_thin_def.specs.PhaseRun.{IsStart, Goes, IsShortFlow, flow_of};
-ghost use Rattle.nf_thin_def.specs.Ends.{EndsAtLabels};
-ghost use Rattle.nf_resume_def.specs.Open.{Continues, Steps};
-ghost use Rattle.nf_forever_def.specs.ForeverRun.{GoesToEnd, GoesForever};
-ghost use Rattle.nf_phase_laws.specs.RunLaws.{KeepsLabels, reached_by};
+ghost use Rattle.nf_thin_def.specs.PhaseRun.{IsStart, Goes, flow_of};
+ghost use Rattle.nf_phase_def.specs.Open.{Continues, Steps};
+ghost use Rattle.nf_phase_def.specs.ToEnd.{GoesToEnd, GoesForever};
+ghost use Rattle.nf_phase_laws.specs.RunLaws.{reached_by};
 ghost use Rattle.nf_curve.specs.Flows.{flow_of as flow_in};
-ghost use Rattle.nf_phase.specs.Stepping.{Reaches, IsCause, IsCauseOn, LeadsOnlyTo, tail_of};
+ghost use Rattle.nf_phase.specs.Stepping.{Reaches, IsRunState, IsCause, IsCauseOn, LeadsOnlyTo, tail_of};
 
 use crate::fault::StepFault;
 use crate::finding::PhaseStart;
@@ -59,11 +57,7 @@ impl Run {
     /// memory can't be allocated.
     pub fn start(alloc: Global, net: &Network) -> Result<Run, AllocError>
         ensures starts { IfOk result (IsStart net.now.net) }
-        ensures reaches { IfOk result (Reaches passes_Q net.now.net) }
-        ensures equilibrium { IfOk result (λ run. Equilibrium net.now.net (flow_of run)) }
-        ensures ends { IfOk result (EndsAtLabels net.now.net) }
-        ensures labels { IfOk result (KeepsLabels net.now.net) }
-        ensures short { IfOk result (λ run. IsShortFlow net.now.net (flow_of run)) }
+        ensures state { IfOk result (IsRunState passes_Q net.now.net) }
     {
         // Proof: the network is that of an accepted file.
         net.recall();
@@ -98,11 +92,7 @@ impl Run {
         ensures goes { OnOk result (Steps passes_Q net.now.net horizon patterns self.old self.new) }
         ensures begins { (Continues net.now.net self.old → ⊥) → OnOk result (Goes passes_Q net.now.net horizon patterns self.old self.new) }
         ensures only { OnOk result (LeadsOnlyTo net.now.net horizon (reached_by self.old) (reached_by self.new)) }
-        ensures reaches { Reaches passes_Q net.now.net self.new }
-        ensures equilibrium { Equilibrium net.now.net (flow_of self.new) }
-        ensures ends { EndsAtLabels net.now.net self.new }
-        ensures labels { KeepsLabels net.now.net self.new }
-        ensures short { IsShortFlow net.now.net (flow_of self.new) }
+        ensures state { IsRunState passes_Q net.now.net self.new }
         ensures kept { OnErr result (self.new ≡ self.old) }
         ensures cause { IfErr result (IsCause passes_Q net.now.net horizon patterns self.old) }
     {
@@ -127,11 +117,7 @@ impl Run {
         ensures phase { IfOk result (λ tail. MatchOption tail (GoesToEnd passes_Q net.now.net patterns self.old self.new)
             (λ thin. GoesForever passes_Q net.now.net patterns self.old thin.pattern (tail_of thin))) }
         ensures stays { IfOk result (λ tail. IsSome tail → self.new ≡ self.old) }
-        ensures reaches { Reaches passes_Q net.now.net self.new }
-        ensures equilibrium { Equilibrium net.now.net (flow_of self.new) }
-        ensures ends { EndsAtLabels net.now.net self.new }
-        ensures labels { KeepsLabels net.now.net self.new }
-        ensures short { IsShortFlow net.now.net (flow_of self.new) }
+        ensures state { IsRunState passes_Q net.now.net self.new }
         ensures kept { OnErr result (self.new ≡ self.old) }
         ensures cause { IfErr result (IsCauseOn passes_Q net.now.net patterns self.old) }
     {

@@ -5,7 +5,7 @@ ghost use Rattle.nf_rational.specs.Order.{◌≤ℚ◌, ◌<ℚ◌, lt_ℚ};
 ghost use Rattle.nf_frac_def.specs.Passing.{passes_Q};
 ghost use Rattle.nf_net_def.specs.WellNamed.{IsNamed};
 ghost use Rattle.nf_thin_def.specs.PhaseRun.{flow_of};
-ghost use Rattle.nf_resume_def.specs.Open.{RunsOn};
+ghost use Rattle.nf_phase_def.specs.Open.{RunsOn};
 ghost use Rattle.nf_curve.specs.Flows.{flow_of as flow_in};
 ghost use Rattle.nf_phase.specs.Stepping.{Reaches};
 ghost use Rattle.nf_phase.specs.Solution.{IsSolution, IsFinished, bounds_of, report_in, stop_after};

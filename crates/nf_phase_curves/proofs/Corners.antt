@@ -12,7 +12,8 @@ use Rattle.nf_model.specs.Curve.{Point}
 use Rattle.nf_model.specs.Equilibrium.{Trace}
 use Rattle.nf_thin_def.specs.ReportCurves.{GrowingCurve, keeps_slope, with_point, with_rate, curve_with, trace_with}
 use Rattle.nf_thin_def.specs.Ends.{end_of}
-use Rattle.nf_phase_laws.proofs.Points.{same_of_test}
+use Rattle.nf_phase_laws.proofs.Points.{end-append}
+use Rattle.nf_rational_laws.proofs.SignTests.{same_of_test}
 use Rattle.nf_curve.specs.Points.{last_time}
 use Rattle.nf_phase_curves.specs.declared.growing.End.{End}
 use Rattle.nf_phase_curves.specs.Growing.{points_to, corners_by, IsAfter, AreBefore, rates_by, end_value}
@@ -24,9 +25,6 @@ last_time-end : (points : List Point) → last_time points ≡ end_of points
 last_time-end [] = refl
 last_time-end (p ∷ []) = refl
 last_time-end (p ∷ q ∷ rest) = last_time-end (q ∷ rest)
-
-pub end-append : (points : List Point) (p : Point) → end_of (points ++ p ∷ []) ≡ p.0
-end-append points p = ap (λ (o : Option Point). option_map_or (λ q. q.0) o 0ℚ) (last-append None points p)
 
 pub value-append : (points : List Point) (p : Point) → p.1 ≡ end_value (points ++ p ∷ [])
 value-append points p = sym (ap (λ (o : Option Point). option_map_or (λ q. q.1) o 0ℚ) (last-append None points p))

@@ -10,7 +10,7 @@ use Rattle.nf_frac_def.specs.Checked.{Checked, ◌>>=◌}
 use Rattle.nf_model.specs.Curve.{Point, TimesRise, IsCurve, AreSlopes}
 use Rattle.nf_model_laws.proofs.Curves.{IsCurve-rises}
 use Rattle.nf_curve_def.specs.Lines.{checked_slope}
-use Rattle.nf_resume_def.specs.Restoring.{last_slope}
+use Rattle.nf_phase_def.specs.Restoring.{last_slope}
 use Rattle.nf_phase_curves.specs.Growing.{AreBefore}
 
 -- ---- the last two points

@@ -13,7 +13,7 @@ use Rattle.nf_frac_def.proofs.Each.{with_front}
 use Rattle.nf_model.specs.Curve.{Point}
 use Rattle.nf_model.specs.Equilibrium.{Trace}
 use Rattle.nf_thin_def.specs.ReportCurves.{GrowingCurve, LinkCurves}
-use Rattle.nf_resume_def.specs.Restoring.{link_curves_of, growing}
+use Rattle.nf_phase_def.specs.Restoring.{link_curves_of, growing}
 use Rattle.nf_curve.proofs.Exits.{after_err, after_ok, each_goes, each_stops, each_ends, err_before, ok_before}
 use Rattle.nf_thin_laws.proofs.Numbered.{drop_at}
 use Rattle.nf_pattern.proofs.Each.{take_pushed}

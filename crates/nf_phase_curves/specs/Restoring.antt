@@ -5,7 +5,7 @@ use Rattle.nf_frac_def.specs.Checked.{Checked, each, ◌>>=◌}
 use Rattle.nf_model.specs.Curve.{Point}
 use Rattle.nf_model.specs.Equilibrium.{Trace}
 use Rattle.nf_thin_def.specs.ReportCurves.{LinkCurves}
-use Rattle.nf_resume_def.specs.Restoring.{growing, link_curves_of}
+use Rattle.nf_phase_def.specs.Restoring.{growing, link_curves_of}
 
 module _ (passes : Passing) where
   abbrev pub of_link : Trace → Trace → List Point → Checked LinkCurves

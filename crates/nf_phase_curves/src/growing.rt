@@ -8,7 +8,7 @@ ghost use Rattle.nf_rational.specs.Signs.{is_positive};
 ghost use Rattle.nf_thin_def.specs.Ends.{end_of};
 ghost use Rattle.nf_thin_def.specs.ReportCurves.{keeps_slope as keeps_slope_by, curve_with, queue_after};
 ghost use Rattle.nf_thin_def.specs.ReportCurves.{first_label_curve, first_queue as queue_at_start};
-ghost use Rattle.nf_resume_def.specs.Restoring.{growing as growing_by};
+ghost use Rattle.nf_phase_def.specs.Restoring.{growing as growing_by};
 ghost use Rattle.nf_phase_curves.specs.Growing.{HasRoom, IsAfter, corners_by, points_to, end_value};
 
 use crate::copies::{copy_of, first_points};

@@ -4,7 +4,7 @@ ghost use Rattle.nf_frac_def.specs.declared.Part.TheVariants.{Curve as CurvePart
 ghost use Rattle.nf_frac_def.specs.Passing.{passes_Q};
 ghost use Rattle.nf_frac_def.specs.Checked.{at_part, each, Gives};
 ghost use Rattle.nf_thin_def.specs.ReportCurves.{first_label_curve, label_curves_after};
-ghost use Rattle.nf_resume_def.specs.Restoring.{growing};
+ghost use Rattle.nf_phase_def.specs.Restoring.{growing};
 ghost use Rattle.nf_phase_curves.specs.Growing.{all_grown, AllHaveRoom, AllEndBefore};
 
 use crate::growing::GrowingCurve;

@@ -3,7 +3,7 @@ ghost use Rattle.std.specs.Prelude.{◌≡◌, ◌≤◌, length, IfOk, IsSome};
 ghost use Rattle.nf_frac_def.specs.declared.Part.TheVariants.{Curve as CurvePart};
 ghost use Rattle.nf_frac_def.specs.Passing.{passes_Q};
 ghost use Rattle.nf_frac_def.specs.Checked.{at_part};
-ghost use Rattle.nf_resume_def.specs.Restoring.{last_slope as last_slope_by};
+ghost use Rattle.nf_phase_def.specs.Restoring.{last_slope as last_slope_by};
 
 use nf_curve::{Curve, slope};
 use nf_frac::{Part, PassedAt, Q};

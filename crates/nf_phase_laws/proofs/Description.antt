@@ -20,7 +20,7 @@ use Rattle.nf_phase_laws.proofs.Idle.{queue_by_slack-low}
 use Rattle.nf_phase_laws.proofs.Holds as held
 use Rattle.nf_phase_laws.proofs.Start.{at_first, label_not_negative, nothing_sent, slack_none}
 use Rattle.nf_phase_laws.proofs.Lasting.{step_of}
-use Rattle.nf_phase_laws.proofs.Phase.{PhaseStep, by_time, sent_before, sent_after, slack_before, slack_after, rises_on}
+use Rattle.nf_phase_laws.proofs.Phase.{PhaseStep, by_time, sent_before, sent_after, slack_before, slack_after, rises_on, line_order, still_nn}
 use Rattle.nf_rational_laws.proofs.Chains.{≤ℚ_refl, ≤ℚ_trans}
 use Rattle.nf_rational_laws.proofs.Tests.{max0_none, max0_of}
 
@@ -56,9 +56,6 @@ times_none c y z t e f = linear_eq (c ∷ y ∷ z ∷ t ∷ []) (eq_times c e �
 falls : (s m l t : ℚ) → s ≤ℚ 0ℚ → m ≤ℚ l → 0ℚ ≤ℚ t → s +ℚ (m -ℚ l) *ℚ t ≤ℚ 0ℚ
 falls s m l t h k j = linear_le (s ∷ m ∷ l ∷ t ∷ []) (le h ∷ le_times j k ∷ []) (search reading_of) tt
 
-grows : (s m l t : ℚ) → 0ℚ ≤ℚ s → l ≤ℚ m → 0ℚ ≤ℚ t → 0ℚ ≤ℚ s +ℚ (m -ℚ l) *ℚ t
-grows s m l t h k j = linear_le (s ∷ m ∷ l ∷ t ∷ []) (le h ∷ le_times j k ∷ []) (search reading_of) tt
-
 abbrev Steadily : Option ℚ → ℚ → ℚ → ℚ → ℚ → Type 0
 Steadily capacity s m l d = (k : ℚ) × ((t : ℚ) → Within 0ℚ d t → queue_by_slack capacity (s +ℚ (m -ℚ l) *ℚ t) ≡ queue_by_slack capacity s +ℚ k *ℚ t)
 
@@ -84,7 +81,7 @@ queue_by_slack-steadily (Some c) s m l d below above = ⊎_elim
     (λ (i : s <ℚ 0ℚ). stays_none c s m l d h (λ t w. below t i w))
     (λ (i : 0ℚ ≤ℚ s). ⊎_elim
     (λ (j : m <ℚ l). stays_none c s m l d h (λ t w. falls s m l t h (≤ℚ_of_lt _ _ j) w.0))
-    (λ (j : l ≤ℚ m). runs_on c s m l d i (λ t w. grows s m l t i j w.0))
+    (λ (j : l ≤ℚ m). runs_on c s m l d i (λ t w. still_nn s m l t i j w.0))
     (lt_or_le_ℚ m l))
     (lt_or_le_ℚ s 0ℚ))
     (lt_or_le_ℚ 0ℚ s)
@@ -110,9 +107,6 @@ agree y z w v q a l t d r k h j i e f g o = ⊎_elim
 past : (a l t : ℚ) → 0ℚ ≤ℚ l → 0ℚ ≤ℚ t → a ≤ℚ a +ℚ l *ℚ t
 past a l t h k = linear_le (a ∷ l ∷ t ∷ []) (le_times h k ∷ []) (search reading_of) tt
 
-before_end : (a l s t : ℚ) → 0ℚ ≤ℚ l → s ≤ℚ t → a +ℚ l *ℚ s ≤ℚ a +ℚ l *ℚ t
-before_end a l s t h k = linear_le (a ∷ l ∷ s ∷ t ∷ []) (le_times h k ∷ []) (search reading_of) tt
-
 module _ (net : Network) (amount label : ℕ → ℚ → ℚ) (until length rate : ℚ) (x slope : ℕ → ℚ) (amount' label' : ℕ → ℚ → ℚ)
     (step : PhaseStep net amount label until length rate x slope amount' label') (outflow queue outflow' queue' : ℕ → ℚ → ℚ)
     (describes : DescribesLinks net amount label outflow queue until) (goes : DescriptionGoesOn net label until length x slope label' outflow queue outflow' queue') where
@@ -137,7 +131,7 @@ module _ (net : Network) (amount label : ℕ → ℚ → ℚ) (until length rate
       let n : 0ℚ ≤ℚ slope link.head = step.thin.slope_nn link.head in
       ap (outflow' e) (step.goes.label_after link.head t (step.good.heads e link p) w)
       ∙ on_rate (outflow' e (label link.head until)) (sent net amount label e until) (label link.head until) (slope link.head) t r.0 (x e) _
-      (r.2.line (label link.head until +ℚ slope link.head *ℚ t) (past _ (slope link.head) t n w.0) (before_end _ (slope link.head) t length n w.1))
+      (r.2.line (label link.head until +ℚ slope link.head *ℚ t) (past _ (slope link.head) t n w.0) (line_order _ (slope link.head) t length n w.1))
       (goes.outflow_before e link (label link.head until) p (so_far link.head until (step.good.heads e link p) now) ∙ describes.outflows e link until p now) r.1
       ∙ sym (sent_after net amount label until length rate x slope amount' label' step e link t p w)
 
@@ -163,7 +157,7 @@ module _ (net : Network) (amount label : ℕ → ℚ → ℚ) (until length rate
       let whole : Within 0ℚ length length = (step.some, ≤ℚ_refl length) in
       ap (queue' e) (step.goes.label_after link.tail t (step.good.tails e link p) w)
       ∙ agree _ _ _ (queue' e (label link.tail until)) (queue_by_slack link.capacity s) (label link.tail until) (slope link.tail) t length r.0 k.0 w.0 w.1 (queue_at_start e link until p now)
-      (r.1.line (label link.tail until +ℚ slope link.tail *ℚ t) (past _ (slope link.tail) t n w.0) (before_end _ (slope link.tail) t length n w.1))
+      (r.1.line (label link.tail until +ℚ slope link.tail *ℚ t) (past _ (slope link.tail) t n w.0) (line_order _ (slope link.tail) t length n w.1))
       (r.1.line (label link.tail until +ℚ slope link.tail *ℚ length) (past _ (slope link.tail) length n step.some) (≤ℚ_refl _))
       (goes.queue_end e link p ∙ moves length whole) (moves t w)
 

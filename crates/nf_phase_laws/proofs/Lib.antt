@@ -21,6 +21,7 @@ pub mod WellRun
 pub mod AfterPhase
 pub mod Goes
 pub mod Run
+pub mod RunsOn
 pub mod Limits
 pub mod Sides
 pub mod Extension

@@ -23,7 +23,7 @@ use Rattle.nf_phase_laws.proofs.Holds as held
 use Rattle.nf_phase_laws.proofs.Holds.{link_within}
 use Rattle.nf_phase_laws.proofs.Thin.{IsThinBy}
 use Rattle.nf_phase_laws.proofs.QueueCases.{LinkStep, IsQueue-by_slack, unused_below, unbounded_below}
-use Rattle.nf_phase_laws.proofs.Rising.{NeverFalls-goes_on}
+use Rattle.nf_phase_laws.proofs.Rising.{le_along, NeverFalls-goes_on}
 use Rattle.nf_rational_laws.proofs.Chains.{≤ℚ_refl, ≤ℚ_trans}
 use Rattle.nf_rational_laws.proofs.Facts.{same_slacks, in_time, less_le}
 
@@ -39,13 +39,10 @@ pub record PhaseStep (net : Network) (amount label : ℕ → ℚ → ℚ) (until
   pub supply_after : (t : ℚ) → Within 0ℚ length t → supply net (until +ℚ t) ≡ supply net until +ℚ rate *ℚ t
 
 -- ---- steps over plain numbers
-le_along : (a b c d : ℚ) → a ≡ b → c ≡ d → b ≤ℚ d → a ≤ℚ c
-le_along a b c d e f h = linear_le (a ∷ b ∷ c ∷ d ∷ []) (eq e ∷ eq f ∷ le h ∷ []) (search reading_of) tt
-
 after_start : (a l t y : ℚ) → 0ℚ ≤ℚ l → 0ℚ ≤ℚ t → y ≡ a +ℚ l *ℚ t → a ≤ℚ y
 after_start a l t y h k e = linear_le (a ∷ l ∷ t ∷ y ∷ []) (eq e ∷ le_times h k ∷ []) (search reading_of) tt
 
-line_order : (a l s t : ℚ) → 0ℚ ≤ℚ l → s ≤ℚ t → a +ℚ l *ℚ s ≤ℚ a +ℚ l *ℚ t
+pub line_order : (a l s t : ℚ) → 0ℚ ≤ℚ l → s ≤ℚ t → a +ℚ l *ℚ s ≤ℚ a +ℚ l *ℚ t
 line_order a l s t h k = linear_le (a ∷ l ∷ s ∷ t ∷ []) (le_times h k ∷ []) (search reading_of) tt
 
 slack_line : (b b' a a' r l m t : ℚ) → b' ≡ b +ℚ m *ℚ t → a' ≡ a +ℚ l *ℚ t → b' -ℚ (a' +ℚ r) ≡ b -ℚ (a +ℚ r) +ℚ (m -ℚ l) *ℚ t
@@ -57,7 +54,7 @@ from_zero a l u = linear_eq (a ∷ l ∷ u ∷ []) [] (search reading_of) tt tt
 on_the_line : (f v a l t r x y : ℚ) → f ≡ v +ℚ r *ℚ ((a +ℚ l *ℚ t) -ℚ a) → v ≡ y → r *ℚ l ≡ x → f ≡ y +ℚ x *ℚ t
 on_the_line f v a l t r x y e i g = linear_eq (f ∷ v ∷ a ∷ l ∷ t ∷ r ∷ x ∷ y ∷ []) (eq e ∷ eq i ∷ eq_times t g ∷ []) (search reading_of depth 12) tt tt
 
-still_nn : (s m l t : ℚ) → 0ℚ ≤ℚ s → l ≤ℚ m → 0ℚ ≤ℚ t → 0ℚ ≤ℚ s +ℚ (m -ℚ l) *ℚ t
+pub still_nn : (s m l t : ℚ) → 0ℚ ≤ℚ s → l ≤ℚ m → 0ℚ ≤ℚ t → 0ℚ ≤ℚ s +ℚ (m -ℚ l) *ℚ t
 still_nn s m l t h k j = linear_le (s ∷ m ∷ l ∷ t ∷ []) (le h ∷ le_times j k ∷ []) (search reading_of) tt
 
 -- Without flow the amount is constant.

@@ -2,9 +2,10 @@
 use Rattle.std.proofs.Common.{◌≡◌, ℕ, suc, List, [], ◌∷◌, ◌++◌, length, Bool, true, false, sym, ap, subst, refl, ◌∙◌, append_assoc, length-append, arith}
 use Rattle.std.specs.Prelude.{◌-◌, ◌+◌, Option, Some, None, take}
 use Rattle.std.specs.List.{last_or}
+use Rattle.std.specs.Option.{option_map_or}
 use Rattle.std.proofs.lemmas.Option.{same_Some}
 use Rattle.nf_rational.specs.Rational.{ℚ}
-use Rattle.nf_rational.specs.Operations.{◌-ℚ◌, ◌*ℚ◌}
+use Rattle.nf_rational.specs.Operations.{0ℚ, ◌-ℚ◌, ◌*ℚ◌}
 use Rattle.nf_rational.specs.Order.{◌<ℚ◌}
 use Rattle.nf_rational_laws.proofs.Polynomial.{reading_of}
 use Rattle.nf_rational_laws.proofs.Order.{less_ps}
@@ -13,13 +14,12 @@ use Rattle.nf_model.specs.Curve.{Point, slope, TimesRise, IsCurve, AreSlopes}
 use Rattle.nf_model_laws.proofs.Affine.{same_from_times}
 use Rattle.nf_model_laws.proofs.Curves.{slope-times, TimesRise-rest}
 use Rattle.nf_thin_def.specs.ReportCurves.{keeps_slope, with_point, with_rate}
+use Rattle.nf_thin_def.specs.Ends.{end_of}
 use Rattle.nf_phase_laws.specs.CurveSteps.{LastPoint, GoesOnTo}
 use Rattle.nf_phase_laws.proofs.CurveSteps.{GoesOnTo-appended, GoesOnTo-replaced}
 use Rattle.nf_rational_laws.proofs.Entries.{last-append}
 use Rattle.std.proofs.lemmas.Bool.{false≢true}
-pub use Rattle.nf_rational_laws.proofs.SignTests.{same_of_test}
-
--- ---- the test whether two numbers are equal
+use Rattle.nf_rational_laws.proofs.SignTests.{same_of_test}
 
 -- ---- the slope from one point to another
 same_times : (a n r x : ℚ) → n *ℚ a ≡ x → r *ℚ a ≡ x → a *ℚ n ≡ a *ℚ r
@@ -36,6 +36,10 @@ add_times p0 p1 q0 q1 s0 s1 m n r e f g h = added (subst (λ (z : ℚ). z *ℚ (
 
 slope-joined : (p q s : Point) (r : ℚ) → p.0 <ℚ q.0 → q.0 <ℚ s.0 → p.0 <ℚ s.0 → slope p q ≡ r → slope q s ≡ r → slope p s ≡ r
 slope-joined p q s r h k l e f = slope_is p s r l (add_times p.0 p.1 q.0 q.1 s.0 s.1 (slope p q) (slope q s) r (slope-times p q h) (slope-times q s k) e f)
+
+-- ---- the time of the last point
+pub end-append : (points : List Point) (p : Point) → end_of (points ++ p ∷ []) ≡ p.0
+end-append points p = ap (λ (o : Option Point). option_map_or (λ q. q.0) o 0ℚ) (last-append None points p)
 
 -- ---- the list without its last entry
 front_of : {A : Type 0} (xs : List A) (y : A) → take (length (xs ++ y ∷ []) - 1) (xs ++ y ∷ []) ≡ xs

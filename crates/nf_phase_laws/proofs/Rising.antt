@@ -24,7 +24,7 @@ piece_rises y z v a s t l d r x e f i j k n m g = ⊎_elim
     linear_le (y ∷ z ∷ v ∷ a ∷ s ∷ t ∷ r ∷ []) (eq e ∷ eq f ∷ eq_times r u ∷ []) (search reading_of) tt)
     (lt_or_le_ℚ 0ℚ l)
 
-le_along : (a b c d : ℚ) → a ≡ b → c ≡ d → b ≤ℚ d → a ≤ℚ c
+pub le_along : (a b c d : ℚ) → a ≡ b → c ≡ d → b ≤ℚ d → a ≤ℚ c
 le_along a b c d e f h = linear_le (a ∷ b ∷ c ∷ d ∷ []) (eq e ∷ eq f ∷ le h ∷ []) (search reading_of) tt
 
 module _ (f g : ℚ → ℚ) (a l d r x : ℚ) (begins : 0ℚ ≤ℚ a) (slope_nn : 0ℚ ≤ℚ l) (flow_nn : 0ℚ ≤ℚ x) (time_nn : 0ℚ ≤ℚ d) (rises : NeverFalls f) (same : (t : ℚ) → Within 0ℚ a t → g t ≡ f t)

@@ -74,7 +74,7 @@ module _ (passes : Passing) (net : Network) (good : IsNetwork net) (bounds : Bou
       (phase passes net good bounds.horizon s g.pattern g.flows g.slopes g.step well g.finds.below
       (g.finds.search.is_search.is_listing.listed g.place g.pattern first.has_place) first.solution.solves first.solution.meets (parts_of s t g well) g.is_length)
 
-  WellRun-runs : (s last : Standing) (stop : Option (Cause ℚ)) → WellRun net s → Runs passes net bounds s last stop → WellRun net last
+  pub WellRun-runs : (s last : Standing) (stop : Option (Cause ℚ)) → WellRun net s → Runs passes net bounds s last stop → WellRun net last
   WellRun-runs s last stop well (at_horizon e) = well
   WellRun-runs s last stop well (at_phases below e) = well
   WellRun-runs s last stop well (fails may f) = well

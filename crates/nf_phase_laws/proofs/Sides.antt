@@ -50,20 +50,17 @@ module _ (s c x : ℚ) (meets : x *ℚ c ≡ 0ℚ -ℚ s) where
       (lt_or_le_ℚ x w)
 
   -- a slack above 0 that falls
+  opposite_nn : c <ℚ 0ℚ → 0ℚ ≤ℚ 0ℚ -ℚ c
+  opposite_nn h = linear_le (c ∷ []) (lt h ∷ []) (search reading_of) tt
+
   falling_positive : 0ℚ <ℚ s → c <ℚ 0ℚ → 0ℚ <ℚ x
   falling_positive above falls = ⊎_elim
       (λ (h : 0ℚ <ℚ x). h)
-      (λ (h : x ≤ℚ 0ℚ). absurd (linear_false (s ∷ c ∷ x ∷ []) (lt above ∷ eq meets ∷ le_times (weak c falls) h ∷ []) (search reading_of) tt))
+      (λ (h : x ≤ℚ 0ℚ). absurd (linear_false (s ∷ c ∷ x ∷ []) (lt above ∷ eq meets ∷ le_times (opposite_nn falls) h ∷ []) (search reading_of) tt))
       (lt_or_le_ℚ 0ℚ x)
-    where
-      weak : (c : ℚ) → c <ℚ 0ℚ → 0ℚ ≤ℚ 0ℚ -ℚ c
-      weak c h = linear_le (c ∷ []) (lt h ∷ []) (search reading_of) tt
 
   falling_within : (w : ℚ) → c <ℚ 0ℚ → w ≤ℚ x → 0ℚ ≤ℚ (s +ℚ w *ℚ c)
-  falling_within w falls h = linear_le (s ∷ c ∷ x ∷ w ∷ []) (eq meets ∷ le_times (weak c falls) h ∷ []) (search reading_of) tt
-    where
-      weak : (c : ℚ) → c <ℚ 0ℚ → 0ℚ ≤ℚ 0ℚ -ℚ c
-      weak c h = linear_le (c ∷ []) (lt h ∷ []) (search reading_of) tt
+  falling_within w falls h = linear_le (s ∷ c ∷ x ∷ w ∷ []) (eq meets ∷ le_times (opposite_nn falls) h ∷ []) (search reading_of) tt
 
   falling_bound : (w : ℚ) → c <ℚ 0ℚ → 0ℚ ≤ℚ (s +ℚ w *ℚ c) → w ≤ℚ x
   falling_bound w falls h = ⊎_elim

@@ -9,6 +9,7 @@ use Rattle.nf_rational.specs.Order.{◌≤ℚ◌, ◌<ℚ◌, lt_ℚ}
 use Rattle.nf_rational_laws.proofs.Order.{≤ℚ_of_lt}
 use Rattle.nf_rational_laws.proofs.Tests.{lt_ℚ_cases, max0_of}
 use Rattle.nf_rational_laws.proofs.Entries.{length-enumerated}
+use Rattle.nf_frac_def.proofs.Binding.{bind_at}
 use Rattle.nf_frac_def.specs.Passing.{Passing}
 use Rattle.nf_frac_def.specs.Checked.{Checked, checked, each, ◌>>=◌}
 use Rattle.nf_model.specs.Entries.{number_at}
@@ -54,9 +55,6 @@ pub none_of : (x : ℚ) → is_positive x ≡ false → x ≤ℚ 0ℚ
 none_of x e = ⊎_elim (λ (w : (lt_ℚ 0ℚ x ≡ true) × (0ℚ <ℚ x)). absurd (false≢true (sym e ∙ w.0))) (λ (w : (lt_ℚ 0ℚ x ≡ false) × (x ≤ℚ 0ℚ)). w.1) (lt_ℚ_cases 0ℚ x)
 
 -- ---- no operation exceeds its bound
-bind_at : {A B E : Type 0} (r : Result A E) (x : A) (f : A → Result B E) → r ≡ Ok x → (r >>= f) ≡ f x
-bind_at {A = A} {E = E} r x f h = ap (λ (w : Result A E). w >>= f) h
-
 rate_exact : (b : Bool) (flow slope : ℚ) → rate_over never b flow slope ≡ Ok (rate_value b flow slope)
 unfolding checked
 rate_exact true flow slope = refl

@@ -13,7 +13,7 @@ use Rattle.nf_frac_def.specs.declared.Part.TheVariants.{Extend}
 use Rattle.nf_frac_def.specs.declared.PassedAt.{PassedAt}
 use Rattle.nf_model.specs.Network.{Network}
 use Rattle.nf_model.specs.Phases.{IsExtension, IsUnending}
-use Rattle.nf_forever_def.specs.ForeverRun.{end_after}
+use Rattle.nf_phase_def.specs.ToEnd.{end_after}
 use Rattle.nf_curve_laws.proofs.Operations.{then_ok, checked-is}
 use Rattle.nf_phase_laws.proofs.Length.{IsExtension-some}
 use Rattle.nf_frac_def.proofs.AtPart.{part_ok}

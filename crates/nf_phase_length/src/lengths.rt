@@ -10,7 +10,7 @@ ghost use Rattle.nf_model.specs.Phases.{IsExtension, IsUnending};
 ghost use Rattle.nf_rational.specs.Signs.{is_zero as is_zero_by, are_opposite as are_opposite_by};
 ghost use Rattle.nf_thin_def.specs.Extend.{lesser as lesser_of, to_zero as to_zero_by, after_link as after_link_by};
 ghost use Rattle.nf_thin_def.specs.Extend.{least_after, until_change as until_change_by, extend_list};
-ghost use Rattle.nf_forever_def.specs.ForeverRun.{end_after as end_after_by, end_list};
+ghost use Rattle.nf_phase_def.specs.ToEnd.{end_after as end_after_by, end_list};
 ghost use Rattle.nf_phase_length.specs.Lengths.{after_all};
 
 use nf_frac::{Part, PassedAt, Q, at};
@@ -160,7 +160,7 @@ fn end_after(time: Q, length: Option<Q>) -> Result<Option<Q>, PassedAt<Q>>
 /// Returns the departure at which a phase of greatest length ends. The phase begins at `time`, with these slacks of the links and slopes of
 /// the nodes. Returns None exactly if every length is possible. Refuses with Passed, of the part Extend, exactly at the first operation of
 /// the extend list without a horizon that exceeds its bound. Allocates nothing.
-#[tactic(auto, unfolding(nf_forever_def::specs::ForeverRun::end_list))]
+#[tactic(auto, unfolding(nf_phase_def::specs::ToEnd::end_list))]
 pub fn end_of(net: &Network, slacks: &[Q], slopes: &[Q], time: Q) -> Result<Option<Q>, PassedAt<Q>>
     requires slacks { length slacks.now ≡ length net.now.net.links }
     requires slopes { length slopes.now ≡ net.now.net.nodes }

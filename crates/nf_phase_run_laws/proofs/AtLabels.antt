@@ -17,19 +17,18 @@ use Rattle.nf_model_laws.proofs.Slacks.{active_of_slack, slack_of_resetting}
 use Rattle.nf_model_laws.proofs.Supply.{rate_from-not_negative}
 use Rattle.nf_net_def.specs.declared.Cause.{Cause}
 use Rattle.nf_net_def.specs.Report.{Report, IsWellFormed}
-use Rattle.nf_thin_def.specs.PhaseRun.{Standing, Bounds, Runs, at_horizon, at_phases, fails, goes, IsPhaseRun}
+use Rattle.nf_thin_def.specs.PhaseRun.{Standing, Bounds, IsPhaseRun}
 use Rattle.nf_thin_laws.specs.ActiveLinks.{EachIsEntered}
 use Rattle.nf_thin_laws.proofs.ActiveLinks.{AreSets-sets_at, HoldNoCycle-sets_at}
 use Rattle.nf_phase_laws.specs.Invariant.{link_slack, HoldsUpTo, LabelsAre}
 use Rattle.nf_phase_laws.proofs.WellRun.{WellRun, WellRun-start}
-use Rattle.nf_phase_laws.proofs.Run.{WellRun-goes}
+use Rattle.nf_phase_laws.proofs.Run.{WellRun-runs}
+use Rattle.nf_phase_laws.proofs.RunsOn.{WellRun-on}
 use Rattle.nf_phase_laws.proofs.Standing.{grown_at}
 use Rattle.nf_forever_def.specs.ForeverRun.{End, IsForeverRun}
 use Rattle.nf_forever_laws.proofs.Run.{well_forever}
-use Rattle.nf_resume_def.specs.Open.{Steps, continues, begins, RunsOn, at_horizon as on_horizon, at_phases as on_phases, fails as fails_on, steps}
 use Rattle.nf_resume_def.specs.Meanings.{IsResumed}
-use Rattle.nf_resume_laws.proofs.Invariant.{HoldsUpTo-equilibrium}
-use Rattle.nf_resume_laws.proofs.Stepping.{WellRun-last}
+use Rattle.nf_phase_equilibrium_laws.proofs.Invariant.{HoldsUpTo-equilibrium}
 use Rattle.nf_phase_run_laws.proofs.Restarting.{well_restarted}
 use Rattle.nf_complete_laws.specs.Oversupply.{ResetsAreBounded}
 use Rattle.nf_complete_laws.proofs.Supplied.{IsOversupply-some}
@@ -68,27 +67,11 @@ thin_at_standing net s good well =
 
 module _ (passes : Passing) (net : Network) (good : IsNetwork net) where
   module _ (bounds : Bounds) where
-    well_run : (s last : Standing) (stop : Option (Cause ℚ)) → WellRun net s → Runs passes net bounds s last stop → WellRun net last
-    well_run s last stop well (at_horizon e) = well
-    well_run s last stop well (at_phases below e) = well
-    well_run s last stop well (fails may f) = well
-    well_run s last stop well (goes {new = t} may g rest) = well_run t last stop (WellRun-goes passes net good bounds s t g well) rest
-
     pub thin_after_run : (last : Standing) (stop : Option (Cause ℚ)) → IsPhaseRun passes net bounds last stop → HasThinFlow net last.time last.labels
-    thin_after_run last stop run = thin_at_standing net last good (well_run run.first last stop (WellRun-start net good run.first run.start) run.runs)
-
-    well_step : (s t : Standing) → WellRun net s → Steps passes net bounds.horizon bounds.patterns s t → WellRun net t
-    well_step s _ well (continues {t = t} c g) = WellRun-last passes net good bounds s.last t (WellRun-goes passes net good bounds s t g well)
-    well_step s t well (begins c g) = WellRun-goes passes net good bounds s t g well
-
-    pub well_on : (s last : Standing) (stop : Option (Cause ℚ)) → WellRun net s → RunsOn passes net bounds s last stop → WellRun net last
-    well_on s last stop well (on_horizon e) = well
-    well_on s last stop well (on_phases below e) = well
-    well_on s last stop well (fails_on may f) = well
-    well_on s last stop well (steps {new = t} may step rest) = well_on t last stop (well_step s t well step) rest
+    thin_after_run last stop run = thin_at_standing net last good (WellRun-runs passes net good bounds run.first last stop (WellRun-start net good run.first run.start) run.runs)
 
     pub well_resumed : (old : Report) (last : Standing) (stop : Option (Cause ℚ)) → IsWellFormed net old → IsResumed passes net bounds old last stop → WellRun net last
-    well_resumed old last stop formed run = well_on run.first last stop (well_restarted passes net good old formed run.first run.stands) run.runs
+    well_resumed old last stop formed run = WellRun-on passes net good bounds run.first last stop (well_restarted passes net good old formed run.first run.stands) run.runs
 
     pub thin_after_resumed : (old : Report) (last : Standing) (stop : Option (Cause ℚ)) → IsWellFormed net old → IsResumed passes net bounds old last stop → HasThinFlow net last.time last.labels
     thin_after_resumed old last stop formed run = thin_at_standing net last good (well_resumed old last stop formed run)

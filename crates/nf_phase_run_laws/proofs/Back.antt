@@ -22,10 +22,11 @@ use Rattle.nf_phase_laws.proofs.Points.{EndsWithSlope, LastSlope}
 use Rattle.nf_phase_laws.proofs.Short.{HasOnePoint}
 use Rattle.nf_phase_laws.proofs.ShortRun.{ShortRun}
 use Rattle.nf_phase_laws.proofs.WellRun.{WellRun, number_is, label_points, inflow_points, outflow_points, queue_points}
-use Rattle.nf_resume_def.specs.Restoring.{value_at_end, link_curves_of, standing_of, last_slope, growing, restore_list}
+use Rattle.nf_phase_def.specs.Restoring.{value_at_end, link_curves_of, standing_of, last_slope, growing, restore_list}
 use Rattle.nf_resume_def.specs.Resuming.{OfLink, CutLink, links_with, cut_short, cut_trace, cut_link, cut_flow_of, cut_flow}
 use Rattle.nf_resume_laws.proofs.CutShort.{rest_of}
-use Rattle.nf_resume_laws.proofs.CutFlow.{of_link, links_with-at, links_with-length, value_at_end-is}
+use Rattle.nf_phase_equilibrium_laws.proofs.Restored.{value_at_end-is}
+use Rattle.nf_resume_laws.proofs.CutFlow.{of_link, links_with-at, links_with-length}
 use Rattle.nf_rational_laws.proofs.Entries.{slice_get-image, entry}
 use Rattle.nf_rational_laws.proofs.Results.{same_Ok}
 use Rattle.nf_phase_run_laws.specs.ResumedLaws.{with_made}

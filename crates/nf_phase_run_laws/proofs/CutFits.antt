@@ -25,7 +25,7 @@ use Rattle.nf_phase_run_laws.proofs.Lists.{entry_or, all_image}
 use Rattle.nf_phase_run_laws.proofs.Fractions.{AreFractions, either, zero_fraction}
 use Rattle.nf_phase_run_laws.proofs.Fits.{Fits, AreOperands, ok_fits, then_fits, each_fits, one}
 use Rattle.nf_phase_run_laws.proofs.Running.{IsFractionCurve, AreFractionCurves, last_fraction}
-use Rattle.nf_resume_def.specs.Restoring.{value_at_end, link_curves_of, standing_of, last_slope, growing, restore_list}
+use Rattle.nf_phase_def.specs.Restoring.{value_at_end, link_curves_of, standing_of, last_slope, growing, restore_list}
 use Rattle.nf_resume_def.specs.Resuming.{OfLink, links_with, CutLink, cut_short, cut_trace, cut_link, cut_flow_of, cut_flow, restart_list}
 use Rattle.nf_net_laws.proofs.AcceptedNamed.{every_append}
 

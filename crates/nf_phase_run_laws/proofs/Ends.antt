@@ -21,11 +21,11 @@ use Rattle.nf_curve_laws.proofs.Operations.{then_ok}
 use Rattle.nf_phase_laws.proofs.WellRun.{WellRun, WellRun-start}
 use Rattle.nf_phase_laws.proofs.Run.{WellRun-goes}
 use Rattle.nf_phase_laws.proofs.ShortRun.{ShortRun, ShortRun-start, ShortRun-goes}
-use Rattle.nf_resume_def.specs.Restoring.{restore_list}
+use Rattle.nf_phase_def.specs.Restoring.{restore_list}
 use Rattle.nf_resume_def.specs.Resuming.{cut_flow, restart_list}
-use Rattle.nf_resume_def.specs.Open.{IsOpen, Continues, with_last, continues, begins, RunsOn, at_horizon as ends_on, at_phases as stops_on, fails as fails_on, steps}
+use Rattle.nf_phase_def.specs.Open.{IsOpen, Continues, with_last, continues, begins, RunsOn, at_horizon as ends_on, at_phases as stops_on, fails as fails_on, steps}
 use Rattle.nf_resume_def.specs.Meanings.{IsResumedReport}
-use Rattle.nf_resume_laws.proofs.FirstPlace.{closed-at_start}
+use Rattle.nf_phase_laws.proofs.RunsOn.{closed-at_start}
 use Rattle.nf_resume_laws.proofs.Stepping.{list-stands}
 use Rattle.nf_phase_run_laws.specs.ResumedLaws.{with_made, NonePassesNext, RestFits}
 use Rattle.nf_phase_run_laws.proofs.Back.{flow-back, standing-back}

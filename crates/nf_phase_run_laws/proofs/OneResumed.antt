@@ -12,9 +12,9 @@ use Rattle.nf_thin_def.specs.PhaseRun.{Standing, Bounds, Fails, report_of}
 use Rattle.nf_thin_laws.proofs.OneRun.{one_phase, goes_or_fails, goes_knows, StepsTo, horizon_met, phases_made, none_made, one_made, same_end}
 use Rattle.nf_rational_laws.proofs.Results.{same_Ok}
 use Rattle.nf_curve_laws.proofs.Operations.{then_ok}
-use Rattle.nf_resume_def.specs.Restoring.{growing, restore_list}
+use Rattle.nf_phase_def.specs.Restoring.{growing, restore_list}
 use Rattle.nf_resume_def.specs.Resuming.{Stands, cut_flow, restart_list}
-use Rattle.nf_resume_def.specs.Open.{with_last, Steps, continues, begins, RunsOn, at_horizon, at_phases, fails, steps}
+use Rattle.nf_phase_def.specs.Open.{with_last, Steps, continues, begins, RunsOn, at_horizon, at_phases, fails, steps}
 use Rattle.nf_resume_def.specs.Meanings.{IsResumedReport}
 use Rattle.nf_resume_laws.proofs.Stepping.{list-stands}
 

@@ -12,13 +12,13 @@ use Rattle.nf_thin_def.specs.PhaseRun.{Standing, Bounds}
 use Rattle.nf_report_def.specs.ReportFile.{report_in}
 use Rattle.nf_report_laws.specs.Readable.{IsCount, IsReadable}
 use Rattle.nf_report_laws.proofs.ReportKept.{report_kept}
+use Rattle.nf_phase_laws.proofs.WellRun.{WellRun-counted}
 use Rattle.nf_phase_run_laws.specs.ReadableLaws.{AreReadable, ReadsBack}
 use Rattle.nf_phase_run_laws.proofs.Running.{StandsFit, EndsFit, end_readable, StandsFit-after, cause_readable}
 use Rattle.nf_phase_run_laws.proofs.ReadingBack.{readable_reads_back}
-use Rattle.nf_resume_def.specs.Open.{with_last, Steps, continues, begins, RunsOn, at_horizon, at_phases, fails, steps}
+use Rattle.nf_phase_def.specs.Open.{with_last, Steps, continues, begins, RunsOn, at_horizon, at_phases, fails, steps}
 use Rattle.nf_resume_def.specs.Resuming.{Stands, resume_list}
 use Rattle.nf_resume_def.specs.Meanings.{IsResumedReport}
-use Rattle.nf_resume_laws.proofs.Stepping.{WellRun-last}
 use Rattle.nf_phase_run_laws.proofs.CutFits.{IsFractionFlow, HoldsFractions, restart_fits}
 use Rattle.nf_phase_run_laws.proofs.Restarting.{restarts, well_restarted}
 
@@ -39,7 +39,7 @@ module _ (n : Named) (named : IsNamed n) (bounds : Bounds) (within : AreReadable
   -- ---- phase by phase
   last_fits : (last : Pattern) (s : Standing) → StandsFit n.net s → StandsFit n.net (with_last last s)
   last_fits last s fit = record {
-    well = WellRun-last passes_Q n.net named.network bounds last s fit.well;
+    well = WellRun-counted n.net s s.made last fit.well;
     time = fit.time;
     labels = fit.labels;
     label_curves = fit.label_curves;

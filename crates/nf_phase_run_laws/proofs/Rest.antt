@@ -32,7 +32,7 @@ use Rattle.nf_phase_laws.proofs.Still.{leaves_none}
 use Rattle.nf_phase_laws.proofs.WellRun.{WellRun, WellRun-counted}
 use Rattle.nf_phase_laws.proofs.Run.{WellRun-goes, parts_of}
 use Rattle.nf_phase_laws.proofs.Goes.{thin}
-use Rattle.nf_resume_def.specs.Open.{IsOpen, with_last}
+use Rattle.nf_phase_def.specs.Open.{IsOpen, with_last}
 use Rattle.nf_resume_def.specs.Meanings.{NonePassesIn}
 use Rattle.nf_resume_laws.proofs.CutPhase.{IsOpen-cut, IsExtension-left, Lasts-left, stays-below, stays-above, slack-moves}
 use Rattle.nf_resume_laws.proofs.Restricted.{resets, filled-same, goes-on, IsSolution-restricted, IsListed-restricted}

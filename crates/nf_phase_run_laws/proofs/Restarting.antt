@@ -3,12 +3,10 @@ use Rattle.std.proofs.Common.{◌≡◌, ℕ, refl, subst}
 use Rattle.std.specs.Prelude.{Ok}
 use Rattle.nf_rational.specs.Rational.{ℚ}
 use Rattle.nf_frac_def.specs.Passing.{Passing}
-use Rattle.nf_frac_def.specs.Checked.{each}
 use Rattle.nf_model.specs.Network.{Network, IsNetwork}
 use Rattle.nf_model.specs.Equilibrium.{Equilibrium}
 use Rattle.nf_net_def.specs.Report.{Report, IsWellFormed}
 use Rattle.nf_thin_def.specs.PhaseRun.{Standing}
-use Rattle.nf_rational_laws.proofs.Results.{same_Ok}
 use Rattle.nf_curve_laws.proofs.Operations.{then_ok}
 use Rattle.nf_phase_laws.proofs.WellRun.{WellRun}
 use Rattle.nf_check_def.specs.declared.Answer.{Answer}
@@ -17,10 +15,9 @@ use Rattle.nf_check_def.specs.CheckList.{check_list}
 use Rattle.nf_check_laws.specs.Laws.{CanBeChecked}
 use Rattle.nf_check_laws.proofs.Checking.{check_list-checks}
 use Rattle.nf_check_laws.proofs.Holding.{Equilibrium-holding}
-use Rattle.nf_resume_def.specs.Restoring.{growing, restore_list}
 use Rattle.nf_resume_def.specs.Resuming.{Stands, cut_flow, restart_list, after_check, resume_list}
-use Rattle.nf_resume_laws.proofs.CutFlow.{cut_flow-is}
-use Rattle.nf_resume_laws.proofs.Restored.{WellRun-restored}
+use Rattle.nf_phase_equilibrium_laws.proofs.RestoredRun.{well_from}
+use Rattle.nf_resume_laws.proofs.Restarted.{Equilibrium-cut_flow, EndsAtItsLabels-cut_flow}
 use Rattle.nf_resume_laws.proofs.Stepping.{list-stands}
 
 -- The answer of the check for such a run state.
@@ -41,10 +38,8 @@ module _ (passes : Passing) (net : Network) (good : IsNetwork net) (old : Report
   restarts = list-stands passes net old s stands
 
   pub well_restarted : WellRun net s
-  unfolding restart_list restore_list
+  unfolding restart_list
   well_restarted =
       let a = then_ok (cut_flow passes net old.flow) _ s restarts in
-      let b = then_ok (each (growing passes) a.between.labels) _ s a.next in
-      let c = then_ok (each (growing passes) a.between.queues) _ s b.next in
-      subst (WellRun net) (same_Ok _ _ c.next)
-      (WellRun-restored passes net old.flow a.between old.last good equilibrium (cut_flow-is passes net old.flow a.between good equilibrium a.first) b.between c.between b.first c.first)
+      well_from passes net good a.between old.last s (Equilibrium-cut_flow passes net old.flow a.between good equilibrium a.first)
+      (EndsAtItsLabels-cut_flow passes net old.flow a.between good equilibrium a.first) a.next

@@ -7,24 +7,19 @@ use Rattle.nf_net_def.specs.declared.Cause.{Cause}
 use Rattle.nf_net_def.specs.Report.{Report, IsWellFormed}
 use Rattle.nf_thin_def.specs.PhaseRun.{Standing, Bounds}
 use Rattle.nf_phase_laws.proofs.WellRun.{WellRun}
-use Rattle.nf_phase_laws.proofs.Run.{WellRun-goes}
+use Rattle.nf_phase_laws.proofs.RunsOn.{WellRun-step}
 use Rattle.nf_complete_def.specs.Reached.{StopsForNoThinFlow}
 use Rattle.nf_complete_laws.proofs.Stopped.{EndsForNone, horizon_ends, phases_end, failing_ends, end_stops}
-use Rattle.nf_resume_def.specs.Open.{Steps, continues, begins, RunsOn, at_horizon, at_phases, fails, steps}
+use Rattle.nf_phase_def.specs.Open.{RunsOn, at_horizon, at_phases, fails, steps}
 use Rattle.nf_resume_def.specs.Meanings.{IsResumedReport}
-use Rattle.nf_resume_laws.proofs.Stepping.{WellRun-last}
 use Rattle.nf_phase_run_laws.proofs.Restarting.{well_restarted}
 
 module _ (passes : Passing) (net : Network) (good : IsNetwork net) (bounds : Bounds) where
-  well_step : (s t : Standing) → WellRun net s → Steps passes net bounds.horizon bounds.patterns s t → WellRun net t
-  well_step s _ well (continues {t = t} c g) = WellRun-last passes net good bounds s.last t (WellRun-goes passes net good bounds s t g well)
-  well_step s t well (begins c g) = WellRun-goes passes net good bounds s t g well
-
   pub resumed_ends : (s last : Standing) (stop : Option (Cause ℚ)) → WellRun net s → RunsOn passes net bounds s last stop → EndsForNone net last stop
   resumed_ends s last stop well (at_horizon h) = horizon_ends passes net good bounds s well
   resumed_ends s last stop well (at_phases below h) = phases_end passes net good bounds s well
   resumed_ends s last stop well (fails {cause = c} may f) = failing_ends passes net good bounds s c well f
-  resumed_ends s last stop well (steps {new = t} may step rest) = resumed_ends t last stop (well_step s t well step) rest
+  resumed_ends s last stop well (steps {new = t} may step rest) = resumed_ends t last stop (WellRun-step passes net good bounds s t well step) rest
 
 pub resumed_stops_for_none : (passes : Passing) (net : Network) (bounds : Bounds) (old : Report) (phases : ℕ) (report : Report) → IsNetwork net → IsWellFormed net old
     → IsResumedReport passes net bounds old phases report → StopsForNoThinFlow net report.stop report.flow

@@ -17,13 +17,14 @@ use Rattle.nf_complete_laws.proofs.Stopped.{end_stops, stops_for_none}
 use Rattle.nf_forever_def.specs.ForeverRun.{End, Stops, NeverEnds, Forever, forever_of, IsForever}
 use Rattle.nf_forever_laws.proofs.Run.{Equilibrium-forever}
 use Rattle.nf_forever_laws.proofs.Stopped.{forever_stops_for_none}
-use Rattle.nf_resume_def.specs.Open.{RunsOn}
+use Rattle.nf_phase_def.specs.Open.{RunsOn}
 use Rattle.nf_resume_def.specs.Meanings.{IsResumedReport}
 use Rattle.nf_phase_run_laws.proofs.Stopping.{resumed_ends, resumed_stops_for_none}
 use Rattle.nf_complete_laws.proofs.Numbers.{number_at-numbers}
 use Rattle.nf_phase_run_laws.specs.Stops.{NeverNoPattern}
 use Rattle.nf_phase_run_laws.specs.ThinFlows.{HasThinFlow}
-use Rattle.nf_phase_run_laws.proofs.AtLabels.{thin_in_equilibrium, well_on, well_resumed}
+use Rattle.nf_phase_run_laws.proofs.AtLabels.{thin_in_equilibrium, well_resumed}
+use Rattle.nf_phase_laws.proofs.RunsOn.{WellRun-on}
 
 thin_reached : (net : Network) (flow : Flow) → IsNetwork net → Equilibrium net flow → HasThinFlow net flow.reached (labels_reached net flow)
 thin_reached net flow good is = thin_in_equilibrium net flow flow.reached (labels_reached net flow) good is (is.reached, ≤ℚ_refl flow.reached)
@@ -46,7 +47,7 @@ never_run passes net bounds last stop good run =
 -- ---- runs from a given run state
 pub never_on : (passes : Passing) (net : Network) (bounds : Bounds) (first last : Standing) (stop : Option (Cause ℚ)) → IsNetwork net → WellRun net first → RunsOn passes net bounds first last stop
     → NeverNoPattern stop
-never_on passes net bounds first last stop good well runs = never_of net (flow_of last) stop good (Equilibrium-well net good last (well_on passes net good bounds first last stop well runs))
+never_on passes net bounds first last stop good well runs = never_of net (flow_of last) stop good (Equilibrium-well net good last (WellRun-on passes net good bounds first last stop well runs))
     (end_stops net last stop good (resumed_ends passes net good bounds first last stop well runs))
 
 -- ---- resumed ones

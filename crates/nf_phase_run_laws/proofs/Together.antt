@@ -22,7 +22,7 @@ use Rattle.nf_phase_laws.proofs.Length.{IsPhase-some, IsPhaseLength-some}
 use Rattle.nf_phase_laws.proofs.WellRun.{WellRun}
 use Rattle.nf_phase_laws.proofs.Run.{WellRun-goes, IsPhase-goes}
 use Rattle.nf_thin_laws.proofs.OneRun.{goes_knows}
-use Rattle.nf_resume_def.specs.Open.{IsOpen}
+use Rattle.nf_phase_def.specs.Open.{IsOpen}
 use Rattle.nf_resume_laws.proofs.CutPhase.{closed-at_extension}
 use Rattle.nf_phase_run_laws.proofs.Once.{first_parts, other_length, same_end}
 

@@ -7,7 +7,7 @@ use Rattle.nf_net_def.specs.Report.{Report}
 use Rattle.nf_rational.specs.Rational.{ℚ}
 use Rattle.nf_thin_def.specs.PhaseRun.{Standing, Bounds, Goes, IsPhaseRun, IsRunReport, report_of}
 use Rattle.nf_resume_def.specs.Resuming.{restart_list}
-use Rattle.nf_resume_def.specs.Open.{IsOpen}
+use Rattle.nf_phase_def.specs.Open.{IsOpen}
 use Rattle.nf_resume_def.specs.Meanings.{IsResumedReport, NonePassesIn}
 
 -- The run state with another number of phases.

@@ -22,22 +22,19 @@ use Rattle.std.proofs.lemmas.Option.{same_Some}
 use Rattle.nf_rational_laws.proofs.Results.{same_Ok}
 
 -- ---- the steps of a list of links
+plus_none : (k : ℕ) → k ≡ k + 0
+plus_none k = omega arith
+
+one_on : (k e : ℕ) → suc k + e ≡ k + suc e
+one_on k e = omega arith
+
 pub steps-in : (k : ℕ) (links : List Link) (step : Step) (link : Link) → IsIn (step, link) (steps_from k links) → (e : ℕ) × (slice_get links e ≡ Some link) × (step.link ≡ k + e)
 steps-in k [] step link i = absurd i
 steps-in k (l ∷ links) step link (inl p) = (0, ap (λ (d : Step × Link). Some d.1) p, sym (ap (λ (d : Step × Link). d.0.link) p) ∙ plus_none k)
-  where
-    plus_none : (k : ℕ) → k ≡ k + 0
-    plus_none k = omega arith
 steps-in k (l ∷ links) step link (inr (inl p)) = (0, ap (λ (d : Step × Link). Some d.1) p, sym (ap (λ (d : Step × Link). d.0.link) p) ∙ plus_none k)
-  where
-    plus_none : (k : ℕ) → k ≡ k + 0
-    plus_none k = omega arith
 steps-in k (l ∷ links) step link (inr (inr i)) =
     let r : (e : ℕ) × (slice_get links e ≡ Some link) × (step.link ≡ suc k + e) = steps-in (suc k) links step link i in
     (suc r.0, r.1, r.2 ∙ one_on k r.0)
-  where
-    one_on : (k e : ℕ) → suc k + e ≡ k + suc e
-    one_on k e = omega arith
 
 at_number : (m n : ℕ) (d : Bool) → m ≡ n → ◌≡◌ {A = Step} (record { link = m; forward = d }) (record { link = n; forward = d })
 at_number m n d e = ap (λ (k : ℕ). record { link = k; forward = d }) e
@@ -50,9 +47,6 @@ in-steps k [] e link d p = absurd (cc)
 in-steps k (l ∷ links) zero link true p = inl (same_pair _ _ l link (at_number k (k + 0) true (omega arith)) (same_Some l link p))
 in-steps k (l ∷ links) zero link false p = inr (inl (same_pair _ _ l link (at_number k (k + 0) false (omega arith)) (same_Some l link p)))
 in-steps k (l ∷ links) (suc e) link d p = inr (inr (subst (λ (n : ℕ). IsIn (record { link = n; forward = d }, link) (steps_from (suc k) links)) (one_on k e) (in-steps (suc k) links e link d p)))
-  where
-    one_on : (k e : ℕ) → suc k + e ≡ k + suc e
-    one_on k e = omega arith
 
 -- ---- one round
 abbrev pub longer : Network → Reach → Step → Reach

@@ -20,23 +20,21 @@ use Rattle.nf_quick_def.specs.Shortest.{IsLeastLength, IsFirstWalk, HasRoomAlong
 use Rattle.nf_quick_def.specs.Pushed.{crossed, IsPushed}
 use Rattle.nf_quick_laws.specs.ResidualLaws.{EachHasLeast}
 use Rattle.nf_quick_laws.proofs.ResidualWalks.{Leads-turn}
-use Rattle.nf_quick_laws.proofs.Potentials.{Fits, Fits-walk, Fits-between, Fits-least, IsLeastLength-one}
+use Rattle.nf_quick_laws.proofs.Potentials.{ArePotentials, ArePotentials-walk, ArePotentials-between, ArePotentials-least, IsLeastLength-one}
 use Rattle.nf_quick_laws.proofs.Apart.{EachStep, AreApart, IsFine, front_least, all_fine, all_apart}
 use Rattle.nf_quick_laws.proofs.Crossings.{IsTaken, crossed-cases, crossed-balance, crossed-cost, cost_from-same, cost_from-plus, cost_from-times}
-
--- A successful test gives a fact.
 
 -- ---- numbers: y is the new flow, x the old one, c the crossings of the link
 grows : (x y c a : ℚ) → c ≡ 1ℚ → y ≡ x +ℚ c *ℚ a → y ≡ x +ℚ a
 grows x y c a e f = linear_eq (x ∷ y ∷ c ∷ a ∷ []) (eq_times a e ∷ eq f ∷ []) (search reading_of) tt tt
 
-shrinks : (x y c a : ℚ) → c ≡ 0ℚ -ℚ 1ℚ → y ≡ x +ℚ c *ℚ a → y ≡ x -ℚ a
+pub shrinks : (x y c a : ℚ) → c ≡ 0ℚ -ℚ 1ℚ → y ≡ x +ℚ c *ℚ a → y ≡ x -ℚ a
 shrinks x y c a e f = linear_eq (x ∷ y ∷ c ∷ a ∷ []) (eq_times a e ∷ eq f ∷ []) (search reading_of) tt tt
 
 more_nn : (x y a : ℚ) → 0ℚ ≤ℚ x → 0ℚ <ℚ a → y ≡ x +ℚ a → 0ℚ ≤ℚ y
 more_nn x y a h k e = linear_le (x ∷ y ∷ a ∷ []) (le h ∷ lt k ∷ eq e ∷ []) (search reading_of) tt
 
-less_nn : (x y a : ℚ) → a ≤ℚ x → y ≡ x -ℚ a → 0ℚ ≤ℚ y
+pub less_nn : (x y a : ℚ) → a ≤ℚ x → y ≡ x -ℚ a → 0ℚ ≤ℚ y
 less_nn x y a h e = linear_le (x ∷ y ∷ a ∷ []) (le h ∷ eq e ∷ []) (search reading_of) tt
 
 more_within : (x y a m : ℚ) → x +ℚ a ≤ℚ m → y ≡ x +ℚ a → y ≤ℚ m
@@ -186,8 +184,8 @@ module _ (net : Network) (flows new : List ℚ) (walk : List Step) (amount : ℚ
   abbrev At : ℕ → ℚ → Type 0
   At = IsLeastLength net flows net.source
 
-  fits : Fits net flows At
-  fits = Fits-least net flows net.source each
+  fits : ArePotentials net flows At
+  fits = ArePotentials-least net flows net.source each
 
   turned_back : (step : Step) (v w : ℕ) (d : ℚ) → At v d → Leads net new step v w → (t : IsTurned step) → (c : ℚ) × At w c × (c ≤ℚ d +ℚ step_length net step)
   turned_back step v w d a l t =
@@ -203,7 +201,7 @@ module _ (net : Network) (flows new : List ℚ) (walk : List Step) (amount : ℚ
       length_back step t = ap (λ (k : ℕ). signed step.forward (transit_of (hops net) k)) (sym t.link) ∙ turned_length step.forward t.back.forward _ (λ e. t.other (sym e))
 
   -- The least lengths before the push are still potentials.
-  pub fits_new : Fits net new At
+  pub fits_new : ArePotentials net new At
   fits_new = record {
     one = fits.one;
     step = λ step v w d a l. ⊎_elim
@@ -228,14 +226,14 @@ module _ (net : Network) (flows new : List ℚ) (walk : List Step) (amount : ℚ
   old_walk [] v w none p = p
   old_walk (step ∷ other) v w none p = ⊎_elim
       (λ (a : (least : ℚ) × At v least).
-      let r : (c : ℚ) × At w c × (c ≤ℚ a.0 +ℚ walk_length net (step ∷ other)) = Fits-walk net new At fits_new (step ∷ other) v w a.0 a.1 p in
+      let r : (c : ℚ) × At w c × (c ≤ℚ a.0 +ℚ walk_length net (step ∷ other)) = ArePotentials-walk net new At fits_new (step ∷ other) v w a.0 a.1 p in
       absurd (none r.1.taken.0 r.1.taken.1))
       (λ (n : Unreached v). (p.0, old_step step v p.0 n p.1, old_walk other p.0 w none p.2))
       (each v)
 
   closed : (other : List Step) (v : ℕ) → IsResidualWalk net new other v v → 0ℚ ≤ℚ walk_length net other
   closed other v p = ⊎_elim
-      (λ (a : (least : ℚ) × At v least). closed_nn a.0 _ (Fits-between net new At fits_new other v v a.0 a.0 a.1 a.1 p))
+      (λ (a : (least : ℚ) × At v least). closed_nn a.0 _ (ArePotentials-between net new At fits_new other v v a.0 a.0 a.1 a.1 p))
       (λ (none : Unreached v). sound.closed other v (old_walk other v v none p))
       (each v)
 
@@ -309,7 +307,7 @@ module _ (net : Network) (flows new : List ℚ) (walk : List Step) (amount : ℚ
   back_zero a b h = linear_le (a ∷ b ∷ []) (le h ∷ []) (search reading_of) tt
 
   pub later-pushed : (other : List Step) → IsResidualWalk net new other net.source net.sink → walk_length net walk ≤ℚ walk_length net other
-  later-pushed other p = from_zero _ _ (Fits-between net new At fits_new other net.source net.sink 0ℚ (walk_length net walk) at_source at_sink p)
+  later-pushed other p = from_zero _ _ (ArePotentials-between net new At fits_new other net.source net.sink 0ℚ (walk_length net walk) at_source at_sink p)
 
   pub back-pushed : (other : List Step) → IsResidualWalk net new other net.sink net.source → 0ℚ -ℚ walk_length net walk ≤ℚ walk_length net other
-  back-pushed other p = back_zero _ _ (Fits-between net new At fits_new other net.sink net.source (walk_length net walk) 0ℚ at_sink at_source p)
+  back-pushed other p = back_zero _ _ (ArePotentials-between net new At fits_new other net.sink net.source (walk_length net walk) 0ℚ at_sink at_source p)

@@ -14,7 +14,6 @@ use Rattle.nf_quick_def.specs.Rounds.{Known, known_at, better_of, offered, op_of
 use Rattle.nf_quick_laws.proofs.Orders.{IsAtMost-refl, IsAtMost-trans, is_better-true, is_better-false}
 use Rattle.std.proofs.lemmas.Option.{same_Some, none-some}
 use Rattle.nf_rational_laws.proofs.Results.{same_Ok}
-pub use Rattle.nf_frac_def.proofs.Exact.{checked-is as checked-ok}
 
 -- ---- a checked operation that doesn't pass has its exact value
 

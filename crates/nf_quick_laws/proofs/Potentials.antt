@@ -14,7 +14,7 @@ use Rattle.nf_quick_laws.proofs.ResidualWalks.{IsResidualWalk-append, IsResidual
 
 -- `At v d`: the potential at v is d. From a node that has one, each residual step leads to a node that has one, which is greater by
 -- at most the length of the step.
-pub record Fits (net : Network) (flows : List ℚ) (At : ℕ → ℚ → Type 0) : Type 0 where
+pub record ArePotentials (net : Network) (flows : List ℚ) (At : ℕ → ℚ → Type 0) : Type 0 where
   pub one : (v : ℕ) (c d : ℚ) → At v c → At v d → c ≡ d
   pub step : (step : Step) (v w : ℕ) (d : ℚ) → At v d → Leads net flows step v w → (c : ℚ) × At w c × (c ≤ℚ d +ℚ step_length net step)
 
@@ -24,19 +24,19 @@ no_step d = linear_le (d ∷ []) [] (search reading_of) tt
 one_step : (b c d l m : ℚ) → c ≤ℚ d +ℚ l → b ≤ℚ c +ℚ m → b ≤ℚ d +ℚ (l +ℚ m)
 one_step b c d l m h k = linear_le (b ∷ c ∷ d ∷ l ∷ m ∷ []) (le h ∷ le k ∷ []) (search reading_of) tt
 
-pub Fits-walk : (net : Network) (flows : List ℚ) (At : ℕ → ℚ → Type 0) → Fits net flows At → (walk : List Step) (v w : ℕ) (d : ℚ) → At v d → IsResidualWalk net flows walk v w
+pub ArePotentials-walk : (net : Network) (flows : List ℚ) (At : ℕ → ℚ → Type 0) → ArePotentials net flows At → (walk : List Step) (v w : ℕ) (d : ℚ) → At v d → IsResidualWalk net flows walk v w
     → (c : ℚ) × At w c × (c ≤ℚ d +ℚ walk_length net walk)
-Fits-walk net flows At fits [] v w d a p = (d, subst (λ (k : ℕ). At k d) p a, no_step d)
-Fits-walk net flows At fits (step ∷ walk) v w d a p =
+ArePotentials-walk net flows At fits [] v w d a p = (d, subst (λ (k : ℕ). At k d) p a, no_step d)
+ArePotentials-walk net flows At fits (step ∷ walk) v w d a p =
     let s : (c : ℚ) × At p.0 c × (c ≤ℚ d +ℚ step_length net step) = fits.step step v p.0 d a p.1 in
-    let r : (b : ℚ) × At w b × (b ≤ℚ s.0 +ℚ walk_length net walk) = Fits-walk net flows At fits walk p.0 w s.0 s.1 p.2 in
+    let r : (b : ℚ) × At w b × (b ≤ℚ s.0 +ℚ walk_length net walk) = ArePotentials-walk net flows At fits walk p.0 w s.0 s.1 p.2 in
     (r.0, r.1, one_step r.0 s.0 d (step_length net step) (walk_length net walk) s.2 r.2)
 
 -- so a walk between two nodes with potentials is at least as long as their difference
-pub Fits-between : (net : Network) (flows : List ℚ) (At : ℕ → ℚ → Type 0) → Fits net flows At → (walk : List Step) (v w : ℕ) (d c : ℚ) → At v d → At w c → IsResidualWalk net flows walk v w
+pub ArePotentials-between : (net : Network) (flows : List ℚ) (At : ℕ → ℚ → Type 0) → ArePotentials net flows At → (walk : List Step) (v w : ℕ) (d c : ℚ) → At v d → At w c → IsResidualWalk net flows walk v w
     → c ≤ℚ d +ℚ walk_length net walk
-Fits-between net flows At fits walk v w d c a b p =
-    let r : (c : ℚ) × At w c × (c ≤ℚ d +ℚ walk_length net walk) = Fits-walk net flows At fits walk v w d a p in
+ArePotentials-between net flows At fits walk v w d c a b p =
+    let r : (c : ℚ) × At w c × (c ≤ℚ d +ℚ walk_length net walk) = ArePotentials-walk net flows At fits walk v w d a p in
     subst (λ (x : ℚ). x ≤ℚ d +ℚ walk_length net walk) (fits.one w r.0 c r.1 b) r.2
 
 -- ---- least lengths
@@ -58,8 +58,8 @@ module _ (net : Network) (flows : List ℚ) (from : ℕ) where
       (q.bound (p.taken.0 ++ step ∷ []) (IsResidualWalk-append net flows p.taken.0 (step ∷ []) from v w p.taken.1 (IsResidualWalk-one net flows step v w l)))
       (walk_length-append net p.taken.0 (step ∷ []) ∙ same_left _ _ _ p.taken.2)
 
-  pub Fits-least : EachHasLeast net flows from → Fits net flows (IsLeastLength net flows from)
-  Fits-least each = record {
+  pub ArePotentials-least : EachHasLeast net flows from → ArePotentials net flows (IsLeastLength net flows from)
+  ArePotentials-least each = record {
     one = λ v c d p q. IsLeastLength-one net flows from v c d p q;
     step = λ step v w d p l. ⊎_elim
         (λ (a : (least : ℚ) × IsLeastLength net flows from w least). (a.0, a.1, step_more step v w d a.0 p l a.1))

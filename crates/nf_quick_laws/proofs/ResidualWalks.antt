@@ -24,13 +24,13 @@ length-append [] ys = omega arith
 length-append (x ∷ xs) ys = let e : length (xs ++ ys) ≡ length xs + length ys = length-append xs ys in omega arith
 
 -- ---- a step has one begin node and one end node
+one_link : (net : Network) (d e : ℕ) (k l : Link) → IsLink net d k → IsLink net e l → d ≡ e → k ≡ l
+one_link net d e k l p q r = cc
+
 pub Leads-begin : (net : Network) (flows others : List ℚ) (a b : Step) (v w x y : ℕ) → Leads net flows a v w → Leads net others b x y → a.link ≡ b.link → a.forward ≡ b.forward → v ≡ x
 Leads-begin net flows others a b v w x y p q e f =
     let same : p.link ≡ q.link = one_link net a.link b.link p.link q.link p.is_link q.is_link e in
     sym p.begins ∙ ap (λ (d : Bool). begin_of d p.link) f ∙ ap (λ (l : Link). begin_of b.forward l) same ∙ q.begins
-  where
-    one_link : (net : Network) (d e : ℕ) (k l : Link) → IsLink net d k → IsLink net e l → d ≡ e → k ≡ l
-    one_link net d e k l p q r = cc
 
 -- The backward step along a link ends where the forward step begins.
 pub Leads-turn : (net : Network) (flows others : List ℚ) (a b : Step) (v w x y : ℕ) → Leads net flows a v w → Leads net others b x y → a.link ≡ b.link → (a.forward ≡ b.forward → ⊥)
@@ -39,9 +39,6 @@ Leads-turn net flows others a b v w x y p q e f =
     let same : p.link ≡ q.link = one_link net a.link b.link p.link q.link p.is_link q.is_link e in
     turned a.forward b.forward p.link q.link same f p.begins p.ends q.begins q.ends
   where
-    one_link : (net : Network) (d e : ℕ) (k l : Link) → IsLink net d k → IsLink net e l → d ≡ e → k ≡ l
-    one_link net d e k l p q r = cc
-
     turned : (c d : Bool) (k l : Link) → k ≡ l → (c ≡ d → ⊥) → begin_of c k ≡ v → end_of c k ≡ w → begin_of d l ≡ x → end_of d l ≡ y → (v ≡ y) × (w ≡ x)
     turned true true k l s f g h i j = absurd (f refl)
     turned true false k l s f g h i j = (sym g ∙ ap (λ (m : Link). m.tail) s ∙ j, sym h ∙ ap (λ (m : Link). m.head) s ∙ i)

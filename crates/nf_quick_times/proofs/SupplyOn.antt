@@ -1,11 +1,12 @@
 -- The supply by the next start equals the supply by this start plus the amount of the piece between.
-use Rattle.std.proofs.Common.{◌≡◌, ℕ, zero, suc, Bool, true, false, if◌then◌else◌, List, [], ◌∷◌, ⊎_elim, Some, slice_get, refl, sym, ap, subst, ◌∙◌}
+use Rattle.std.proofs.Common.{◌≡◌, ℕ, zero, suc, Bool, if◌then◌else◌, List, [], ◌∷◌, Some, slice_get, refl, sym, ap, subst, ◌∙◌}
 use Rattle.std.specs.Prelude.{Ok, Err}
+use Rattle.std.proofs.lemmas.Option.{same_Some}
 use Rattle.nf_rational.specs.Rational.{ℚ}
 use Rattle.nf_rational.specs.Operations.{0ℚ}
-use Rattle.nf_rational.specs.Order.{◌≤ℚ◌, ◌<ℚ◌, lt_ℚ}
-use Rattle.nf_rational_laws.proofs.Tests.{lt_ℚ_cases, test_of_less}
-use Rattle.nf_rational_laws.proofs.Order.{≤ℚ_of_lt, not_both_ℚ}
+use Rattle.nf_rational.specs.Order.{◌≤ℚ◌, ◌<ℚ◌}
+use Rattle.nf_rational_laws.proofs.Tests.{test_of_less, test_of_not_less}
+use Rattle.nf_rational_laws.proofs.Order.{≤ℚ_of_lt}
 use Rattle.nf_rational_laws.proofs.Polynomial.{reading_of}
 use Rattle.nf_rational_laws.proofs.Linear.{le, lt, linear_lt}
 use Rattle.nf_rational_laws.proofs.Chains.{≤ℚ_refl, ≤ℚ_trans}
@@ -17,18 +18,12 @@ use Rattle.nf_model_laws.proofs.Supply.{StartsRise}
 use Rattle.nf_net.specs.Supply.{end_before, with_piece, supplied_after}
 use Rattle.nf_residual.proofs.LegByLeg.{bind_more, bind_same}
 
-not_less : (x y : ℚ) → y ≤ℚ x → lt_ℚ x y ≡ false
-not_less x y h = ⊎_elim (λ (w : (lt_ℚ x y ≡ true) × (x <ℚ y)). absurd (not_both_ℚ x y w.1 h)) (λ (w : (lt_ℚ x y ≡ false) × (y ≤ℚ x)). w.0) (lt_ℚ_cases x y)
-
 bind_end : {A : Type 0} (r : Checked A) → (r >>= λ x. Ok x) ≡ r
 bind_end (Ok x) = refl
 bind_end (Err p) = refl
 
 at_or_after : (q : Piece) (later : List Piece) (k : ℕ) (piece : Piece) → StartsRise (q ∷ later) → slice_get (q ∷ later) k ≡ Some piece → q.start ≤ℚ piece.start
-at_or_after q later zero piece s e = subst (λ (p : Piece). q.start ≤ℚ p.start) (same q piece e) (≤ℚ_refl q.start)
-  where
-    same : (x y : Piece) → Some x ≡ Some y → x ≡ y
-    same x y e = cc
+at_or_after q later zero piece s e = subst (λ (p : Piece). q.start ≤ℚ p.start) (same_Some q piece e) (≤ℚ_refl q.start)
 at_or_after q [] (suc k) piece s e = absurd (cc)
 at_or_after q (r ∷ later) (suc k) piece s e = ≤ℚ_trans _ _ _ (≤ℚ_of_lt _ _ s.0) (at_or_after r later k piece s.1 e)
 
@@ -40,9 +35,9 @@ module _ (passes : Passing) where
 
   -- Pieces that start at the time or later supply nothing by then.
   none_yet : (p : Piece) (later : List Piece) (time so_far : ℚ) → StartsRise (p ∷ later) → time ≤ℚ p.start → supplied_after passes so_far (p ∷ later) time ≡ Ok so_far
-  none_yet p [] time so_far s h = ap (λ (b : Bool). from_piece b so_far p [] time) (not_less p.start time h)
+  none_yet p [] time so_far s h = ap (λ (b : Bool). from_piece b so_far p [] time) (test_of_not_less p.start time h)
   none_yet p (q ∷ later) time so_far s h =
-      ap (λ (b : Bool). from_piece b so_far p (q ∷ later) time) (not_less p.start time h) ∙ none_yet q later time so_far s.1 (≤ℚ_trans _ _ _ h (≤ℚ_of_lt _ _ s.0))
+      ap (λ (b : Bool). from_piece b so_far p (q ∷ later) time) (test_of_not_less p.start time h) ∙ none_yet q later time so_far s.1 (≤ℚ_trans _ _ _ h (≤ℚ_of_lt _ _ s.0))
 
   -- The whole amount of a piece that ends before the time.
   whole_piece : (p q : Piece) (later : List Piece) (time so_far : ℚ) → p.start <ℚ time → q.start ≤ℚ time
@@ -56,12 +51,9 @@ module _ (passes : Passing) where
   supply_goes_on [] k piece next so_far s e f = absurd (cc)
   supply_goes_on (p ∷ []) k piece next so_far s e f = absurd (cc)
   supply_goes_on (p ∷ q ∷ later) zero piece next so_far s e f =
-      subst (λ (n : Piece). supplied_after passes so_far (p ∷ q ∷ later) n.start ≡ (supplied_after passes so_far (p ∷ q ∷ later) piece.start >>= λ known. with_piece passes known piece n.start)) (same q next f)
-      (subst (λ (a : Piece). supplied_after passes so_far (p ∷ q ∷ later) q.start ≡ (supplied_after passes so_far (p ∷ q ∷ later) a.start >>= λ known. with_piece passes known a q.start)) (same p piece e) first)
+      subst (λ (n : Piece). supplied_after passes so_far (p ∷ q ∷ later) n.start ≡ (supplied_after passes so_far (p ∷ q ∷ later) piece.start >>= λ known. with_piece passes known piece n.start)) (same_Some q next f)
+      (subst (λ (a : Piece). supplied_after passes so_far (p ∷ q ∷ later) q.start ≡ (supplied_after passes so_far (p ∷ q ∷ later) a.start >>= λ known. with_piece passes known a q.start)) (same_Some p piece e) first)
     where
-      same : (x y : Piece) → Some x ≡ Some y → x ≡ y
-      same x y e = cc
-
       first : supplied_after passes so_far (p ∷ q ∷ later) q.start ≡ (supplied_after passes so_far (p ∷ q ∷ later) p.start >>= λ known. with_piece passes known p q.start)
       first =
           whole_piece p q later q.start so_far s.0 (≤ℚ_refl q.start)
@@ -81,7 +73,4 @@ module _ (passes : Passing) where
 
   pub first_supply : (pieces : List Piece) (piece : Piece) → StartsRise pieces → slice_get pieces 0 ≡ Some piece → supplied_after passes 0ℚ pieces piece.start ≡ Ok 0ℚ
   first_supply [] piece s e = absurd (cc)
-  first_supply (p ∷ later) piece s e = subst (λ (q : Piece). supplied_after passes 0ℚ (p ∷ later) q.start ≡ Ok 0ℚ) (same p piece e) (none_yet p later p.start 0ℚ s (≤ℚ_refl p.start))
-    where
-      same : (x y : Piece) → Some x ≡ Some y → x ≡ y
-      same x y e = cc
+  first_supply (p ∷ later) piece s e = subst (λ (q : Piece). supplied_after passes 0ℚ (p ∷ later) q.start ≡ Ok 0ℚ) (same_Some p piece e) (none_yet p later p.start 0ℚ s (≤ℚ_refl p.start))

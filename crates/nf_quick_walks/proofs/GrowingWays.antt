@@ -1,9 +1,10 @@
 -- Growing tables of walks of unbounded links.
-use Rattle.std.proofs.Common.{◌≡◌, ℕ, zero, suc, ◌<◌, List, [], ◌∷◌, ◌++◌, length, set, replicate, Bool, true, false, not, ◌&&◌, ◌⊎◌, inl, inr, ⊎_elim, eqb, ◌≢◌, Option, Some, None, refl, sym, ap, subst, ◌∙◌, arith}
+use Rattle.std.proofs.Common.{◌≡◌, ℕ, zero, suc, ◌<◌, List, [], ◌∷◌, ◌++◌, length, set, replicate, true, false, not, ◌&&◌, ◌⊎◌, inl, inr, ⊎_elim, eqb, ◌≢◌, Option, Some, None, refl, sym, ap, subst, ◌∙◌, arith}
 use Rattle.std.specs.Prelude.{is_none, is_some}
 use Rattle.std.proofs.lemmas.List.{length-set, length-replicate}
 use Rattle.std.proofs.lemmas.Bool.Decides.{eqb_tells}
 use Rattle.nf_rational.specs.Rational.{ℚ}
+use Rattle.nf_rational_laws.proofs.Results.{not_both}
 use Rattle.nf_model.specs.Network.{Link, Network, IsLink, IsNetwork}
 use Rattle.nf_quick_def.specs.Steps.{IsUnboundedWalk}
 use Rattle.nf_quick_walks.specs.Ways.{Ways, way_at, leads_on, LeadsOn, NoneLeadsOn, AreWays, AreAllWays}
@@ -66,9 +67,6 @@ is_leading ways link e = parts link.capacity (way_at ways link.tail) (way_at way
 leads : (ways : Ways) (link : Link) (way : List ℕ) → link.capacity ≡ None → way_at ways link.tail ≡ Some way → way_at ways link.head ≡ None → leads_on ways link ≡ true
 leads ways link way p q r = ap (λ (c : Option ℚ). is_none c && (is_some (way_at ways link.tail) && not (is_some (way_at ways link.head)))) p
     ∙ ap (λ (t : Option (List ℕ)). is_some t && not (is_some (way_at ways link.head))) q ∙ ap (λ (h : Option (List ℕ)). not (is_some h)) r
-
-clash : (b : Bool) → b ≡ true → b ≡ false → ⊥
-clash b e f = cc
 
 -- ---- a walk extended by an unbounded link
 link_more : (net : Network) (walk : List ℕ) (v e : ℕ) (link : Link) → IsUnboundedWalk net walk v link.tail → IsLink net e link → link.capacity ≡ None → IsUnboundedWalk net (walk ++ e ∷ []) v link.head
@@ -133,7 +131,7 @@ module _ (net : Network) (good : IsNetwork net) where
   module _ (ways : Ways) (none : NoneLeadsOn net ways) where
     next : (link : Link) (e v : ℕ) (way : List ℕ) → way_at ways v ≡ Some way → IsLink net e link → link.capacity ≡ None → link.tail ≡ v → (other : List ℕ) × (way_at ways link.head ≡ Some other)
     next link e v way known is free begins = ⊎_elim
-        (λ (h : way_at ways link.head ≡ None). absurd (clash (leads_on ways link) (leads ways link way free (ap (λ (u : ℕ). way_at ways u) begins ∙ known) h) (none e link is)))
+        (λ (h : way_at ways link.head ≡ None). absurd (not_both (leads_on ways link) (leads ways link way free (ap (λ (u : ℕ). way_at ways u) begins ∙ known) h) (none e link is)))
         (λ (h : (other : List ℕ) × (way_at ways link.head ≡ Some other)). h)
         (known_or (way_at ways link.head))
 

@@ -15,13 +15,13 @@ use Rattle.nf_quick_def.specs.Rounds.{Walk, shortest_list}
 use Rattle.nf_quick_def.specs.Answers.{IsShortestWalk, IsShortest}
 use Rattle.nf_quick_def.specs.Pushes.{Times, push_list, time_list}
 use Rattle.nf_quick_def.specs.Quick.{Augment, QuickStanding, is_early, push_on, next_of, next_list}
-use Rattle.nf_quick_laws.proofs.Offers.{checked-ok}
+use Rattle.nf_frac_def.proofs.Exact.{checked-is}
 use Rattle.nf_residual.proofs.Stopping.{ok_of_part, stopped, goes_on}
 
 -- the sum of a rate of at least 0 and one above 0
 pub some_sum : (passes : Passing) (so_far rate all : ℚ) → 0ℚ ≤ℚ so_far → 0ℚ <ℚ rate → Ok all ≡ checked_at passes Part.Quick Sum so_far rate → 0ℚ <ℚ all
 some_sum passes so_far rate all h k e =
-    subst (λ (x : ℚ). 0ℚ <ℚ x) (sym (checked-ok passes Sum so_far rate all (ok_of_part (checked passes Sum so_far rate) all (sym e)))) (nn_plus_ps so_far rate h k)
+    subst (λ (x : ℚ). 0ℚ <ℚ x) (sym (checked-is passes Sum so_far rate all (ok_of_part (checked passes Sum so_far rate) all (sym e)))) (nn_plus_ps so_far rate h k)
 
 -- ---- the next walk, from the shortest one
 module _ (passes : Passing) (net : Network) (amount : ℚ) (s : QuickStanding) (flows : List ℚ) (flows_are : flows ≡ s.flows) (found next : Option Walk) (is : next ≡ next_of passes net amount s found) where

@@ -13,15 +13,13 @@ use Rattle.nf_frac_def.specs.declared.Part.TheVariants as Part
 use Rattle.nf_frac_def.specs.Checked.{checked, fold_checked, at_part}
 use Rattle.nf_frac_def.proofs.Binding.{bind_ok}
 use Rattle.nf_rational_laws.proofs.Results.{same_Ok}
+use Rattle.nf_rational_laws.proofs.Results.{not_both}
 use Rattle.nf_model.specs.Entries.{number_at}
 use Rattle.nf_model.specs.Network.{Link}
 use Rattle.nf_quick_def.specs.Walks.{first_out, take_link, take_list}
 use Rattle.nf_residual.proofs.Stopping.{ok_of_part}
 use Rattle.nf_quick_walks.specs.Spent.{is_out, IsSpent, AreSpent, HaveFlow}
 use Rattle.nf_quick_walks.proofs.WalkByWalk.{LooksOn, looks_first, looks_more}
-
-clash : (b : Bool) → b ≡ true → b ≡ false → ⊥
-clash b e f = cc
 
 same_number : (m n : ℕ) → Some m ≡ Some n → m ≡ n
 same_number m n e = cc
@@ -122,7 +120,7 @@ module _ (passes : Passing) (rate : ℚ) (flows : List ℚ) (k : ℕ) (spent : l
       let left = bind_ok (checked passes Difference (number_at so_far i) rate) (λ left. Ok (set so_far i left)) first.0 first.1 in
       taken_elsewhere way first.0 new h.1 first.2
       ∙ ap (λ (l : List ℚ). number_at l k) (sym (same_Ok (set so_far i left.0) first.0 left.2))
-      ∙ number_elsewhere so_far i k left.0 (λ same. clash (lt_ℚ 0ℚ (number_at flows k)) (ap (λ (j : ℕ). lt_ℚ 0ℚ (number_at flows j)) same ∙ h.0) spent)
+      ∙ number_elsewhere so_far i k left.0 (λ same. not_both (lt_ℚ 0ℚ (number_at flows k)) (ap (λ (j : ℕ). lt_ℚ 0ℚ (number_at flows j)) same ∙ h.0) spent)
 
 pub spent_still : (passes : Passing) (rate : ℚ) (links : List Link) (flows new : List ℚ) (way spent : List ℕ) → HaveFlow flows way → Ok new ≡ at_part Part.Quick (take_list passes rate way flows) → AreSpent links flows spent → AreSpent links new spent
 spent_still passes rate links flows new way spent h e all v n at k link l is = by_flow (lt_ℚ 0ℚ (number_at flows k)) refl
@@ -131,8 +129,8 @@ spent_still passes rate links flows new way spent h e all v n at k link l is = b
     was = all v n at k link l is
 
     no_tail : (a b : Bool) → (a && b) ≡ false → b ≡ true → (c : Bool) → (a && c) ≡ false
-    no_tail true true e f c = absurd (clash true refl e)
-    no_tail true false e f c = absurd (clash false f refl)
+    no_tail true true e f c = absurd (not_both true refl e)
+    no_tail true false e f c = absurd (not_both false f refl)
     no_tail false b e f c = refl
 
     by_flow : (t : Bool) → lt_ℚ 0ℚ (number_at flows k) ≡ t → is_out link v (number_at new k) ≡ false

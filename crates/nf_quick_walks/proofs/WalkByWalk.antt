@@ -7,6 +7,7 @@ use Rattle.std.proofs.lemmas.Option.{slice_get_within, get_or_from_slice_get, un
 use Rattle.std.proofs.lemmas.Bool.Decides.{eqb_tells}
 use Rattle.nf_rational.specs.Rational.{ℚ}
 use Rattle.nf_rational.specs.Operations.{0ℚ}
+use Rattle.nf_rational_laws.proofs.Results.{not_both}
 use Rattle.nf_frac_def.specs.Passing.{Passing}
 use Rattle.nf_frac_def.specs.declared.Part.TheVariants as Part
 use Rattle.nf_frac_def.specs.declared.PassedAt.{PassedAt}
@@ -159,11 +160,8 @@ pub none_there : (way : List ℕ) → (length way == 0) ≡ true → way ≡ []
 none_there [] e = refl
 none_there (x ∷ way) e = ⊎_elim
     (λ (w : (eqb (length (x ∷ way)) 0 ≡ true) × (length (x ∷ way) ≡ 0)). let h : length (x ∷ way) ≡ 0 = w.1 in absurd (omega arith))
-    (λ (w : (eqb (length (x ∷ way)) 0 ≡ false) × (length (x ∷ way) ≢ 0)). absurd (clash (length (x ∷ way) == 0) e w.0))
+    (λ (w : (eqb (length (x ∷ way)) 0 ≡ false) × (length (x ∷ way) ≢ 0)). absurd (not_both (length (x ∷ way) == 0) e w.0))
     (eqb_tells (length (x ∷ way)) 0)
-  where
-    clash : (b : Bool) → b ≡ true → b ≡ false → ⊥
-    clash b e f = cc
 
 pub some_there : (way : List ℕ) → (length way == 0) ≡ false → way ≡ [] → ⊥
 some_there [] e f = absurd (cc)

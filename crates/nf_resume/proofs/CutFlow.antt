@@ -13,9 +13,10 @@ use Rattle.nf_model.specs.Curve.{Point}
 use Rattle.nf_model.specs.Network.{Network, IsNetwork}
 use Rattle.nf_model.specs.Equilibrium.{Trace, Flow, points_at, Equilibrium}
 use Rattle.nf_curve.proofs.Exits.{was_ok, after_ok, after_err, stops_on}
-use Rattle.nf_resume_def.specs.Restoring.{value_at_end}
+use Rattle.nf_phase_def.specs.Restoring.{value_at_end}
 use Rattle.nf_resume_def.specs.Resuming.{OfLink, CutLink, links_with, cut_short, cut_link, cut_flow_of, cut_flow}
-use Rattle.nf_resume_laws.proofs.CutFlow.{each_length, end-nn}
+use Rattle.nf_resume_laws.proofs.CutFlow.{end-nn}
+use Rattle.nf_frac_def.proofs.Each.{each_length}
 use Rattle.nf_resume.specs.Cuts.{AreLists}
 
 -- A failure of the labels is a failure of the whole.

@@ -13,9 +13,11 @@ use Rattle.nf_model.specs.Equilibrium.{points_at}
 use Rattle.nf_curve.specs.Points.{Grown}
 use Rattle.nf_curve.specs.Flows.{trace_of}
 use Rattle.nf_curve.specs.declared.flow.Trace.{Trace}
-use Rattle.nf_resume_def.specs.Restoring.{value_at_end}
+use Rattle.nf_phase_def.specs.Restoring.{value_at_end}
 use Rattle.nf_resume_def.specs.Resuming.{OfLink, links_with, cut_link}
-use Rattle.nf_resume_laws.proofs.CutFlow.{entry_of, points_at-is, of_link, links_with-at}
+use Rattle.nf_rational_laws.proofs.Entries.{slice_get-image}
+use Rattle.nf_phase_laws.proofs.WellRun.{points_is}
+use Rattle.nf_resume_laws.proofs.CutFlow.{of_link, links_with-at}
 use Rattle.nf_resume.specs.Cuts.{curves_of, cut_ends}
 
 last_is : (points : List Point) (k : ℕ) (p : Point) → slice_get points k ≡ Some p → k + 1 ≡ length points → last_or None points ≡ Some p
@@ -31,10 +33,10 @@ end_is points k p e n = sym (ap (λ (o : Option Point). option_map_or (λ (p : P
 
 -- an entry of a list of curves
 pub curve_there : (curves : List Grown) (i : ℕ) (curve : Grown) → i < length curves → curve ≡ get_or curves i curve → slice_get (curves_of curves) i ≡ Some curve.points
-curve_there curves i curve h is = entry_of (λ (c : Grown). c.points) curves i curve (slice_get_read curves _ i curve refl h is)
+curve_there curves i curve h is = slice_get-image (λ (c : Grown). c.points) curves i curve (slice_get_read curves _ i curve refl h is)
 
 pub curve_at_is : (curves : List Grown) (i : ℕ) (curve : Grown) → i < length curves → curve ≡ get_or curves i curve → points_at (curves_of curves) i ≡ curve.points
-curve_at_is curves i curve h is = points_at-is (curves_of curves) i curve.points (curve_there curves i curve h is)
+curve_at_is curves i curve h is = points_is (curves_of curves) i curve.points (curve_there curves i curve h is)
 
 -- a link with its curves
 pub link_there : (links : List Link) (inflows outflows : List Trace) (queues : List Grown) (e : ℕ) (link : Link) (inflow outflow : Trace) (queue : Grown) → slice_get links e ≡ Some link
@@ -42,7 +44,7 @@ pub link_there : (links : List Link) (inflows outflows : List Trace) (queues : L
     → slice_get (links_with links (map trace_of inflows) (map trace_of outflows) (curves_of queues)) e ≡ Some (of_link link (trace_of inflow) (trace_of outflow) queue.points)
 link_there links inflows outflows queues e link inflow outflow queue at hi i ho o hq q =
     links_with-at links (map trace_of inflows) (map trace_of outflows) (curves_of queues) e link (trace_of inflow) (trace_of outflow) queue.points at
-    (entry_of trace_of inflows e inflow (slice_get_read inflows _ e inflow refl hi i)) (entry_of trace_of outflows e outflow (slice_get_read outflows _ e outflow refl ho o))
+    (slice_get-image trace_of inflows e inflow (slice_get_read inflows _ e inflow refl hi i)) (slice_get-image trace_of outflows e outflow (slice_get_read outflows _ e outflow refl ho o))
     (curve_there queues e queue hq q)
 
 -- The same with its curves cut at the labels of its ends.

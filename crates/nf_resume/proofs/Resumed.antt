@@ -20,7 +20,7 @@ use Rattle.nf_check_def.specs.Rules.{Checks}
 use Rattle.nf_check_def.specs.CheckList.{check_list}
 use Rattle.nf_check.specs.Answers.{IsExact}
 use Rattle.nf_curve.proofs.Exits.{after_ok, after_err, stops_on}
-use Rattle.nf_resume_def.specs.Restoring.{restore_list}
+use Rattle.nf_phase_def.specs.Restoring.{restore_list}
 use Rattle.nf_resume_def.specs.Resuming.{Stands, cut_flow, restart_list, after_check, resume_list}
 use Rattle.nf_resume_def.specs.Meanings.{GoesOnFrom, IsResumedReport}
 use Rattle.nf_resume_laws.proofs.Stepping.{resumed-goes_on}

@@ -8,7 +8,7 @@ ghost use Rattle.nf_frac_def.specs.Checked.{at_part, Gives};
 ghost use Rattle.nf_model.specs.Equilibrium.{points_at};
 ghost use Rattle.nf_curve_def.specs.Short.{checked_slopes};
 ghost use Rattle.nf_curve.specs.Flows.{trace_of};
-ghost use Rattle.nf_resume_def.specs.Restoring.{value_at_end};
+ghost use Rattle.nf_phase_def.specs.Restoring.{value_at_end};
 ghost use Rattle.nf_resume_def.specs.Resuming.{cut_short as cut_short_by, cut_trace as cut_trace_by};
 ghost use Rattle.nf_resume.specs.Cuts.{curves_of};
 

@@ -6,9 +6,9 @@ ghost use Rattle.nf_frac_def.specs.declared.Part.TheVariants.{Curve as OfCurve};
 ghost use Rattle.nf_frac_def.specs.Passing.{passes_Q};
 ghost use Rattle.nf_frac_def.specs.Checked.{at_part, each, Gives};
 ghost use Rattle.nf_model.specs.Equilibrium.{points_at};
-ghost use Rattle.nf_resume_def.specs.Restoring.{value_at_end};
+ghost use Rattle.nf_phase_def.specs.Restoring.{value_at_end};
 ghost use Rattle.nf_resume_def.specs.Resuming.{links_with, cut_link as cut_link_by};
-ghost use Rattle.nf_curve.specs.Flows.{trace_of, flow_of};
+ghost use Rattle.nf_curve.specs.Flows.{flow_of};
 ghost use Rattle.nf_resume.specs.Cuts.{curves_of, cut_in, cut_ends};
 
 use crate::curves::{cut_short, cut_trace, last_label};

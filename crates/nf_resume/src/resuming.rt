@@ -13,7 +13,7 @@ ghost use Rattle.nf_resume_def.specs.Resuming.{restart_list};
 ghost use Rattle.nf_resume_def.specs.Meanings.{GoesOnFrom, IsResumedReport};
 ghost use Rattle.nf_curve.specs.Flows.{flow_of};
 ghost use Rattle.nf_report_read.specs.Files.{report_of};
-ghost use Rattle.nf_phase.specs.Restarting.{EndsAtItsLabels};
+ghost use Rattle.nf_phase_def.specs.Restoring.{EndsAtItsLabels};
 ghost use Rattle.nf_phase.specs.Stepping.{Reaches};
 ghost use Rattle.nf_phase.specs.Solution.{bounds_of, report_in};
 ghost use Rattle.nf_resume.specs.Faults.{IsCause, IsResumeFault};

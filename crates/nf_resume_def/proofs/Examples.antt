@@ -8,12 +8,10 @@ use Rattle.nf_rational.specs.Operations.{whole, neg_ℚ, inv_ℚ, ◌+ℚ◌, �
 use Rattle.nf_rational.specs.Order.{le_ℚ, lt_ℚ, min_ℚ, max_ℚ}
 use Rattle.nf_frac_def.specs.Passing.{beyond}
 use Rattle.nf_frac_def.specs.Checked.{checked, ◌>>=◌}
-use Rattle.nf_frac_def.specs.declared.Passed.{Passed}
 use Rattle.nf_frac_def.specs.declared.PassedAt.{PassedAt}
 use Rattle.nf_model.specs.declared.State.TheVariants.{Full}
 use Rattle.nf_model.specs.Curve.{Point}
 use Rattle.nf_model.specs.Equilibrium.{Trace, Flow}
-use Rattle.nf_model.specs.Pattern.{Pattern}
 use Rattle.nf_thin_def.specs.ReportCurves.{GrowingCurve, LinkCurves}
 use Rattle.nf_thin_def.specs.PhaseRun.{Standing}
 use Rattle.nf_net_def.specs.Report.{Report}
@@ -33,8 +31,8 @@ use Rattle.nf_load_def.specs.Loading.{grown, drained, exit_after, checked_loadin
 use Rattle.nf_check_def.specs.Curves.{least_exits, total_in, total_out}
 use Rattle.nf_check_def.specs.Routes.{checked_middle, detour_list}
 use Rattle.nf_check_def.specs.CheckList.{trial, check_list}
-use Rattle.nf_resume_def.specs.Restoring.{restore_list}
-use Rattle.nf_resume_def.specs.Resuming.{Outcome, Refused, Stands, cut_flow, restart_list, resume_list}
+use Rattle.nf_phase_def.specs.Restoring.{restore_list}
+use Rattle.nf_resume_def.specs.Resuming.{Restart, Refused, Stands, cut_flow, restart_list, resume_list}
 
 abbrev curve_in : GrowingCurve → List (Parts × Parts) × Option Parts
 curve_in c = (points_in c.points, option_map parts_of c.slope)
@@ -52,7 +50,7 @@ Seen = List Parts × (List (List (Parts × Parts) × Option Parts) × List ((Lis
 abbrev standing_in : Standing → Seen
 standing_in s = (map parts_of s.labels, (map curve_in s.label_curves, map link_in s.link_curves))
 
-abbrev outcome_in : Result Outcome (PassedAt ℚ) → Option Seen
+abbrev outcome_in : Result Restart (PassedAt ℚ) → Option Seen
 outcome_in (Ok (Stands s)) = Some (standing_in s)
 outcome_in (Ok (Refused answer)) = None
 outcome_in (Err p) = None

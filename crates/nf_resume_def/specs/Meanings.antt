@@ -12,10 +12,10 @@ use Rattle.nf_net_def.specs.declared.Cause.{Cause}
 use Rattle.nf_net_def.specs.Report.{Report}
 use Rattle.nf_thin_def.specs.Accepted.{pattern_lists}
 use Rattle.nf_thin_def.specs.Listing.{HasPlace}
-use Rattle.nf_thin_def.specs.PhaseRun.{Standing, Bounds, Goes, Runs, flow_of, report_of}
+use Rattle.nf_thin_def.specs.PhaseRun.{Standing, Bounds, Goes, report_of}
 use Rattle.nf_model.specs.Network.{rate_at}
 use Rattle.nf_model.specs.ThinFlow.{sets_at}
-use Rattle.nf_resume_def.specs.Open.{Steps, RunsOn, continues, begins, steps, at_horizon, at_phases, fails}
+use Rattle.nf_phase_def.specs.Open.{RunsOn}
 use Rattle.nf_resume_def.specs.Resuming.{Stands, resume_list}
 
 -- A flow continues another one: it reaches at least as far, and has the same values up to where the other flow ends.

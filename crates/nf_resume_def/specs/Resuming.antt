@@ -8,20 +8,20 @@ use Rattle.nf_frac_def.specs.declared.Part.TheVariants.{Curve}
 use Rattle.nf_frac_def.specs.declared.PassedAt.{PassedAt}
 use Rattle.nf_model.specs.Curve.{Point}
 use Rattle.nf_model.specs.Network.{Link, Network}
-use Rattle.nf_model.specs.Equilibrium.{Trace, Flow, points_at, points_of}
+use Rattle.nf_model.specs.Equilibrium.{Trace, Flow, points_at}
 use Rattle.nf_net_def.specs.Report.{Report}
 use Rattle.nf_thin_def.specs.PhaseRun.{Standing}
 use Rattle.nf_curve_def.specs.Values.{checked_cut}
 use Rattle.nf_curve_def.specs.Short.{checked_slopes, checked_short}
 use Rattle.nf_check_def.specs.declared.Answer.{Answer}
-use Rattle.nf_check_def.specs.declared.Answer.TheVariants.{Yes, No}
+use Rattle.nf_check_def.specs.declared.Answer.TheVariants.{Yes}
 use Rattle.nf_check_def.specs.CheckList.{check_list}
-use Rattle.nf_resume_def.specs.Restoring.{value_at_end, restore_list}
+use Rattle.nf_phase_def.specs.Restoring.{value_at_end, restore_list}
 
 -- The result for a report: its flow is no equilibrium, or the run state at its end.
-pub data Outcome : Type 0 where
-  Refused : Answer ℕ ℕ ℚ → Outcome
-  Stands : Standing → Outcome
+pub data Restart : Type 0 where
+  Refused : Answer ℕ ℕ ℚ → Restart
+  Stands : Standing → Restart
 
 -- A link with its curves.
 pub record OfLink : Type 0 where
@@ -84,13 +84,13 @@ module _ (passes : Passing) where
     flow ← cut_flow net report.flow
     restore_list passes flow report.last
 
-  abbrev pub after_check : Network → Report → Answer ℕ ℕ ℚ → Result Outcome (PassedAt ℚ)
+  abbrev pub after_check : Network → Report → Answer ℕ ℕ ℚ → Result Restart (PassedAt ℚ)
   after_check net report Yes = do
     first ← at_part Curve (restart_list net report)
     Ok (Stands first)
   after_check net report answer = Ok (Refused answer)
 
-  unfoldable pub resume_list : Network → Report → Result Outcome (PassedAt ℚ)
+  unfoldable pub resume_list : Network → Report → Result Restart (PassedAt ℚ)
   resume_list net report = do
     answer ← check_list passes net report.flow
     after_check net report answer

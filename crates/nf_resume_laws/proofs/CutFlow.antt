@@ -1,8 +1,6 @@
 -- The flow of a report, cut at the departure that it reached and put into short form, curve by curve.
-use Rattle.std.proofs.Common.{◌≡◌, ℕ, zero, suc, ◌<◌, List, [], ◌∷◌, ◌++◌, length, Option, Some, None, slice_get, unwrap_or, map, sym, ap, subst, refl, ◌∙◌, arith}
+use Rattle.std.proofs.Common.{◌≡◌, ℕ, zero, suc, ◌<◌, List, [], ◌∷◌, length, Some, slice_get, map, sym, ap, subst, refl, ◌∙◌, arith}
 use Rattle.std.specs.Prelude.{Ok}
-use Rattle.std.specs.List.{last_or}
-use Rattle.std.specs.Option.{option_map_or}
 use Rattle.std.proofs.lemmas.Option.{slice_get_within, same_Some}
 use Rattle.std.proofs.lemmas.List.{length-map}
 use Rattle.nf_rational.specs.Rational.{ℚ}
@@ -10,31 +8,26 @@ use Rattle.nf_rational.specs.Operations.{0ℚ}
 use Rattle.nf_rational.specs.Order.{◌≤ℚ◌}
 use Rattle.nf_frac_def.specs.Passing.{Passing}
 use Rattle.nf_frac_def.specs.Checked.{each}
-use Rattle.nf_frac_def.proofs.Each.{each_at}
+use Rattle.nf_frac_def.proofs.Each.{each_at, each_length}
 use Rattle.nf_model.specs.Curve.{Point, value, IsCurve, AreSlopes}
 use Rattle.nf_model.specs.Network.{Link, Network, IsNetwork, IsLink}
 use Rattle.nf_model.specs.Equilibrium.{Trace, Flow, points_at, points_of, label, HasSlopes, Equilibrium}
 use Rattle.nf_curve_def.specs.Short.{checked_slopes}
 use Rattle.nf_curve_laws.proofs.Operations.{then_ok}
 use Rattle.nf_curve_laws.proofs.Short.{SlopesFrom, slopes-are}
-use Rattle.nf_phase_laws.specs.CurveSteps.{LastPoint}
-use Rattle.nf_resume_def.specs.Restoring.{value_at_end}
+use Rattle.nf_phase_laws.proofs.WellRun.{points_is}
+use Rattle.nf_phase_def.specs.Restoring.{value_at_end}
 use Rattle.nf_resume_def.specs.Resuming.{OfLink, CutLink, links_with, cut_short, cut_trace, cut_link, cut_flow_of, cut_flow}
-use Rattle.nf_resume_laws.proofs.Printed.{label-nn}
+use Rattle.nf_phase_equilibrium_laws.proofs.Printed.{label-nn}
+use Rattle.nf_phase_equilibrium_laws.proofs.Restored.{value_at_end-is}
 use Rattle.nf_resume_laws.proofs.CutShort.{IsShortCut, cut_short-is}
 use Rattle.nf_rational_laws.proofs.Chains.{≤ℚ_refl}
 use Rattle.nf_rational_laws.proofs.Results.{same_Ok}
 use Rattle.nf_rational_laws.proofs.Entries.{entry, slice_get-image}
-pub use Rattle.nf_frac_def.proofs.Each.{each_length}
-pub use Rattle.nf_rational_laws.proofs.Entries.{entry as entry_within}
-pub use Rattle.nf_rational_laws.proofs.Entries.{slice_get-image as entry_of}
 
 -- ---- lists, entry by entry
-pub points_at-is : (curves : List (List Point)) (i : ℕ) (points : List Point) → slice_get curves i ≡ Some points → points_at curves i ≡ points
-points_at-is curves i points h = ap (λ (o : Option (List Point)). unwrap_or o []) h
-
 pub points_of-is : (traces : List Trace) (e : ℕ) (trace : Trace) → slice_get traces e ≡ Some trace → points_at (points_of traces) e ≡ trace.points
-points_of-is traces e trace h = points_at-is (points_of traces) e trace.points (slice_get-image (λ (t : Trace). t.points) traces e trace h)
+points_of-is traces e trace h = points_is (points_of traces) e trace.points (slice_get-image (λ (t : Trace). t.points) traces e trace h)
 
 abbrev pub of_link : Link → Trace → Trace → List Point → OfLink
 of_link link inflow outflow queue = record { link = link; inflow = inflow.points; outflow = outflow.points; queue = queue }
@@ -55,15 +48,6 @@ links_with-length (x ∷ links) [] outflows queues h j k = absurd (omega arith)
 links_with-length (x ∷ links) (a ∷ inflows) [] queues h j k = absurd (omega arith)
 links_with-length (x ∷ links) (a ∷ inflows) (b ∷ outflows) [] h j k = absurd (omega arith)
 links_with-length (x ∷ links) (a ∷ inflows) (b ∷ outflows) (c ∷ queues) h j k = ap suc (links_with-length links inflows outflows queues (omega arith) (omega arith) (omega arith))
-
--- ---- the value of the last point
-last-of : (front : List Point) (p : Point) → last_or None (front ++ p ∷ []) ≡ Some p
-last-of [] p = refl
-last-of (x ∷ []) p = refl
-last-of (x ∷ y ∷ front) p = last-of (y ∷ front) p
-
-pub value_at_end-is : (points : List Point) (last : Point) → LastPoint points last → value_at_end points ≡ last.1
-value_at_end-is points last l = ap value_at_end l.same ∙ ap (λ (o : Option Point). option_map_or (λ (p : Point). p.1) o 0ℚ) (last-of l.front last)
 
 -- ---- the rates of a curve
 slopes-from : (p : Point) (rest : List Point) (rates : List ℚ) → SlopesFrom p rest rates → AreSlopes (p ∷ rest) rates
@@ -90,8 +74,8 @@ module _ (passes : Passing) (net : Network) (old : Flow) (good : IsNetwork net) 
   at_end v h =
       let x : (x : List Point) × (slice_get old.labels v ≡ Some x) = entry old.labels v (let c = is.shape.labels.count in omega arith) in
       let y = each_at (cut_short passes old.reached) old.labels labels v x.0 by_labels x.1 in
-      let same : points_at old.labels v ≡ x.0 = points_at-is old.labels v x.0 x.1 in
-      subst (λ (l : List Point). IsShortCut (points_at old.labels v) old.reached l) (sym (points_at-is labels v y.0 y.1))
+      let same : points_at old.labels v ≡ x.0 = points_is old.labels v x.0 x.1 in
+      subst (λ (l : List Point). IsShortCut (points_at old.labels v) old.reached l) (sym (points_is labels v y.0 y.1))
       (cut_short-is passes (points_at old.labels v) old.reached y.0 (is.shape.labels.each v h) is.reached (ap (cut_short passes old.reached) same ∙ y.2))
 
   end-is : (v : ℕ) → v < net.nodes → value_at_end (points_at labels v) ≡ label old v old.reached
@@ -193,7 +177,7 @@ module _ (passes : Passing) (net : Network) (old : Flow) (good : IsNetwork net) 
     queue_at e link p =
         let a : At e link = at_link e link p in
         cut_short-is passes (points_at old.queues e) (label old link.tail old.reached) a.cut.queue (is.shape.queues.each e (slice_get_within net.links e link p)) (ends-nn link.tail (good.tails e link p))
-        (ap (λ (l : List Point). cut_short passes (label old link.tail old.reached) l) (points_at-is old.queues e a.queue a.is_queue)
+        (ap (λ (l : List Point). cut_short passes (label old link.tail old.reached) l) (points_is old.queues e a.queue a.is_queue)
         ∙ ap (λ (z : ℚ). cut_short passes z a.queue) (sym (end-is link.tail (good.tails e link p))) ∙ (cuts_at e link p).queue_is)
 
     -- ---- the rates of a trace
@@ -218,7 +202,7 @@ module _ (passes : Passing) (net : Network) (old : Flow) (good : IsNetwork net) 
       outflows = λ e link p. subst (λ (l : List Point). IsShortCut (points_at (points_of old.outflows) e) (label old link.head old.reached) l)
           (sym (points_of-is new.outflows e (at_link e link p).cut.outflow (slice_get-image (λ (c : CutLink). c.outflow) cuts e (at_link e link p).cut (at_link e link p).is_cut))) (outflow_at e link p).0;
       queues = λ e link p. subst (λ (l : List Point). IsShortCut (points_at old.queues e) (label old link.tail old.reached) l)
-          (sym (points_at-is new.queues e (at_link e link p).cut.queue (slice_get-image (λ (c : CutLink). c.queue) cuts e (at_link e link p).cut (at_link e link p).is_cut))) (queue_at e link p);
+          (sym (points_is new.queues e (at_link e link p).cut.queue (slice_get-image (λ (c : CutLink). c.queue) cuts e (at_link e link p).cut (at_link e link p).is_cut))) (queue_at e link p);
       inflow_rates = all_slopes (λ c. c.inflow) (λ e link p. (inflow_at e link p).1);
       outflow_rates = all_slopes (λ c. c.outflow) (λ e link p. (outflow_at e link p).1);
     }

@@ -19,7 +19,8 @@ use Rattle.nf_model.specs.Phases.{Lasts, IsExtension, moved, slack_after}
 use Rattle.nf_model_laws.proofs.Slacks.{slack_at, slack_after-moved, active_of_slack, slack_of_resetting}
 use Rattle.nf_thin_def.specs.PhaseRun.{Standing}
 use Rattle.nf_phase_laws.proofs.Length.{Lasts-some}
-use Rattle.nf_resume_def.specs.Open.{IsOpen}
+use Rattle.nf_rational_laws.proofs.Entries.{entry}
+use Rattle.nf_phase_def.specs.Open.{IsOpen}
 use Rattle.nf_rational_laws.proofs.Chains.{≤ℚ_refl, ≤ℚ_trans}
 use Rattle.nf_rational_laws.proofs.Facts.{back_and_forth, below_between, above_between}
 
@@ -103,7 +104,7 @@ module _ (net : Network) (good : IsNetwork net) (labels slopes : List ℚ) (time
               (lt_or_le_ℚ 0ℚ (slack labels (hop_of link)))
 
       by : (o : Option (Option State)) → slice_get pattern e ≡ o → slice_get pattern e ≡ Some None
-      by None h = absurd (none_there (slice_get pattern e) h (Rattle.nf_resume_laws.proofs.CutFlow.entry_within pattern e within))
+      by None h = absurd (none_there (slice_get pattern e) h (entry pattern e within))
         where
           none_there : (o : Option (Option State)) → o ≡ None → (x : Option State) × (o ≡ Some x) → ⊥
           none_there o e w = cc

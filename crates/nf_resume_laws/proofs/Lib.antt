@@ -1,9 +1,3 @@
-pub mod Served
-pub mod Totals
-pub mod Sent
-pub mod Repeating
-pub mod Printed
-pub mod Invariant
 pub mod Same
 pub mod CutShort
 pub mod CutFlow
@@ -11,7 +5,6 @@ pub mod Restarted
 pub mod CutPhase
 pub mod Restricted
 pub mod FirstPlace
-pub mod Restored
 pub mod Twice
 pub mod Stepping
 pub mod TwoParts

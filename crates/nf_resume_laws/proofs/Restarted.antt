@@ -1,5 +1,5 @@
 -- The cut flow of an equilibrium is an equilibrium with the same values, and a run can continue it.
-use Rattle.std.proofs.Common.{◌≡◌, ℕ, ◌<◌, List, Option, Some, slice_get, unwrap_or, map, ⊎_elim, sym, ap, subst, ◌∙◌, arith}
+use Rattle.std.proofs.Common.{◌≡◌, ℕ, ◌<◌, List, ⊎_elim, sym, ap, subst, ◌∙◌}
 use Rattle.std.proofs.lemmas.List.{length-map}
 use Rattle.nf_rational.specs.Rational.{ℚ}
 use Rattle.nf_rational.specs.Operations.{0ℚ}
@@ -9,26 +9,24 @@ use Rattle.nf_frac_def.specs.Passing.{Passing}
 use Rattle.std.specs.Prelude.{Ok}
 use Rattle.nf_model.specs.Curve.{Point, Within, value, NeverFalls}
 use Rattle.nf_model.specs.Network.{Link, Network, IsNetwork, IsLink}
-use Rattle.nf_model.specs.Equilibrium.{Flow, Trace, points_at, label, inflow, outflow, queue, HasShape, Equilibrium}
+use Rattle.nf_model.specs.Equilibrium.{Flow, Trace, label, inflow, outflow, queue, HasShape, Equilibrium}
 use Rattle.nf_model_laws.specs.EarliestLaws.{InflowsRise}
-use Rattle.nf_phase_laws.specs.Invariant.{HoldsUpTo, LabelsAre}
+use Rattle.nf_phase_laws.specs.Invariant.{HoldsUpTo}
 use Rattle.nf_phase_laws.specs.Description.{DescribesLinks}
-use Rattle.nf_phase_laws.specs.CurveSteps.{LastPoint}
-use Rattle.nf_phase_laws.specs.CurveRun.{curves_of}
 use Rattle.nf_phase_laws.proofs.Holds.{link_within, IsNashFlow-from_HoldsUpTo}
 use Rattle.nf_phase_laws.proofs.Description.{IsOutflow-described, IsQueue-described}
-use Rattle.nf_phase_laws.proofs.CurveRun.{Grown}
+use Rattle.nf_phase_laws.proofs.Points.{end-append}
 use Rattle.nf_thin_def.specs.PhaseRun.{IsShortFlow}
-use Rattle.nf_resume_def.specs.Restoring.{value_at_end}
+use Rattle.nf_thin_def.specs.Ends.{end_of}
+use Rattle.nf_phase_def.specs.Restoring.{EndsAtItsLabels}
 use Rattle.nf_resume_def.specs.Resuming.{cut_flow}
 use Rattle.nf_resume_def.specs.Meanings.{GoesOnFrom}
-use Rattle.nf_resume_laws.proofs.Printed.{label-nn, rises-link}
-use Rattle.nf_resume_laws.proofs.Invariant.{HoldsUpTo-equilibrium, DescribesLinks-equilibrium}
+use Rattle.nf_phase_equilibrium_laws.proofs.Printed.{label-nn, rises-link}
+use Rattle.nf_phase_equilibrium_laws.proofs.Invariant.{HoldsUpTo-equilibrium, DescribesLinks-equilibrium}
 use Rattle.nf_resume_laws.proofs.Same.{AgreeUpTo, HoldsUpTo-same, DescribesLinks-same}
 use Rattle.nf_resume_laws.proofs.CutShort.{IsShortCut}
-use Rattle.nf_resume_laws.proofs.CutFlow.{points_at-is, value_at_end-is, IsCutFlow, cut_flow-is}
+use Rattle.nf_resume_laws.proofs.CutFlow.{IsCutFlow, cut_flow-is}
 use Rattle.nf_rational_laws.proofs.Chains.{≤ℚ_refl, ≤ℚ_trans}
-use Rattle.nf_rational_laws.proofs.Entries.{entry, slice_get-image}
 
 -- A cut curve never falls if the curve never falls.
 rises-cut : (points short : List Point) (last : ℚ) → 0ℚ ≤ℚ last → IsShortCut points last short → NeverFalls (value points) → NeverFalls (value short)
@@ -105,30 +103,18 @@ module _ (net : Network) (old new : Flow) (good : IsNetwork net) (is : Equilibri
   }
 
   -- ---- a run can continue it
-  label-same : (v : ℕ) → v < net.nodes → label new v old.reached ≡ label old v old.reached
-  label-same v h = (cut.labels v h).values old.reached now
+  label-same : (v : ℕ) → v < net.nodes → label new v new.reached ≡ label old v old.reached
+  label-same v h = ap (label new v) cut.reached ∙ (cut.labels v h).values old.reached now
 
-  labels-are : LabelsAre net (label new) old.reached (map value_at_end new.labels)
-  labels-are v h =
-      let x : (x : List Point) × (slice_get new.labels v ≡ Some x) = entry new.labels v (let c = cut.label_count in omega arith) in
-      sym (ap (λ (o : Option ℚ). unwrap_or o 0ℚ) (slice_get-image value_at_end new.labels v x.0 x.1) ∙ ap value_at_end (sym (points_at-is new.labels v x.0 x.1))
-      ∙ value_at_end-is (points_at new.labels v) (old.reached, value (points_at new.labels v) old.reached) (cut.labels v h).ends)
+  end_of_cut : (points short : List Point) (last : ℚ) → IsShortCut points last short → end_of short ≡ last
+  end_of_cut points short last c = ap end_of c.ends.same ∙ end-append c.ends.front (last, value short last)
 
-  ends-at : (points : List Point) (a b : ℚ) → a ≡ b → LastPoint points (a, value points a) → LastPoint points (b, value points b)
-  ends-at points a b e l = subst (λ (t : ℚ). LastPoint points (t, value points t)) e l
-
-  pub Grown-cut : Grown net old.reached (map value_at_end new.labels) (curves_of new)
-  Grown-cut = record {
-    stands = record { holds = HoldsUpTo-cut; same = labels-are; count = length-map new.labels value_at_end ∙ cut.label_count };
-    curves_stand = record {
-      labels_end = λ v h. (cut.labels v h).ends;
-      inflows_end = λ e link p. ends-at _ _ _ (sym (label-same link.tail (good.tails e link p))) (cut.inflows e link p).ends;
-    };
-    describes = DescribesLinks-cut;
-    description_stands = record {
-      outflows_end = λ e link p. ends-at _ _ _ (sym (label-same link.head (good.heads e link p))) (cut.outflows e link p).ends;
-      queues_end = λ e link p. ends-at _ _ _ (sym (label-same link.tail (good.tails e link p))) (cut.queues e link p).ends;
-    };
+  pub EndsAtItsLabels-cut : EndsAtItsLabels net new
+  EndsAtItsLabels-cut = record {
+    labels = λ v h. end_of_cut _ _ old.reached (cut.labels v h) ∙ sym cut.reached;
+    inflows = λ e link p. end_of_cut _ _ (label old link.tail old.reached) (cut.inflows e link p) ∙ sym (label-same link.tail (good.tails e link p));
+    outflows = λ e link p. end_of_cut _ _ (label old link.head old.reached) (cut.outflows e link p) ∙ sym (label-same link.head (good.heads e link p));
+    queues = λ e link p. end_of_cut _ _ (label old link.tail old.reached) (cut.queues e link p) ∙ sym (label-same link.tail (good.tails e link p));
   }
 
 pub Equilibrium-cut_flow : (passes : Passing) (net : Network) (old new : Flow) → IsNetwork net → Equilibrium net old → cut_flow passes net old ≡ Ok new → Equilibrium net new
@@ -139,3 +125,6 @@ GoesOnFrom-cut_flow passes net old new good is e = GoesOnFrom-cut net old new go
 
 pub IsShortFlow-cut_flow : (passes : Passing) (net : Network) (old new : Flow) → IsNetwork net → Equilibrium net old → cut_flow passes net old ≡ Ok new → IsShortFlow net new
 IsShortFlow-cut_flow passes net old new good is e = IsShortFlow-cut net old new good is (cut_flow-is passes net old new good is e)
+
+pub EndsAtItsLabels-cut_flow : (passes : Passing) (net : Network) (old new : Flow) → IsNetwork net → Equilibrium net old → cut_flow passes net old ≡ Ok new → EndsAtItsLabels net new
+EndsAtItsLabels-cut_flow passes net old new good is e = EndsAtItsLabels-cut net old new good is (cut_flow-is passes net old new good is e)

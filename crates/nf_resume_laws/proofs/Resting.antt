@@ -1,9 +1,8 @@
 -- The remainder of an interrupted phase: the base pattern derived from the phase's pattern, its solution and its length.
 use Rattle.std.proofs.Common.{◌≡◌, ℕ, List, length, subst, ◌∙◌}
-use Rattle.std.proofs.lemmas.List.{length-map}
 use Rattle.nf_rational.specs.Rational.{ℚ}
 use Rattle.nf_rational.specs.Operations.{0ℚ, ◌+ℚ◌, ◌-ℚ◌, ◌*ℚ◌}
-use Rattle.nf_rational.specs.Order.{◌<ℚ◌, le_ℚ}
+use Rattle.nf_rational.specs.Order.{◌<ℚ◌}
 use Rattle.nf_rational_laws.proofs.Order.{≤ℚ_of_lt}
 use Rattle.nf_model.specs.Entries.{number_at}
 use Rattle.nf_model.specs.Network.{Link, Network, IsNetwork, IsLink, hops, hop_of}
@@ -11,13 +10,11 @@ use Rattle.nf_model.specs.ThinFlow.{slack, slacks_of, sets_at}
 use Rattle.nf_model.specs.Pattern.{Pattern, IsListedIn, IsBase, IsSolution}
 use Rattle.nf_model.specs.Phases.{IsExtension}
 use Rattle.nf_thin_def.specs.PhaseRun.{Standing}
-use Rattle.nf_resume_def.specs.Open.{IsOpen}
+use Rattle.nf_phase_def.specs.Open.{IsOpen}
+use Rattle.nf_thin_laws.proofs.ActiveLinks.{AreSets-sets_at}
 use Rattle.nf_resume_laws.specs.ResumeLaws.{IsPartOf, IsRestOf}
 use Rattle.nf_resume_laws.proofs.CutPhase.{IsOpen-cut, IsExtension-left, stays-below, stays-above, slack-moves}
 use Rattle.nf_resume_laws.proofs.Restricted.{IsSolution-restricted, IsListed-restricted}
-
-active-count : (net : Network) (labels : List ℚ) → length (sets_at net labels).active ≡ length net.links
-active-count net labels = length-map (slacks_of (hops net) labels) (le_ℚ 0ℚ) ∙ length-map (hops net) (slack labels) ∙ length-map net.links hop_of
 
 pub rest-goes : (net : Network) (time : ℚ) (labels slopes : List ℚ) (pattern : Pattern) (done : ℚ) (s : Standing) → IsNetwork net → IsPartOf net time labels slopes pattern done s
     → (rate whole : ℚ) (flows : List ℚ) (base : Pattern) → IsListedIn net (sets_at net labels) pattern → IsSolution net (sets_at net labels) rate pattern flows slopes
@@ -45,7 +42,7 @@ rest-goes net time labels slopes pattern done s good part rate whole flows base 
     based = subst (λ (p : Pattern). IsBase (hops net) (sets_at net s.labels) p base) part.last_is is_base
 
     count : length base ≡ length net.links
-    count = is_base.count ∙ active-count net s.labels
+    count = is_base.count ∙ (AreSets-sets_at net s.labels).count
 
     same_count : length pattern ≡ length net.links
-    same_count = part.is_pattern.count ∙ active-count net labels
+    same_count = part.is_pattern.count ∙ (AreSets-sets_at net labels).count

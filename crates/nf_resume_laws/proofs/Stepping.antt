@@ -6,13 +6,12 @@ use Rattle.nf_rational.specs.Operations.{0ℚ}
 use Rattle.nf_rational.specs.Order.{◌≤ℚ◌, ◌<ℚ◌}
 use Rattle.nf_rational_laws.proofs.Order.{≤ℚ_of_lt, ≤ℚ_antisymm, lt_or_le_ℚ}
 use Rattle.nf_frac_def.specs.Passing.{Passing}
-use Rattle.nf_frac_def.specs.Checked.{Checked, at_part, each, ◌>>=◌}
+use Rattle.nf_frac_def.specs.Checked.{Checked, at_part, ◌>>=◌}
 use Rattle.nf_frac_def.specs.declared.Part.TheVariants.{Curve}
 use Rattle.nf_frac_def.specs.declared.PassedAt.{PassedAt}
 use Rattle.nf_model.specs.Entries.{number_at}
 use Rattle.nf_model.specs.Curve.{Point, Within, value}
 use Rattle.nf_model.specs.Network.{Network, IsNetwork}
-use Rattle.nf_model.specs.Pattern.{Pattern}
 use Rattle.nf_model.specs.Equilibrium.{Flow, label, Equilibrium}
 use Rattle.nf_net_def.specs.declared.Cause.{Cause}
 use Rattle.nf_net_def.specs.Report.{Report}
@@ -25,18 +24,18 @@ use Rattle.nf_phase_laws.specs.CurveSteps.{at, CurvesGoOn}
 use Rattle.nf_phase_laws.specs.DescriptionCurves.{DescriptionCurvesGoOn}
 use Rattle.nf_phase_laws.specs.CurveRun.{curves_of}
 use Rattle.nf_phase_laws.proofs.Length.{IsPhase-some}
-use Rattle.nf_phase_laws.proofs.WellRun.{WellRun, WellRun-counted}
+use Rattle.nf_phase_laws.proofs.WellRun.{WellRun}
+use Rattle.nf_phase_laws.proofs.RunsOn.{WellRun-step}
 use Rattle.nf_phase_laws.proofs.Goes.{curves_go, description_goes}
-use Rattle.nf_phase_laws.proofs.Run.{parts_of, WellRun-goes, IsPhase-goes, Equilibrium-well}
-use Rattle.nf_resume_def.specs.Restoring.{growing, restore_list}
-use Rattle.nf_resume_def.specs.Open.{with_last, Steps, continues, begins, RunsOn, at_horizon, at_phases, fails, steps}
-use Rattle.nf_resume_def.specs.Resuming.{Outcome, Stands, cut_flow, restart_list, after_check, resume_list}
+use Rattle.nf_phase_laws.proofs.Run.{parts_of, IsPhase-goes, Equilibrium-well}
+use Rattle.nf_phase_def.specs.Restoring.{EndsAtItsLabels}
+use Rattle.nf_phase_def.specs.Open.{Steps, continues, begins, RunsOn, at_horizon, at_phases, fails, steps}
+use Rattle.nf_resume_def.specs.Resuming.{Restart, Stands, cut_flow, restart_list, after_check, resume_list}
 use Rattle.nf_resume_def.specs.Meanings.{GoesOnFrom, IsResumedReport}
 use Rattle.nf_resume_laws.proofs.CutFlow.{IsCutFlow, cut_flow-is}
-use Rattle.nf_resume_laws.proofs.Restarted.{GoesOnFrom-cut}
-use Rattle.nf_resume_laws.proofs.Restored.{flow-same, WellRun-restored}
+use Rattle.nf_resume_laws.proofs.Restarted.{Equilibrium-cut, GoesOnFrom-cut, EndsAtItsLabels-cut}
+use Rattle.nf_phase_equilibrium_laws.proofs.RestoredRun.{well_from, flow_from}
 use Rattle.nf_rational_laws.proofs.Chains.{≤ℚ_refl, ≤ℚ_trans}
-use Rattle.nf_rational_laws.proofs.Results.{same_Ok}
 
 -- ---- one phase
 module _ (passes : Passing) (net : Network) (good : IsNetwork net) (bounds : Bounds) where
@@ -104,16 +103,16 @@ module _ (passes : Passing) (net : Network) (good : IsNetwork net) (bounds : Bou
       )
 
   -- ---- phase by phase
-  pub WellRun-last : (last : Pattern) (s : Standing) → WellRun net s → WellRun net (with_last last s)
-  WellRun-last last s w = WellRun-counted net s s.made last w
-
   record Gone (s t : Standing) : Type 0 where
     pub well : WellRun net t
     pub goes : GoesOnFrom net (flow_of s) (flow_of t)
 
   gone-step : (s t : Standing) → Steps passes net bounds.horizon bounds.patterns s t → WellRun net s → Gone s t
-  gone-step s _ (continues {t = t} c g) w = record { well = WellRun-last s.last t (WellRun-goes passes net good bounds s t g w); goes = GoesOnFrom-goes s t g w }
-  gone-step s t (begins c g) w = record { well = WellRun-goes passes net good bounds s t g w; goes = GoesOnFrom-goes s t g w }
+  gone-step s t step w = record { well = WellRun-step passes net good bounds s t w step; goes = goes_step s t step w }
+    where
+      goes_step : (s t : Standing) → Steps passes net bounds.horizon bounds.patterns s t → WellRun net s → GoesOnFrom net (flow_of s) (flow_of t)
+      goes_step s _ (continues {t = t} c g) w = GoesOnFrom-goes s t g w
+      goes_step s t (begins c g) w = GoesOnFrom-goes s t g w
 
   gone-runs : (s last : Standing) (stop : Option (Cause ℚ)) → RunsOn passes net bounds s last stop → WellRun net s → Gone s last
   gone-runs s last stop (at_horizon e) w = record { well = w; goes = GoesOnFrom-refl (flow_of s) }
@@ -130,20 +129,20 @@ module _ (passes : Passing) (net : Network) (good : IsNetwork net) (bounds : Bou
     pub goes : GoesOnFrom net old (flow_of s)
 
   restarted : (report : Report) (s : Standing) → Equilibrium net report.flow → restart_list passes net report ≡ Ok s → Restarted report.flow s
-  unfolding restart_list restore_list
+  unfolding restart_list
   restarted report s is e =
       let a = then_ok (cut_flow passes net report.flow) _ s e in
-      let b = then_ok (each (growing passes) a.between.labels) _ s a.next in
-      let c = then_ok (each (growing passes) a.between.queues) _ s b.next in
       let cut : IsCutFlow net report.flow a.between = cut_flow-is passes net report.flow a.between good is a.first in
-      subst (λ (s : Standing). Restarted report.flow s) (same_Ok _ _ c.next) (record {
-        well = WellRun-restored passes net report.flow a.between report.last good is cut b.between c.between b.first c.first;
-        goes = subst (λ (f : Flow). GoesOnFrom net report.flow f) (sym (flow-same passes net report.flow a.between report.last good is cut b.between c.between b.first c.first))
+      let now : Equilibrium net a.between = Equilibrium-cut net report.flow a.between good is cut in
+      let ends : EndsAtItsLabels net a.between = EndsAtItsLabels-cut net report.flow a.between good is cut in
+      record {
+        well = well_from passes net good a.between report.last s now ends a.next;
+        goes = subst (λ (f : Flow). GoesOnFrom net report.flow f) (sym (flow_from passes net good a.between report.last s now ends a.next))
             (GoesOnFrom-cut net report.flow a.between good is cut);
-      })
+      }
 
 -- ---- inversion of the operation sequence
-stands-ok : (r : Checked Standing) (s : Standing) → ◌≡◌ {A = Result Outcome (PassedAt ℚ)} (at_part Curve r >>= (λ first. Ok (Stands first))) (Ok (Stands s)) → r ≡ Ok s
+stands-ok : (r : Checked Standing) (s : Standing) → ◌≡◌ {A = Result Restart (PassedAt ℚ)} (at_part Curve r >>= (λ first. Ok (Stands first))) (Ok (Stands s)) → r ≡ Ok s
 stands-ok (Ok x) s e = cc
 stands-ok (Err p) s e = absurd (cc)
 

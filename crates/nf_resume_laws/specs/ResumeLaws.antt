@@ -8,20 +8,12 @@ use Rattle.nf_model.specs.Network.{Network, IsNetwork, hops, unbounded}
 use Rattle.nf_model.specs.ThinFlow.{slacks_of, sets_at}
 use Rattle.nf_model.specs.Pattern.{Pattern, IsPattern, IsListedIn, IsBase, IsSolution}
 use Rattle.nf_model.specs.Phases.{Lasts, IsExtension, moved}
-use Rattle.nf_model.specs.Equilibrium.{Flow, label, inflow, outflow, queue, Equilibrium}
-use Rattle.nf_phase_laws.specs.Invariant.{HoldsUpTo}
-use Rattle.nf_phase_laws.specs.Description.{DescribesLinks}
+use Rattle.nf_model.specs.Equilibrium.{Flow, Equilibrium}
 use Rattle.nf_resume_def.specs.Resuming.{cut_flow}
 use Rattle.nf_net_def.specs.Report.{Report}
 use Rattle.nf_thin_def.specs.PhaseRun.{Standing, Bounds, IsStart, IsShortFlow}
-use Rattle.nf_resume_def.specs.Open.{IsOpen, Continues}
+use Rattle.nf_phase_def.specs.Open.{IsOpen, Continues}
 use Rattle.nf_resume_def.specs.Meanings.{GoesOnFrom, IsResumedReport}
-
--- Any equilibrium satisfies the invariant of phases up to the departure that it reached, and describes its links.
-pub record EquilibriumHasInvariant : Type 0 where
-  pub holds : (net : Network) (flow : Flow) → IsNetwork net → Equilibrium net flow → HoldsUpTo net (inflow flow) (label flow) flow.reached
-  pub describes : (net : Network) (flow : Flow) → IsNetwork net → Equilibrium net flow
-      → DescribesLinks net (inflow flow) (label flow) (outflow flow) (queue flow) flow.reached
 
 -- An equilibrium, cut at the departure that it reached and put into short form, is an equilibrium with the same values.
 pub record CutFlowIsEquilibrium : Type 0 where

@@ -1,12 +1,7 @@
 //! Laws of resumed runs. Each is the contract of a public function with an empty body.
 #![tactic(auto)]
 
-ghost use Rattle.nf_resume_laws.specs.ResumeLaws.{EquilibriumHasInvariant, CutFlowIsEquilibrium, ResumedReportGoesOn, OpenIsWithinPhase, RestGoesOn};
-
-/// Proves that any equilibrium satisfies the invariant of phases up to the departure that it reached, and describes its links.
-pub fn equilibrium_has_invariant()
-    ensures { EquilibriumHasInvariant }
-{}
+ghost use Rattle.nf_resume_laws.specs.ResumeLaws.{CutFlowIsEquilibrium, ResumedReportGoesOn, OpenIsWithinPhase, RestGoesOn};
 
 /// Proves that an equilibrium, cut at the departure that it reached and put into short form, is an equilibrium with the same values.
 pub fn cut_flow_is_equilibrium()

@@ -16,7 +16,7 @@ use Rattle.nf_model.specs.ThinFlow.{Sets, sets_at, IsThinFlow}
 use Rattle.nf_model.specs.Equilibrium.{Flow, label, inflow, Equilibrium}
 use Rattle.nf_model_laws.proofs.Affine.{quotient-times}
 use Rattle.nf_phase_laws.proofs.Holds.{label_not_negative}
-use Rattle.nf_resume_laws.proofs.Invariant.{HoldsUpTo-equilibrium}
+use Rattle.nf_phase_equilibrium_laws.proofs.Invariant.{HoldsUpTo-equilibrium}
 use Rattle.nf_complete_laws.proofs.Deciding.{same_or_not}
 use Rattle.nf_forever_laws.specs.Cuts.{Cut, IsStaticCut, cut_capacity}
 use Rattle.nf_forever_laws.specs.TailGrowth.{last_rate}

@@ -14,7 +14,7 @@ use Rattle.nf_model.specs.Network.{Network, IsNetwork}
 use Rattle.nf_model.specs.Equilibrium.{Flow}
 use Rattle.nf_model_laws.proofs.Affine.{quotient-times, le_from_times}
 use Rattle.nf_forever_laws.specs.Cuts.{Cut, IsStaticCut, IsLeastCapacity}
-use Rattle.nf_forever_def.specs.Tails.{Tail}
+use Rattle.nf_phase_def.specs.ToEnd.{Tail}
 use Rattle.nf_forever_laws.specs.Growth.{slower_than_sink}
 use Rattle.nf_forever_laws.specs.TailGrowth.{last_rate, TailGrows}
 use Rattle.nf_forever_laws.proofs.Cuts.{IsLeastCapacity-one_link, no_cut-one_link, cut_capacity-positive}

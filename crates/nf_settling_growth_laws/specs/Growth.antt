@@ -9,7 +9,7 @@ use Rattle.nf_model.specs.Network.{Piece, Network, IsNetwork}
 use Rattle.nf_model.specs.Equilibrium.{Flow, label, Equilibrium}
 use Rattle.nf_model_laws.specs.MemberLaws.{one_link}
 use Rattle.nf_forever_laws.specs.Cuts.{Cut, IsStaticCut, IsLeastCapacity}
-use Rattle.nf_forever_def.specs.Tails.{Tail}
+use Rattle.nf_phase_def.specs.ToEnd.{Tail}
 use Rattle.nf_forever_laws.specs.TailGrowth.{last_rate, TailGrows}
 use Rattle.nf_settling_laws.specs.Settling.{IsLastSupply, CutsAreWide}
 use Rattle.nf_settling_graded_laws.specs.Grading.{IsGraded}

@@ -19,7 +19,7 @@ use Rattle.nf_model.specs.Equilibrium.{Flow, label, Equilibrium}
 use Rattle.nf_thin_def.specs.PhaseRun.{Standing, flow_of}
 use Rattle.nf_phase_laws.proofs.WellRun.{WellRun}
 use Rattle.nf_phase_laws.proofs.Run.{HasShape-well, Equilibrium-well}
-use Rattle.nf_forever_def.specs.Tails.{Tail}
+use Rattle.nf_phase_def.specs.ToEnd.{Tail}
 use Rattle.nf_forever_def.specs.ForeverRun.{End, Stops, NeverEnds, IsForeverRun, Forever, forever_of, IsForever}
 use Rattle.nf_forever_def.specs.Extended.{extended, up_to, flow_until}
 use Rattle.nf_forever_laws.specs.TailGrowth.{last_rate, TailGrows}

@@ -9,7 +9,7 @@ use Rattle.nf_rational_laws.proofs.Linear.{eq, eq_times, linear_le, linear_eq}
 use Rattle.nf_model.specs.Entries.{number_at}
 use Rattle.nf_model.specs.Network.{Network}
 use Rattle.nf_model.specs.Equilibrium.{Flow, label}
-use Rattle.nf_forever_def.specs.Tails.{Tail}
+use Rattle.nf_phase_def.specs.ToEnd.{Tail}
 use Rattle.nf_forever_def.specs.Extended.{flow_until}
 use Rattle.nf_forever_laws.specs.Cuts.{Cut, IsStaticCut, cut_capacity, IsLeastCapacity}
 use Rattle.nf_forever_laws.specs.Growth.{GrowsByLeastCut}

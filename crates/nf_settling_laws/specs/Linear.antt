@@ -10,7 +10,7 @@ use Rattle.nf_model.specs.Network.{Network, IsNetwork}
 use Rattle.nf_model.specs.Pattern.{Pattern}
 use Rattle.nf_model.specs.Equilibrium.{Flow, label, Equilibrium}
 use Rattle.nf_thin_def.specs.PhaseRun.{Standing, flow_of}
-use Rattle.nf_forever_def.specs.Tails.{Tail}
+use Rattle.nf_phase_def.specs.ToEnd.{Tail}
 use Rattle.nf_forever_def.specs.ForeverRun.{NeverEnds, IsForeverRun, Forever, IsForever}
 use Rattle.nf_forever_laws.specs.Growth.{GrowsByCuts, GrowsByLeastCut}
 use Rattle.nf_forever_laws.specs.TailGrowth.{last_rate, TailGrows}

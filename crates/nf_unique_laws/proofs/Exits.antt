@@ -9,7 +9,7 @@ use Rattle.nf_model.specs.Network.{Link, Network, IsNetwork, IsLink}
 use Rattle.nf_model.specs.Queue.{IsExit, waiting}
 use Rattle.nf_model.specs.Equilibrium.{Flow, label, inflow, queue, Equilibrium}
 use Rattle.nf_model_laws.proofs.Queues.{IsQueue-unique}
-use Rattle.nf_resume_laws.proofs.Printed.{label-nn, label-order}
+use Rattle.nf_phase_equilibrium_laws.proofs.Printed.{label-nn, label-order}
 use Rattle.nf_unique_laws.specs.UniqueLaws.{SameInAll}
 use Rattle.nf_unique_laws.proofs.Labels.{labels-same}
 use Rattle.nf_unique_laws.proofs.Queues.{m_one, in_one, in_other, queues-same}

@@ -23,8 +23,8 @@ use Rattle.nf_quick_def.specs.Answers.{IsQuickFlow}
 use Rattle.nf_quick_def.specs.Departures.{IsDeparture}
 use Rattle.nf_phase_laws.specs.Invariant.{tail_or}
 use Rattle.nf_phase_laws.proofs.Holds.{link_within}
-use Rattle.nf_resume_laws.proofs.Printed.{rises-link, starts-link, label-nn, label-order, comes_out-at}
-use Rattle.nf_resume_laws.proofs.Invariant.{HoldsUpTo-equilibrium}
+use Rattle.nf_phase_equilibrium_laws.proofs.Printed.{rises-link, starts-link, label-nn, label-order, comes_out-at}
+use Rattle.nf_phase_equilibrium_laws.proofs.Invariant.{HoldsUpTo-equilibrium}
 use Rattle.nf_unique_laws.specs.PriceLaws.{clipped, entered_of, left_of}
 use Rattle.nf_unique_laws.proofs.Clipped.{clipped-within, clipped-is, HasCurve-clipped}
 use Rattle.nf_unique_laws.proofs.OneLink.{AllServed, entered-before, entered-rises, left-before, left-rises, left-room, left-late, left-queue}

@@ -11,7 +11,7 @@ use Rattle.nf_model.specs.Curve.{Within, IsLeast, NeverFalls}
 use Rattle.nf_model.specs.Queue.{IsOutflow}
 use Rattle.nf_model_laws.specs.Capacity.{IsPositive}
 use Rattle.nf_model_laws.proofs.Queues.{IsOutflow-unique}
-use Rattle.nf_resume_laws.proofs.Served.{amount-nn, outflow-nn, outflow-entered, outflow-rises}
+use Rattle.nf_phase_equilibrium_laws.proofs.Served.{amount-nn, outflow-nn, outflow-entered, outflow-rises}
 use Rattle.nf_unique_laws.specs.PriceLaws.{clipped}
 use Rattle.nf_unique_laws.proofs.Clipped.{clipped-within, clipped-none, clipped-rises, clipped-stretch, lands}
 

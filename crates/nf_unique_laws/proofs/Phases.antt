@@ -26,7 +26,7 @@ use Rattle.nf_curve_laws.proofs.Times.{turns-one}
 use Rattle.nf_phase_laws.specs.Invariant.{LabelsAre}
 use Rattle.nf_phase_laws.proofs.Length.{IsPhase-some}
 use Rattle.nf_phase_laws.proofs.Phases.{Lasts-phase}
-use Rattle.nf_resume_laws.proofs.Invariant.{HoldsUpTo-equilibrium}
+use Rattle.nf_phase_equilibrium_laws.proofs.Invariant.{HoldsUpTo-equilibrium}
 use Rattle.nf_thin_laws.proofs.ActiveLinks.{HoldNoCycle-sets_at}
 use Rattle.nf_thin_laws.proofs.Slopes.{slopes-unique}
 use Rattle.nf_unique_laws.specs.ThinLaws.{GoesByThinFlow}

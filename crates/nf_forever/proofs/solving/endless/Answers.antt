@@ -4,7 +4,7 @@ use Rattle.nf_model.specs.Equilibrium.{Flow}
 use Rattle.nf_model.specs.Pattern.{Pattern}
 use Rattle.nf_thin_def.specs.PhaseRun.{Standing, flow_of}
 use Rattle.nf_phase.specs.Stepping.{tail_of}
-use Rattle.nf_forever_def.specs.Tails.{Tail}
+use Rattle.nf_phase_def.specs.ToEnd.{Tail}
 use Rattle.nf_forever_def.specs.ForeverRun.{Forever, NeverEnds, forever_of}
 use Rattle.nf_forever.proofs.solving.endless.Goals as goal
 

@@ -19,7 +19,7 @@ returns-in-Err c =
 pub loop-preserved : goal.loop-preserved
 loop-preserved c =
     gone_further passes_Q c.args.net.now.net c.args.budgets.phases c.args.budgets.patterns c.args.run.now c.requires c.loop.counter c.loop.run c.loop.invariant c.loop-test.true c.in-Ok-None.field-0
-    c.in-Ok-None.field-0-is c.step_to_end.new.self c.in-Ok-None.ensures.reaches c.in-Ok-None.ensures.phase
+    c.in-Ok-None.field-0-is c.step_to_end.new.self c.in-Ok-None.ensures.state.reaches c.in-Ok-None.ensures.phase
 
 pub returns : goal.returns
 returns c =

@@ -6,7 +6,7 @@ use Rattle.nf_frac_def.specs.declared.Part.TheVariants.{Curve}
 use Rattle.nf_frac_def.specs.Passing.{passes_Q}
 use Rattle.nf_frac_def.specs.Checked.{each, at_part}
 use Rattle.nf_thin_def.specs.ReportCurves.{GrowingCurve}
-use Rattle.nf_resume_def.specs.Restoring.{growing}
+use Rattle.nf_phase_def.specs.Restoring.{growing}
 use Rattle.nf_curve.specs.Points.{Grown}
 use Rattle.nf_curve.proofs.Exits.{stops_on}
 use Rattle.nf_rational_laws.proofs.Entries.{slice_get-image}

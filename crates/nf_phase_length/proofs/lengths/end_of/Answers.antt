@@ -3,7 +3,7 @@ use Rattle.std.proofs.lemmas.Result.{err_from_is_err_and}
 use Rattle.nf_frac_def.specs.Passing.{passes_Q}
 use Rattle.nf_frac_def.specs.declared.Part.TheVariants.{Extend}
 use Rattle.nf_thin_def.specs.Extend.{extend_list}
-use Rattle.nf_forever_def.specs.ForeverRun.{end_after, end_list}
+use Rattle.nf_phase_def.specs.ToEnd.{end_after, end_list}
 use Rattle.nf_curve.proofs.Exits.{after_err, after_ok}
 use Rattle.nf_phase_length.proofs.LaterEnds.{end_later}
 use Rattle.nf_phase_length.proofs.lengths.end_of.Goals as goal

@@ -2,7 +2,7 @@ use Rattle.std.proofs.Common.{◌<◌, ◌≤◌, ◌+◌, length, sym, arith}
 use Rattle.std.proofs.lemmas.Result.{err_from_is_err_and}
 use Rattle.nf_frac_def.specs.declared.Part.TheVariants.{Curve as OfCurve}
 use Rattle.nf_frac_def.specs.Passing.{passes_Q}
-use Rattle.nf_resume_laws.proofs.CutFlow.{entry_within}
+use Rattle.nf_rational_laws.proofs.Entries.{entry}
 use Rattle.nf_resume.proofs.Rates.{times_apart, rates_first, rate_stops, rate_goes, rates_end}
 use Rattle.nf_resume.proofs.curves.rates.Goals as goal
 
@@ -24,7 +24,7 @@ pub returns : goal.returns
 returns c =
     let inside : c.loop-i.i < length c.args.curve.now.points = omega (arith, c.len-count.ensures.count, c.len-count.ensures.some) in
     let last : length c.args.curve.now.points ≤ c.loop-i.i + 1 = omega (arith, c.len-count.ensures.count, c.len-count.ensures.some) in
-    let there = entry_within c.args.curve.now.points c.loop-i.i inside in
+    let there = entry c.args.curve.now.points c.loop-i.i inside in
     rates_end passes_Q OfCurve c.args.curve.now.points c.loop-i.i c.loop-i.rates.items c.loop-i.invariant there.0 there.1 last
 
 pub loop-i-init : goal.loop-i-init

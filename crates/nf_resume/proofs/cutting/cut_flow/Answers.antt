@@ -8,7 +8,7 @@ use Rattle.nf_frac_def.specs.Passing.{passes_Q}
 use Rattle.nf_model.specs.Equilibrium.{points_at}
 use Rattle.nf_curve.specs.Points.{Grown}
 use Rattle.nf_curve.specs.Flows.{trace_of, flow_of}
-use Rattle.nf_resume_def.specs.Restoring.{value_at_end}
+use Rattle.nf_phase_def.specs.Restoring.{value_at_end}
 use Rattle.nf_resume.specs.Cuts.{curves_of, cut_in}
 use Rattle.nf_resume.proofs.CutFlow.{labels_stop, labels_count, labels_end, links_stop, flow_is_cut}
 use Rattle.nf_resume.proofs.cutting.cut_flow.Goals as goal

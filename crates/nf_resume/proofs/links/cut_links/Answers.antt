@@ -11,7 +11,7 @@ use Rattle.nf_frac_def.specs.Checked.{Checked, Stops, at_part}
 use Rattle.nf_model.specs.Network.{Link}
 use Rattle.nf_model.specs.Equilibrium.{points_at}
 use Rattle.nf_curve.specs.Flows.{trace_of, flow_of}
-use Rattle.nf_resume_def.specs.Restoring.{value_at_end}
+use Rattle.nf_phase_def.specs.Restoring.{value_at_end}
 use Rattle.nf_resume_def.specs.Resuming as lists
 use Rattle.nf_resume_def.specs.Resuming.{links_with, cut_link}
 use Rattle.nf_resume_laws.proofs.CutFlow.{links_with-length}

@@ -13,10 +13,9 @@ use Rattle.nf_curve.specs.Flows.{flow_of}
 use Rattle.nf_curve.proofs.Exits.{was_ok}
 use Rattle.nf_resume_def.specs.Resuming.{cut_flow}
 use Rattle.nf_resume_laws.proofs.CutFlow.{cut_flow-is}
-use Rattle.nf_resume_laws.proofs.Restarted.{Equilibrium-cut_flow, IsShortFlow-cut_flow}
+use Rattle.nf_resume_laws.proofs.Restarted.{Equilibrium-cut_flow, IsShortFlow-cut_flow, EndsAtItsLabels-cut_flow}
 use Rattle.nf_report_read.specs.Files.{report_of}
-use Rattle.nf_phase.specs.Restarting.{NoneFull}
-use Rattle.nf_phase.proofs.Restarting.{EndsAtItsLabels-cut}
+use Rattle.nf_phase_def.specs.Restoring.{NoneFull}
 use Rattle.nf_resume.proofs.Resumed.{cut_stops, restored}
 use Rattle.nf_resume.proofs.resuming.restart.Goals as goal
 
@@ -32,7 +31,7 @@ restore-requires-clause-equilibrium c =
 
 pub restore-requires-clause-ends : goal.restore-requires-clause-ends
 restore-requires-clause-ends c =
-    EndsAtItsLabels-cut passes_Q c.args.net.now.net (flow_of c.args.report.now.flow) (flow_of c.in_ok-flow.flow) c.recall.ensures.network c.requires.equilibrium
+    EndsAtItsLabels-cut_flow passes_Q c.args.net.now.net (flow_of c.args.report.now.flow) (flow_of c.in_ok-flow.flow) c.recall.ensures.network c.requires.equilibrium
     (was_ok OfCurve (cut_flow passes_Q c.args.net.now.net (flow_of c.args.report.now.flow)) (flow_of c.in_ok-flow.flow) c.in_ok-flow.ensures)
 
 pub restore-requires-clause-short : goal.restore-requires-clause-short
@@ -61,3 +60,6 @@ returns-clause-time c =
     ap (λ (f : Flow). f.reached) c.in_ok-run.ensures.flow
     ∙ (cut_flow-is passes_Q c.args.net.now.net (flow_of c.args.report.now.flow) (flow_of c.in_ok-flow.flow) c.recall.ensures.network c.requires.equilibrium
     (was_ok OfCurve (cut_flow passes_Q c.args.net.now.net (flow_of c.args.report.now.flow)) (flow_of c.in_ok-flow.flow) c.in_ok-flow.ensures)).reached
+
+pub returns-clause-reaches : goal.returns-clause-reaches
+returns-clause-reaches c = let run = c.in_ok-run.ensures {u = tt} in run.state.reaches

@@ -5,8 +5,8 @@ use Rattle.nf_frac_def.specs.Passing.{passes_Q}
 use Rattle.nf_model.specs.Network.{Piece}
 use Rattle.nf_model.specs.Pattern.{Pattern}
 use Rattle.nf_thin_def.specs.PhaseRun.{Standing}
-use Rattle.nf_resume_def.specs.Open.{IsOpen}
-use Rattle.nf_phase.specs.Restarting.{none_starts, AreApart}
+use Rattle.nf_phase_def.specs.Open.{IsOpen}
+use Rattle.nf_phase.specs.OpenRuns.{none_starts, AreApart}
 use Rattle.nf_phase.proofs.Reached.{Stands-reached, slacks_count}
 use Rattle.nf_phase.proofs.Opened.{open_if, not_started}
 use Rattle.nf_phase.proofs.run.Run.is_open.Goals as goal

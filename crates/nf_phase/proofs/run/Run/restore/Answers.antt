@@ -6,7 +6,7 @@ use Rattle.nf_frac_def.specs.Passing.{passes_Q}
 use Rattle.nf_frac_def.specs.Checked.{each, at_part}
 use Rattle.nf_model.specs.Equilibrium.{HasSlopes}
 use Rattle.nf_thin_def.specs.PhaseRun.{Standing}
-use Rattle.nf_resume_def.specs.Restoring.{value_at_end, growing, restore_list}
+use Rattle.nf_phase_def.specs.Restoring.{value_at_end, growing, restore_list}
 use Rattle.nf_curve.specs.Points.{Grown}
 use Rattle.nf_curve.specs.Flows.{trace_of, flow_of as flow_in}
 use Rattle.nf_curve.specs.declared.flow.Trace as code
@@ -14,11 +14,10 @@ use Rattle.nf_curve.proofs.Exits.{was_ok, stops_on}
 use Rattle.nf_phase_curves.specs.Growing.{all_grown}
 use Rattle.nf_phase_curves.specs.Restoring.{of_links}
 use Rattle.nf_phase.specs.Stepping.{restored}
-use Rattle.nf_phase.proofs.Restarting.{flow_restored}
+use Rattle.nf_phase_equilibrium_laws.proofs.RestoredRun.{flow_restored}
 use Rattle.nf_phase.proofs.RestoreList.{labels_pass, links_pass, list_made, ends_same, flow_counts}
-use Rattle.nf_phase.proofs.ShortReached.{keeps_reached}
 use Rattle.nf_phase.proofs.Standings.{same_parts}
-use Rattle.nf_phase.proofs.Stepped.{ends_reached}
+use Rattle.nf_phase.proofs.RunStates.{state_reached}
 use Rattle.nf_phase.proofs.run.Run.restore.Goals as goal
 
 pub restore_links-requires-clause-outflows : goal.restore_links-requires-clause-outflows
@@ -60,8 +59,8 @@ returns-clause-list c =
     ∙ ap (λ (s : Standing). Ok s) (same_parts c.args.flow.reached _ _ (all_grown c.in_ok-label_curves.label_curves.items) (all_grown c.in_ok-link_curves.link_curves.items) c.args.last
     (ends_same c.args.flow.labels.items ∙ sym (c.in_ok-labels.ensures ∙ ap (map (λ (g : Grown). value_at_end g.points)) c.deref.ensures.value)))
 
-pub returns-clause-reaches : goal.returns-clause-reaches
-returns-clause-reaches c = restored (record {
+pub returns-clause-state : goal.returns-clause-state
+returns-clause-state c = state_reached passes_Q c.args.net.now.net c.recall.ensures.network _ (restored (record {
   flow = (flow_in c.args.flow);
   last = c.args.last;
   equilibrium = c.requires.equilibrium;
@@ -70,13 +69,7 @@ returns-clause-reaches c = restored (record {
   states = c.requires.states;
   no_full = c.requires.no_full;
   stands = was_ok Curve (restore_list passes_Q (flow_in c.args.flow) c.args.last) _ (returns-clause-list c);
-})
-
-pub returns-clause-ends : goal.returns-clause-ends
-returns-clause-ends c = ends_reached passes_Q c.args.net.now.net c.recall.ensures.network _ (returns-clause-reaches c)
-
-pub returns-clause-labels : goal.returns-clause-labels
-returns-clause-labels c = keeps_reached passes_Q c.args.net.now.net c.recall.ensures.network _ (returns-clause-reaches c)
+}))
 
 pub returns-clause-flow : goal.returns-clause-flow
 returns-clause-flow c = flow_restored passes_Q c.args.net.now.net c.recall.ensures.network _ (record {
@@ -96,20 +89,11 @@ same-last c = refl
 pub returns-clause-last : goal.returns-clause-last
 returns-clause-last c = refl
 
-pub returns-in_err-labels-clause-ends : goal.returns-in_err-labels-clause-ends
-returns-in_err-labels-clause-ends c = IfOk-from_err c.from_residual.result _ c.from_residual.ensures.0
+pub returns-in_err-labels-clause-state : goal.returns-in_err-labels-clause-state
+returns-in_err-labels-clause-state c = IfOk-from_err c.from_residual.result _ c.from_residual.ensures.0
 
-pub returns-in_err-labels-clause-labels : goal.returns-in_err-labels-clause-labels
-returns-in_err-labels-clause-labels c = IfOk-from_err c.from_residual.result _ c.from_residual.ensures.0
+pub returns-in_err-label_curves-clause-state : goal.returns-in_err-label_curves-clause-state
+returns-in_err-label_curves-clause-state c = IfOk-from_err c.from_residual-in_err-label_curves.result _ c.from_residual-in_err-label_curves.ensures.0
 
-pub returns-in_err-label_curves-clause-ends : goal.returns-in_err-label_curves-clause-ends
-returns-in_err-label_curves-clause-ends c = IfOk-from_err c.from_residual-in_err-label_curves.result _ c.from_residual-in_err-label_curves.ensures.0
-
-pub returns-in_err-label_curves-clause-labels : goal.returns-in_err-label_curves-clause-labels
-returns-in_err-label_curves-clause-labels c = IfOk-from_err c.from_residual-in_err-label_curves.result _ c.from_residual-in_err-label_curves.ensures.0
-
-pub returns-in_err-link_curves-clause-ends : goal.returns-in_err-link_curves-clause-ends
-returns-in_err-link_curves-clause-ends c = IfOk-from_err c.from_residual-in_err-link_curves.result _ c.from_residual-in_err-link_curves.ensures.0
-
-pub returns-in_err-link_curves-clause-labels : goal.returns-in_err-link_curves-clause-labels
-returns-in_err-link_curves-clause-labels c = IfOk-from_err c.from_residual-in_err-link_curves.result _ c.from_residual-in_err-link_curves.ensures.0
+pub returns-in_err-link_curves-clause-state : goal.returns-in_err-link_curves-clause-state
+returns-in_err-link_curves-clause-state c = IfOk-from_err c.from_residual-in_err-link_curves.result _ c.from_residual-in_err-link_curves.ensures.0

@@ -4,8 +4,7 @@ use Rattle.nf_rational.specs.Rational.{ℚ}
 use Rattle.nf_frac_def.specs.Passing.{passes_Q}
 use Rattle.nf_thin_def.specs.ReportCurves.{first_label_curve, first_curves}
 use Rattle.nf_phase.specs.Stepping.{starts}
-use Rattle.nf_phase.proofs.Stepped.{equilibrium_reached, ends_reached}
-use Rattle.nf_phase.proofs.ShortReached.{short_reached, keeps_reached}
+use Rattle.nf_phase.proofs.RunStates.{state_reached}
 use Rattle.nf_phase.proofs.run.Run.start.Goals as goal
 
 pub returns-clause-starts : goal.returns-clause-starts
@@ -18,17 +17,5 @@ returns-clause-starts c = record {
   last = c.in_ok-last.ensures ∙ ap (λ (n : ℕ). replicate n None) c.link_count.ensures;
 }
 
-pub returns-clause-reaches : goal.returns-clause-reaches
-returns-clause-reaches c = starts (returns-clause-starts c)
-
-pub returns-clause-equilibrium : goal.returns-clause-equilibrium
-returns-clause-equilibrium c = equilibrium_reached passes_Q c.args.net.now.net c.recall.ensures.network _ (returns-clause-reaches c)
-
-pub returns-clause-ends : goal.returns-clause-ends
-returns-clause-ends c = ends_reached passes_Q c.args.net.now.net c.recall.ensures.network _ (returns-clause-reaches c)
-
-pub returns-clause-labels : goal.returns-clause-labels
-returns-clause-labels c = keeps_reached passes_Q c.args.net.now.net c.recall.ensures.network _ (returns-clause-reaches c)
-
-pub returns-clause-short : goal.returns-clause-short
-returns-clause-short c = short_reached passes_Q c.args.net.now.net c.recall.ensures.network _ (returns-clause-reaches c)
+pub returns-clause-state : goal.returns-clause-state
+returns-clause-state c = state_reached passes_Q c.args.net.now.net c.recall.ensures.network _ (starts (returns-clause-starts c))

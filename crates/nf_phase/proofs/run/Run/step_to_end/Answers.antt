@@ -7,14 +7,13 @@ use Rattle.nf_rational.specs.Rational.{ℚ}
 use Rattle.nf_rational.specs.Order.{◌<ℚ◌}
 use Rattle.nf_frac_def.specs.Passing.{passes_Q}
 use Rattle.nf_thin_def.specs.PhaseRun.{Standing}
-use Rattle.nf_forever_def.specs.ForeverRun.{GoesToEnd}
+use Rattle.nf_phase_def.specs.ToEnd.{GoesToEnd}
 use Rattle.nf_phase_curves.proofs.Places.{holds_anyway}
 use Rattle.nf_phase.specs.Stepping.{Reaches, goes_on}
 use Rattle.nf_phase.specs.declared.fault.StepFault.{StepFault}
 use Rattle.nf_phase.proofs.Found.{by_fault}
 use Rattle.nf_phase.proofs.PhaseFound.{slack_count, thin_slope_count}
-use Rattle.nf_phase.proofs.ShortReached.{short_reached, keeps_reached}
-use Rattle.nf_phase.proofs.Stepped.{equilibrium_reached, ends_reached}
+use Rattle.nf_phase.proofs.RunStates.{state_reached}
 use Rattle.nf_phase.proofs.ToEnd.{found_none_on, end_passes, goes_forever, lists_pass, goes_to_end}
 use Rattle.nf_phase.proofs.run.Run.step_to_end.Goals as goal
 
@@ -55,12 +54,7 @@ returns-clause-phase c =
     goes_to_end passes_Q c.args.net.now.net c.args.patterns c.args.self.now c.in_ok-found.found c.in_ok-found.ensures.found c.deref.result.now c.deref-2.result.now c.self.inside.reached
     c.deref.ensures.value c.deref-2.ensures.value (ap (λ (s : Standing). s.time) c.self.view_is)
     c.in-Some.end (ap (λ (o : Option ℚ). Ok o) (sym c.in-Some.is) ∙ c.in_ok-end.ensures.list)
-    c.in_ok-phase.phase (c.in_ok-phase.ensures.leads c.args.patterns c.in_ok-found.ensures.found) c.in_ok-phase.ensures.slopes c.extend_by.new.self c.in_ok-extend_by.ensures.made
-
-pub returns-clause-reaches : goal.returns-clause-reaches
-returns-clause-reaches c =
-    let g : GoesToEnd passes_Q c.args.net.now.net c.args.patterns c.args.self.now c.extend_by.new.self = returns-clause-phase c in
-    goes_on g.end c.args.patterns c.requires.reaches g.goes
+    c.in_ok-phase.phase (c.in_ok-phase.ensures.leads c.args.patterns c.in_ok-found.ensures.found) c.in_ok-phase.ensures.thin c.extend_by.new.self c.in_ok-extend_by.ensures.made
 
 pub phase_by-requires-clause-reaches : goal.phase_by-requires-clause-reaches
 phase_by-requires-clause-reaches c = c.requires.reaches
@@ -87,26 +81,14 @@ extend_by-requires-clause-more c = c.requires.more
 pub extend_by-requires-clause-leads : goal.extend_by-requires-clause-leads
 extend_by-requires-clause-leads c = (c.in-Some.end, c.args.patterns, c.in_ok-phase.ensures.leads c.args.patterns c.in_ok-found.ensures.found)
 
-pub returns-in_err-end-clause-reaches : goal.returns-in_err-end-clause-reaches
-returns-in_err-end-clause-reaches c = c.requires.reaches
-
 pub returns-in_err-end-clause-kept : goal.returns-in_err-end-clause-kept
 returns-in_err-end-clause-kept c = holds_anyway c.from_residual-in_err-end.result _ refl
-
-pub returns-in_err-phase-clause-reaches : goal.returns-in_err-phase-clause-reaches
-returns-in_err-phase-clause-reaches c = c.requires.reaches
 
 pub returns-in_err-phase-clause-kept : goal.returns-in_err-phase-clause-kept
 returns-in_err-phase-clause-kept c = holds_anyway c.from_residual-in_err-phase.result _ refl
 
-pub returns-in_default-clause-reaches : goal.returns-in_default-clause-reaches
-returns-in_default-clause-reaches c = c.requires.reaches
-
 pub returns-in_default-clause-stays : goal.returns-in_default-clause-stays
 returns-in_default-clause-stays c = λ some. refl
-
-pub returns-in_err-extend_by-clause-reaches : goal.returns-in_err-extend_by-clause-reaches
-returns-in_err-extend_by-clause-reaches c = subst (λ (s : Standing). Reaches passes_Q c.args.net.now.net s) (sym c.in_err-extend_by.ensures.kept) c.requires.reaches
 
 pub returns-in_err-extend_by-clause-kept : goal.returns-in_err-extend_by-clause-kept
 returns-in_err-extend_by-clause-kept c = holds_anyway c.from_residual-in_err-extend_by.result _ c.in_err-extend_by.ensures.kept
@@ -141,75 +123,24 @@ same-self-in_default c = refl
 pub same-self-2 : goal.same-self-2
 same-self-2 c = refl
 
--- ---- facts on every reachable run state; without a phase the run state is unchanged
-pub returns-clause-equilibrium : goal.returns-clause-equilibrium
-returns-clause-equilibrium c = equilibrium_reached passes_Q c.args.net.now.net c.find.ensures.named.network _ (returns-clause-reaches c)
+-- ---- facts on the run state; without a phase it is unchanged
+pub returns-clause-state : goal.returns-clause-state
+returns-clause-state c =
+    let g : GoesToEnd passes_Q c.args.net.now.net c.args.patterns c.args.self.now c.extend_by.new.self = returns-clause-phase c in
+    state_reached passes_Q c.args.net.now.net c.find.ensures.named.network _ (goes_on g.end c.args.patterns c.requires.reaches g.goes)
 
-pub returns-clause-ends : goal.returns-clause-ends
-returns-clause-ends c = ends_reached passes_Q c.args.net.now.net c.find.ensures.named.network _ (returns-clause-reaches c)
+pub returns-in_default-clause-state : goal.returns-in_default-clause-state
+returns-in_default-clause-state c = state_reached passes_Q c.args.net.now.net c.find.ensures.named.network _ c.requires.reaches
 
-pub returns-clause-labels : goal.returns-clause-labels
-returns-clause-labels c = keeps_reached passes_Q c.args.net.now.net c.find.ensures.named.network _ (returns-clause-reaches c)
+pub returns-in_err-found-clause-state : goal.returns-in_err-found-clause-state
+returns-in_err-found-clause-state c = state_reached passes_Q c.args.net.now.net c.find.ensures.named.network _ c.requires.reaches
 
-pub returns-clause-short : goal.returns-clause-short
-returns-clause-short c = short_reached passes_Q c.args.net.now.net c.find.ensures.named.network _ (returns-clause-reaches c)
+pub returns-in_err-end-clause-state : goal.returns-in_err-end-clause-state
+returns-in_err-end-clause-state c = state_reached passes_Q c.args.net.now.net c.find.ensures.named.network _ c.requires.reaches
 
-pub returns-in_default-clause-equilibrium : goal.returns-in_default-clause-equilibrium
-returns-in_default-clause-equilibrium c = equilibrium_reached passes_Q c.args.net.now.net c.find.ensures.named.network _ c.requires.reaches
+pub returns-in_err-phase-clause-state : goal.returns-in_err-phase-clause-state
+returns-in_err-phase-clause-state c = state_reached passes_Q c.args.net.now.net c.find.ensures.named.network _ c.requires.reaches
 
-pub returns-in_default-clause-ends : goal.returns-in_default-clause-ends
-returns-in_default-clause-ends c = ends_reached passes_Q c.args.net.now.net c.find.ensures.named.network _ c.requires.reaches
-
-pub returns-in_default-clause-labels : goal.returns-in_default-clause-labels
-returns-in_default-clause-labels c = keeps_reached passes_Q c.args.net.now.net c.find.ensures.named.network _ c.requires.reaches
-
-pub returns-in_default-clause-short : goal.returns-in_default-clause-short
-returns-in_default-clause-short c = short_reached passes_Q c.args.net.now.net c.find.ensures.named.network _ c.requires.reaches
-
-pub returns-in_err-found-clause-equilibrium : goal.returns-in_err-found-clause-equilibrium
-returns-in_err-found-clause-equilibrium c = equilibrium_reached passes_Q c.args.net.now.net c.find.ensures.named.network _ c.requires.reaches
-
-pub returns-in_err-found-clause-ends : goal.returns-in_err-found-clause-ends
-returns-in_err-found-clause-ends c = ends_reached passes_Q c.args.net.now.net c.find.ensures.named.network _ c.requires.reaches
-
-pub returns-in_err-found-clause-labels : goal.returns-in_err-found-clause-labels
-returns-in_err-found-clause-labels c = keeps_reached passes_Q c.args.net.now.net c.find.ensures.named.network _ c.requires.reaches
-
-pub returns-in_err-found-clause-short : goal.returns-in_err-found-clause-short
-returns-in_err-found-clause-short c = short_reached passes_Q c.args.net.now.net c.find.ensures.named.network _ c.requires.reaches
-
-pub returns-in_err-end-clause-equilibrium : goal.returns-in_err-end-clause-equilibrium
-returns-in_err-end-clause-equilibrium c = equilibrium_reached passes_Q c.args.net.now.net c.find.ensures.named.network _ c.requires.reaches
-
-pub returns-in_err-end-clause-ends : goal.returns-in_err-end-clause-ends
-returns-in_err-end-clause-ends c = ends_reached passes_Q c.args.net.now.net c.find.ensures.named.network _ c.requires.reaches
-
-pub returns-in_err-end-clause-labels : goal.returns-in_err-end-clause-labels
-returns-in_err-end-clause-labels c = keeps_reached passes_Q c.args.net.now.net c.find.ensures.named.network _ c.requires.reaches
-
-pub returns-in_err-end-clause-short : goal.returns-in_err-end-clause-short
-returns-in_err-end-clause-short c = short_reached passes_Q c.args.net.now.net c.find.ensures.named.network _ c.requires.reaches
-
-pub returns-in_err-phase-clause-equilibrium : goal.returns-in_err-phase-clause-equilibrium
-returns-in_err-phase-clause-equilibrium c = equilibrium_reached passes_Q c.args.net.now.net c.find.ensures.named.network _ c.requires.reaches
-
-pub returns-in_err-phase-clause-ends : goal.returns-in_err-phase-clause-ends
-returns-in_err-phase-clause-ends c = ends_reached passes_Q c.args.net.now.net c.find.ensures.named.network _ c.requires.reaches
-
-pub returns-in_err-phase-clause-labels : goal.returns-in_err-phase-clause-labels
-returns-in_err-phase-clause-labels c = keeps_reached passes_Q c.args.net.now.net c.find.ensures.named.network _ c.requires.reaches
-
-pub returns-in_err-phase-clause-short : goal.returns-in_err-phase-clause-short
-returns-in_err-phase-clause-short c = short_reached passes_Q c.args.net.now.net c.find.ensures.named.network _ c.requires.reaches
-
-pub returns-in_err-extend_by-clause-equilibrium : goal.returns-in_err-extend_by-clause-equilibrium
-returns-in_err-extend_by-clause-equilibrium c = equilibrium_reached passes_Q c.args.net.now.net c.find.ensures.named.network _ (returns-in_err-extend_by-clause-reaches c)
-
-pub returns-in_err-extend_by-clause-ends : goal.returns-in_err-extend_by-clause-ends
-returns-in_err-extend_by-clause-ends c = ends_reached passes_Q c.args.net.now.net c.find.ensures.named.network _ (returns-in_err-extend_by-clause-reaches c)
-
-pub returns-in_err-extend_by-clause-labels : goal.returns-in_err-extend_by-clause-labels
-returns-in_err-extend_by-clause-labels c = keeps_reached passes_Q c.args.net.now.net c.find.ensures.named.network _ (returns-in_err-extend_by-clause-reaches c)
-
-pub returns-in_err-extend_by-clause-short : goal.returns-in_err-extend_by-clause-short
-returns-in_err-extend_by-clause-short c = short_reached passes_Q c.args.net.now.net c.find.ensures.named.network _ (returns-in_err-extend_by-clause-reaches c)
+pub returns-in_err-extend_by-clause-state : goal.returns-in_err-extend_by-clause-state
+returns-in_err-extend_by-clause-state c = state_reached passes_Q c.args.net.now.net c.find.ensures.named.network _
+    (subst (λ (s : Standing). Reaches passes_Q c.args.net.now.net s) (sym c.in_err-extend_by.ensures.kept) c.requires.reaches)

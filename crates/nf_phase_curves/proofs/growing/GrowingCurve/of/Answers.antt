@@ -4,7 +4,7 @@ use Rattle.std.proofs.lemmas.Result.{err_from_is_err_and}
 use Rattle.nf_frac_def.specs.declared.Part.TheVariants.{Curve}
 use Rattle.nf_frac_def.specs.Passing.{passes_Q}
 use Rattle.nf_thin_def.specs.ReportCurves.{GrowingCurve}
-use Rattle.nf_resume_def.specs.Restoring.{last_slope}
+use Rattle.nf_phase_def.specs.Restoring.{last_slope}
 use Rattle.nf_curve.proofs.Exits.{after_err, after_ok}
 use Rattle.nf_phase_curves.proofs.growing.GrowingCurve.of.Goals as goal
 

@@ -6,7 +6,7 @@ use Rattle.nf_frac_def.specs.Passing.{passes_Q}
 use Rattle.nf_frac_def.specs.Checked.{at_part}
 use Rattle.nf_curve.specs.Flows.{trace_of}
 use Rattle.nf_thin_def.specs.ReportCurves.{LinkCurves}
-use Rattle.nf_resume_def.specs.Restoring.{growing}
+use Rattle.nf_phase_def.specs.Restoring.{growing}
 use Rattle.nf_curve.proofs.Exits.{after_err, after_ok, stops_on}
 use Rattle.nf_phase_curves.specs.Restoring.{of_link}
 use Rattle.nf_phase_curves.proofs.link_curves.LinkCurves.of.Goals as goal

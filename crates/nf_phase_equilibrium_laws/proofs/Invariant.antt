@@ -1,5 +1,5 @@
 -- Any equilibrium satisfies the invariant of phases up to the departure that it reached.
-use Rattle.std.proofs.Common.{◌≡◌, ℕ, ◌<◌, [], ◌∷◌, ⊎_elim, Option, Some, None, sym, ap, subst, refl, ◌∙◌}
+use Rattle.std.proofs.Common.{◌≡◌, ℕ, [], ◌∷◌, ⊎_elim, Option, Some, None, sym, ap, subst, refl, ◌∙◌}
 use Rattle.nf_rational.specs.Rational.{ℚ}
 use Rattle.nf_rational.specs.Operations.{0ℚ, ◌+ℚ◌, ◌-ℚ◌, ◌*ℚ◌, ◌/ℚ◌}
 use Rattle.nf_rational.specs.Order.{◌≤ℚ◌, ◌<ℚ◌, max_ℚ}
@@ -20,10 +20,10 @@ use Rattle.nf_phase_laws.specs.Invariant.{link_slack, queue_by_slack, sent, Hold
 use Rattle.nf_phase_laws.specs.Description.{DescribesLinks}
 use Rattle.nf_rational_laws.proofs.Tests.{max0_none, max0_of}
 use Rattle.nf_phase_laws.proofs.Holds.{sent-is, queue_early, outflow_early}
-use Rattle.nf_resume_laws.proofs.Served.{outflow-entered, outflow-waits}
-use Rattle.nf_resume_laws.proofs.Printed.{rises-link, starts-link, first, labels-at, source-at, label-nn, label-order, not_undercut, comes_out-at, none-before}
+use Rattle.nf_phase_equilibrium_laws.proofs.Served.{outflow-entered, outflow-waits}
+use Rattle.nf_phase_equilibrium_laws.proofs.Printed.{rises-link, starts-link, first, labels-at, source-at, label-nn, label-order, up_to_now, not_undercut, comes_out-at, none-before}
 use Rattle.nf_rational_laws.proofs.Chains.{≤ℚ_refl, ≤ℚ_trans}
-use Rattle.nf_rational_laws.proofs.Facts.{in_time}
+use Rattle.nf_rational_laws.proofs.Facts.{in_time, times_second_zero}
 
 -- ---- over plain numbers: a and b the labels at the tail and the head, r the transit time, x the exit, q the queue, c the capacity
 no_slack : (a b r x : ℚ) → x ≡ a +ℚ r +ℚ 0ℚ → b ≤ℚ x → b -ℚ (a +ℚ r) ≤ℚ 0ℚ
@@ -34,9 +34,6 @@ slack_nn a b r h = linear_le (a ∷ b ∷ r ∷ []) (le h ∷ []) (search readin
 
 wait_is : (a b r w : ℚ) → b ≡ a +ℚ r +ℚ w → b -ℚ (a +ℚ r) ≡ w
 wait_is a b r w e = linear_eq (a ∷ b ∷ r ∷ w ∷ []) (eq e ∷ []) (search reading_of) tt tt
-
-none_waits : (c m : ℚ) → m ≡ 0ℚ → 0ℚ ≡ c *ℚ m
-none_waits c m e = linear_eq (c ∷ m ∷ []) (eq_times c e ∷ []) (search reading_of) tt tt
 
 all_waits : (c q w m : ℚ) → w *ℚ c ≡ q → m ≡ w → q ≡ c *ℚ m
 all_waits c q w m e f = linear_eq (c ∷ q ∷ w ∷ m ∷ []) (eq e ∷ eq_times c f ∷ []) (search reading_of) tt tt
@@ -75,22 +72,16 @@ module _ (net : Network) (flow : Flow) (good : IsNetwork net) (is : Equilibrium 
   positive : (e : ℕ) (link : Link) → IsLink net e link → IsPositive link.capacity
   positive e link p = IsPositive-link net e link good p
 
-  out : (e : ℕ) (link : Link) (departure : ℚ) → IsLink net e link → Within 0ℚ flow.reached departure → IsOutflow link.transit link.capacity (F e) (l link.head departure) (F e (l link.tail departure))
-  out = comes_out-at net flow good is
-
   -- ---- the amounts sent are conserved
   ins : (v : ℕ) (departure extra_in extra_out : ℚ) → Within 0ℚ flow.reached departure → Balances net F v (l v departure) extra_in extra_out
       → sum_in net.links (λ e. x e departure) v +ℚ extra_in ≡ sum_out net.links (λ e. x e departure) v +ℚ extra_out
   ins v departure extra_in extra_out w b =
       ap (λ (s : ℚ). s +ℚ extra_in) (sum_in-same net.links (λ e. x e departure) b.outs v (λ e link p here. x-is e link departure p
       ∙ IsOutflow-unique link.transit link.capacity (F e) (l v departure) (F e (l link.tail departure)) (b.outs e)
-      (subst (λ (k : ℕ). IsOutflow link.transit link.capacity (F e) (l k departure) (F e (l link.tail departure))) here (out e link departure p w)) (b.outflows e link p here)))
+      (subst (λ (k : ℕ). IsOutflow link.transit link.capacity (F e) (l k departure) (F e (l link.tail departure))) here (comes_out-at net flow good is e link departure p w)) (b.outflows e link p here)))
       ∙ b.sums
       ∙ ap (λ (s : ℚ). s +ℚ extra_out) (sum_out-same net.links (λ e. F e (l v departure)) (λ e. x e departure) v
       (λ e link p here. ap (λ (k : ℕ). F e (l k departure)) (sym here) ∙ sym (x-is e link departure p)))
-
-  up_to_now : (v : ℕ) (departure : ℚ) → v < net.nodes → Within 0ℚ flow.reached departure → Within 0ℚ (l v flow.reached) (l v departure)
-  up_to_now v departure h w = (label-nn net flow good is v departure h w, label-order net flow good is v departure flow.reached h w.0 w.1 (≤ℚ_refl flow.reached))
 
   -- ---- queues: of an unbounded link, and of one with a capacity
   slack-unbounded : (e : ℕ) (link : Link) (departure : ℚ) → IsLink net e link → link.capacity ≡ None → Within 0ℚ flow.reached departure → link_slack l link departure ≤ℚ 0ℚ
@@ -112,15 +103,15 @@ module _ (net : Network) (flow : Flow) (good : IsNetwork net) (is : Equilibrium 
       (λ (k : l link.head departure <ℚ u.0). absurd (not_both_ℚ _ _
       (outflow-waits link.transit link.capacity (F e) (positive e link p) (rises-link net flow good is e link p) (starts-link net flow good is e link p)
       rate (l link.tail departure) u.1.queue u.0 (l link.head departure) (F e (l link.tail departure)) some (label-nn net flow good is link.tail departure (good.tails e link p) w)
-      u.1.is_queue h sum k (out e link departure p w)) (≤ℚ_refl _)))
+      u.1.is_queue h sum k (comes_out-at net flow good is e link departure p w)) (≤ℚ_refl _)))
       (λ (k : u.0 ≤ℚ l link.head departure). ≤ℚ_antisymm _ _ u.2 k)
       (lt_or_le_ℚ (l link.head departure) u.0) in
       let s : link_slack l link departure ≡ u.1.queue /ℚ rate = wait_is (l link.tail departure) (l link.head departure) link.transit _ (at ∙ sum) in
       all_waits rate u.1.queue (u.1.queue /ℚ rate) _ served (max0_of _ (subst (λ (z : ℚ). 0ℚ ≤ℚ z) (sym s) (wait-nn rate u.1.queue (positive e link p rate some) (≤ℚ_of_lt _ _ h))) ∙ s))
       (λ (h : u.1.queue ≤ℚ 0ℚ).
       let none : u.1.queue ≡ 0ℚ = ≤ℚ_antisymm _ _ h (IsQueue-nn link.capacity (F e) (l link.tail departure) u.1.queue u.1.is_queue) in
-      none ∙ none_waits rate _ (max0_none _ (no_slack (l link.tail departure) (l link.head departure) link.transit u.0
-      (sum ∙ ap (λ (z : ℚ). l link.tail departure +ℚ link.transit +ℚ z) (wait-none rate u.1.queue (positive e link p rate some) none)) u.2)))
+      none ∙ sym (times_second_zero rate _ (max0_none _ (no_slack (l link.tail departure) (l link.head departure) link.transit u.0
+      (sum ∙ ap (λ (z : ℚ). l link.tail departure +ℚ link.transit +ℚ z) (wait-none rate u.1.queue (positive e link p rate some) none)) u.2))))
       (lt_or_le_ℚ 0ℚ u.1.queue))
       u.1.is_queue
     where
@@ -142,10 +133,10 @@ module _ (net : Network) (flow : Flow) (good : IsNetwork net) (is : Equilibrium 
   idle-is : (e : ℕ) (link : Link) (departure time : ℚ) → IsLink net e link → Within 0ℚ flow.reached departure → link_slack l link departure ≤ℚ 0ℚ
       → 0ℚ ≤ℚ time → l link.head departure -ℚ link.transit ≤ℚ time → time ≤ℚ l link.tail departure → F e time ≡ F e (l link.tail departure)
   idle-is e link departure time p w low h i j = ≤ℚ_antisymm _ _ (rises-link net flow good is e link p time (l link.tail departure) h j) (⊎_elim
-      (λ (k : l link.head departure <ℚ link.transit). subst (λ (z : ℚ). z ≤ℚ F e time) (sym ((out e link departure p w).early k))
+      (λ (k : l link.head departure <ℚ link.transit). subst (λ (z : ℚ). z ≤ℚ F e time) (sym ((comes_out-at net flow good is e link departure p w).early k))
       (subst (λ (z : ℚ). z ≤ℚ F e time) (starts-link net flow good is e link p) (rises-link net flow good is e link p 0ℚ time (≤ℚ_refl 0ℚ) h)))
       (λ (k : link.transit ≤ℚ l link.head departure). ≤ℚ_trans _ _ _
-      (outflow-entered link.transit link.capacity (F e) (positive e link p) (rises-link net flow good is e link p) (starts-link net flow good is e link p) (l link.head departure) _ k (out e link departure p w))
+      (outflow-entered link.transit link.capacity (F e) (positive e link p) (rises-link net flow good is e link p) (starts-link net flow good is e link p) (l link.head departure) _ k (comes_out-at net flow good is e link departure p w))
       (rises-link net flow good is e link p (l link.head departure -ℚ link.transit) time (less_nn link.transit (l link.head departure) k) i))
       (lt_or_le_ℚ (l link.head departure) link.transit))
 
@@ -156,7 +147,7 @@ module _ (net : Network) (flow : Flow) (good : IsNetwork net) (is : Equilibrium 
       idle-is e link departure (l link.head departure -ℚ link.transit) p w low h (≤ℚ_refl _) (in_time (l link.tail departure) (l link.head departure) link.transit low) in
       subst (λ (y : ℚ). IsQueue link.capacity (F e) (l link.head departure -ℚ link.transit) y) (all_but_none _ _ same)
       (IsQueue-from_IsOutflow link.transit link.capacity (F e) (l link.head departure -ℚ link.transit) (l link.head departure) (F e (l link.tail departure))
-      (back_again (l link.head departure) link.transit) h (out e link departure p w))
+      (back_again (l link.head departure) link.transit) h (comes_out-at net flow good is e link departure p w))
 
   -- ---- the exit at the label of the head implies that the slack is at least 0
   active : (e : ℕ) (link : Link) (departure : ℚ) → IsLink net e link → IsExit link.transit link.capacity (F e) (l link.tail departure) (l link.head departure) → 0ℚ ≤ℚ link_slack l link departure
@@ -173,7 +164,7 @@ module _ (net : Network) (flow : Flow) (good : IsNetwork net) (is : Equilibrium 
     amount_rises = is.nash.rises;
     amount_starts = is.nash.starts;
     sent_starts = λ e link p. x-is e link 0ℚ p ∙ none-before net flow good is e link p;
-    inner = λ v departure h a b w. less_none _ _ (ins v departure 0ℚ 0ℚ w (is.nash.conserves.inner v (l v departure) h a b (up_to_now v departure h w)));
+    inner = λ v departure h a b w. less_none _ _ (ins v departure 0ℚ 0ℚ w (is.nash.conserves.inner v (l v departure) h a b (up_to_now net flow good is v departure h w)));
     supplied = λ departure w. more_in _ _ _ (ins net.source departure (supply net departure) 0ℚ w
         (subst (λ (z : ℚ). Balances net F net.source z (supply net departure) 0ℚ) (sym (source-at net flow good is departure w)) (is.nash.conserves.source departure w)));
     drained = λ departure w. more_out _ _ _ (ins net.sink departure 0ℚ (supply net departure) w (is.nash.conserves.sink departure w));
@@ -195,13 +186,13 @@ module _ (net : Network) (flow : Flow) (good : IsNetwork net) (is : Equilibrium 
   pub DescribesLinks-equilibrium : DescribesLinks net F l (outflow flow) (queue flow) flow.reached
   DescribesLinks-equilibrium = record {
     outflows = λ e link departure p w. IsOutflow-unique link.transit link.capacity (F e) (l link.head departure) _ _
-        (is.outflows e link (l link.head departure) p (up_to_now link.head departure (good.heads e link p) w)) (out e link departure p w) ∙ sym (x-is e link departure p);
+        (is.outflows e link (l link.head departure) p (up_to_now net flow good is link.head departure (good.heads e link p) w)) (comes_out-at net flow good is e link departure p w) ∙ sym (x-is e link departure p);
     outflows_early = λ e link time p w. IsOutflow-unique link.transit link.capacity (F e) time _ _
-        (is.outflows e link time p (w.0, ≤ℚ_trans _ _ _ w.1 (up_to_now link.head 0ℚ (good.heads e link p) (first net flow good is)).1))
+        (is.outflows e link time p (w.0, ≤ℚ_trans _ _ _ w.1 (up_to_now net flow good is link.head 0ℚ (good.heads e link p) (first net flow good is)).1))
         (outflow_early net F l flow.reached good HoldsUpTo-equilibrium e link time p w.0 w.1);
     queues = λ e link departure p w. IsQueue-unique link.capacity (F e) (l link.tail departure) _ _
-        (is.queues e link (l link.tail departure) p (up_to_now link.tail departure (good.tails e link p) w)) (queue-is e link departure p w);
+        (is.queues e link (l link.tail departure) p (up_to_now net flow good is link.tail departure (good.tails e link p) w)) (queue-is e link departure p w);
     queues_early = λ e link time p w. IsQueue-unique link.capacity (F e) time _ _
-        (is.queues e link time p (w.0, ≤ℚ_trans _ _ _ w.1 (up_to_now link.tail 0ℚ (good.tails e link p) (first net flow good is)).1))
+        (is.queues e link time p (w.0, ≤ℚ_trans _ _ _ w.1 (up_to_now net flow good is link.tail 0ℚ (good.tails e link p) (first net flow good is)).1))
         (queue_early net F l flow.reached good HoldsUpTo-equilibrium e link time p w.0 w.1);
   }

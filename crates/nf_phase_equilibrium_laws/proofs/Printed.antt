@@ -26,9 +26,9 @@ use Rattle.nf_model_laws.proofs.Sums.{sum_out-each, sum_out-same, sum_in-some}
 use Rattle.nf_model_laws.proofs.Supply.{supplied-begins}
 use Rattle.nf_model_laws.proofs.Ways.{way_back}
 use Rattle.nf_check_laws.proofs.Rising.{label-rises}
-use Rattle.nf_resume_laws.proofs.Served.{amount-nn, outflow-entered}
-use Rattle.nf_resume_laws.proofs.Sent.{BalancedAt, into, into-is, out-balances, out-is_into, comes_out}
-use Rattle.nf_resume_laws.proofs.Repeating.{Repeats, none_by_repeating}
+use Rattle.nf_phase_equilibrium_laws.proofs.Served.{amount-nn, outflow-entered}
+use Rattle.nf_phase_equilibrium_laws.proofs.Sent.{BalancedAt, into, into-is, out-balances, out-is_into, comes_out}
+use Rattle.nf_phase_equilibrium_laws.proofs.Repeating.{Repeats, none_by_repeating}
 use Rattle.nf_rational_laws.proofs.Chains.{≤ℚ_refl, ≤ℚ_trans}
 use Rattle.nf_rational_laws.proofs.Extremes.{min_left, min_right, min_is_left, min_keeps}
 use Rattle.nf_rational_laws.proofs.Facts.{first_of_sum}
@@ -127,7 +127,7 @@ module _ (net : Network) (flow : Flow) (good : IsNetwork net) (is : Equilibrium 
       → IsOutflow link.transit link.capacity (F e) (at link.head) (out_by at e)
   printed-out at e link p w = subst (λ (y : ℚ). IsOutflow link.transit link.capacity (F e) (at link.head) y) (sym (out_by-is at e link p)) (is.outflows e link (at link.head) p w)
 
-  up_to_now : (v : ℕ) (departure : ℚ) → v < net.nodes → Within 0ℚ flow.reached departure → Within 0ℚ (l v flow.reached) (l v departure)
+  pub up_to_now : (v : ℕ) (departure : ℚ) → v < net.nodes → Within 0ℚ flow.reached departure → Within 0ℚ (l v flow.reached) (l v departure)
   up_to_now v departure h w = (label-nn v departure h w, label-order v departure flow.reached h w.0 w.1 (≤ℚ_refl flow.reached))
 
   balanced : (departure : ℚ) → Within 0ℚ flow.reached departure → BalancedAt net F (λ v. l v departure) (out_by (λ v. l v departure)) (supply net departure)

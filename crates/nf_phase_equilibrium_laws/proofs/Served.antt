@@ -5,7 +5,7 @@ use Rattle.nf_rational.specs.Rational.{ℚ}
 use Rattle.nf_rational.specs.Operations.{0ℚ, ◌+ℚ◌, ◌-ℚ◌, ◌*ℚ◌, ◌/ℚ◌}
 use Rattle.nf_rational.specs.Order.{◌≤ℚ◌, ◌<ℚ◌}
 use Rattle.nf_rational_laws.proofs.Polynomial.{reading_of}
-use Rattle.nf_rational_laws.proofs.Order.{≤ℚ_of_lt, ≤ℚ_of_same, lt_or_le_ℚ}
+use Rattle.nf_rational_laws.proofs.Order.{≤ℚ_of_lt, ≤ℚ_of_same, lt_or_le_ℚ, less_nn}
 use Rattle.nf_rational_laws.proofs.Linear.{le, lt, eq, le_times, eq_times, linear_le, linear_lt}
 use Rattle.nf_model.specs.Curve.{IsGreatest, IsLeast, NeverFalls}
 use Rattle.nf_model.specs.Queue.{IsQueue, IsExit, IsOutflow}
@@ -14,9 +14,6 @@ use Rattle.nf_model_laws.proofs.Affine.{ps-times_gap, quotient-times}
 use Rattle.nf_model_laws.proofs.Exits.{IsOutflow-at_exit}
 use Rattle.nf_rational_laws.proofs.Chains.{≤ℚ_refl, ≤ℚ_trans}
 use Rattle.nf_rational_laws.proofs.Facts.{less_le}
-
-since : (r t : ℚ) → r ≤ℚ t → 0ℚ ≤ℚ t -ℚ r
-since r t h = linear_le (r ∷ t ∷ []) (le h ∷ []) (search reading_of) tt
 
 -- ---- over plain numbers: f entered by the time u, at least 0, and c the capacity
 nn_later : (f c z r u y : ℚ) → 0ℚ ≤ℚ f → 0ℚ <ℚ c → u ≤ℚ z -ℚ r → f +ℚ c *ℚ (z -ℚ r -ℚ u) ≡ y → 0ℚ ≤ℚ y
@@ -42,7 +39,7 @@ module _ (transit : ℚ) (capacity : Option ℚ) (amount : ℚ → ℚ) (positiv
       (lt_or_le_ℚ time transit)
     where
       by : (c : Option ℚ) → capacity ≡ c → transit ≤ℚ time → 0ℚ ≤ℚ out
-      by None e l = subst (λ (x : ℚ). 0ℚ ≤ℚ x) (sym (p.unbounded l e)) (amount-nn _ (since transit time l))
+      by None e l = subst (λ (x : ℚ). 0ℚ ≤ℚ x) (sym (p.unbounded l e)) (amount-nn _ (less_nn transit time l))
       by (Some rate) e l =
           let g : IsLeast (λ since. amount since +ℚ rate *ℚ (time -ℚ transit -ℚ since)) 0ℚ (time -ℚ transit) out = p.bounded rate l e in
           nn_later _ rate time transit g.taken.0 out (amount-nn g.taken.0 g.taken.1.0) (positive rate e) g.taken.1.1 g.taken.2
@@ -55,7 +52,7 @@ module _ (transit : ℚ) (capacity : Option ℚ) (amount : ℚ → ℚ) (positiv
       by None e = ≤ℚ_of_same _ _ (p.unbounded l e)
       by (Some rate) e =
           let g : IsLeast (λ since. amount since +ℚ rate *ℚ (time -ℚ transit -ℚ since)) 0ℚ (time -ℚ transit) out = p.bounded rate l e in
-          at_entry _ rate time transit out (g.bound (time -ℚ transit) (since transit time l, ≤ℚ_refl _))
+          at_entry _ rate time transit out (g.bound (time -ℚ transit) (less_nn transit time l, ≤ℚ_refl _))
 
   pub outflow-rises : (earlier later x y : ℚ) → earlier ≤ℚ later → IsOutflow transit capacity amount earlier x → IsOutflow transit capacity amount later y → x ≤ℚ y
   outflow-rises earlier later x y h p q = ⊎_elim
@@ -65,13 +62,13 @@ module _ (transit : ℚ) (capacity : Option ℚ) (amount : ℚ → ℚ) (positiv
     where
       by : (c : Option ℚ) → capacity ≡ c → transit ≤ℚ earlier → x ≤ℚ y
       by None e l = subst (λ (z : ℚ). x ≤ℚ z) (sym (q.unbounded (≤ℚ_trans _ _ _ l h) e))
-          (subst (λ (z : ℚ). z ≤ℚ amount (later -ℚ transit)) (sym (p.unbounded l e)) (rises _ _ (since transit earlier l) (less_le earlier later transit h)))
+          (subst (λ (z : ℚ). z ≤ℚ amount (later -ℚ transit)) (sym (p.unbounded l e)) (rises _ _ (less_nn transit earlier l) (less_le earlier later transit h)))
       by (Some rate) e l =
           let f : IsLeast (λ since. amount since +ℚ rate *ℚ (earlier -ℚ transit -ℚ since)) 0ℚ (earlier -ℚ transit) x = p.bounded rate l e in
           let g : IsLeast (λ since. amount since +ℚ rate *ℚ (later -ℚ transit -ℚ since)) 0ℚ (later -ℚ transit) y = q.bounded rate (≤ℚ_trans _ _ _ l h) e in
           ⊎_elim
           (λ (k : earlier -ℚ transit <ℚ g.taken.0). at_once (amount (earlier -ℚ transit)) (amount g.taken.0) rate earlier later transit g.taken.0 x y (positive rate e) g.taken.1.1
-          (rises _ _ (since transit earlier l) (≤ℚ_of_lt _ _ k)) (f.bound (earlier -ℚ transit) (since transit earlier l, ≤ℚ_refl _)) g.taken.2)
+          (rises _ _ (less_nn transit earlier l) (≤ℚ_of_lt _ _ k)) (f.bound (earlier -ℚ transit) (less_nn transit earlier l, ≤ℚ_refl _)) g.taken.2)
           (λ (k : g.taken.0 ≤ℚ earlier -ℚ transit). later_more (amount g.taken.0) rate earlier later transit g.taken.0 x y (positive rate e) h (f.bound g.taken.0 (g.taken.1.0, k)) g.taken.2)
           (lt_or_le_ℚ (earlier -ℚ transit) g.taken.0)
 
@@ -98,7 +95,7 @@ module _ (transit : ℚ) (capacity : Option ℚ) (amount : ℚ → ℚ) (positiv
       let f : IsLeast (λ since. amount since +ℚ rate *ℚ (time -ℚ transit -ℚ since)) 0ℚ (time -ℚ transit) out = p.bounded rate k e in
       ⊎_elim
       (λ (j : time -ℚ transit <ℚ g.taken.0). before_that (amount entry) (amount g.taken.0) rate g.taken.0 entry queue (amount (time -ℚ transit)) out g.taken.2 some c g.taken.1.1
-      (rises _ _ (since transit time k) (≤ℚ_of_lt _ _ j)) (outflow-entered time out k p))
+      (rises _ _ (less_nn transit time k) (≤ℚ_of_lt _ _ j)) (outflow-entered time out k p))
       (λ (j : g.taken.0 ≤ℚ time -ℚ transit). not_yet (amount entry) (amount g.taken.0) rate g.taken.0 entry queue (queue /ℚ rate) time transit exit out g.taken.2 (quotient-times queue rate c) x
       (ps-times_gap rate time exit c l) (f.bound g.taken.0 (g.taken.1.0, j)))
       (lt_or_le_ℚ (time -ℚ transit) g.taken.0))

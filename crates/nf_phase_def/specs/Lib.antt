@@ -1,0 +1,3 @@
+pub mod Restoring
+pub mod Open
+pub mod ToEnd
