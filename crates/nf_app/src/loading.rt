@@ -12,7 +12,7 @@ ghost use Rattle.nf_load.specs.Loadings.{loaded_of};
 ghost use Rattle.nf_app.specs.Lists.{loading_list};
 
 use nf_frac::{Halt, Q};
-use nf_load::{Loaded, Loads, cumulative, load_link};
+use nf_load::{Loaded, Loads, load_trace, supplied};
 use nf_net::{Link, LinkId, Network, Piece};
 use std::alloc::Global;
 
@@ -29,8 +29,8 @@ fn load_by_pieces(
     requires capacity { IsPositive link.now.capacity }
     ensures { Gives loaded_of (λ q. q) result (at_part Load (load_link_list passes_Q horizon (link.now, pieces.now))) }
 {
-    let inflow = cumulative(alloc, pieces, horizon)?;
-    load_link(alloc, link.transit, link.capacity, &inflow, horizon)
+    let inflow = supplied(alloc, pieces, horizon)?;
+    load_trace(alloc, link.transit, link.capacity, &inflow, horizon)
 }
 
 /// Loads each link by its pieces, up to a horizon.

@@ -7,3 +7,6 @@ pub mod ExitsInTurn
 pub mod OverPieces
 pub mod LoadsRead
 pub mod Pushed
+pub mod TakenOff
+pub mod KnownRates
+pub mod RatesInTurn

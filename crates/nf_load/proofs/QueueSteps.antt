@@ -77,6 +77,12 @@ module _ (passes : Passing) (capacity : Option ℚ) where
     pub stops : (q : PassedAt ℚ) → at_part part (after_piece passes capacity before p) ≡ Err q → at_part part all ≡ Err q
     stops q e = ap (at_part part) (sym from_here) ∙ front_err part front _ q (after_err part (after_piece passes capacity before p) _ q e)
 
+-- ---- the moment before the point of this number is the point before it
+pub record IsBefore (points : List Point) (last : Waits) (i : ℕ) : Type 0 where
+  pub number : ℕ
+  pub next : i ≡ suc number
+  pub is : slice_get points number ≡ Some (last.time, last.amount)
+
 -- ---- the times of what waits rise
 abbrev pub Later : Waits → List Point → Type 0
 Later before points = TimesRise ((before.time, before.amount) ∷ points)

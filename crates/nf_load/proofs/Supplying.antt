@@ -13,6 +13,7 @@ use Rattle.nf_model.specs.Curve.{Point}
 use Rattle.nf_model.specs.Network.{Piece}
 use Rattle.nf_rational.specs.Signs.{is_same}
 use Rattle.nf_load_def.specs.Cumulative.{end_of, point_after_0, point_if_after_0, with_piece, cumulative_from, checked_cumulative}
+use Rattle.nf_load.specs.Rates.{rate_after_0 as rate_by_test, rate_if_after_0}
 use Rattle.nf_curve_laws.proofs.Operations.{is_same_cases}
 use Rattle.nf_curve.proofs.Exits.{was_ok, after_err, front_err}
 use Rattle.nf_curve.proofs.Shortening.{drop-at}
@@ -28,6 +29,18 @@ pub after_0 : (t y : ℚ) → (t ≡ 0ℚ → ⊥) → point_if_after_0 t y ≡ 
 after_0 t y f = ⊎_elim
     (λ (w : (is_same t 0ℚ ≡ true) × (t ≡ 0ℚ)). absurd (f w.1))
     (λ (w : (is_same t 0ℚ ≡ false) × (¬ (t ≡ 0ℚ))). ap (λ (b : Bool). point_after_0 b t y) w.0)
+    (is_same_cases t 0ℚ)
+
+pub rate_at_0 : (t r : ℚ) → t ≡ 0ℚ → rate_if_after_0 t r ≡ []
+rate_at_0 t r e = ⊎_elim
+    (λ (w : (is_same t 0ℚ ≡ true) × (t ≡ 0ℚ)). ap (λ (b : Bool). rate_by_test b r) w.0)
+    (λ (w : (is_same t 0ℚ ≡ false) × (¬ (t ≡ 0ℚ))). absurd (w.1 e))
+    (is_same_cases t 0ℚ)
+
+pub rate_after_0 : (t r : ℚ) → (t ≡ 0ℚ → ⊥) → rate_if_after_0 t r ≡ r ∷ []
+rate_after_0 t r f = ⊎_elim
+    (λ (w : (is_same t 0ℚ ≡ true) × (t ≡ 0ℚ)). absurd (f w.1))
+    (λ (w : (is_same t 0ℚ ≡ false) × (¬ (t ≡ 0ℚ))). ap (λ (b : Bool). rate_by_test b r) w.0)
     (is_same_cases t 0ℚ)
 
 -- ---- the points so far, and those from a piece on

@@ -3,3 +3,4 @@ pub mod Loadings
 pub mod InSteps
 pub mod Entries
 pub mod Kept
+pub mod Rates

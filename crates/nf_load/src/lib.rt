@@ -14,8 +14,8 @@ mod reading;
 mod waiting;
 mod waits;
 
-pub use amounts::cumulative;
-pub use loading::{Loaded, load_link};
+pub use amounts::{cumulative, supplied};
+pub use loading::{Loaded, load_link, load_trace};
 pub use loads::Loads;
 pub use nf_report_def::LoadRule;
 pub use reading::{LoadsFault, parse_loads};

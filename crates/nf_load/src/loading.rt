@@ -11,13 +11,14 @@ ghost use Rattle.nf_model_laws.specs.Capacity.{IsPositive};
 ghost use Rattle.nf_load_def.specs.Loading.{checked_loading};
 ghost use Rattle.nf_load_def.specs.Meanings.{IsLoaded};
 ghost use Rattle.nf_load.specs.Loadings.{loaded_of};
+ghost use Rattle.nf_load.specs.Rates.{AreRates};
 ghost use Rattle.nf_load.specs.InSteps.{AreCurves, LeadsToCurves, in_short_form, until_transit, behind_cut};
 
 use crate::curves::{exit_curve, outflow_until, queue_curve};
 use crate::exiting::all_exits;
 use crate::waiting::all_waits;
 use crate::waits::{Exit, Waits};
-use nf_curve::Curve;
+use nf_curve::{Curve, Trace, ends_at};
 use nf_frac::{Halt, Part, PassedAt, Q, at};
 use std::alloc::Global;
 
@@ -78,21 +79,23 @@ fn curves_until(
     short_curves(alloc, waits, all, &whole_outflow)
 }
 
-// Loads a link with an inflow that is cut at the time `until`.
+// Loads a link with an inflow that is cut at the time `until`. `rates` are known rates of its first pieces.
 fn load_cut(
     alloc: Global,
     transit: Q,
     capacity: Option<Q>,
     cut: &Curve,
+    rates: &[Q],
     until: Q,
 ) -> Result<Loaded, Halt<Q>>
     requires transit { 0ℚ ≤ℚ transit }
     requires capacity { IsPositive capacity }
     requires curves { LeadsToCurves passes_Q transit capacity cut.now.points }
+    requires rates { AreRates cut.now.points rates.now }
     requires until { 0ℚ ≤ℚ until }
     ensures { Gives loaded_of (λ q. q) result (at_part Load (behind_cut passes_Q transit capacity cut.now.points until)) }
 {
-    let waits = all_waits(alloc, &capacity, cut)?;
+    let waits = all_waits(alloc, &capacity, cut, rates)?;
     let exits = all_exits(alloc, &capacity, transit, &waits)?;
     curves_until(alloc, transit, &waits, &exits, until)
 }
@@ -119,5 +122,38 @@ pub fn load_link(
     // Proof: the points of the inflow are a curve.
     inflow.recall();
     let cut = inflow.cut(alloc, until, Part::Load)?;
-    load_cut(alloc, transit, capacity, &cut, until)
+    load_cut(alloc, transit, capacity, &cut, &[], until)
+}
+
+/// Loads a link as `load_link` does. The rates of the inflow are the slopes between its points, and no operation of these passes, so that
+/// they need not be computed again.
+pub fn load_trace(
+    alloc: Global,
+    transit: Q,
+    capacity: Option<Q>,
+    inflow: &Trace,
+    until: Q,
+) -> Result<Loaded, Halt<Q>>
+    requires transit { 0ℚ ≤ℚ transit }
+    requires capacity { IsPositive capacity }
+    requires begins { value inflow.now.curve.points 0ℚ ≡ 0ℚ }
+    requires rises { NeverFalls (value inflow.now.curve.points) }
+    requires rates { AreRates inflow.now.curve.points inflow.now.rates.items }
+    requires until { 0ℚ ≤ℚ until }
+    ensures list { Gives loaded_of (λ q. q) result (at_part Load (checked_loading passes_Q transit capacity inflow.now.curve.points until)) }
+    ensures loaded { IfOk result (λ l. IsLoaded transit capacity inflow.now.curve.points until (loaded_of l)) }
+{
+    // Proof: the points of the inflow are a curve.
+    inflow.curve.recall();
+    if ends_at(inflow.curve.as_points(), until) {
+        return load_cut(
+            alloc,
+            transit,
+            capacity,
+            &inflow.curve,
+            &inflow.rates,
+            until,
+        );
+    }
+    load_link(alloc, transit, capacity, &inflow.curve, until)
 }

@@ -1,5 +1,5 @@
 // The queue over the pieces of an inflow.
-ghost use Rattle.std.specs.Prelude.{◌≡◌, ◌&&◌, [], ◌∷◌, ◌++◌, Some, true, IfOk, OnOk, IsTrue};
+ghost use Rattle.std.specs.Prelude.{◌≡◌, ◌&&◌, [], ◌∷◌, ◌++◌, Some, true, IfOk, OnOk, IsTrue, slice_get};
 ghost use Rattle.nf_rational.specs.Rational.{ℚ};
 ghost use Rattle.nf_rational.specs.Operations.{0ℚ};
 ghost use Rattle.nf_rational.specs.Order.{◌<ℚ◌, lt_ℚ, le_ℚ};
@@ -10,6 +10,7 @@ ghost use Rattle.nf_rational.specs.Signs.{is_zero, is_positive};
 ghost use Rattle.nf_curve_def.specs.Lines.{checked_slope, checked_line};
 ghost use Rattle.nf_load_def.specs.Loading as lists;
 ghost use Rattle.nf_load.specs.Loadings.{over_list};
+ghost use Rattle.nf_load.specs.Rates.{AreRates, IsRate};
 
 use crate::waits::Waits;
 use nf_curve::{Curve, Point, line, slope};
@@ -28,6 +29,7 @@ struct Over {
 fn empty_at(end: &Point) -> Over
     ensures list { over_list result ≡ record { time = end.now.0; amount = end.now.1; queue = 0ℚ } ∷ [] }
     ensures end { result.end.time ≡ end.now.0 }
+    ensures amount { result.end.amount ≡ end.now.1 }
 {
     Over {
         empty: None,
@@ -39,11 +41,15 @@ fn empty_at(end: &Point) -> Over
     }
 }
 
-// Returns the inflow rate over a piece.
-fn inflow_rate(before: &Waits, end: &Point) -> Result<Q, PassedAt<Q>>
-    requires { before.now.time <ℚ end.now.0 }
+// Returns the inflow rate over a piece: its slope, unless the rate is known.
+fn inflow_rate(before: &Waits, end: &Point, known: Option<Q>) -> Result<Q, PassedAt<Q>>
+    requires later { before.now.time <ℚ end.now.0 }
+    requires known { IsRate known (before.now.time, before.now.amount) end.now }
     ensures { result ≡ at_part Load (checked_slope passes_Q (before.now.time, before.now.amount) end.now) }
 {
+    if let Some(rate) = known {
+        return Ok(rate);
+    }
     let start = (before.time, before.amount);
     slope(&start, end, Part::Load)
 }
@@ -86,6 +92,7 @@ fn drained(capacity: Q, rate: Q, queue: Q, start: Q) -> Result<Q, PassedAt<Q>>
 fn grow(capacity: Q, rate: Q, before: &Waits, end: &Point) -> Result<Over, PassedAt<Q>>
     ensures list { seen_at over_list (λ q. q) result ≡ at_part Load (lists.grows passes_Q capacity rate before.now end.now) }
     ensures end { IfOk result (λ over. over.end.time ≡ end.now.0) }
+    ensures amount { IfOk result (λ over. over.end.amount ≡ end.now.1) }
 {
     let queue = grown(capacity, rate, before.queue, before.time, end.0)?;
     Ok(Over {
@@ -104,6 +111,7 @@ fn drain_at(before: &Waits, end: &Point, time: Q) -> Result<Over, PassedAt<Q>>
     ensures list { (capacity rate : ℚ) → seen_at over_list (λ q. q) result
         ≡ at_part Load (lists.drains_at passes_Q true capacity rate before.now end.now time) }
     ensures end { IfOk result (λ over. over.end.time ≡ end.now.0) }
+    ensures amount { IfOk result (λ over. over.end.amount ≡ end.now.1) }
 {
     let amount = amount_at(before, end, time)?;
     Ok(Over {
@@ -126,6 +134,7 @@ fn drain(capacity: Q, rate: Q, before: &Waits, end: &Point) -> Result<Over, Pass
     requires below { lt_ℚ rate capacity ≡ true }
     ensures list { seen_at over_list (λ q. q) result ≡ at_part Load (lists.moves passes_Q true capacity rate before.now end.now) }
     ensures end { IfOk result (λ over. over.end.time ≡ end.now.0) }
+    ensures amount { IfOk result (λ over. over.end.amount ≡ end.now.1) }
 {
     let time = drained(capacity, rate, before.queue, before.time)?;
     if time.is_below(end.0) {
@@ -150,12 +159,19 @@ fn drains(capacity: Q, rate: Q, queue: Q) -> bool
 }
 
 // Returns the queue over a piece of the inflow, for a link with a capacity.
-fn over_bounded(capacity: Q, before: &Waits, end: &Point) -> Result<Over, PassedAt<Q>>
-    requires { before.now.time <ℚ end.now.0 }
+fn over_bounded(
+    capacity: Q,
+    before: &Waits,
+    end: &Point,
+    known: Option<Q>,
+) -> Result<Over, PassedAt<Q>>
+    requires later { before.now.time <ℚ end.now.0 }
+    requires known { IsRate known (before.now.time, before.now.amount) end.now }
     ensures list { seen_at over_list (λ q. q) result ≡ at_part Load (lists.after_piece passes_Q (Some capacity) before.now end.now) }
     ensures end { IfOk result (λ over. over.end.time ≡ end.now.0) }
+    ensures amount { IfOk result (λ over. over.end.amount ≡ end.now.1) }
 {
-    let rate = inflow_rate(before, end)?;
+    let rate = inflow_rate(before, end, known)?;
     if stays_empty(capacity, rate, before.queue) {
         return Ok(empty_at(end));
     }
@@ -165,14 +181,21 @@ fn over_bounded(capacity: Q, before: &Waits, end: &Point) -> Result<Over, Passed
     grow(capacity, rate, before, end)
 }
 
-// Returns the queue over a piece of the inflow. The queue of an unbounded link is 0.
-fn over_piece(capacity: &Option<Q>, before: &Waits, end: &Point) -> Result<Over, PassedAt<Q>>
-    requires { before.now.time <ℚ end.now.0 }
+// Returns the queue over a piece of the inflow, whose rate may be known. The queue of an unbounded link is 0.
+fn over_piece(
+    capacity: &Option<Q>,
+    before: &Waits,
+    end: &Point,
+    known: Option<Q>,
+) -> Result<Over, PassedAt<Q>>
+    requires later { before.now.time <ℚ end.now.0 }
+    requires known { IsRate known (before.now.time, before.now.amount) end.now }
     ensures list { seen_at over_list (λ q. q) result ≡ at_part Load (lists.after_piece passes_Q capacity.now before.now end.now) }
     ensures end { IfOk result (λ over. over.end.time ≡ end.now.0) }
+    ensures amount { IfOk result (λ over. over.end.amount ≡ end.now.1) }
 {
     match capacity {
-        Some(capacity) => over_bounded(*capacity, before, end),
+        Some(capacity) => over_bounded(*capacity, before, end, known),
         None => Ok(empty_at(end)),
     }
 }
@@ -188,12 +211,26 @@ fn put(all: &mut Vec<Waits>, over: &Over) -> Result<(), AllocError>
     Ok(())
 }
 
-/// Returns the queue's moments: time 0, the end of each piece of the inflow, and each time at which the queue drains to 0.
+// Returns the rate of the piece from the point of this number on, if it is known.
+fn rate_at(rates: &[Q], index: usize) -> Option<Q>
+    ensures { result ≡ slice_get rates.now index }
+{
+    if index < rates.len() {
+        Some(rates[index])
+    } else {
+        None
+    }
+}
+
+/// Returns the queue's moments: time 0, the end of each piece of the inflow, and each time at which the queue drains to 0. `rates` are
+/// known rates of the first pieces.
 pub(crate) fn all_waits(
     alloc: Global,
     capacity: &Option<Q>,
     inflow: &Curve,
+    rates: &[Q],
 ) -> Result<Vec<Waits>, Halt<Q>>
+    requires { AreRates inflow.now.points rates.now }
     ensures { Gives (λ all. all.items) (λ q. q) result (at_part Load (lists.all_waits passes_Q capacity.now inflow.now.points)) }
 {
     let count = inflow.len();
@@ -207,7 +244,7 @@ pub(crate) fn all_waits(
     all.push(last)?;
     for i in 1..count {
         let end = inflow.point(i);
-        let over = over_piece(capacity, &last, &end)?;
+        let over = over_piece(capacity, &last, &end, rate_at(rates, i - 1))?;
         put(&mut all, &over)?;
         last = over.end;
     }

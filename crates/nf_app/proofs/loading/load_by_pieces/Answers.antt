@@ -18,26 +18,29 @@ use Rattle.nf_curve.proofs.Exits.{after_err, after_ok, stops_on}
 use Rattle.nf_load.specs.Loadings.{loaded_of}
 use Rattle.nf_app.proofs.loading.load_by_pieces.Goals as goal
 
-pub cumulative-requires-clause-pieces : goal.cumulative-requires-clause-pieces
-cumulative-requires-clause-pieces c = c.requires.pieces
+pub supplied-requires-clause-pieces : goal.supplied-requires-clause-pieces
+supplied-requires-clause-pieces c = c.requires.pieces
 
-pub cumulative-requires-clause-until : goal.cumulative-requires-clause-until
-cumulative-requires-clause-until c = c.requires.horizon
+pub supplied-requires-clause-until : goal.supplied-requires-clause-until
+supplied-requires-clause-until c = c.requires.horizon
 
-pub load_link-requires-clause-transit : goal.load_link-requires-clause-transit
-load_link-requires-clause-transit c = subst (λ (l : Link). 0ℚ ≤ℚ l.transit) (sym c.link.view_is) c.requires.transit
+pub load_trace-requires-clause-transit : goal.load_trace-requires-clause-transit
+load_trace-requires-clause-transit c = subst (λ (l : Link). 0ℚ ≤ℚ l.transit) (sym c.link.view_is) c.requires.transit
 
-pub load_link-requires-clause-capacity : goal.load_link-requires-clause-capacity
-load_link-requires-clause-capacity c = subst (λ (l : Link). IsPositive l.capacity) (sym c.link.view_is) c.requires.capacity
+pub load_trace-requires-clause-capacity : goal.load_trace-requires-clause-capacity
+load_trace-requires-clause-capacity c = subst (λ (l : Link). IsPositive l.capacity) (sym c.link.view_is) c.requires.capacity
 
-pub load_link-requires-clause-begins : goal.load_link-requires-clause-begins
-load_link-requires-clause-begins c = c.in_ok-inflow.ensures.amount.begins
+pub load_trace-requires-clause-begins : goal.load_trace-requires-clause-begins
+load_trace-requires-clause-begins c = c.in_ok-inflow.ensures.amount.begins
 
-pub load_link-requires-clause-rises : goal.load_link-requires-clause-rises
-load_link-requires-clause-rises c = c.in_ok-inflow.ensures.amount.rises
+pub load_trace-requires-clause-rises : goal.load_trace-requires-clause-rises
+load_trace-requires-clause-rises c = c.in_ok-inflow.ensures.amount.rises
 
-pub load_link-requires-clause-until : goal.load_link-requires-clause-until
-load_link-requires-clause-until c = c.requires.horizon
+pub load_trace-requires-clause-rates : goal.load_trace-requires-clause-rates
+load_trace-requires-clause-rates c = c.in_ok-inflow.ensures.rates
+
+pub load_trace-requires-clause-until : goal.load_trace-requires-clause-until
+load_trace-requires-clause-until c = c.requires.horizon
 
 pub returns-in_err-inflow : goal.returns-in_err-inflow
 unfolding load_link_list
@@ -51,8 +54,8 @@ returns-in_err-inflow c =
 pub returns : goal.returns
 unfolding load_link_list
 returns c =
-    subst (λ (r : Result lists.Loaded (PassedAt ℚ)). Gives loaded_of (λ (q : ℚ). q) c.load_link.result r)
+    subst (λ (r : Result lists.Loaded (PassedAt ℚ)). Gives loaded_of (λ (q : ℚ). q) c.load_trace.result r)
     (sym (after_ok Load (checked_cumulative passes_Q c.args.pieces.now c.args.horizon)
-    (λ (inflow : List Point). lists.checked_loading passes_Q c.args.link.now.transit c.args.link.now.capacity inflow c.args.horizon) c.in_ok-inflow.inflow.points c.in_ok-inflow.ensures.list))
-    (subst (λ (l : Link). Gives loaded_of (λ (q : ℚ). q) c.load_link.result (at_part Load (lists.checked_loading passes_Q l.transit l.capacity c.in_ok-inflow.inflow.points c.args.horizon)))
-    c.link.view_is c.load_link.ensures.list)
+    (λ (inflow : List Point). lists.checked_loading passes_Q c.args.link.now.transit c.args.link.now.capacity inflow c.args.horizon) c.in_ok-inflow.inflow.curve.points c.in_ok-inflow.ensures.list))
+    (subst (λ (l : Link). Gives loaded_of (λ (q : ℚ). q) c.load_trace.result (at_part Load (lists.checked_loading passes_Q l.transit l.capacity c.in_ok-inflow.inflow.curve.points c.args.horizon)))
+    c.link.view_is c.load_trace.ensures.list)

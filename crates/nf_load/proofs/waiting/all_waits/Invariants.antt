@@ -2,9 +2,13 @@ use Rattle.std.proofs.Common.{◌≡◌, drop}
 use Rattle.nf_frac_def.specs.Passing.{passes_Q}
 use Rattle.nf_frac_def.proofs.Each.{with_front}
 use Rattle.nf_load_def.specs.Loading.{waits_after, all_waits}
-use Rattle.nf_load.proofs.QueueSteps.{Later}
+use Rattle.nf_load.proofs.QueueSteps.{Later, IsBefore}
 use Rattle.nf_load.proofs.waiting.all_waits.Given as goal
 
--- what waits so far, and over the pieces from here on
+-- what waits so far, and over the pieces from here on; the last moment so far is the point before this one
 abbrev pub invariant-loop-i : goal.invariant-loop-i
-invariant-loop-i l = (with_front l.all.items (waits_after passes_Q l.capacity l.last (drop l.i l.inflow.points)) ≡ all_waits passes_Q l.capacity l.inflow.points) × Later l.last (drop l.i l.inflow.points)
+invariant-loop-i l = record {
+  moments : with_front l.all.items (waits_after passes_Q l.capacity l.last (drop l.i l.inflow.points)) ≡ all_waits passes_Q l.capacity l.inflow.points;
+  later : Later l.last (drop l.i l.inflow.points);
+  before : IsBefore l.inflow.points l.last l.i;
+}
