@@ -7,8 +7,9 @@ use Rattle.nf_net_def.specs.Names.{Name, is_name, has_name, with_names}
 use Rattle.nf_net_def.specs.Named.{NamedLink, ends, names_of}
 use Rattle.nf_net_laws.proofs.NameFacts.{has_name-append, with_name_there, with_name_new, with_names-append}
 use Rattle.nf_gen.specs.Ladder.{upper, lower, Ends, rails_on, rung_at, links_in, links_along, links_down, links_out, ladder_ends, drawn_links, rung_nodes, ladder_nodes}
-use Rattle.nf_gen.proofs.Ranges.{all_append, all_flat, all_map, count_push}
+use Rattle.nf_gen.proofs.Ranges.{all_flat, all_map, count_push}
 use Rattle.nf_gen.proofs.LadderNames.{lettered_is_name, no_upper, no_lower, has_upper, has_lower}
+use Rattle.nf_net_laws.proofs.AcceptedNamed.{every_append}
 
 -- ---- what is drawn changes no names
 -- the ends of links, in order
@@ -117,8 +118,8 @@ module _ (rungs : ℕ) (some : 1 ≤ rungs) where
 
   pub ends_there : AllByRecursion (HasEnds (ladder_nodes rungs)) (ladder_ends rungs)
   ends_there =
-      all_append (HasEnds (ladder_nodes rungs)) (links_in ++ links_along rungs ++ links_down rungs) (links_out rungs)
-      (all_append (HasEnds (ladder_nodes rungs)) (links_in ++ links_along rungs) (links_down rungs) (all_append (HasEnds (ladder_nodes rungs)) links_in (links_along rungs) ends_into ends_along) ends_down) ends_out
+      every_append (HasEnds (ladder_nodes rungs)) (links_in ++ links_along rungs ++ links_down rungs) (links_out rungs)
+      (every_append (HasEnds (ladder_nodes rungs)) (links_in ++ links_along rungs) (links_down rungs) (every_append (HasEnds (ladder_nodes rungs)) links_in (links_along rungs) ends_into ends_along) ends_down) ends_out
 
   pub ends_listed : list_all (has_name (ladder_nodes rungs)) (ends_of (ladder_ends rungs)) ≡ true
   ends_listed = tested (has_name (ladder_nodes rungs)) (ends_of (ladder_ends rungs)) (each_end (ladder_nodes rungs) (ladder_ends rungs) ends_there)

@@ -12,6 +12,7 @@ use Rattle.nf_text_def.specs.Lines.{TextLine, lines_from, lines_of_parts, ended_
 use Rattle.nf_text_def.specs.Words.{read_line, is_blank, words, without_comment, parts_with_bytes, line_of_words}
 use Rattle.nf_text_def.specs.Faults.{NotAscii, LongLine, is_allowed, line_fault, first_fault_of, longest_line}
 use Rattle.nf_net_laws.specs.LineLaws.{is_word_byte, IsWord, plain_from, AreWords, AreShort}
+use Rattle.nf_net_laws.proofs.AcceptedNamed.{every_append}
 
 -- ---- tests
 first_so : (a b : Bool) → (a && b) ≡ true → a ≡ true
@@ -52,14 +53,10 @@ module _ (P : ℕ → Type 0) (at_word : (b : ℕ) → is_word_byte b ≡ true �
 
 -- and of a space, holds of words that are joined
 module _ (P : ℕ → Type 0) (at_word : (b : ℕ) → is_word_byte b ≡ true → P b) (at_space : P 32) where
-  of_both : (xs ys : List ℕ) → AllByRecursion P xs → AllByRecursion P ys → AllByRecursion P (xs ++ ys)
-  of_both [] ys h k = k
-  of_both (x ∷ xs) ys h k = (h.0, of_both xs ys h.1 k)
-
   of_joined : (words : List (List ℕ)) → AllByRecursion IsWord words → AllByRecursion P (join_with_byte 32 words)
   of_joined [] h = tt
   of_joined (w ∷ []) h = of_word P at_word w h.0.1
-  of_joined (w ∷ v ∷ words) h = of_both w (32 ∷ join_with_byte 32 (v ∷ words)) (of_word P at_word w h.0.1) (at_space, of_joined (v ∷ words) h.1)
+  of_joined (w ∷ v ∷ words) h = every_append _ w (32 ∷ join_with_byte 32 (v ∷ words)) (of_word P at_word w h.0.1) (at_space, of_joined (v ∷ words) h.1)
 
 no_hash : (words : List (List ℕ)) → AllByRecursion IsWord words → AllByRecursion (λ b. (b == 35) ≡ false) (join_with_byte 32 words)
 no_hash words h = of_joined (λ b. (b == 35) ≡ false) not_hash refl words h
