@@ -20,7 +20,7 @@ use Rattle.nf_net_def.specs.Named.{Named, names_of}
 use Rattle.nf_net_def.specs.WellNamed.{IsFraction, IsNamed}
 use Rattle.nf_net_def.specs.Report.{Report, report_lines, report_text}
 use Rattle.nf_net_laws.proofs.NameFacts.{bytes_eq-self}
-use Rattle.nf_net_laws.proofs.LinkFacts.{distinct_left}
+use Rattle.nf_net_laws.proofs.LinkFacts.{distinct_left, all_left}
 use Rattle.nf_net_laws.proofs.AcceptedNamed.{every_append}
 use Rattle.nf_rational.specs.Signs.{is_same}
 use Rattle.nf_report_def.specs.declared.ReportRule.TheVariants.{P4, P8, P10}
@@ -87,10 +87,6 @@ names_are : (names : List Name) → list_all is_name names ≡ true → AllByRec
 names_are [] h = tt
 names_are (name ∷ names) h = let w = and_parts (is_name name) (list_all is_name names) h in (w.0, names_are names w.1)
 
-all-left : {A : Type 0} (P : A → Type 0) (xs ys : List A) → AllByRecursion P (xs ++ ys) → AllByRecursion P xs
-all-left P [] ys h = tt
-all-left P (x ∷ xs) ys h = (h.0, all-left P xs ys h.1)
-
 all-right : {A : Type 0} (P : A → Type 0) (xs ys : List A) → AllByRecursion P (xs ++ ys) → AllByRecursion P ys
 all-right P [] ys h = h
 all-right P (x ∷ xs) ys h = all-right P xs ys h.1
@@ -114,10 +110,10 @@ link_keys_named (name ∷ names) h = (h.0, (h.0, (h.0, link_keys_named names h.1
 keys_named : (n : Named) → IsNamed n → AllByRecursion IsNamedKey (curve_keys n)
 keys_named n h =
     let nodes = names_are (n.node_names ++ n.idle_nodes) h.node_names.each in
-    let links = all-left (λ name. is_name name ≡ true) n.link_names (names_of n.idle_links) (names_are (n.link_names ++ names_of n.idle_links) h.link_names.each) in
+    let links = all_left (λ name. is_name name ≡ true) n.link_names (names_of n.idle_links) (names_are (n.link_names ++ names_of n.idle_links) h.link_names.each) in
     every_append IsNamedKey (map (key_of OfLabel) n.node_names ++ map (key_of OfNever) n.idle_nodes) (link_keys n.link_names)
     (every_append IsNamedKey (map (key_of OfLabel) n.node_names) (map (key_of OfNever) n.idle_nodes)
-    (all-map IsNamedKey (key_of OfLabel) n.node_names (all-left (λ name. is_name name ≡ true) n.node_names n.idle_nodes nodes))
+    (all-map IsNamedKey (key_of OfLabel) n.node_names (all_left (λ name. is_name name ≡ true) n.node_names n.idle_nodes nodes))
     (all-map IsNamedKey (key_of OfNever) n.idle_nodes (all-right (λ name. is_name name ≡ true) n.node_names n.idle_nodes nodes)))
     (link_keys_named n.link_names links)
 
@@ -214,7 +210,7 @@ module _ (n : Named) (report : Report) (named : IsNamed n) (h : IsFit n report) 
       (every_append IsShortLine (flat_map curve_lines curves ++ state_lines_of n.link_names report.last) end_lines
       (every_append IsShortLine (flat_map curve_lines curves) (state_lines_of n.link_names report.last)
       (curves_short curves (curves_are n report.flow h.flow) (all-of-map IsNamedKey (λ curve. curve.key) curves (subst (AllByRecursion IsNamedKey) (sym (keys_from n report.flow h.flow)) (keys_named n named))))
-      (states_short n.link_names report.last (all-left (λ name. is_name name ≡ true) n.link_names (names_of n.idle_links) (names_are (n.link_names ++ names_of n.idle_links) named.link_names.each))))
+      (states_short n.link_names report.last (all_left (λ name. is_name name ≡ true) n.link_names (names_of n.idle_links) (names_are (n.link_names ++ names_of n.idle_links) named.link_names.each))))
       end_short)
     where
       version : IsCount n.version
