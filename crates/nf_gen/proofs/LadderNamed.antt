@@ -18,12 +18,12 @@ use Rattle.nf_net_laws.proofs.NameFacts.{name_at-place, place_below, bytes_eq-se
 use Rattle.nf_net_laws.proofs.LinesBack.{Rises, AreNotNegative}
 use Rattle.nf_net_laws.proofs.DraftKept.{IsGoodDraft}
 use Rattle.nf_net_laws.proofs.AcceptedNodes.{all_implied}
-use Rattle.nf_net_laws.proofs.AcceptedNamed.{is_named}
+use Rattle.nf_net_laws.proofs.AcceptedNamed.{is_named, every_append}
 use Rattle.nf_net_laws.proofs.CanonicalBack.{canonical_back}
 use Rattle.nf_gen.specs.Ladder.{drawn, upper, lower, Ends, rails_on, rung_at, links_in, links_along, links_down, links_out, ladder_ends, drawn_links, drawn_pieces, ladder_nodes, ladder_links, ladder}
 use Rattle.nf_gen.specs.Laws.{IsLadder}
 use Rattle.nf_gen.proofs.Wholes.{small_fraction, above_zero}
-use Rattle.nf_gen.proofs.Ranges.{all_append, all_flat, all_map}
+use Rattle.nf_gen.proofs.Ranges.{all_flat, all_map}
 use Rattle.nf_gen.proofs.LadderNames.{lettered_is_name, distinct_nodes, link_names, distinct_links}
 use Rattle.nf_gen.proofs.LadderNodes.{ends_of, ends-drawn, names-drawn, HasBoth, ends_listed, nodes_are, node_names, node_count, link_count}
 use Rattle.nf_gen.proofs.LadderWalks.{file_of, node_reached, both_there, no_zero_cycle, no_passing_sum}
@@ -129,8 +129,8 @@ module _ (number rungs : ℕ) (some : 1 ≤ rungs) (few : rungs ≤ 30) where
 
   named_ends : AllByRecursion AreNamesOf (ladder_ends rungs)
   named_ends =
-      all_append AreNamesOf (links_in ++ links_along rungs ++ links_down rungs) (links_out rungs)
-      (all_append AreNamesOf (links_in ++ links_along rungs) (links_down rungs) (all_append AreNamesOf links_in (links_along rungs) named_in named_along) named_down) named_out
+      every_append AreNamesOf (links_in ++ links_along rungs ++ links_down rungs) (links_out rungs)
+      (every_append AreNamesOf (links_in ++ links_along rungs) (links_down rungs) (every_append AreNamesOf links_in (links_along rungs) named_in named_along) named_down) named_out
 
   names_are : names_of (ladder_links number rungs) ≡ map (λ (l : Ends). l.name) (ladder_ends rungs)
   names_are = names-drawn number 0 (ladder_ends rungs)

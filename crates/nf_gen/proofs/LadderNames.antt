@@ -11,7 +11,8 @@ use Rattle.nf_net_laws.proofs.NameFacts.{same_names, bytes_eq-self, has_none}
 use Rattle.nf_net_laws.proofs.LinkFacts.{map-append}
 use Rattle.nf_net_laws.proofs.ShortWords.{length_digits}
 use Rattle.nf_gen.specs.Ladder.{upper, lower, rung, Ends, rails_on, rung_at, links_in, links_along, links_down, links_out, ladder_ends, rung_nodes}
-use Rattle.nf_gen.proofs.Ranges.{all_append, all_flat, all_map}
+use Rattle.nf_gen.proofs.Ranges.{all_flat, all_map}
+use Rattle.nf_net_laws.proofs.AcceptedNamed.{every_append}
 
 -- ---- names that differ
 differ : (a b : Name) → (a ≡ b → ⊥) → bytes_eq a b ≡ false
@@ -89,7 +90,7 @@ Differs ys x = AllByRecursion (λ y. bytes_eq x y ≡ false) ys
 distinct_append : (xs ys : List Name) → IsDistinct bytes_eq xs → IsDistinct bytes_eq ys → AllByRecursion (Differs ys) xs → IsDistinct bytes_eq (xs ++ ys)
 unfolding IsDistinct
 distinct_append [] ys h k f = k
-distinct_append (x ∷ xs) ys h k f = (all_append (λ y. bytes_eq x y ≡ false) xs ys h.0 f.0, distinct_append xs ys h.1 k f.1)
+distinct_append (x ∷ xs) ys h k f = (every_append (λ y. bytes_eq x y ≡ false) xs ys h.0 f.0, distinct_append xs ys h.1 k f.1)
 
 distinct_rails : (a n : ℕ) → IsDistinct bytes_eq (flat_map rung_nodes (range_with_len a n))
 unfolding IsDistinct
@@ -155,7 +156,7 @@ module _ (rungs : ℕ) where
         (all_flat (λ y. bytes_eq (codes "sl") y ≡ false) rung_nodes 1 (rungs - 1) (λ k low high. (refl, (refl, tt))), tt),
       ))
       (distinct_rungs 1 rungs)
-      (all_append (Differs down) first along (
+      (every_append (Differs down) first along (
         all_map (λ y. bytes_eq (codes "su") y ≡ false) rung 1 rungs (λ k low high. refl),
         (all_map (λ y. bytes_eq (codes "sl") y ≡ false) rung 1 rungs (λ k low high. refl), tt),
       )
@@ -164,7 +165,7 @@ module _ (rungs : ℕ) where
         (all_map (λ y. bytes_eq (lower j) y ≡ false) rung 1 rungs (λ k low high. refl), tt),
       )))))
       (two_distinct (codes "ut") (codes "lt") refl)
-      (all_append (Differs last) (first ++ along) down
-      (all_append (Differs last) first along ((refl, (refl, tt)), ((refl, (refl, tt)), tt))
+      (every_append (Differs last) (first ++ along) down
+      (every_append (Differs last) first along ((refl, (refl, tt)), ((refl, (refl, tt)), tt))
       (all_flat (Differs last) rung_nodes 1 (rungs - 1) (λ j low high. ((end_differs 117 j, (refl, tt)), ((refl, (end_differs 108 j, tt)), tt)))))
       (all_map (Differs last) rung 1 rungs (λ j low high. (refl, (refl, tt)))))

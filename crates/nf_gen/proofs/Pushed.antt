@@ -1,9 +1,7 @@
 -- The words of a line, put behind a text one after the other.
 use Rattle.std.proofs.Common.{◌≡◌, ℕ, List, [], ◌∷◌, ◌++◌, codes, ◌∙◌, ap, append_assoc}
 use Rattle.nf_text_def.specs.Words.{line_of_words}
-
-pushed : (out a b one two : List ℕ) → one ≡ out ++ a → two ≡ one ++ b → two ≡ out ++ (a ++ b)
-pushed out a b one two e f = f ∙ ap (λ (text : List ℕ). text ++ b) e ∙ append_assoc out a b
+use Rattle.nf_net.proofs.TextLines.{more_words}
 
 words_joined : (a b c d e : List ℕ) → (((a ++ 32 ∷ b) ++ 32 ∷ c) ++ 32 ∷ d) ++ 32 ∷ e ≡ a ++ 32 ∷ (b ++ 32 ∷ (c ++ 32 ∷ (d ++ 32 ∷ e)))
 words_joined a b c d e =
@@ -15,10 +13,10 @@ pub link_line_pushed : (out name tail head transit capacity one two three four f
     → four ≡ three ++ 32 ∷ head → five ≡ four ++ 32 ∷ transit → six ≡ five ++ 32 ∷ capacity → seven ≡ six ++ 10 ∷ []
     → seven ≡ out ++ line_of_words (codes "link" ∷ name ∷ tail ∷ head ∷ transit ∷ capacity ∷ [])
 link_line_pushed out name tail head transit capacity one two three four five six seven e f g h i j k =
-    let named = pushed out (codes "link") (32 ∷ name) one two e f in
-    let from = pushed out (codes "link" ++ 32 ∷ name) (32 ∷ tail) two three named g in
-    let to = pushed out ((codes "link" ++ 32 ∷ name) ++ 32 ∷ tail) (32 ∷ head) three four from h in
-    let timed = pushed out (((codes "link" ++ 32 ∷ name) ++ 32 ∷ tail) ++ 32 ∷ head) (32 ∷ transit) four five to i in
-    let whole = pushed out ((((codes "link" ++ 32 ∷ name) ++ 32 ∷ tail) ++ 32 ∷ head) ++ 32 ∷ transit) (32 ∷ capacity) five six timed j in
-    pushed out (((((codes "link" ++ 32 ∷ name) ++ 32 ∷ tail) ++ 32 ∷ head) ++ 32 ∷ transit) ++ 32 ∷ capacity) (10 ∷ []) six seven whole k
+    let named = more_words out one two (codes "link") (32 ∷ name) e f in
+    let from = more_words out two three (codes "link" ++ 32 ∷ name) (32 ∷ tail) named g in
+    let to = more_words out three four ((codes "link" ++ 32 ∷ name) ++ 32 ∷ tail) (32 ∷ head) from h in
+    let timed = more_words out four five (((codes "link" ++ 32 ∷ name) ++ 32 ∷ tail) ++ 32 ∷ head) (32 ∷ transit) to i in
+    let whole = more_words out five six ((((codes "link" ++ 32 ∷ name) ++ 32 ∷ tail) ++ 32 ∷ head) ++ 32 ∷ transit) (32 ∷ capacity) timed j in
+    more_words out six seven (((((codes "link" ++ 32 ∷ name) ++ 32 ∷ tail) ++ 32 ∷ head) ++ 32 ∷ transit) ++ 32 ∷ capacity) (10 ∷ []) whole k
     ∙ ap (λ (words : List ℕ). out ++ (codes "link" ++ (32 ∷ (words ++ 10 ∷ [])))) (words_joined name tail head transit capacity)

@@ -4,16 +4,13 @@ use Rattle.std.specs.List.{AllByRecursion, range_with_len}
 use Rattle.std.proofs.lemmas.Bool.{cases_eq}
 use Rattle.nf_net_laws.proofs.WalkFacts.{slice_get-left, slice_get-right}
 use Rattle.nf_net_laws.proofs.MarkedFacts.{Entry}
+use Rattle.nf_net_laws.proofs.AcceptedNamed.{every_append}
 
 -- ---- each entry
 module _ {X : Type 0} (P : X → Type 0) where
-  pub all_append : (xs ys : List X) → AllByRecursion P xs → AllByRecursion P ys → AllByRecursion P (xs ++ ys)
-  all_append [] ys h k = k
-  all_append (x ∷ xs) ys h k = (h.0, all_append xs ys h.1 k)
-
   pub all_flat : (f : ℕ → List X) (a n : ℕ) → ((j : ℕ) → a ≤ j → j < a + n → AllByRecursion P (f j)) → AllByRecursion P (flat_map f (range_with_len a n))
   all_flat f a zero each = tt
-  all_flat f a (suc n) each = all_append (f a) (flat_map f (range_with_len (a + 1) n)) (each a (omega arith) (omega arith))
+  all_flat f a (suc n) each = every_append _ (f a) (flat_map f (range_with_len (a + 1) n)) (each a (omega arith) (omega arith))
       (all_flat f (a + 1) n (λ j low high. each j (omega arith) (omega arith)))
 
   pub all_map : (f : ℕ → X) (a n : ℕ) → ((j : ℕ) → a ≤ j → j < a + n → P (f j)) → AllByRecursion P (map f (range_with_len a n))

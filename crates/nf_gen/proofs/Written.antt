@@ -22,6 +22,7 @@ use Rattle.nf_gen.proofs.Wholes.{printed-whole}
 use Rattle.nf_gen.proofs.Ranges.{count_push}
 use Rattle.nf_gen.proofs.LadderNodes.{link_count}
 use Rattle.nf_gen.proofs.LadderNamed.{active_are}
+use Rattle.nf_net.proofs.Versions.{one_digit}
 
 -- ---- links one after the other
 links-append : (x : ℕ) (xs ys : List Ends) → links_after x (xs ++ ys) ≡ links_after x xs ++ links_after (after_links x xs) ys
@@ -176,10 +177,6 @@ head_text = line_of_words (codes "nfot" ∷ codes "1" ∷ []) ++ (line_of_words 
 
 abbrev pub end_text : List ℕ
 end_text = line_of_words (codes "end" ∷ [])
-
-one_digit : digits_of 1 ≡ codes "1"
-unfolding digits_of
-one_digit = refl
 
 body_text : (links pieces : List (List (List ℕ))) (end_line : List (List ℕ))
     → lines_text (links ++ [] ++ pieces ++ end_line ∷ []) ≡ lines_text links ++ (lines_text pieces ++ (line_of_words end_line ++ []))

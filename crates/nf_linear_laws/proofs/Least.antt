@@ -1,6 +1,6 @@
 -- The least value of an objective. It is the least value of a first variable that is at least the objective.
 -- With all other variables eliminated, it is the greatest of the bounds from below.
-use Rattle.std.proofs.Common.{◌≡◌, ℕ, zero, suc, ◌<◌, List, [], ◌∷◌, ◌⊎◌, inl, inr, sym, subst, arith}
+use Rattle.std.proofs.Common.{◌≡◌, ℕ, zero, suc, ◌<◌, List, [], ◌∷◌, ◌⊎◌, inl, inr, sym, subst}
 use Rattle.nf_rational.specs.Rational.{ℚ}
 use Rattle.nf_rational.specs.Operations.{0ℚ, 1ℚ, ◌+ℚ◌, ◌-ℚ◌, ◌*ℚ◌}
 use Rattle.nf_rational.specs.Order.{◌≤ℚ◌, ◌<ℚ◌}
@@ -13,7 +13,7 @@ use Rattle.nf_linear_laws.proofs.Forms.{updated, updated-here, moved, form_value
 use Rattle.nf_linear_laws.proofs.Constraints.{all_moved, all_moved-in, all_moved-out}
 use Rattle.nf_linear_laws.proofs.Bounds.{AreAbove, AreBelow, AreAbove-less, AreBelow-same, Greatest, greatest}
 use Rattle.nf_linear_laws.proofs.LeastElimination.{Split, split, Split-met}
-use Rattle.nf_linear_laws.proofs.Projection.{Projection, projection}
+use Rattle.nf_linear_laws.proofs.Projection.{Projection, projection, none_below}
 
 -- ---- one number within bounds
 abbrev LeastWithin : List AtMost → List AtMost → (ℕ → ℚ) → Type 0
@@ -40,9 +40,6 @@ least_within uppers (l ∷ lowers) x t floor h k f =
 -- ---- one variable
 abbrev LeastFirst : List AtMost → Type 0
 LeastFirst system = (x : ℕ → ℚ) × MeetsAll system x × ((y : ℕ → ℚ) → MeetsAll system y → x 0 ≤ℚ y 0)
-
-none_below : (x y : ℕ → ℚ) (i : ℕ) → i < 0 → x i ≡ y i
-none_below x y i h = absurd (omega arith)
 
 least_by : (system : List AtMost) (s : Split 0 system) (start : ℕ → ℚ) (floor : ℚ) → MeetsAll system start → ((x : ℕ → ℚ) → MeetsAll system x → floor ≤ℚ x 0) → LeastFirst system
 least_by system s start floor h f =

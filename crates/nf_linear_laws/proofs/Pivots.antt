@@ -17,6 +17,7 @@ use Rattle.nf_rational.specs.Signs.{is_zero}
 use Rattle.nf_linear_def.specs.Table.{Row, row_at, pivot_from}
 use Rattle.nf_linear_laws.proofs.Columns.{place}
 use Rattle.std.proofs.lemmas.Option.{same_Some}
+use Rattle.std.proofs.lemmas.Grind.{get_or_default_zero}
 
 -- ---- the test for 0
 
@@ -93,10 +94,6 @@ is_pivot k (row ∷ rows) pivots c p e =
     pivot_at (list_any (λ q. q == k) pivots) (is_zero (number_at row c)) k row rows pivots c p refl refl e (is_pivot (suc k) rows pivots c p)
 
 -- ---- as many different numbers below a bound as the bound are all of them
-same_inside : (xs : List ℕ) (i d : ℕ) → i < length xs → get_or xs i d ≡ get_or xs i 0
-same_inside [] i d b = absurd (omega arith)
-same_inside (x ∷ xs) zero d b = refl
-same_inside (x ∷ xs) (suc i) d b = same_inside xs i d (omega arith)
 
 members_below : (xs : List ℕ) (n : ℕ) → ((d : ℕ) → d < length xs → get_or xs d 0 < n) → (q : ℕ) → list_any (eqb q) xs ≡ true → q < n
 members_below [] n h q e = absurd (cc)
@@ -114,9 +111,9 @@ different a b h = ⊎_elim
 module _ (xs : List ℕ) (n : ℕ) (count : length xs ≡ n) (below : (d : ℕ) → d < n → get_or xs d 0 < n) (apart : (d e : ℕ) → d < n → e < n → d ≢ e → get_or xs d 0 ≢ get_or xs e 0) where
   one_more_apart : (i : ℕ) → ((d : ℕ) → d < n → get_or xs d 0 ≢ i) → (a b : ℕ) (d : ℕ) → a < b → b < suc (length xs) → eqb (get_or (i ∷ xs) a d) (get_or (i ∷ xs) b d) ≡ false
   one_more_apart i h a zero d l m = absurd (omega arith)
-  one_more_apart i h zero (suc b) d l m = different i (get_or xs b d) (λ e. h b (omega arith) (sym (same_inside xs b d (omega arith)) ∙ sym e))
+  one_more_apart i h zero (suc b) d l m = different i (get_or xs b d) (λ e. h b (omega arith) (sym (get_or_default_zero xs b d (omega arith)) ∙ sym e))
   one_more_apart i h (suc a) (suc b) d l m = different (get_or xs a d) (get_or xs b d)
-      (λ e. apart a b (omega arith) (omega arith) (omega arith) (sym (same_inside xs a d (omega arith)) ∙ e ∙ same_inside xs b d (omega arith)))
+      (λ e. apart a b (omega arith) (omega arith) (omega arith) (sym (get_or_default_zero xs a d (omega arith)) ∙ e ∙ get_or_default_zero xs b d (omega arith)))
 
   one_more_below : (i : ℕ) → i < n → (d : ℕ) → d < suc (length xs) → get_or (i ∷ xs) d 0 < n
   one_more_below i b zero c = b

@@ -48,7 +48,7 @@ nowhere i = 0ℚ
 abbrev pub Decided : List AtMost → Type 0
 Decided system = ((x : ℕ → ℚ) × MeetsAll system x) ⊎ ((x : ℕ → ℚ) → MeetsAll system x → ⊥)
 
-none_below : (x y : ℕ → ℚ) (i : ℕ) → i < 0 → x i ≡ y i
+pub none_below : (x y : ℕ → ℚ) (i : ℕ) → i < 0 → x i ≡ y i
 none_below x y i h = absurd (omega arith)
 
 by_test : (system : List AtMost) (p : Projection system) (e : Elimination 0 p.rest) → MeetsAll e.rest nowhere ⊎ (MeetsAll e.rest nowhere → ⊥) → Decided system

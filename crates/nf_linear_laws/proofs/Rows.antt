@@ -14,6 +14,7 @@ use Rattle.nf_rational.specs.Signs.{is_zero}
 use Rattle.nf_linear_def.specs.Table.{Row, row_at, less_unless, entries_less, clear_unless, clear_rows}
 use Rattle.nf_frac_def.specs.Passing.{never}
 use Rattle.nf_linear_laws.proofs.Pivots.{zero_tested}
+use Rattle.nf_linear_laws.proofs.Totals.{none_less}
 
 pub bind_ok : {A B E : Type 0} (r : Result A E) (a : A) (f : A → Result B E) (s : Result B E) → r ≡ Ok a → f a ≡ s → (r >>= f) ≡ s
 bind_ok r a f s h k = ap (λ (w : Result _ _). w >>= f) h ∙ k
@@ -64,8 +65,6 @@ rows_exact c p pivot_row k [] = refl
 rows_exact c p pivot_row k (row ∷ rows) = bind_ok _ _ _ _ (kept_exact (k == p || is_zero (number_at row c)) c pivot_row row) (bind_ok _ _ _ _ (rows_exact c p pivot_row (suc k) rows) refl)
 
 -- ---- the numbers of these rows
-none_less : (f : ℚ) → 0ℚ ≡ 0ℚ -ℚ f *ℚ 0ℚ
-none_less f = ring rationals (f ∷ []) (search reading depth 30) tt
 
 kept : (x f p : ℚ) → p ≡ 0ℚ → x ≡ x -ℚ f *ℚ p
 kept x f p e = linear_eq (x ∷ f ∷ p ∷ []) (eq_times f e ∷ []) (search reading_of) tt tt

@@ -11,7 +11,7 @@ total zero f = 0ℚ
 total (suc n) f = f 0 +ℚ total n (λ j. f (suc j))
 
 -- ---- equations of rationals that the sums need
-none_less : (k : ℚ) → 0ℚ ≡ 0ℚ -ℚ k *ℚ 0ℚ
+pub none_less : (k : ℚ) → 0ℚ ≡ 0ℚ -ℚ k *ℚ 0ℚ
 none_less k = ring rationals (k ∷ []) (search reading depth 30) tt
 
 less_regrouped : (a b s t k : ℚ) → (a -ℚ k *ℚ b) +ℚ (s -ℚ k *ℚ t) ≡ (a +ℚ s) -ℚ k *ℚ (b +ℚ t)

@@ -16,7 +16,7 @@ use Rattle.nf_model.specs.Network.{Piece, ArePieces, time_in, supplied}
 use Rattle.nf_model_laws.specs.Affine.{IsAffine}
 use Rattle.nf_model_laws.specs.CurveLaws.{ValuesRise}
 use Rattle.nf_model_laws.proofs.Curves.{NeverFalls-value}
-use Rattle.nf_model_laws.proofs.Supply.{StartsRise, StartsRise-pieces, NextFrom, supplied-none, supplied-rises, supplied-begins}
+use Rattle.nf_model_laws.proofs.Supply.{StartsRise, StartsRise-pieces, NextFrom, supplied-none, supplied-rises, supplied-begins, StartsRise-rest}
 use Rattle.nf_rational.specs.Signs.{is_same}
 use Rattle.nf_load_def.specs.Cumulative.{end_of, point_after_0, point_if_after_0, with_piece, cumulative_from, checked_cumulative}
 use Rattle.nf_load_def.specs.Meanings.{IsCumulative}
@@ -67,10 +67,6 @@ time_in-up_to start (next ∷ later) t h n = ap (λ (x : ℚ). max_ℚ 0ℚ (x -
 time_in-after : (start : ℚ) (next : Piece) (later : List Piece) (t : ℚ) → start ≤ℚ next.start → next.start ≤ℚ t → time_in start (next ∷ later) t ≡ next.start -ℚ start
 time_in-after start next later t h k = ap (λ (x : ℚ). max_ℚ 0ℚ (x -ℚ start)) (min_is_right t next.start k) ∙ max0_of _ (less_nn start next.start h)
 
-rise_rest : (p : Piece) (rest : List Piece) → StartsRise (p ∷ rest) → StartsRise rest
-rise_rest p [] s = tt
-rise_rest p (q ∷ rest) s = s.1
-
 -- ---- the end of a piece
 end_next : (later : List Piece) (last : ℚ) → NextFrom later (end_of later last)
 end_next [] last = tt
@@ -109,7 +105,7 @@ module _ (passes : Passing) (f : ℚ → ℚ) (last : ℚ) where
       → f t ≡ so_far +ℚ piece.rate *ℚ (t -ℚ piece.start)
   over_piece so_far piece later s on t i j =
       let n : NextFrom later t = next_up_to later t (end_of later last) j (end_next later last) in
-      so_much so_far piece.rate _ _ (f t) t piece.start (time_in-up_to piece.start later t i n) (supplied-none later t (rise_rest piece later s) n) (on t i)
+      so_much so_far piece.rate _ _ (f t) t piece.start (time_in-up_to piece.start later t i n) (supplied-none later t (StartsRise-rest piece later s) n) (on t i)
 
   next_goes_on : (so_far sum : ℚ) (piece : Piece) (later : List Piece) → StartsRise (piece ∷ later) → GoesOn so_far (piece ∷ later) → piece.start ≤ℚ last → sum ≡ so_far +ℚ piece.rate *ℚ (end_of later last -ℚ piece.start)
       → ((next : Piece) (rest : List Piece) → later ≡ next ∷ rest → next.start ≤ℚ last) → GoesOn sum later
@@ -155,7 +151,7 @@ module _ (passes : Passing) (f : ℚ → ℚ) (last : ℚ) where
       subst (λ (l : List Point). FollowsFrom f last p l) (ap (λ (l : List Point). l ++ rest.between) (sym (after_0 piece.start so_far start_0)) ∙ same_Ok _ _ rest.next)
       (goes k at (subst (λ (x : ℚ). p.0 <ℚ x) here h) (subst (λ (x : ℚ). IsAffine f p.0 x k) here line)
       (from_point (piece.start, so_far) piece.rate sum.between later rest.between at_start (≤ℚ_of_lt _ _ start_0) end_later line'
-      (over_piece so_far piece later s goes_on (end_of later last) (≤ℚ_of_lt _ _ end_later) (≤ℚ_refl _) ∙ sym sum_is) (rise_rest piece later s)
+      (over_piece so_far piece later s goes_on (end_of later last) (≤ℚ_of_lt _ _ end_later) (≤ℚ_refl _) ∙ sym sum_is) (StartsRise-rest piece later s)
       (λ q. next_goes_on so_far sum.between piece later s goes_on (≤ℚ_of_lt _ _ w.1) sum_is q) rest.first)))
       (λ (w : (lt_ℚ piece.start last ≡ false) × (last ≤ℚ piece.start)).
       let here : end_of (piece ∷ later) last ≡ last = min_is_right piece.start last w.1 in
@@ -220,7 +216,7 @@ module _ (passes : Passing) (pieces : List Piece) (last : ℚ) (good : ArePieces
         line = λ t i j. over_piece passes (λ t. supplied pieces t) last 0ℚ piece later rise on t i j
             ∙ ap (λ (x : ℚ). x +ℚ piece.rate *ℚ (t -ℚ piece.start)) (sym (ap (λ (x : ℚ). supplied pieces x) z ∙ begins_0));
       }))
-      (over_piece passes (λ t. supplied pieces t) last 0ℚ piece later rise on (end_of later last) (≤ℚ_of_lt _ _ end_later) (≤ℚ_refl _) ∙ sym sum_is) (rise_rest piece later rise)
+      (over_piece passes (λ t. supplied pieces t) last 0ℚ piece later rise on (end_of later last) (≤ℚ_of_lt _ _ end_later) (≤ℚ_refl _) ∙ sym sum_is) (StartsRise-rest piece later rise)
       (λ q. next_goes_on passes (λ t. supplied pieces t) last 0ℚ sum.between piece later rise on (≤ℚ_of_lt _ _ w.1) sum_is q) rest.first))
       (λ (w : (lt_ℚ piece.start last ≡ false) × (last ≤ℚ piece.start)). absurd (not_both_ℚ 0ℚ last h (subst (λ (x : ℚ). last ≤ℚ x) z w.1)))
       (lt_ℚ_cases piece.start last)

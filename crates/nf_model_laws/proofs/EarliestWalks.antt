@@ -63,7 +63,7 @@ last_hop hops Cross e (f ∷ walk) u v time arrival w c =
 more_time : (a b c r l : ℚ) → a +ℚ r ≤ℚ b → b +ℚ l ≤ℚ c → a +ℚ (r +ℚ l) ≤ℚ c
 more_time a b c r l h k = linear_le (a ∷ b ∷ c ∷ r ∷ l ∷ []) (le h ∷ le k ∷ []) (search reading_of) tt
 
-no_loop : (a l : ℚ) → a +ℚ l ≤ℚ a → 0ℚ <ℚ l → ⊥
+pub no_loop : (a l : ℚ) → a +ℚ l ≤ℚ a → 0ℚ <ℚ l → ⊥
 no_loop a l h k = linear_false (a ∷ l ∷ []) (le h ∷ lt k ∷ []) (search reading_of) tt
 
 -- walks go forward in time

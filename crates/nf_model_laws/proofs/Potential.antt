@@ -115,10 +115,10 @@ pub carried-le : (w : ℕ → ℚ) (links : List Link) (x y : ℕ → ℚ)
 carried-le w [] x y h = linear_le [] [] (search reading_of) tt
 carried-le w (link ∷ links) x y h = sum_le _ _ _ _ (h 0 link refl) (carried-le w links (λ e. x (suc e)) (λ e. y (suc e)) (λ e l s. h (suc e) l s))
 
-first_le : (a b c d : ℚ) → c ≤ℚ d → b +ℚ d ≤ℚ a +ℚ c → b ≤ℚ a
+pub first_le : (a b c d : ℚ) → c ≤ℚ d → b +ℚ d ≤ℚ a +ℚ c → b ≤ℚ a
 first_le a b c d h k = linear_le (a ∷ b ∷ c ∷ d ∷ []) (le h ∷ le k ∷ []) (search reading_of) tt
 
-rest_le : (a b c d : ℚ) → a ≤ℚ b → b +ℚ d ≤ℚ a +ℚ c → d ≤ℚ c
+pub rest_le : (a b c d : ℚ) → a ≤ℚ b → b +ℚ d ≤ℚ a +ℚ c → d ≤ℚ c
 rest_le a b c d h k = linear_le (a ∷ b ∷ c ∷ d ∷ []) (le h ∷ le k ∷ []) (search reading_of) tt
 
 -- where no link of the one carries more than that of the other, but the sums are equal, each carries the same

@@ -81,13 +81,11 @@ IsQueue-after None amount start end rate queue time line before h k = IsQueue-no
 IsQueue-after (Some capacity) amount start end rate queue time line before h k = IsQueue-step_max capacity amount start end rate queue line before time h k
 
 -- ---- at the beginning
-no_gain : (a c t : ℚ) → a -ℚ a -ℚ c *ℚ (t -ℚ t) ≡ 0ℚ
-no_gain a c t = linear_eq (a ∷ c ∷ t ∷ []) [] (search reading_of) tt tt
 
 -- at time 0 nothing waits
 pub IsQueue-at_0 : (capacity : Option ℚ) (amount : ℚ → ℚ) → IsQueue capacity amount 0ℚ 0ℚ
 IsQueue-at_0 None amount = IsQueue-none amount 0ℚ
 IsQueue-at_0 (Some capacity) amount = IsQueue-some capacity amount 0ℚ 0ℚ (record {
-  taken = (0ℚ, (≤ℚ_refl 0ℚ, ≤ℚ_refl 0ℚ), no_gain (amount 0ℚ) capacity 0ℚ);
-  bound = λ t w. ≤ℚ_of_same _ _ (subst (λ (s : ℚ). ahead capacity amount 0ℚ s ≡ 0ℚ) (≤ℚ_antisymm 0ℚ t w.0 w.1) (no_gain (amount 0ℚ) capacity 0ℚ));
+  taken = (0ℚ, (≤ℚ_refl 0ℚ, ≤ℚ_refl 0ℚ), taken_now capacity 0ℚ (amount 0ℚ));
+  bound = λ t w. ≤ℚ_of_same _ _ (subst (λ (s : ℚ). ahead capacity amount 0ℚ s ≡ 0ℚ) (≤ℚ_antisymm 0ℚ t w.0 w.1) (taken_now capacity 0ℚ (amount 0ℚ)));
 })

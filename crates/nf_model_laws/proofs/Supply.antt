@@ -41,7 +41,7 @@ next_after : (p : Piece) (rest : List Piece) (time : ℚ) → StartsRise (p ∷ 
 next_after p [] time s h = tt
 next_after p (q ∷ rest) time s h = ≤ℚ_trans _ _ _ h (≤ℚ_of_lt _ _ s.0)
 
-StartsRise-rest : (p : Piece) (rest : List Piece) → StartsRise (p ∷ rest) → StartsRise rest
+pub StartsRise-rest : (p : Piece) (rest : List Piece) → StartsRise (p ∷ rest) → StartsRise rest
 StartsRise-rest p [] s = tt
 StartsRise-rest p (q ∷ rest) s = s.1
 

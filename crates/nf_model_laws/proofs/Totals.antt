@@ -5,13 +5,13 @@ use Rattle.nf_rational.specs.Rational.{ℚ}
 use Rattle.nf_rational.specs.Operations.{0ℚ, 1ℚ, ◌+ℚ◌, ◌-ℚ◌, ◌*ℚ◌}
 use Rattle.nf_rational.specs.Order.{◌≤ℚ◌}
 use Rattle.nf_rational_laws.proofs.Polynomial.{reading_of}
-use Rattle.nf_rational_laws.proofs.Linear.{eq, linear_eq, le, linear_le}
+use Rattle.nf_rational_laws.proofs.Linear.{eq, linear_eq, le}
 use Rattle.nf_rational_laws.proofs.Chains.{≤ℚ_refl}
 use Rattle.nf_rational_laws.proofs.Facts.{same_sums, sum_le}
 use Rattle.nf_model.specs.Entries.{number_at}
 use Rattle.nf_model.specs.Network.{Link, Network, IsNetwork, sum_in, sum_out}
 use Rattle.nf_model.specs.ThinFlow.{Sets, surplus, IsThinFlow}
-use Rattle.nf_model_laws.proofs.Potential.{sum_to, sum_to-same, sum_to-plus, sum_to-only, only_at, only_at-here, only_at-else, carried, carried-is, EndsBelow, out_less_in, sum_to-zero}
+use Rattle.nf_model_laws.proofs.Potential.{sum_to, sum_to-same, sum_to-plus, sum_to-only, only_at, only_at-here, only_at-else, carried, carried-is, EndsBelow, out_less_in, sum_to-zero, first_le, rest_le}
 
 carried-level : (links : List Link) (f : ℕ → ℚ) → carried (λ _. 1ℚ) links f ≡ 0ℚ
 carried-level [] f = refl
@@ -90,16 +90,10 @@ pub total-order : (links : List Link) (f g : ℕ → ℚ) → ((e : ℕ) (link :
 total-order [] f g h = ≤ℚ_refl 0ℚ
 total-order (link ∷ links) f g h = sum_le _ _ _ _ (h 0 link refl) (total-order links (λ e. f (suc e)) (λ e. g (suc e)) (λ e l p. h (suc e) l p))
 
-first_le : (a b c d : ℚ) → d ≤ℚ c → a +ℚ c ≤ℚ b +ℚ d → a ≤ℚ b
-first_le a b c d h k = linear_le (a ∷ b ∷ c ∷ d ∷ []) (le h ∷ le k ∷ []) (search reading_of) tt
-
-rest_le : (a b c d : ℚ) → b ≤ℚ a → a +ℚ c ≤ℚ b +ℚ d → c ≤ℚ d
-rest_le a b c d h k = linear_le (a ∷ b ∷ c ∷ d ∷ []) (le h ∷ le k ∷ []) (search reading_of) tt
-
 -- where g is nowhere above f, but its sum is at least that of f, they are the same link by link
 pub total-each : (links : List Link) (f g : ℕ → ℚ) → ((e : ℕ) (link : Link) → slice_get links e ≡ Some link → g e ≤ℚ f e) → total links f ≤ℚ total links g
     → (e : ℕ) (link : Link) → slice_get links e ≡ Some link → f e ≤ℚ g e
 total-each [] f g h k e link p = absurd (cc)
-total-each (l ∷ links) f g h k zero link p = first_le (f 0) (g 0) _ _ (total-order links (λ e. g (suc e)) (λ e. f (suc e)) (λ e m q. h (suc e) m q)) k
+total-each (l ∷ links) f g h k zero link p = first_le (g 0) (f 0) _ _ (total-order links (λ e. g (suc e)) (λ e. f (suc e)) (λ e m q. h (suc e) m q)) k
 total-each (l ∷ links) f g h k (suc e) link p =
-    total-each links (λ e. f (suc e)) (λ e. g (suc e)) (λ e m q. h (suc e) m q) (rest_le (f 0) (g 0) _ _ (h 0 l refl) k) e link p
+    total-each links (λ e. f (suc e)) (λ e. g (suc e)) (λ e m q. h (suc e) m q) (rest_le (g 0) (f 0) _ _ (h 0 l refl) k) e link p

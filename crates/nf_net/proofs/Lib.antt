@@ -5,6 +5,5 @@ pub mod Versions
 pub mod Built
 pub mod StartLabels
 pub mod Closes
-pub mod Ended
 pub mod WholeText
 pub mod LinkLine

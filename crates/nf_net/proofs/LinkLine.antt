@@ -1,14 +1,12 @@
 -- The line of a link, pushed word by word.
-use Rattle.std.proofs.Common.{◌≡◌, ℕ, List, [], ◌∷◌, ◌++◌, ◌∙◌, ap, append_assoc}
+use Rattle.std.proofs.Common.{◌≡◌, ℕ, List, [], ◌∷◌, ◌++◌, ap, append_assoc}
 use Rattle.std.specs.Prelude.{codes, Option}
 use Rattle.nf_rational.specs.Rational.{ℚ}
 use Rattle.nf_frac_words.specs.Printed.{printed}
 use Rattle.nf_text_def.specs.Words.{line_of_words}
 use Rattle.nf_net_def.specs.Numbers.{capacity_word}
 use Rattle.nf_net_def.specs.NetText.{link_words}
-
-and_then : (old mid new first next : List ℕ) → mid ≡ old ++ first → new ≡ mid ++ next → new ≡ old ++ (first ++ next)
-and_then old mid new first next e f = f ∙ ap (λ (l : List ℕ). l ++ next) e ∙ append_assoc old first next
+use Rattle.nf_net.proofs.TextLines.{more_words}
 
 pub link_line : (old name tail head : List ℕ) (transit : ℚ) (capacity : Option ℚ) (a b c d e f new : List ℕ)
     → a ≡ old ++ codes "link" → b ≡ a ++ 32 ∷ name → c ≡ b ++ 32 ∷ tail → d ≡ c ++ 32 ∷ head → e ≡ d ++ 32 ∷ printed transit → f ≡ e ++ 32 ∷ capacity_word capacity → new ≡ f ++ 10 ∷ []
@@ -19,5 +17,5 @@ link_line old name tail head transit capacity a b c d e f new ea eb ec ed ee ef 
     let from_head : List ℕ = 32 ∷ (head ++ from_time) in
     let from_tail : List ℕ = 32 ∷ (tail ++ from_head) in
     let from_name : List ℕ = 32 ∷ (name ++ from_tail) in
-    simp append_assoc (and_then old a new (codes "link") from_name ea (and_then a b new (32 ∷ name) from_tail eb (and_then b c new (32 ∷ tail) from_head ec
-    (and_then c d new (32 ∷ head) from_time ed (and_then d e new (32 ∷ printed transit) from_capacity ee (and_then e f new (32 ∷ capacity_word capacity) (10 ∷ []) ef enew))))))
+    simp append_assoc (more_words old a new (codes "link") from_name ea (more_words a b new (32 ∷ name) from_tail eb (more_words b c new (32 ∷ tail) from_head ec
+    (more_words c d new (32 ∷ head) from_time ed (more_words d e new (32 ∷ printed transit) from_capacity ee (more_words e f new (32 ∷ capacity_word capacity) (10 ∷ []) ef enew))))))

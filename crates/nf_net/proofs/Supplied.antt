@@ -5,43 +5,33 @@ use Rattle.nf_rational.specs.Rational.{ℚ}
 use Rattle.nf_rational.specs.Operations.{0ℚ, ◌+ℚ◌, ◌-ℚ◌, ◌*ℚ◌}
 use Rattle.nf_rational.specs.Order.{◌≤ℚ◌, ◌<ℚ◌, lt_ℚ, min_ℚ}
 use Rattle.nf_rational_laws.proofs.Polynomial.{reading_of}
-use Rattle.nf_rational_laws.proofs.Linear.{le, eq, linear_le, linear_eq}
+use Rattle.nf_rational_laws.proofs.Linear.{le, eq, linear_eq}
 use Rattle.nf_rational_laws.proofs.Order.{less_ps, ≤ℚ_of_lt}
 use Rattle.nf_rational_laws.proofs.Tests.{lt_ℚ_cases, max0_none, max0_of}
 use Rattle.nf_rational_laws.proofs.Extremes.{min_left, min_keeps}
 use Rattle.nf_rational_laws.proofs.Chains.{≤ℚ_trans}
-use Rattle.nf_frac_def.specs.declared.Op.{Op}
 use Rattle.nf_frac_def.specs.declared.Op.TheVariants.{Sum, Difference, Product}
-use Rattle.nf_frac_def.specs.declared.Passed.{Passed}
-use Rattle.nf_frac_def.specs.Passing.{Passing, result_of}
+use Rattle.nf_frac_def.specs.Passing.{Passing}
 use Rattle.nf_frac_def.specs.Checked.{Checked, checked, ◌>>=◌}
 use Rattle.nf_model.specs.Network.{Piece, ArePieces, time_in, supplied}
 use Rattle.nf_net.specs.Supply.{end_before, with_piece, supplied_after}
 use Rattle.nf_frac_def.proofs.Binding.{bind_ok}
 use Rattle.nf_rational_laws.proofs.Results.{same_Ok}
+use Rattle.nf_frac_def.proofs.Exact.{checked-is}
+use Rattle.nf_rational_laws.proofs.Facts.{without_zero, gap_np}
 
 -- ---- computations that give a value
-
-value_is : (b : Bool) (p : Passed ℚ) (x y : ℚ) → ◌≡◌ {A = Checked ℚ} (cond b (Err p) (Ok x)) (Ok y) → y ≡ x
-value_is true p x y e = absurd (cc)
-value_is false p x y e = sym (same_Ok x y e)
-
-checked_is : (passes : Passing) (op : Op) (x y r : ℚ) → checked passes op x y ≡ Ok r → r ≡ result_of op x y
-unfolding checked
-checked_is passes op x y r e = value_is (passes op x y) (record { op = op; left = x; right = y }) (result_of op x y) r e
 
 with_piece_is : (passes : Passing) (so_far : ℚ) (piece : Piece) (end sum : ℚ) → with_piece passes so_far piece end ≡ Ok sum
     → sum ≡ so_far +ℚ piece.rate *ℚ (end -ℚ piece.start)
 with_piece_is passes so_far piece end sum e =
     let first = bind_ok (checked passes Difference end piece.start) (λ length. checked passes Product piece.rate length >>= λ amount. checked passes Sum so_far amount) sum e in
     let second = bind_ok (checked passes Product piece.rate first.0) (λ amount. checked passes Sum so_far amount) sum first.2 in
-    checked_is passes Sum so_far second.0 sum second.2
-    ∙ ap (λ (x : ℚ). so_far +ℚ x) (checked_is passes Product piece.rate first.0 second.0 second.1
-    ∙ ap (λ (x : ℚ). piece.rate *ℚ x) (checked_is passes Difference end piece.start first.0 first.1))
+    checked-is passes Sum so_far second.0 sum second.2
+    ∙ ap (λ (x : ℚ). so_far +ℚ x) (checked-is passes Product piece.rate first.0 second.0 second.1
+    ∙ ap (λ (x : ℚ). piece.rate *ℚ x) (checked-is passes Difference end piece.start first.0 first.1))
 
 -- ---- how long a piece is the latest one started
-not_above : (s m : ℚ) → m ≤ℚ s → m -ℚ s ≤ℚ 0ℚ
-not_above s m h = linear_le (s ∷ m ∷ []) (le h ∷ []) (search reading_of depth 12) tt
 
 abbrev pub RisesFrom : ℚ → List Piece → Type 0
 RisesFrom start [] = Unit {0}
@@ -52,8 +42,8 @@ time_when start [] time r h = max0_of (time -ℚ start) (≤ℚ_of_lt _ _ (less_
 time_when start (next ∷ later) time r h = max0_of (min_ℚ time next.start -ℚ start) (≤ℚ_of_lt _ _ (less_ps start (min_ℚ time next.start) (min_keeps (λ (m : ℚ). start <ℚ m) time next.start h r)))
 
 time_unless : (start : ℚ) (later : List Piece) (time : ℚ) → time ≤ℚ start → time_in start later time ≡ 0ℚ
-time_unless start [] time h = max0_none (time -ℚ start) (not_above start time h)
-time_unless start (next ∷ later) time h = max0_none (min_ℚ time next.start -ℚ start) (not_above start (min_ℚ time next.start) (≤ℚ_trans _ _ _ (min_left time next.start) h))
+time_unless start [] time h = max0_none (time -ℚ start) (gap_np time start h)
+time_unless start (next ∷ later) time h = max0_none (min_ℚ time next.start -ℚ start) (gap_np (min_ℚ time next.start) start (≤ℚ_trans _ _ _ (min_left time next.start) h))
 
 -- ---- the sums
 joined : (v x s r e t y : ℚ) → v ≡ x +ℚ y → x ≡ s +ℚ r *ℚ (e -ℚ t) → v ≡ s +ℚ (r *ℚ (e -ℚ t) +ℚ y)
@@ -64,9 +54,6 @@ nothing_more v s r y h = linear_eq (v ∷ s ∷ r ∷ y ∷ []) (eq h ∷ []) (s
 
 with_nothing : (v s : ℚ) → v ≡ s → v ≡ s +ℚ 0ℚ
 with_nothing v s h = linear_eq (v ∷ s ∷ []) (eq h ∷ []) (search reading_of depth 12) tt tt
-
-from_nothing : (v s : ℚ) → v ≡ 0ℚ +ℚ s → v ≡ s
-from_nothing v s h = linear_eq (v ∷ s ∷ []) (eq h ∷ []) (search reading_of depth 12) tt tt
 
 abbrev Rise : List Piece → Type 0
 Rise pieces = (i : ℕ) (piece next : Piece) → slice_get pieces i ≡ Some piece → slice_get pieces (suc i) ≡ Some next → piece.start <ℚ next.start
@@ -95,5 +82,5 @@ module _ (passes : Passing) (time : ℚ) where
           ∙ ap (λ (t : ℚ). so_far +ℚ (piece.rate *ℚ t +ℚ supplied later time)) (sym (time_unless piece.start later time starts))
 
   pub value_supplied : (r : Checked ℚ) (pieces : List Piece) → ArePieces pieces → r ≡ supplied_after passes 0ℚ pieces time → IfOk r (λ v. v ≡ supplied pieces time)
-  value_supplied (Ok v) pieces h e = from_nothing v (supplied pieces time) (supplied_is 0ℚ pieces v h.rise (sym e))
+  value_supplied (Ok v) pieces h e = without_zero v (supplied pieces time) (supplied_is 0ℚ pieces v h.rise (sym e))
   value_supplied (Err p) pieces h e = tt

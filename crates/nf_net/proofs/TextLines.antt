@@ -13,7 +13,7 @@ use Rattle.nf_net.proofs.Limits.{length-links_by_name}
 
 -- ---- texts put behind each other
 -- with one word more
-more_words : (o p q x y : List ℕ) → p ≡ o ++ x → q ≡ p ++ y → q ≡ o ++ (x ++ y)
+pub more_words : (o p q x y : List ℕ) → p ≡ o ++ x → q ≡ p ++ y → q ≡ o ++ (x ++ y)
 more_words o p q x y h k = k ∙ ap (λ (l : List ℕ). l ++ y) h ∙ append_assoc o x y
 
 pub three_pushes : (o o1 o2 o3 a b c : List ℕ) → o1 ≡ o ++ a → o2 ≡ o1 ++ b → o3 ≡ o2 ++ c → o3 ≡ o ++ (a ++ b ++ c)

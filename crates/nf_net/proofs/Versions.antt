@@ -2,7 +2,7 @@
 use Rattle.std.proofs.Common.{◌≡◌, ◌⊎◌, inl, inr, ◌≢◌, ℕ, refl, sym, ◌∙◌, ap, codes}
 use Rattle.nf_frac_words.specs.Digits.{digits_of}
 
-one_digit : digits_of 1 ≡ codes "1"
+pub one_digit : digits_of 1 ≡ codes "1"
 unfolding digits_of
 one_digit = refl
 

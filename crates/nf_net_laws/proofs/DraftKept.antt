@@ -210,7 +210,7 @@ first_says_no : (test : Bool) (rule : NetRule) (rest : List (Bool × NetRule)) �
 first_says_no true rule rest e = absurd (cc)
 first_says_no false rule rest e = (refl, e)
 
-from_not_negative : (x : ℚ) → is_negative x ≡ false → 0ℚ ≤ℚ x
+pub from_not_negative : (x : ℚ) → is_negative x ≡ false → 0ℚ ≤ℚ x
 unfolding lt_ℚ
 from_not_negative x e = le_of_test 0ℚ x (not-false (le_ℚ 0ℚ x) e)
 

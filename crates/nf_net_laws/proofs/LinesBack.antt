@@ -26,8 +26,7 @@ use Rattle.nf_net_def.specs.WellNamed.{IsFraction, IsCapacity, IsNamedLink, IsFr
 use Rattle.nf_net_laws.proofs.NameFacts.{bytes_eq-turned, same_names, with_name_new, with_names-append, with_names-split}
 use Rattle.nf_net_laws.proofs.LinkFacts.{ends-append, map-append, names_of-links_by_name}
 use Rattle.nf_net_laws.proofs.ClosesBack.{draft_of, source_below, sink_below, names_apart}
-
--- ---- tests that say no
+use Rattle.nf_rational_laws.proofs.Entries.{last-append}
 
 -- ---- numbers are read back
 pub within : (q : ℚ) → IsFraction q → (nat_abs q.num ≤ greatest) × (q.den ≤ greatest)
@@ -167,10 +166,6 @@ abbrev pub Rises : Option Piece → List Piece → Type 0
 Rises before [] = Unit {0}
 Rises before (piece ∷ pieces) = (is_not_after piece.start before ≡ false) × Rises (Some piece) pieces
 
-last_or-append : (before : Option Piece) (xs : List Piece) (piece : Piece) → last_or before (xs ++ piece ∷ []) ≡ Some piece
-last_or-append before [] piece = refl
-last_or-append before (x ∷ xs) piece = last_or-append (Some x) xs piece
-
 -- no start and no rate is negative
 abbrev pub AreNotNegative : List Piece → Type 0
 AreNotNegative pieces = AllByRecursion (λ piece. (0ℚ ≤ℚ piece.start) × (0ℚ ≤ℚ piece.rate)) pieces
@@ -187,7 +182,7 @@ pieces_follow draft (piece ∷ pieces) all open_ good positive rises e few = (
       (or_from (is_negative piece.start) (is_negative piece.rate) (not_negative piece.start positive.0.0) (not_negative piece.rate positive.0.1))
       rises.0),
   pieces_follow (after draft (InflowLine piece)) pieces all open_ good.1 positive.1
-      (subst (λ before. Rises before pieces) (sym (last_or-append None draft.pieces piece)) rises.1)
+      (subst (λ before. Rises before pieces) (sym (last-append None draft.pieces piece)) rises.1)
       (append_assoc draft.pieces (piece ∷ []) pieces ∙ e) few,
 )
 
@@ -230,7 +225,7 @@ name_of_list (x ∷ xs) (suc i) h low = name_of_list xs i (second (is_name x) (l
     second true b e = e
     second false b e = absurd (cc)
 
-list_all-left : (xs ys : List Name) → list_all is_name (xs ++ ys) ≡ true → list_all is_name xs ≡ true
+pub list_all-left : (xs ys : List Name) → list_all is_name (xs ++ ys) ≡ true → list_all is_name xs ≡ true
 list_all-left [] ys h = refl
 list_all-left (x ∷ xs) ys h = both (is_name x) (list_all is_name (xs ++ ys)) (list_all is_name xs) h (list_all-left xs ys)
   where

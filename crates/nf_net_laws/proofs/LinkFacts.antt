@@ -8,7 +8,7 @@ use Rattle.nf_net_def.specs.NetClosing.{marked}
 use Rattle.nf_net_laws.proofs.NameFacts.{has_at, place_at, place_left}
 
 -- ---- distinct names
-pub all_left : (P : Name → Type 0) (xs ys : List Name) → AllByRecursion P (xs ++ ys) → AllByRecursion P xs
+pub all_left : {A : Type 0} (P : A → Type 0) (xs ys : List A) → AllByRecursion P (xs ++ ys) → AllByRecursion P xs
 all_left P [] ys h = tt
 all_left P (x ∷ xs) ys h = (h.0, all_left P xs ys h.1)
 

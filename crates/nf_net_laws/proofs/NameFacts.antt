@@ -5,6 +5,7 @@ use Rattle.std.proofs.lemmas.Slice.Eq.{bytes_eq-Decides}
 use Rattle.std.proofs.lemmas.List.Folds.{list_any-append}
 use Rattle.std.proofs.lemmas.Bool.{or_left, or_right}
 use Rattle.nf_net_def.specs.Names.{Name, has_name, place_of, name_at, with_name, with_names, without}
+use Rattle.std.proofs.lemmas.List.Elements.{filter-append}
 
 -- ---- equal names
 pub same_names : (a b : Name) → bytes_eq a b ≡ true → a ≡ b
@@ -90,15 +91,6 @@ place_right (x ∷ xs) ys name h = step (bytes_eq name x) (has_name xs name) (pl
     step false r p f h = let k : length xs ≤ p = f h in omega arith
 
 -- ---- those of some names that aren't among others
-kept : (P : Name → Bool) (x : Name) (xs ys : List Name) (b : Bool) → filter P (xs ++ ys) ≡ filter P xs ++ filter P ys
-    → cond b (x ∷ filter P (xs ++ ys)) (filter P (xs ++ ys)) ≡ cond b (x ∷ filter P xs) (filter P xs) ++ filter P ys
-kept P x xs ys true e = ap (λ l. x ∷ l) e
-kept P x xs ys false e = e
-
-pub filter-append : (P : Name → Bool) (xs ys : List Name) → filter P (xs ++ ys) ≡ filter P xs ++ filter P ys
-filter-append P [] ys = refl
-filter-append P (x ∷ xs) ys = kept P x xs ys (P x) (filter-append P xs ys)
-
 -- among the names left, one that isn't in the others is as among all
 left : (these xs : List Name) (x name : Name) (b c : Bool) → has_name these name ≡ false → has_name these x ≡ b → bytes_eq name x ≡ c
     → has_name (without these xs) name ≡ has_name xs name

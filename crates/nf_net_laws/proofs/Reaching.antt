@@ -6,6 +6,7 @@ use Rattle.std.proofs.lemmas.Bool.{and_parts, or_cases, eqb-true, eq-eqb, or_lef
 use Rattle.nf_rational_laws.proofs.Results.{true_or_false}
 use Rattle.nf_model.specs.Walk.{Hop, IsWalk}
 use Rattle.nf_net_laws.proofs.WalkFacts.{walk_push, entry_all}
+use Rattle.std.proofs.lemmas.Map.Keys.{any_passes_from_place}
 
 -- an entry that passes a test
 pub record FoundEntry {X : Type 0} (test : X → Bool) (xs : List X) : Type 0 where
@@ -20,11 +21,6 @@ found test (x ∷ xs) h = elim (or_cases (test x) (list_any test xs) h) [
   | inl e ↦ record { place = 0; entry = x; is_entry = refl; passes = e }
   | inr e ↦ let r : FoundEntry test xs = found test xs e in record { place = suc r.place; entry = r.entry; is_entry = r.is_entry; passes = r.passes }
 ]
-
-pub any_there : {X : Type 0} (test : X → Bool) (xs : List X) (e : ℕ) (x : X) → slice_get xs e ≡ Some x → test x ≡ true → list_any test xs ≡ true
-any_there test [] e x is h = absurd (cc)
-any_there test (y ∷ xs) zero x is h = let same : y ≡ x = cc in or_left (test y) (list_any test xs) (ap test same ∙ h)
-any_there test (y ∷ xs) (suc e) x is h = or_right (test y) (list_any test xs) (any_there test xs e x is h)
 
 -- ---- how many of the hops lead to nodes that are found
 pub bit : Bool → ℕ
@@ -106,7 +102,7 @@ module _ (hops : List Hop) (u : ℕ) where
   unfolding grown leads
   into_grown S [] f = tt
   into_grown S (h ∷ rest) f = (
-    (λ e. or_right (S h.head) (list_any (leads S h.head) hops) (any_there (leads S h.head) hops (f 0 h refl).0 h (f 0 h refl).1 (λ i. e i && eq-eqb h.head h.head refl i))),
+    (λ e. or_right (S h.head) (list_any (leads S h.head) hops) (any_passes_from_place (leads S h.head) hops (f 0 h refl).0 h (f 0 h refl).1 (λ i. e i && eq-eqb h.head h.head refl i))),
     into_grown S rest (λ e h is. f (suc e) h is),
   )
 

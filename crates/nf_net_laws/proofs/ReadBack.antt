@@ -7,11 +7,13 @@ use Rattle.std.specs.Str.{bytes_eq}
 use Rattle.std.proofs.lemmas.List.Elements.{All-from_recursion}
 use Rattle.std.proofs.lemmas.List.Splits.{slice_split_at, slice_split_none, length-slice_split}
 use Rattle.std.proofs.lemmas.List.Sums.{position_or_len_is}
-use Rattle.std.proofs.lemmas.Bool.{eq-eqb, ne_eqb, leb-true, le-leb, le-ltb, not-true}
+use Rattle.std.proofs.lemmas.Bool.{ne_eqb, leb-true, le-leb, le-ltb, not-true}
 use Rattle.nf_text_def.specs.Lines.{TextLine, lines_from, lines_of_parts, ended_line}
 use Rattle.nf_text_def.specs.Words.{read_line, is_blank, words, without_comment, parts_with_bytes, line_of_words}
 use Rattle.nf_text_def.specs.Faults.{NotAscii, LongLine, is_allowed, line_fault, first_fault_of, longest_line}
 use Rattle.nf_net_laws.specs.LineLaws.{is_word_byte, IsWord, plain_from, AreWords, AreShort}
+use Rattle.nf_net_laws.proofs.AcceptedNamed.{every_append}
+use Rattle.nf_net_laws.proofs.NameFacts.{bytes_eq-self}
 
 -- ---- tests
 first_so : (a b : Bool) → (a && b) ≡ true → a ≡ true
@@ -21,10 +23,6 @@ first_so false b h = h
 second_so : (a b : Bool) → (a && b) ≡ true → b ≡ true
 second_so true b h = h
 second_so false b h = absurd (true≢false (sym h))
-
-bytes_eq-same : (bytes : List ℕ) → bytes_eq bytes bytes ≡ true
-bytes_eq-same [] = refl
-bytes_eq-same (b ∷ bytes) = ap (λ t. t && bytes_eq bytes bytes) (eq-eqb b b refl) ∙ bytes_eq-same bytes
 
 -- ---- a byte of a word
 above_space : (b : ℕ) → is_word_byte b ≡ true → 33 ≤ b
@@ -52,14 +50,10 @@ module _ (P : ℕ → Type 0) (at_word : (b : ℕ) → is_word_byte b ≡ true �
 
 -- and of a space, holds of words that are joined
 module _ (P : ℕ → Type 0) (at_word : (b : ℕ) → is_word_byte b ≡ true → P b) (at_space : P 32) where
-  of_both : (xs ys : List ℕ) → AllByRecursion P xs → AllByRecursion P ys → AllByRecursion P (xs ++ ys)
-  of_both [] ys h k = k
-  of_both (x ∷ xs) ys h k = (h.0, of_both xs ys h.1 k)
-
   of_joined : (words : List (List ℕ)) → AllByRecursion IsWord words → AllByRecursion P (join_with_byte 32 words)
   of_joined [] h = tt
   of_joined (w ∷ []) h = of_word P at_word w h.0.1
-  of_joined (w ∷ v ∷ words) h = of_both w (32 ∷ join_with_byte 32 (v ∷ words)) (of_word P at_word w h.0.1) (at_space, of_joined (v ∷ words) h.1)
+  of_joined (w ∷ v ∷ words) h = every_append _ w (32 ∷ join_with_byte 32 (v ∷ words)) (of_word P at_word w h.0.1) (at_space, of_joined (v ∷ words) h.1)
 
 no_hash : (words : List (List ℕ)) → AllByRecursion IsWord words → AllByRecursion (λ b. (b == 35) ≡ false) (join_with_byte 32 words)
 no_hash words h = of_joined (λ b. (b == 35) ≡ false) not_hash refl words h
@@ -125,7 +119,7 @@ lines_from-line n ws rest h =
 
 read_plain : (n : ℕ) (ws : List (List ℕ)) → AllByRecursion IsWord ws → read_line (plain_line n ws) ≡ record { number = n; plain = true; words = ws }
 read_plain n ws h = ap (λ vs. record { number = n; plain = bytes_eq (line_of_words ws) (line_of_words vs); words = vs }) (words-join ws h)
-    ∙ ap (λ t. record { number = n; plain = t; words = ws }) (bytes_eq-same (line_of_words ws))
+    ∙ ap (λ t. record { number = n; plain = t; words = ws }) (bytes_eq-self (line_of_words ws))
 
 -- ---- all of them
 pub plain_lines_from : (n : ℕ) (lines : List (List (List ℕ))) → AreWords lines → map read_line (lines_from n (flat_map line_of_words lines)) ≡ plain_from n lines
@@ -134,7 +128,7 @@ plain_lines_from n (ws ∷ lines) h = ap (map read_line) (lines_from-line n ws (
     ∙ ap (λ l. l ∷ map read_line (lines_from (n + 1) (flat_map line_of_words lines))) (read_plain n ws h.0)
     ∙ ap (λ t. record { number = n; plain = true; words = ws } ∷ t) (plain_lines_from (n + 1) lines h.1)
 
-list_all-from : (p : ℕ → Bool) (xs : List ℕ) → AllByRecursion (λ b. p b ≡ true) xs → list_all p xs ≡ true
+pub list_all-from : {A : Type 0} (p : A → Bool) (xs : List A) → AllByRecursion (λ b. p b ≡ true) xs → list_all p xs ≡ true
 list_all-from p [] h = refl
 list_all-from p (x ∷ xs) h = ap (λ t. t && list_all p xs) h.0 ∙ list_all-from p xs h.1
 

@@ -27,11 +27,12 @@ use Rattle.nf_net_laws.proofs.WalkFacts.{CameFrom, came_from, entry_all}
 use Rattle.nf_net_laws.proofs.DraftKept.{IsGoodDraft, draft_kept}
 use Rattle.nf_net_laws.proofs.AcceptedNodes.{ends_of_each}
 use Rattle.nf_net_laws.proofs.AcceptedWalks.{file_transits}
-use Rattle.nf_net_laws.proofs.Reaching.{FoundEntry, found, any_there, stays_closed, closure, reaching}
+use Rattle.nf_net_laws.proofs.Reaching.{FoundEntry, found, stays_closed, closure, reaching}
 use Rattle.nf_net_laws.proofs.Settling.{AllSettled, all_settled}
 use Rattle.nf_rational_laws.proofs.Entries.{slice_get-image}
 use Rattle.nf_rational_laws.proofs.Results.{true_or_false}
 use Rattle.nf_model_laws.proofs.Networks.{transit_of-hop}
+use Rattle.std.proofs.lemmas.Map.Keys.{any_passes_from_place}
 
 -- ---- the first of some rules that are decided
 decide_first : (P : NetRule → Type 0) → ((rule : NetRule) → P rule ⊎ (¬ P rule)) → (rules : List NetRule) → ((first : NetRule) × IsFirst P rules first) ⊎ AllByRecursion (λ rule. ¬ P rule) rules
@@ -137,7 +138,7 @@ module _ (draft : Draft) (g : IsGoodDraft draft) where
     | inr e ↦ inr (λ p.
         let inside : settled.settled.set p.hop.tail ≡ true = stays_closed (draft_hops draft) settled.settled.set settled.closed p.is_least.taken.0 (source_place draft) p.hop.tail settled.settled.start p.is_least.taken.1 in
         let same : p.least ≡ settled.settled.label p.hop.tail = least_once p.hop.tail p.least (settled.settled.label p.hop.tail) p.is_least (settled.settled.least p.hop.tail inside) in
-        let there : list_any sum_test (draft_hops draft) ≡ true = any_there sum_test (draft_hops draft) p.link p.hop p.is_hop
+        let there : list_any sum_test (draft_hops draft) ≡ true = any_passes_from_place sum_test (draft_hops draft) p.link p.hop p.is_hop
         (three (settled.settled.set p.hop.tail) (is_wide greatest (settled.settled.label p.hop.tail)) (passes_Q Sum (settled.settled.label p.hop.tail) p.hop.transit) inside
         (ap (is_wide greatest) (sym same) ∙ p.is_fraction) (ap (λ x. passes_Q Sum x p.hop.transit) (sym same) ∙ p.passes)) in
         absurd (cc))
@@ -213,7 +214,7 @@ module _ (draft : Draft) (g : IsGoodDraft draft) where
         record { first = r.place; walk = w.0; node = r.entry.tail; closed = (r.entry, r.is_entry, refl, back.0); zero = (zero_is r.place r.entry r.is_entry p.0, back.1) })
     | inr e ↦ inr (λ c.
         let back : IsWalk zero_hops c.walk c.closed.0.head c.closed.0.tail = subst (λ v. IsWalk zero_hops c.walk c.closed.0.head v) (sym c.closed.2) (walk_in c.walk c.closed.0.head c.node c.closed.3 c.zero.1) in
-        let there : list_any cycle_test (draft_hops draft) ≡ true = any_there cycle_test (draft_hops draft) c.first c.closed.0 c.closed.1
+        let there : list_any cycle_test (draft_hops draft) ≡ true = any_passes_from_place cycle_test (draft_hops draft) c.first c.closed.0 c.closed.1
         (λ i. zero_test c.first c.closed.0 c.closed.1 c.zero.0 i && (reaching zero_hops c.closed.0.head c.closed.0.tail).1 (c.walk, back) i) in
         absurd (cc))
   ]

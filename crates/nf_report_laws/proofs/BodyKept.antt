@@ -1,5 +1,6 @@
 -- Each line after the head leads to a parser state whose lines are those read so far.
 use Rattle.std.proofs.Common.{◌≡◌, ◌⊎◌, inl, inr, ⊎_elim, ℕ, zero, suc, ◌<◌, ◌≤◌, ◌==◌, Bool, true, false, not, ◌||◌, nat_lt, List, [], ◌∷◌, ◌++◌, length, flat_map, set, Option, Some, None, Result, Ok, Err, refl, sym, ap, subst, ◌∙◌, codes, arith, append_assoc, append-nil}
+use Rattle.std.proofs.lemmas.List.{length-set}
 use Rattle.std.specs.List.{AllByRecursion}
 use Rattle.std.proofs.lemmas.Bool.{ltb-false, or_parts, not-false}
 use Rattle.nf_rational.specs.Rational.{ℚ}
@@ -54,11 +55,6 @@ blank_set (s ∷ states) zero state zero h low = h.1
 blank_set (s ∷ states) zero state (suc k) h low = absurd (omega arith)
 blank_set (s ∷ states) (suc e) state zero h low = blank_set states e state zero h.1 (omega arith)
 blank_set (s ∷ states) (suc e) state (suc k) h low = blank_set states e state k h (omega arith)
-
-set_count : (states : Pattern) (e : ℕ) (state : Option State) → length (set states e state) ≡ length states
-set_count [] e state = refl
-set_count (s ∷ states) zero state = refl
-set_count (s ∷ states) (suc e) state = ap suc (set_count states e state)
 
 set_full : (states : Pattern) (e : ℕ) (state : State) (i : ℕ) → HasState (set states e (Some state)) i Full → ((i ≡ e) × (state ≡ Full)) ⊎ HasState states i Full
 set_full [] e state i h = inr h
@@ -183,7 +179,7 @@ state_goes_on n draft next (name ∷ word ∷ []) left h e =
           open_ = tt;
         };
         blank = blank_set draft.states k (Some u.between) draft.next_state h.blank low;
-        count = set_count draft.states k (Some u.between) ∙ h.count;
+        count = length-set draft.states k (Some u.between) ∙ h.count;
         no_full = λ e link is none full. ⊎_elim
             (λ (w : (e ≡ k) × (u.between ≡ Full)). allowed.1 (ap (capacity_at n.net.links) (sym w.0) ∙ ap capacity_of is ∙ none) w.1)
             (λ (w : HasState draft.states e Full). h.no_full e link is none w)

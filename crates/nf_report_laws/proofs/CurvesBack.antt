@@ -24,6 +24,7 @@ use Rattle.nf_report_laws.specs.Readable.{IsFractionPoint, AreFractionPoints, Is
 use Rattle.nf_report_laws.proofs.NumbersBack.{numbers_back, rate_text, rate_back}
 use Rattle.nf_report_laws.proofs.ReportShape.{lines_of_kind, curve_lines, IsOfKind, IsRead, plain_curve}
 use Rattle.nf_report_laws.proofs.ReportSteps.{next_of, Reads, reads-append, key_self, other_key}
+use Rattle.nf_rational_laws.proofs.Entries.{last-append}
 
 -- ---- times that rise, seen from the point before
 abbrev pub InTime : Option Point → List Point → Type 0
@@ -40,10 +41,6 @@ rising p (q ∷ points) h = (test_of_less p.0 q.0 h.0, rising q points h.1)
 pub curve_in_time : (points : List Point) → IsCurve points → InTime None points
 curve_in_time [] h = tt
 curve_in_time (p ∷ points) h = (is_zero_time p.0 h.0, rising p points h.1)
-
-last_or-append : (before : Option Point) (xs : List Point) (p : Point) → last_or before (xs ++ p ∷ []) ≡ Some p
-last_or-append before [] p = refl
-last_or-append before (x ∷ xs) p = last_or-append (Some x) xs p
 
 -- ---- one line
 abbrev opened_curve : Kind → Name → List Point → List ℚ → List ReadCurve → List CurveKey → Opened
@@ -118,7 +115,7 @@ module _ (n : Named) (d : ReportDraft) where
         subst (λ (ps : List Point). Reads n (in_body after_done (Some c) after_keys) (point_lines (key_word kind) name (q ∷ points)) after (in_body after_done (Some (record { key = key_of kind name; points = ps; rates = rates })) after_keys))
             (append_assoc front (p ∷ []) (q ∷ points))
             (points_read kind name says after_done (Some c) after_keys (front ++ p ∷ []) rates after_done after_keys q points after (goes_on after_done after_keys kind name [] [] c refl)
-            (subst (λ (o : Option Point). InTime o (q ∷ points)) (sym (last_or-append None front p)) t.1) h.1),
+            (subst (λ (o : Option Point). InTime o (q ∷ points)) (sym (last-append None front p)) t.1) h.1),
       )
 
   trace_goes_on : (key name : List ℕ) (p : Point) (points : List Point) (rates : List ℚ) (after : Option (List (List ℕ))) → begins_with key name (next_of (trace_lines key name (p ∷ points) rates) after) ≡ true
@@ -148,7 +145,7 @@ module _ (n : Named) (d : ReportDraft) where
             (subst (λ (ps : List Point). Reads n (in_body after_done (Some curve) after_keys) (trace_lines (key_word kind) name (q ∷ points) rates) after (in_body after_done (Some (record { key = key_of kind name; points = ps; rates = before ++ rate ∷ [] ++ rates })) after_keys))
             (append_assoc front (p ∷ []) (q ∷ points))
             (traces_read kind name says after_done (Some curve) after_keys (front ++ p ∷ []) (before ++ rate ∷ []) after_done after_keys q points rates after (goes_on after_done after_keys kind name [] [] curve refl)
-            (subst (λ (o : Option Point). InTime o (q ∷ points)) (sym (last_or-append None front p)) t.1) h.1 r.1 (omega arith) last)),
+            (subst (λ (o : Option Point). InTime o (q ∷ points)) (sym (last-append None front p)) t.1) h.1 r.1 (omega arith) last)),
       )
 
   -- ---- any curve

@@ -1,5 +1,6 @@
 -- The pieces that are read from a loads file.
 use Rattle.std.proofs.Common.{◌≡◌, ℕ, zero, suc, List, [], ◌∷◌, ◌++◌, length, map, set, None, slice_get, unwrap_or, Ok, refl, ap, subst, ◌∙◌}
+use Rattle.std.proofs.lemmas.List.{length-set}
 use Rattle.std.specs.List.{AllByRecursion}
 use Rattle.nf_frac_def.specs.Checked.{◌>>=◌}
 use Rattle.nf_text_def.specs.Words.{read_lines, content_lines}
@@ -20,11 +21,6 @@ all_set P [] i x w p = tt
 all_set P (y ∷ xs) zero x w p = (p, w.1)
 all_set P (y ∷ xs) (suc i) x w p = (w.0, all_set P xs i x w.1 p)
 
-set_length : {X : Type 0} (xs : List X) (i : ℕ) (x : X) → length (set xs i x) ≡ length xs
-set_length [] i x = refl
-set_length (y ∷ xs) zero x = refl
-set_length (y ∷ xs) (suc i) x = ap suc (set_length xs i x)
-
 all_there : {X : Type 0} (P : X → Type 0) (xs : List X) (i : ℕ) (d : X) → AllByRecursion P xs → P d → P (unwrap_or (slice_get xs i) d)
 all_there P [] i d w p = p
 all_there P (y ∷ xs) zero d w p = w.0
@@ -43,7 +39,7 @@ entry_kept n draft (Rate link piece) next g e =
     let k = piece_kept most_lines_of_a_link L9 L10 L11 before piece (all_there (λ pieces. GoOn None pieces) draft.pieces link [] g.all tt) w.0 in
     subst (λ (d : LoadsDraft). IsGood n d) w.1 (record {
       all = all_set (λ pieces. GoOn None pieces) draft.pieces link (before ++ piece ∷ []) g.all k.0;
-      many = set_length draft.pieces link (before ++ piece ∷ []) ∙ g.many;
+      many = length-set draft.pieces link (before ++ piece ∷ []) ∙ g.many;
     })
 
 line_kept : (n : ℕ) (names : List Name) (draft : LoadsDraft) (words : List (List ℕ)) (next : LoadsDraft) → IsGood n draft → add_load names draft words ≡ Ok next → IsGood n next

@@ -1,17 +1,17 @@
 -- Pieces that lines give one by one, each behind those before it by the rules of a piece.
-use Rattle.std.proofs.Common.{◌≡◌, ℕ, zero, suc, List, [], ◌∷◌, ◌++◌, length, ⊎_elim, Bool, true, false, ◌||◌, nat_le, Option, Some, None, subst}
+use Rattle.std.proofs.Common.{◌≡◌, ℕ, zero, suc, List, [], ◌∷◌, ◌++◌, length, Bool, false, ◌||◌, nat_le, Option, Some, None, subst}
 use Rattle.std.specs.List.{last_or}
 use Rattle.std.proofs.lemmas.Bool.{or_parts}
 use Rattle.std.proofs.lemmas.Option.{none-some, same_Some}
 use Rattle.nf_rational.specs.Rational.{ℚ}
 use Rattle.nf_rational.specs.Operations.{0ℚ}
-use Rattle.nf_rational.specs.Order.{◌≤ℚ◌, ◌<ℚ◌, lt_ℚ}
-use Rattle.nf_rational_laws.proofs.Tests.{lt_of_test, lt_ℚ_cases}
+use Rattle.nf_rational.specs.Order.{◌≤ℚ◌, ◌<ℚ◌}
+use Rattle.nf_rational_laws.proofs.Tests.{lt_of_test}
 use Rattle.nf_model.specs.Network.{Piece, IsPiece, ArePieces}
 use Rattle.nf_net_def.specs.NetLines.{is_negative, is_not_after}
 use Rattle.nf_side_def.specs.Lines.{piece_rule}
-use Rattle.nf_rational_laws.proofs.Results.{not_both}
 use Rattle.nf_report_laws.proofs.FrameKept.{rules_out}
+use Rattle.nf_net_laws.proofs.DraftKept.{from_not_negative}
 
 abbrev pub After : Option Piece → Piece → Type 0
 After None piece = Unit {0}
@@ -40,9 +40,6 @@ rise_of before (x ∷ y ∷ xs) (suc i) piece next w is then_ = rise_of (Some x)
 pub go_on_pieces : (xs : List Piece) → GoOn None xs → ArePieces xs
 go_on_pieces xs w = record { starts = λ i p is. (starts_of None xs i p w is).0; rise = λ i p q is then_. rise_of None xs i p q w is then_; rates = λ i p is. (starts_of None xs i p w is).1 }
 
-not_negative : (x : ℚ) → is_negative x ≡ false → 0ℚ ≤ℚ x
-not_negative x e = ⊎_elim (λ (w : (lt_ℚ x 0ℚ ≡ true) × (x <ℚ 0ℚ)). absurd (not_both (lt_ℚ x 0ℚ) w.0 e)) (λ (w : (lt_ℚ x 0ℚ ≡ false) × (0ℚ ≤ℚ x)). w.1) (lt_ℚ_cases x 0ℚ)
-
 after_it : (piece : Piece) (before : Option Piece) → is_not_after piece.start before ≡ false → After before piece
 after_it piece None e = tt
 after_it piece (Some before) e = lt_of_test piece.start before.start e
@@ -56,6 +53,6 @@ piece_kept {Rule} most negative not_after too_many before piece w e =
     let a = rules_out (is_negative piece.start || is_negative piece.rate) negative late e in
     let b = rules_out (is_not_after piece.start (last_or None before)) not_after many a.1 in
     let c = or_parts (is_negative piece.start) (is_negative piece.rate) a.0 in (
-      go_on_more None before piece w (not_negative piece.start c.0) (not_negative piece.rate c.1) (after_it piece (last_or None before) b.0),
+      go_on_more None before piece w (from_not_negative piece.start c.0) (from_not_negative piece.rate c.1) (after_it piece (last_or None before) b.0),
       (rules_out (nat_le most (length before)) too_many [] b.1).0,
     )

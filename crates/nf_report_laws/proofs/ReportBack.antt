@@ -4,7 +4,7 @@ use Rattle.std.specs.List.{AllByRecursion, list_all}
 use Rattle.nf_rational.specs.Rational.{ℚ}
 use Rattle.nf_rational.specs.Operations.{0ℚ}
 use Rattle.nf_rational.specs.Order.{◌≤ℚ◌, lt_ℚ}
-use Rattle.nf_rational_laws.proofs.Tests.{test_of_le}
+use Rattle.nf_rational_laws.proofs.Tests.{test_of_not_less}
 use Rattle.nf_frac_def.specs.Checked.{◌>>=◌}
 use Rattle.nf_text_def.specs.Words.{read_lines, line_of_words}
 use Rattle.nf_net_laws.proofs.ReadBack.{plain_lines_from, no_fault_from}
@@ -20,7 +20,7 @@ use Rattle.nf_net_def.specs.Named.{Named, names_of}
 use Rattle.nf_net_def.specs.WellNamed.{IsFraction, IsNamed}
 use Rattle.nf_net_def.specs.Report.{Report, report_lines, report_text}
 use Rattle.nf_net_laws.proofs.NameFacts.{bytes_eq-self}
-use Rattle.nf_net_laws.proofs.LinkFacts.{distinct_left}
+use Rattle.nf_net_laws.proofs.LinkFacts.{distinct_left, all_left}
 use Rattle.nf_net_laws.proofs.AcceptedNamed.{every_append}
 use Rattle.nf_rational.specs.Signs.{is_same}
 use Rattle.nf_report_def.specs.declared.ReportRule.TheVariants.{P4, P8, P10}
@@ -39,12 +39,9 @@ use Rattle.nf_report_laws.proofs.PlainReport.{IsShortLine, are_words, are_short,
 use Rattle.std.proofs.lemmas.Bool.{and_parts}
 use Rattle.nf_rational_laws.proofs.Chains.{≤ℚ_trans}
 use Rattle.nf_rational_laws.proofs.SignTests.{test_of_same, same_of_test}
+use Rattle.nf_rational_laws.proofs.Entries.{entry}
 
 -- ---- tests
-
-pub not_above : (x y : ℚ) → x ≤ℚ y → lt_ℚ y x ≡ false
-unfolding lt_ℚ
-not_above x y h = ap not (test_of_le x y h)
 
 stops_where : (stop : Option (Cause ℚ)) (reached horizon : ℚ) → (stop ≡ None) ↔ (reached ≡ horizon) → are_alike (is_none stop) (is_same reached horizon) ≡ true
 stops_where None reached horizon h = test_of_same reached horizon (h.0 refl)
@@ -70,11 +67,11 @@ head_read n horizon reached stop rest last h r c p q s t more = (
   (
     record (empty_report n) { stage = AtReached; horizon = horizon },
     ap (λ o. or_rule P8 o >>= λ horizon. if lt_ℚ horizon 0ℚ then Err P10 else Ok (record (empty_report n) { stage = AtReached; horizon = horizon })) (number_back horizon h)
-        ∙ ap (λ (b : Bool). if b then Err P10 else Ok (record (empty_report n) { stage = AtReached; horizon = horizon })) (not_above 0ℚ horizon p),
+        ∙ ap (λ (b : Bool). if b then Err P10 else Ok (record (empty_report n) { stage = AtReached; horizon = horizon })) (test_of_not_less horizon 0ℚ p),
     (
       record (empty_report n) { stage = AtCause; horizon = horizon; reached = reached },
       ap (λ o. or_rule P8 o >>= λ reached. if lt_ℚ reached 0ℚ || lt_ℚ horizon reached then Err P10 else Ok (record (empty_report n) { stage = AtCause; horizon = horizon; reached = reached })) (number_back reached r)
-          ∙ (λ i. if not_above 0ℚ reached q i || not_above reached horizon s i then Err P10 else Ok (record (empty_report n) { stage = AtCause; horizon = horizon; reached = reached })),
+          ∙ (λ i. if test_of_not_less reached 0ℚ q i || test_of_not_less horizon reached s i then Err P10 else Ok (record (empty_report n) { stage = AtCause; horizon = horizon; reached = reached })),
       (
         after_head n horizon reached stop,
         ap (λ o. o >>= λ stop. if are_alike (is_none stop) (is_same reached horizon) then Ok (after_head n horizon reached stop) else Err P10) (cause_back stop c)
@@ -89,10 +86,6 @@ head_read n horizon reached stop rest last h r c p q s t more = (
 names_are : (names : List Name) → list_all is_name names ≡ true → AllByRecursion (λ name. is_name name ≡ true) names
 names_are [] h = tt
 names_are (name ∷ names) h = let w = and_parts (is_name name) (list_all is_name names) h in (w.0, names_are names w.1)
-
-all-left : {A : Type 0} (P : A → Type 0) (xs ys : List A) → AllByRecursion P (xs ++ ys) → AllByRecursion P xs
-all-left P [] ys h = tt
-all-left P (x ∷ xs) ys h = (h.0, all-left P xs ys h.1)
 
 all-right : {A : Type 0} (P : A → Type 0) (xs ys : List A) → AllByRecursion P (xs ++ ys) → AllByRecursion P ys
 all-right P [] ys h = h
@@ -117,18 +110,14 @@ link_keys_named (name ∷ names) h = (h.0, (h.0, (h.0, link_keys_named names h.1
 keys_named : (n : Named) → IsNamed n → AllByRecursion IsNamedKey (curve_keys n)
 keys_named n h =
     let nodes = names_are (n.node_names ++ n.idle_nodes) h.node_names.each in
-    let links = all-left (λ name. is_name name ≡ true) n.link_names (names_of n.idle_links) (names_are (n.link_names ++ names_of n.idle_links) h.link_names.each) in
+    let links = all_left (λ name. is_name name ≡ true) n.link_names (names_of n.idle_links) (names_are (n.link_names ++ names_of n.idle_links) h.link_names.each) in
     every_append IsNamedKey (map (key_of OfLabel) n.node_names ++ map (key_of OfNever) n.idle_nodes) (link_keys n.link_names)
     (every_append IsNamedKey (map (key_of OfLabel) n.node_names) (map (key_of OfNever) n.idle_nodes)
-    (all-map IsNamedKey (key_of OfLabel) n.node_names (all-left (λ name. is_name name ≡ true) n.node_names n.idle_nodes nodes))
+    (all-map IsNamedKey (key_of OfLabel) n.node_names (all_left (λ name. is_name name ≡ true) n.node_names n.idle_nodes nodes))
     (all-map IsNamedKey (key_of OfNever) n.idle_nodes (all-right (λ name. is_name name ≡ true) n.node_names n.idle_nodes nodes)))
     (link_keys_named n.link_names links)
 
 -- ---- states
-link_at : (links : List Link) (e : ℕ) → e < length links → (link : Link) × (slice_get links e ≡ Some link)
-link_at [] e h = absurd (omega arith)
-link_at (link ∷ links) zero h = (link, refl)
-link_at (link ∷ links) (suc e) h = link_at links e (omega arith)
 
 state_within : (pattern : Pattern) (e : ℕ) (state : State) → HasState pattern e state → e < length pattern
 state_within [] e state h = absurd (cc)
@@ -139,7 +128,7 @@ allowed_state : (links : List Link) (pattern : Pattern) (e : ℕ) (state : State
     → ((e : ℕ) (link : Link) → slice_get links e ≡ Some link → link.capacity ≡ None → ¬ HasState pattern e Full) → HasState pattern e state → state_of_link (capacity_at links e) state ≡ Ok state
 allowed_state links pattern e state c no_full h =
     let within : e < length pattern = state_within pattern e state h in
-    let w = link_at links e (omega arith) in
+    let w = entry links e (omega arith) in
     go w.0 w.1 (capacity_at links e) refl state h
   where
     any : (capacity : Option ℚ) → state_of_link capacity Tight ≡ Ok Tight
@@ -221,7 +210,7 @@ module _ (n : Named) (report : Report) (named : IsNamed n) (h : IsFit n report) 
       (every_append IsShortLine (flat_map curve_lines curves ++ state_lines_of n.link_names report.last) end_lines
       (every_append IsShortLine (flat_map curve_lines curves) (state_lines_of n.link_names report.last)
       (curves_short curves (curves_are n report.flow h.flow) (all-of-map IsNamedKey (λ curve. curve.key) curves (subst (AllByRecursion IsNamedKey) (sym (keys_from n report.flow h.flow)) (keys_named n named))))
-      (states_short n.link_names report.last (all-left (λ name. is_name name ≡ true) n.link_names (names_of n.idle_links) (names_are (n.link_names ++ names_of n.idle_links) named.link_names.each))))
+      (states_short n.link_names report.last (all_left (λ name. is_name name ≡ true) n.link_names (names_of n.idle_links) (names_are (n.link_names ++ names_of n.idle_links) named.link_names.each))))
       end_short)
     where
       version : IsCount n.version

@@ -1,5 +1,5 @@
 -- The curves of a flow in the order of a report, and the lines of a report by these.
-use Rattle.std.proofs.Common.{◌≡◌, ℕ, zero, suc, ◌+◌, Bool, true, false, cond, List, [], ◌∷◌, ◌++◌, length, map, filter, flat_map, None, slice_get, unwrap_or, refl, sym, ap, ◌∙◌, codes, bytes_eq, arith, append_assoc, append-nil}
+use Rattle.std.proofs.Common.{◌≡◌, ℕ, zero, suc, ◌+◌, Bool, false, cond, List, [], ◌∷◌, ◌++◌, length, map, filter, flat_map, None, slice_get, unwrap_or, refl, sym, ap, ◌∙◌, codes, bytes_eq, arith, append_assoc, append-nil}
 use Rattle.std.specs.List.{AllByRecursion, range_with_len}
 use Rattle.std.proofs.lemmas.Grind.{flat_map-append}
 use Rattle.nf_rational.specs.Rational.{ℚ}
@@ -16,6 +16,7 @@ use Rattle.nf_net_def.specs.Report.{Report, point_lines, trace_lines, trace_at, 
 use Rattle.nf_report_def.specs.ReportLines.{Kind, OfLabel, OfNever, OfInflow, OfOutflow, OfQueue, key_word, key_of, ReadCurve}
 use Rattle.nf_report_def.specs.ReportFile.{curves_of, points_read, traces_read}
 use Rattle.nf_report_laws.specs.Readable.{AreFractionPoints}
+use Rattle.std.proofs.lemmas.List.Elements.{filter-append}
 
 -- ---- a curve that was read, and its lines
 abbrev pub lines_of_kind : Kind → Name → List Point → List ℚ → List (List (List ℕ))
@@ -165,13 +166,6 @@ lines_by_curves n report h nodes links states =
     ((λ i. e1 i ++ e2 i ++ e3 i ++ e4 i ++ end_lines) ∙ (λ i. sym parts i ++ state_lines_of n.link_names report.last ++ end_lines))
 
 -- ---- the curves of a kind among them
-filter-append : {A : Type 0} (f : A → Bool) (xs ys : List A) → filter f (xs ++ ys) ≡ filter f xs ++ filter f ys
-filter-append f [] ys = refl
-filter-append f (x ∷ xs) ys = kept (f x) (filter-append f xs ys)
-  where
-    kept : (b : Bool) → filter f (xs ++ ys) ≡ filter f xs ++ filter f ys → cond b (x ∷ filter f (xs ++ ys)) (filter f (xs ++ ys)) ≡ cond b (x ∷ filter f xs) (filter f xs) ++ filter f ys
-    kept true e = ap (λ l. x ∷ l) e
-    kept false e = e
 
 no_label : (kind : Kind) (names : List Name) (labels : List (List Point)) → bytes_eq (codes "label") (key_word kind) ≡ false → curves_of kind (label_curves names labels) ≡ []
 no_label kind [] labels e = refl

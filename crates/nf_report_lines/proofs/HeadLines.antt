@@ -2,7 +2,7 @@
 use Rattle.std.proofs.Common.{◌≡◌, ℕ, ◌<◌, Bool, true, false, not, ◌||◌, cond, List, length, drop, Result, Ok, Err, refl, ◌∙◌, ap, bytes_eq, codes}
 use Rattle.std.specs.Prelude.{Option, Some, None, is_none, is_some}
 use Rattle.std.specs.Bool.{beq}
-use Rattle.std.proofs.lemmas.Bool.{true≢false, false≢true}
+use Rattle.std.proofs.lemmas.Bool.{true≢false, false≢true, or_right, or_left}
 use Rattle.nf_rational.specs.Rational.{ℚ}
 use Rattle.nf_rational.specs.Operations.{0ℚ}
 use Rattle.nf_rational.specs.Order.{lt_ℚ}
@@ -69,14 +69,6 @@ module _ {A : Type 0} (key : List ℕ) (words : Words) (lt : 0 < length words) (
   this_key : bytes_eq (word_at words 0) key ≡ true → (behind key words >>= f) ≡ f (drop 1 words)
   this_key same = ap (λ (r : Result Words ReportRule). r >>= f) (behind_is key words lt same)
 
-either : (a b : Bool) → a ≡ true → (a || b) ≡ true
-either true b e = refl
-either false b e = absurd (false≢true e)
-
-or_else : (a b : Bool) → b ≡ true → (a || b) ≡ true
-or_else true b e = refl
-or_else false b e = e
-
 differing : (a b : Bool) → not (beq a b) ≡ true → are_alike a b ≡ false
 differing true true e = absurd (false≢true e)
 differing true false e = refl
@@ -128,12 +120,12 @@ module _ (draft : ReportDraft) (words : Words) (lt : 0 < length words) where
     pub reached_negative : (reached : ℚ) → number_alone (drop 1 words) ≡ Ok reached → lt_ℚ reached 0ℚ ≡ true → reached_line draft words ≡ Err P10
     unfolding by_reached
     reached_negative reached e t = reached_by (Ok reached) e
-        ∙ ap (λ (b : Bool). cond b (Err P10) (Ok (record draft { stage = AtCause; reached = reached }))) (either (lt_ℚ reached 0ℚ) (lt_ℚ draft.horizon reached) t)
+        ∙ ap (λ (b : Bool). cond b (Err P10) (Ok (record draft { stage = AtCause; reached = reached }))) (or_left (lt_ℚ reached 0ℚ) (lt_ℚ draft.horizon reached) t)
 
     pub reached_beyond : (reached : ℚ) → number_alone (drop 1 words) ≡ Ok reached → lt_ℚ draft.horizon reached ≡ true → reached_line draft words ≡ Err P10
     unfolding by_reached
     reached_beyond reached e t = reached_by (Ok reached) e
-        ∙ ap (λ (b : Bool). cond b (Err P10) (Ok (record draft { stage = AtCause; reached = reached }))) (or_else (lt_ℚ reached 0ℚ) (lt_ℚ draft.horizon reached) t)
+        ∙ ap (λ (b : Bool). cond b (Err P10) (Ok (record draft { stage = AtCause; reached = reached }))) (or_right (lt_ℚ reached 0ℚ) (lt_ℚ draft.horizon reached) t)
 
   pub cause_differs : bytes_eq (word_at words 0) (codes "cause") ≡ true → (stop : Option (Cause ℚ)) → cause_in (drop 1 words) ≡ Ok stop → not (beq (is_none stop) (is_same draft.reached draft.horizon)) ≡ true
       → cause_line draft words ≡ Err P10

@@ -1,11 +1,11 @@
 -- The last point of a curve, and times that come after it.
-use Rattle.std.proofs.Common.{◌≡◌, ⊎_elim, ℕ, zero, suc, ◌+◌, ◌<◌, Bool, true, false, not, List, [], ◌∷◌, length, Option, Some, None, refl, sym, ap, subst, ◌∙◌, arith}
+use Rattle.std.proofs.Common.{◌≡◌, ⊎_elim, ℕ, zero, suc, ◌+◌, ◌<◌, true, false, List, [], ◌∷◌, length, Option, Some, None, refl, sym, ap, subst, ◌∙◌, arith}
 use Rattle.std.specs.Prelude.{slice_get}
 use Rattle.std.specs.List.{last_or}
 use Rattle.nf_rational.specs.Rational.{ℚ}
 use Rattle.nf_rational.specs.Operations.{0ℚ}
-use Rattle.nf_rational.specs.Order.{◌<ℚ◌, le_ℚ, lt_ℚ}
-use Rattle.nf_rational_laws.proofs.Tests.{lt_of_test}
+use Rattle.nf_rational.specs.Order.{◌<ℚ◌, lt_ℚ}
+use Rattle.nf_rational_laws.proofs.Tests.{less_of_test}
 use Rattle.nf_model.specs.Curve.{Point}
 use Rattle.nf_rational.specs.Signs.{is_same}
 use Rattle.nf_curve.specs.Points.{last_time}
@@ -26,18 +26,10 @@ last_there o [] some = absurd (omega arith)
 last_there o (x ∷ []) some = (x, refl, refl)
 last_there o (x ∷ y ∷ rest) some = last_there (Some x) (y ∷ rest) (omega arith)
 
-by_test : (x y : ℚ) (b : Bool) → le_ℚ y x ≡ b → not b ≡ true → x <ℚ y
-by_test x y true f e = absurd (cc)
-by_test x y false f e = lt_of_test y x f
-
-below_of_test : (x y : ℚ) → lt_ℚ x y ≡ true → x <ℚ y
-unfolding lt_ℚ
-below_of_test x y e = by_test x y (le_ℚ y x) refl e
-
 pub time_is_later : (points : List Point) (time : ℚ) → 0 < length points → comes_after (last_or None points) time ≡ true → last_time points <ℚ time
 time_is_later points time some e =
     let there = last_there None points some in
-    subst (λ (t : ℚ). t <ℚ time) (sym there.2) (below_of_test there.0.0 time (ap (λ (o : Option Point). comes_after o time) (sym there.1) ∙ e))
+    subst (λ (t : ℚ). t <ℚ time) (sym there.2) (less_of_test there.0.0 time (ap (λ (o : Option Point). comes_after o time) (sym there.1) ∙ e))
 
 pub starts_at_0 : (time : ℚ) → comes_after None time ≡ true → time ≡ 0ℚ
 starts_at_0 time e = ⊎_elim

@@ -3,7 +3,7 @@
 use Rattle.std.proofs.Common.{◌≡◌, ℕ, zero, suc, ◌+◌, ◌<◌, ◌≤◌, List, [], ◌∷◌, length, ⊎_elim, Bool, true, false, eqb, Option, Some, None, slice_get, unwrap_or, get_or, refl, sym, ap, subst, ◌∙◌, arith}
 use Rattle.std.specs.Prelude.{if◌then◌else◌}
 use Rattle.std.proofs.lemmas.Bool.{eqb-true}
-use Rattle.std.proofs.lemmas.Option.{slice_get_within, slice_get_cases, same_Some}
+use Rattle.std.proofs.lemmas.Option.{slice_get_within, slice_get_cases, same_Some, slice_get_past}
 use Rattle.nf_rational.specs.Rational.{ℚ}
 use Rattle.nf_rational.specs.Operations.{0ℚ, ◌+ℚ◌}
 use Rattle.nf_rational.specs.Order.{◌≤ℚ◌, ◌<ℚ◌}
@@ -58,12 +58,6 @@ routes-le f g e (route ∷ routes) h = sum_le _ _ _ _ (along-le (f 0) (g 0) e ro
 pub routes-none : (f : ℕ → ℕ → ℚ) (e : ℕ) (routes : List Route) → Each routes e (λ r place. f r place ≡ 0ℚ) → sent_by_routes f e routes ≡ 0ℚ
 routes-none f e [] h = refl
 routes-none f e (route ∷ routes) h = both_are_zero _ _ (along-none (f 0) e route.links (λ p k. h 0 p route refl k)) (routes-none (λ r. f (suc r)) e routes (λ r p x k l. h (suc r) p x k l))
-
-none-beyond : {A : Type 0} (xs : List A) (i : ℕ) → length xs ≤ i → slice_get xs i ≡ None
-none-beyond [] zero h = refl
-none-beyond [] (suc i) h = refl
-none-beyond (x ∷ xs) zero h = absurd (omega arith)
-none-beyond (x ∷ xs) (suc i) h = none-beyond xs i (omega arith)
 
 -- the links of a walk are links of the network
 pub walk-links : (net : Network) (walk : List ℕ) (v w place e : ℕ) → IsWalk (hops net) walk v w → slice_get walk place ≡ Some e → (link : Link) × IsLink net e link
@@ -142,7 +136,7 @@ module _ (net : Network) (routes : List Route) (horizon : ℚ) (routed : Routed)
     arrival-is place t h =
         let none : slice_get route.links place ≡ None = ap (λ (n : ℕ). slice_get route.links n) (let n : place ≡ place + 0 = omega arith in n) ∙ h 0 in
         let beyond : length route.links ≤ place = past place none in
-        ap (λ (o : Option (List (ℚ × ℚ))). value (unwrap_or o (arrival_at routed r)) t) (none-beyond (stages_at routed r) place (let c = is.entry_count r route here in omega arith))
+        ap (λ (o : Option (List (ℚ × ℚ))). value (unwrap_or o (arrival_at routed r)) t) (slice_get_past (stages_at routed r) place (let c = is.entry_count r route here in omega arith))
       where
         past : (place : ℕ) → slice_get route.links place ≡ None → length route.links ≤ place
         past place none = ⊎_elim

@@ -15,11 +15,11 @@ use Rattle.nf_model_laws.proofs.Affine.{same_from_times}
 use Rattle.nf_model_laws.proofs.Curves.{value-first, value-line, value-after, slope-times}
 use Rattle.nf_rational.specs.Signs.{is_same}
 use Rattle.nf_curve_def.specs.Lines.{Sides}
-use Rattle.nf_curve_def.specs.Times.{times_of, both_times, merged, merged_from}
+use Rattle.nf_curve_def.specs.Times.{times_of, both_times, merged}
 use Rattle.nf_curve_def.specs.Sums.{sides_at}
 use Rattle.nf_curve_def.specs.Meanings.{IsShortOf}
 use Rattle.nf_curve_laws.proofs.Operations.{then_ok, is_same_cases}
-use Rattle.nf_curve_laws.proofs.Times.{IsOne, AreNext, NextOnes, merged_from-cases, both_times-next}
+use Rattle.nf_curve_laws.proofs.Times.{IsOne, AreNext, NextOnes, both_times-next, merged-one}
 use Rattle.nf_curve_laws.proofs.Pieces.{left_affine, right_affine, left_flat, AreSides, sides_at-is}
 use Rattle.nf_curve_laws.proofs.Short.{checked_short-is}
 use Rattle.nf_routes_def.specs.RoutesList.{next_from, next_entry}
@@ -49,24 +49,9 @@ beyond-none [] last t none h = absurd h
 beyond-none (p ∷ rest) last t none (inl e) = subst (λ (z : ℚ). z ≤ℚ last) (sym e) (none [] rest p refl)
 beyond-none (p ∷ rest) last t none (inr h) = beyond-none rest last t (λ front more q e. none (p ∷ front) more q (ap (λ (l : List Point). p ∷ l) e)) h
 
--- a time of both is one of either
-from_either : (s : ℚ) (later : List ℚ → List ℚ) (xs : List ℚ) → ((ys : List ℚ) (u : ℚ) → IsOne u (later ys) → IsOne u xs ⊎ IsOne u ys)
-    → (ys : List ℚ) (u : ℚ) → IsOne u (merged_from s later ys) → IsOne u (s ∷ xs) ⊎ IsOne u ys
-from_either s later xs h [] u w = ⊎_elim
-    (λ (e : u ≡ s). inl (inl e))
-    (λ (v : IsOne u (later [])). ⊎_elim (λ (x : IsOne u xs). inl (inr x)) (λ (y : IsOne u []). absurd y) (h [] u v)) w
-from_either s later xs h (t ∷ rest) u w = merged_from-cases (λ l. IsOne u l → IsOne u (s ∷ xs) ⊎ IsOne u (t ∷ rest)) s later t rest
-    (λ _ w. ⊎_elim (λ (e : u ≡ s). inl (inl e)) (λ (v : IsOne u (later (t ∷ rest))). ⊎_elim (λ (x : IsOne u xs). inl (inr x)) (λ (y : IsOne u (t ∷ rest)). inr y) (h (t ∷ rest) u v)) w)
-    (λ _ w. ⊎_elim (λ (e : u ≡ t). inr (inl e)) (λ (v : IsOne u (merged_from s later rest)). ⊎_elim (λ (x : IsOne u (s ∷ xs)). inl x) (λ (y : IsOne u rest). inr (inr y)) (from_either s later xs h rest u v)) w)
-    (λ _ w. ⊎_elim (λ (e : u ≡ s). inl (inl e)) (λ (v : IsOne u (later rest)). ⊎_elim (λ (x : IsOne u xs). inl (inr x)) (λ (y : IsOne u rest). inr (inr y)) (h rest u v)) w) w
-
-merged-either : (xs ys : List ℚ) (u : ℚ) → IsOne u (merged xs ys) → IsOne u xs ⊎ IsOne u ys
-merged-either [] ys u w = inr w
-merged-either (s ∷ rest) ys u w = from_either s (merged rest) rest (merged-either rest) ys u w
-
 pub both_times-either : (left right : List Point) (u : ℚ) → IsOne u (both_times left right) → IsOne u (times_of left) ⊎ IsOne u (times_of right)
 unfolding both_times
-both_times-either left right u w = merged-either (times_of left) (times_of right) u w
+both_times-either left right u w = merged-one (times_of left) (times_of right) u w
 
 module _ (passes : Passing) (exit entry : List Point) (last : ℚ) (can : CanShare exit entry last) where
   abbrev A : ℚ → ℚ

@@ -18,6 +18,7 @@ use Rattle.nf_routes_def.specs.Routes.{Route}
 use Rattle.nf_routes_def.specs.Meanings.{sent_along, sent_by_routes}
 use Rattle.nf_routes_laws.proofs.Arriving.{along-le, routes-le}
 use Rattle.nf_rational_laws.proofs.Chains.{≤ℚ_refl, ≤ℚ_trans}
+use Rattle.nf_model_laws.proofs.Potential.{first_le, rest_le}
 
 -- ---- two sums that are equal, of which no term of the one exceeds that of the other
 if_first : (b : Bool) (x y s t : ℚ) → b ≡ true → s ≤ℚ t → (if b then y +ℚ t else t) ≤ℚ (if b then x +ℚ s else s) → y ≤ℚ x
@@ -34,12 +35,6 @@ along-each f g e [] h k place at = absurd (cc)
 along-each f g e (l ∷ links) h k zero at = if_first (eqb l e) (f 0) (g 0) _ _ (eq-eqb l e (same_Some l e at)) (along-le (λ p. f (suc p)) (λ p. g (suc p)) e links (λ p j. h (suc p) j)) k
 along-each f g e (l ∷ links) h k (suc place) at =
     along-each (λ p. f (suc p)) (λ p. g (suc p)) e links (λ p j. h (suc p) j) (if_rest (eqb l e) (f 0) (g 0) _ _ (λ t. h 0 (ap (λ (x : ℕ). Some x) (eqb-true l e t))) k) place at
-
-first_le : (a b c d : ℚ) → c ≤ℚ d → b +ℚ d ≤ℚ a +ℚ c → b ≤ℚ a
-first_le a b c d h k = linear_le (a ∷ b ∷ c ∷ d ∷ []) (le h ∷ le k ∷ []) (search reading_of) tt
-
-rest_le : (a b c d : ℚ) → a ≤ℚ b → b +ℚ d ≤ℚ a +ℚ c → d ≤ℚ c
-rest_le a b c d h k = linear_le (a ∷ b ∷ c ∷ d ∷ []) (le h ∷ le k ∷ []) (search reading_of) tt
 
 abbrev Each : List Route → ℕ → (ℕ → ℕ → Type 0) → Type 0
 Each routes e P = (r place : ℕ) (route : Route) → slice_get routes r ≡ Some route → slice_get route.links place ≡ Some e → P r place

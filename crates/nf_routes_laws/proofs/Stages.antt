@@ -5,7 +5,6 @@ use Rattle.std.proofs.lemmas.Bool.Decides.{eqb_tells}
 use Rattle.std.proofs.lemmas.Option.{same_Some}
 use Rattle.nf_rational.specs.Rational.{ℚ}
 use Rattle.nf_frac_def.specs.Passing.{Passing}
-use Rattle.nf_frac_def.specs.Checked.{each}
 use Rattle.nf_model.specs.Curve.{Point}
 use Rattle.nf_load_def.specs.Loading.{Loaded}
 use Rattle.nf_check_def.specs.Curves.{last_value}
@@ -19,11 +18,6 @@ use Rattle.nf_rational_laws.proofs.Results.{same_Ok}
 pub nothing_before : {A : Type 0} (xs ys : List A) → length xs ≡ 0 → ys ≡ xs ++ ys
 nothing_before [] ys h = refl
 nothing_before (x ∷ xs) ys h = absurd (omega arith)
-
-pub get-front : {A : Type 0} (xs ys : List A) (i : ℕ) (x : A) → slice_get xs i ≡ Some x → slice_get (xs ++ ys) i ≡ Some x
-get-front [] ys i x h = absurd (cc)
-get-front (y ∷ xs) ys zero x h = h
-get-front (y ∷ xs) ys (suc i) x h = get-front xs ys i x h
 
 pub get-next : {A : Type 0} (xs : List A) (x : A) (rest : List A) (n : ℕ) → length xs ≡ n → slice_get (xs ++ x ∷ rest) n ≡ Some x
 get-next [] x rest zero h = refl
@@ -43,7 +37,6 @@ set-other (x ∷ xs) zero (suc j) y h = refl
 set-other (x ∷ xs) (suc i) zero y h = refl
 set-other (x ∷ xs) (suc i) (suc j) y h = set-other xs i j y (λ e. h (ap suc e))
 
--- ---- a computation for each
 -- ---- the entries of a route, the last of which is the arrival
 pub get-last : (xs : List (List Point)) (n : ℕ) → length xs ≡ suc n → slice_get xs n ≡ Some (last_entry xs)
 get-last [] n h = absurd (omega arith)

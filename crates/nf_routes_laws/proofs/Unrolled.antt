@@ -21,11 +21,12 @@ use Rattle.nf_routes_def.specs.RoutesList.{LoadedLink, SoFar, Routed, exit_end, 
 use Rattle.nf_routes_def.specs.Meanings.{link_loaded, stages_at, arrival_at, entry_at}
 use Rattle.nf_curve_laws.proofs.Operations.{then_ok}
 use Rattle.nf_routes_laws.proofs.Ordering.{In, in-front, in-back, range-below, free-some, before-pair, before-of, placed}
-use Rattle.nf_routes_laws.proofs.Stages.{get-front, get-next, set-same, set-other, get-last, at-stage, exit_end-is, begun-count, begun-at, next-count, next-at, over-at, over-place}
+use Rattle.nf_routes_laws.proofs.Stages.{get-next, set-same, set-other, get-last, at-stage, exit_end-is, begun-count, begun-at, next-count, next-at, over-at, over-place}
 use Rattle.nf_routes_laws.proofs.Steps.{Stands, stage, stands-none, place-is, stands-over, stands-past, IsEntryOf, Over, over-is, past-is}
 use Rattle.nf_rational_laws.proofs.Chains.{≤ℚ_refl, ≤ℚ_trans}
 use Rattle.nf_rational_laws.proofs.Entries.{entry, slice_get-image}
 use Rattle.nf_rational_laws.proofs.Results.{same_Ok, not_both}
+use Rattle.nf_net_laws.proofs.WalkFacts.{slice_get-left}
 
 -- ---- the links of the order are links
 pub order-below : (pairs : List (ℕ × ℕ)) (many more : ℕ) (taken : List ℕ) (e : ℕ) → In e (order_from more pairs many taken) → e < many
@@ -314,9 +315,9 @@ module _ (passes : Passing) (net : Network) (routes : List Route) (horizon : ℚ
               let g = grows.entries r rd.after rd.after_here in
               let whole : g.0 ≡ (rd.begun ++ o.next ∷ []) ++ g.1 = g.3 ∙ ap (λ (l : List (List Point)). l ++ g.1) o.after_is in
               let at_n : slice_get g.0 rd.was.n ≡ Some (last_entry rd.begun) = ap (λ (l : List (List Point)). slice_get l rd.was.n) whole
-              ∙ get-front (rd.begun ++ o.next ∷ []) g.1 rd.was.n _ (get-front rd.begun (o.next ∷ []) rd.was.n _ (get-last rd.begun rd.was.n o.begins.count)) in
+              ∙ slice_get-left (rd.begun ++ o.next ∷ []) g.1 rd.was.n _ (slice_get-left rd.begun (o.next ∷ []) rd.was.n _ (get-last rd.begun rd.was.n o.begins.count)) in
               let at_next : slice_get g.0 (suc rd.was.n) ≡ Some o.next = ap (λ (l : List (List Point)). slice_get l (suc rd.was.n)) whole
-              ∙ get-front (rd.begun ++ o.next ∷ []) g.1 (suc rd.was.n) _ (get-next rd.begun o.next [] (suc rd.was.n) o.begins.count) in
+              ∙ slice_get-left (rd.begun ++ o.next ∷ []) g.1 (suc rd.was.n) _ (get-next rd.begun o.next [] (suc rd.was.n) o.begins.count) in
               let entry_n : entry_at routed r rd.was.n ≡ last_entry rd.begun = entry-is r rd.was.n g.0 _ g.2 at_n in
               let entry_next : entry_at routed r (suc rd.was.n) ≡ o.next = entry-is r (suc rd.was.n) g.0 _ g.2 at_next in
               subst (λ (p : ℕ). RouteOver e r p route d.begun) (sym at) (record {

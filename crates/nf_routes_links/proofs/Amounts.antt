@@ -5,7 +5,7 @@ use Rattle.nf_rational.specs.Rational.{ℚ}
 use Rattle.nf_rational.specs.Operations.{0ℚ, ◌+ℚ◌}
 use Rattle.nf_rational.specs.Order.{◌≤ℚ◌}
 use Rattle.nf_rational_laws.proofs.Polynomial.{reading_of}
-use Rattle.nf_rational_laws.proofs.Linear.{le, eq, linear_le, linear_eq}
+use Rattle.nf_rational_laws.proofs.Linear.{le, linear_le}
 use Rattle.nf_rational_laws.proofs.Chains.{≤ℚ_refl, ≤ℚ_trans}
 use Rattle.nf_frac_def.specs.Passing.{Passing}
 use Rattle.nf_model.specs.Curve.{Point, value, IsCurve, NeverFalls}
@@ -25,11 +25,10 @@ use Rattle.nf_load_laws.proofs.Cumulative.{follows-values_rise}
 use Rattle.nf_load_laws.proofs.Functions.{exit_at, exit_at-is}
 use Rattle.nf_load_laws.proofs.Loading.{ExitPoints, exit_points}
 use Rattle.nf_routes_links.specs.Amounts.{IsAmount, AreExits}
+use Rattle.nf_routes_laws.proofs.Entries.{rises-same}
+use Rattle.nf_rational_laws.proofs.Facts.{sum_le, both_are_zero}
 
 -- ---- functions that have the same values from time 0 on
-rises-same : (f g : ℚ → ℚ) → ((t : ℚ) → 0ℚ ≤ℚ t → g t ≡ f t) → NeverFalls f → NeverFalls g
-rises-same f g same rises earlier later h k =
-    subst (λ (x : ℚ). x ≤ℚ g later) (sym (same earlier h)) (subst (λ (x : ℚ). f earlier ≤ℚ x) (sym (same later (≤ℚ_trans _ _ _ h k))) (rises earlier later h k))
 
 pub short_amount : (points short : List Point) → IsAmount points → IsShortOf points short → IsAmount short
 short_amount points short a s = record {
@@ -49,17 +48,11 @@ short_exits points short a s = record {
 pub no_amount : IsAmount ((0ℚ, 0ℚ) ∷ [])
 no_amount = record { curve = (refl, tt); begins = refl; rises = λ s t h k. ≤ℚ_refl 0ℚ }
 
-both_sum : (x y z w : ℚ) → x ≤ℚ y → z ≤ℚ w → x +ℚ z ≤ℚ y +ℚ w
-both_sum x y z w h k = linear_le (x ∷ y ∷ z ∷ w ∷ []) (le h ∷ le k ∷ []) (search reading_of depth 12) tt
-
-none_sum : (x y : ℚ) → x ≡ 0ℚ → y ≡ 0ℚ → x +ℚ y ≡ 0ℚ
-none_sum x y h k = linear_eq (x ∷ y ∷ []) (eq h ∷ eq k ∷ []) (search reading_of depth 12) tt tt
-
 pub sum_amount : (left right sum : List Point) → IsAmount left → IsAmount right → IsSumOf left right sum → IsAmount sum
 sum_amount left right sum a b s = record {
   curve = s.curve;
-  begins = s.values 0ℚ (≤ℚ_refl 0ℚ) ∙ none_sum _ _ a.begins b.begins;
-  rises = rises-same (λ t. value left t +ℚ value right t) (value sum) s.values (λ i j h k. both_sum _ _ _ _ (a.rises i j h k) (b.rises i j h k));
+  begins = s.values 0ℚ (≤ℚ_refl 0ℚ) ∙ both_are_zero _ _ a.begins b.begins;
+  rises = rises-same (λ t. value left t +ℚ value right t) (value sum) s.values (λ i j h k. sum_le _ _ _ _ (a.rises i j h k) (b.rises i j h k));
 }
 
 pub summed_amount : (passes : Passing) (left right sum : List Point) → IsAmount left → IsAmount right → checked_sum passes left right ≡ Ok sum → IsAmount sum

@@ -5,9 +5,9 @@ use Rattle.nf_rational.specs.Rational.{ℚ}
 use Rattle.nf_rational.specs.Order.{◌≤ℚ◌, ◌<ℚ◌, lt_ℚ}
 use Rattle.nf_rational.specs.Signs.{is_same}
 use Rattle.nf_rational_laws.proofs.Chains.{≤ℚ_trans}
-use Rattle.nf_rational_laws.proofs.Order.{≤ℚ_of_lt, ≤ℚ_of_same, <ℚ_irrefl, not_both_ℚ}
+use Rattle.nf_rational_laws.proofs.Order.{≤ℚ_of_lt, ≤ℚ_of_same, <ℚ_irrefl}
 use Rattle.nf_rational_laws.proofs.Results.{same_Ok}
-use Rattle.nf_rational_laws.proofs.Tests.{lt_ℚ_cases}
+use Rattle.nf_rational_laws.proofs.Tests.{test_of_not_less}
 use Rattle.nf_frac_def.specs.Passing.{Passing, passes_Q}
 use Rattle.nf_frac_def.specs.Checked.{Checked, each, ◌>>=◌}
 use Rattle.nf_model.specs.Curve.{Point, TimesRise, IsCurve}
@@ -18,6 +18,7 @@ use Rattle.nf_curve_def.specs.Times.{both_times}
 use Rattle.nf_curve_def.specs.Values.{value_from, checked_value}
 use Rattle.nf_curve_laws.proofs.Operations.{then_ok, is_same_cases}
 use Rattle.nf_routes_links.specs.Points.{AreKnown, AreThere, right_point}
+use Rattle.nf_rational_laws.proofs.SignTests.{is_same-itself}
 
 -- ---- the value at the time of a point
 from_first : (p : Point) (rest : List Point) (i : ℕ) (q : Point) → TimesRise (p ∷ rest) → slice_get (p ∷ rest) i ≡ Some q → p.0 ≤ℚ q.0
@@ -25,25 +26,16 @@ from_first p rest zero q r h = let same : p ≡ q = cc in ≤ℚ_of_same p.0 q.0
 from_first p [] (suc i) q r h = absurd (cc)
 from_first p (s ∷ rest) (suc i) q r h = ≤ℚ_trans _ _ _ (≤ℚ_of_lt _ _ r.0) (from_first s rest i q r.1 h)
 
-same_test : (x : ℚ) → is_same x x ≡ true
-same_test x = ⊎_elim (λ (w : (is_same x x ≡ true) × (x ≡ x)). w.0) (λ (w : (is_same x x ≡ false) × (x ≢ x)). absurd (w.1 refl)) (is_same_cases x x)
-
 later_test : (x y : ℚ) → y <ℚ x → is_same x y ≡ false
 later_test x y h = ⊎_elim
     (λ (w : (is_same x y ≡ true) × (x ≡ y)). absurd (<ℚ_irrefl y (subst (λ (z : ℚ). y <ℚ z) w.1 h)))
     (λ (w : (is_same x y ≡ false) × (x ≢ y)). w.0)
     (is_same_cases x y)
 
-past_test : (x y : ℚ) → y ≤ℚ x → lt_ℚ x y ≡ false
-past_test x y h = ⊎_elim
-    (λ (w : (lt_ℚ x y ≡ true) × (x <ℚ y)). absurd (not_both_ℚ x y w.1 h))
-    (λ (w : (lt_ℚ x y ≡ false) × (y ≤ℚ x)). w.0)
-    (lt_ℚ_cases x y)
-
 module _ (passes : Passing) where
   at_first : (p : Point) (rest : List Point) → value_from passes p rest p.0 ≡ Ok p.1
   at_first p [] = refl
-  at_first p (s ∷ rest) = ap (λ (b : Bool). if b then Ok p.1 else (if lt_ℚ p.0 s.0 then checked_line passes p s p.0 else value_from passes s rest p.0)) (same_test p.0)
+  at_first p (s ∷ rest) = ap (λ (b : Bool). if b then Ok p.1 else (if lt_ℚ p.0 s.0 then checked_line passes p s p.0 else value_from passes s rest p.0)) (is_same-itself p.0)
 
   at_later : (p : Point) (rest : List Point) (i : ℕ) (q : Point) → TimesRise (p ∷ rest) → slice_get (p ∷ rest) i ≡ Some q → value_from passes p rest q.0 ≡ Ok q.1
   at_later p rest zero q r h = let same : p ≡ q = cc in subst (λ (x : Point). value_from passes p rest x.0 ≡ Ok x.1) same (at_first p rest)
@@ -51,7 +43,7 @@ module _ (passes : Passing) where
   at_later p (s ∷ rest) (suc i) q r h =
       let from : s.0 ≤ℚ q.0 = from_first s rest i q r.1 h in
       ap (λ (b : Bool). if b then Ok p.1 else (if lt_ℚ q.0 s.0 then checked_line passes p s q.0 else value_from passes s rest q.0)) (later_test q.0 p.0 (<_≤_trans _ _ _ r.0 from))
-      ∙ ap (λ (b : Bool). if b then checked_line passes p s q.0 else value_from passes s rest q.0) (past_test q.0 s.0 from)
+      ∙ ap (λ (b : Bool). if b then checked_line passes p s q.0 else value_from passes s rest q.0) (test_of_not_less q.0 s.0 from)
       ∙ at_later s rest i q r.1 h
 
   pub value_at-point : (points : List Point) (i : ℕ) (q : Point) → IsCurve points → slice_get points i ≡ Some q → checked_value passes points q.0 ≡ Ok q.1

@@ -1,7 +1,7 @@
 -- Travels of routes over the same links: each is that of the first of them.
-use Rattle.std.proofs.Common.{◌≡◌, ◌⊎◌, inl, inr, ⊎_elim, ℕ, zero, suc, ◌+◌, ◌≤◌, List, [], ◌∷◌, ◌++◌, length, drop, refl, sym, ap, subst, ◌∙◌, arith}
+use Rattle.std.proofs.Common.{◌≡◌, ◌⊎◌, inl, inr, ⊎_elim, ℕ, zero, suc, ◌+◌, ◌≤◌, List, [], ◌∷◌, ◌++◌, length, drop, refl, sym, ap, subst, ◌∙◌}
 use Rattle.std.specs.Prelude.{Some, Ok, slice_get}
-use Rattle.std.proofs.lemmas.List.{drop_all}
+use Rattle.std.proofs.lemmas.List.{drop_all, length_push}
 use Rattle.nf_rational.specs.Rational.{ℚ}
 use Rattle.nf_frac_def.specs.declared.Halt.{Halt}
 use Rattle.nf_frac_def.specs.declared.Part.TheVariants.{Load}
@@ -27,9 +27,6 @@ pub links_end : (left right : List ℕ) (i : ℕ) → length left ≤ i → leng
 links_end left right i h k so_far = so_far (drop_all i left h ∙ sym (drop_all i right k))
 
 -- ---- one entry more
-length_more : (xs : List (List Point)) (x : List Point) → length (xs ++ x ∷ []) ≡ length xs + 1
-length_more [] x = refl
-length_more (y ∷ xs) x = let more : length (xs ++ x ∷ []) ≡ length xs + 1 = length_more xs x in omega arith
 
 at_more : (xs : List (List Point)) (x : List Point) (i : ℕ) (y : List Point) → slice_get (xs ++ x ∷ []) i ≡ Some y → (slice_get xs i ≡ Some y) ⊎ ((i ≡ length xs) × (x ≡ y))
 at_more [] x zero y h = inr (refl, let same : x ≡ y = cc in same)
@@ -85,5 +82,5 @@ module _ (horizon : ℚ) (loaded : List Loaded) (routes : List NamedRoute) where
                   ap (λ (n : ℕ). travel_along passes_Q horizon loaded (links_at routes n) (departures horizon)) (v.0 ∙ all.count) ∙ was ∙ ap Ok v.1)
                   (at_more travels one r travel h);
             };
-            count = length_more travels one ∙ ap (λ (n : ℕ). n + 1) all.count;
+            count = length_push travels one ∙ ap (λ (n : ℕ). n + 1) all.count;
           })

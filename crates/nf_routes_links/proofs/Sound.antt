@@ -14,10 +14,10 @@ use Rattle.nf_curve_laws.proofs.Operations.{then_ok}
 use Rattle.nf_curve_laws.proofs.Short.{checked_short-is}
 use Rattle.nf_load_def.specs.Cumulative.{checked_cumulative}
 use Rattle.nf_load_laws.proofs.Cumulative.{checked_cumulative-is}
-use Rattle.nf_rational_laws.proofs.Results.{same_Ok}
+use Rattle.nf_rational_laws.proofs.Results.{same_Ok, not_both, or_rest}
 use Rattle.nf_routes_def.specs.Routes.{Route, pairs_of, all_pairs, is_taken}
 use Rattle.nf_routes_def.specs.RoutesList.{begins_with, goes_over, last_entry, next_entry, begin_if, add_if, sum_from, next_if}
-use Rattle.nf_routes_read.proofs.Pairs.{all-append, test}
+use Rattle.nf_routes_read.proofs.Pairs.{test}
 use Rattle.nf_routes_read.proofs.Taking.{taken-push}
 use Rattle.nf_routes_links.specs.Amounts.{IsAmount, AreExits}
 use Rattle.nf_routes_links.proofs.Amounts.{short_amount, summed_amount, supplied_amount}
@@ -25,6 +25,8 @@ use Rattle.nf_routes_links.proofs.Sharing.{next_amount}
 use Rattle.nf_routes_links.specs.Beginning.{nothing_sent, HavePieces}
 use Rattle.nf_routes_links.specs.Standing.{Along, MayBegin, Sends}
 use Rattle.nf_routes_links.proofs.Folds.{Sent}
+use Rattle.std.proofs.lemmas.Bool.{or_right, or_left}
+use Rattle.std.proofs.lemmas.List.Folds.{list_all-append}
 
 -- with these links taken: each of those that it goes over has made it send something
 pub record IsSound (taken : List ℕ) (route : Route) (sent : Sent) : Type 0 where
@@ -48,8 +50,6 @@ sound_first [] h = tt
 sound_first (x ∷ routes) h = (record { pieces = h 0 x refl; amounts = tt; some = λ f t over. absurd (cc) }, sound_first routes (λ r route k. h (suc r) route k))
 
 -- ---- what stands before a link on a route was taken
-not_both : (b : Bool) → b ≡ true → b ≡ false → ⊥
-not_both b h k = absurd (cc)
 
 same_test : (x : ℕ) → eqb x x ≡ true
 same_test x = ⊎_elim (λ (w : (eqb x x ≡ true) × (x ≡ x)). w.0) (λ (w : (eqb x x ≡ false) × (x ≢ x)). absurd (w.1 refl)) (eqb_tells x x)
@@ -57,18 +57,6 @@ same_test x = ⊎_elim (λ (w : (eqb x x ≡ true) × (x ≡ x)). w.0) (λ (w : 
 and_true : (a b : Bool) → (a && b) ≡ true → (a ≡ true) × (b ≡ true)
 and_true true b h = (refl, h)
 and_true false b h = absurd (cc)
-
-or_more : (a b : Bool) → b ≡ true → (a || b) ≡ true
-or_more true b h = refl
-or_more false b h = h
-
-or_first : (a b : Bool) → a ≡ true → (a || b) ≡ true
-or_first true b h = refl
-or_first false b h = absurd (cc)
-
-or_other : (a b : Bool) → (a || b) ≡ true → a ≡ false → b ≡ true
-or_other true b h k = absurd (cc)
-or_other false b h k = h
 
 needs : (a b : Bool) → (not a || b) ≡ true → a ≡ true → b ≡ true
 needs true b h k = h
@@ -81,12 +69,12 @@ pub record Came (taken links : List ℕ) : Type 0 where
 
 goes_back : (taken : List ℕ) (e : ℕ) (links : List ℕ) → list_all (test taken e) (pairs_of links) ≡ true → goes_over links e ≡ true → begins_with links e ≡ false → Came taken links
 goes_back taken e [] h over first = absurd (cc)
-goes_back taken e (x ∷ []) h over first = absurd (not_both false (or_other (eqb x e) false over first) refl)
-goes_back taken e (x ∷ y ∷ rest) h over first = by (eqb y e) refl (λ k. goes_back taken e (y ∷ rest) (and_true (test taken e (x, y)) _ h).1 (or_other (eqb x e) _ over first) k)
+goes_back taken e (x ∷ []) h over first = absurd (not_both false (or_rest (eqb x e) false first over) refl)
+goes_back taken e (x ∷ y ∷ rest) h over first = by (eqb y e) refl (λ k. goes_back taken e (y ∷ rest) (and_true (test taken e (x, y)) _ h).1 (or_rest (eqb x e) _ first over) k)
   where
     by : (b : Bool) → eqb y e ≡ b → (eqb y e ≡ false → Came taken (y ∷ rest)) → Came taken (x ∷ y ∷ rest)
-    by true t later = record { link = x; taken_before = needs (eqb y e) (is_taken taken x) (and_true (test taken e (x, y)) _ h).0 t; over = or_first (eqb x x) _ (same_test x) }
-    by false t later = let c = later t in record { link = c.link; taken_before = c.taken_before; over = or_more (eqb x c.link) _ c.over }
+    by true t later = record { link = x; taken_before = needs (eqb y e) (is_taken taken x) (and_true (test taken e (x, y)) _ h).0 t; over = or_left (eqb x x) _ (same_test x) }
+    by false t later = let c = later t in record { link = c.link; taken_before = c.taken_before; over = or_right (eqb x c.link) _ c.over }
 
 may_begin : (taken : List ℕ) (e : ℕ) (route : Route) (sent : Sent) → IsSound taken route sent → list_all (test taken e) (pairs_of route.links) ≡ true → MayBegin e route sent
 may_begin taken e route sent s h = record {
@@ -105,7 +93,7 @@ all_ready taken e [] [] along h = tt
 all_ready taken e [] (y ∷ entries) along h = absurd along
 all_ready taken e (x ∷ routes) [] along h = absurd along
 all_ready taken e (x ∷ routes) (y ∷ entries) along h =
-    let w = and_true (list_all (test taken e) (pairs_of x.links)) _ (sym (all-append (test taken e) (pairs_of x.links) (all_pairs routes)) ∙ h) in
+    let w = and_true (list_all (test taken e) (pairs_of x.links)) _ (sym (list_all-append (test taken e) (pairs_of x.links) (all_pairs routes)) ∙ h) in
     (record { sound = along.0; may = may_begin taken e x y along.0 w.0 }, all_ready taken e routes entries along.1 w.1)
 
 -- ---- the first entry
@@ -188,7 +176,7 @@ next_keeps passes taken e exit exits route sent next b h = by (goes_over route.l
       amounts = b.amounts;
       some = λ f u over. ⊎_elim
           (λ (w : (eqb e f ≡ true) × (e ≡ f)). absurd (not_both (goes_over route.links e) (ap (λ (z : ℕ). goes_over route.links z) w.1 ∙ over) t))
-          (λ (w : (eqb e f ≡ false) × (e ≢ f)). b.before f (or_other (eqb e f) _ (sym (taken-push taken e f) ∙ u) w.0) over)
+          (λ (w : (eqb e f ≡ false) × (e ≢ f)). b.before f (or_rest (eqb e f) _ w.0 (sym (taken-push taken e f) ∙ u)) over)
           (eqb_tells e f);
     })
 

@@ -16,7 +16,7 @@ use Rattle.nf_model.specs.Walk.{IsWalk}
 use Rattle.nf_model_laws.proofs.Earliest.{IsPositive-link}
 use Rattle.nf_curve_laws.proofs.Operations.{then_ok}
 use Rattle.nf_load_def.specs.Loading.{Loaded, checked_loading}
-use Rattle.nf_rational_laws.proofs.Results.{same_Ok}
+use Rattle.nf_rational_laws.proofs.Results.{same_Ok, or_rest}
 use Rattle.nf_routes_def.specs.Routes.{Route, AreRoutes, all_pairs, is_taken, loading_order, takes_all}
 use Rattle.nf_routes_def.specs.RoutesList.{LoadedLink, SoFar, begins_with, goes_over, end_by, begin_if, begin_all, sum_from, next_if, next_all, load_here}
 use Rattle.nf_routes_read.proofs.Taking.{taken-push, IsPlaced}
@@ -27,6 +27,7 @@ use Rattle.nf_routes_links.specs.Standing.{Along, MayBegin, Sends, MayLoad, IsCo
 use Rattle.nf_routes_links.proofs.Greatest.{end-least}
 use Rattle.nf_routes_links.proofs.Folds.{Sent, begin_all-is, next_all-is, steps_keep, along_as}
 use Rattle.nf_routes_links.proofs.Sound.{IsSound, IsBegun, IsReady, sends_here, sound_first, all_ready, begun_keeps, inflow_amount, next_keeps}
+use Rattle.nf_routes_laws.proofs.Stages.{set-same}
 
 -- with these links taken, they are loaded
 pub record Stands (net : Network) (routes : List Route) (taken : List ℕ) (so_far : SoFar) : Type 0 where
@@ -57,10 +58,6 @@ may_load net routes taken e so_far s p = record {
 }
 
 -- ---- once it is loaded
-set_same : {A : Type 0} (xs : List A) (e : ℕ) (x : A) → e < length xs → slice_get (set xs e x) e ≡ Some x
-set_same [] e x h = absurd (omega arith)
-set_same (y ∷ xs) zero x h = refl
-set_same (y ∷ xs) (suc e) x h = set_same xs e x (omega arith)
 
 set_other : {A : Type 0} (xs : List A) (e f : ℕ) (x : A) → (e ≡ f → ⊥) → slice_get (set xs e x) f ≡ slice_get xs f
 set_other [] e f x n = refl
@@ -68,10 +65,6 @@ set_other (y ∷ xs) zero zero x n = absurd (n refl)
 set_other (y ∷ xs) zero (suc f) x n = refl
 set_other (y ∷ xs) (suc e) zero x n = refl
 set_other (y ∷ xs) (suc e) (suc f) x n = set_other xs e f x (λ h. n (ap suc h))
-
-or_other : (a b : Bool) → (a || b) ≡ true → a ≡ false → b ≡ true
-or_other true b h k = absurd (cc)
-or_other false b h k = h
 
 -- the steps of the loading of a link
 pub record Steps (passes : Passing) (horizon : ℚ) (routes : List Route) (so_far : SoFar) (e : ℕ) (link : Link) (next : SoFar) : Type 0 where
@@ -131,8 +124,8 @@ module _ (passes : Passing) (net : Network) (routes : List Route) (horizon : ℚ
 
   loaded_then : (f : ℕ) → is_taken (taken ++ e ∷ []) f ≡ true → slice_get (set so_far.links e (Some here)) f ≡ Some None → ⊥
   loaded_then f t h = ⊎_elim
-      (λ (v : (eqb e f ≡ true) × (e ≡ f)). apart (sym (set_same so_far.links e (Some here) inside) ∙ ap (slice_get (set so_far.links e (Some here))) v.1 ∙ h))
-      (λ (v : (eqb e f ≡ false) × (e ≢ f)). s.loaded f (or_other (eqb e f) _ (sym (taken-push taken e f) ∙ t) v.0) (sym (set_other so_far.links e f (Some here) v.1) ∙ h))
+      (λ (v : (eqb e f ≡ true) × (e ≡ f)). apart (sym (set-same so_far.links e (Some here) inside) ∙ ap (slice_get (set so_far.links e (Some here))) v.1 ∙ h))
+      (λ (v : (eqb e f ≡ false) × (e ≢ f)). s.loaded f (or_rest (eqb e f) _ v.0 (sym (taken-push taken e f) ∙ t)) (sym (set_other so_far.links e f (Some here) v.1) ∙ h))
       (eqb_tells e f)
     where
       apart : {x : LoadedLink} → ◌≡◌ {A = Option (Option LoadedLink)} (Some (Some x)) (Some None) → ⊥
@@ -140,7 +133,7 @@ module _ (passes : Passing) (net : Network) (routes : List Route) (horizon : ℚ
 
   exits_then : (f : ℕ) (l : LoadedLink) → slice_get (set so_far.links e (Some here)) f ≡ Some (Some l) → AreExits l.loaded.exit
   exits_then f l h = ⊎_elim
-      (λ (v : (eqb e f ≡ true) × (e ≡ f)). subst (λ (x : LoadedLink). AreExits x.loaded.exit) (same (sym (set_same so_far.links e (Some here) inside) ∙ ap (slice_get (set so_far.links e (Some here))) v.1 ∙ h)) exits-are)
+      (λ (v : (eqb e f ≡ true) × (e ≡ f)). subst (λ (x : LoadedLink). AreExits x.loaded.exit) (same (sym (set-same so_far.links e (Some here) inside) ∙ ap (slice_get (set so_far.links e (Some here))) v.1 ∙ h)) exits-are)
       (λ (v : (eqb e f ≡ false) × (e ≢ f)). s.exits f l (sym (set_other so_far.links e f (Some here) v.1) ∙ h))
       (eqb_tells e f)
     where

@@ -4,6 +4,7 @@ use Rattle.std.specs.Prelude.{Some, slice_get}
 use Rattle.std.specs.List.{list_all}
 use Rattle.nf_routes_def.specs.Routes.{pairs_of, all_pairs, is_taken}
 use Rattle.nf_routes_def.specs.RoutesFile.{NamedRoute, routes_of}
+use Rattle.std.proofs.lemmas.Bool.{or_right}
 
 pub pairs_at : (links : List ℕ) (i : ℕ) (e f : ℕ) → slice_get links i ≡ Some e → slice_get links (suc i) ≡ Some f → pairs_of (drop i links) ≡ (e, f) ∷ pairs_of (drop (suc i) links)
 pairs_at [] i e f h k = absurd (cc)
@@ -27,25 +28,7 @@ all_pairs_at [] i r h = absurd (cc)
 all_pairs_at (x ∷ rest) zero r h = let same : x ≡ r = cc in ap (λ (n : NamedRoute). pairs_of n.route.links ++ all_pairs (routes_of rest)) same
 all_pairs_at (x ∷ rest) (suc i) r h = all_pairs_at rest i r h
 
-pub none_after : (routes : List NamedRoute) (i : ℕ) → length routes ≤ i → all_pairs (routes_of (drop i routes)) ≡ []
-none_after [] zero h = refl
-none_after [] (suc i) h = refl
-none_after (x ∷ rest) zero h = absurd (omega arith)
-none_after (x ∷ rest) (suc i) h = none_after rest i (omega arith)
-
--- ---- a test of all of them
-and_joined : (a b c : Bool) → (a && (b && c)) ≡ ((a && b) && c)
-and_joined true b c = refl
-and_joined false b c = refl
-
-pub all-append : {A : Type 0} (t : A → Bool) (xs ys : List A) → list_all t (xs ++ ys) ≡ (list_all t xs && list_all t ys)
-all-append t [] ys = refl
-all-append t (x ∷ xs) ys = ap (λ (b : Bool). t x && b) (all-append t xs ys) ∙ and_joined (t x) (list_all t xs) (list_all t ys)
-
 -- ---- along one route
-or_late : (a b : Bool) → b ≡ true → (a || b) ≡ true
-or_late true b h = refl
-or_late false b h = h
 
 or_early : (a b : Bool) → a ≡ false → (not a || b) ≡ true
 or_early true b h = absurd (cc)
@@ -70,7 +53,7 @@ module _ (links taken : List ℕ) (link i : ℕ) (some : 0 < i) (so_far : list_a
         ∙ sym (ap (λ (b : Bool). b && list_all (test taken link) (pairs_of (drop i links))) t) ∙ first
 
     pub pairs_taken : is_taken taken e ≡ true → list_all (test taken link) (pairs_of (drop (i + 1 - 1) links)) ≡ list_all (test taken link) (pairs_of links)
-    pairs_taken t = goes_on (or_late (not (eqb f link)) (is_taken taken e) t)
+    pairs_taken t = goes_on (or_right (not (eqb f link)) (is_taken taken e) t)
 
     pub pairs_other : eqb f link ≡ false → list_all (test taken link) (pairs_of (drop (i + 1 - 1) links)) ≡ list_all (test taken link) (pairs_of links)
     pairs_other t = goes_on (or_early (eqb f link) (is_taken taken e) t)

@@ -54,9 +54,6 @@ module _ (links : List Link) (walk : List ℕ) (sink : ℕ) where
       ∙ ap (λ (k : ℕ). is_walk links (k ∷ drop (i + 1) walk) v sink) (sym is)
       ∙ ap (λ (o : Option Link). tail_is o v && is_walk links (drop (i + 1) walk) (head_of o) sink) there
 
-  pub walk_ends : (i v : ℕ) → length walk ≤ i → is_walk links (drop i walk) v sink ≡ eqb v sink
-  walk_ends i v past = at_drop_all (λ (w : List ℕ). is_walk links w v sink) walk i past
-
   -- from the test of a link that was read
   not_not : (b : Bool) → not b ≡ false → b ≡ true
   not_not true e = refl

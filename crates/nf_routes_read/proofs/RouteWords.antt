@@ -4,12 +4,10 @@ use Rattle.std.specs.List.{list_all}
 use Rattle.std.proofs.lemmas.Bool.{cond-true, cond-false}
 use Rattle.nf_net_def.specs.Names.{Name, is_name, has_name, place_of}
 use Rattle.nf_text.specs.Within.{word_at}
-use Rattle.nf_text.specs.declared.fault.LineFault.{LineFault}
-use Rattle.nf_text.specs.Faults.{IfRule}
 use Rattle.nf_routes_def.specs.declared.RoutesRule.{RoutesRule}
 use Rattle.nf_routes_def.specs.declared.RoutesRule.TheVariants.{G6, G7, G8}
 use Rattle.nf_routes_def.specs.RoutesFile.{RoutesEntry, RouteLine, route_line, rate_line, end_line, routes_entry}
-use Rattle.nf_routes_read.specs.Entries.{AreLinksOf, NoLinks}
+use Rattle.nf_routes_read.specs.Entries.{AreLinksOf}
 
 -- ---- `route`
 module _ (names : List Name) where
@@ -42,10 +40,6 @@ module _ (names : List Name) where
         let name_is = sym same in
         let links_are = sym are.places in
         by_links true are.there ∙ λ i. Ok (RouteLine (name_is i) (links_are i))
-
-    pub route_no_links : (fault : LineFault RoutesRule) → NoLinks fault names (drop 2 words) → IfRule fault (λ rule. route_line names (drop 1 words) ≡ Err rule)
-    route_no_links (LineFault.Broken rule) (same, none) = by_links false none ∙ ap (λ (r : RoutesRule). Err r) (sym same)
-    route_no_links LineFault.Memory h = tt
 
 -- ---- a line by its key
 module _ (links routes : List Name) (words : List (List ℕ)) (key : List ℕ) (some : length words ≡ 0 → ⊥) (is_key : key ≡ word_at words 0) where

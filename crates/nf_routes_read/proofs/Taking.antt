@@ -49,13 +49,6 @@ pub record Ordered (pairs : List (ℕ × ℕ)) (links : ℕ) (all order : List �
   pub rest : order ++ order_from (links - i) pairs links before ≡ all
 
 module _ (pairs : List (ℕ × ℕ)) (links : ℕ) where
-  pub order_first : (order : List ℕ) → order ≡ [] → Ordered pairs links (order_from links pairs links []) order 0
-  order_first order e = record {
-    before = [];
-    same = λ f. ap (λ (l : List ℕ). is_taken l f) e;
-    rest = ap (λ (l : List ℕ). l ++ order_from (links - 0) pairs links []) e ∙ ap (λ (n : ℕ). order_from n pairs links []) (let n : links - 0 ≡ links = omega arith in n);
-  }
-
   module _ (all order : List ℕ) (i : ℕ) (so_far : Ordered pairs links all order i) where
     pub order_last : links ≤ i → order ≡ all
     order_last h = sym (append-nil order) ∙ ap (λ (n : ℕ). order ++ order_from n pairs links so_far.before) (let n : 0 ≡ links - i = omega arith in n) ∙ so_far.rest

@@ -5,7 +5,7 @@ use Rattle.nf_rational.specs.Rational.{ℚ}
 use Rattle.nf_rational.specs.Operations.{0ℚ, 1ℚ, ◌+ℚ◌, ◌-ℚ◌, ◌*ℚ◌}
 use Rattle.nf_rational.specs.Order.{◌≤ℚ◌, ◌<ℚ◌, max_ℚ}
 use Rattle.nf_rational_laws.proofs.Polynomial.{reading_of}
-use Rattle.nf_rational_laws.proofs.Order.{≤ℚ_of_lt, ≤ℚ_of_same, ≤ℚ_antisymm, lt_or_le_ℚ, not_both_ℚ, nn_times, nn_plus, less_nn}
+use Rattle.nf_rational_laws.proofs.Order.{≤ℚ_of_lt, ≤ℚ_of_same, ≤ℚ_antisymm, lt_or_le_ℚ, not_both_ℚ, nn_times, less_nn}
 use Rattle.nf_rational_laws.proofs.Chains.{≤ℚ_trans}
 use Rattle.nf_rational_laws.proofs.Tests.{max0_of, max0_none}
 use Rattle.nf_rational_laws.proofs.Extremes.{max_left, max_right, max_keeps}
@@ -133,10 +133,6 @@ module _ (net : Network) (good : IsNetwork net) (rate : ℚ) (flows levels : ℕ
 
   c_nn : (e : ℕ) (link : Link) → IsLink net e link → 0ℚ ≤ℚ capacity_or_0 link.capacity
   c_nn e link p = capacity_nn link.capacity (IsPositive-link net e link good p)
-
-  pub in_transit-nn : 0ℚ ≤ℚ in_transit
-  in_transit-nn = link_sum-not_negative net.links (λ e link. (capacity_or_0 link.capacity +ℚ flows e) *ℚ link.transit)
-      (λ e link p. nn_times _ _ (nn_plus _ _ (c_nn e link p) (graded.fits e link p).no_negative) (good.transits e link p))
 
   module _ (labels : ℕ → ℚ) where
     abbrev waiting : ℚ

@@ -20,13 +20,11 @@ use Rattle.nf_settling_laws.specs.Excess.{link_sum}
 use Rattle.nf_settling_laws.proofs.Terms.{link_sum-line, link_sum-none, link_sum-same, rise}
 use Rattle.nf_settling_laws.proofs.Tops.{top, top-bound, one-entry}
 use Rattle.nf_settling_laws.proofs.Levels.{IsBorne, above, high_level, high_by_sink, low_level, low_by_sink}
+use Rattle.nf_settling_laws.proofs.Bounded.{wide_line}
 
 -- ---- over plain numbers
 lines_less : (a b c d e f k : ℚ) → e ≡ a +ℚ k *ℚ b → f ≡ c +ℚ k *ℚ d → e -ℚ f ≡ (a -ℚ c) +ℚ k *ℚ (b -ℚ d)
 lines_less a b c d e f k p q = linear_eq (a ∷ b ∷ c ∷ d ∷ e ∷ f ∷ k ∷ []) (eq p ∷ eq q ∷ []) (search reading_of) tt tt
-
-times_line : (n r s t k : ℚ) → t ≡ r +ℚ k *ℚ s → n *ℚ t ≡ n *ℚ r +ℚ k *ℚ (n *ℚ s)
-times_line n r s t k e = linear_eq (n ∷ r ∷ s ∷ t ∷ k ∷ []) (eq_times n e ∷ []) (search reading_of) tt tt
 
 rise_line : (s t d f k u v : ℚ) → u ≡ s +ℚ k *ℚ d → v ≡ t +ℚ k *ℚ f → v -ℚ u ≡ (t -ℚ s) +ℚ k *ℚ (f -ℚ d)
 rise_line s t d f k u v e g = linear_eq (s ∷ t ∷ d ∷ f ∷ k ∷ u ∷ v ∷ []) (eq e ∷ eq g ∷ []) (search reading_of) tt tt
@@ -83,9 +81,9 @@ module _ (net : Network) (good : IsNetwork net) (rate : ℚ) (x : ℕ → ℚ) (
   gain-line : (w r s : ℕ → ℚ) (k : ℚ) → ((v : ℕ) → v < net.nodes → w v ≡ r v +ℚ k *ℚ s v) → gain w ≡ gain r +ℚ k *ℚ gain s
   gain-line w r s k e = lines_less _ _ _ _ _ _ k
       (link_sum-line k net.links (λ i link. n i link *ℚ rise r link) (λ i link. n i link *ℚ rise s link) (λ i link. n i link *ℚ rise w link)
-      (λ i link p. times_line (n i link) (rise r link) (rise s link) (rise w link) k (rises i link p)))
+      (λ i link p. wide_line (n i link) (rise r link) (rise w link) (rise s link) k (rises i link p)))
       (link_sum-line k net.links (λ i link. x i *ℚ rise r link) (λ i link. x i *ℚ rise s link) (λ i link. x i *ℚ rise w link)
-      (λ i link p. times_line (x i) (rise r link) (rise s link) (rise w link) k (rises i link p)))
+      (λ i link p. wide_line (x i) (rise r link) (rise w link) (rise s link) k (rises i link p)))
     where
       rises : (i : ℕ) (link : Link) → IsLink net i link → rise w link ≡ rise r link +ℚ k *ℚ rise s link
       rises i link p = rise_line (r link.tail) (r link.head) (s link.tail) (s link.head) k (w link.tail) (w link.head) (e link.tail (good.tails i link p))

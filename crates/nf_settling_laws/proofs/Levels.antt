@@ -14,6 +14,7 @@ use Rattle.nf_model.specs.Network.{Link, Network, IsNetwork, IsLink}
 use Rattle.nf_model_laws.proofs.Affine.{ps-times_gap}
 use Rattle.nf_settling_laws.specs.Excess.{link_sum}
 use Rattle.nf_settling_laws.proofs.Terms.{EachLink, link_sum-le, link_sum-lt, link_sum-times, rise}
+use Rattle.nf_thin_laws.proofs.Cuts.{fall_out, fall_into}
 
 -- The amount n of a link bears its flow x. If the number rises along the link, from s to t, x is at least n times t. If it falls, x is at most
 -- that.
@@ -56,14 +57,8 @@ up_is p d f e g = linear_eq (p ∷ d ∷ f ∷ []) (eq_times p e ∷ eq_times p 
 down_is : (p d f : ℚ) → d ≡ 1ℚ → f ≡ 0ℚ → p *ℚ (f -ℚ d) ≡ 0ℚ -ℚ p
 down_is p d f e g = linear_eq (p ∷ d ∷ f ∷ []) (eq_times p e ∷ eq_times p g ∷ []) (search reading_of) tt tt
 
-up_rise : (p q d f : ℚ) → d ≡ 0ℚ → f ≡ 1ℚ → p ≤ℚ q → p *ℚ (f -ℚ d) ≤ℚ q *ℚ (f -ℚ d)
-up_rise p q d f e g h = linear_le (p ∷ q ∷ d ∷ f ∷ []) (le h ∷ eq (up_is p d f e g) ∷ eq (up_is q d f e g) ∷ []) (search reading_of) tt
-
 up_less : (p q d f : ℚ) → d ≡ 0ℚ → f ≡ 1ℚ → p <ℚ q → p *ℚ (f -ℚ d) <ℚ q *ℚ (f -ℚ d)
 up_less p q d f e g h = linear_lt (p ∷ q ∷ d ∷ f ∷ []) (lt h ∷ eq (up_is p d f e g) ∷ eq (up_is q d f e g) ∷ []) (search reading_of) tt
-
-down_rise : (p q d f : ℚ) → d ≡ 1ℚ → f ≡ 0ℚ → q ≤ℚ p → p *ℚ (f -ℚ d) ≤ℚ q *ℚ (f -ℚ d)
-down_rise p q d f e g h = linear_le (p ∷ q ∷ d ∷ f ∷ []) (le h ∷ eq (down_is p d f e g) ∷ eq (down_is q d f e g) ∷ []) (search reading_of) tt
 
 down_less : (p q d f : ℚ) → d ≡ 1ℚ → f ≡ 0ℚ → q <ℚ p → p *ℚ (f -ℚ d) <ℚ q *ℚ (f -ℚ d)
 down_less p q d f e g h = linear_lt (p ∷ q ∷ d ∷ f ∷ []) (lt h ∷ eq (down_is p d f e g) ∷ eq (down_is q d f e g) ∷ []) (search reading_of) tt
@@ -101,8 +96,8 @@ down_by_more n x s t a b o i j some bears =
 link_level : (m n x s t a b d f : ℚ) → a ≤ℚ m → m ≤ℚ b → a <ℚ b → Bears n x s t → Side a b s d → Side a b t f
     → (m *ℚ n) *ℚ (f -ℚ d) ≤ℚ x *ℚ (f -ℚ d)
 link_level m n x s t a b d f h k o bears (inl (p, i)) (inl (q, j)) = no_rise (m *ℚ n) x d f (p ∙ sym q)
-link_level m n x s t a b d f h k o bears (inl (p, i)) (inr (q, j)) = up_rise (m *ℚ n) x d f p q (up_by m n x s t a b k o i j bears)
-link_level m n x s t a b d f h k o bears (inr (p, i)) (inl (q, j)) = down_rise (m *ℚ n) x d f p q (down_by m n x s t a b h o i j bears)
+link_level m n x s t a b d f h k o bears (inl (p, i)) (inr (q, j)) = fall_out (m *ℚ n) x f d q p (up_by m n x s t a b k o i j bears)
+link_level m n x s t a b d f h k o bears (inr (p, i)) (inl (q, j)) = fall_into (m *ℚ n) x f d q p (down_by m n x s t a b h o i j bears)
 link_level m n x s t a b d f h k o bears (inr (p, i)) (inr (q, j)) = no_rise (m *ℚ n) x d f (p ∙ sym q)
 
 -- ---- the sums over all links: n is that of the amounts, and j what is carried

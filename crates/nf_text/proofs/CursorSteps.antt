@@ -8,11 +8,7 @@ use Rattle.nf_text_def.specs.Faults.{LineFault, line_fault, first_fault_of}
 use Rattle.nf_text.specs.declared.TextFault.{TextFault}
 use Rattle.nf_text.specs.Reading.{whole_len, first_line, Tells}
 use Rattle.nf_text.proofs.FirstLines.{lines_first}
-
-tells_or : (fault : TextFault) (o p : Option LineFault) → Tells fault o → Tells fault (option_or o p)
-tells_or (TextFault.NotAscii line) o p h = ap (λ o. option_or o p) h
-tells_or (TextFault.LongLine line) o p h = ap (λ o. option_or o p) h
-tells_or TextFault.Memory o p h = tt
+use Rattle.nf_text.proofs.LineSteps.{tells_or}
 
 -- what is left of the text from a place on
 module _ (text : List ℕ) (start n : ℕ) (within : start < length text) (left : List TextLine) (seen : lines_from n (drop start text) ≡ left) where

@@ -6,5 +6,4 @@ pub mod LineWords
 pub mod LineSteps
 pub mod FirstLines
 pub mod CursorSteps
-pub mod ContentLines
 pub mod Pushed

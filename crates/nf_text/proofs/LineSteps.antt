@@ -45,7 +45,7 @@ step_fault text first before n after start next h b a e none f =
     ∙ ap (λ o. option_or o (first_fault_of (lines_from (n + 1) (drop next text)))) none
     ∙ ap (λ n. first_fault_of (lines_from n (drop next text))) (sym a)
 
-tells_or : (fault : TextFault) (o p : Option LineFault) → Tells fault o → Tells fault (option_or o p)
+pub tells_or : (fault : TextFault) (o p : Option LineFault) → Tells fault o → Tells fault (option_or o p)
 tells_or (TextFault.NotAscii line) o p h = ap (λ o. option_or o p) h
 tells_or (TextFault.LongLine line) o p h = ap (λ o. option_or o p) h
 tells_or TextFault.Memory o p h = tt

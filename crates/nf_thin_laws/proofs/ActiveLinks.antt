@@ -8,7 +8,7 @@ use Rattle.nf_rational.specs.Order.{◌≤ℚ◌, ◌<ℚ◌, le_ℚ, lt_ℚ}
 use Rattle.nf_rational_laws.proofs.Polynomial.{reading_of}
 use Rattle.nf_rational_laws.proofs.Order.{≤ℚ_of_lt}
 use Rattle.nf_rational_laws.proofs.Tests.{lt_ℚ_cases, test_of_le}
-use Rattle.nf_rational_laws.proofs.Linear.{le, lt, eq, linear_le, linear_false}
+use Rattle.nf_rational_laws.proofs.Linear.{le, lt, eq, linear_le}
 use Rattle.nf_rational_laws.proofs.Facts.{plus_zero_le}
 use Rattle.nf_model.specs.Entries.{number_at, Has}
 use Rattle.nf_model.specs.Walk.{IsWalk, transit_sum, transit_of}
@@ -18,6 +18,7 @@ use Rattle.nf_model_laws.proofs.Networks.{IsWalk-link, transit_of-is}
 use Rattle.nf_model_laws.proofs.Slacks.{slack_of_active}
 use Rattle.nf_model_laws.proofs.Ways.{way_back}
 use Rattle.nf_thin_laws.specs.ActiveLinks.{AreSets, IsActiveWalk, HoldNoCycle, EachIsEntered, NoneEntersSource}
+use Rattle.nf_model_laws.proofs.EarliestWalks.{no_loop}
 
 -- ---- the sets of labels
 -- A flag set by one test is set by the other.
@@ -48,9 +49,6 @@ AreSets-sets_at net labels = record {
 pub along_more : (a b c r s l : ℚ) → 0ℚ ≤ℚ b -ℚ (a +ℚ r) → s ≡ r → b +ℚ l ≤ℚ c → a +ℚ (s +ℚ l) ≤ℚ c
 along_more a b c r s l h e k = linear_le (a ∷ b ∷ c ∷ r ∷ s ∷ l ∷ []) (le h ∷ eq e ∷ le k ∷ []) (search reading_of) tt
 
-pub along_closed : (a l : ℚ) → a +ℚ l ≤ℚ a → 0ℚ <ℚ l → ⊥
-along_closed a l h k = linear_false (a ∷ l ∷ []) (le h ∷ lt k ∷ []) (search reading_of) tt
-
 pub IsWalk-active : (net : Network) (sets : Sets) (walk : List ℕ) (v w : ℕ) → IsActiveWalk net sets walk v w → IsWalk (hops net) walk v w
 IsWalk-active net sets [] v w t = t
 IsWalk-active net sets (e ∷ walk) v w t = subst (λ (k : ℕ). IsWalk (hops net) (e ∷ walk) k w) t.3 (IsWalk-link net e walk w t.0 t.1 (IsWalk-active net sets walk t.0.head w t.4))
@@ -63,7 +61,7 @@ module _ (net : Network) (labels : List ℚ) where
       (slack_of_active net labels e t.0 t.1 t.2) (transit_of-is net e t.0 t.1) (sum_of walk t.0.head w t.4))
 
   pub HoldNoCycle-sets_at : IsNetwork net → HoldNoCycle net (sets_at net labels)
-  HoldNoCycle-sets_at good e walk v t = along_closed (number_at labels v) _ (sum_of (e ∷ walk) v v t) (good.cycles e walk v (IsWalk-active net (sets_at net labels) (e ∷ walk) v v t))
+  HoldNoCycle-sets_at good e walk v t = no_loop (number_at labels v) _ (sum_of (e ∷ walk) v v t) (good.cycles e walk v (IsWalk-active net (sets_at net labels) (e ∷ walk) v v t))
 
 -- ---- from each node, active links lead backward to the source
 module _ (net : Network) (sets : Sets) where

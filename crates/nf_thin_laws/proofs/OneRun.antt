@@ -4,15 +4,14 @@ use Rattle.std.specs.Prelude.{Option, Some, None, Result, Ok, map}
 use Rattle.std.proofs.lemmas.Option.{none-some, same_Some}
 use Rattle.std.proofs.lemmas.List.{length-map, length-replicate}
 use Rattle.nf_rational.specs.Rational.{ℚ}
-use Rattle.nf_rational.specs.Order.{◌≤ℚ◌, ◌<ℚ◌, le_ℚ}
+use Rattle.nf_rational.specs.Order.{◌<ℚ◌, le_ℚ}
 use Rattle.nf_rational.specs.Operations.{0ℚ}
-use Rattle.nf_rational_laws.proofs.Order.{<ℚ_irrefl, ≤ℚ_antisymm}
+use Rattle.nf_rational_laws.proofs.Order.{<ℚ_irrefl}
 use Rattle.nf_frac_def.specs.Passing.{Passing}
 use Rattle.nf_frac_def.specs.Checked.{placed}
 use Rattle.nf_frac_def.specs.declared.Part.TheVariants.{Slack}
 use Rattle.nf_frac_def.specs.declared.Passed.{Passed}
 use Rattle.nf_frac_def.specs.declared.PassedAt.{PassedAt}
-use Rattle.nf_model.specs.Walk.{IsLeastTransit}
 use Rattle.nf_model.specs.Network.{Network, hop_of, hops, rate_at}
 use Rattle.nf_model.specs.ThinFlow.{slack, slacks_of, sets_at}
 use Rattle.nf_model.specs.Pattern.{Pattern, IsListedIn}
@@ -24,26 +23,17 @@ use Rattle.nf_thin_def.specs.ReportCurves.{first_label_curve, first_curves}
 use Rattle.nf_thin_def.specs.PhaseRun.{Standing, Bounds, PhaseStep, IsStart, standing_after, cause_of_search, Seeks, phase_lists, Goes, Fails, at_slack, at_search, at_lists, Runs, at_horizon, at_phases, fails, goes, IsPhaseRun, report_of, IsRunReport}
 use Rattle.nf_thin_laws.proofs.Bases.{one_base}
 use Rattle.nf_thin_laws.proofs.Searches.{one_answer}
-use Rattle.nf_rational_laws.proofs.Entries.{same_entries}
 use Rattle.nf_rational_laws.proofs.Results.{Ok_not_Err, one_Err}
+use Rattle.nf_thin_laws.proofs.Agree.{AreStartLabels-unique}
 
 -- ---- the start
 module _ (net : Network) where
-  same_least : (v w : ℕ) (a b : ℚ) → IsLeastTransit (hops net) v w a → IsLeastTransit (hops net) v w b → a ≡ b
-  same_least v w a b h k = ≤ℚ_antisymm a b
-      (subst (λ (t : ℚ). a ≤ℚ t) k.taken.2 (h.bound k.taken.0 k.taken.1))
-      (subst (λ (t : ℚ). b ≤ℚ t) h.taken.2 (k.bound h.taken.0 h.taken.1))
-
-  one_start_label : (labels others : List ℚ) → AreStartLabels net labels → AreStartLabels net others → labels ≡ others
-  one_start_label labels others h k = same_entries 0ℚ labels others (h.count ∙ sym k.count)
-      (λ v i. let below : v < net.nodes = subst (λ (n : ℕ). v < n) h.count i in same_least net.source v _ _ (h.each v below) (k.each v below))
-
   same_standing : (s t : Standing) → s.time ≡ t.time → s.labels ≡ t.labels → s.label_curves ≡ t.label_curves → s.link_curves ≡ t.link_curves → s.made ≡ t.made → s.last ≡ t.last → s ≡ t
   same_standing s t a b c d e f = λ i. record { time = a i; labels = b i; label_curves = c i; link_curves = d i; made = e i; last = f i }
 
   pub one_start : (s t : Standing) → IsStart net s → IsStart net t → s ≡ t
   one_start s t h k =
-      let labels : s.labels ≡ t.labels = one_start_label s.labels t.labels h.labels k.labels in
+      let labels : s.labels ≡ t.labels = AreStartLabels-unique net s.labels t.labels h.labels k.labels in
       same_standing s t (h.time ∙ sym k.time) labels
       (h.label_curves ∙ (ap (λ (l : List ℚ). map first_label_curve l) labels ∙ sym k.label_curves))
       (h.link_curves ∙ (ap (λ (l : List ℚ). map (first_curves l) net.links) labels ∙ sym k.link_curves))

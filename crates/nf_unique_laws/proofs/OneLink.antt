@@ -4,7 +4,7 @@ use Rattle.nf_rational.specs.Rational.{ℚ}
 use Rattle.nf_rational.specs.Operations.{0ℚ, ◌+ℚ◌, ◌-ℚ◌, ◌*ℚ◌}
 use Rattle.nf_rational.specs.Order.{◌≤ℚ◌, ◌<ℚ◌}
 use Rattle.nf_rational_laws.proofs.Polynomial.{reading_of}
-use Rattle.nf_rational_laws.proofs.Order.{≤ℚ_of_lt, ≤ℚ_of_same, ≤ℚ_antisymm, lt_or_le_ℚ}
+use Rattle.nf_rational_laws.proofs.Order.{≤ℚ_of_lt, ≤ℚ_of_same, ≤ℚ_antisymm, lt_or_le_ℚ, less_nn}
 use Rattle.nf_rational_laws.proofs.Linear.{le, lt, eq, le_times, linear_le, linear_eq}
 use Rattle.nf_rational_laws.proofs.Chains.{≤ℚ_refl, ≤ℚ_trans, ≤_<_trans}
 use Rattle.nf_model.specs.Curve.{Within, IsLeast, NeverFalls}
@@ -14,13 +14,10 @@ use Rattle.nf_model_laws.proofs.Queues.{IsOutflow-unique}
 use Rattle.nf_phase_equilibrium_laws.proofs.Served.{amount-nn, outflow-nn, outflow-entered, outflow-rises}
 use Rattle.nf_unique_laws.specs.PriceLaws.{clipped}
 use Rattle.nf_unique_laws.proofs.Clipped.{clipped-within, clipped-none, clipped-rises, clipped-stretch, lands}
+use Rattle.nf_rational_laws.proofs.Facts.{less_le}
+use Rattle.nf_model_laws.proofs.Affine.{line_start}
 
 -- ---- over plain numbers: r the transit time, c the capacity, f and g what had entered, x and y what has left
-since : (r t : ℚ) → r ≤ℚ t → 0ℚ ≤ℚ t -ℚ r
-since r t h = linear_le (r ∷ t ∷ []) (le h ∷ []) (search reading_of) tt
-
-sooner : (r s t : ℚ) → s ≤ℚ t → s -ℚ r ≤ℚ t -ℚ r
-sooner r s t h = linear_le (r ∷ s ∷ t ∷ []) (le h ∷ []) (search reading_of) tt
 
 at_once : (r : ℚ) → r ≤ℚ 0ℚ → 0ℚ ≤ℚ r → 0ℚ -ℚ r ≡ 0ℚ
 at_once r h k = linear_eq (r ∷ []) (le h ∷ le k ∷ []) (search reading_of) tt tt
@@ -45,9 +42,6 @@ served_on c r s t u f x k h l = linear_le (c ∷ r ∷ s ∷ t ∷ u ∷ f ∷ x
 
 just_taken : (c d u f g x : ℚ) → 0ℚ ≤ℚ c → u ≤ℚ d → f +ℚ c *ℚ (d -ℚ u) ≡ x → g ≤ℚ f → x ≤ℚ g → g +ℚ c *ℚ (d -ℚ u) ≡ x
 just_taken c d u f g x k h e l m = linear_eq (c ∷ d ∷ u ∷ f ∷ g ∷ x ∷ []) (le_times k h ∷ eq e ∷ le l ∷ le m ∷ []) (search reading_of) tt tt
-
-none_served : (c d f : ℚ) → f +ℚ c *ℚ (d -ℚ d) ≡ f
-none_served c d f = linear_eq (c ∷ d ∷ f ∷ []) [] (search reading_of) tt tt
 
 in_flight : (r s u : ℚ) → 0ℚ ≤ℚ u → u <ℚ s -ℚ r → r ≤ℚ s
 in_flight r s u n h = linear_le (r ∷ s ∷ u ∷ []) (le n ∷ lt h ∷ []) (search reading_of) tt
@@ -76,11 +70,11 @@ module _ (transit : ℚ) (capacity : Option ℚ) (amount : ℚ → ℚ) (tail_la
       (λ (l : transit ≤ℚ later).
       let g : IsLeast (λ since. amount since +ℚ rate *ℚ (later -ℚ transit -ℚ since)) 0ℚ (later -ℚ transit) y = q.bounded rate l some in
       ⊎_elim
-      (λ (m : earlier <ℚ transit). room_begins rate transit earlier later (amount 0ℚ) x y k (≤ℚ_of_lt _ _ m) (p.early m) starts (g.bound 0ℚ (≤ℚ_refl 0ℚ, since transit later l)))
+      (λ (m : earlier <ℚ transit). room_begins rate transit earlier later (amount 0ℚ) x y k (≤ℚ_of_lt _ _ m) (p.early m) starts (g.bound 0ℚ (≤ℚ_refl 0ℚ, less_nn transit later l)))
       (λ (m : transit ≤ℚ earlier).
       let f : IsLeast (λ since. amount since +ℚ rate *ℚ (earlier -ℚ transit -ℚ since)) 0ℚ (earlier -ℚ transit) x = p.bounded rate m some in
       room_later rate transit earlier later f.taken.0 (amount f.taken.0) x y f.taken.2
-      (g.bound f.taken.0 (f.taken.1.0, ≤ℚ_trans _ _ _ f.taken.1.1 (sooner transit earlier later h))))
+      (g.bound f.taken.0 (f.taken.1.0, ≤ℚ_trans _ _ _ f.taken.1.1 (less_le earlier later transit h))))
       (lt_or_le_ℚ earlier transit))
       (lt_or_le_ℚ later transit)
 
@@ -143,9 +137,9 @@ module _ (transit : ℚ) (capacity : Option ℚ) (amount : ℚ → ℚ) (tail_la
       let before : out at ≤ℚ amount (at -ℚ transit) = outflow-entered transit capacity amount positive rises starts at (out at) l (out_is at w) in
       ⊎_elim
       (λ (v : (time -ℚ transit ≤ℚ tail_last) × (clipped tail_last (time -ℚ transit) ≡ time -ℚ transit)). subst (λ (z : ℚ). out at ≤ℚ amount z) (sym v.1)
-      (≤ℚ_trans _ _ _ before (rises _ _ (since transit at l) (sooner transit at time h))))
+      (≤ℚ_trans _ _ _ before (rises _ _ (less_nn transit at l) (less_le at time transit h))))
       (λ (v : (tail_last ≤ℚ time -ℚ transit) × (clipped tail_last (time -ℚ transit) ≡ tail_last)). subst (λ (z : ℚ). out at ≤ℚ amount z) (sym v.1) (out-most at w))
-      (lands tail_last (time -ℚ transit) tail_nn (since transit time (≤ℚ_trans _ _ _ l h))))
+      (lands tail_last (time -ℚ transit) tail_nn (less_nn transit time (≤ℚ_trans _ _ _ l h))))
       (lt_or_le_ℚ at transit)
 
   pub left-late : (time : ℚ) → left time ≤ℚ entered (time -ℚ transit)
@@ -164,7 +158,7 @@ module _ (transit : ℚ) (capacity : Option ℚ) (amount : ℚ → ℚ) (tail_la
       (λ (v : (time ≤ℚ tail_last) × (clipped tail_last time ≡ time)). ap amount v.1 ∙ ≤ℚ_antisymm _ _ (rises time tail_last n v.0) (⊎_elim
       (λ (l : head_last <ℚ transit). subst (λ (z : ℚ). z ≤ℚ amount time) (sym (all_out.early l)) (amount-nn transit capacity amount positive rises starts time n))
       (λ (l : transit ≤ℚ head_last). ≤ℚ_trans _ _ _ (outflow-entered transit capacity amount positive rises starts head_last (amount tail_last) l all_out)
-      (rises _ _ (since transit head_last l) h))
+      (rises _ _ (less_nn transit head_last l) h))
       (lt_or_le_ℚ head_last transit)))
       (λ (v : (tail_last ≤ℚ time) × (clipped tail_last time ≡ tail_last)). ap amount v.1)
       (lands tail_last time tail_nn n)
@@ -179,7 +173,7 @@ module _ (transit : ℚ) (capacity : Option ℚ) (amount : ℚ → ℚ) (tail_la
             (λ (v : (time -ℚ transit ≤ℚ tail_last) × (clipped tail_last (time -ℚ transit) ≡ time -ℚ transit)). p.unbounded l none ∙ ap amount (sym v.1))
             (λ (v : (tail_last ≤ℚ time -ℚ transit) × (clipped tail_last (time -ℚ transit) ≡ tail_last)). ≤ℚ_antisymm _ _ (out-most time w)
             (subst (λ (z : ℚ). amount tail_last ≤ℚ z) (sym (p.unbounded l none)) (rises tail_last (time -ℚ transit) tail_nn v.0)) ∙ ap amount (sym v.1))
-            (lands tail_last (time -ℚ transit) tail_nn (since transit time l));
+            (lands tail_last (time -ℚ transit) tail_nn (less_nn transit time l));
         bounded = λ rate l some.
             let k : 0ℚ ≤ℚ rate = ≤ℚ_of_lt _ _ (positive rate some) in
             let g : IsLeast (λ since. amount since +ℚ rate *ℚ (time -ℚ transit -ℚ since)) 0ℚ (time -ℚ transit) (out time) = p.bounded rate l some in
@@ -205,12 +199,12 @@ module _ (transit : ℚ) (capacity : Option ℚ) (amount : ℚ → ℚ) (tail_la
   last-queue : (time : ℚ) → head_last ≤ℚ time → IsOutflow transit capacity entered time (amount tail_last)
   last-queue time h = record {
     early = λ l. all_out.early (≤_<_trans head_last time transit h l);
-    unbounded = λ l none. sym (settled (time -ℚ transit) (since transit time l) (sooner transit head_last time h));
+    unbounded = λ l none. sym (settled (time -ℚ transit) (less_nn transit time l) (less_le head_last time transit h));
     bounded = λ rate l some.
         let k : 0ℚ ≤ℚ rate = ≤ℚ_of_lt _ _ (positive rate some) in
-        let d : 0ℚ ≤ℚ time -ℚ transit = since transit time l in
+        let d : 0ℚ ≤ℚ time -ℚ transit = less_nn transit time l in
         record {
-          taken = (time -ℚ transit, (d, ≤ℚ_refl _), none_served rate (time -ℚ transit) (entered (time -ℚ transit)) ∙ settled (time -ℚ transit) d (sooner transit head_last time h));
+          taken = (time -ℚ transit, (d, ≤ℚ_refl _), line_start (time -ℚ transit) (entered (time -ℚ transit)) rate ∙ settled (time -ℚ transit) d (less_le head_last time transit h));
           bound = λ t i. ⊎_elim
               (λ (m : t <ℚ head_last -ℚ transit). ⊎_elim
               (λ (v : (t ≤ℚ tail_last) × (clipped tail_last t ≡ t)). subst (λ (z : ℚ). amount tail_last ≤ℚ amount z +ℚ rate *ℚ (time -ℚ transit -ℚ t)) (sym v.1)

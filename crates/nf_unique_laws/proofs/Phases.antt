@@ -62,7 +62,7 @@ rate-stays (p ∷ rest) before t u h none = ⊎_elim
         (le_ℚ_cases p.start z)
 
 -- ---- over plain numbers: x and y are values of lines, k and m slopes
-one_slope : (x y k m t a : ℚ) → x ≡ y +ℚ k *ℚ (t -ℚ a) → x ≡ y +ℚ m *ℚ (t -ℚ a) → (t -ℚ a) *ℚ k ≡ (t -ℚ a) *ℚ m
+pub one_slope : (x y k m t a : ℚ) → x ≡ y +ℚ k *ℚ (t -ℚ a) → x ≡ y +ℚ m *ℚ (t -ℚ a) → (t -ℚ a) *ℚ k ≡ (t -ℚ a) *ℚ m
 one_slope x y k m t a e f = linear_eq (x ∷ y ∷ k ∷ m ∷ t ∷ a ∷ []) (eq e ∷ eq f ∷ []) (search reading_of) tt tt
 
 farther : (x y z k m t a b : ℚ) → x ≡ y +ℚ k *ℚ (b -ℚ a) → k ≡ m → y ≡ z +ℚ (a -ℚ t) *ℚ m → x ≡ z +ℚ (b -ℚ t) *ℚ m

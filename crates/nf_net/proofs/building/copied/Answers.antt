@@ -1,7 +1,6 @@
 use Rattle.std.proofs.Common.{◌++◌, List, ◌∷◌, [], refl, ◌∙◌, ap}
 use Rattle.nf_net_def.specs.Names.{Name}
-use Rattle.nf_net_file.proofs.Filling.{filled}
-use Rattle.nf_net.proofs.Ended.{all_filled}
+use Rattle.nf_net_file.proofs.Filling.{filled, filled_all}
 use Rattle.nf_net.proofs.building.copied.Goals as goal
 
 pub loop-name-preserved : goal.loop-name-preserved
@@ -12,4 +11,4 @@ loop-name-preserved c =
     c.loop-name-test.true c.name-item.is refl c.loop-name.invariant
 
 pub returns : goal.returns
-returns c = all_filled (λ (l : List Name). l) c.args.names.now c.loop-name.name-index c.loop-name.copies.items _ refl c.loop-name-test.false c.loop-name.invariant
+returns c = filled_all (λ (l : List Name). l) c.args.names.now c.loop-name.name-index c.loop-name.copies.items _ c.loop-name-test.false refl c.loop-name.invariant

@@ -2,9 +2,8 @@ use Rattle.std.proofs.Common.{◌+◌, ◌++◌, List, [], ◌∷◌, drop, map,
 use Rattle.nf_net_def.specs.Named.{NamedLink}
 use Rattle.nf_net_def.specs.NetClosing.{marked}
 use Rattle.nf_net_file.specs.Closing.{tail_flags}
-use Rattle.nf_net_file.proofs.Filling.{filled}
+use Rattle.nf_net_file.proofs.Filling.{filled, filled_all}
 use Rattle.nf_net_file.proofs.Marks.{marked_with, marked_past}
-use Rattle.nf_net.proofs.Ended.{all_filled}
 use Rattle.nf_net.proofs.building.idle_of.Goals as goal
 use Rattle.nf_net.proofs.building.idle_of.Goals.{then-not-is_active+in_ok-push, else-not-is_active}
 
@@ -24,4 +23,4 @@ loop-link-preserved c =
 
 pub returns : goal.returns
 returns c =
-    all_filled (λ (ls : List NamedLink). marked (map not (tail_flags c.args.nodes.now c.args.flags.now ls)) ls) c.args.links.now c.loop-link.link-index c.loop-link.idle.items _ refl c.loop-link-test.false c.loop-link.invariant
+    filled_all (λ (ls : List NamedLink). marked (map not (tail_flags c.args.nodes.now c.args.flags.now ls)) ls) c.args.links.now c.loop-link.link-index c.loop-link.idle.items _ c.loop-link-test.false refl c.loop-link.invariant

@@ -1,8 +1,7 @@
 use Rattle.std.proofs.Common.{◌++◌, List, ◌∷◌, [], refl, ◌∙◌, ap}
 use Rattle.nf_net_def.specs.Names.{Name}
 use Rattle.nf_net_def.specs.Named.{NamedLink, names_of}
-use Rattle.nf_net_file.proofs.Filling.{filled}
-use Rattle.nf_net.proofs.Ended.{all_filled}
+use Rattle.nf_net_file.proofs.Filling.{filled, filled_all}
 use Rattle.nf_net.proofs.building.link_names.Goals as goal
 
 pub loop-link-preserved : goal.loop-link-preserved
@@ -13,4 +12,4 @@ loop-link-preserved c =
     c.loop-link-test.true c.link-item.is refl c.loop-link.invariant
 
 pub returns : goal.returns
-returns c = all_filled names_of c.args.links.now c.loop-link.link-index c.loop-link.names.items _ refl c.loop-link-test.false c.loop-link.invariant
+returns c = filled_all names_of c.args.links.now c.loop-link.link-index c.loop-link.names.items _ c.loop-link-test.false refl c.loop-link.invariant

@@ -1,8 +1,7 @@
 use Rattle.std.proofs.Common.{◌+◌, ◌++◌, Bool, cond, List, [], ◌∷◌, drop, refl, sym, ◌∙◌, ap, append-nil}
 use Rattle.nf_net_def.specs.Names.{Name, without}
-use Rattle.nf_net_file.proofs.Filling.{filled}
+use Rattle.nf_net_file.proofs.Filling.{filled, filled_all}
 use Rattle.nf_net_file.proofs.Marks.{kept_with}
-use Rattle.nf_net.proofs.Ended.{all_filled}
 use Rattle.nf_net.proofs.building.names_without.Goals as goal
 use Rattle.nf_net.proofs.building.names_without.Goals.{then-not-has+in_ok-push, else-not-has}
 
@@ -23,4 +22,4 @@ loop-name-preserved c =
     ]
 
 pub returns : goal.returns
-returns c = all_filled (without c.args.these.now) c.args.names.now c.loop-name.name-index c.loop-name.others.items _ refl c.loop-name-test.false c.loop-name.invariant
+returns c = filled_all (without c.args.these.now) c.args.names.now c.loop-name.name-index c.loop-name.others.items _ c.loop-name-test.false refl c.loop-name.invariant

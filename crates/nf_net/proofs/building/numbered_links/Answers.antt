@@ -1,8 +1,7 @@
 use Rattle.std.proofs.Common.{◌++◌, List, [], ◌∷◌, map, refl, ◌∙◌, ap}
 use Rattle.nf_model.specs.Network.{Link}
 use Rattle.nf_net_def.specs.Named.{numbered}
-use Rattle.nf_net_file.proofs.Filling.{filled}
-use Rattle.nf_net.proofs.Ended.{all_filled}
+use Rattle.nf_net_file.proofs.Filling.{filled, filled_all}
 use Rattle.nf_net.proofs.building.numbered_links.Goals as goal
 
 pub loop-link-preserved : goal.loop-link-preserved
@@ -14,4 +13,4 @@ loop-link-preserved c =
 
 pub returns : goal.returns
 returns c =
-    all_filled (map (numbered c.args.nodes.now)) c.args.links.now c.loop-link.link-index c.loop-link.numbers.items _ refl c.loop-link-test.false c.loop-link.invariant
+    filled_all (map (numbered c.args.nodes.now)) c.args.links.now c.loop-link.link-index c.loop-link.numbers.items _ c.loop-link-test.false refl c.loop-link.invariant

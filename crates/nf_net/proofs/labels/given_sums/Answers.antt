@@ -1,8 +1,7 @@
 use Rattle.std.proofs.Common.{◌++◌, List, [], ◌∷◌, map, Option, Some, refl, sym, ◌∙◌, ap}
 use Rattle.std.proofs.lemmas.List.{map-append}
 use Rattle.nf_rational.specs.Rational.{ℚ}
-use Rattle.nf_net_file.proofs.Filling.{filled}
-use Rattle.nf_net.proofs.Ended.{all_filled}
+use Rattle.nf_net_file.proofs.Filling.{filled, filled_all}
 use Rattle.nf_net.proofs.labels.given_sums.Goals as goal
 
 pub loop-sum-preserved : goal.loop-sum-preserved
@@ -15,4 +14,4 @@ loop-sum-preserved c =
 
 pub returns : goal.returns
 returns c =
-    all_filled (λ (os : List (Option ℚ)). os) c.args.sums.now c.loop-sum.sum-index (map (λ q. Some q) c.loop-sum.numbers.items) _ refl c.loop-sum-test.false c.loop-sum.invariant
+    filled_all (λ (os : List (Option ℚ)). os) c.args.sums.now c.loop-sum.sum-index (map (λ q. Some q) c.loop-sum.numbers.items) _ c.loop-sum-test.false refl c.loop-sum.invariant

@@ -3,8 +3,7 @@ use Rattle.std.specs.List.{flat_map}
 use Rattle.nf_text_def.specs.Words.{line_of_words}
 use Rattle.nf_net_def.specs.Named.{NamedLink}
 use Rattle.nf_net_def.specs.NetText.{link_words}
-use Rattle.nf_net_file.proofs.Filling.{filled}
-use Rattle.nf_net.proofs.Ended.{all_filled}
+use Rattle.nf_net_file.proofs.Filling.{filled, filled_all}
 use Rattle.nf_net.proofs.printing.push_idle.Goals as goal
 
 pub loop-link-preserved : goal.loop-link-preserved
@@ -18,4 +17,4 @@ loop-link-preserved c =
 
 pub returns : goal.returns
 returns c =
-    all_filled (λ (ls : List NamedLink). flat_map line_of_words (map link_words ls)) c.args.links.now c.loop-link.link-index c.loop-link.out.items _ refl c.loop-link-test.false c.loop-link.invariant
+    filled_all (λ (ls : List NamedLink). flat_map line_of_words (map link_words ls)) c.args.links.now c.loop-link.link-index c.loop-link.out.items _ c.loop-link-test.false refl c.loop-link.invariant

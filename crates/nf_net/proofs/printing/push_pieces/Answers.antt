@@ -3,8 +3,7 @@ use Rattle.std.specs.List.{flat_map}
 use Rattle.nf_text_def.specs.Words.{line_of_words}
 use Rattle.nf_model.specs.Network.{Piece}
 use Rattle.nf_net_def.specs.NetText.{inflow_words}
-use Rattle.nf_net_file.proofs.Filling.{filled}
-use Rattle.nf_net.proofs.Ended.{all_filled}
+use Rattle.nf_net_file.proofs.Filling.{filled, filled_all}
 use Rattle.nf_net.proofs.printing.push_pieces.Goals as goal
 
 pub loop-piece-preserved : goal.loop-piece-preserved
@@ -14,4 +13,4 @@ loop-piece-preserved c =
 
 pub returns : goal.returns
 returns c =
-    all_filled (λ (ps : List Piece). flat_map line_of_words (map inflow_words ps)) c.args.pieces.now c.loop-piece.piece-index c.loop-piece.out.items _ refl c.loop-piece-test.false c.loop-piece.invariant
+    filled_all (λ (ps : List Piece). flat_map line_of_words (map inflow_words ps)) c.args.pieces.now c.loop-piece.piece-index c.loop-piece.out.items _ c.loop-piece-test.false refl c.loop-piece.invariant
