@@ -51,7 +51,8 @@ type Pushed = Result<(), Halt<Q>>;
 
 fn push_point(out: &mut Vec<u8>, name: &str, capacity: &Option<Q>, point: &Point) -> Pushed
     requires { IsPositive capacity.now }
-    ensures { OnOk result (out.new.items ≡ out.old.items ++ toll_at capacity.now name.now point.now) }
+    ensures { OnOk result
+        (out.new.items ≡ out.old.items ++ toll_at capacity.now name.now point.now) }
 {
     let toll = toll_of(point.1, *capacity)?;
     push_line(out, name, point.0, toll)?;
@@ -60,7 +61,8 @@ fn push_point(out: &mut Vec<u8>, name: &str, capacity: &Option<Q>, point: &Point
 
 fn push_points(out: &mut Vec<u8>, name: &str, capacity: &Option<Q>, points: &[Point]) -> Pushed
     requires { IsPositive capacity.now }
-    ensures { OnOk result (out.new.items ≡ out.old.items ++ flat_map (toll_at capacity.now name.now) points.now) }
+    ensures { OnOk result
+        (out.new.items ≡ out.old.items ++ flat_map (toll_at capacity.now name.now) points.now) }
 {
     for point in points {
         push_point(out, name, capacity, point)?;
@@ -80,7 +82,8 @@ pub fn link_tolls(
     requires link { link < length net.now.net.links }
     requires links { length loads.now ≡ length net.now.net.links }
     requires horizon { 0ℚ ≤ℚ horizon }
-    ensures { IfOk result (λ text. AreTolls net.now horizon link (pieces_at loads.now link) text.items) }
+    ensures { IfOk result
+        (λ text. AreTolls net.now horizon link (pieces_at loads.now link) text.items) }
 {
     let here = net.link(link);
     let inflow = cumulative(alloc, loads.pieces(link), horizon)?;

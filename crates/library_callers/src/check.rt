@@ -22,7 +22,8 @@ fn is_yes(answer: Answer) -> bool
 /// its bound, or if memory can't be allocated.
 pub fn is_equilibrium(alloc: Global, net: &Network, flow: &Flow) -> Result<bool, Halt<Q>>
     requires { IsGivenFlow net.now.net flow.now }
-    ensures { IfOk result (λ yes. MatchBool yes (Equilibrium net.now.net (flow_of flow.now)) (Equilibrium net.now.net (flow_of flow.now) → ⊥)) }
+    ensures { IfOk result (λ yes. MatchBool yes (Equilibrium net.now.net (flow_of flow.now))
+        (Equilibrium net.now.net (flow_of flow.now) → ⊥)) }
 {
     match check(alloc, net, flow) {
         Ok(answer) => Ok(is_yes(answer)),

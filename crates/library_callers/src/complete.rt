@@ -28,9 +28,11 @@ pub fn settle_if_thin(
     requires rate { 0ℚ ≤ℚ rate }
     requires flows { length flows.now ≡ length net.now.net.links }
     requires slopes { length slopes.now ≡ net.now.net.nodes }
-    ensures thin { IfOk result (λ found. MatchOption found (IsThinFlow net.now.net sets.now rate flows.now slopes.now → ⊥)
+    ensures thin { IfOk result
+        (λ found. MatchOption found (IsThinFlow net.now.net sets.now rate flows.now slopes.now → ⊥)
         (λ s. IsThinFlow net.now.net sets.now rate s.flows.items slopes.now)) }
-    ensures listed { IfOk result (λ found. IfSome found (λ s. IsListedIn net.now.net sets.now s.pattern)) }
+    ensures listed { IfOk result
+        (λ found. IfSome found (λ s. IsListedIn net.now.net sets.now s.pattern)) }
 {
     if !is_thin(net, sets, rate, flows, slopes)? {
         return Ok(None);

@@ -12,7 +12,8 @@ use std::alloc::Global;
 /// bound, or if an allocation fails.
 pub fn stays_below(alloc: Global, lower: &Curve, upper: &Curve, until: Q) -> Result<bool, Halt<Q>>
     requires { 0ℚ ≤ℚ until }
-    ensures { IfOk result (λ below. MatchBool below (IsBelow lower.now.points upper.now.points until)
+    ensures { IfOk result
+        (λ below. MatchBool below (IsBelow lower.now.points upper.now.points until)
         (¬ IsBelow lower.now.points upper.now.points until)) }
 {
     let least = Curve::least(alloc, lower, upper, Part::Curve)?;

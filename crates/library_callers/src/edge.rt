@@ -22,7 +22,8 @@ pub fn copy_file<S: Shelf, O: Sink>(
     limit: u32,
     out: &mut O,
 ) -> Result<(), CopyFault>
-    ensures { OnOk result (IfSome (S.told shelf.old name.now) (λ held. O.took out.new ≡ with_more (O.took out.old) held)) }
+    ensures { OnOk result (IfSome (S.told shelf.old name.now)
+        (λ held. O.took out.new ≡ with_more (O.took out.old) held)) }
 {
     let bytes = match shelf.fetch(alloc, name, limit) {
         Ok(bytes) => bytes,

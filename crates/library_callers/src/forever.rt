@@ -28,8 +28,10 @@ pub fn carries_supply(
     net: &Network,
     budgets: Budgets,
 ) -> Result<Option<bool>, AllocError>
-    ensures carries { IfOk result (λ found. IfSome found (λ yes. MatchBool yes (CutsCarry net.now.net) (CutsCarry net.now.net → ⊥))) }
-    ensures none { IfOk result (λ found. found ≡ None → HasNoTail net.now.net budgets.phases budgets.patterns) }
+    ensures carries { IfOk result (λ found.
+        IfSome found (λ yes. MatchBool yes (CutsCarry net.now.net) (CutsCarry net.now.net → ⊥))) }
+    ensures none { IfOk result
+        (λ found. found ≡ None → HasNoTail net.now.net budgets.phases budgets.patterns) }
 {
     // Proof: the sink is a node.
     net.recall();

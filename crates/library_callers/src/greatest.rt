@@ -68,8 +68,10 @@ pub fn greatest_queue(
     requires second { IsInflow second.now.points }
     requires until { 0ℚ ≤ℚ until }
     ensures list { Gives (λ y. y) (λ q. q) result
-        (at_part Load (checked_greatest_queue passes_Q transit capacity first.now.points second.now.points until)) }
-    ensures greatest { IfOk result (λ y. IsGreatestQueue capacity (both first.now.points second.now.points) until y) }
+        (at_part Load (checked_greatest_queue passes_Q transit capacity first.now.points
+        second.now.points until)) }
+    ensures greatest { IfOk result
+        (λ y. IsGreatestQueue capacity (both first.now.points second.now.points) until y) }
 {
     let inflow = Curve::sum(alloc, first, second, Part::Load)?;
     let loaded = load_link(alloc, transit, capacity, &inflow, until)?;

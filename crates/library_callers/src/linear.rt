@@ -9,7 +9,8 @@ use std::alloc::{AllocError, Global};
 
 // Returns the equations: the flows add to the rate, and each takes the same share of its capacity.
 fn equations(alloc: Global, rate: Q, first: Q, second: Q) -> Result<Table<Q>, AllocError>
-    ensures { IfOk result (λ table. table ≡ (1ℚ ∷ 1ℚ ∷ rate ∷ []) ∷ (second ∷ neg_ℚ first ∷ 0ℚ ∷ []) ∷ []) }
+    ensures { IfOk result
+        (λ table. table ≡ (1ℚ ∷ 1ℚ ∷ rate ∷ []) ∷ (second ∷ neg_ℚ first ∷ 0ℚ ∷ []) ∷ []) }
 {
     let mut table = Table::new(alloc, 2)?;
     table.set(0, 0, Q::one());

@@ -34,7 +34,8 @@ pub fn arrival_after(
 ) -> Result<Option<Q>, Halt<Q>>
     requires { 0ℚ ≤ℚ departure }
     ensures arrives { IfOk result (λ found. IfSome found (ArrivesAt net.now.net departure)) }
-    ensures stops { IfOk result (λ found. found ≡ None → StopsBefore net.now.net (bounds_of departure budgets)) }
+    ensures stops { IfOk result
+        (λ found. found ≡ None → StopsBefore net.now.net (bounds_of departure budgets)) }
 {
     let solution = solve(alloc, net, departure, budgets)?;
     if solution.stopped.is_some() {

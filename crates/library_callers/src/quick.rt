@@ -28,7 +28,8 @@ pub fn can_arrive_by(
     requires amount { 0ℚ ≤ℚ amount }
     requires deadline { 0ℚ ≤ℚ deadline }
     requires augments { 1 ≤ augments }
-    ensures { IfOk result (λ yes. MatchBool yes (FitsBefore net.now.net amount deadline) (NothingArrivesBy net.now.net amount deadline)) }
+    ensures { IfOk result (λ yes. MatchBool yes (FitsBefore net.now.net amount deadline)
+        (NothingArrivesBy net.now.net amount deadline)) }
 {
     match quickest(alloc, net, amount, augments) {
         Ok(quick) => Ok(ends_by(quick, deadline)),

@@ -14,7 +14,8 @@ use std::alloc::Global;
 // Writes a report. Returns whether the sink took its whole text.
 fn write_whole<O: Sink>(net: &Network, report: &Report, out: &mut O) -> bool
     requires { IsWellFormed net.now.net (report_of report.now) }
-    ensures { MatchBool result (O.took out.new ≡ with_more (O.took out.old) (report_text net.now (report_of report.now)))
+    ensures { MatchBool result
+        (O.took out.new ≡ with_more (O.took out.old) (report_text net.now (report_of report.now)))
         (TookFront (O.took out.old) (O.took out.new) (report_text net.now (report_of report.now))) }
 {
     let stopped = report.stopped.as_ref();
@@ -38,9 +39,11 @@ pub fn pass_on<O: Sink>(
     out: &mut O,
 ) -> Result<bool, ReportFault>
     requires { length text.now ≤ longest_text }
-    ensures taken { IfOk result (λ whole. MatchBool whole (O.took out.new ≡ with_more (O.took out.old) text.now)
+    ensures taken { IfOk result
+        (λ whole. MatchBool whole (O.took out.new ≡ with_more (O.took out.old) text.now)
         (TookFront (O.took out.old) (O.took out.new) text.now)) }
-    ensures refused { IfErr result (λ fault. IfBroken fault (λ broken. report_in net.now text.now ≡ Err broken)) }
+    ensures refused { IfErr result
+        (λ fault. IfBroken fault (λ broken. report_in net.now text.now ≡ Err broken)) }
     ensures untouched { OnErr result (O.took out.new ≡ O.took out.old) }
 {
     match parse_report(alloc, net, text) {

@@ -18,7 +18,8 @@ use std::alloc::Global;
 fn travel(routed: &Routed, route: u32, departure: Q) -> Result<Q, PassedAt<Q>>
     requires route { route < length routed.now.travels.items }
     requires departure { 0ℚ ≤ℚ departure }
-    ensures { IfOk result (λ time. time ≡ value (travel_at (routed_of routed.now) route) departure) }
+    ensures { IfOk result
+        (λ time. time ≡ value (travel_at (routed_of routed.now) route) departure) }
 {
     let curve = &routed.travels[route as usize];
     curve.value(departure, Part::Load)

@@ -17,7 +17,8 @@ pub fn has_queue(alloc: Global, links: &[Hop], labels: &[Q], link: LinkId) -> Re
     requires ends { AreBelow (length labels.now) links.now }
     requires link { link < length links.now }
     ensures { IfOk result (λ queued. (hop : SeenHop) → IsHop links.now link hop
-        → (IsTrue queued ↔ ((number_at labels.now hop.tail +ℚ hop.transit) <ℚ number_at labels.now hop.head))) }
+        → (IsTrue queued
+        ↔ ((number_at labels.now hop.tail +ℚ hop.transit) <ℚ number_at labels.now hop.head))) }
 {
     let found = slacks(alloc, links, labels)?;
     let flags = sets(alloc, &found)?;

@@ -36,8 +36,10 @@ pub fn sink_slope(
     requires sets { AreSetsOf net.now.net sets.now }
     requires acyclic { HoldNoCycle net.now.net sets.now }
     requires base { IsPattern sets.now (unbounded_of net.now.net) base.now }
-    ensures some { IfOk result (λ slope. (flows slopes : List ℚ) × IsThinFlow net.now.net sets.now rate flows slopes) }
-    ensures all { IfOk result (λ slope. (flows slopes : List ℚ) → IsThinFlow net.now.net sets.now rate flows slopes
+    ensures some { IfOk result
+        (λ slope. (flows slopes : List ℚ) × IsThinFlow net.now.net sets.now rate flows slopes) }
+    ensures all { IfOk result
+        (λ slope. (flows slopes : List ℚ) → IsThinFlow net.now.net sets.now rate flows slopes
         → number_at slopes net.now.net.sink ≡ slope) }
 {
     let thin = find_thin(alloc, net, sets, rate, base, budget)?;

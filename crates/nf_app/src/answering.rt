@@ -44,7 +44,8 @@ use std::alloc::{AllocError, Global};
 // Solves the network to a horizon.
 fn solve_to(alloc: Global, net: &Network, horizon: Q, budgets: Budgets) -> Result<Computed, Refusal>
     requires { 0ℚ ≤ℚ horizon }
-    ensures { (file text : List ℕ) → FindsResult net.now text (Solve file horizon budgets.phases budgets.patterns) result }
+    ensures { (file text : List ℕ)
+        → FindsResult net.now text (Solve file horizon budgets.phases budgets.patterns) result }
 {
     // Proof: the network is that of an accepted file, and the parts of the horizon are within the bound.
     net.recall();
@@ -55,7 +56,8 @@ fn solve_to(alloc: Global, net: &Network, horizon: Q, budgets: Budgets) -> Resul
 
 // Solves the network without a horizon.
 fn solve_on(alloc: Global, net: &Network, budgets: Budgets) -> Result<Computed, Refusal>
-    ensures { (file text : List ℕ) → FindsResult net.now text (SolveForever file budgets.phases budgets.patterns) result }
+    ensures { (file text : List ℕ)
+        → FindsResult net.now text (SolveForever file budgets.phases budgets.patterns) result }
 {
     // Proof: the network is that of an accepted file.
     net.recall();
@@ -72,7 +74,8 @@ fn sum_up(
     budgets: Budgets,
 ) -> Result<Computed, Refusal>
     requires { 0ℚ ≤ℚ horizon }
-    ensures { (text : List ℕ) → FindsResult net.now text (Gen ladder.number ladder.rungs horizon budgets.phases budgets.patterns) result }
+    ensures { (text : List ℕ) → FindsResult net.now text
+        (Gen ladder.number ladder.rungs horizon budgets.phases budgets.patterns) result }
 {
     // Proof: the network is that of an accepted file.
     net.recall();
@@ -134,8 +137,10 @@ fn settle_to(alloc: Global, net: &Network, text: &[u8]) -> Result<Computed, Refu
 
 // Returns why a report isn't resumed: if its flow is no equilibrium, the verdict of the check.
 fn refuse_resume(fault: ResumeFault) -> Result<Computed, Refusal>
-    ensures { (net : Named) (file name text : List ℕ) (horizon : ℚ) (phases patterns : ℕ) (old : SeenReport) → IsReportText net text old
-        → IsResumeFault passes_Q net.net old horizon fault → FindsResult net text (Resume file name horizon phases patterns) result }
+    ensures { (net : Named) (file name text : List ℕ) (horizon : ℚ) (phases patterns : ℕ)
+        (old : SeenReport) → IsReportText net text old
+        → IsResumeFault passes_Q net.net old horizon fault
+        → FindsResult net text (Resume file name horizon phases patterns) result }
 {
     match fault {
         ResumeFault::Earlier { .. } => Err(Refusal::Earlier),
@@ -154,7 +159,8 @@ fn resume_to(
     budgets: Budgets,
 ) -> Result<Computed, Refusal>
     requires { length text.items ≤ report_limit }
-    ensures { (file name : List ℕ) → FindsResult net.now text.items (Resume file name horizon budgets.phases budgets.patterns) result }
+    ensures { (file name : List ℕ) → FindsResult net.now text.items
+        (Resume file name horizon budgets.phases budgets.patterns) result }
 {
     // Proof: the network is that of an accepted file, and the parts of the horizon are within the bound.
     net.recall();
@@ -171,7 +177,8 @@ fn resume_to(
 fn distribute(alloc: Global, net: &Network, text: &[u8], horizon: Q) -> Result<Computed, Refusal>
     requires horizon { 0ℚ ≤ℚ horizon }
     requires within { length text.now ≤ longest_text }
-    ensures { (file name : List ℕ) → FindsResult net.now text.now (Routes file name horizon) result }
+    ensures { (file name : List ℕ)
+        → FindsResult net.now text.now (Routes file name horizon) result }
 {
     let routes = parse_routes(alloc, net, text)?;
     let routed = carry_routes(alloc, net, &routes, horizon)?;
@@ -209,8 +216,10 @@ fn refuse_quick(
     augments: u64,
     fault: QuickFault,
 ) -> Result<Computed, Refusal>
-    ensures { (file other : List ℕ) (amount : ℚ) → answered.IsAnswered passes_Q net.now.net amount augments (Err fault)
-        → answered.IsInOrder net.now.net amount augments (Err fault) → FindsResult net.now other (requests.Quick file amount augments) result }
+    ensures { (file other : List ℕ) (amount : ℚ)
+        → answered.IsAnswered passes_Q net.now.net amount augments (Err fault)
+        → answered.IsInOrder net.now.net amount augments (Err fault)
+        → FindsResult net.now other (requests.Quick file amount augments) result }
 {
     match fault {
         QuickFault::Budget { walks } => end_over_budget(alloc, net, augments, walks),
@@ -229,8 +238,10 @@ fn beside_arrival(
 ) -> Result<Computed, Refusal>
     requires amount { 0ℚ ≤ℚ amount }
     requires flow { IsQuickFlow net.now.net amount quick }
-    ensures { (file other : List ℕ) (augments : ℕ) → answered.IsAnswered passes_Q net.now.net amount augments (Ok quick)
-        → answered.IsInOrder net.now.net amount augments (Ok quick) → FindsResult net.now other (requests.Quick file amount augments) result }
+    ensures { (file other : List ℕ) (augments : ℕ)
+        → answered.IsAnswered passes_Q net.now.net amount augments (Ok quick)
+        → answered.IsInOrder net.now.net amount augments (Ok quick)
+        → FindsResult net.now other (requests.Quick file amount augments) result }
 {
     let departs = departure(net, amount)?;
     let arrival = find_arrival(alloc, net, departs)?;
@@ -246,7 +257,8 @@ fn beside_arrival(
 fn quick_to(alloc: Global, net: &Network, amount: Q, augments: u64) -> Result<Computed, Refusal>
     requires amount { 0ℚ ≤ℚ amount }
     requires augments { 1 ≤ augments }
-    ensures { (file other : List ℕ) → FindsResult net.now other (requests.Quick file amount augments) result }
+    ensures { (file other : List ℕ)
+        → FindsResult net.now other (requests.Quick file amount augments) result }
 {
     match quickest(alloc, net, amount, augments) {
         Ok(quick) => beside_arrival(alloc, net, amount, quick),
@@ -343,7 +355,8 @@ pub(crate) fn answer<S: Shelf>(
     words: &[String],
     shelf: &mut S,
 ) -> Result<Outcome, Refusal>
-    ensures answered { AnswersCall (record { words = texts words.now; shelf = visit S.Shelf shelf.old shelf.new }) result }
+    ensures answered { AnswersCall
+        (record { words = texts words.now; shelf = visit S.Shelf shelf.old shelf.new }) result }
     ensures same { (name : List ℕ) → S.told shelf.new name ≡ S.told shelf.old name }
     ensures never_falls { S.faults shelf.old ≤ S.faults shelf.new }
 {

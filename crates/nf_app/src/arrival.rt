@@ -25,7 +25,8 @@ fn last_point(curve: &Curve) -> (Q, Q)
 /// Returns the last point of the label curve of a node.
 pub(crate) fn last_label(flow: &Flow, node: NodeId) -> (Q, Q)
     requires { node < length flow.now.labels.items }
-    ensures { slice_get (points_at (flow_of flow.now).labels node) (length (points_at (flow_of flow.now).labels node) - 1) ≡ Some result }
+    ensures { slice_get (points_at (flow_of flow.now).labels node)
+        (length (points_at (flow_of flow.now).labels node) - 1) ≡ Some result }
 {
     let place = node.index();
     let label = &flow.labels[place];

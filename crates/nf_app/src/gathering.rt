@@ -55,7 +55,8 @@ pub(crate) fn gather<S: Shelf>(
 ) -> Result<(Network, Vec<u8>), Refusal>
     requires { CanBeAsked (requested request.now) }
     ensures gathered { (words : List (List ℕ)) → request_of words ≡ Some (requested request.now)
-        → IsGathered (record { words = words; shelf = visit S.Shelf shelf.old shelf.new }) (requested request.now)
+        → IsGathered (record { words = words; shelf = visit S.Shelf shelf.old shelf.new })
+        (requested request.now)
         (result_map_both (λ got. (got.0, got.1.items)) (λ refusal. refusal) result) }
     ensures fits { IfOk result (λ got. OtherFits (requested request.now) got.1.items) }
     ensures same { (name : List ℕ) → S.told shelf.new name ≡ S.told shelf.old name }

@@ -27,7 +27,8 @@ fn load_by_pieces(
     requires horizon { 0ℚ ≤ℚ horizon }
     requires transit { 0ℚ ≤ℚ link.now.transit }
     requires capacity { IsPositive link.now.capacity }
-    ensures { Gives loaded_of (λ q. q) result (at_part Load (load_link_list passes_Q horizon (link.now, pieces.now))) }
+    ensures { Gives loaded_of (λ q. q) result
+        (at_part Load (load_link_list passes_Q horizon (link.now, pieces.now))) }
 {
     let inflow = supplied(alloc, pieces, horizon)?;
     load_trace(alloc, link.transit, link.capacity, &inflow, horizon)
@@ -42,7 +43,8 @@ pub(crate) fn load_links(
 ) -> Result<Vec<Loaded>, Halt<Q>>
     requires many { length loads.now ≡ length net.now.net.links }
     requires horizon { 0ℚ ≤ℚ horizon }
-    ensures list { Gives (λ links. map loaded_of links.items) (λ q. q) result (loading_list net.now loads.now horizon) }
+    ensures list { Gives (λ links. map loaded_of links.items) (λ q. q) result
+        (loading_list net.now loads.now horizon) }
     ensures many { IfOk result (λ links. length links.items ≡ length net.now.net.links) }
 {
     let mut loaded = Vec::new(alloc);

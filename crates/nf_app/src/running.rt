@@ -51,7 +51,8 @@ pub fn run<S: Shelf, O: Sink, E: Sink>(
 ) -> Status
     // The promises are explained one by one in `specs/Promises`.
     ensures promises { Promises
-        (this_call S.Shelf O.Sink E.Sink words.now shelf.old shelf.new out.old out.new err.old err.new result) }
+        (this_call S.Shelf O.Sink E.Sink words.now shelf.old shelf.new out.old out.new err.old
+        err.new result) }
 
     // What is known of the shelf's files stays the same, and no count of faults falls. So one call can follow another.
     ensures same { (name : List ℕ) → S.told shelf.new name ≡ S.told shelf.old name }

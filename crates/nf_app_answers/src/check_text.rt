@@ -55,7 +55,8 @@ fn write_no<O: Sink>(
     left: &[u8],
     right: &[u8],
 ) -> Result<(), SinkFault>
-    ensures { Wrote (state_of O.Sink out.old) (state_of O.Sink out.new) (line_of_words (codes "no" ∷ rule.now ∷ subject.now ∷ time.now ∷ left.now ∷ right.now ∷ [])) result }
+    ensures { Wrote (state_of O.Sink out.old) (state_of O.Sink out.new) (line_of_words
+        (codes "no" ∷ rule.now ∷ subject.now ∷ time.now ∷ left.now ∷ right.now ∷ [])) result }
 {
     write_line(out, b"no", &[rule, subject, time, left, right])
 }
@@ -68,7 +69,8 @@ fn write_broken_rule<O: Sink>(
     subject: Subject,
     sides: (Q, Q, Q),
 ) -> Result<(), SinkFault>
-    ensures { Wrote (state_of O.Sink out.old) (state_of O.Sink out.new) (line_of_words (codes "no" ∷ check_rule_word rule ∷ subject_word net.now subject ∷ printed sides.0 ∷ printed sides.1
+    ensures { Wrote (state_of O.Sink out.old) (state_of O.Sink out.new) (line_of_words (codes "no"
+        ∷ check_rule_word rule ∷ subject_word net.now subject ∷ printed sides.0 ∷ printed sides.1
         ∷ printed sides.2 ∷ [])) result }
 {
     let time = number_text(sides.0);
@@ -89,7 +91,8 @@ fn write_broken_rule<O: Sink>(
 ///
 /// The first fault ends the writing; the sink then took a proper prefix of the line.
 pub fn write_verdict<O: Sink>(out: &mut O, net: &Network, verdict: &Answer) -> Result<(), SinkFault>
-    ensures { Wrote (state_of O.Sink out.old) (state_of O.Sink out.new) (answer_text net.now verdict.now) result }
+    ensures { Wrote (state_of O.Sink out.old) (state_of O.Sink out.new)
+        (answer_text net.now verdict.now) result }
 {
     match verdict {
         Answer::Yes => write_line(out, b"yes", &[]),

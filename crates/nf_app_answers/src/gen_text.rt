@@ -27,7 +27,8 @@ pub struct Ladder {
 
 // Writes a line: the name, and a count.
 fn write_counted<O: Sink>(out: &mut O, name: &[u8], count: u64) -> Result<(), SinkFault>
-    ensures { WroteLines (state_of O.Sink out.old) (state_of O.Sink out.new) ((name.now ∷ digits_of count ∷ []) ∷ []) result }
+    ensures { WroteLines (state_of O.Sink out.old) (state_of O.Sink out.new)
+        ((name.now ∷ digits_of count ∷ []) ∷ []) result }
 {
     let mut word = TextBuf::new();
     write_count(count, &mut word);
@@ -36,7 +37,8 @@ fn write_counted<O: Sink>(out: &mut O, name: &[u8], count: u64) -> Result<(), Si
 
 // Writes a line: the name, and a number.
 fn write_number<O: Sink>(out: &mut O, name: &[u8], number: Q) -> Result<(), SinkFault>
-    ensures { WroteLines (state_of O.Sink out.old) (state_of O.Sink out.new) ((name.now ∷ printed number ∷ []) ∷ []) result }
+    ensures { WroteLines (state_of O.Sink out.old) (state_of O.Sink out.new)
+        ((name.now ∷ printed number ∷ []) ∷ []) result }
 {
     let mut word = TextBuf::new();
     number.write(&mut word);
@@ -45,7 +47,8 @@ fn write_number<O: Sink>(out: &mut O, name: &[u8], number: Q) -> Result<(), Sink
 
 // Writes the line of a ladder: its number, and its number of rungs.
 fn write_ladder<O: Sink>(out: &mut O, ladder: Ladder) -> Result<(), SinkFault>
-    ensures { WroteLines (state_of O.Sink out.old) (state_of O.Sink out.new) (ladder_lines ladder.number ladder.rungs) result }
+    ensures { WroteLines (state_of O.Sink out.old) (state_of O.Sink out.new)
+        (ladder_lines ladder.number ladder.rungs) result }
 {
     let mut first = TextBuf::new();
     let mut second = TextBuf::new();
@@ -56,7 +59,8 @@ fn write_ladder<O: Sink>(out: &mut O, ladder: Ladder) -> Result<(), SinkFault>
 
 // Writes the numbers of nodes and links.
 fn write_size<O: Sink>(out: &mut O, net: &Network) -> Result<(), SinkFault>
-    ensures { WroteLines (state_of O.Sink out.old) (state_of O.Sink out.new) (size_lines net.now) result }
+    ensures { WroteLines (state_of O.Sink out.old) (state_of O.Sink out.new)
+        (size_lines net.now) result }
 {
     write_counted(out, b"nodes", u64::from(net.node_count()))?;
     write_counted(out, b"links", u64::from(net.link_count()))
@@ -64,7 +68,8 @@ fn write_size<O: Sink>(out: &mut O, net: &Network) -> Result<(), SinkFault>
 
 // Writes the number of phases, and the departure reached.
 fn write_run<O: Sink>(out: &mut O, phases: u64, reached: Q) -> Result<(), SinkFault>
-    ensures { WroteLines (state_of O.Sink out.old) (state_of O.Sink out.new) (run_lines phases reached) result }
+    ensures { WroteLines (state_of O.Sink out.old) (state_of O.Sink out.new)
+        (run_lines phases reached) result }
 {
     write_counted(out, b"phases", phases)?;
     write_number(out, b"reached", reached)
@@ -72,7 +77,8 @@ fn write_run<O: Sink>(out: &mut O, phases: u64, reached: Q) -> Result<(), SinkFa
 
 // Writes the cause of the run's end, or `done` without a stop.
 fn write_cause<O: Sink>(out: &mut O, stop: Option<&Stop>) -> Result<(), SinkFault>
-    ensures { WroteLines (state_of O.Sink out.old) (state_of O.Sink out.new) ((codes "cause" ∷ cause_words (option_copied stop.entry)) ∷ []) result }
+    ensures { WroteLines (state_of O.Sink out.old) (state_of O.Sink out.new)
+        ((codes "cause" ∷ cause_words (option_copied stop.entry)) ∷ []) result }
 {
     match stop {
         None => write_line(out, b"cause", &[b"done"]),
@@ -82,7 +88,8 @@ fn write_cause<O: Sink>(out: &mut O, stop: Option<&Stop>) -> Result<(), SinkFaul
 
 // Writes the cause of the run's end, and the arrival of the last departure.
 fn write_end<O: Sink>(out: &mut O, stop: Option<&Stop>, arrival: Q) -> Result<(), SinkFault>
-    ensures { WroteLines (state_of O.Sink out.old) (state_of O.Sink out.new) (end_lines (option_copied stop.entry) arrival) result }
+    ensures { WroteLines (state_of O.Sink out.old) (state_of O.Sink out.new)
+        (end_lines (option_copied stop.entry) arrival) result }
 {
     write_cause(out, stop)?;
     write_number(out, b"arrival", arrival)
@@ -101,10 +108,13 @@ pub fn write_summary<O: Sink>(
     arrival: Q,
 ) -> Result<(), SinkFault>
     ensures text { (horizon : ℚ) → arrival ≡ last_arrival net.now (report_in horizon solution.now)
-        → Wrote (state_of O.Sink out.old) (state_of O.Sink out.new) (gen_text ladder.number ladder.rungs net.now solution.now.phases (report_in horizon solution.now)) result }
+        → Wrote (state_of O.Sink out.old) (state_of O.Sink out.new) (gen_text ladder.number
+        ladder.rungs net.now solution.now.phases (report_in horizon solution.now)) result }
 
     // `lines` states the same for any `arrival`, line by line.
-    ensures lines { WroteLines (state_of O.Sink out.old) (state_of O.Sink out.new) (ladder_lines ladder.number ladder.rungs ++ size_lines net.now ++ run_lines solution.now.phases solution.now.flow.reached
+    ensures lines { WroteLines (state_of O.Sink out.old)
+        (state_of O.Sink out.new) (ladder_lines ladder.number ladder.rungs ++ size_lines net.now
+        ++ run_lines solution.now.phases solution.now.flow.reached
         ++ end_lines solution.now.stopped arrival) result }
 {
     write_ladder(out, ladder)?;

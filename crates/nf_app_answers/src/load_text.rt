@@ -16,7 +16,8 @@ use nf_report::{write_curve, write_line};
 
 /// Writes the first two lines: the kind of the text with its version 1, and the horizon.
 pub(crate) fn write_head<O: Sink>(out: &mut O, key: &[u8], horizon: Q) -> Result<(), SinkFault>
-    ensures { WroteLines (state_of O.Sink out.old) (state_of O.Sink out.new) ((key.now ∷ codes "1" ∷ []) ∷ (codes "horizon" ∷ printed horizon ∷ []) ∷ []) result }
+    ensures { WroteLines (state_of O.Sink out.old) (state_of O.Sink out.new)
+        ((key.now ∷ codes "1" ∷ []) ∷ (codes "horizon" ∷ printed horizon ∷ []) ∷ []) result }
 {
     let mut word = TextBuf::new();
     horizon.write(&mut word);
@@ -32,7 +33,8 @@ fn write_curves<O: Sink>(
     loaded: &Loaded,
 ) -> Result<(), SinkFault>
     requires { link < length net.now.net.links }
-    ensures { WroteLines (state_of O.Sink out.old) (state_of O.Sink out.new) (loaded_lines net.now.link_names (link, loaded_of loaded.now)) result }
+    ensures { WroteLines (state_of O.Sink out.old) (state_of O.Sink out.new)
+        (loaded_lines net.now.link_names (link, loaded_of loaded.now)) result }
 {
     let name = net.link_name(LinkId(link)).as_bytes();
     write_curve(out, b"queue", name, &loaded.queue)?;
@@ -47,7 +49,8 @@ pub(crate) fn write_links<O: Sink>(
     links: &[Loaded],
 ) -> Result<(), SinkFault>
     requires { length links.now ≡ length net.now.net.links }
-    ensures { WroteLines (state_of O.Sink out.old) (state_of O.Sink out.new) (flat_map (loaded_lines net.now.link_names) (enumerate_from 0 (map loaded_of links.now))) result }
+    ensures { WroteLines (state_of O.Sink out.old) (state_of O.Sink out.new) (flat_map
+        (loaded_lines net.now.link_names) (enumerate_from 0 (map loaded_of links.now))) result }
 {
     for link in 0..net.link_count() {
         let loaded = &links[link as usize];
@@ -66,7 +69,8 @@ pub fn write_loads<O: Sink>(
     links: &[Loaded],
 ) -> Result<(), SinkFault>
     requires { length links.now ≡ length net.now.net.links }
-    ensures { Wrote (state_of O.Sink out.old) (state_of O.Sink out.new) (load_text net.now horizon (map loaded_of links.now)) result }
+    ensures { Wrote (state_of O.Sink out.old) (state_of O.Sink out.new)
+        (load_text net.now horizon (map loaded_of links.now)) result }
 {
     write_head(out, b"loaded", horizon)?;
     write_links(out, net, links)?;

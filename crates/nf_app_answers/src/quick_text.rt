@@ -19,7 +19,8 @@ use std::alloc::{AllocError, Global};
 
 // Appends a line: the word, and a number.
 fn put_line(text: &mut Vec<u8>, key: &[u8], number: Q) -> Result<(), AllocError>
-    ensures { OnOk result (text.new.items ≡ text.old.items ++ line_of_words (key.now ∷ printed number ∷ [])) }
+    ensures { OnOk result
+        (text.new.items ≡ text.old.items ++ line_of_words (key.now ∷ printed number ∷ [])) }
 {
     put_bytes(text, key)?;
     put_number(text, number)?;
@@ -29,7 +30,8 @@ fn put_line(text: &mut Vec<u8>, key: &[u8], number: Q) -> Result<(), AllocError>
 
 // Appends the names of links, with a space before each.
 fn put_links(text: &mut Vec<u8>, net: &Network, links: &[LinkId]) -> Result<(), AllocError>
-    ensures { OnOk result (text.new.items ≡ text.old.items ++ after_words (map (name_at net.now.link_names) links.now)) }
+    ensures { OnOk result (text.new.items
+        ≡ text.old.items ++ after_words (map (name_at net.now.link_names) links.now)) }
 {
     for link in links {
         put_word(text, link_word(net, *link))?;
@@ -39,7 +41,8 @@ fn put_links(text: &mut Vec<u8>, net: &Network, links: &[LinkId]) -> Result<(), 
 
 // Appends the line of a walk.
 fn put_walk(text: &mut Vec<u8>, net: &Network, walk: &Rated) -> Result<(), AllocError>
-    ensures { OnOk result (text.new.items ≡ text.old.items ++ walk_line net.now.link_names walk.now) }
+    ensures { OnOk result
+        (text.new.items ≡ text.old.items ++ walk_line net.now.link_names walk.now) }
 {
     put_bytes(text, b"walk")?;
     put_number(text, walk.rate)?;
@@ -50,7 +53,8 @@ fn put_walk(text: &mut Vec<u8>, net: &Network, walk: &Rated) -> Result<(), Alloc
 
 // Appends the lines of the walks.
 fn put_walks(text: &mut Vec<u8>, net: &Network, walks: &[Rated]) -> Result<(), AllocError>
-    ensures { OnOk result (text.new.items ≡ text.old.items ++ flat_map (walk_line net.now.link_names) walks.now) }
+    ensures { OnOk result
+        (text.new.items ≡ text.old.items ++ flat_map (walk_line net.now.link_names) walks.now) }
 {
     for walk in walks {
         put_walk(text, net, walk)?;
@@ -61,7 +65,8 @@ fn put_walks(text: &mut Vec<u8>, net: &Network, walks: &[Rated]) -> Result<(), A
 // Appends the line of a node's time.
 fn put_time(text: &mut Vec<u8>, net: &Network, node: NodeId, time: Q) -> Result<(), AllocError>
     requires { node < net.now.net.nodes }
-    ensures { OnOk result (text.new.items ≡ text.old.items ++ cut_line net.now.node_names (node, time)) }
+    ensures { OnOk result
+        (text.new.items ≡ text.old.items ++ cut_line net.now.node_names (node, time)) }
 {
     put_bytes(text, b"cut")?;
     put_word(text, net.node_name(node).as_bytes())?;
@@ -73,7 +78,8 @@ fn put_time(text: &mut Vec<u8>, net: &Network, node: NodeId, time: Q) -> Result<
 // Appends the lines of a cut.
 fn put_cut(text: &mut Vec<u8>, net: &Network, cut: &[Q]) -> Result<(), AllocError>
     requires { length cut.now ≡ net.now.net.nodes }
-    ensures { OnOk result (text.new.items ≡ text.old.items ++ flat_map (cut_line net.now.node_names) (enumerate_from 0 cut.now)) }
+    ensures { OnOk result (text.new.items
+        ≡ text.old.items ++ flat_map (cut_line net.now.node_names) (enumerate_from 0 cut.now)) }
 {
     for node in 0..net.node_count() {
         put_time(text, net, NodeId(node), cut[node as usize])?;
@@ -99,7 +105,8 @@ pub fn flow_text(alloc: Global, net: &Network, quick: &Quick) -> Result<Vec<u8>,
 ///
 /// The first fault ends the writing; the sink then took a proper prefix of the line.
 pub fn write_arrival<O: Sink>(out: &mut O, arrival: &Arrival) -> Result<(), SinkFault>
-    ensures { Wrote (state_of O.Sink out.old) (state_of O.Sink out.new) (arrival_text arrival.now) result }
+    ensures { Wrote (state_of O.Sink out.old) (state_of O.Sink out.new)
+        (arrival_text arrival.now) result }
 {
     match arrival {
         Arrival::Never => write_line(out, b"equilibrium", &[b"none"]),

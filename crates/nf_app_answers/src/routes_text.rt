@@ -21,7 +21,9 @@ fn write_route<O: Sink>(
     arrival: &Curve,
     travel: &Curve,
 ) -> Result<(), SinkFault>
-    ensures { WroteLines (state_of O.Sink out.old) (state_of O.Sink out.new) (point_lines (codes "arrival") name.now arrival.now.points ++ point_lines (codes "travel") name.now travel.now.points) result }
+    ensures { WroteLines (state_of O.Sink out.old)
+        (state_of O.Sink out.new) (point_lines (codes "arrival") name.now arrival.now.points
+        ++ point_lines (codes "travel") name.now travel.now.points) result }
 {
     write_curve(out, b"arrival", name, arrival)?;
     write_curve(out, b"travel", name, travel)
@@ -31,7 +33,8 @@ fn write_route<O: Sink>(
 fn write_routes<O: Sink>(out: &mut O, routes: &Routes, routed: &Carried) -> Result<(), SinkFault>
     requires arrivals { length routed.now.arrivals.items ≡ length routes.now }
     requires travels { length routed.now.travels.items ≡ length routes.now }
-    ensures { WroteLines (state_of O.Sink out.old) (state_of O.Sink out.new) (for_each (length routes.now) (route_lines routes.now (with_entries [] routed.now))) result }
+    ensures { WroteLines (state_of O.Sink out.old) (state_of O.Sink out.new) (for_each
+        (length routes.now) (route_lines routes.now (with_entries [] routed.now))) result }
 {
     for route in 0..routes.count() {
         let name = routes.name(route).as_bytes();
@@ -56,7 +59,8 @@ pub fn write_routed<O: Sink>(
     requires links { length routed.now.links.items ≡ length net.now.net.links }
     requires arrivals { length routed.now.arrivals.items ≡ length routes.now }
     requires travels { length routed.now.travels.items ≡ length routes.now }
-    ensures { Wrote (state_of O.Sink out.old) (state_of O.Sink out.new) (routed_text net.now routes.now horizon (with_entries [] routed.now)) result }
+    ensures { Wrote (state_of O.Sink out.old) (state_of O.Sink out.new)
+        (routed_text net.now routes.now horizon (with_entries [] routed.now)) result }
 {
     write_head(out, b"routed", horizon)?;
     write_links(out, net, &routed.links)?;

@@ -76,7 +76,8 @@ pub fn write_settled<O: Sink>(
 ) -> Result<(), SinkFault>
     requires flows { length settled.now.flows.items ≡ length net.now.net.links }
     requires states { length settled.now.pattern ≡ length net.now.net.links }
-    ensures { Wrote (state_of O.Sink out.old) (state_of O.Sink out.new) (settled_text net.now settled.now.pattern settled.now.flows.items) result }
+    ensures { Wrote (state_of O.Sink out.old) (state_of O.Sink out.new)
+        (settled_text net.now settled.now.pattern settled.now.flows.items) result }
 {
     let mut page = Page::new();
     put_settled(out, &mut page, net, settled)?;

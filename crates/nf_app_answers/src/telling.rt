@@ -146,7 +146,8 @@ fn report_rule_text(rule: ReportRule) -> &'static [u8]
 
 // Writes texts, one after the other.
 fn write_texts<E: Sink>(err: &mut E, texts: &[&[u8]]) -> Result<(), SinkFault>
-    ensures { Wrote (state_of E.Sink err.old) (state_of E.Sink err.new) (flat_map (λ t. t.now) texts.now) result }
+    ensures { Wrote (state_of E.Sink err.old) (state_of E.Sink err.new)
+        (flat_map (λ t. t.now) texts.now) result }
 {
     for text in texts {
         write_text(err, text)?;
@@ -156,7 +157,8 @@ fn write_texts<E: Sink>(err: &mut E, texts: &[&[u8]]) -> Result<(), SinkFault>
 
 // Writes the line of the first rule that a file breaks: the kind of file, the line's number and the rule.
 fn write_broken<E: Sink>(err: &mut E, file: &[u8], line: u32, rule: &[u8]) -> Result<(), SinkFault>
-    ensures { Wrote (state_of E.Sink err.old) (state_of E.Sink err.new) (broken_line file.now line rule.now) result }
+    ensures { Wrote (state_of E.Sink err.old) (state_of E.Sink err.new)
+        (broken_line file.now line rule.now) result }
 {
     let mut number = TextBuf::new();
     write_count(u64::from(line), &mut number);
@@ -176,7 +178,8 @@ fn write_broken<E: Sink>(err: &mut E, file: &[u8], line: u32, rule: &[u8]) -> Re
 
 // Writes the line of an operation that passes, in a command without phases.
 fn write_passed<E: Sink>(err: &mut E, at: &PassedAt<Q>) -> Result<(), SinkFault>
-    ensures { Wrote (state_of E.Sink err.old) (state_of E.Sink err.new) (passed_line at.now) result }
+    ensures { Wrote (state_of E.Sink err.old) (state_of E.Sink err.new)
+        (passed_line at.now) result }
 {
     write_text(err, b"nfot: ")?;
     write_passed_call(err, b"stopped:", at)
@@ -186,7 +189,8 @@ fn write_passed<E: Sink>(err: &mut E, at: &PassedAt<Q>) -> Result<(), SinkFault>
 ///
 /// The first fault ends the writing; the sink then took a proper prefix of the text.
 pub fn write_refusal<E: Sink>(err: &mut E, refusal: &Refusal) -> Result<(), SinkFault>
-    ensures { Wrote (state_of E.Sink err.old) (state_of E.Sink err.new) (err_text (answer_of refusal.now)) result }
+    ensures { Wrote (state_of E.Sink err.old) (state_of E.Sink err.new)
+        (err_text (answer_of refusal.now)) result }
 {
     match refusal {
         Refusal::NoMemory => write_text(err, b"nfot: memory\n"),
@@ -219,7 +223,8 @@ pub fn write_refusal<E: Sink>(err: &mut E, refusal: &Refusal) -> Result<(), Sink
 ///
 /// The first fault ends the writing; the sink then took a proper prefix of the line.
 pub fn write_stopped<E: Sink>(err: &mut E, stop: &Stop) -> Result<(), SinkFault>
-    ensures { Wrote (state_of E.Sink err.old) (state_of E.Sink err.new) (stopped_line stop.now) result }
+    ensures { Wrote (state_of E.Sink err.old) (state_of E.Sink err.new)
+        (stopped_line stop.now) result }
 {
     write_text(err, b"nfot: ")?;
     write_stop(err, b"stopped:", stop)
@@ -229,7 +234,8 @@ pub fn write_stopped<E: Sink>(err: &mut E, stop: &Stop) -> Result<(), SinkFault>
 ///
 /// The first fault ends the writing; the sink then took a proper prefix of the line.
 pub fn write_over_budget<E: Sink>(err: &mut E, augments: u64) -> Result<(), SinkFault>
-    ensures { Wrote (state_of E.Sink err.old) (state_of E.Sink err.new) (augments_line augments) result }
+    ensures { Wrote (state_of E.Sink err.old) (state_of E.Sink err.new)
+        (augments_line augments) result }
 {
     let mut count = TextBuf::new();
     write_count(augments, &mut count);

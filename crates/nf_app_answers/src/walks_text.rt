@@ -11,7 +11,8 @@ use std::alloc::{AllocError, Global};
 
 // Appends a space, and a step: its direction, `+` or `-`, and the name of its link.
 fn put_step(text: &mut Vec<u8>, net: &Network, step: Step) -> Result<(), AllocError>
-    ensures { OnOk result (text.new.items ≡ text.old.items ++ after_words (step_word net.now.link_names step ∷ [])) }
+    ensures { OnOk result
+        (text.new.items ≡ text.old.items ++ after_words (step_word net.now.link_names step ∷ [])) }
 {
     if step.forward {
         put_bytes(text, b" +")?;
@@ -23,7 +24,8 @@ fn put_step(text: &mut Vec<u8>, net: &Network, step: Step) -> Result<(), AllocEr
 
 // Appends steps, with a space before each.
 fn put_steps(text: &mut Vec<u8>, net: &Network, steps: &[Step]) -> Result<(), AllocError>
-    ensures { OnOk result (text.new.items ≡ text.old.items ++ after_words (map (step_word net.now.link_names) steps.now)) }
+    ensures { OnOk result (text.new.items
+        ≡ text.old.items ++ after_words (map (step_word net.now.link_names) steps.now)) }
 {
     for step in steps {
         put_step(text, net, *step)?;
@@ -33,14 +35,16 @@ fn put_steps(text: &mut Vec<u8>, net: &Network, steps: &[Step]) -> Result<(), Al
 
 // Appends the steps of a walk, with a space before each.
 fn put_walk(text: &mut Vec<u8>, net: &Network, walk: &Walk) -> Result<(), AllocError>
-    ensures { OnOk result (text.new.items ≡ text.old.items ++ after_words (map (step_word net.now.link_names) walk.now.steps)) }
+    ensures { OnOk result (text.new.items
+        ≡ text.old.items ++ after_words (map (step_word net.now.link_names) walk.now.steps)) }
 {
     put_steps(text, net, &walk.steps)
 }
 
 // Appends the line of a pushed walk.
 fn put_augment(text: &mut Vec<u8>, net: &Network, augment: &Augment) -> Result<(), AllocError>
-    ensures { OnOk result (text.new.items ≡ text.old.items ++ augment_line net.now.link_names augment.now) }
+    ensures { OnOk result
+        (text.new.items ≡ text.old.items ++ augment_line net.now.link_names augment.now) }
 {
     put_bytes(text, b"augment")?;
     put_number(text, augment.amount)?;
@@ -51,7 +55,8 @@ fn put_augment(text: &mut Vec<u8>, net: &Network, augment: &Augment) -> Result<(
 
 // Appends the lines of pushed walks.
 fn put_augments(text: &mut Vec<u8>, net: &Network, walks: &[Augment]) -> Result<(), AllocError>
-    ensures { OnOk result (text.new.items ≡ text.old.items ++ flat_map (augment_line net.now.link_names) walks.now) }
+    ensures { OnOk result
+        (text.new.items ≡ text.old.items ++ flat_map (augment_line net.now.link_names) walks.now) }
 {
     for walk in walks {
         put_augment(text, net, walk)?;

@@ -18,7 +18,8 @@ fn fetch_file<S: Shelf>(
 ) -> Result<Vec<u8>, Refusal>
     ensures same { (other : List ℕ) → S.told shelf.new other ≡ S.told shelf.old other }
     ensures never_falls { S.faults shelf.old ≤ S.faults shelf.new }
-    ensures fetched { AreFetched (visit S.Shelf shelf.old shelf.new) (record { name = file.now; limit = limit } ∷ [])
+    ensures fetched { AreFetched (visit S.Shelf shelf.old shelf.new)
+        (record { name = file.now; limit = limit } ∷ [])
         (result_map_both (λ text. text.items ∷ []) (λ refusal. refusal) result) }
     ensures within { IfOk result (λ text. length text.items ≤ limit) }
 {
@@ -38,7 +39,8 @@ fn fetch_files<S: Shelf>(
     ensures never_falls { S.faults shelf.old ≤ S.faults shelf.new }
     ensures fetched { AreFetched (visit S.Shelf shelf.old shelf.new)
         (input_file file.now ∷ record { name = other.now; limit = limit } ∷ [])
-        (result_map_both (λ texts. texts.0.items ∷ texts.1.items ∷ []) (λ refusal. refusal) result) }
+        (result_map_both (λ texts. texts.0.items ∷ texts.1.items ∷ [])
+        (λ refusal. refusal) result) }
     ensures first { IfOk result (λ texts. length texts.0.items ≤ input_limit) }
     ensures second { IfOk result (λ texts. length texts.1.items ≤ limit) }
 {
@@ -75,7 +77,8 @@ pub fn fetch_network_with<S: Shelf>(
 ) -> Result<(Network, Vec<u8>), Refusal>
     ensures same { (name : List ℕ) → S.told shelf.new name ≡ S.told shelf.old name }
     ensures never_falls { S.faults shelf.old ≤ S.faults shelf.new }
-    ensures read { AreRead (visit S.Shelf shelf.old shelf.new) (input_file file.now) (record { name = other.now; limit = limit } ∷ [])
+    ensures read { AreRead (visit S.Shelf shelf.old shelf.new) (input_file file.now)
+        (record { name = other.now; limit = limit } ∷ [])
         (result_map_both (λ read. (read.0, read.1.items ∷ [])) (λ refusal. refusal) result) }
     ensures within { IfOk result (λ read. length read.1.items ≤ limit) }
 {

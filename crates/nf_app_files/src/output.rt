@@ -23,7 +23,8 @@ use nf_report::write_report;
 
 // Writes the text of a quickest flow, and then that of the arrival.
 fn write_quick<O: Sink>(text: &[u8], arrival: &Arrival, out: &mut O) -> Result<(), SinkFault>
-    ensures { Wrote (state_of O.Sink out.old) (state_of O.Sink out.new) (text.now ++ arrival_text arrival.now) result }
+    ensures { Wrote (state_of O.Sink out.old) (state_of O.Sink out.new)
+        (text.now ++ arrival_text arrival.now) result }
 {
     write_text(out, text)?;
     write_arrival(out, arrival)
@@ -32,7 +33,8 @@ fn write_quick<O: Sink>(text: &[u8], arrival: &Arrival, out: &mut O) -> Result<(
 // Writes the text of an outcome.
 fn write_found<O: Sink>(net: &Network, found: &Computed, out: &mut O) -> Result<(), SinkFault>
     requires { HasTextWith net.now found.now }
-    ensures { Wrote (state_of O.Sink out.old) (state_of O.Sink out.new) (text_with net.now found.now) result }
+    ensures { Wrote (state_of O.Sink out.old) (state_of O.Sink out.new)
+        (text_with net.now found.now) result }
 {
     match found {
         Computed::Solved { horizon, solution } => write_report(
@@ -79,7 +81,8 @@ fn status_of_cause(stop: &Stop) -> Status
 // Writes to `err` why the run of a report stopped, if it did, and returns the status. A fault of `err` doesn't change the status.
 fn tell_stop<E: Sink>(stop: Option<&Stop>, err: &mut E) -> Status
     ensures status { result ≡ status_of_stop (option_copied stop.entry) }
-    ensures told { TookText (took_of E.Sink err.old err.new) (text_of_stop (option_copied stop.entry)) }
+    ensures told { TookText (took_of E.Sink err.old err.new)
+        (text_of_stop (option_copied stop.entry)) }
     ensures never_falls { E.faults err.old ≤ E.faults err.new }
 {
     match stop {
@@ -94,7 +97,8 @@ fn tell_stop<E: Sink>(stop: Option<&Stop>, err: &mut E) -> Status
 // Does the same for a run without a horizon, whose budget of phases has a status of its own.
 fn tell_forever<E: Sink>(stop: Option<&Stop>, err: &mut E) -> Status
     ensures status { result ≡ status_of_forever (option_copied stop.entry) }
-    ensures told { TookText (took_of E.Sink err.old err.new) (text_of_stop (option_copied stop.entry)) }
+    ensures told { TookText (took_of E.Sink err.old err.new)
+        (text_of_stop (option_copied stop.entry)) }
     ensures never_falls { E.faults err.old ≤ E.faults err.new }
 {
     match tell_stop(stop, err) {
@@ -121,7 +125,8 @@ fn tell_verdict<E: Sink>(verdict: &Answer, err: &mut E) -> Status
 // Writes to `err` why an outcome isn't the whole answer, if it isn't, and returns the status.
 fn tell<E: Sink>(found: &Computed, err: &mut E) -> Status
     ensures status { (net : Named) → result ≡ status_of (answer_with net found.now) }
-    ensures told { (net : Named) → TookText (took_of E.Sink err.old err.new) (err_text (answer_with net found.now)) }
+    ensures told { (net : Named)
+        → TookText (took_of E.Sink err.old err.new) (err_text (answer_with net found.now)) }
     ensures never_falls { E.faults err.old ≤ E.faults err.new }
 {
     match found {
@@ -141,7 +146,8 @@ fn tell<E: Sink>(found: &Computed, err: &mut E) -> Status
 /// status. The outcome must have the text that its command gives.
 pub fn give<O: Sink, E: Sink>(outcome: &Outcome, out: &mut O, err: &mut E) -> Status
     requires { HasText outcome.now }
-    ensures shown { IsShown (answer_in outcome.now) (took_of O.Sink out.old out.new) (took_of E.Sink err.old err.new) result }
+    ensures shown { IsShown (answer_in outcome.now) (took_of O.Sink out.old out.new)
+        (took_of E.Sink err.old err.new) result }
     ensures out_never_falls { O.faults out.old ≤ O.faults out.new }
     ensures err_never_falls { E.faults err.old ≤ E.faults err.new }
 {

@@ -30,7 +30,8 @@ fn with_options<'w>(
     mut command: Command<'w>,
     names: &[&'static str],
 ) -> Result<Command<'w>, AllocError>
-    ensures { IfOk result (λ more. app_in more ≡ with_options (map (λ name. name.now) names.now) (app_in command.entry)) }
+    ensures { IfOk result (λ more. app_in more
+        ≡ with_options (map (λ name. name.now) names.now) (app_in command.entry)) }
 {
     for name in names {
         let option = Arg::new(alloc, name).long(name);
@@ -45,7 +46,8 @@ fn with_flag<'w>(
     command: Command<'w>,
     name: &'static str,
 ) -> Result<Command<'w>, AllocError>
-    ensures { IfOk result (λ more. app_in more ≡ with_rule (app_in command.entry) (flag_rule name.now)) }
+    ensures { IfOk result
+        (λ more. app_in more ≡ with_rule (app_in command.entry) (flag_rule name.now)) }
 {
     let flag = Arg::new(alloc, name).long(name).action(ArgAction::SetTrue);
     command.arg(flag)

@@ -156,7 +156,8 @@ fn is_met(need: Option<Need>, there: bool) -> bool
 
 // Returns whether each of the named options agrees with its need.
 fn are_met(matches: &ArgMatches, wanted: &[(&'static str, Need)], names: &[&'static str]) -> bool
-    ensures { result ≡ are_met (map wanted_of wanted.now) (rows_in matches.now) (map (λ name. name.now) names.now) }
+    ensures { result ≡ are_met (map wanted_of wanted.now) (rows_in matches.now)
+        (map (λ name. name.now) names.now) }
 {
     for name in names {
         if !is_met(need_of(wanted, name), is_there(matches, name)) {
@@ -189,7 +190,8 @@ fn fits(matches: &ArgMatches, line: &Line) -> bool
 
 // Returns whether the words name the command of the row and fit the row.
 fn is_command(matches: &ArgMatches, line: &Line) -> bool
-    ensures { result ≡ (is_named line.now.name.now (rows_in matches.now) && fits (line_of line.now) (rows_in matches.now)) }
+    ensures { result ≡ (is_named line.now.name.now (rows_in matches.now)
+        && fits (line_of line.now) (rows_in matches.now)) }
 {
     is_named(matches, line.name) && fits(matches, line)
 }

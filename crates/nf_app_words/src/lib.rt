@@ -23,8 +23,10 @@ use std::alloc::{AllocError, Global};
 /// Returns the request of the words, or `None` if they are not a request. The first word is the program's name. Refuses only if an
 /// allocation fails.
 pub fn read_request(alloc: Global, words: &[String]) -> Result<Option<Request>, AllocError>
-    ensures value { IfOk result (λ request. request_of (texts words.now) ≡ option_map requested request) }
-    ensures can_be { IfOk result (λ request. IfSome request (λ request. CanBeAsked (requested request))) }
+    ensures value { IfOk result
+        (λ request. request_of (texts words.now) ≡ option_map requested request) }
+    ensures can_be { IfOk result
+        (λ request. IfSome request (λ request. CanBeAsked (requested request))) }
 {
     match match_words(alloc, words)? {
         Some(matches) => Ok(request_of(&matches)),

@@ -30,7 +30,8 @@ fn no(rule: CheckRule, subject: Subject, sides: Difference) -> Answer
 
 /// Converts the result of the tests to the answer, or to the operation that passes or the failed allocation.
 pub(crate) fn answer_of(tested: Result<(), Ended>) -> Result<Answer, Halt<Q>>
-    ensures { (trial : Trial (Unit {0})) → Tries (λ _. tt) tested trial → Gives (λ answer. answer) (λ q. q) result (answer_by trial) }
+    ensures { (trial : Trial (Unit {0})) → Tries (λ _. tt) tested trial
+        → Gives (λ answer. answer) (λ q. q) result (answer_by trial) }
 {
     match &tested {
         Ok(()) => Ok(Answer::Yes),

@@ -46,7 +46,8 @@ fn check_arrival(
 fn check_arrivals_at(alloc: Global, worked: &Worked, exits: &mut Exits) -> Result<(), Ended>
     requires { AreKept worked.now exits.old }
     ensures tries { Tries (λ _. tt) result
-        (done (each (in_view arrivals worked.now) (nodes_but (network_in worked.now).source (network_in worked.now)))) }
+        (done (each (in_view arrivals worked.now)
+        (nodes_but (network_in worked.now).source (network_in worked.now)))) }
     ensures kept { OnOk result (AreKept worked.now exits.new) }
 {
     for number in 0..worked.net.node_count() {

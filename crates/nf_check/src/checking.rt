@@ -110,7 +110,8 @@ fn know_curves(curves: &[Curve])
 
 // Does nothing. Proof: the points of each trace are a curve.
 fn know_traces(traces: &[Trace])
-    ensures { (i : ℕ) → i < length traces.now → IsCurve (points_at (points_of (map trace_of traces.now)) i) }
+    ensures { (i : ℕ) → i < length traces.now
+        → IsCurve (points_at (points_of (map trace_of traces.now)) i) }
 {
     for trace in traces {
         trace.curve.recall();
@@ -134,7 +135,8 @@ pub fn check(alloc: Global, net: &Network, flow: &Flow) -> Result<Answer, Halt<Q
     requires inflow_rates { HaveRates (flow_of flow.now).inflows }
     requires outflow_rates { HaveRates (flow_of flow.now).outflows }
     requires reached { 0ℚ ≤ℚ flow.now.reached }
-    ensures list { Gives (λ answer. answer) (λ q. q) result (check_list passes_Q net.now.net (flow_of flow.now)) }
+    ensures list { Gives (λ answer. answer) (λ q. q) result
+        (check_list passes_Q net.now.net (flow_of flow.now)) }
     ensures rules { IfOk result (λ answer. Checks net.now.net (flow_of flow.now) answer) }
     ensures exact { IfOk result (λ answer. IsExact net.now.net (flow_of flow.now) answer) }
 {

@@ -57,7 +57,8 @@ pub(crate) fn are_whole(labels: &[Curve], last: Q) -> bool
 fn check_label(flow: &Flow, node: NodeId) -> Result<(), Ended>
     requires node { node < length flow.now.labels.items }
     requires whole { AreWhole flow.now.labels.items flow.now.reached }
-    ensures { (net : SeenNetwork) → Tries (λ _. points_at (flow_of flow.now).labels node) result (label_cut passes_Q net (flow_of flow.now) node) }
+    ensures { (net : SeenNetwork) → Tries (λ _. points_at (flow_of flow.now).labels node) result
+        (label_cut passes_Q net (flow_of flow.now) node) }
 {
     let label = curve_at(&flow.labels, node.index());
     unless(CheckRule::C1, Subject::Node(node), negative_point(label))
@@ -80,7 +81,8 @@ pub(crate) fn check_labels(net: &Network, flow: &Flow) -> Result<(), Ended>
 fn cut_label(alloc: Global, flow: &Flow, node: NodeId) -> Result<Curve, Ended>
     requires node { node < length flow.now.labels.items }
     requires reached { 0ℚ ≤ℚ flow.now.reached }
-    ensures { (net : SeenNetwork) → Tries (λ c. c.points) result (label_cut passes_Q net (flow_of flow.now) node) }
+    ensures { (net : SeenNetwork)
+        → Tries (λ c. c.points) result (label_cut passes_Q net (flow_of flow.now) node) }
 {
     let label = curve_at(&flow.labels, node.index());
     let cut = label.cut(alloc, flow.reached, Part::Check)?;

@@ -20,8 +20,10 @@ use std::alloc::Global;
 // Returns the exit of a link by departure: a departure enters the link at the label of the link's tail.
 fn exit_along(alloc: Global, worked: &Worked, link: LinkId) -> Result<Curve, Halt<Q>>
     requires { link < length (network_in worked.now).links }
-    ensures { (here : Link) → IsLink (network_in worked.now) link here → Gives (λ c. c.points) (λ q. q) result
-        (at_part Check (checked_composed passes_Q (loaded_by (loaded_in worked.now) link).exit (points_at (labels_in worked.now) here.tail)
+    ensures { (here : Link) → IsLink (network_in worked.now) link here
+        → Gives (λ c. c.points) (λ q. q) result
+        (at_part Check (checked_composed passes_Q (loaded_by (loaded_in worked.now) link).exit
+        (points_at (labels_in worked.now) here.tail)
         worked.now.flow.now.reached)) }
 {
     let tail = worked.net.link(link).tail;
@@ -52,8 +54,10 @@ fn with_exit(
 ) -> Result<Option<Curve>, Halt<Q>>
     requires link { link < length (network_in worked.now).links }
     requires kept { AreKept worked.now exits.old }
-    ensures list { (here : Link) → IsLink (network_in worked.now) link here → Gives (λ o. option_map (λ c. c.points) o) (λ q. q) result
-        (at_part Check (with_exit_by passes_Q (labels_in worked.now) (loaded_in worked.now) worked.now.flow.now.reached node
+    ensures list { (here : Link) → IsLink (network_in worked.now) link here
+        → Gives (λ o. option_map (λ c. c.points) o) (λ q. q) result
+        (at_part Check (with_exit_by passes_Q (labels_in worked.now)
+        (loaded_in worked.now) worked.now.flow.now.reached node
         (option_map (λ c. c.points) so_far) (link, here))) }
     ensures kept { AreKept worked.now exits.new }
 {
@@ -76,7 +80,8 @@ pub fn least_exits(
 ) -> Result<Option<Curve>, Halt<Q>>
     requires { AreKept worked.now exits.old }
     ensures list { Gives (λ o. option_map (λ c. c.points) o) (λ q. q) result
-        (at_part Check (least_by passes_Q (labels_in worked.now) (loaded_in worked.now) worked.now.flow.now.reached
+        (at_part Check
+        (least_by passes_Q (labels_in worked.now) (loaded_in worked.now) worked.now.flow.now.reached
         (network_in worked.now).links node)) }
     ensures kept { AreKept worked.now exits.new }
 {

@@ -37,7 +37,8 @@ fn with_supply(
     total: Curve,
 ) -> Result<Curve, Halt<Q>>
     ensures { Gives (λ c. c.points) (λ q. q) result
-        (at_part Check (with_supply_by passes_Q net.now.net supplied.now.points node total.points)) }
+        (at_part Check
+        (with_supply_by passes_Q net.now.net supplied.now.points node total.points)) }
 {
     if node == net.source() {
         Curve::sum(alloc, &total, supplied, Part::Check)
@@ -50,7 +51,8 @@ fn with_supply(
 fn end_at(worked: &Worked, node: NodeId) -> Q
     requires { node < (network_in worked.now).nodes }
     ensures end { result ≡
-        (if node == (network_in worked.now).source then worked.now.flow.now.reached else last_by (points_at (labels_in worked.now) node)) }
+        (if node == (network_in worked.now).source then worked.now.flow.now.reached else last_by
+        (points_at (labels_in worked.now) node)) }
     ensures nonnegative { 0ℚ ≤ℚ result }
 {
     if node == worked.net.source() {
@@ -85,7 +87,8 @@ fn check_balance(
 // Tests C6 at all nodes except the sink.
 fn check_balances_at(alloc: Global, worked: &Worked, supplied: &Curve) -> Result<(), Ended>
     ensures { Tries (λ _. tt) result
-        (done (each (in_view balance worked.now supplied.now.points) (nodes_but (network_in worked.now).sink (network_in worked.now)))) }
+        (done (each (in_view balance worked.now supplied.now.points)
+        (nodes_but (network_in worked.now).sink (network_in worked.now)))) }
 {
     for number in 0..worked.net.node_count() {
         let node = NodeId(number);
@@ -107,7 +110,8 @@ fn check_stays(
 ) -> Result<(), Ended>
     requires { IsFromZero label.now.points }
     ensures { Tries (λ _. tt) result
-        (stays_by passes_Q (network_in worked.now).sink label.now.points comes.now.points goes.now.points supplied.now.points
+        (stays_by passes_Q (network_in worked.now).sink label.now.points comes.now.points
+        goes.now.points supplied.now.points
         (flow_in worked.now).reached) }
 {
     let reached = worked.flow.reached;

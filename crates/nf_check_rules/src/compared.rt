@@ -20,7 +20,8 @@ pub fn compare(
     last: Q,
 ) -> Result<(), Ended>
     requires { 0ℚ ≤ℚ last }
-    ensures { Tries (λ _. tt) result (compared_by passes_Q rule subject left.now.points right.now.points last) }
+    ensures { Tries (λ _. tt) result
+        (compared_by passes_Q rule subject left.now.points right.now.points last) }
 {
     let difference = Curve::first_difference(left, right, last, Part::Check)?;
     unless(rule, subject, difference)

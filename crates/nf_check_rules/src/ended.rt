@@ -74,7 +74,8 @@ pub fn unless(
     subject: Subject,
     difference: Option<Difference>,
 ) -> Result<(), Ended>
-    ensures { Tries (λ _. tt) result (unless_by rule subject (option_map difference_of difference)) }
+    ensures { Tries (λ _. tt) result
+        (unless_by rule subject (option_map difference_of difference)) }
 {
     let Some(sides) = difference else {
         return Ok(());

@@ -17,7 +17,8 @@ pub struct Exits {
 impl Exits {
     /// Returns exits of which none is stored.
     pub fn none(alloc: Global, net: &Network) -> Result<Exits, AllocError>
-        ensures { IfOk result (λ exits. exits.kept.items ≡ replicate (length net.now.net.links) None) }
+        ensures { IfOk result
+            (λ exits. exits.kept.items ≡ replicate (length net.now.net.links) None) }
     {
         let mut kept = Vec::with_capacity(alloc, net.link_count() as usize)?;
         for _ in 0..net.link_count() {

@@ -59,7 +59,8 @@ fn inflow_fault(curve: &Curve) -> Option<Difference>
 // Tests C1 for the inflow of a link.
 fn check_inflow(flow: &Flow, link: LinkId) -> Result<(), Ended>
     requires { link < length flow.now.inflows.items }
-    ensures { (net : SeenNetwork) → Tries (λ _. tt) result (inflow_rule passes_Q net (flow_of flow.now) link) }
+    ensures { (net : SeenNetwork)
+        → Tries (λ _. tt) result (inflow_rule passes_Q net (flow_of flow.now) link) }
 {
     let inflow = trace_at(&flow.inflows, link);
     unless(
@@ -72,7 +73,8 @@ fn check_inflow(flow: &Flow, link: LinkId) -> Result<(), Ended>
 /// Tests C1 for the inflows of all links, in order.
 pub fn check_inflows(net: &Network, flow: &Flow) -> Result<(), Ended>
     requires { length flow.now.inflows.items ≡ length net.now.net.links }
-    ensures { Tries (λ _. tt) result (done (each (inflow_rule passes_Q net.now.net (flow_of flow.now)) (all_links net.now.net))) }
+    ensures { Tries (λ _. tt) result (done
+        (each (inflow_rule passes_Q net.now.net (flow_of flow.now)) (all_links net.now.net))) }
 {
     for number in 0..net.link_count() {
         check_inflow(flow, LinkId(number))?;

@@ -29,7 +29,8 @@ impl<'a> LinkCurves<'a> {
     /// Returns the inflow or the exits by departure, from `curve`, by time. A departure enters the link at the label of the link's tail.
     pub(crate) fn by_departure(&self, alloc: Global, curve: &Curve) -> Result<Curve, Halt<Q>>
         ensures { Gives (λ c. c.points) (λ q. q) result
-            (at_part Check (checked_composed passes_Q curve.now.points self.now.tail_label.now.points self.now.last)) }
+            (at_part Check (checked_composed passes_Q curve.now.points
+            self.now.tail_label.now.points self.now.last)) }
     {
         Curve::compose(alloc, curve, self.tail_label, self.last, Part::Check)
     }

@@ -33,7 +33,8 @@ fn load(
     requires labels { length labels.now ≡ net.now.net.nodes }
     requires inflow { Holds net.now.net (flow_of flow.now) (Inflow link) }
     ensures { (here : Link) → IsLink net.now.net link here
-        → Tries loaded_of result (loading passes_Q net.now.net (flow_of flow.now) (curves_of labels.now) (link, here)) }
+        → Tries loaded_of result
+        (loading passes_Q net.now.net (flow_of flow.now) (curves_of labels.now) (link, here)) }
 {
     let here = net.link(link);
     let tail = greatest_value(curve_at(labels, here.tail.index()));
@@ -58,9 +59,11 @@ pub fn load_links(
 ) -> Result<Vec<Loaded>, Ended>
     requires inflows { length flow.now.inflows.items ≡ length net.now.net.links }
     requires labels { length labels.now ≡ net.now.net.nodes }
-    requires hold { (e : ℕ) → e < length net.now.net.links → Holds net.now.net (flow_of flow.now) (Inflow e) }
+    requires hold { (e : ℕ) → e < length net.now.net.links
+        → Holds net.now.net (flow_of flow.now) (Inflow e) }
     ensures list { Tries (λ loaded. loadings_of loaded.items) result
-        (each (loading passes_Q net.now.net (flow_of flow.now) (curves_of labels.now)) (enumerate_from 0 net.now.net.links)) }
+        (each (loading passes_Q net.now.net (flow_of flow.now) (curves_of labels.now))
+        (enumerate_from 0 net.now.net.links)) }
     ensures count { IfOk result (λ loaded. length loaded.items ≡ length net.now.net.links) }
 {
     let mut loaded = Vec::with_capacity(alloc, net.link_count() as usize)?;

@@ -39,7 +39,8 @@ fn other_rate(time: Q, rate: Q, slope: Q) -> Option<Difference>
 // Tests C2 for the rates of one trace of a link.
 fn check_trace(link: LinkId, trace: &Trace) -> Result<(), Ended>
     requires { length trace.now.curve.points ≡ suc (length trace.now.rates.items) }
-    ensures { Tries (λ _. tt) result (rates_list passes_Q (OfLink link) trace.now.curve.points trace.now.rates.items) }
+    ensures { Tries (λ _. tt) result
+        (rates_list passes_Q (OfLink link) trace.now.curve.points trace.now.rates.items) }
 {
     // Proof: times rise.
     trace.curve.recall();
@@ -62,7 +63,8 @@ fn check_link_rates(flow: &Flow, link: LinkId) -> Result<(), Ended>
     requires outflow { link < length flow.now.outflows.items }
     requires inflow_rates { HaveRates (flow_of flow.now).inflows }
     requires outflow_rates { HaveRates (flow_of flow.now).outflows }
-    ensures { (net : SeenNetwork) → Tries (λ _. tt) result (link_rates passes_Q net (flow_of flow.now) link) }
+    ensures { (net : SeenNetwork)
+        → Tries (λ _. tt) result (link_rates passes_Q net (flow_of flow.now) link) }
 {
     check_trace(link, trace_at(&flow.inflows, link))?;
     check_trace(link, trace_at(&flow.outflows, link))
@@ -74,7 +76,8 @@ pub fn check_rates(net: &Network, flow: &Flow) -> Result<(), Ended>
     requires outflows { length flow.now.outflows.items ≡ length net.now.net.links }
     requires inflow_rates { HaveRates (flow_of flow.now).inflows }
     requires outflow_rates { HaveRates (flow_of flow.now).outflows }
-    ensures { Tries (λ _. tt) result (done (each (link_rates passes_Q net.now.net (flow_of flow.now)) (all_links net.now.net))) }
+    ensures { Tries (λ _. tt) result
+        (done (each (link_rates passes_Q net.now.net (flow_of flow.now)) (all_links net.now.net))) }
 {
     for number in 0..net.link_count() {
         check_link_rates(flow, LinkId(number))?;

@@ -32,7 +32,8 @@ fn detour(
     kept: Option<Curve>,
 ) -> Result<Option<Difference>, Halt<Q>>
     requires { IfSome kept (λ exits. exits_of link.now ≡ Ok exits.points) }
-    ensures { Gives (option_map difference_of) (λ q. q) result (at_part Check (detours_of link.now)) }
+    ensures { Gives (option_map difference_of) (λ q. q) result
+        (at_part Check (detours_of link.now)) }
 {
     let sent = Sent::along(alloc, link, kept)?;
     let detour = first_detour(&sent)?;
@@ -48,7 +49,8 @@ fn check_route(
 ) -> Result<(), Ended>
     requires link { link < length (network_in worked.now).links }
     requires kept { IsKept worked.now link kept }
-    ensures { (here : Link) → IsLink (network_in worked.now) link here → Tries (λ _. tt) result (in_view route worked.now (link, here)) }
+    ensures { (here : Link) → IsLink (network_in worked.now) link here
+        → Tries (λ _. tt) result (in_view route worked.now (link, here)) }
 {
     let here = worked.net.link(link);
     let curves = LinkCurves {
@@ -66,7 +68,8 @@ fn check_route(
 /// a refusal.
 pub fn check_routes(alloc: Global, worked: &Worked, exits: &mut Exits) -> Result<(), Ended>
     requires { AreKept worked.now exits.old }
-    ensures tries { Tries (λ _. tt) result (done (each (in_view route worked.now) (enumerate_from 0 (network_in worked.now).links))) }
+    ensures tries { Tries (λ _. tt) result
+        (done (each (in_view route worked.now) (enumerate_from 0 (network_in worked.now).links))) }
     ensures kept { AreKept worked.now exits.new }
 {
     for number in 0..worked.net.link_count() {

@@ -75,7 +75,8 @@ impl Sent {
     // Computes the three curves from exits by departure in short form.
     #[tactic(auto, unfolding(crate::specs::Sent::known_list))]
     fn by_exits(alloc: Global, link: &LinkCurves, exits: Curve) -> Result<Sent, Halt<Q>>
-        ensures list { Gives points_in (λ q. q) result (at_part Check (known_by link.now exits.points)) }
+        ensures list { Gives points_in (λ q. q) result
+            (at_part Check (known_by link.now exits.points)) }
         ensures curves { IfOk result AreCurves }
     {
         // Proof: the exits are a curve.

@@ -97,7 +97,8 @@ fn departure_at(
     requires time { 0ℚ ≤ℚ time }
     requires places { ArePlaces sent.now time places }
     requires kept { KeepSlopes sent.now kept.old }
-    ensures taken { seen_at (λ d. d.taken) (λ q. q) result ≡ at_part Check (checked_value passes_Q sent.now.taken.points time) }
+    ensures taken { seen_at (λ d. d.taken) (λ q. q) result
+        ≡ at_part Check (checked_value passes_Q sent.now.taken.points time) }
     ensures there { IfOk result (IsDeparture sent.now) }
     ensures time { IfOk result (λ d. d.time ≡ time) }
     ensures kept { KeepSlopes sent.now kept.new }
@@ -117,7 +118,8 @@ fn sides_of(sent: &Sent, here: &Departure, kept: &mut SentSlopes) -> Result<Diff
     requires here { IsDeparture sent.now here.now }
     requires kept { KeepSlopes sent.now kept.old }
     ensures list { seen_at difference_of (λ q. q) result
-        ≡ at_part Check (sides_by passes_Q sent.now.exits.points sent.now.labels.points here.now.time) }
+        ≡ at_part Check
+        (sides_by passes_Q sent.now.exits.points sent.now.labels.points here.now.time) }
     ensures kept { KeepSlopes sent.now kept.new }
 {
     match here.sides {
@@ -137,7 +139,8 @@ fn at_middle(
     requires next { 0ℚ ≤ℚ next }
     requires within { AreWithin sent.now places.now }
     ensures { seen_at (option_map difference_of) (λ q. q) result ≡
-        at_part Check (at_middle_by passes_Q true sent.now.exits.points sent.now.labels.points first next) }
+        at_part Check
+        (at_middle_by passes_Q true sent.now.exits.points sent.now.labels.points first next) }
 {
     let time = middle(first, next)?;
     let sides = sent.sides_at(&sent.places_near(places, time), time)?;
@@ -157,7 +160,8 @@ fn on_stretch(
     requires kept { KeepSlopes sent.now kept.old }
     ensures list { seen_at (option_map difference_of) (λ q. q) result ≡
         at_part Check
-        (on_stretch_by passes_Q sent.now.taken.points sent.now.exits.points sent.now.labels.points here.now.time there.old.time) }
+        (on_stretch_by passes_Q sent.now.taken.points sent.now.exits.points sent.now.labels.points
+        here.now.time there.old.time) }
     ensures there { OnOk result (IsDeparture sent.now there.new) }
     ensures time { OnOk result (there.new.time ≡ there.old.time) }
     ensures kept { KeepSlopes sent.now kept.new }
@@ -182,7 +186,8 @@ fn on_stretch(
 /// times of the curves' points. The values at the end of an interval are reused at the start of the next.
 pub(crate) fn first_detour(sent: &Sent) -> Result<Option<Difference>, PassedAt<Q>>
     requires { AreCurves sent.now }
-    ensures { seen_at (option_map difference_of) (λ q. q) result ≡ at_part Check (stretches_of sent.now) }
+    ensures { seen_at (option_map difference_of) (λ q. q) result
+        ≡ at_part Check (stretches_of sent.now) }
 {
     let mut kept = SentSlopes::none();
     let mut here = first_departure(sent);

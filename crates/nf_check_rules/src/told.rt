@@ -42,7 +42,8 @@ fn check_queue(worked: &Worked, link: LinkId) -> Result<(), Ended>
 
 /// Tests C4 for the outflows of all links, each up to the last label of the link's head.
 pub fn check_outflows(worked: &Worked) -> Result<(), Ended>
-    ensures { Tries (λ _. tt) result (done (each (in_view outflow_rule worked.now) (enumerate_from 0 (network_in worked.now).links))) }
+    ensures { Tries (λ _. tt) result (done
+        (each (in_view outflow_rule worked.now) (enumerate_from 0 (network_in worked.now).links))) }
 {
     for number in 0..worked.net.link_count() {
         check_outflow(worked, LinkId(number))?;
@@ -52,7 +53,8 @@ pub fn check_outflows(worked: &Worked) -> Result<(), Ended>
 
 /// Tests C5 for the queues of all links, each up to the last label of the link's tail.
 pub fn check_queues(worked: &Worked) -> Result<(), Ended>
-    ensures { Tries (λ _. tt) result (done (each (in_view queue_rule worked.now) (enumerate_from 0 (network_in worked.now).links))) }
+    ensures { Tries (λ _. tt) result (done
+        (each (in_view queue_rule worked.now) (enumerate_from 0 (network_in worked.now).links))) }
 {
     for number in 0..worked.net.link_count() {
         check_queue(worked, LinkId(number))?;

@@ -29,7 +29,8 @@ fn with_outflow(
     requires link { link < length net.now.net.links }
     requires loaded { length loaded.now ≡ length net.now.net.links }
     ensures { (here : Link) → IsLink net.now.net link here → Gives (λ c. c.points) (λ q. q) result
-        (at_part Check (with_outflow_by passes_Q (loadings_of loaded.now) node so_far.points (link, here))) }
+        (at_part Check
+        (with_outflow_by passes_Q (loadings_of loaded.now) node so_far.points (link, here))) }
 {
     if net.link(link).head != node {
         return Ok(so_far);
@@ -46,7 +47,8 @@ pub(crate) fn total_in(
     node: NodeId,
 ) -> Result<Curve, Halt<Q>>
     requires { length loaded.now ≡ length net.now.net.links }
-    ensures { Gives (λ c. c.points) (λ q. q) result (at_part Check (total_in_by passes_Q (loadings_of loaded.now) net.now.net.links node)) }
+    ensures { Gives (λ c. c.points) (λ q. q) result
+        (at_part Check (total_in_by passes_Q (loadings_of loaded.now) net.now.net.links node)) }
 {
     let mut total = Curve::start(alloc, Q::zero())?;
     for number in 0..net.link_count() {
@@ -67,7 +69,8 @@ fn with_inflow(
     requires link { link < length net.now.net.links }
     requires inflows { length flow.now.inflows.items ≡ length net.now.net.links }
     ensures { (here : Link) → IsLink net.now.net link here → Gives (λ c. c.points) (λ q. q) result
-        (at_part Check (with_inflow_by passes_Q (points_of (flow_of flow.now).inflows) node so_far.points (link, here))) }
+        (at_part Check (with_inflow_by passes_Q
+        (points_of (flow_of flow.now).inflows) node so_far.points (link, here))) }
 {
     if net.link(link).tail != node {
         return Ok(so_far);
@@ -85,7 +88,8 @@ pub(crate) fn total_out(
 ) -> Result<Curve, Halt<Q>>
     requires { length flow.now.inflows.items ≡ length net.now.net.links }
     ensures { Gives (λ c. c.points) (λ q. q) result
-        (at_part Check (total_out_by passes_Q (points_of (flow_of flow.now).inflows) net.now.net.links node)) }
+        (at_part Check
+        (total_out_by passes_Q (points_of (flow_of flow.now).inflows) net.now.net.links node)) }
 {
     let mut total = Curve::start(alloc, Q::zero())?;
     for number in 0..net.link_count() {

@@ -61,7 +61,8 @@ pub(crate) fn trace_at(traces: &[Trace], link: LinkId) -> &Trace
     requires { link < length traces.now }
     ensures there { slice_get (map trace_of traces.now) link ≡ Some (trace_of result.now) }
     ensures trace { trace_of result.now ≡ trace_in (map trace_of traces.now) link }
-    ensures points { result.now.curve.points ≡ points_at (points_of (map trace_of traces.now)) link }
+    ensures points { result.now.curve.points
+        ≡ points_at (points_of (map trace_of traces.now)) link }
 {
     &traces[link.index()]
 }

@@ -36,9 +36,12 @@ fn next_cycle(
     requires sets { length sets.now.active ≡ length net.now.net.links }
     requires fulls { length fulls.now ≡ length net.now.net.links }
     requires flows { length flows.now ≡ length net.now.net.links }
-    requires known { IsForest (hops_of net.now.net) (λ e. (e < known) × Has (interior_flags sets.now fulls.now flows.now) e) }
-    ensures { IfOk result (λ found. MatchOption found (IsForest (hops_of net.now.net) (Has (interior_flags sets.now fulls.now flows.now)))
-        (λ cycle. Closes (hops_of net.now.net) (interior_flags sets.now fulls.now flows.now) cycle.last cycle.steps.items)) }
+    requires known { IsForest (hops_of net.now.net)
+        (λ e. (e < known) × Has (interior_flags sets.now fulls.now flows.now) e) }
+    ensures { IfOk result (λ found. MatchOption found
+        (IsForest (hops_of net.now.net) (Has (interior_flags sets.now fulls.now flows.now)))
+        (λ cycle. Closes (hops_of net.now.net)
+        (interior_flags sets.now fulls.now flows.now) cycle.last cycle.steps.items)) }
 {
     let interior = interior(alloc, sets, fulls, flows, net.link_count())?;
     first_cycle(alloc, net.node_count(), net.hops(), &interior, known)
@@ -53,10 +56,13 @@ fn cancelled(
     flows: &[Q],
 ) -> Result<Vec<Q>, Halt<Q>>
     requires sets { AreGoodSets net.now.net sets.now }
-    requires thin { (slopes : List ℚ) × IsThinWithFulls passes_Q net.now.net sets.now slopes fulls.now flows.now }
+    requires thin { (slopes : List ℚ)
+        × IsThinWithFulls passes_Q net.now.net sets.now slopes fulls.now flows.now }
     requires fewer { length fulls.now < 2 ^ 32 }
-    ensures { (slopes : List ℚ) → IsThinWithFulls passes_Q net.now.net sets.now slopes fulls.now flows.now
-        → ComesTo (Cancels passes_Q net.now.net sets.now slopes fulls.now flows.now) (λ new. new.items) result }
+    ensures { (slopes : List ℚ)
+        → IsThinWithFulls passes_Q net.now.net sets.now slopes fulls.now flows.now
+        → ComesTo (Cancels passes_Q net.now.net sets.now slopes fulls.now flows.now)
+        (λ new. new.items) result }
 {
     let mut new = flows.to_vec(alloc)?;
     let mut known = 0;
@@ -90,10 +96,13 @@ pub fn settle(
     requires rate { 0ℚ ≤ℚ rate }
     requires thin { IsThinFlow net.now.net sets.now rate flows.now slopes.now }
     ensures list { SettlesTo passes_Q net.now.net sets.now slopes.now flows.now result }
-    ensures pattern { IfOk result (λ s. IsSettledPattern net.now.net sets.now s.flows.items slopes.now s.pattern) }
-    ensures thin { IfOk result (λ s. IsThinFlow net.now.net sets.now rate s.flows.items slopes.now) }
+    ensures pattern { IfOk result
+        (λ s. IsSettledPattern net.now.net sets.now s.flows.items slopes.now s.pattern) }
+    ensures thin { IfOk result
+        (λ s. IsThinFlow net.now.net sets.now rate s.flows.items slopes.now) }
     ensures listed { IfOk result (λ s. IsListedIn net.now.net sets.now s.pattern) }
-    ensures solution { IfOk result (λ s. IsSolution net.now.net sets.now rate s.pattern s.flows.items slopes.now) }
+    ensures solution { IfOk result
+        (λ s. IsSolution net.now.net sets.now rate s.pattern s.flows.items slopes.now) }
 {
     // Proof: every network is well formed.
     net.recall();

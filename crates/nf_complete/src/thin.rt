@@ -32,7 +32,8 @@ pub fn is_thin(
     requires flows { length flows.now ≡ length net.now.net.links }
     requires slopes { length slopes.now ≡ net.now.net.nodes }
     ensures list { Passes passes_Q net.now.net sets.now rate flows.now slopes.now result }
-    ensures thin { IfOk result (λ yes. MatchBool yes (IsThinFlow net.now.net sets.now rate flows.now slopes.now)
+    ensures thin { IfOk result
+        (λ yes. MatchBool yes (IsThinFlow net.now.net sets.now rate flows.now slopes.now)
         (IsThinFlow net.now.net sets.now rate flows.now slopes.now → ⊥)) }
 {
     // Proof: every network is well formed.

@@ -11,7 +11,8 @@ use nf_net::Network;
 pub fn leads_into(net: &Network, sets: &LinkSets, link: LinkId, node: NodeId) -> bool
     requires link { link < length net.now.net.links }
     requires sets { length sets.now.active ≡ length net.now.net.links }
-    ensures { MatchBool result (LeadsInto net.now.net sets.now node link) (LeadsInto net.now.net sets.now node link → ⊥) }
+    ensures { MatchBool result (LeadsInto net.now.net sets.now node link)
+        (LeadsInto net.now.net sets.now node link → ⊥) }
 {
     let here = net.link(link);
     if !sets.active(link) {
@@ -24,7 +25,8 @@ pub fn leads_into(net: &Network, sets: &LinkSets, link: LinkId, node: NodeId) ->
 pub fn is_level(net: &Network, slopes: &[Q], link: LinkId) -> bool
     requires link { link < length net.now.net.links }
     requires slopes { length slopes.now ≡ net.now.net.nodes }
-    ensures { MatchBool result (IsLevelAt net.now.net slopes.now link) (IsLevelAt net.now.net slopes.now link → ⊥) }
+    ensures { MatchBool result (IsLevelAt net.now.net slopes.now link)
+        (IsLevelAt net.now.net slopes.now link → ⊥) }
 {
     let here = net.link(link);
     slope_of(slopes, here.head).is_same(slope_of(slopes, here.tail))
@@ -34,7 +36,8 @@ pub fn is_level(net: &Network, slopes: &[Q], link: LinkId) -> bool
 pub fn brings(sets: &LinkSets, flows: &[Q], link: LinkId) -> bool
     requires link { link < length sets.now.active }
     requires flows { length flows.now ≡ length sets.now.active }
-    ensures { MatchBool result (Brings sets.now flows.now link) (Brings sets.now flows.now link → ⊥) }
+    ensures { MatchBool result (Brings sets.now flows.now link)
+        (Brings sets.now flows.now link → ⊥) }
 {
     if sets.resetting(link) {
         return true;

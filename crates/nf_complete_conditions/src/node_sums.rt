@@ -29,7 +29,8 @@ fn with_flow(
     requires link { link < length sets.now.active }
     requires flows { length flows.now ≡ length sets.now.active }
     ensures { (net : SeenNetwork) (rate : ℚ) → result ≡ at_part Verdict
-        (sum_more passes_Q net sets.now rate flows.now (is_active passes_Q net sets.now rate flows.now link && at_node) so_far link) }
+        (sum_more passes_Q net sets.now rate flows.now
+        (is_active passes_Q net sets.now rate flows.now link && at_node) so_far link) }
 {
     if sets.active(link) && at_node {
         let sum = at!(Part::Verdict, so_far.sum(flows[link.index()]));
@@ -49,7 +50,8 @@ enum End {
 // Returns whether the node is at this end of the link.
 fn is_at(net: &Network, link: LinkId, end: End, node: NodeId) -> bool
     requires { link < length net.now.net.links }
-    ensures { (here : SeenLink) → IsLink net.now.net link here → result ≡ (end_by end here == node) }
+    ensures { (here : SeenLink) → IsLink net.now.net link here
+        → result ≡ (end_by end here == node) }
 {
     let here = net.link(link);
     match end {
@@ -69,7 +71,8 @@ fn flow_at(
     requires sets { length sets.now.active ≡ length net.now.net.links }
     requires flows { length flows.now ≡ length net.now.net.links }
     ensures { (rate : ℚ) → result ≡ at_part Verdict
-        (fold_checked (more_at passes_Q net.now.net sets.now rate flows.now end node) 0ℚ (enumerate_from 0 net.now.net.links)) }
+        (fold_checked (more_at passes_Q net.now.net sets.now rate flows.now end node) 0ℚ
+        (enumerate_from 0 net.now.net.links)) }
 {
     let mut so_far = Q::zero();
     for e in 0..net.link_count() {
@@ -125,8 +128,10 @@ fn balances_at(
 pub fn balances(net: &Network, sets: &LinkSets, rate: Q, flows: &[Q]) -> Result<bool, PassedAt<Q>>
     requires sets { length sets.now.active ≡ length net.now.net.links }
     requires flows { length flows.now ≡ length net.now.net.links }
-    ensures { AnswersWhether ((v : ℕ) → v < net.now.net.nodes → IsBalanced net.now.net sets.now rate flows.now v)
-        (each (sums_at passes_Q net.now.net sets.now rate flows.now) (range_with_len 0 net.now.net.nodes)) result }
+    ensures { AnswersWhether
+        ((v : ℕ) → v < net.now.net.nodes → IsBalanced net.now.net sets.now rate flows.now v)
+        (each (sums_at passes_Q net.now.net sets.now rate flows.now)
+        (range_with_len 0 net.now.net.nodes)) result }
 {
     let mut all = true;
     for v in 0..net.node_count() {

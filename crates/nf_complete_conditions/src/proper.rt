@@ -35,7 +35,8 @@ fn none_negative(numbers: &[Q]) -> bool
 fn carries_if_active(sets: &LinkSets, flows: &[Q], link: LinkId) -> bool
     requires link { link < length sets.now.active }
     requires flows { length flows.now ≡ length sets.now.active }
-    ensures { MatchBool result (CarriesIfActive sets.now flows.now link) (CarriesIfActive sets.now flows.now link → ⊥) }
+    ensures { MatchBool result (CarriesIfActive sets.now flows.now link)
+        (CarriesIfActive sets.now flows.now link → ⊥) }
 {
     if sets.active(link) {
         return true;
@@ -47,7 +48,8 @@ fn carries_if_active(sets: &LinkSets, flows: &[Q], link: LinkId) -> bool
 fn carries_on_active(net: &Network, sets: &LinkSets, flows: &[Q]) -> bool
     requires sets { length sets.now.active ≡ length net.now.net.links }
     requires flows { length flows.now ≡ length net.now.net.links }
-    ensures { MatchBool result (CarriesOnActive sets.now flows.now) (CarriesOnActive sets.now flows.now → ⊥) }
+    ensures { MatchBool result (CarriesOnActive sets.now flows.now)
+        (CarriesOnActive sets.now flows.now → ⊥) }
 {
     for e in 0..net.link_count() {
         if !carries_if_active(sets, flows, LinkId(e)) {
@@ -60,7 +62,8 @@ fn carries_on_active(net: &Network, sets: &LinkSets, flows: &[Q]) -> bool
 // Returns whether the slope of the source is 1.
 fn starts(net: &Network, slopes: &[Q]) -> bool
     requires { length slopes.now ≡ net.now.net.nodes }
-    ensures { MatchBool result (number_at slopes.now net.now.net.source ≡ 1ℚ) (number_at slopes.now net.now.net.source ≡ 1ℚ → ⊥) }
+    ensures { MatchBool result (number_at slopes.now net.now.net.source ≡ 1ℚ)
+        (number_at slopes.now net.now.net.source ≡ 1ℚ → ⊥) }
 {
     slope_of(slopes, net.source()).is_same(Q::one())
 }

@@ -72,7 +72,8 @@ fn keeps_at(
     requires flows { length flows.now ≡ length net.now.net.links }
     requires slopes { length slopes.now ≡ net.now.net.nodes }
     ensures { (here : SeenLink) → IsLink net.now.net link here
-        → AnswersWhether (KeepsAt sets.now flows.now slopes.now link here) (full_at_by passes_Q sets.now slopes.now (link, here)) result }
+        → AnswersWhether (KeepsAt sets.now flows.now slopes.now link here)
+        (full_at_by passes_Q sets.now slopes.now (link, here)) result }
 {
     let full = full_at(net, sets, slopes, link)?;
     let here = net.link(link);
@@ -98,7 +99,8 @@ pub fn keep_slopes(
     requires sets { length sets.now.active ≡ length net.now.net.links }
     requires flows { length flows.now ≡ length net.now.net.links }
     requires slopes { length slopes.now ≡ net.now.net.nodes }
-    ensures { AnswersWhether ((e : ℕ) (link : SeenLink) → IsLink net.now.net e link → KeepsAt sets.now flows.now slopes.now e link)
+    ensures { AnswersWhether ((e : ℕ) (link : SeenLink) → IsLink net.now.net e link
+        → KeepsAt sets.now flows.now slopes.now e link)
         (fulls_list passes_Q net.now.net sets.now slopes.now) result }
 {
     let mut all = true;

@@ -34,7 +34,8 @@ fn brings_into(net: &Network, sets: &LinkSets, flows: &[Q], link: LinkId, node: 
 fn is_bare(net: &Network, sets: &LinkSets, flows: &[Q], node: NodeId) -> bool
     requires sets { length sets.now.active ≡ length net.now.net.links }
     requires flows { length flows.now ≡ length net.now.net.links }
-    ensures { MatchBool result (IsBare net.now.net sets.now flows.now node) (IsBare net.now.net sets.now flows.now node → ⊥) }
+    ensures { MatchBool result (IsBare net.now.net sets.now flows.now node)
+        (IsBare net.now.net sets.now flows.now node → ⊥) }
 {
     if node == net.source() {
         return false;
@@ -183,7 +184,8 @@ pub fn settled_pattern(
     requires flows { length flows.now ≡ length net.now.net.links }
     requires slopes { length slopes.now ≡ net.now.net.nodes }
     requires fulls { fulls_list passes_Q net.now.net sets.now slopes.now ≡ Ok fulls.now }
-    ensures { IfOk result (λ pattern. IsSettledPattern net.now.net sets.now flows.now slopes.now pattern) }
+    ensures { IfOk result
+        (λ pattern. IsSettledPattern net.now.net sets.now flows.now slopes.now pattern) }
 {
     let mut pattern = Pattern::none(alloc, net.link_count())?;
     for e in 0..net.link_count() {

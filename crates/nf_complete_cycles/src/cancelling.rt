@@ -91,7 +91,8 @@ fn rooms(
     requires count { length fulls.now ≡ length flows.now }
     requires fewer { length fulls.now < 2 ^ 32 }
     ensures { Gives (λ rooms. rooms.items) (λ q. q) result
-        (at_part Verdict (each (room_at passes_Q steps.now fulls.now) (enumerate_from 0 flows.now))) }
+        (at_part Verdict
+        (each (room_at passes_Q steps.now fulls.now) (enumerate_from 0 flows.now))) }
 {
     let mut rooms = Vec::new(alloc);
     for (e, flow) in flows.iter().enumerate() {
@@ -105,7 +106,8 @@ fn rooms(
 fn changes(alloc: Global, steps: &[Step], amount: Q, flows: &[Q]) -> Result<Vec<Q>, Halt<Q>>
     requires { length flows.now < 2 ^ 32 }
     ensures { Gives (λ new. new.items) (λ q. q) result
-        (at_part Verdict (each (change_at passes_Q steps.now amount) (enumerate_from 0 flows.now))) }
+        (at_part Verdict
+        (each (change_at passes_Q steps.now amount) (enumerate_from 0 flows.now))) }
 {
     let mut new = Vec::new(alloc);
     for (e, flow) in flows.iter().enumerate() {

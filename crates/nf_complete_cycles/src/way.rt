@@ -13,7 +13,8 @@ use std::alloc::{AllocError, Global};
 fn crossing(hop: &Hop, flags: &[bool]) -> Option<bool>
     requires tail { hop.now.tail < length flags.now }
     requires head { hop.now.head < length flags.now }
-    ensures { MatchOption result ((forward : Bool) → Crosses flags.now hop.now forward → ⊥) (λ forward. Crosses flags.now hop.now forward) }
+    ensures { MatchOption result ((forward : Bool) → Crosses flags.now hop.now forward → ⊥)
+        (λ forward. Crosses flags.now hop.now forward) }
 {
     let tail = hop.tail;
     let head = hop.head;
@@ -33,7 +34,8 @@ fn next_step(hops: &[Hop], chosen: &[bool], flags: &[bool]) -> Option<Step>
     requires ends { AreBelow (length flags.now) hops.now }
     requires count { length chosen.now ≡ length hops.now }
     requires fewer { length hops.now < 2 ^ 32 }
-    ensures { MatchOption result (NoneStepsOut hops.now chosen.now flags.now) (λ step. StepsOut hops.now chosen.now flags.now step) }
+    ensures { MatchOption result (NoneStepsOut hops.now chosen.now flags.now)
+        (λ step. StepsOut hops.now chosen.now flags.now step) }
 {
     for (e, hop) in hops.iter().enumerate() {
         if chosen[e] {
@@ -102,7 +104,8 @@ pub(crate) fn way(
     requires from { from < nodes }
     requires to { to < nodes }
     ensures { IfOk result
-        (λ found. MatchOption found (AreApart hops.now chosen.now from to) (λ steps. IsWay hops.now chosen.now from to steps.items)) }
+        (λ found. MatchOption found (AreApart hops.now chosen.now from to)
+        (λ steps. IsWay hops.now chosen.now from to steps.items)) }
 {
     let mut flags = vec![in alloc; false; nodes as usize]?;
     flags[from.index()] = true;

@@ -37,7 +37,8 @@ impl Model for Draft {
 // Sets the number at an index. Refuses with S10 if there is one already.
 fn put(numbers: &mut Vec<Option<Q>>, place: usize, number: Q) -> Result<(), FlowsRule>
     requires { place < length numbers.old.items }
-    ensures puts { (if is_given numbers.old.items place then Err S10 else Ok (set numbers.old.items place (Some number)))
+    ensures puts { (if is_given numbers.old.items place then Err S10 else Ok
+        (set numbers.old.items place (Some number)))
         ≡ said_by (λ _. numbers.new.items) result }
     ensures count { OnOk result (length numbers.new.items ≡ length numbers.old.items) }
 {

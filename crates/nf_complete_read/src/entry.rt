@@ -24,7 +24,8 @@ pub enum Entry {
 
 // Reads a number. Refuses with S8 if the word is not a number, and with S9 if the number is negative.
 fn read_number(word: &[u8]) -> Result<Q, FlowsRule>
-    ensures { (make : ℚ → FlowsEntry) → number_entry make (result_ok (number_by greatest word.now)) ≡ said_by make result }
+    ensures { (make : ℚ → FlowsEntry)
+        → number_entry make (result_ok (number_by greatest word.now)) ≡ said_by make result }
 {
     let Some(number) = number_of(word) else {
         return Err(FlowsRule::S8);
@@ -39,7 +40,8 @@ fn read_number(word: &[u8]) -> Result<Q, FlowsRule>
 #[tactic(auto, using(crate::proofs::FlowWords::count_wrong, crate::proofs::FlowWords::not_named, crate::proofs::FlowWords::named))]
 fn read_flow(net: &Network, line: &ReadLine) -> Result<Entry, FlowsRule>
     requires { 0 < length line.now.words }
-    ensures says { named_line (λ link flow. file.FlowOf link flow) net.now.link_names (drop 1 line.now.words) ≡ said_by seen_entry result }
+    ensures says { named_line (λ link flow. file.FlowOf link flow) net.now.link_names
+        (drop 1 line.now.words) ≡ said_by seen_entry result }
     ensures link { IfOk result (λ entry. IsOf net.now (seen_entry entry)) }
 {
     if line.len() != 3 {
@@ -56,7 +58,8 @@ fn read_flow(net: &Network, line: &ReadLine) -> Result<Entry, FlowsRule>
 #[tactic(auto, using(crate::proofs::FlowWords::count_wrong, crate::proofs::FlowWords::not_named, crate::proofs::FlowWords::named))]
 fn read_slope(net: &Network, line: &ReadLine) -> Result<Entry, FlowsRule>
     requires { 0 < length line.now.words }
-    ensures says { named_line (λ node slope. file.SlopeOf node slope) net.now.node_names (drop 1 line.now.words)
+    ensures says { named_line (λ node slope. file.SlopeOf node slope) net.now.node_names
+        (drop 1 line.now.words)
         ≡ said_by seen_entry result }
     ensures node { IfOk result (λ entry. IsOf net.now (seen_entry entry)) }
 {

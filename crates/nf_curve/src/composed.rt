@@ -42,7 +42,8 @@ fn add_corner_below(
     requires apart { p.now.1 ≢ q.now.1 }
     ensures { Gives (λ _. composed.new.items) (λ q. q) result
         (at_part part
-        (behind composed.old.items (each (corner_by passes_Q p.now q.now) (filter (λ c. lt_ℚ c.0 bound) (corner.now ∷ []))))) }
+        (behind composed.old.items
+        (each (corner_by passes_Q p.now q.now) (filter (λ c. lt_ℚ c.0 bound) (corner.now ∷ []))))) }
 {
     if !corner.0.is_below(bound) {
         return Ok(());
@@ -63,7 +64,8 @@ fn add_corners_up(
     requires later { p.now.0 <ℚ q.now.0 }
     requires up { p.now.1 <ℚ q.now.1 }
     ensures { Gives (λ _. composed.new.items) (λ q. q) result
-        (at_part part (behind composed.old.items (each (corner_by passes_Q p.now q.now) (filter (λ c. lt_ℚ c.0 q.now.1) between.now)))) }
+        (at_part part (behind composed.old.items
+        (each (corner_by passes_Q p.now q.now) (filter (λ c. lt_ℚ c.0 q.now.1) between.now)))) }
 {
     for corner in between {
         add_corner_below(composed, corner, q.1, p, q, part)?;
@@ -84,7 +86,8 @@ fn add_corners_down(
     requires down { q.now.1 <ℚ p.now.1 }
     ensures { Gives (λ _. composed.new.items) (λ q. q) result
         (at_part part
-        (behind composed.old.items (each (corner_by passes_Q p.now q.now) (filter (λ c. lt_ℚ c.0 p.now.1) (reverse between.now))))) }
+        (behind composed.old.items (each (corner_by passes_Q p.now q.now)
+        (filter (λ c. lt_ℚ c.0 p.now.1) (reverse between.now))))) }
 {
     let mut left = between.len();
     while left > 0 {
@@ -109,7 +112,8 @@ fn add_corners(
     requires last { places.1 ≡ place_of q.now.1 outer.now }
     ensures { Gives (λ _. composed.new.items) (λ q. q) result
         (at_part part (behind composed.old.items
-        (each (corner_by passes_Q p.now q.now) (points_along (lt_ℚ p.now.1 q.now.1) p.now.1 q.now.1 outer.now)))) }
+        (each (corner_by passes_Q p.now q.now)
+        (points_along (lt_ℚ p.now.1 q.now.1) p.now.1 q.now.1 outer.now)))) }
 {
     let (first, last) = places;
     if p.1.is_below(q.1) {
@@ -165,7 +169,8 @@ fn composed_points(
     requires outer { IsCurve outer.now }
     requires inner { IsCurve inner.now }
     requires values { (i : ℕ) (p : ℚ × ℚ) → slice_get inner.now i ≡ Some p → 0ℚ ≤ℚ p.1 }
-    ensures { Gives (λ points. points.items) (λ q. q) result (at_part part (composed_all passes_Q outer.now inner.now)) }
+    ensures { Gives (λ points. points.items) (λ q. q) result
+        (at_part part (composed_all passes_Q outer.now inner.now)) }
 {
     let mut composed = Vec::with_capacity(alloc, inner.len() + 1)?;
     let mut place = OuterPlace {
@@ -201,7 +206,8 @@ pub(crate) fn composed_until(
     requires inner { IsCurve inner.now }
     requires last { 0ℚ ≤ℚ last }
     requires values { (time : ℚ) → Within 0ℚ last time → 0ℚ ≤ℚ value inner.now time }
-    ensures { Gives (λ points. points.items) (λ q. q) result (at_part part (checked_composed passes_Q outer.now inner.now last)) }
+    ensures { Gives (λ points. points.items) (λ q. q) result
+        (at_part part (checked_composed passes_Q outer.now inner.now last)) }
 {
     if ends_at(inner, last) {
         return composed_points(alloc, outer, inner, part);

@@ -78,7 +78,8 @@ impl Curve {
     /// Returns the identity for times from 0 to `last`, constant after it. `last` must be at least 0. Fails only if an allocation fails.
     pub fn identity(alloc: Global, last: Q) -> Result<Curve, AllocError>
         requires { 0ℚ ≤ℚ last }
-        ensures { IfOk result (λ c. c.points ≡ (if is_zero last then (0ℚ, 0ℚ) ∷ [] else (0ℚ, 0ℚ) ∷ (last, last) ∷ [])) }
+        ensures { IfOk result (λ c. c.points
+            ≡ (if is_zero last then (0ℚ, 0ℚ) ∷ [] else (0ℚ, 0ℚ) ∷ (last, last) ∷ [])) }
     {
         let mut line = Curve::start(alloc, Q::zero())?;
         if !last.is_zero() {
@@ -220,7 +221,8 @@ impl Curve {
         requires inner { (time : ℚ) → Within 0ℚ until time → 0ℚ ≤ℚ value_of inner.now.points time }
         ensures list { Gives (λ c. c.points) (λ q. q) result
             (at_part part (checked_composed passes_Q outer.now.points inner.now.points until)) }
-        ensures composed { IfOk result (λ c. IsComposedOf outer.now.points inner.now.points until c.points) }
+        ensures composed { IfOk result
+            (λ c. IsComposedOf outer.now.points inner.now.points until c.points) }
     {
         let points = composed_until(alloc, &outer.points, &inner.points, until, part)?;
         Ok(Curve { points })
@@ -251,7 +253,8 @@ impl Curve {
         requires { 0ℚ ≤ℚ until }
         ensures list { seen_at (option_map difference_of) (λ q. q) result ≡
             at_part part (checked_difference passes_Q left.now.points right.now.points until) }
-        ensures difference { IfOk result (λ d. IsDifference left.now.points right.now.points until (option_map difference_of d)) }
+        ensures difference { IfOk result (λ d.
+            IsDifference left.now.points right.now.points until (option_map difference_of d)) }
     {
         match difference_until(&left.points, &right.points, until, part)? {
             Some(sides) => Ok(Some(Difference::of(sides))),

@@ -38,7 +38,8 @@ pub(crate) fn cut_points(
 ) -> Result<Vec<Point>, Halt<Q>>
     requires curve { IsCurve points.now }
     requires last { 0ℚ ≤ℚ last }
-    ensures { Gives (λ cut. cut.items) (λ q. q) result (at_part part (checked_cut passes_Q points.now last)) }
+    ensures { Gives (λ cut. cut.items) (λ q. q) result
+        (at_part part (checked_cut passes_Q points.now last)) }
 {
     let value = value_at(points, place_up(points, 0, last), last, part)?;
     let mut cut = Vec::with_capacity(alloc, points.len() + 1)?;

@@ -50,7 +50,8 @@ fn turns_before(points: &[Point], place: usize, part: Part) -> Result<bool, Pass
     requires rise { TimesRise points.now }
     requires some { 2 ≤ place }
     requires within { place ≤ length points.now }
-    ensures { result ≡ at_part part (turn_between passes_Q (slice_get points.now (place - 2)) (slice_get points.now (place - 1))
+    ensures { result ≡ at_part part
+        (turn_between passes_Q (slice_get points.now (place - 2)) (slice_get points.now (place - 1))
         (slice_get points.now place)) }
 {
     let (p, q) = (&points[place - 2], &points[place - 1]);
@@ -80,7 +81,8 @@ fn is_corner(left: &[Point], right: &[Point], now: &Moment, part: Part) -> Resul
     requires left { IsCurve left.now }
     requires right { IsCurve right.now }
     requires there { IsMoment left.now right.now now.now }
-    ensures { result ≡ at_part part (turns_at passes_Q (is_same_by now.now.time 0ℚ) now.now.time left.now right.now) }
+    ensures { result ≡ at_part part
+        (turns_at passes_Q (is_same_by now.now.time 0ℚ) now.now.time left.now right.now) }
 {
     if now.time.is_same(Q::zero()) || does_turn(left, now.left, now.time, part)? {
         return Ok(true);
@@ -100,7 +102,8 @@ fn difference_at(
     requires right { IsCurve right.now }
     requires there { IsMoment left.now right.now now.now }
     requires kept { KeepBoth left.now right.now kept.old }
-    ensures found { seen_at (option_map sides_of) (λ q. q) result ≡ at_part part (difference_step passes_Q left.now right.now now.now.time) }
+    ensures found { seen_at (option_map sides_of) (λ q. q) result
+        ≡ at_part part (difference_step passes_Q left.now right.now now.now.time) }
     ensures kept { KeepBoth left.now right.now kept.new }
 {
     let sides = sides_with(left, right, now, kept, part)?;
@@ -131,7 +134,8 @@ pub(crate) fn difference_until(
     requires left { IsCurve left.now }
     requires right { IsCurve right.now }
     requires last { 0ℚ ≤ℚ last }
-    ensures { seen_at (option_map sides_of) (λ q. q) result ≡ at_part part (checked_difference passes_Q left.now right.now last) }
+    ensures { seen_at (option_map sides_of) (λ q. q) result
+        ≡ at_part part (checked_difference passes_Q left.now right.now last) }
 {
     let mut kept = KeptSlopes::none();
     let mut places = (0, 0);

@@ -33,7 +33,8 @@ fn least_point(sides: &Sides) -> Point
 fn crossing(before: &Sides, now: &Sides, part: Part) -> Result<Option<Point>, PassedAt<Q>>
     requires { before.now.time <ℚ now.now.time }
     ensures { seen_at option_to_list (λ q. q) result ≡ at_part part
-        (crossing_by passes_Q (is_crossed_by (sides_of before.now) (sides_of now.now)) (sides_of before.now) (sides_of now.now)) }
+        (crossing_by passes_Q (is_crossed_by (sides_of before.now) (sides_of now.now))
+        (sides_of before.now) (sides_of now.now)) }
 {
     if !is_crossed(before, now) {
         return Ok(None);
@@ -54,7 +55,8 @@ fn add_points(
 ) -> Result<(), Halt<Q>>
     requires { before.now.time <ℚ now.now.time }
     ensures { Gives (λ _. points.new.items) (λ q. q) result
-        (at_part part (lesser_step passes_Q points.old.items (sides_of before.now) (sides_of now.now))) }
+        (at_part part
+        (lesser_step passes_Q points.old.items (sides_of before.now) (sides_of now.now))) }
 {
     if let Some(point) = crossing(before, now, part)? {
         points.push(point)?;
@@ -72,7 +74,8 @@ pub(crate) fn least_points(
 ) -> Result<Vec<Point>, Halt<Q>>
     requires left { IsCurve left.now }
     requires right { IsCurve right.now }
-    ensures { Gives (λ points. points.items) (λ q. q) result (at_part part (checked_least passes_Q left.now right.now)) }
+    ensures { Gives (λ points. points.items) (λ q. q) result
+        (at_part part (checked_least passes_Q left.now right.now)) }
 {
     let mut kept = KeptSlopes::none();
     let first = first_moment(left, right);

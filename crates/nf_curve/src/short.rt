@@ -17,7 +17,8 @@ fn keep_if_turning(
     before: Q,
     after: Q,
 ) -> Result<(), AllocError>
-    ensures { OnOk result (short.new.items ≡ (if is_same_by before after then short.old.items else short.old.items ++ point.now ∷ [])) }
+    ensures { OnOk result (short.new.items ≡ (if is_same_by before after then short.old.items
+        else short.old.items ++ point.now ∷ [])) }
 {
     if !before.is_same(after) {
         short.push(*point)?;
@@ -32,7 +33,8 @@ pub(crate) fn short_points(
     part: Part,
 ) -> Result<Vec<Point>, Halt<Q>>
     requires { IsCurve points.now }
-    ensures { Gives (λ points. points.items) (λ q. q) result (at_part part (checked_short passes_Q points.now)) }
+    ensures { Gives (λ points. points.items) (λ q. q) result
+        (at_part part (checked_short passes_Q points.now)) }
 {
     let mut short = Vec::with_capacity(alloc, points.len())?;
     short.push(points[0])?;

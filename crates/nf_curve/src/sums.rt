@@ -41,7 +41,8 @@ pub(crate) fn sum_points(
 ) -> Result<Vec<Point>, Halt<Q>>
     requires left { IsCurve left.now }
     requires right { IsCurve right.now }
-    ensures { Gives (λ points. points.items) (λ q. q) result (at_part part (checked_sum passes_Q left.now right.now)) }
+    ensures { Gives (λ points. points.items) (λ q. q) result
+        (at_part part (checked_sum passes_Q left.now right.now)) }
 {
     let mut points = Vec::with_capacity(alloc, left.len() + right.len())?;
     let mut kept = KeptSlopes::none();

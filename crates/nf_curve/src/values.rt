@@ -31,7 +31,8 @@ fn slope_at(
     requires some { 0 < place }
     requires within { place < length points.now }
     requires kept { Keeps points.now kept.old }
-    ensures slope { (p q : SeenPoint) → slice_get points.now (place - 1) ≡ Some p → slice_get points.now place ≡ Some q
+    ensures slope { (p q : SeenPoint) → slice_get points.now (place - 1) ≡ Some p
+        → slice_get points.now place ≡ Some q
         → result ≡ at_part part (checked_slope passes_Q p q) }
     ensures kept { Keeps points.now kept.new }
 {

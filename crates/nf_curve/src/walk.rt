@@ -53,7 +53,8 @@ pub fn first_moment(left: &[Point], right: &[Point]) -> Moment
     requires left { IsCurve left.now }
     requires right { IsCurve right.now }
     ensures there { IsMoment left.now right.now result }
-    ensures times { both_times left.now right.now ≡ result.time ∷ times_after result.time left.now right.now }
+    ensures times { both_times left.now right.now
+        ≡ result.time ∷ times_after result.time left.now right.now }
     ensures time { result.time ≡ 0ℚ }
 {
     let time = Q::zero();
@@ -71,7 +72,8 @@ pub fn next_moment(left: &[Point], right: &[Point], now: &Moment) -> Option<Mome
     requires right { IsCurve right.now }
     requires there { IsMoment left.now right.now now.now }
     ensures there { IsThere left.now right.now result }
-    ensures times { times_after now.now.time left.now right.now ≡ times_left left.now right.now result }
+    ensures times { times_after now.now.time left.now right.now
+        ≡ times_left left.now right.now result }
     ensures later { IfSome result (λ next. now.now.time <ℚ next.time) }
 {
     let Some(time) = earlier(time_at(left, now.left), time_at(right, now.right)) else {
@@ -115,7 +117,8 @@ pub(crate) fn sides_with(
     requires right { IsCurve right.now }
     requires there { IsMoment left.now right.now now.now }
     requires kept { KeepBoth left.now right.now kept.old }
-    ensures list { seen_at sides_of (λ q. q) result ≡ at_part part (sides_by passes_Q left.now right.now now.now.time) }
+    ensures list { seen_at sides_of (λ q. q) result
+        ≡ at_part part (sides_by passes_Q left.now right.now now.now.time) }
     ensures time { IfOk result (λ sides. sides.time ≡ now.now.time) }
     ensures kept { KeepBoth left.now right.now kept.new }
 {
@@ -139,7 +142,8 @@ pub fn sides_at(
     requires left { IsCurve left.now }
     requires right { IsCurve right.now }
     requires there { IsMoment left.now right.now now.now }
-    ensures list { seen_at sides_of (λ q. q) result ≡ at_part part (sides_by passes_Q left.now right.now now.now.time) }
+    ensures list { seen_at sides_of (λ q. q) result
+        ≡ at_part part (sides_by passes_Q left.now right.now now.now.time) }
     ensures time { IfOk result (λ sides. sides.time ≡ now.now.time) }
 {
     sides_with(left, right, now, &mut KeptSlopes::none(), part)

@@ -72,11 +72,13 @@ pub trait Shelf {
     /// an allocation fails.
     fn fetch(&mut self, alloc: Global, name: &str, limit: u32) -> Result<Vec<u8>, FetchFault>
         ensures taken { IfOk result (λ bytes. taken self.new ≡ length bytes.items) }
-        ensures told { IfOk result (λ bytes. IfSome (told self.old name.now) (λ held. bytes.items ≡ held)) }
+        ensures told { IfOk result
+            (λ bytes. IfSome (told self.old name.now) (λ held. bytes.items ≡ held)) }
         ensures same { (other : List ℕ) → told self.new other ≡ told self.old other }
 
         // A failure of the operating system raises the count of faults.
-        ensures failed { IsErrOf result FetchFault.Failed → Rose (faults self.old) (faults self.new) }
+        ensures failed { IsErrOf result FetchFault.Failed
+            → Rose (faults self.old) (faults self.new) }
         ensures never_falls { faults self.old ≤ faults self.new }
 
         // `TooLong` implies that more than `limit` bytes were read; then the result is `TooLong` or `Memory`.
@@ -89,7 +91,8 @@ pub trait Shelf {
         ensures told_too_long { IsErrOf result FetchFault.TooLong → IfSome (told self.old name.now)
             (λ held. Rose (faults self.old) (faults self.new) ⊎ (limit < length held)) }
         ensures told_long { IfSome (told self.old name.now) (λ held. limit < length held →
-            Rose (faults self.old) (faults self.new) ⊎ IsErrOf result FetchFault.TooLong ⊎ IsErrOf result FetchFault.Memory) }
+            Rose (faults self.old) (faults self.new) ⊎ IsErrOf result FetchFault.TooLong
+            ⊎ IsErrOf result FetchFault.Memory) }
 
         // The name is noted, unless an allocation failed.
         ensures asked { (asked self.new ≡ asked self.old ++ name.now ∷ [])
@@ -112,7 +115,8 @@ pub trait Sink {
         requires { 0 < length piece.now }
         ensures some { IfOk result (λ count. 0 < count) }
         ensures within { IfOk result (λ count. count ≤ length piece.now) }
-        ensures took { IfOk result (λ count. took self.new ≡ with_more (took self.old) (take count piece.now)) }
+        ensures took { IfOk result
+            (λ count. took self.new ≡ with_more (took self.old) (take count piece.now)) }
 
         // A write that takes bytes raises no fault.
         ensures no_fault { OnOk result (faults self.new ≡ faults self.old) }

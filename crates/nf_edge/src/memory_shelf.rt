@@ -71,7 +71,8 @@ fn find<'a>(
     name: &str,
     limit: u32,
 ) -> Result<&'a [u8], FetchFault>
-    ensures { MatchResult result (λ bytes. found files.now failing.now call name.now limit ≡ Ok bytes.now)
+    ensures { MatchResult result
+        (λ bytes. found files.now failing.now call name.now limit ≡ Ok bytes.now)
         (λ fault. found files.now failing.now call name.now limit ≡ Err fault) }
 {
     if failing.contains(&call) {
@@ -87,7 +88,8 @@ fn find<'a>(
 impl MemShelf {
     /// Returns a shelf without files, of which no fetch is set to fail.
     pub fn new(alloc: Global) -> MemShelf
-        ensures { result ≡ record { files = []; failing = []; calls = 0; asked = []; taken = 0; faults = 0 } }
+        ensures { result
+            ≡ record { files = []; failing = []; calls = 0; asked = []; taken = 0; faults = 0 } }
     {
         MemShelf {
             files: Vec::new(alloc),
@@ -101,7 +103,8 @@ impl MemShelf {
 
     /// Puts these bytes under the name, in place of those put there before. The shelf is unchanged if allocation fails.
     pub fn put(&mut self, alloc: Global, name: &str, bytes: &[u8]) -> Result<(), AllocError>
-        ensures ok { OnOk result (self.new ≡ record self.old { files = (name.now, bytes.now) ∷ self.old.files }) }
+        ensures ok { OnOk result
+            (self.new ≡ record self.old { files = (name.now, bytes.now) ∷ self.old.files }) }
         ensures err { OnErr result (self.new ≡ self.old) }
     {
         let file = File {
@@ -114,7 +117,8 @@ impl MemShelf {
 
     /// Sets the fetch of this number, counted from 1, to fail. The shelf is unchanged if allocation fails.
     pub fn fail(&mut self, call: u32) -> Result<(), AllocError>
-        ensures ok { OnOk result (self.new ≡ record self.old { failing = self.old.failing ++ call ∷ [] }) }
+        ensures ok { OnOk result
+            (self.new ≡ record self.old { failing = self.old.failing ++ call ∷ [] }) }
         ensures err { OnErr result (self.new ≡ self.old) }
     {
         self.failing.push(u64::from(call))?;
@@ -141,7 +145,8 @@ impl Shelf for MemShelf {
         ensures too_long { IsErrOf result FetchFault.TooLong → self.new.taken ≡ limit + 1 }
         ensures long { limit < self.new.taken → IsErrOf result FetchFault.TooLong }
 
-        ensures failed { IsErrOf result FetchFault.Failed → self.new.faults ≡ one_more self.old.faults }
+        ensures failed { IsErrOf result FetchFault.Failed
+            → self.new.faults ≡ one_more self.old.faults }
         ensures other { ¬ (IsErrOf result FetchFault.Failed) → self.new.faults ≡ self.old.faults }
         ensures never_falls { self.old.faults ≤ self.new.faults }
 

@@ -64,7 +64,8 @@ impl MemSink {
 
     /// Sets the write of this number, counted from 1, to fail. The sink is unchanged if allocation fails.
     pub fn fail(&mut self, call: u32) -> Result<(), AllocError>
-        ensures ok { OnOk result (self.new ≡ record self.old { failing = self.old.failing ++ call ∷ [] }) }
+        ensures ok { OnOk result
+            (self.new ≡ record self.old { failing = self.old.failing ++ call ∷ [] }) }
         ensures err { OnErr result (self.new ≡ self.old) }
     {
         self.failing.push(u64::from(call))?;
@@ -91,7 +92,8 @@ impl Sink for MemSink {
         ensures ok { IfOk result (λ count. self.new ≡ after_write self.old (take count piece.now)) }
         ensures fault { OnErr result (next_count self.old piece.now ≡ 0) }
         ensures err { OnErr result (self.new ≡
-            record self.old { calls = one_more self.old.calls; faults = one_more self.old.faults }) }
+            record self.old
+            { calls = one_more self.old.calls; faults = one_more self.old.faults }) }
         ensures never_falls { self.old.faults ≤ self.new.faults }
     {
         self.calls = self.calls.saturating_add(1);

@@ -24,7 +24,8 @@ fn read_file<F: Read>(file: &mut F, bytes: &mut Vec<u8>, limit: u32) -> Result<(
     ensures long { limit < length bytes.new.items → IsErrOf result FetchFault.TooLong }
 
     // If the file's bytes are known to proofs, all of them are read.
-    ensures read { OnOk result (Consumes (F.remaining file.old) (F.remaining file.new) bytes.new.items) }
+    ensures read { OnOk result
+        (Consumes (F.remaining file.old) (F.remaining file.new) bytes.new.items) }
     ensures all { OnOk result (IsAtEnd (F.remaining file.new)) }
 {
     let most = limit as usize + 1;
@@ -115,11 +116,13 @@ impl<'r, R: Files> Shelf for RealShelf<'r, R> {
         ensures too_long { IsErrOf result FetchFault.TooLong → limit < self.new.taken }
         ensures long { limit < self.new.taken → IsErrOf result FetchFault.TooLong }
 
-        ensures failed { IsErrOf result FetchFault.Failed → self.new.faults ≡ one_more self.old.faults }
+        ensures failed { IsErrOf result FetchFault.Failed
+            → self.new.faults ≡ one_more self.old.faults }
         ensures never_falls { self.old.faults ≤ self.new.faults }
 
         ensures asked { (texts self.new.asked.items ≡ texts self.old.asked.items ++ name.now ∷ [])
-            ⊎ (IsErrOf result FetchFault.Memory × (texts self.new.asked.items ≡ texts self.old.asked.items)) }
+            ⊎ (IsErrOf result FetchFault.Memory
+            × (texts self.new.asked.items ≡ texts self.old.asked.items)) }
     {
         self.taken = 0;
         note(&mut self.asked, alloc, name)?;

@@ -41,7 +41,8 @@ fn stopped_by(phase: u64, fault: StepFault) -> Result<End, AllocError>
 // Extends the run until it ends, by phases of greatest length. The budget of phases ends the run even if the next phase would never end.
 fn go(run: &mut Run, alloc: Global, net: &Network, budgets: Budgets) -> Result<End, AllocError>
     requires { IsStart net.now.net run.old }
-    ensures { IfOk result (λ end. IsForeverRun passes_Q net.now.net budgets.phases budgets.patterns run.new (end_in end)) }
+    ensures { IfOk result (λ end.
+        IsForeverRun passes_Q net.now.net budgets.phases budgets.patterns run.new (end_in end)) }
 {
     for _ in 0..budgets.phases {
         match run.step_to_end(alloc, net, budgets.patterns) {
@@ -70,7 +71,8 @@ fn stopped(alloc: Global, run: &Run, stop: Stop) -> Result<Forever, AllocError>
 
 // Returns the result of a run whose next phase never ends.
 fn endless(alloc: Global, run: &Run, thin: ThinFlow) -> Result<Forever, AllocError>
-    ensures { IfOk result (λ f. forever_in f ≡ forever_of run.now (NeverEnds thin.pattern (tail_of thin))) }
+    ensures { IfOk result
+        (λ f. forever_in f ≡ forever_of run.now (NeverEnds thin.pattern (tail_of thin))) }
 {
     let flow = run.flow(alloc)?;
     let phases = run.phases();
@@ -110,12 +112,15 @@ fn outcome(alloc: Global, run: &Run, end: End) -> Result<Forever, AllocError>
 /// A phase fails only if an operation exceeds its bound, or if more patterns than allowed are needed: each phase has a thin flow, by the
 /// theorem `no_run_stops_for_no_pattern` of `nf_phase_run_laws`. Returns `AllocError` only if an allocation fails.
 pub fn solve_forever(alloc: Global, net: &Network, budgets: Budgets) -> Result<Forever, AllocError>
-    ensures run { IfOk result (λ f. IsForever passes_Q net.now.net budgets.phases budgets.patterns (forever_in f)) }
+    ensures run { IfOk result
+        (λ f. IsForever passes_Q net.now.net budgets.phases budgets.patterns (forever_in f)) }
     ensures form { IfOk result (λ f. HasForm net.now.net (forever_in f)) }
     ensures equilibrium { IfOk result (λ f. Equilibrium net.now.net (flow_of f.flow)) }
     ensures tail { IfOk result (λ f. IfSome f.tail
-        (λ tail. (until : ℚ) → 0ℚ ≤ℚ until → Equilibrium net.now.net (flow_until net.now.net (flow_of f.flow) (tail_in tail) until))) }
-    ensures grows { IfOk result (λ f. IfSome f.tail (λ tail. TailGrows net.now.net (flow_of f.flow) (tail_in tail))) }
+        (λ tail. (until : ℚ) → 0ℚ ≤ℚ until
+        → Equilibrium net.now.net (flow_until net.now.net (flow_of f.flow) (tail_in tail) until))) }
+    ensures grows { IfOk result
+        (λ f. IfSome f.tail (λ tail. TailGrows net.now.net (flow_of f.flow) (tail_in tail))) }
     ensures stop { IfOk result (λ f. IsSome f.tail ↔ (f.stopped ≡ None)) }
 {
     // Proof: the network is that of an accepted file.

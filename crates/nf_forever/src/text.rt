@@ -38,7 +38,8 @@ fn put_tail_of<O: Sink>(
     forever: &Forever,
 ) -> Result<(), SinkFault>
     requires { IfSome (forever_in forever.now).tail
-        (λ tail. (length tail.slopes ≡ net.now.net.nodes) × (length tail.flows ≡ length net.now.net.links)) }
+        (λ tail. (length tail.slopes ≡ net.now.net.nodes)
+        × (length tail.flows ≡ length net.now.net.links)) }
     ensures { GatheredLines (state_of O.Sink out.old) (state_of O.Sink out.new) page.old page.new
         (tail_lines net.now (forever_in forever.now).tail) result }
 {
@@ -92,7 +93,8 @@ pub fn write_forever<O: Sink>(
     out: &mut O,
 ) -> Result<(), SinkFault>
     requires { HasForm net.now.net (forever_in forever.now) }
-    ensures { Wrote (state_of O.Sink out.old) (state_of O.Sink out.new) (forever_text net.now (forever_in forever.now)) result }
+    ensures { Wrote (state_of O.Sink out.old) (state_of O.Sink out.new)
+        (forever_text net.now (forever_in forever.now)) result }
 {
     let mut page = Page::new();
     put_forever(out, &mut page, net, forever)?;

@@ -80,7 +80,8 @@ impl Lowest {
     pub(crate) fn reduced(negative: bool, magnitude: u128, den: u128, limit: u128) -> Option<Lowest>
         requires positive { 0 < den }
         requires narrow { limit ≤ greatest }
-        ensures { SomeIff result (IsWithin limit (ratio (signed negative magnitude) den)) (ratio (signed negative magnitude) den) }
+        ensures { SomeIff result (IsWithin limit (ratio (signed negative magnitude) den))
+            (ratio (signed negative magnitude) den) }
     {
         let common = gcd_of(magnitude, den);
         let above = divided(magnitude, common);
@@ -115,7 +116,8 @@ impl Lowest {
     fn scaled(self, factor: u128, limit: u128) -> Option<i128>
         requires bounded { factor ≤ greatest }
         requires narrow { limit ≤ greatest }
-        ensures { SomeIff result (nat_abs (self.num *ℤ pos factor) ≤ limit) (self.num *ℤ pos factor) }
+        ensures { SomeIff result (nat_abs (self.num *ℤ pos factor) ≤ limit)
+            (self.num *ℤ pos factor) }
     {
         multiplied(self.num, factor as i128, limit)
     }

@@ -29,7 +29,8 @@ impl Small {
     // Returns the numerator times a factor. Returns None exactly if the product exceeds 2^63 - 1 in magnitude.
     fn scaled(self, factor: u64) -> Option<i64>
         requires { factor ≤ short }
-        ensures { SomeIff result (nat_abs (self.num *ℤ pos factor) ≤ short) (self.num *ℤ pos factor) }
+        ensures { SomeIff result (nat_abs (self.num *ℤ pos factor) ≤ short)
+            (self.num *ℤ pos factor) }
     {
         multiplied_short(self.numer(), factor as i64)
     }

@@ -154,7 +154,8 @@ fn check_fields(left: &[u8], right: &[u8]) -> Result<(), NumberFault>
     ensures some_right { OnOk result (0 < length right.now) }
     ensures left { OnOk result (IsTrue (are_digits left.now)) }
     ensures right { OnOk result (IsTrue (are_digits right.now)) }
-    ensures fault { IfErr result (λ fault. (bound : ℕ) (n : ℤ) (d : ℕ) → parts_or_fault bound left.now right.now n d ≡ Err fault) }
+    ensures fault { IfErr result (λ fault. (bound : ℕ) (n : ℤ) (d : ℕ)
+        → parts_or_fault bound left.now right.now n d ≡ Err fault) }
 {
     if left.is_empty() || right.is_empty() {
         return Err(NumberFault::Empty);
@@ -179,7 +180,8 @@ fn signed(field: &[u8], magnitude: u128) -> i128
 fn fraction(left: &[u8], right: &[u8], bound: u128) -> Result<(i128, u128), NumberFault>
     requires { bound < 2 ^ 127 }
     ensures { let digits = unsigned left.now in
-        result ≡ parts_or_fault bound digits right.now (signed_by left.now (value_of digits)) (value_of right.now) }
+        result ≡ parts_or_fault bound digits right.now (signed_by left.now (value_of digits))
+        (value_of right.now) }
 {
     let digits = without_minus(left);
     check_fields(digits, right)?;
@@ -213,7 +215,8 @@ fn decimal(left: &[u8], right: &[u8], bound: u128) -> Result<(i128, u128), Numbe
     requires { bound < 2 ^ 127 }
     ensures { let digits = unsigned left.now in
         let scale = 10 ^ length right.now in
-        result ≡ parts_or_fault bound digits right.now (signed_by left.now (value_of digits * scale + value_of right.now)) scale }
+        result ≡ parts_or_fault bound digits right.now
+        (signed_by left.now (value_of digits * scale + value_of right.now)) scale }
 {
     let digits = without_minus(left);
     check_fields(digits, right)?;

@@ -14,7 +14,8 @@ use std::alloc::{AllocError, Global};
 
 // Appends the lines of the three pieces. The next two draws give the rates.
 fn push_pieces(out: &mut Vec<u8>, draws: &mut Draws) -> Result<(), AllocError>
-    ensures { OnOk result (out.new.items ≡ out.old.items ++ flat_map line_of_words (map inflow_words (pieces_after draws.old))) }
+    ensures { OnOk result (out.new.items
+        ≡ out.old.items ++ flat_map line_of_words (map inflow_words (pieces_after draws.old))) }
 {
     let first = 1 + draws.draw(6);
     let second = 1 + draws.draw(6);

@@ -27,7 +27,8 @@ pub fn push_link_line(
     capacity: u64,
 ) -> Result<(), AllocError>
     ensures { OnOk result (out.new.items ≡ out.old.items
-        ++ line_of_words (codes "link" ∷ name.now ∷ tail.now ∷ head.now ∷ digits_of transit ∷ digits_of capacity ∷ [])) }
+        ++ line_of_words (codes "link" ∷ name.now ∷ tail.now ∷ head.now ∷ digits_of transit
+        ∷ digits_of capacity ∷ [])) }
 {
     push_bytes(out, b"link")?;
     push_word(out, name)?;
@@ -41,7 +42,8 @@ pub fn push_link_line(
 
 /// Appends the line of an inflow piece. Fails only if an allocation fails.
 pub fn push_piece_line(out: &mut Vec<u8>, start: u64, rate: u64) -> Result<(), AllocError>
-    ensures { OnOk result (out.new.items ≡ out.old.items ++ line_of_words (codes "inflow" ∷ digits_of start ∷ digits_of rate ∷ [])) }
+    ensures { OnOk result (out.new.items
+        ≡ out.old.items ++ line_of_words (codes "inflow" ∷ digits_of start ∷ digits_of rate ∷ [])) }
 {
     let mut time = TextBuf::new();
     write_count(start, &mut time);

@@ -29,7 +29,8 @@ fn push_link(
     tail: &[u8],
     head: &[u8],
 ) -> Result<(), AllocError>
-    ensures { OnOk result (WritesLinks (link_from name.now tail.now head.now ∷ []) out.old.items out.new.items draws.old draws.new) }
+    ensures { OnOk result (WritesLinks (link_from name.now tail.now head.now ∷ []) out.old.items
+        out.new.items draws.old draws.new) }
 {
     let transit = 1 + draws.draw(5);
     let capacity = 1 + draws.draw(4);
@@ -58,7 +59,8 @@ fn push_rail(
 ) -> Result<(), AllocError>
     requires { index ≤ most_rungs }
     ensures { OnOk result (WritesLinks
-        (link_from (letter ∷ digits_of index) (letter ∷ digits_of index) (letter ∷ digits_of (index + 1)) ∷ [])
+        (link_from (letter ∷ digits_of index) (letter ∷ digits_of index)
+        (letter ∷ digits_of (index + 1)) ∷ [])
         out.old.items out.new.items draws.old draws.new) }
 {
     let here = numbered(alloc, letter, index)?;
@@ -76,7 +78,8 @@ fn push_rails(
 ) -> Result<(), AllocError>
     requires some { 1 ≤ rungs }
     requires few { rungs ≤ most_rungs }
-    ensures { OnOk result (WritesLinks (links_along rungs) out.old.items out.new.items draws.old draws.new) }
+    ensures { OnOk result
+        (WritesLinks (links_along rungs) out.old.items out.new.items draws.old draws.new) }
 {
     for index in 1..rungs {
         push_rail(alloc, out, draws, b'u', index)?;
@@ -92,7 +95,8 @@ fn push_rung(
     draws: &mut Draws,
     index: u64,
 ) -> Result<(), AllocError>
-    ensures { OnOk result (WritesLinks (rung_at index ∷ []) out.old.items out.new.items draws.old draws.new) }
+    ensures { OnOk result
+        (WritesLinks (rung_at index ∷ []) out.old.items out.new.items draws.old draws.new) }
 {
     let name = numbered(alloc, b'r', index)?;
     let above = numbered(alloc, b'u', index)?;
@@ -109,7 +113,8 @@ fn push_rungs(
     rungs: u64,
 ) -> Result<(), AllocError>
     requires { rungs ≤ most_rungs }
-    ensures { OnOk result (WritesLinks (links_down rungs) out.old.items out.new.items draws.old draws.new) }
+    ensures { OnOk result
+        (WritesLinks (links_down rungs) out.old.items out.new.items draws.old draws.new) }
 {
     for index in 1..rungs + 1 {
         push_rung(alloc, out, draws, index)?;
@@ -124,7 +129,8 @@ fn push_last(
     draws: &mut Draws,
     rungs: u64,
 ) -> Result<(), AllocError>
-    ensures { OnOk result (WritesLinks (links_out rungs) out.old.items out.new.items draws.old draws.new) }
+    ensures { OnOk result
+        (WritesLinks (links_out rungs) out.old.items out.new.items draws.old draws.new) }
 {
     let above = numbered(alloc, b'u', rungs)?;
     let below = numbered(alloc, b'l', rungs)?;
@@ -142,7 +148,8 @@ pub fn push_links(
 ) -> Result<(), AllocError>
     requires some { 1 ≤ rungs }
     requires few { rungs ≤ most_rungs }
-    ensures { OnOk result (WritesLinks (ladder_ends rungs) out.old.items out.new.items draws.old draws.new) }
+    ensures { OnOk result
+        (WritesLinks (ladder_ends rungs) out.old.items out.new.items draws.old draws.new) }
 {
     push_first(alloc, out, draws)?;
     push_rails(alloc, out, draws, rungs)?;

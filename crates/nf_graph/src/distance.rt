@@ -175,7 +175,8 @@ pub fn distances(
     requires from { from < nodes }
     requires transits { NoneNegative hops.now }
     ensures sums { IfOk result (λ sums. AreDistances nodes hops.now from sums.items) }
-    ensures fits { OnOk result ((link : ℕ) (left right : ℚ) → PassesAt hops.now from link left right → ⊥) }
+    ensures fits { OnOk result
+        ((link : ℕ) (left right : ℚ) → PassesAt hops.now from link left right → ⊥) }
     ensures passed { IfErr result (ForPassed (PassesAt hops.now from)) }
 {
     let mut sums = vec![in alloc; None; nodes as usize]?;

@@ -235,8 +235,10 @@ pub fn topological(
     requires ends { AreBelow nodes hops.now }
     requires count { length chosen.now ≡ length hops.now }
     requires fewer { length hops.now < 2 ^ 32 }
-    ensures order { IfOk result (λ found. IfSome found (λ order. IsOrder nodes hops.now chosen.now order.items)) }
-    ensures none { IfOk result (λ found. IsNone found ↔ ((cycle : List ℕ) × IsChosenCycle hops.now chosen.now cycle)) }
+    ensures order { IfOk result
+        (λ found. IfSome found (λ order. IsOrder nodes hops.now chosen.now order.items)) }
+    ensures none { IfOk result
+        (λ found. IsNone found ↔ ((cycle : List ℕ) × IsChosenCycle hops.now chosen.now cycle)) }
 {
     match order_or_cycle(alloc, nodes, hops, chosen)? {
         OrderOrCycle::Order(order) => Ok(Some(order)),
@@ -262,8 +264,10 @@ pub fn zero_cycle(
 ) -> Result<Option<Vec<LinkId>>, AllocError>
     requires ends { AreBelow nodes hops.now }
     requires fewer { length hops.now < 2 ^ 32 }
-    ensures cycle { IfOk result (λ found. IfSome found (λ cycle. IsZeroCycle hops.now cycle.items)) }
-    ensures none { IfOk result (λ found. IsNone found ↔ ((cycle : List ℕ) → IsZeroCycle hops.now cycle → ⊥)) }
+    ensures cycle { IfOk result
+        (λ found. IfSome found (λ cycle. IsZeroCycle hops.now cycle.items)) }
+    ensures none { IfOk result
+        (λ found. IsNone found ↔ ((cycle : List ℕ) → IsZeroCycle hops.now cycle → ⊥)) }
 {
     let chosen = zero_links(alloc, hops)?;
     match order_or_cycle(alloc, nodes, hops, &chosen)? {

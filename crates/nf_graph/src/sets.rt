@@ -22,7 +22,8 @@ impl Model for LinkSets {
 
     ghost view = { λ s. record { active = s.active.items; resetting = s.resetting.items } };
 
-    ghost invariant = { λ s. AreSets (record { active = s.active.items; resetting = s.resetting.items }) };
+    ghost invariant = { λ s.
+        AreSets (record { active = s.active.items; resetting = s.resetting.items }) };
 }
 
 impl LinkSets {
@@ -33,7 +34,8 @@ impl LinkSets {
     /// allocation fails.
     pub fn new(alloc: Global, active: &[bool], resetting: &[bool]) -> Result<LinkSets, AllocError>
         requires { AreSets (record { active = active.now; resetting = resetting.now }) }
-        ensures { IfOk result (λ sets. sets ≡ record { active = active.now; resetting = resetting.now }) }
+        ensures { IfOk result
+            (λ sets. sets ≡ record { active = active.now; resetting = resetting.now }) }
     {
         let active = active.to_vec(alloc)?;
         let resetting = resetting.to_vec(alloc)?;

@@ -30,7 +30,8 @@ fn is_candidate<C: Cells>(row: &Row<C>, is_taken: bool, column: usize) -> bool
 fn pivot_of<C: Cells>(rows: &[Row<C>], taken: &[bool], column: usize) -> Option<usize>
     requires column { (i : ℕ) → i < length rows.now → column < length (row_at rows.now i) }
     requires taken { length rows.now ≤ length taken.now }
-    ensures { (pivots : List ℕ) → AreTaken taken.now pivots → result ≡ Lists.pivot_of rows.now pivots column }
+    ensures { (pivots : List ℕ) → AreTaken taken.now pivots
+        → result ≡ Lists.pivot_of rows.now pivots column }
 {
     for i in 0..rows.len() {
         if is_candidate(&rows[i], taken[i], column) {
@@ -50,9 +51,11 @@ fn clear_one<C: Cells>(
 ) -> Result<(), PassedAt<C::Number>>
     requires column { column < length row.old }
     requires own { C.Number.means own ≢ 0ℚ }
-    requires later { AllByRecursion (λ other. other.0 < length row.old) (meant C.Number.means later.now) }
+    requires later { AllByRecursion (λ other. other.0 < length row.old)
+        (meant C.Number.means later.now) }
     ensures { seen_at (λ _. row.new) C.Number.means result ≡ at_part Part.Table
-        (clear_unless C.Number.passes (is_pivot || Signs.is_zero (number_at row.old column)) column (C.Number.means own)
+        (clear_unless C.Number.passes (is_pivot || Signs.is_zero (number_at row.old column)) column
+        (C.Number.means own)
         (meant C.Number.means later.now) row.old) }
 {
     if is_pivot || row.is_zero_at(column) {
@@ -72,9 +75,11 @@ fn clear_rows<C: Cells>(
     requires own { C.Number.means own ≢ 0ℚ }
     requires column { (i : ℕ) → i < length rows.old → column < length (row_at rows.old i) }
     requires later { (i : ℕ) → i < length rows.old
-        → AllByRecursion (λ other. other.0 < length (row_at rows.old i)) (meant C.Number.means later.now) }
+        → AllByRecursion (λ other. other.0 < length (row_at rows.old i))
+        (meant C.Number.means later.now) }
     ensures { seen_at (λ _. rows.new) C.Number.means result ≡ at_part Part.Table
-        (clear_each C.Number.passes column pivot (C.Number.means own) (meant C.Number.means later.now) 0 rows.old) }
+        (clear_each C.Number.passes column pivot (C.Number.means own)
+        (meant C.Number.means later.now) 0 rows.old) }
 {
     for i in 0..rows.len() {
         clear_one(&mut rows[i], i == pivot, column, own, later)?;
@@ -95,7 +100,8 @@ fn eliminate<C: Cells>(
     requires some { number_at (row_at rows.old pivot) column ≢ 0ℚ }
     requires entries { length rows.old ≤ length entries.old }
     ensures { seen_at (λ _. rows.new) C.Number.means result
-        ≡ at_part Part.Table (Lists.clear_rows C.Number.passes column pivot (row_at rows.old pivot) 0 rows.old) }
+        ≡ at_part Part.Table
+        (Lists.clear_rows C.Number.passes column pivot (row_at rows.old pivot) 0 rows.old) }
 {
     let right = rows.len();
     let own = rows[pivot].at(column);
@@ -117,9 +123,12 @@ fn clear_column<C: Cells>(
     requires flags { length rows.old ≤ length taken.old }
     requires count { length rows.old ≤ length pivots.old }
     requires taken { AreTaken taken.old (take column pivots.old) }
-    ensures list { seen_at (λ found. if found then Some (eliminated rows.new (take (column + 1) pivots.new)) else None) C.Number.means result
-        ≡ at_part Part.Table (Lists.eliminate_column C.Number.passes (eliminated rows.old (take column pivots.old)) column) }
-    ensures taken { IfOk result (λ found. found ≡ true → AreTaken taken.new (take (column + 1) pivots.new)) }
+    ensures list { seen_at (λ found. if found then Some
+        (eliminated rows.new (take (column + 1) pivots.new)) else None) C.Number.means result
+        ≡ at_part Part.Table (Lists.eliminate_column C.Number.passes
+        (eliminated rows.old (take column pivots.old)) column) }
+    ensures taken { IfOk result
+        (λ found. found ≡ true → AreTaken taken.new (take (column + 1) pivots.new)) }
 {
     let Some(pivot) = pivot_of(rows, taken, column) else {
         return Ok(false);
@@ -143,8 +152,10 @@ pub fn clear_columns<C: Cells>(
     requires flags { length rows.old ≤ length taken.old }
     requires count { length pivots.old ≡ length rows.old }
     requires taken { AreTaken taken.old [] }
-    ensures list { seen_at (λ found. if found then Some (eliminated rows.new pivots.new) else None) C.Number.means result
-        ≡ at_part Part.Table (Lists.eliminate_from C.Number.passes (length rows.old) 0 (eliminated rows.old [])) }
+    ensures list { seen_at (λ found. if found then Some (eliminated rows.new pivots.new) else None)
+        C.Number.means result
+        ≡ at_part Part.Table
+        (Lists.eliminate_from C.Number.passes (length rows.old) 0 (eliminated rows.old [])) }
     ensures pivots { IfOk result (λ found. found ≡ true → HasPivots rows.new pivots.new) }
 {
     for column in 0..rows.len() {

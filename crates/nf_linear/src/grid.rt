@@ -94,7 +94,8 @@ fn solve_in_place<const N: usize>(
     requires room { length rows.old ≤ N }
     requires few { N ≤ 32 }
     requires values { length values.old ≡ length rows.old }
-    ensures list { seen_at (λ found. values_if found values.new) (λ q. q) result ≡ at_part Part.Table (table_list passes_Q rows.old) }
+    ensures list { seen_at (λ found. values_if found values.new) (λ q. q) result
+        ≡ at_part Part.Table (table_list passes_Q rows.old) }
     ensures solution { IfOk result (λ found. IsTrueWith rows.old found values.new) }
     ensures not_one { IfOk result (λ found. found ≡ Eliminated.NotOne → values.new ≡ values.old) }
     ensures passed { IfErr result (λ _. values.new ≡ values.old) }
@@ -124,7 +125,8 @@ pub fn solve_grid<const N: usize>(
     values: &mut [Q],
 ) -> Result<Eliminated, PassedAt<Q>>
     requires { length values.old ≡ length grid.old }
-    ensures list { seen_at (λ found. values_if found values.new) (λ q. q) result ≡ at_part Part.Table (table_list passes_Q grid.old) }
+    ensures list { seen_at (λ found. values_if found values.new) (λ q. q) result
+        ≡ at_part Part.Table (table_list passes_Q grid.old) }
     ensures solution { IfOk result (λ found. IsTrueWith grid.old found values.new) }
     ensures not_one { IfOk result (λ found. found ≡ Eliminated.NotOne → values.new ≡ values.old) }
     ensures passed { IfErr result (λ _. values.new ≡ values.old) }

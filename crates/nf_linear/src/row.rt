@@ -56,7 +56,8 @@ impl<C: Cells> Model for Row<C> {
 // A value less a factor times another.
 fn less<S: Scalar>(value: S, factor: S, other: S) -> Result<S, PassedAt<S>>
     ensures { seen_at S.means S.means result
-        ≡ at_part Part.Table (less_unless S.passes false (S.means factor) (S.means other) (S.means value)) }
+        ≡ at_part Part.Table
+        (less_unless S.passes false (S.means factor) (S.means other) (S.means value)) }
 {
     let product = nf_frac::at!(Part::Table, factor.product(other));
     let less = nf_frac::at!(Part::Table, value.difference(product));
@@ -97,8 +98,10 @@ impl<C: Cells> Row<C> {
     fn push_some(&self, entries: &mut [(usize, C::Number)], count: usize, column: usize) -> usize
         requires column { column < length self.now }
         requires room { count < length entries.old }
-        ensures value { meant C.Number.means (take result entries.new) ≡ meant C.Number.means (take count entries.old)
-            ++ (if Signs.is_zero (number_at self.now column) then [] else (column, number_at self.now column) ∷ []) }
+        ensures value { meant C.Number.means (take result entries.new)
+            ≡ meant C.Number.means (take count entries.old)
+            ++ (if Signs.is_zero
+            (number_at self.now column) then [] else (column, number_at self.now column) ∷ []) }
         ensures count { result ≤ count + 1 }
     {
         if self.is_zero_at(column) {
@@ -113,7 +116,8 @@ impl<C: Cells> Row<C> {
         requires column { column < right }
         requires right { length self.now ≡ right + 1 }
         requires room { right ≤ length entries.old }
-        ensures value { meant C.Number.means (take result entries.new) ≡ some_from (column + 1) (drop (column + 1) self.now) }
+        ensures value { meant C.Number.means (take result entries.new)
+            ≡ some_from (column + 1) (drop (column + 1) self.now) }
         ensures within { result ≤ length entries.new }
     {
         let mut count = 0;
@@ -129,9 +133,11 @@ impl<C: Cells> Row<C> {
         factor: C::Number,
         others: &[(usize, C::Number)],
     ) -> Result<(), PassedAt<C::Number>>
-        requires { AllByRecursion (λ other. other.0 < length self.old) (meant C.Number.means others.now) }
+        requires { AllByRecursion (λ other. other.0 < length self.old)
+            (meant C.Number.means others.now) }
         ensures { seen_at (λ _. self.new) C.Number.means result
-            ≡ at_part Part.Table (fold_checked (entry_less C.Number.passes (C.Number.means factor)) self.old (meant C.Number.means others.now)) }
+            ≡ at_part Part.Table (fold_checked (entry_less C.Number.passes (C.Number.means factor))
+            self.old (meant C.Number.means others.now)) }
     {
         for other in others {
             let (column, entry) = *other;
@@ -151,9 +157,11 @@ impl<C: Cells> Row<C> {
     ) -> Result<(), PassedAt<C::Number>>
         requires column { column < length self.old }
         requires own { C.Number.means own ≢ 0ℚ }
-        requires later { AllByRecursion (λ other. other.0 < length self.old) (meant C.Number.means later.now) }
+        requires later { AllByRecursion (λ other. other.0 < length self.old)
+            (meant C.Number.means later.now) }
         ensures { seen_at (λ _. self.new) C.Number.means result
-            ≡ at_part Part.Table (clear_row C.Number.passes column (C.Number.means own) (meant C.Number.means later.now) self.old) }
+            ≡ at_part Part.Table (clear_row C.Number.passes column (C.Number.means own)
+            (meant C.Number.means later.now) self.old) }
     {
         let factor = nf_frac::at!(Part::Table, self.at(column).quotient(own));
         self.set(column, C::Number::zero());
@@ -166,7 +174,8 @@ impl<C: Cells> Row<C> {
         requires right { length self.now ≡ right + 1 }
         requires own { number_at self.now column ≢ 0ℚ }
         ensures { seen_at C.Number.means C.Number.means result
-            ≡ checked_at C.Number.passes Part.Table Quotient (number_at self.now right) (number_at self.now column) }
+            ≡ checked_at C.Number.passes Part.Table Quotient (number_at self.now right)
+            (number_at self.now column) }
     {
         let value = nf_frac::at!(Part::Table, self.at(right).quotient(self.at(column)));
         Ok(value)

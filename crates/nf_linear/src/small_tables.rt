@@ -22,8 +22,10 @@ fn widened(alloc: Global, numbers: &[Small]) -> Result<Vec<Q>, AllocError>
 /// may not pass, so that the system is to be solved over those. The table is spent on each outcome.
 pub fn solve_small(alloc: Global, table: Table<Small>) -> Result<Option<Solved<Q>>, AllocError>
     ensures small { IfOk result
-        (λ found. MatchOption found (PassesSmall table) (λ solved. table_list passes_small table ≡ Ok (values_of (λ q. q) solved))) }
-    ensures wide { IfOk result (λ found. IfSome found (λ solved. table_list passes_Q table ≡ Ok (values_of (λ q. q) solved))) }
+        (λ found. MatchOption found (PassesSmall table)
+        (λ solved. table_list passes_small table ≡ Ok (values_of (λ q. q) solved))) }
+    ensures wide { IfOk result (λ found.
+        IfSome found (λ solved. table_list passes_Q table ≡ Ok (values_of (λ q. q) solved))) }
 {
     match solve(alloc, table) {
         Ok(Solved::One(values)) => {

@@ -69,7 +69,8 @@ pub fn solve_rows<C: Cells>(
     requires count { length pivots.old ≡ length rows.old }
     requires room { length found.old ≡ length rows.old }
     requires taken { AreTaken taken.old [] }
-    ensures list { seen_at (λ one. values_if one (map C.Number.means found.new)) C.Number.means result
+    ensures list { seen_at
+        (λ one. values_if one (map C.Number.means found.new)) C.Number.means result
         ≡ at_part Part.Table (table_list C.Number.passes rows.old) }
     ensures solution { IfOk result (λ one. IsTrueWith rows.old one (map C.Number.means found.new)) }
 {
@@ -86,7 +87,8 @@ fn solve_table<S: Scalar>(
     rows: &mut [Row<TableCells<S>>],
 ) -> Result<Solved<S>, Halt<S>>
     requires { IsSquare rows.old }
-    ensures list { Gives (values_of S.means) S.means result (at_part Part.Table (table_list S.passes rows.old)) }
+    ensures list { Gives (values_of S.means) S.means result
+        (at_part Part.Table (table_list S.passes rows.old)) }
     ensures solution { IfOk result (IsTrueOf S.means rows.old) }
 {
     let size = rows.len();
@@ -104,7 +106,8 @@ fn solve_table<S: Scalar>(
 /// NotOne exactly where there is none or more than one. Passed comes exactly where an operation passes, with the first one, and
 /// has part Table. The table is spent on each outcome.
 pub fn solve<S: Scalar>(alloc: Global, table: Table<S>) -> Result<Solved<S>, Halt<S>>
-    ensures list { Gives (values_of S.means) S.means result (at_part Part.Table (table_list S.passes table)) }
+    ensures list { Gives (values_of S.means) S.means result
+        (at_part Part.Table (table_list S.passes table)) }
     ensures solution { IfOk result (IsTrueOf S.means table) }
 {
     let mut rows = table.into_rows();

@@ -22,13 +22,15 @@ pub trait System {
         requires row { row < length (rows_of self.old) }
         requires column { column < length (rows_of self.old) }
         requires takes { IsTrue (takes value) }
-        ensures { rows_of self.new ≡ set (rows_of self.old) row (set (row_at (rows_of self.old) row) column value) };
+        ensures { rows_of self.new
+            ≡ set (rows_of self.old) row (set (row_at (rows_of self.old) row) column value) };
 
     /// The right side of a row becomes this number.
     fn set_right(&mut self, row: u32, value: Q)
         requires row { row < length (rows_of self.old) }
         requires takes { IsTrue (takes value) }
-        ensures { rows_of self.new ≡ set (rows_of self.old) row (set (row_at (rows_of self.old) row) (length (rows_of self.old)) value) };
+        ensures { rows_of self.new ≡ set (rows_of self.old) row
+            (set (row_at (rows_of self.old) row) (length (rows_of self.old)) value) };
 
     // It can hold 0, 1 and -1.
     ghost takes_units: { HoldsUnits takes };

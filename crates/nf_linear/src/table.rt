@@ -57,7 +57,8 @@ impl<S: Scalar> Table<S> {
     /// Sets the right side of a row, whose index must be below the number of unknowns.
     pub fn set_right(&mut self, row: u32, value: S)
         requires { row < length self.old }
-        ensures { self.new ≡ set self.old row (set (row_at self.old row) (length self.old) (S.means value)) }
+        ensures { self.new
+            ≡ set self.old row (set (row_at self.old row) (length self.old) (S.means value)) }
     {
         let size = self.rows.len();
         let changed = &mut self.rows[row as usize];

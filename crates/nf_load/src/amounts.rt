@@ -79,8 +79,10 @@ impl Supply {
 
     // Appends the point and the rate before it, unless the point's time is 0.
     fn push(&mut self, time: Q, amount: Q, rate: Q) -> Result<(), AllocError>
-        ensures points { OnOk result (self.new.points.items ≡ self.old.points.items ++ point_if_after_0 time amount) }
-        ensures rates { OnOk result (self.new.rates.items ≡ self.old.rates.items ++ rate_if_after_0 time rate) }
+        ensures points { OnOk result
+            (self.new.points.items ≡ self.old.points.items ++ point_if_after_0 time amount) }
+        ensures rates { OnOk result
+            (self.new.rates.items ≡ self.old.rates.items ++ rate_if_after_0 time rate) }
     {
         push_after_0(&mut self.points, time, amount)?;
         push_rate(&mut self.rates, time, rate)
@@ -88,8 +90,10 @@ impl Supply {
 
     // Appends the point at `last` and the rate before it, unless `last` is 0.
     fn ended(mut self, last: Q, so_far: Q, rate: Q) -> Result<Supply, AllocError>
-        ensures points { IfOk result (λ all. all.points.items ≡ self.points.items ++ point_if_after_0 last so_far) }
-        ensures rates { IfOk result (λ all. all.rates.items ≡ self.rates.items ++ rate_if_after_0 last rate) }
+        ensures points { IfOk result
+            (λ all. all.points.items ≡ self.points.items ++ point_if_after_0 last so_far) }
+        ensures rates { IfOk result
+            (λ all. all.rates.items ≡ self.rates.items ++ rate_if_after_0 last rate) }
     {
         self.push(last, so_far, rate)?;
         Ok(self)
@@ -99,7 +103,8 @@ impl Supply {
 // Returns the points at time 0, at the start of each piece before `last`, and at `last`, with the rates between them.
 fn supply_until(alloc: Global, pieces: &[Piece], last: Q) -> Result<Supply, Halt<Q>>
     requires { ArePieces pieces.now }
-    ensures list { Gives (λ supply. supply.points.items) (λ q. q) result (at_part Load (checked_cumulative passes_Q pieces.now last)) }
+    ensures list { Gives (λ supply. supply.points.items) (λ q. q) result
+        (at_part Load (checked_cumulative passes_Q pieces.now last)) }
     ensures rates { IfOk result (λ supply. AreRates supply.points.items supply.rates.items) }
 {
     let mut supply = Supply::start(alloc, pieces)?;
@@ -127,7 +132,8 @@ fn supply_until(alloc: Global, pieces: &[Piece], last: Q) -> Result<Supply, Halt
 pub fn cumulative(alloc: Global, pieces: &[Piece], until: Q) -> Result<Curve, Halt<Q>>
     requires pieces { ArePieces pieces.now }
     requires until { 0ℚ ≤ℚ until }
-    ensures list { Gives (λ c. c.points) (λ q. q) result (at_part Load (checked_cumulative passes_Q pieces.now until)) }
+    ensures list { Gives (λ c. c.points) (λ q. q) result
+        (at_part Load (checked_cumulative passes_Q pieces.now until)) }
     ensures amount { IfOk result (λ c. IsCumulative pieces.now until c.points) }
 {
     let trace = supplied(alloc, pieces, until)?;
@@ -138,7 +144,8 @@ pub fn cumulative(alloc: Global, pieces: &[Piece], until: Q) -> Result<Curve, Ha
 pub fn supplied(alloc: Global, pieces: &[Piece], until: Q) -> Result<Trace, Halt<Q>>
     requires pieces { ArePieces pieces.now }
     requires until { 0ℚ ≤ℚ until }
-    ensures list { Gives (λ t. t.curve.points) (λ q. q) result (at_part Load (checked_cumulative passes_Q pieces.now until)) }
+    ensures list { Gives (λ t. t.curve.points) (λ q. q) result
+        (at_part Load (checked_cumulative passes_Q pieces.now until)) }
     ensures amount { IfOk result (λ t. IsCumulative pieces.now until t.curve.points) }
     ensures rates { IfOk result (λ t. AreRates t.curve.points t.rates.items) }
 {

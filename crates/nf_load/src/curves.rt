@@ -54,7 +54,8 @@ fn outflow_points(alloc: Global, all: &[Exit]) -> Result<Vec<Point>, AllocError>
 // Returns the curve of the points, in short form.
 fn short_curve(alloc: Global, points: Vec<Point>) -> Result<Curve, Halt<Q>>
     requires { IsCurve points.items }
-    ensures { Gives (λ c. c.points) (λ q. q) result (at_part Load (checked_short passes_Q points.items)) }
+    ensures { Gives (λ c. c.points) (λ q. q) result
+        (at_part Load (checked_short passes_Q points.items)) }
 {
     let curve = Curve::of_points(points);
     Curve::short(alloc, &curve, Part::Load)
@@ -63,7 +64,8 @@ fn short_curve(alloc: Global, points: Vec<Point>) -> Result<Curve, Halt<Q>>
 /// Returns the queue by time, in short form.
 pub(crate) fn queue_curve(alloc: Global, waits: &[Waits]) -> Result<Curve, Halt<Q>>
     requires { IsCurve (map queue_point waits.now) }
-    ensures { Gives (λ c. c.points) (λ q. q) result (at_part Load (checked_short passes_Q (map queue_point waits.now))) }
+    ensures { Gives (λ c. c.points) (λ q. q) result
+        (at_part Load (checked_short passes_Q (map queue_point waits.now))) }
 {
     let points = queue_points(alloc, waits)?;
     short_curve(alloc, points)
@@ -72,7 +74,8 @@ pub(crate) fn queue_curve(alloc: Global, waits: &[Waits]) -> Result<Curve, Halt<
 /// Returns the exit by the time of entry, in short form.
 pub(crate) fn exit_curve(alloc: Global, all: &[Exit]) -> Result<Curve, Halt<Q>>
     requires { IsCurve (map exit_point all.now) }
-    ensures { Gives (λ c. c.points) (λ q. q) result (at_part Load (checked_short passes_Q (map exit_point all.now))) }
+    ensures { Gives (λ c. c.points) (λ q. q) result
+        (at_part Load (checked_short passes_Q (map exit_point all.now))) }
 {
     let points = exit_points(alloc, all)?;
     short_curve(alloc, points)
@@ -82,7 +85,8 @@ pub(crate) fn exit_curve(alloc: Global, all: &[Exit]) -> Result<Curve, Halt<Q>>
 pub(crate) fn outflow_until(alloc: Global, all: &[Exit], end: Q) -> Result<Curve, Halt<Q>>
     requires curve { IsCurve (lists.outflow_points all.now) }
     requires end { 0ℚ ≤ℚ end }
-    ensures { Gives (λ c. c.points) (λ q. q) result (at_part Load (checked_cut passes_Q (lists.outflow_points all.now) end)) }
+    ensures { Gives (λ c. c.points) (λ q. q) result
+        (at_part Load (checked_cut passes_Q (lists.outflow_points all.now) end)) }
 {
     let points = outflow_points(alloc, all)?;
     let curve = Curve::of_points(points);

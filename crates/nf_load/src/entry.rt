@@ -20,7 +20,8 @@ pub enum Entry {
 #[tactic(auto, using(nf_side::proofs::LineWords::rate_count_wrong, nf_side::proofs::LineWords::rate_unknown, nf_side::proofs::LineWords::rate_known))]
 fn read_rate(net: &Network, line: &ReadLine, near: LinkId) -> Result<Entry, LoadRule>
     requires { 0 < length line.now.words }
-    ensures says { rate_line net.now.link_names (drop 1 line.now.words) ≡ said_by seen_entry result }
+    ensures says { rate_line net.now.link_names (drop 1 line.now.words)
+        ≡ said_by seen_entry result }
     ensures link { IfOk result (λ entry. HasLink (length net.now.link_names) (seen_entry entry)) }
 {
     if line.len() != 4 {

@@ -50,7 +50,8 @@ pub(crate) fn all_exits(
     waits: &[Waits],
 ) -> Result<Vec<Exit>, Halt<Q>>
     requires { IsPositive capacity.now }
-    ensures { Gives (λ all. all.items) (λ q. q) result (at_part Load (each (lists.exit_of passes_Q capacity.now transit) waits.now)) }
+    ensures { Gives (λ all. all.items) (λ q. q) result
+        (at_part Load (each (lists.exit_of passes_Q capacity.now transit) waits.now)) }
 {
     let mut all = Vec::with_capacity(alloc, waits.len())?;
     for moment in waits {

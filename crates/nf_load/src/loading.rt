@@ -49,7 +49,8 @@ fn short_curves(
     whole_outflow: &Curve,
 ) -> Result<Loaded, Halt<Q>>
     requires { AreCurves waits.now all.now }
-    ensures { Gives loaded_of (λ q. q) result (at_part Load (in_short_form passes_Q waits.now all.now whole_outflow.now.points)) }
+    ensures { Gives loaded_of (λ q. q) result
+        (at_part Load (in_short_form passes_Q waits.now all.now whole_outflow.now.points)) }
 {
     let queue = queue_curve(alloc, waits)?;
     let outflow = Curve::short(alloc, whole_outflow, Part::Load)?;
@@ -72,7 +73,8 @@ fn curves_until(
     requires transit { 0ℚ ≤ℚ transit }
     requires curves { AreCurves waits.now all.now }
     requires until { 0ℚ ≤ℚ until }
-    ensures { Gives loaded_of (λ q. q) result (at_part Load (until_transit passes_Q transit waits.now all.now until)) }
+    ensures { Gives loaded_of (λ q. q) result
+        (at_part Load (until_transit passes_Q transit waits.now all.now until)) }
 {
     let end = after_transit(until, transit)?;
     let whole_outflow = outflow_until(alloc, all, end)?;
@@ -93,7 +95,8 @@ fn load_cut(
     requires curves { LeadsToCurves passes_Q transit capacity cut.now.points }
     requires rates { AreRates cut.now.points rates.now }
     requires until { 0ℚ ≤ℚ until }
-    ensures { Gives loaded_of (λ q. q) result (at_part Load (behind_cut passes_Q transit capacity cut.now.points until)) }
+    ensures { Gives loaded_of (λ q. q) result
+        (at_part Load (behind_cut passes_Q transit capacity cut.now.points until)) }
 {
     let waits = all_waits(alloc, &capacity, cut, rates)?;
     let exits = all_exits(alloc, &capacity, transit, &waits)?;
@@ -116,8 +119,10 @@ pub fn load_link(
     requires begins { value inflow.now.points 0ℚ ≡ 0ℚ }
     requires rises { NeverFalls (value inflow.now.points) }
     requires until { 0ℚ ≤ℚ until }
-    ensures list { Gives loaded_of (λ q. q) result (at_part Load (checked_loading passes_Q transit capacity inflow.now.points until)) }
-    ensures loaded { IfOk result (λ l. IsLoaded transit capacity inflow.now.points until (loaded_of l)) }
+    ensures list { Gives loaded_of (λ q. q) result
+        (at_part Load (checked_loading passes_Q transit capacity inflow.now.points until)) }
+    ensures loaded { IfOk result
+        (λ l. IsLoaded transit capacity inflow.now.points until (loaded_of l)) }
 {
     // Proof: the points of the inflow are a curve.
     inflow.recall();
@@ -140,8 +145,10 @@ pub fn load_trace(
     requires rises { NeverFalls (value inflow.now.curve.points) }
     requires rates { AreRates inflow.now.curve.points inflow.now.rates.items }
     requires until { 0ℚ ≤ℚ until }
-    ensures list { Gives loaded_of (λ q. q) result (at_part Load (checked_loading passes_Q transit capacity inflow.now.curve.points until)) }
-    ensures loaded { IfOk result (λ l. IsLoaded transit capacity inflow.now.curve.points until (loaded_of l)) }
+    ensures list { Gives loaded_of (λ q. q) result
+        (at_part Load (checked_loading passes_Q transit capacity inflow.now.curve.points until)) }
+    ensures loaded { IfOk result
+        (λ l. IsLoaded transit capacity inflow.now.curve.points until (loaded_of l)) }
 {
     // Proof: the points of the inflow are a curve.
     inflow.curve.recall();

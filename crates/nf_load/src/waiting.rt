@@ -27,7 +27,8 @@ struct Over {
 
 // Returns an empty queue at the end of the piece.
 fn empty_at(end: &Point) -> Over
-    ensures list { over_list result ≡ record { time = end.now.0; amount = end.now.1; queue = 0ℚ } ∷ [] }
+    ensures list { over_list result
+        ≡ record { time = end.now.0; amount = end.now.1; queue = 0ℚ } ∷ [] }
     ensures end { result.end.time ≡ end.now.0 }
     ensures amount { result.end.amount ≡ end.now.1 }
 {
@@ -45,7 +46,8 @@ fn empty_at(end: &Point) -> Over
 fn inflow_rate(before: &Waits, end: &Point, known: Option<Q>) -> Result<Q, PassedAt<Q>>
     requires later { before.now.time <ℚ end.now.0 }
     requires known { IsRate known (before.now.time, before.now.amount) end.now }
-    ensures { result ≡ at_part Load (checked_slope passes_Q (before.now.time, before.now.amount) end.now) }
+    ensures { result
+        ≡ at_part Load (checked_slope passes_Q (before.now.time, before.now.amount) end.now) }
 {
     if let Some(rate) = known {
         return Ok(rate);
@@ -57,7 +59,8 @@ fn inflow_rate(before: &Waits, end: &Point, known: Option<Q>) -> Result<Q, Passe
 // Returns the amount that has entered by a time of a piece.
 fn amount_at(before: &Waits, end: &Point, time: Q) -> Result<Q, PassedAt<Q>>
     requires { before.now.time <ℚ end.now.0 }
-    ensures { result ≡ at_part Load (checked_line passes_Q (before.now.time, before.now.amount) end.now time) }
+    ensures { result
+        ≡ at_part Load (checked_line passes_Q (before.now.time, before.now.amount) end.now time) }
 {
     let start = (before.time, before.amount);
     line(&start, end, time, Part::Load)
@@ -90,7 +93,8 @@ fn drained(capacity: Q, rate: Q, queue: Q, start: Q) -> Result<Q, PassedAt<Q>>
 
 // Returns the queue at the end of the piece. The queue changes at the rate less the capacity.
 fn grow(capacity: Q, rate: Q, before: &Waits, end: &Point) -> Result<Over, PassedAt<Q>>
-    ensures list { seen_at over_list (λ q. q) result ≡ at_part Load (lists.grows passes_Q capacity rate before.now end.now) }
+    ensures list { seen_at over_list (λ q. q) result
+        ≡ at_part Load (lists.grows passes_Q capacity rate before.now end.now) }
     ensures end { IfOk result (λ over. over.end.time ≡ end.now.0) }
     ensures amount { IfOk result (λ over. over.end.amount ≡ end.now.1) }
 {
@@ -132,7 +136,8 @@ fn drain_at(before: &Waits, end: &Point, time: Q) -> Result<Over, PassedAt<Q>>
 fn drain(capacity: Q, rate: Q, before: &Waits, end: &Point) -> Result<Over, PassedAt<Q>>
     requires later { before.now.time <ℚ end.now.0 }
     requires below { lt_ℚ rate capacity ≡ true }
-    ensures list { seen_at over_list (λ q. q) result ≡ at_part Load (lists.moves passes_Q true capacity rate before.now end.now) }
+    ensures list { seen_at over_list (λ q. q) result
+        ≡ at_part Load (lists.moves passes_Q true capacity rate before.now end.now) }
     ensures end { IfOk result (λ over. over.end.time ≡ end.now.0) }
     ensures amount { IfOk result (λ over. over.end.amount ≡ end.now.1) }
 {
@@ -167,7 +172,8 @@ fn over_bounded(
 ) -> Result<Over, PassedAt<Q>>
     requires later { before.now.time <ℚ end.now.0 }
     requires known { IsRate known (before.now.time, before.now.amount) end.now }
-    ensures list { seen_at over_list (λ q. q) result ≡ at_part Load (lists.after_piece passes_Q (Some capacity) before.now end.now) }
+    ensures list { seen_at over_list (λ q. q) result
+        ≡ at_part Load (lists.after_piece passes_Q (Some capacity) before.now end.now) }
     ensures end { IfOk result (λ over. over.end.time ≡ end.now.0) }
     ensures amount { IfOk result (λ over. over.end.amount ≡ end.now.1) }
 {
@@ -190,7 +196,8 @@ fn over_piece(
 ) -> Result<Over, PassedAt<Q>>
     requires later { before.now.time <ℚ end.now.0 }
     requires known { IsRate known (before.now.time, before.now.amount) end.now }
-    ensures list { seen_at over_list (λ q. q) result ≡ at_part Load (lists.after_piece passes_Q capacity.now before.now end.now) }
+    ensures list { seen_at over_list (λ q. q) result
+        ≡ at_part Load (lists.after_piece passes_Q capacity.now before.now end.now) }
     ensures end { IfOk result (λ over. over.end.time ≡ end.now.0) }
     ensures amount { IfOk result (λ over. over.end.amount ≡ end.now.1) }
 {
@@ -231,7 +238,8 @@ pub(crate) fn all_waits(
     rates: &[Q],
 ) -> Result<Vec<Waits>, Halt<Q>>
     requires { AreRates inflow.now.points rates.now }
-    ensures { Gives (λ all. all.items) (λ q. q) result (at_part Load (lists.all_waits passes_Q capacity.now inflow.now.points)) }
+    ensures { Gives (λ all. all.items) (λ q. q) result
+        (at_part Load (lists.all_waits passes_Q capacity.now inflow.now.points)) }
 {
     let count = inflow.len();
     let (time, amount) = inflow.point(0);

@@ -35,7 +35,8 @@ fn active_of(
     links: &[NamedLink],
 ) -> Result<Vec<NamedLink>, AllocError>
     requires { length nodes.now ≤ length flags.now }
-    ensures { IfOk result (λ active. active.items ≡ marked (tail_flags nodes.now flags.now links.now) links.now) }
+    ensures { IfOk result
+        (λ active. active.items ≡ marked (tail_flags nodes.now flags.now links.now) links.now) }
 {
     let mut active = Vec::new(alloc);
     for link in links {
@@ -54,7 +55,8 @@ fn idle_of(
     links: &[NamedLink],
 ) -> Result<Vec<NamedLink>, AllocError>
     requires { length nodes.now ≤ length flags.now }
-    ensures { IfOk result (λ idle. idle.items ≡ marked (map not (tail_flags nodes.now flags.now links.now)) links.now) }
+    ensures { IfOk result (λ idle. idle.items
+        ≡ marked (map not (tail_flags nodes.now flags.now links.now)) links.now) }
 {
     let mut idle = Vec::new(alloc);
     for link in links {
@@ -142,7 +144,8 @@ fn names_without(alloc: Global, these: &Names, names: &[Name]) -> Result<Vec<Nam
 
 // Returns the nodes that occur in idle links only.
 fn idle_nodes(alloc: Global, nodes: &Names, idle: &[NamedLink]) -> Result<Vec<Name>, AllocError>
-    ensures { IfOk result (λ others. others.items ≡ without nodes.now (with_names [] (ends idle.now))) }
+    ensures { IfOk result
+        (λ others. others.items ≡ without nodes.now (with_names [] (ends idle.now))) }
 {
     let mut names = Names::new(alloc);
     put_ends(&mut names, idle)?;
@@ -156,7 +159,8 @@ fn active_nodes(
     sink: &Name,
     active: &[NamedLink],
 ) -> Result<Names, AllocError>
-    ensures { IfOk result (λ nodes. nodes ≡ with_names (with_names [] (source.now ∷ sink.now ∷ [])) (ends active.now)) }
+    ensures { IfOk result (λ nodes. nodes
+        ≡ with_names (with_names [] (source.now ∷ sink.now ∷ [])) (ends active.now)) }
 {
     let mut nodes = Names::new(alloc);
     nodes.put(source.copy())?;

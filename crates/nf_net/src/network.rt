@@ -39,7 +39,8 @@ impl Model for Network {
         a.idle_links.items };
 
     ghost invariant = { λ a. IsKept
-        (with_parts a.version a.node_names.items a.link_names.items a.links.items a.pieces.items a.idle_nodes.items a.idle_links.items)
+        (with_parts a.version a.node_names.items a.link_names.items a.links.items a.pieces.items
+        a.idle_nodes.items a.idle_links.items)
         a.hops.items };
 }
 
@@ -55,7 +56,8 @@ fn place_of(names: &[Name], name: &Name) -> Option<usize>
 fn found(names: &[Name], text: &str) -> Option<u32>
     requires few { length names.now ≤ most_links }
     requires names { list_all is_name names.now ≡ true }
-    ensures { MatchOption result (has_name names.now text.now ≡ false) (λ place. slice_get names.now place ≡ Some text.now) }
+    ensures { MatchOption result (has_name names.now text.now ≡ false)
+        (λ place. slice_get names.now place ≡ Some text.now) }
 {
     match Name::read(text.as_bytes()) {
         Some(name) => match place_of(names, &name) {

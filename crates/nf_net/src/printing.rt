@@ -41,7 +41,8 @@ fn push_link(
 ) -> Result<(), AllocError>
     ensures { OnOk result (out.new.items ≡ out.old.items
         ++ line_of_words
-        (link_words (record { name = name.now; tail = tail.now; head = head.now; transit = transit; capacity = capacity }))) }
+        (link_words
+        (record { name = name.now; tail = tail.now; head = head.now; transit = transit; capacity = capacity }))) }
 {
     let mut time = TextBuf::new();
     transit.write(&mut time);
@@ -73,7 +74,8 @@ fn push_numbered(out: &mut Vec<u8>, net: &Network, id: LinkId) -> Result<(), All
 // Appends the lines of the links that are not idle.
 fn push_links(out: &mut Vec<u8>, net: &Network) -> Result<(), AllocError>
     requires { IsNamed net.now }
-    ensures { OnOk result (out.new.items ≡ out.old.items ++ flat_map line_of_words (map link_words (active_links net.now))) }
+    ensures { OnOk result (out.new.items
+        ≡ out.old.items ++ flat_map line_of_words (map link_words (active_links net.now))) }
 {
     for index in 0..net.link_count() {
         push_numbered(out, net, LinkId(index))?;
@@ -83,7 +85,8 @@ fn push_links(out: &mut Vec<u8>, net: &Network) -> Result<(), AllocError>
 
 // Appends the lines of the idle links.
 fn push_idle(out: &mut Vec<u8>, links: &[NamedLink]) -> Result<(), AllocError>
-    ensures { OnOk result (out.new.items ≡ out.old.items ++ flat_map line_of_words (map link_words links.now)) }
+    ensures { OnOk result
+        (out.new.items ≡ out.old.items ++ flat_map line_of_words (map link_words links.now)) }
 {
     for link in links {
         let name = link.name.text();
@@ -95,7 +98,8 @@ fn push_idle(out: &mut Vec<u8>, links: &[NamedLink]) -> Result<(), AllocError>
 }
 
 fn push_piece(out: &mut Vec<u8>, piece: &Piece) -> Result<(), AllocError>
-    ensures { OnOk result (out.new.items ≡ out.old.items ++ line_of_words (inflow_words piece.now)) }
+    ensures { OnOk result
+        (out.new.items ≡ out.old.items ++ line_of_words (inflow_words piece.now)) }
 {
     let mut start = TextBuf::new();
     piece.start.write(&mut start);
@@ -105,7 +109,8 @@ fn push_piece(out: &mut Vec<u8>, piece: &Piece) -> Result<(), AllocError>
 }
 
 fn push_pieces(out: &mut Vec<u8>, pieces: &[Piece]) -> Result<(), AllocError>
-    ensures { OnOk result (out.new.items ≡ out.old.items ++ flat_map line_of_words (map inflow_words pieces.now)) }
+    ensures { OnOk result
+        (out.new.items ≡ out.old.items ++ flat_map line_of_words (map inflow_words pieces.now)) }
 {
     for piece in pieces {
         push_piece(out, piece)?;
@@ -116,7 +121,8 @@ fn push_pieces(out: &mut Vec<u8>, pieces: &[Piece]) -> Result<(), AllocError>
 // Appends the line of the version.
 fn push_version(out: &mut Vec<u8>, version: u32) -> Result<(), AllocError>
     requires { (version ≡ 1) ⊎ (version ≡ 2) }
-    ensures { OnOk result (out.new.items ≡ out.old.items ++ line_of_words (codes "nfot" ∷ digits_of version ∷ [])) }
+    ensures { OnOk result
+        (out.new.items ≡ out.old.items ++ line_of_words (codes "nfot" ∷ digits_of version ∷ [])) }
 {
     if version == 1 {
         return push_line(out, b"nfot", &[b"1"]);
@@ -127,7 +133,8 @@ fn push_version(out: &mut Vec<u8>, version: u32) -> Result<(), AllocError>
 // Appends a line with the keyword `key` and the name of the node.
 fn push_node(out: &mut Vec<u8>, key: &[u8], net: &Network, node: NodeId) -> Result<(), AllocError>
     requires { node < net.now.net.nodes }
-    ensures { OnOk result (out.new.items ≡ out.old.items ++ line_of_words (key.now ∷ name_at net.now.node_names node ∷ [])) }
+    ensures { OnOk result (out.new.items
+        ≡ out.old.items ++ line_of_words (key.now ∷ name_at net.now.node_names node ∷ [])) }
 {
     let name = net.node_name(node);
     push_line(out, key, &[name.as_bytes()])

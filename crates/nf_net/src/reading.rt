@@ -60,7 +60,8 @@ fn close(alloc: Global, draft: Draft) -> Result<Network, NetFault>
 /// allocation fails.
 pub fn parse(alloc: Global, text: &[u8]) -> Result<Network, NetFault>
     requires { length text.now ≤ longest_text }
-    ensures { MatchResult result (λ net. Reads text.now (Ok net)) (λ fault. IfBroken fault (λ broken. Reads text.now (Err broken))) }
+    ensures { MatchResult result (λ net. Reads text.now (Ok net))
+        (λ fault. IfBroken fault (λ broken. Reads text.now (Err broken))) }
 {
     let lines = lines_of(alloc, text)?;
     let draft = read_draft(alloc, &lines)?;

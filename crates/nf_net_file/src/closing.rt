@@ -58,7 +58,8 @@ pub fn place_in(nodes: &Names, name: &Option<Name>) -> NodeId
 /// The first of N17 to N19 that is broken.
 #[tactic(auto, using(crate::proofs::FirstRule::first_ended, crate::proofs::FirstRule::first_named, crate::proofs::FirstRule::first_apart))]
 pub fn names_rule(draft: &Draft) -> Option<NetRule>
-    ensures { MatchOption result (HasEnds (seen_draft draft.now)) (λ rule. BreaksFirst (seen_draft draft.now) rule) }
+    ensures { MatchOption result (HasEnds (seen_draft draft.now))
+        (λ rule. BreaksFirst (seen_draft draft.now) rule) }
 {
     if !draft.ended {
         return Some(NetRule::N17);
@@ -123,7 +124,8 @@ fn has_passing_sum(alloc: Global, draft: &Draft, hops: &[Hop]) -> Result<bool, A
     requires read { IsRead (seen_draft draft.now) }
     requires ends { HasEnds (seen_draft draft.now) }
     requires hops { hops.now ≡ draft_hops (seen_draft draft.now) }
-    ensures { IfOk result (λ passing. MatchBool passing (HasPassingSum (seen_draft draft.now)) (HasPassingSum (seen_draft draft.now) → ⊥)) }
+    ensures { IfOk result (λ passing. MatchBool passing (HasPassingSum (seen_draft draft.now))
+        (HasPassingSum (seen_draft draft.now) → ⊥)) }
 {
     let source = place_in(&draft.nodes, &draft.source);
     let fault = match distances(alloc, draft.nodes.len() as u32, hops, source) {
@@ -137,7 +139,8 @@ fn has_passing_sum(alloc: Global, draft: &Draft, hops: &[Hop]) -> Result<bool, A
 fn has_zero_cycle(alloc: Global, draft: &Draft, hops: &[Hop]) -> Result<bool, AllocError>
     requires read { IsRead (seen_draft draft.now) }
     requires hops { hops.now ≡ draft_hops (seen_draft draft.now) }
-    ensures { IfOk result (λ cycle. MatchBool cycle (HasZeroCycle (seen_draft draft.now)) (HasZeroCycle (seen_draft draft.now) → ⊥)) }
+    ensures { IfOk result (λ cycle. MatchBool cycle (HasZeroCycle (seen_draft draft.now))
+        (HasZeroCycle (seen_draft draft.now) → ⊥)) }
 {
     let cycle = zero_cycle(alloc, draft.nodes.len() as u32, hops)?;
     let there = cycle.is_some();
@@ -149,7 +152,8 @@ fn leaves_nodes(draft: &Draft, flags: &[bool]) -> bool
     requires read { IsRead (seen_draft draft.now) }
     requires ends { HasEnds (seen_draft draft.now) }
     requires flags { AreFlags (seen_draft draft.now) flags.now }
-    ensures { MatchBool result (LeavesUnreached (seen_draft draft.now)) (LeavesUnreached (seen_draft draft.now) → ⊥) }
+    ensures { MatchBool result (LeavesUnreached (seen_draft draft.now))
+        (LeavesUnreached (seen_draft draft.now) → ⊥) }
 {
     let sink = place_in(&draft.nodes, &draft.sink);
     leaves_unreached(draft.version, flags, sink)
@@ -177,7 +181,8 @@ pub fn walk_rule(
     requires ends { HasEnds (seen_draft draft.now) }
     requires hops { hops.now ≡ draft_hops (seen_draft draft.now) }
     requires flags { AreFlags (seen_draft draft.now) flags.now }
-    ensures { IfOk result (λ rule. MatchOption rule (BreaksNone (seen_draft draft.now)) (λ rule. BreaksFirst (seen_draft draft.now) rule)) }
+    ensures { IfOk result (λ rule. MatchOption rule (BreaksNone (seen_draft draft.now))
+        (λ rule. BreaksFirst (seen_draft draft.now) rule)) }
 {
     if leaves_nodes(draft, flags) {
         return Ok(Some(NetRule::N20));

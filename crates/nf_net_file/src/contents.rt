@@ -32,8 +32,10 @@ fn read_version(line: &ReadLine) -> Option<u32>
 
 // Adds the lines to the parser state, up to the first that breaks a rule.
 fn add_lines(draft: &mut Draft, lines: &[ReadLine]) -> Result<(), NetFault>
-    ensures { MatchResult result (λ _. add_all (seen_draft draft.old) lines.now ≡ Ok (seen_draft draft.new))
-        (λ fault. IfBroken fault (λ broken. add_all (seen_draft draft.old) lines.now ≡ Err broken)) }
+    ensures { MatchResult result
+        (λ _. add_all (seen_draft draft.old) lines.now ≡ Ok (seen_draft draft.new))
+        (λ fault.
+        IfBroken fault (λ broken. add_all (seen_draft draft.old) lines.now ≡ Err broken)) }
 {
     for line in lines {
         if let Err(fault) = draft.add_line(line) {

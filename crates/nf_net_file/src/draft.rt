@@ -50,7 +50,8 @@ fn is_known(nodes: &Names, name: &Name, other: &Name) -> bool
 // How many of two names are new.
 #[tactic(auto, using(crate::proofs::NodeCounts::length_with_two))]
 fn new_names(nodes: &Names, first: &Name, second: &Name) -> usize
-    ensures count { length (with_names nodes.now (first.now ∷ second.now ∷ [])) ≡ length nodes.now + result }
+    ensures count { length (with_names nodes.now (first.now ∷ second.now ∷ []))
+        ≡ length nodes.now + result }
     ensures small { result ≤ 2 }
 {
     count_new(nodes.has(first)) + count_new(is_known(nodes, second, first))
@@ -67,7 +68,8 @@ fn is_too_many(nodes: &Names, name: &Name) -> bool
 
 // With these names there are more than 64 nodes.
 fn are_too_many(nodes: &Names, first: &Name, second: &Name) -> bool
-    ensures { result ≡ nat_lt most_nodes (length (with_names nodes.now (first.now ∷ second.now ∷ []))) }
+    ensures { result
+        ≡ nat_lt most_nodes (length (with_names nodes.now (first.now ∷ second.now ∷ []))) }
 {
     let more = new_names(nodes, first, second);
     nodes.len() > MOST_NODES - more
@@ -123,7 +125,8 @@ impl Draft {
     }
 
     fn node_rule(&self, taken: bool, name: &Name) -> Option<NetRule>
-        ensures { result ≡ first_rule ((taken, N9) ∷ (too_many_nodes (seen_draft self.now) (name.now ∷ []), N10) ∷ []) }
+        ensures { result ≡ first_rule
+            ((taken, N9) ∷ (too_many_nodes (seen_draft self.now) (name.now ∷ []), N10) ∷ []) }
     {
         if taken {
             return Some(NetRule::N9);
@@ -196,7 +199,8 @@ impl Draft {
     }
 
     fn add(&mut self, entry: Entry) -> Result<(), AllocError>
-        ensures { OnOk result (seen_draft self.new ≡ after (seen_draft self.old) (seen_entry entry)) }
+        ensures { OnOk result
+            (seen_draft self.new ≡ after (seen_draft self.old) (seen_entry entry)) }
     {
         match entry {
             Entry::Source(name) => {
@@ -216,8 +220,10 @@ impl Draft {
 
     // Adds what a line says, or answers the first of N4 to N16 that it breaks.
     pub(crate) fn add_line(&mut self, line: &ReadLine) -> Result<(), LineFault<NetRule>>
-        ensures { MatchResult result (λ _. add_line (seen_draft self.old) line.now.words ≡ Ok (seen_draft self.new))
-            (λ fault. IfRule fault (λ rule. add_line (seen_draft self.old) line.now.words ≡ Err rule)) }
+        ensures { MatchResult result
+            (λ _. add_line (seen_draft self.old) line.now.words ≡ Ok (seen_draft self.new))
+            (λ fault.
+            IfRule fault (λ rule. add_line (seen_draft self.old) line.now.words ≡ Err rule)) }
     {
         if self.ended {
             return Err(LineFault::Broken(NetRule::N4));

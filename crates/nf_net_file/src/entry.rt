@@ -63,8 +63,10 @@ fn read_capacity(version: u32, word: &[u8]) -> Option<Option<Q>>
 #[tactic(auto, using(crate::proofs::LineWords::node_count_wrong, crate::proofs::LineWords::node_is, crate::proofs::LineWords::node_bad))]
 fn read_node(line: &ReadLine) -> Result<Name, NetRule>
     requires { 0 < length line.now.words }
-    ensures source { node_line (λ name. lines.Source name) (drop 1 line.now.words) ≡ said_by (λ name. lines.Source name) result }
-    ensures sink { node_line (λ name. lines.Sink name) (drop 1 line.now.words) ≡ said_by (λ name. lines.Sink name) result }
+    ensures source { node_line (λ name. lines.Source name) (drop 1 line.now.words)
+        ≡ said_by (λ name. lines.Source name) result }
+    ensures sink { node_line (λ name. lines.Sink name) (drop 1 line.now.words)
+        ≡ said_by (λ name. lines.Sink name) result }
 {
     if line.len() != 2 {
         return Err(NetRule::N6);
@@ -103,7 +105,8 @@ fn read_link(version: u32, line: &ReadLine) -> Result<NamedLink, NetRule>
 #[tactic(auto, using(crate::proofs::LineWords::inflow_count_wrong, crate::proofs::LineWords::inflow_count_right))]
 fn read_inflow(version: u32, line: &ReadLine) -> Result<Piece, NetRule>
     requires { 0 < length line.now.words }
-    ensures { inflow_line version (drop 1 line.now.words) ≡ said_by (λ piece. lines.InflowLine piece) result }
+    ensures { inflow_line version (drop 1 line.now.words)
+        ≡ said_by (λ piece. lines.InflowLine piece) result }
 {
     if line.len() != 3 {
         return Err(NetRule::N6);

@@ -89,8 +89,10 @@ fn raise_at(
     requires unbounded { length unbounded.now ≡ length base.now }
     requires valid { IsAssignment base.now unbounded.now base.now }
     requires free { more ≡ free (drop (suc link) base.now) }
-    ensures { MatchOption result ((raised_at base.now unbounded.now states.old link changes ≡ None) × (states.new ≡ states.old))
-        (λ quiet. RaisesAt base.now unbounded.now states.old link changes states.new × IsQuiet base.now quiet states.new) }
+    ensures { MatchOption result ((raised_at base.now unbounded.now states.old link changes ≡ None)
+        × (states.new ≡ states.old))
+        (λ quiet. RaisesAt base.now unbounded.now states.old link changes states.new
+        × IsQuiet base.now quiet states.new) }
 {
     let first = base[link];
     match next_choice(first, unbounded[link], states[link], changes, more) {
@@ -166,11 +168,15 @@ impl<'a> Order<'a> {
         more: u32,
     ) -> Option<Raised>
         requires may { MayRaise self.now same states.old }
-        requires counted { changes ≡ changes_of (drop same self.now.base.now) (drop same states.old) }
+        requires counted { changes
+            ≡ changes_of (drop same self.now.base.now) (drop same states.old) }
         requires free { more ≡ free (drop same self.now.base.now) }
-        ensures { MatchOption result ((later same self.now.base.now self.now.unbounded.now states.old ≡ None) × (states.new ≡ states.old))
-            (λ raised. (later same self.now.base.now self.now.unbounded.now states.old ≡ Some states.new)
-            × IsSameBefore same raised.link states.old states.new × IsQuiet self.now.base.now raised.quiet states.new) }
+        ensures { MatchOption result ((later same self.now.base.now self.now.unbounded.now
+            states.old ≡ None) × (states.new ≡ states.old))
+            (λ raised.
+            (later same self.now.base.now self.now.unbounded.now states.old ≡ Some states.new)
+            × IsSameBefore same raised.link states.old states.new
+            × IsQuiet self.now.base.now raised.quiet states.new) }
     {
         let mut changes = changes;
         let mut more = more;
@@ -191,9 +197,12 @@ impl<'a> Order<'a> {
     fn raise(&self, states: &mut [Option<State>], same: usize, quiet: Quiet) -> Option<Raised>
         requires may { MayRaise self.now same states.old }
         requires quiet { IsQuiet self.now.base.now quiet states.old }
-        ensures { MatchOption result ((later same self.now.base.now self.now.unbounded.now states.old ≡ None) × (states.new ≡ states.old))
-            (λ raised. (later same self.now.base.now self.now.unbounded.now states.old ≡ Some states.new)
-            × IsSameBefore same raised.link states.old states.new × IsQuiet self.now.base.now raised.quiet states.new) }
+        ensures { MatchOption result ((later same self.now.base.now self.now.unbounded.now
+            states.old ≡ None) × (states.new ≡ states.old))
+            (λ raised.
+            (later same self.now.base.now self.now.unbounded.now states.old ≡ Some states.new)
+            × IsSameBefore same raised.link states.old states.new
+            × IsQuiet self.now.base.now raised.quiet states.new) }
     {
         if quiet.link <= same {
             self.raise_from(states, quiet.link, 0, quiet.free)
@@ -214,10 +223,13 @@ impl<'a> Order<'a> {
     ) -> Option<Raised>
         requires may { MayRaise self.now same states.old }
         requires quiet { IsQuiet self.now.base.now quiet states.old }
-        ensures { MatchOption result ((next_assignment same self.now.base.now self.now.unbounded.now states.old ≡ None)
+        ensures { MatchOption result
+            ((next_assignment same self.now.base.now self.now.unbounded.now states.old ≡ None)
             × (states.new ≡ states.old))
-            (λ raised. (next_assignment same self.now.base.now self.now.unbounded.now states.old ≡ Some states.new)
-            × IsSameBefore same raised.link states.old states.new × IsQuiet self.now.base.now raised.quiet states.new) }
+            (λ raised. (next_assignment same self.now.base.now self.now.unbounded.now states.old
+            ≡ Some states.new)
+            × IsSameBefore same raised.link states.old states.new
+            × IsQuiet self.now.base.now raised.quiet states.new) }
     {
         if let Some(raised) = self.raise(states, same, quiet) {
             return Some(raised);

@@ -82,7 +82,8 @@ pub(crate) fn next_choice(
     changes: u32,
     more: u32,
 ) -> Option<Option<State>>
-    ensures { result ≡ first_good (λ s. nat_lt (rank_of now) (rank_of s) && is_fit base changes more s) (choices base unbounded) }
+    ensures { result ≡ first_good (λ s. nat_lt (rank_of now) (rank_of s)
+        && is_fit base changes more s) (choices base unbounded) }
 {
     if base.is_none() {
         return if fits_after(base, now, changes, more, None) {

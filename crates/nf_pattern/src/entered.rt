@@ -12,7 +12,8 @@ use std::alloc::{AllocError, Global};
 pub(crate) fn may_carry(states: &[Option<State>], resetting: &[bool], link: LinkId) -> bool
     requires states { link < length states.now }
     requires resetting { link < length resetting.now }
-    ensures { MatchBool result (MayCarry resetting.now states.now link) (MayCarry resetting.now states.now link → ⊥) }
+    ensures { MatchBool result (MayCarry resetting.now states.now link)
+        (MayCarry resetting.now states.now link → ⊥) }
 {
     if resetting[link.index()] {
         return true;
@@ -28,7 +29,8 @@ pub(crate) fn may_carry(states: &[Option<State>], resetting: &[bool], link: Link
 // Returns whether `link` is the last link that can enter the node.
 pub(crate) fn is_end(ends: &[usize], node: NodeId, link: LinkId) -> bool
     requires { node < length ends.now }
-    ensures { MatchBool result (slice_get ends.now node ≡ Some (suc link)) (slice_get ends.now node ≡ Some (suc link) → ⊥) }
+    ensures { MatchBool result (slice_get ends.now node ≡ Some (suc link))
+        (slice_get ends.now node ≡ Some (suc link) → ⊥) }
 {
     ends[node.index()] == link.index() + 1
 }
@@ -44,7 +46,8 @@ pub(crate) fn is_entered_before(
     requires states { length states.now ≡ length chain.now }
     requires resetting { length resetting.now ≡ length chain.now }
     requires link { link < length chain.now }
-    requires chained { (hops : List SeenHop) × (head : ℕ) × AreChained hops chain.now × LeadsTo hops link head }
+    requires chained { (hops : List SeenHop) × (head : ℕ) × AreChained hops chain.now
+        × LeadsTo hops link head }
     ensures { (hops : List SeenHop) (head : ℕ) → AreChained hops chain.now → LeadsTo hops link head
         → MatchBool result (EnteredBefore hops resetting.now states.now link head)
         (EnteredBefore hops resetting.now states.now link head → ⊥) }
@@ -66,7 +69,8 @@ fn chain_link(hops: &[Hop], link: usize, last: &mut [Option<LinkId>]) -> Option<
     requires below { AreBelow (length last.old) hops.now }
     requires last { AreLastInto hops.now link last.old }
     ensures last { AreLastInto hops.now (suc link) last.new }
-    ensures before { (hop : SeenHop) → IsHop hops.now link hop → IsLastInto hops.now link hop.head result }
+    ensures before { (hop : SeenHop) → IsHop hops.now link hop
+        → IsLastInto hops.now link hop.head result }
 {
     let hop = &hops[link];
     let head = hop.head;
@@ -99,7 +103,8 @@ pub(crate) fn chain(
 fn can_carry(base: &[Option<State>], resetting: &[bool], link: usize) -> bool
     requires base { link < length base.now }
     requires resetting { link < length resetting.now }
-    ensures { MatchBool result (CanCarry resetting.now base.now link) (CanCarry resetting.now base.now link → ⊥) }
+    ensures { MatchBool result (CanCarry resetting.now base.now link)
+        (CanCarry resetting.now base.now link → ⊥) }
 {
     resetting[link] || base[link].is_some()
 }

@@ -53,7 +53,8 @@ impl FirmLinks {
 
     // Records that no link from `link` on is examined.
     pub(crate) fn retreat(&mut self, link: usize)
-        ensures { (hops : List SeenHop) (pattern : Pattern) (n : ℕ) → n ≤ link → AreCalm hops pattern n self.old
+        ensures { (hops : List SeenHop) (pattern : Pattern) (n : ℕ) → n ≤ link
+            → AreCalm hops pattern n self.old
             → AreCalm hops pattern n self.new }
     {
         if self.calm >= link {

@@ -97,7 +97,8 @@ impl Patterns {
 
     // Advances to the next listed pattern. Returns whether there is one.
     fn step(&mut self) -> bool
-        ensures { MatchBool result ((pattern : SeenPattern) × Gives self.old (Some pattern) self.new) (Gives self.old None self.new) }
+        ensures { MatchBool result ((pattern : SeenPattern)
+            × Gives self.old (Some pattern) self.new) (Gives self.old None self.new) }
     {
         let current = &mut self.current;
         if self.question.find(

@@ -190,9 +190,11 @@ impl Question {
         requires same { same ≤ length self.now.base }
         requires quiet { IsQuiet self.now.base quiet.old states.old }
         ensures quiet { IsQuiet self.now.base quiet.new states.new }
-        ensures found { MatchOption result ((next_assignment same self.now.base self.now.unbounded states.old ≡ None)
+        ensures found { MatchOption result
+            ((next_assignment same self.now.base self.now.unbounded states.old ≡ None)
             × (states.new ≡ states.old))
-            (λ link. (next_assignment same self.now.base self.now.unbounded states.old ≡ Some states.new)
+            (λ link.
+            (next_assignment same self.now.base self.now.unbounded states.old ≡ Some states.new)
             × IsSameBefore same link states.old states.new) }
     {
         let order = Order {
@@ -207,9 +209,11 @@ impl Question {
 
     // Shortens the trail to the first `link` links, so that it is one of all states that agree with the present ones there.
     fn retreat(&self, link: usize, trail: &mut Trail)
-        requires left { (before : SeenPattern) × IsAssignment self.now.base self.now.unbounded before
+        requires left { (before : SeenPattern)
+            × IsAssignment self.now.base self.now.unbounded before
             × IsTrailOf self.now before trail.old }
-        ensures { (before after : SeenPattern) → IsTrailOf self.now before trail.old → IsAssignment self.now.base self.now.unbounded before
+        ensures { (before after : SeenPattern) → IsTrailOf self.now before trail.old
+            → IsAssignment self.now.base self.now.unbounded before
             → take link after ≡ take link before → IsTrailOf self.now after trail.new }
     {
         trail.retreat(&self.hops, link, &self.stated);
@@ -219,7 +223,8 @@ impl Question {
     fn seek(&self, states: &mut [Option<State>], trail: &mut Trail, quiet: &mut Quiet) -> bool
         requires placed { IsPlaced self.now states.old trail.old quiet.old }
         ensures placed { IsPlaced self.now states.new trail.new quiet.new }
-        ensures found { MatchBool result (IsFirstFrom self.now states.old states.new) (NoneFrom self.now states.old) }
+        ensures found { MatchBool result (IsFirstFrom self.now states.old states.new)
+            (NoneFrom self.now states.old) }
     {
         while let Some(same) = self.failing(states, trail) {
             let Some(link) = self.advance(states, same, quiet) else {
@@ -235,7 +240,8 @@ impl Question {
         requires base { states.old ≡ self.now.base }
         requires placed { IsPlaced self.now states.old trail.old quiet.old }
         ensures placed { IsPlaced self.now states.new trail.new quiet.new }
-        ensures found { MatchBool result (IsNext self.now AtStart states.new) (NoneLeft self.now AtStart) }
+        ensures found { MatchBool result (IsNext self.now AtStart states.new)
+            (NoneLeft self.now AtStart) }
     {
         self.seek(states, trail, quiet)
     }
@@ -244,7 +250,8 @@ impl Question {
     fn after(&self, states: &mut [Option<State>], trail: &mut Trail, quiet: &mut Quiet) -> bool
         requires placed { IsPlaced self.now states.old trail.old quiet.old }
         ensures placed { IsPlaced self.now states.new trail.new quiet.new }
-        ensures found { MatchBool result (IsNext self.now (UpTo states.old) states.new) (NoneLeft self.now (UpTo states.old)) }
+        ensures found { MatchBool result (IsNext self.now (UpTo states.old) states.new)
+            (NoneLeft self.now (UpTo states.old)) }
     {
         let links = states.len();
         match self.advance(states, links, quiet) {

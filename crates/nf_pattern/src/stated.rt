@@ -25,7 +25,8 @@ fn next_here(base: &[Option<State>], link: usize, behind: usize) -> usize
 // Returns for each link the next link from it on that has a state, or the number of links. Fails if an allocation fails.
 fn next_stated(alloc: Global, base: &[Option<State>]) -> Result<Vec<usize>, AllocError>
     ensures count { IfOk result (λ next. length next.items ≡ length base.now) }
-    ensures next { IfOk result (λ next. (e n : ℕ) → slice_get next.items e ≡ Some n → IsNextFrom base.now e n) }
+    ensures next { IfOk result
+        (λ next. (e n : ℕ) → slice_get next.items e ≡ Some n → IsNextFrom base.now e n) }
 {
     let links = base.len();
     let mut next = vec![in alloc; links; links]?;
@@ -51,7 +52,8 @@ fn last_here(base: &[Option<State>], link: usize, before: usize) -> usize
 // Returns for each link the last link up to it that has a state, or 0. Fails if an allocation fails.
 fn last_stated(alloc: Global, base: &[Option<State>]) -> Result<Vec<usize>, AllocError>
     ensures count { IfOk result (λ last. length last.items ≡ length base.now) }
-    ensures last { IfOk result (λ last. (e n : ℕ) → slice_get last.items e ≡ Some n → IsLastTo base.now e n) }
+    ensures last { IfOk result
+        (λ last. (e n : ℕ) → slice_get last.items e ≡ Some n → IsLastTo base.now e n) }
 {
     let mut last = Vec::new(alloc);
     let mut found = 0;
@@ -78,7 +80,8 @@ impl StatedLinks {
 
     // Returns the next link from this one on that has a state, or the number of links.
     pub(crate) fn from(&self, link: usize) -> usize
-        ensures { (p : SeenPattern) → AreStated p self.now → link ≤ length p → IsNextFrom p link result }
+        ensures { (p : SeenPattern) → AreStated p self.now → link ≤ length p
+            → IsNextFrom p link result }
     {
         if link < self.next.len() {
             self.next[link]

@@ -44,9 +44,11 @@ impl Trail {
         requires fewer { length hops.now < 2 ^ 32 }
         requires base { length base.now ≡ length hops.now }
         requires resetting { length resetting.now ≡ length hops.now }
-        ensures follows { IfOk result (λ trail. (p : SeenPattern) → Follows source hops.now resetting.now p trail) }
+        ensures follows { IfOk result
+            (λ trail. (p : SeenPattern) → Follows source hops.now resetting.now p trail) }
         ensures nodes { IfOk result (λ trail. length trail.tight.last.items ≡ nodes) }
-        ensures ends { IfOk result (λ trail. AreEnds hops.now resetting.now base.now trail.ends.items) }
+        ensures ends { IfOk result
+            (λ trail. AreEnds hops.now resetting.now base.now trail.ends.items) }
         ensures lost { IfOk result (λ trail. IsLost source trail.ends.items trail.lost) }
     {
         let tight = TightLinks::none(alloc, nodes, hops)?;
@@ -93,7 +95,8 @@ impl Trail {
         requires below { AreBelow (length self.now.ends.items) hops.now }
         requires chain { AreChained hops.now self.now.chain.items }
         requires count { length self.now.chain.items ≡ length hops.now }
-        ensures { MatchBool result (Strands source hops.now resetting.now states.now self.now.ends.items link)
+        ensures { MatchBool result
+            (Strands source hops.now resetting.now states.now self.now.ends.items link)
             (Keeps source hops.now resetting.now states.now self.now.ends.items link) }
     {
         if may_carry(states, resetting, link) {
@@ -125,7 +128,8 @@ impl Trail {
         requires more { self.old.depth < length hops.now }
         ensures follows { Follows source hops.now resetting.now states.now self.new }
         ensures way { IsOnWay self.old self.new }
-        ensures entered { MatchBool result (self.new.depth ≡ suc self.old.depth) ((self.new.depth ≡ self.old.depth)
+        ensures entered { MatchBool result (self.new.depth ≡ suc self.old.depth)
+            ((self.new.depth ≡ self.old.depth)
             × (Strands source hops.now resetting.now states.now self.new.ends.items self.new.depth
             ⊎ Closes hops.now states.now self.new.depth)) }
     {
@@ -146,11 +150,14 @@ impl Trail {
 
     // Skips links without a state. Returns whether a link remains.
     fn pass(&mut self, hops: &[Hop], stated: &StatedLinks) -> bool
-        ensures kept { (source : ℕ) (resetting : List Bool) (p : SeenPattern) → AreStated p stated.now → length p ≡ length hops.now
-            → DoEndsCarry resetting p self.old.ends.items → Follows source hops.now resetting p self.old
+        ensures kept { (source : ℕ) (resetting : List Bool) (p : SeenPattern)
+            → AreStated p stated.now → length p ≡ length hops.now
+            → DoEndsCarry resetting p self.old.ends.items
+            → Follows source hops.now resetting p self.old
             → Follows source hops.now resetting p self.new × (self.old.depth ≤ self.new.depth) }
         ensures way { IsOnWay self.old self.new }
-        ensures left { MatchBool result (self.new.depth < length hops.now) (length hops.now ≤ self.new.depth) }
+        ensures left { MatchBool result (self.new.depth < length hops.now)
+            (length hops.now ≤ self.new.depth) }
     {
         self.depth = stated.from(self.depth);
         self.depth < hops.len()
@@ -174,7 +181,8 @@ impl Trail {
         requires follows { Follows source hops.now resetting.now states.now self.old }
         ensures follows { Follows source hops.now resetting.now states.now self.new }
         ensures way { IsOnWay self.old self.new }
-        ensures extended { MatchBool result (self.new.depth ≡ length hops.now) ((self.new.depth < length hops.now)
+        ensures extended { MatchBool result (self.new.depth ≡ length hops.now)
+            ((self.new.depth < length hops.now)
             × (Strands source hops.now resetting.now states.now self.new.ends.items self.new.depth
             ⊎ Closes hops.now states.now self.new.depth)) }
     {
@@ -192,7 +200,8 @@ impl Trail {
         requires left { IsLeft hops.now self.old }
         requires some { 0 < self.old.depth }
         ensures kept { (source : ℕ) (resetting : List Bool) (p : SeenPattern)
-            → Follows source hops.now resetting p self.old → Follows source hops.now resetting p self.new }
+            → Follows source hops.now resetting p self.old
+            → Follows source hops.now resetting p self.new }
         ensures way { IsOnWay self.old self.new }
         ensures depth { suc self.new.depth ≡ self.old.depth }
     {
@@ -205,7 +214,8 @@ impl Trail {
     fn pass_back(&mut self, stated: &StatedLinks)
         requires stated { (p : SeenPattern) × AreStated p stated.now }
         requires some { 0 < self.old.depth }
-        ensures kept { (source : ℕ) (hops : List SeenHop) (resetting : List Bool) (p : SeenPattern) → AreStated p stated.now
+        ensures kept { (source : ℕ) (hops : List SeenHop) (resetting : List Bool) (p : SeenPattern)
+            → AreStated p stated.now
             → Follows source hops resetting p self.old → Follows source hops resetting p self.new }
         ensures way { IsOnWay self.old self.new }
         ensures some { 0 < self.new.depth }
@@ -218,8 +228,10 @@ impl Trail {
     pub(crate) fn retreat(&mut self, hops: &[Hop], link: usize, stated: &StatedLinks)
         requires fewer { length hops.now < 2 ^ 32 }
         requires left { IsLeftBy hops.now stated.now self.old }
-        ensures kept { (source : ℕ) (resetting : List Bool) (p : SeenPattern) → AreStated p stated.now
-            → Follows source hops.now resetting p self.old → Follows source hops.now resetting p self.new }
+        ensures kept { (source : ℕ) (resetting : List Bool) (p : SeenPattern)
+            → AreStated p stated.now
+            → Follows source hops.now resetting p self.old
+            → Follows source hops.now resetting p self.new }
         ensures way { IsOnWay self.old self.new }
         ensures depth { self.new.depth ≤ link }
     {

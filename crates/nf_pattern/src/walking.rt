@@ -28,7 +28,8 @@ pub(crate) struct Place {
 // Returns whether the link's state is Tight.
 pub(crate) fn is_tight(states: &[Option<State>], link: LinkId) -> bool
     requires { link < length states.now }
-    ensures { MatchBool result (HasState states.now link Tight) (HasState states.now link Tight → ⊥) }
+    ensures { MatchBool result (HasState states.now link Tight)
+        (HasState states.now link Tight → ⊥) }
 {
     let state = states[link.index()];
     match state {
@@ -49,7 +50,8 @@ impl TightLinks {
     // Returns a stack of no links. Fails if an allocation fails.
     pub(crate) fn none(alloc: Global, nodes: u32, hops: &[Hop]) -> Result<TightLinks, AllocError>
         requires { AreBelow nodes hops.now }
-        ensures holds { IfOk result (λ tight. (pattern : Pattern) → Holds hops.now pattern 0 tight) }
+        ensures holds { IfOk result
+            (λ tight. (pattern : Pattern) → Holds hops.now pattern 0 tight) }
         ensures nodes { IfOk result (λ tight. length tight.last.items ≡ nodes) }
     {
         let last = vec![in alloc; None; nodes as usize]?;
@@ -64,7 +66,8 @@ impl TightLinks {
         requires tails { length self.now.tails.items ≡ length hops.now }
         requires heads { length self.now.heads.items ≡ length hops.now }
         ensures node { result.node ≡ other_end hops.now link node }
-        ensures link { (states : Pattern) (depth : ℕ) → Holds hops.now states depth self.now → link < depth → HasState states link Tight
+        ensures link { (states : Pattern) (depth : ℕ) → Holds hops.now states depth self.now
+            → link < depth → HasState states link Tight
             → result.link ≡ last_at (ends_at hops.now states) link (other_end hops.now link node) }
     {
         let hop = &hops[link.index()];
@@ -87,9 +90,12 @@ impl TightLinks {
             × IsPlace hops.now states depth place.node place.link }
         requires within { place.node < length self.now.last.items }
         ensures goes { (states : Pattern) (depth : ℕ) → Holds hops.now states depth self.now
-            → IsPlace hops.now states depth place.node place.link → Goes hops.now states depth start place result }
-        ensures place { IfSome result (λ after. (states : Pattern) (depth : ℕ) → Holds hops.now states depth self.now
-            → IsPlace hops.now states depth place.node place.link → IsPlace hops.now states depth after.node after.link) }
+            → IsPlace hops.now states depth place.node place.link
+            → Goes hops.now states depth start place result }
+        ensures place { IfSome result
+            (λ after. (states : Pattern) (depth : ℕ) → Holds hops.now states depth self.now
+            → IsPlace hops.now states depth place.node place.link
+            → IsPlace hops.now states depth after.node after.link) }
         ensures within { IfSome result (λ after. after.node < length self.now.last.items) }
     {
         match place.link {
@@ -113,7 +119,8 @@ impl TightLinks {
         requires stated { link < length states.now }
         requires holds { Holds hops.now states.now link self.now }
         requires clear { NoneCloses hops.now states.now link }
-        ensures { MatchBool result (Closes hops.now states.now link) (Closes hops.now states.now link → ⊥) }
+        ensures { MatchBool result (Closes hops.now states.now link)
+            (Closes hops.now states.now link → ⊥) }
     {
         if !is_tight(states, link) {
             return false;
@@ -153,7 +160,8 @@ impl TightLinks {
         requires tails { length self.old.tails.items ≡ length hops.now }
         requires heads { length self.old.heads.items ≡ length hops.now }
         requires below { AreBelow (length self.old.last.items) hops.now }
-        ensures holds { (pattern : Pattern) → Holds hops.now pattern link self.old → HasState pattern link Tight
+        ensures holds { (pattern : Pattern) → Holds hops.now pattern link self.old
+            → HasState pattern link Tight
             → Holds hops.now pattern (suc link) self.new }
         ensures nodes { length self.new.last.items ≡ length self.old.last.items }
     {
@@ -176,7 +184,8 @@ impl TightLinks {
         requires states { length states.now ≡ length hops.now }
         requires holds { Holds hops.now states.now link self.old }
         requires clear { NoneCloses hops.now states.now link }
-        ensures { MatchBool result (Holds hops.now states.now (suc link) self.new × NoneCloses hops.now states.now (suc link))
+        ensures { MatchBool result (Holds hops.now states.now (suc link) self.new
+            × NoneCloses hops.now states.now (suc link))
             ((self.new ≡ self.old) × Closes hops.now states.now link) }
     {
         if !is_tight(states, link) {
@@ -203,7 +212,8 @@ impl TightLinks {
         requires holds { Holds hops.now states.now link self.old }
         requires clear { NoneCloses hops.now states.now link }
         requires calm { AreCalm hops.now states.now link firm.old }
-        ensures entered { MatchBool result (Holds hops.now states.now (suc link) self.new × NoneCloses hops.now states.now (suc link)
+        ensures entered { MatchBool result (Holds hops.now states.now (suc link) self.new
+            × NoneCloses hops.now states.now (suc link)
             × AreCalm hops.now states.now (suc link) firm.new)
             ((self.new ≡ self.old) × (firm.new ≡ firm.old) × Closes hops.now states.now link) }
         ensures nodes { length self.new.last.items ≡ length self.old.last.items }
@@ -238,7 +248,8 @@ impl TightLinks {
         requires tails { length self.old.tails.items ≡ length hops.now }
         requires heads { length self.old.heads.items ≡ length hops.now }
         requires below { AreBelow (length self.old.last.items) hops.now }
-        ensures holds { (pattern : Pattern) → Holds hops.now pattern (suc link) self.old → Holds hops.now pattern link self.new }
+        ensures holds { (pattern : Pattern) → Holds hops.now pattern (suc link) self.old
+            → Holds hops.now pattern link self.new }
         ensures nodes { length self.new.last.items ≡ length self.old.last.items }
     {
         let hop = &hops[link.index()];

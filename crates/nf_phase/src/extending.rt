@@ -30,7 +30,8 @@ impl Run {
         requires reaches { Reaches passes_Q net.now.net self.old }
         requires named { IsNamed net.now }
         requires more { self.old.made < 2 ^ 64 - 1 }
-        requires leads { (horizon : ℚ) × (patterns : ℕ) × LeadsOn passes_Q net.now.net horizon patterns self.old phase }
+        requires leads { (horizon : ℚ) × (patterns : ℕ)
+            × LeadsOn passes_Q net.now.net horizon patterns self.old phase }
         ensures made { OnOk result (self.new ≡ after_phase net.now.net self.old phase) }
         ensures kept { OnErr result (self.new ≡ self.old) }
     {
@@ -67,8 +68,10 @@ impl Run {
         requires reaches { Reaches passes_Q net.now.net self.old }
         requires named { IsNamed net.now }
         requires more { self.old.made < 2 ^ 64 - 1 }
-        requires leads { (horizon : ℚ) × (patterns : ℕ) × LeadsOn passes_Q net.now.net horizon patterns self.old next.phase }
-        ensures made { OnOk result (self.new ≡ after_rest next.rests net.now.net self.old next.phase) }
+        requires leads { (horizon : ℚ) × (patterns : ℕ)
+            × LeadsOn passes_Q net.now.net horizon patterns self.old next.phase }
+        ensures made { OnOk result
+            (self.new ≡ after_rest next.rests net.now.net self.old next.phase) }
         ensures kept { OnErr result (self.new ≡ self.old) }
     {
         let NextPhase { rests, phase } = next;

@@ -35,11 +35,14 @@ impl Run {
     fn slacks(&self, alloc: Global, net: &Network) -> Result<Vec<Q>, StepFault>
         requires reaches { Reaches passes_Q net.now.net self.now }
         ensures named { IsNamed net.now }
-        ensures slacks { IfOk result (λ slacks. slacks.items ≡ slacks_of (hops_of net.now.net) self.now.labels) }
+        ensures slacks { IfOk result
+            (λ slacks. slacks.items ≡ slacks_of (hops_of net.now.net) self.now.labels) }
         ensures list { OnOk result
-            (slack_list passes_Q (hops_of net.now.net) self.now.labels ≡ Ok (slacks_of (hops_of net.now.net) self.now.labels)) }
+            (slack_list passes_Q (hops_of net.now.net) self.now.labels
+            ≡ Ok (slacks_of (hops_of net.now.net) self.now.labels)) }
         ensures cause { (patterns : ℕ)
-            → IfErr result (StandsFor (FindsNone passes_Q net.now.net patterns self.now) (suc self.now.made)) }
+            → IfErr result
+            (StandsFor (FindsNone passes_Q net.now.net patterns self.now) (suc self.now.made)) }
     {
         let slacks = slacks(alloc, net.hops(), &self.labels)?;
         Ok(slacks)
@@ -55,7 +58,8 @@ impl Run {
     ) -> Result<ThinFlow, SearchFault>
         requires reaches { Reaches passes_Q net.now.net self.now }
         requires sets { sets.now ≡ sets_at net.now.net self.now.labels }
-        ensures { (horizon : ℚ) → Finds (IsSearchHere passes_Q net.now.net horizon patterns self.now) patterns result }
+        ensures { (horizon : ℚ)
+            → Finds (IsSearchHere passes_Q net.now.net horizon patterns self.now) patterns result }
     {
         let base = base(alloc, net.node_count(), net.hops(), sets, &self.last)?;
         find_thin(alloc, net, sets, net.rate_at(self.reached), &base, patterns)
@@ -71,7 +75,8 @@ impl Run {
         requires reaches { Reaches passes_Q net.now.net self.now }
         ensures named { IsNamed net.now }
         ensures found { IfOk result (IsFound passes_Q net.now.net patterns self.now) }
-        ensures cause { IfErr result (StandsFor (FindsNone passes_Q net.now.net patterns self.now) (suc self.now.made)) }
+        ensures cause { IfErr result
+            (StandsFor (FindsNone passes_Q net.now.net patterns self.now) (suc self.now.made)) }
     {
         let slacks = self.slacks(alloc, net)?;
         let sets = sets(alloc, &slacks)?;

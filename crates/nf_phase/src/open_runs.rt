@@ -30,7 +30,8 @@ fn none_starts(pieces: &[Piece], time: Q) -> bool
 fn is_apart(slacks: &[Q], last: &Pattern, link: LinkId) -> bool
     requires slacks { link < length slacks.now }
     requires last { link < length last.now }
-    ensures { MatchBool result (ApartAt slacks.now last.now link) (ApartAt slacks.now last.now link → ⊥) }
+    ensures { MatchBool result (ApartAt slacks.now last.now link)
+        (ApartAt slacks.now last.now link → ⊥) }
 {
     match last.state(link) {
         Some(_) => true,
@@ -71,7 +72,8 @@ impl Run {
         requires reaches { Reaches passes_Q net.now.net self.now }
         requires named { IsNamed net.now }
         requires slacks { slacks.now ≡ slacks_of (hops_of net.now.net) self.now.labels }
-        ensures { MatchBool result (Continues net.now.net self.now) (Continues net.now.net self.now → ⊥) }
+        ensures { MatchBool result (Continues net.now.net self.now)
+            (Continues net.now.net self.now → ⊥) }
     {
         if self.made > 0 {
             return false;

@@ -50,13 +50,17 @@ impl Run {
         requires reaches { Reaches passes_Q net.now.net self.now }
         requires named { IsNamed net.now }
         requires found { (patterns : ℕ) × IsFound passes_Q net.now.net patterns self.now found.now }
-        ensures lists { IfOk result (λ parts. phase_lists passes_Q net.now.net horizon self.now found.now.thin.pattern
+        ensures lists { IfOk result
+            (λ parts. phase_lists passes_Q net.now.net horizon self.now found.now.thin.pattern
             found.now.thin.flows.items found.now.thin.slopes.items
-            ≡ Ok (record { length = parts.0.length; labels = parts.0.labels; links = parts.1.items })) }
+            ≡ Ok
+            (record { length = parts.0.length; labels = parts.0.labels; links = parts.1.items })) }
         ensures length { IfOk result (λ parts. IsPhaseLength net.now.net
-            (slacks_of (hops_of net.now.net) self.now.labels) found.now.thin.slopes.items self.now.time horizon parts.0.length) }
+            (slacks_of (hops_of net.now.net) self.now.labels) found.now.thin.slopes.items
+            self.now.time horizon parts.0.length) }
         ensures cause { IfErr result (StandsFor
-            (ListsPass passes_Q net.now.net horizon self.now found.now.thin.pattern found.now.thin.flows.items found.now.thin.slopes.items)
+            (ListsPass passes_Q net.now.net horizon self.now found.now.thin.pattern
+            found.now.thin.flows.items found.now.thin.slopes.items)
             (suc self.now.made)) }
     {
         let slopes = &found.thin.slopes;
@@ -99,7 +103,8 @@ impl Run {
             → IfOk result (LeadsOn passes_Q net.now.net horizon patterns self.now) }
         ensures thin { IfOk result (λ phase. phase.thin ≡ found.thin) }
         ensures cause { IfErr result
-            (StandsFor (ListsPass passes_Q net.now.net horizon self.now found.thin.pattern found.thin.flows.items found.thin.slopes.items)
+            (StandsFor (ListsPass passes_Q net.now.net horizon self.now found.thin.pattern
+            found.thin.flows.items found.thin.slopes.items)
             (suc self.now.made)) }
     {
         let (end, steps) = self.lists(alloc, net, horizon, &found)?;
@@ -128,8 +133,10 @@ impl Run {
         requires reaches { Reaches passes_Q net.now.net self.now }
         requires below { self.now.time <ℚ horizon }
         ensures named { IsNamed net.now }
-        ensures rests { IfOk result (λ next. MatchBool next.rests (Continues net.now.net self.now) (Continues net.now.net self.now → ⊥)) }
-        ensures leads { IfOk result (λ next. LeadsOn passes_Q net.now.net horizon patterns self.now next.phase) }
+        ensures rests { IfOk result (λ next. MatchBool next.rests (Continues net.now.net self.now)
+            (Continues net.now.net self.now → ⊥)) }
+        ensures leads { IfOk result
+            (λ next. LeadsOn passes_Q net.now.net horizon patterns self.now next.phase) }
         ensures cause { IfErr result (IsCause passes_Q net.now.net horizon patterns self.now) }
     {
         let found = self.find(alloc, net, patterns)?;

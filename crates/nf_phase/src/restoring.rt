@@ -42,7 +42,8 @@ impl Run {
         requires short { IsShortFlow net.now.net (flow_in flow) }
         requires states { length last ≡ length net.now.net.links }
         requires no_full { NoneFull net.now.net last }
-        ensures list { Gives (λ run. run) (λ q. q) result (at_part CurvePart (restore_list passes_Q (flow_in flow) last)) }
+        ensures list { Gives (λ run. run) (λ q. q) result
+            (at_part CurvePart (restore_list passes_Q (flow_in flow) last)) }
         ensures state { IfOk result (IsRunState passes_Q net.now.net) }
         ensures flow { IfOk result (λ run. flow_of run ≡ flow_in flow) }
         ensures fresh { IfOk result (λ run. run.made ≡ 0) }

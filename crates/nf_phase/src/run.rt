@@ -90,8 +90,10 @@ impl Run {
         requires below { self.old.time <ℚ horizon }
         requires more { self.old.made < 2 ^ 64 - 1 }
         ensures goes { OnOk result (Steps passes_Q net.now.net horizon patterns self.old self.new) }
-        ensures begins { (Continues net.now.net self.old → ⊥) → OnOk result (Goes passes_Q net.now.net horizon patterns self.old self.new) }
-        ensures only { OnOk result (LeadsOnlyTo net.now.net horizon (reached_by self.old) (reached_by self.new)) }
+        ensures begins { (Continues net.now.net self.old → ⊥)
+            → OnOk result (Goes passes_Q net.now.net horizon patterns self.old self.new) }
+        ensures only { OnOk result
+            (LeadsOnlyTo net.now.net horizon (reached_by self.old) (reached_by self.new)) }
         ensures state { IsRunState passes_Q net.now.net self.new }
         ensures kept { OnErr result (self.new ≡ self.old) }
         ensures cause { IfErr result (IsCause passes_Q net.now.net horizon patterns self.old) }
@@ -114,8 +116,10 @@ impl Run {
     ) -> Result<Option<ThinFlow>, StepFault>
         requires reaches { Reaches passes_Q net.now.net self.old }
         requires more { self.old.made < 2 ^ 64 - 1 }
-        ensures phase { IfOk result (λ tail. MatchOption tail (GoesToEnd passes_Q net.now.net patterns self.old self.new)
-            (λ thin. GoesForever passes_Q net.now.net patterns self.old thin.pattern (tail_of thin))) }
+        ensures phase { IfOk result
+            (λ tail. MatchOption tail (GoesToEnd passes_Q net.now.net patterns self.old self.new)
+            (λ thin.
+            GoesForever passes_Q net.now.net patterns self.old thin.pattern (tail_of thin))) }
         ensures stays { IfOk result (λ tail. IsSome tail → self.new ≡ self.old) }
         ensures state { IsRunState passes_Q net.now.net self.new }
         ensures kept { OnErr result (self.new ≡ self.old) }

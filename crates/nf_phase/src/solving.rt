@@ -50,7 +50,8 @@ impl Run {
         requires named { IsNamed net.now }
         requires fresh { self.old.made ≡ 0 }
         requires horizon { self.old.time ≤ℚ horizon }
-        ensures { IfOk result (RunsOn passes_Q net.now.net (bounds_of horizon budgets) self.old self.new) }
+        ensures { IfOk result
+            (RunsOn passes_Q net.now.net (bounds_of horizon budgets) self.old self.new) }
     {
         for _ in 0..budgets.phases {
             if self.is_at(horizon) {
@@ -102,7 +103,8 @@ impl Run {
         requires reaches { Reaches passes_Q net.now.net self }
         requires fresh { self.made ≡ 0 }
         requires horizon { self.time ≤ℚ horizon }
-        ensures finished { IfOk result (λ s. IsFinished net.now.net (bounds_of horizon budgets) self s.phases (report_in horizon s)) }
+        ensures finished { IfOk result (λ s. IsFinished net.now.net
+            (bounds_of horizon budgets) self s.phases (report_in horizon s)) }
     {
         // Proof: the network is that of an accepted file.
         net.recall();
@@ -124,7 +126,8 @@ pub fn solve(
     budgets: Budgets,
 ) -> Result<Solution, AllocError>
     requires { 0ℚ ≤ℚ horizon }
-    ensures solution { IfOk result (λ s. IsSolution net.now.net (bounds_of horizon budgets) s.phases (report_in horizon s)) }
+    ensures solution { IfOk result
+        (λ s. IsSolution net.now.net (bounds_of horizon budgets) s.phases (report_in horizon s)) }
 {
     // Proof: the network is that of an accepted file.
     net.recall();

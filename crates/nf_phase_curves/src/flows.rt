@@ -12,7 +12,8 @@ use std::alloc::{AllocError, Global};
 
 // Returns the label curves so far, and ends their growth. Refuses only if memory can't be allocated.
 fn finish_labels(alloc: Global, growing: Vec<GrowingCurve>) -> Result<Vec<Curve>, AllocError>
-    ensures { IfOk result (λ curves. map (λ c. c.points) curves.items ≡ map (λ c. c.points) (all_grown growing.items)) }
+    ensures { IfOk result (λ curves. map (λ c. c.points) curves.items
+        ≡ map (λ c. c.points) (all_grown growing.items)) }
 {
     let mut curves = Vec::new(alloc);
     for curve in growing {
@@ -23,7 +24,8 @@ fn finish_labels(alloc: Global, growing: Vec<GrowingCurve>) -> Result<Vec<Curve>
 
 // Returns copies of the label curves so far. Refuses only if memory can't be allocated.
 fn copy_labels(alloc: Global, growing: &[GrowingCurve]) -> Result<Vec<Curve>, AllocError>
-    ensures { IfOk result (λ curves. map (λ c. c.points) curves.items ≡ map (λ c. c.points) (all_grown growing.now)) }
+    ensures { IfOk result
+        (λ curves. map (λ c. c.points) curves.items ≡ map (λ c. c.points) (all_grown growing.now)) }
 {
     let mut curves = Vec::new(alloc);
     for curve in growing {
@@ -54,7 +56,8 @@ fn without_links(alloc: Global, reached: Q, labels: Vec<Curve>) -> Flow
 // Appends the flow of the next link. Refuses only if memory can't be allocated.
 fn add_link(flow: &mut Flow, link: LinkFlow) -> Result<(), AllocError>
     ensures { OnOk result
-        (flow_of flow.new ≡ with_link (flow_of flow.old) (trace_of link.inflow) (trace_of link.outflow) link.queue.points) }
+        (flow_of flow.new ≡ with_link (flow_of flow.old) (trace_of link.inflow)
+        (trace_of link.outflow) link.queue.points) }
 {
     let LinkFlow {
         inflow,
@@ -74,7 +77,8 @@ pub fn finish_flow(
     labels: Vec<GrowingCurve>,
     links: Vec<LinkCurves>,
 ) -> Result<Flow, AllocError>
-    ensures { IfOk result (λ flow. flow_of flow ≡ flow_so_far reached (all_grown labels.items) (all_grown links.items)) }
+    ensures { IfOk result (λ flow. flow_of flow
+        ≡ flow_so_far reached (all_grown labels.items) (all_grown links.items)) }
 {
     let labels = finish_labels(alloc, labels)?;
     let mut flow = without_links(alloc, reached, labels);
@@ -93,7 +97,8 @@ pub fn copy_flow(
     labels: &[GrowingCurve],
     links: &[LinkCurves],
 ) -> Result<Flow, AllocError>
-    ensures { IfOk result (λ flow. flow_of flow ≡ flow_so_far reached (all_grown labels.now) (all_grown links.now)) }
+    ensures { IfOk result
+        (λ flow. flow_of flow ≡ flow_so_far reached (all_grown labels.now) (all_grown links.now)) }
 {
     let labels = copy_labels(alloc, labels)?;
     let mut flow = without_links(alloc, reached, labels);

@@ -147,7 +147,8 @@ impl GrowingCurve {
     /// Returns the growing curve with the points of `curve`. Refuses with Passed, of the part Curve, at the first operation of its list
     /// that exceeds its bound. Refuses with Memory only if memory can't be allocated.
     pub(crate) fn of(alloc: Global, curve: &Curve) -> Result<GrowingCurve, Halt<Q>>
-        ensures { Gives (λ c. c.grown) (λ q. q) result (at_part CurvePart (growing_by passes_Q curve.now.points)) }
+        ensures { Gives (λ c. c.grown) (λ q. q) result
+            (at_part CurvePart (growing_by passes_Q curve.now.points)) }
     {
         let slope = last_slope(curve)?;
         let grown = GrowingCurve::ended(alloc, curve, slope)?;

@@ -68,7 +68,8 @@ pub fn extend_labels(curves: &mut [GrowingCurve], time: Q, labels: &[Q], slopes:
     requires slopes { length slopes.now ≡ length curves.old }
     requires room { AllHaveRoom curves.old }
     requires later { AllEndBefore time (all_grown curves.old) }
-    ensures { all_grown curves.new ≡ label_curves_after time labels.now slopes.now (all_grown curves.old) }
+    ensures { all_grown curves.new
+        ≡ label_curves_after time labels.now slopes.now (all_grown curves.old) }
 {
     for v in 0..curves.len() {
         curves[v].extend(time, labels[v], slopes[v]);

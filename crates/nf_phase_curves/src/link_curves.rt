@@ -87,7 +87,8 @@ impl LinkCurves {
         requires inflow { AreSlopes (trace_of inflow.now).points (trace_of inflow.now).rates }
         requires outflow { AreSlopes (trace_of outflow.now).points (trace_of outflow.now).rates }
         ensures { Gives (λ c. c.grown) (λ q. q) result
-            (at_part CurvePart (of_link passes_Q (trace_of inflow.now) (trace_of outflow.now) queue.now.points)) }
+            (at_part CurvePart
+            (of_link passes_Q (trace_of inflow.now) (trace_of outflow.now) queue.now.points)) }
     {
         let inflow = GrowingTrace::of(alloc, inflow)?;
         let outflow = GrowingTrace::of(alloc, outflow)?;
@@ -121,12 +122,17 @@ impl LinkCurves {
     /// constant and the curve unchanged.
     pub(crate) fn extend(&mut self, tail_label: Q, head_label: Q, step: &LinkStep)
         requires room { HasRoom self.old }
-        requires inflow { IsSome step.now.inflow_rate → end_of self.old.grown.inflow.points <ℚ tail_label }
-        requires outflow { IsSome step.now.outflow_rate → end_of self.old.grown.outflow.points <ℚ head_label }
+        requires inflow { IsSome step.now.inflow_rate
+            → end_of self.old.grown.inflow.points <ℚ tail_label }
+        requires outflow { IsSome step.now.outflow_rate
+            → end_of self.old.grown.outflow.points <ℚ head_label }
         requires queue { IsSome step.now.queue → end_of self.old.grown.queue.points <ℚ tail_label }
-        ensures inflow { self.new.grown.inflow ≡ trace_after self.old.grown.inflow tail_label step.now.amount step.now.inflow_rate }
-        ensures outflow { self.new.grown.outflow ≡ trace_after self.old.grown.outflow head_label step.now.amount step.now.outflow_rate }
-        ensures queue { self.new.grown.queue ≡ queue_after self.old.grown.queue tail_label step.now.queue }
+        ensures inflow { self.new.grown.inflow
+            ≡ trace_after self.old.grown.inflow tail_label step.now.amount step.now.inflow_rate }
+        ensures outflow { self.new.grown.outflow
+            ≡ trace_after self.old.grown.outflow head_label step.now.amount step.now.outflow_rate }
+        ensures queue { self.new.grown.queue
+            ≡ queue_after self.old.grown.queue tail_label step.now.queue }
     {
         self.inflow
             .extend_or_hold(tail_label, step.amount, step.inflow_rate);

@@ -46,7 +46,8 @@ pub fn first_links(
     labels: &[Q],
 ) -> Result<Vec<LinkCurves>, AllocError>
     requires { length labels.now ≡ net.now.net.nodes }
-    ensures { IfOk result (λ curves. all_grown curves.items ≡ map (first_curves labels.now) net.now.net.links) }
+    ensures { IfOk result
+        (λ curves. all_grown curves.items ≡ map (first_curves labels.now) net.now.net.links) }
 {
     let mut curves = Vec::new(alloc);
     for e in 0..net.link_count() {
@@ -70,7 +71,8 @@ pub fn restore_links(
     requires inflow_rates { HasSlopes (map trace_of inflows.now) }
     requires outflow_rates { HasSlopes (map trace_of outflows.now) }
     ensures { Gives (λ curves. all_grown curves.items) (λ q. q) result
-        (at_part CurvePart (of_links passes_Q (map trace_of inflows.now) (map trace_of outflows.now) (map (λ c. c.points) queues.now))) }
+        (at_part CurvePart (of_links passes_Q (map trace_of inflows.now) (map trace_of outflows.now)
+        (map (λ c. c.points) queues.now))) }
 {
     let mut curves = Vec::new(alloc);
     for e in 0..queues.len() {
@@ -100,7 +102,8 @@ pub fn extend_links(curves: &mut [LinkCurves], net: &Network, labels: &[Q], step
     requires steps { length steps.now ≡ length net.now.net.links }
     requires room { AllHaveRoom curves.old }
     requires later { AllLinksEndBefore net.now.net labels.now (all_grown curves.old) steps.now }
-    ensures { all_grown curves.new ≡ link_curves_after labels.now net.now.net.links (all_grown curves.old) steps.now }
+    ensures { all_grown curves.new
+        ≡ link_curves_after labels.now net.now.net.links (all_grown curves.old) steps.now }
 {
     for e in 0..net.link_count() {
         let link = net.link(LinkId(e));

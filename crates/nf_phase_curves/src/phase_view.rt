@@ -37,7 +37,8 @@ impl<'a> PhaseView<'a> {
     // Returns the data of a link in the phase.
     fn link(&self, link: LinkId) -> LinkPhase
         requires { link < count_of self.now.net.now.net.links }
-        ensures { (here : SeenLink) → IsLink self.now.net.now.net link here → result ≡ link_phase self.now.sets.now self.now.pattern.now
+        ensures { (here : SeenLink) → IsLink self.now.net.now.net link here
+            → result ≡ link_phase self.now.sets.now self.now.pattern.now
             self.now.flows.now self.now.slopes.now self.now.labels.now (link, here) }
     {
         let here = self.net.link(link);
@@ -58,8 +59,10 @@ impl<'a> PhaseView<'a> {
         requires link { link < count_of self.now.net.now.net.links }
         requires amounts { count_of amounts.now ≡ count_of self.now.net.now.net.links }
         ensures { (here : SeenLink) → IsLink self.now.net.now.net link here
-            → result ≡ at_part Curve (link_step_by passes_Q self.now.length (number_at amounts.now link) (link_phase self.now.sets.now
-            self.now.pattern.now self.now.flows.now self.now.slopes.now self.now.labels.now (link, here))) }
+            → result ≡ at_part Curve (link_step_by passes_Q self.now.length
+            (number_at amounts.now link) (link_phase self.now.sets.now
+            self.now.pattern.now self.now.flows.now self.now.slopes.now self.now.labels.now
+            (link, here))) }
     {
         let here = self.link(link);
         link_step(self.length, amounts[link.index()], &here)
@@ -69,8 +72,10 @@ impl<'a> PhaseView<'a> {
     /// Curve, at the first operation of the curve list that exceeds its bound. Refuses with Memory only if memory can't be allocated.
     pub fn link_steps(&self, alloc: Global, amounts: &[Q]) -> Result<Vec<LinkStep>, Halt<Q>>
         requires { count_of amounts.now ≡ count_of self.now.net.now.net.links }
-        ensures { Gives (λ steps. steps.items) (λ q. q) result (at_part Curve (curve_list passes_Q self.now.net.now.net self.now.sets.now
-            self.now.pattern.now self.now.length self.now.flows.now self.now.slopes.now self.now.labels.now amounts.now)) }
+        ensures { Gives (λ steps. steps.items) (λ q. q) result
+            (at_part Curve (curve_list passes_Q self.now.net.now.net self.now.sets.now
+            self.now.pattern.now self.now.length self.now.flows.now self.now.slopes.now
+            self.now.labels.now amounts.now)) }
     {
         let mut steps = Vec::new(alloc);
         for e in 0..self.net.link_count() {

@@ -55,7 +55,8 @@ fn after_link(
     tail_slope: Q,
     head_slope: Q,
 ) -> Result<Option<Q>, PassedAt<Q>>
-    ensures { result ≡ at_part Extend (after_link_by passes_Q (is_zero_by slack) least slack tail_slope head_slope) }
+    ensures { result ≡ at_part Extend
+        (after_link_by passes_Q (is_zero_by slack) least slack tail_slope head_slope) }
 {
     if slack.is_zero() {
         return Ok(least);
@@ -136,8 +137,10 @@ pub fn extension(
 ) -> Result<Option<Q>, PassedAt<Q>>
     requires slacks { length slacks.now ≡ length net.now.net.links }
     requires slopes { length slopes.now ≡ net.now.net.nodes }
-    ensures list { result ≡ at_part Extend (extend_list passes_Q net.now.net slacks.now slopes.now time) }
-    ensures length { IfOk result (λ length. MatchOption length (IsUnending net.now.net slacks.now slopes.now time)
+    ensures list { result
+        ≡ at_part Extend (extend_list passes_Q net.now.net slacks.now slopes.now time) }
+    ensures length { IfOk result
+        (λ length. MatchOption length (IsUnending net.now.net slacks.now slopes.now time)
         (IsExtension net.now.net slacks.now slopes.now time)) }
 {
     let least = after_links(net, slacks, slopes)?;
@@ -164,7 +167,8 @@ fn end_after(time: Q, length: Option<Q>) -> Result<Option<Q>, PassedAt<Q>>
 pub fn end_of(net: &Network, slacks: &[Q], slopes: &[Q], time: Q) -> Result<Option<Q>, PassedAt<Q>>
     requires slacks { length slacks.now ≡ length net.now.net.links }
     requires slopes { length slopes.now ≡ net.now.net.nodes }
-    ensures list { result ≡ at_part Extend (end_list passes_Q net.now.net slacks.now slopes.now time) }
+    ensures list { result
+        ≡ at_part Extend (end_list passes_Q net.now.net slacks.now slopes.now time) }
     ensures later { IfOk result (λ end. IfSome end (λ departure. time <ℚ departure)) }
 {
     let length = extension(net, slacks, slopes, time)?;

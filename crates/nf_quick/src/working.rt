@@ -53,7 +53,8 @@ fn flows_of(alloc: Global, net: &Network, flow: &Residual) -> Result<Vec<Q>, All
 fn finish(alloc: Global, net: &Network, flow: &Residual, time: Q) -> Result<Quick, Halt<Q>>
     requires { IsSound net.now.net flow.now }
     ensures { (amount : ℚ)
-        → Gives (λ quick. quick) (λ q. q) result (at_part Part.Quick (finish_list passes_Q net.now.net amount flow.now time)) }
+        → Gives (λ quick. quick) (λ q. q) result
+        (at_part Part.Quick (finish_list passes_Q net.now.net amount flow.now time)) }
 {
     let flows = flows_of(alloc, net, flow)?;
     let walks = walks_off(alloc, net, flows)?;

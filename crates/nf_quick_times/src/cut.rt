@@ -53,7 +53,8 @@ pub fn node_times(
     from_sink: &[Option<Q>],
 ) -> Result<Vec<Q>, Halt<Q>>
     requires { length from_sink.now ≡ length from_source.now }
-    ensures list { Gives (λ cut. cut.items) (λ q. q) result (at_part Quick (node_times_list passes_Q time from_source.now from_sink.now)) }
+    ensures list { Gives (λ cut. cut.items) (λ q. q) result
+        (at_part Quick (node_times_list passes_Q time from_source.now from_sink.now)) }
     ensures count { IfOk result (λ cut. length cut.items ≡ length from_source.now) }
 {
     let mut cut = Vec::with_capacity(alloc, from_source.len())?;

@@ -15,7 +15,8 @@ use nf_net::{Network, Piece};
 // Returns the departure in a piece of rate above 0, where `known` is the amount supplied before its start.
 fn within(amount: Q, known: Q, piece: &Piece) -> Result<Option<Q>, PassedAt<Q>>
     requires { 0ℚ <ℚ piece.now.rate }
-    ensures { (supply_at : ℚ → Checked ℚ) → result ≡ at_part Quick (within_piece passes_Q supply_at amount known piece.now) }
+    ensures { (supply_at : ℚ → Checked ℚ)
+        → result ≡ at_part Quick (within_piece passes_Q supply_at amount known piece.now) }
 {
     let wanted = nf_frac::at!(Part::Quick, amount.difference(known));
     let length = nf_frac::at!(Part::Quick, wanted.quotient(piece.rate));
@@ -26,7 +27,8 @@ fn within(amount: Q, known: Q, piece: &Piece) -> Result<Option<Q>, PassedAt<Q>>
 // Returns the departure in the last piece, or None if its rate is 0 or less.
 fn in_last(amount: Q, known: Q, piece: &Piece) -> Result<Option<Q>, PassedAt<Q>>
     ensures { (supply_at : ℚ → Checked ℚ)
-        → result ≡ at_part Quick (last_piece passes_Q supply_at amount (lt_ℚ 0ℚ piece.now.rate) known piece.now) }
+        → result ≡ at_part Quick
+        (last_piece passes_Q supply_at amount (lt_ℚ 0ℚ piece.now.rate) known piece.now) }
 {
     if !Q::zero().is_below(piece.rate) {
         return Ok(None);
@@ -59,7 +61,8 @@ fn with_piece(known: Q, piece: &Piece, next: Q) -> Result<Q, PassedAt<Q>>
 // `known` holds the supply by the start of each piece: computing it anew would repeat the same operations.
 fn departs(net: &Network, amount: Q) -> Result<Option<Q>, PassedAt<Q>>
     requires { 0ℚ <ℚ amount }
-    ensures { result ≡ at_part Quick (departs_by passes_Q (checked_supply passes_Q net.now.net) amount 0ℚ net.now.net.pieces) }
+    ensures { result ≡ at_part Quick
+        (departs_by passes_Q (checked_supply passes_Q net.now.net) amount 0ℚ net.now.net.pieces) }
 {
     let pieces = net.pieces();
     let mut known = Q::zero();
@@ -83,7 +86,8 @@ fn departs(net: &Network, amount: Q) -> Result<Option<Q>, PassedAt<Q>>
 #[tactic(auto, unfolding(nf_quick_def::specs::Departures::departure_list))]
 pub fn departure(net: &Network, amount: Q) -> Result<Option<Q>, PassedAt<Q>>
     requires amount { 0ℚ ≤ℚ amount }
-    ensures list { result ≡ at_part Quick (departure_list passes_Q (checked_supply passes_Q net.now.net) amount net.now.net.pieces) }
+    ensures list { result ≡ at_part Quick
+        (departure_list passes_Q (checked_supply passes_Q net.now.net) amount net.now.net.pieces) }
     ensures least { IfOk result (IsDeparture net.now.net amount) }
 {
     net.recall();

@@ -58,7 +58,8 @@ fn time_with(
 ) -> Result<Times, PassedAt<Q>>
     requires so_far { 0ℚ ≤ℚ rate_so_far }
     requires some { 0ℚ <ℚ rate }
-    ensures list { result ≡ at_part Quick (time_list passes_Q amount rate_so_far cost_so_far rate length) }
+    ensures list { result
+        ≡ at_part Quick (time_list passes_Q amount rate_so_far cost_so_far rate length) }
     ensures rate { IfOk result (λ times. 0ℚ ≤ℚ times.rate) }
 {
     let product = nf_frac::at!(Part::Quick, rate.product(length));
@@ -123,7 +124,8 @@ impl QuickStanding {
 
     // Returns the walk if it is shorter than the time, and None otherwise.
     fn if_early(&self, found: Option<Walk>) -> Option<Walk>
-        ensures { (net : SeenNetwork) (amount : ℚ) → result ≡ next_of passes_Q net amount self.now found }
+        ensures { (net : SeenNetwork) (amount : ℚ)
+            → result ≡ next_of passes_Q net amount self.now found }
     {
         match found {
             None => None,
@@ -144,8 +146,10 @@ impl QuickStanding {
         requires sound { IsSound net.now.net self.now.flows }
         requires limited { IsLimited net.now.net }
         ensures list { (amount : ℚ)
-            → Gives (λ found. found) (λ q. q) result (at_part Quick (next_list passes_Q net.now.net amount self.now)) }
-        ensures shortest { IfOk result (λ found. IfSome found (IsShortestWalk net.now.net self.now.flows)) }
+            → Gives (λ found. found) (λ q. q) result
+            (at_part Quick (next_list passes_Q net.now.net amount self.now)) }
+        ensures shortest { IfOk result
+            (λ found. IfSome found (IsShortestWalk net.now.net self.now.flows)) }
     {
         let found = self.flow.shortest(alloc, net)?;
         Ok(self.if_early(found))
@@ -158,7 +162,8 @@ impl QuickStanding {
         requires sound { IsSound net.now.net self.old.flows }
         requires walk { IsShortestWalk net.now.net self.old.flows walk }
         requires rate { 0ℚ ≤ℚ self.old.rate }
-        ensures list { Gives (λ _. self.new) (λ q. q) result (at_part Quick (push_on_by passes_Q net.now.net amount self.old walk)) }
+        ensures list { Gives (λ _. self.new) (λ q. q) result
+            (at_part Quick (push_on_by passes_Q net.now.net amount self.old walk)) }
         ensures sound { IsSound net.now.net self.new.flows }
         ensures rate { 0ℚ ≤ℚ self.new.rate }
         ensures refused { OnErr result (DiffersByFlow self.old self.new) }

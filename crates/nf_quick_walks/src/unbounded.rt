@@ -45,7 +45,8 @@ fn leads_on(ways: &[Option<Way>], link: Link) -> bool
 // Returns the first link that leads to a new node, or None if there is none.
 fn next_link(net: &Network, ways: &[Option<Way>]) -> Option<LinkId>
     requires { length ways.now ≡ net.now.net.nodes }
-    ensures { MatchOption result (NoneLeadsOn net.now.net ways.now) (λ e. LeadsOn net.now.net ways.now e) }
+    ensures { MatchOption result (NoneLeadsOn net.now.net ways.now)
+        (λ e. LeadsOn net.now.net ways.now e) }
 {
     net.recall();
     for number in 0..net.link_count() {
@@ -65,7 +66,8 @@ fn longer(
     link: LinkId,
 ) -> Result<Way, AllocError>
     requires { node < length ways.now }
-    ensures { IfOk result (λ longer. (way : List ℕ) → way_at ways.now node ≡ Some way → longer ≡ way ++ link ∷ []) }
+    ensures { IfOk result
+        (λ longer. (way : List ℕ) → way_at ways.now node ≡ Some way → longer ≡ way ++ link ∷ []) }
 {
     let mut links = Vec::new(alloc);
     if let Some(way) = &ways[node.index()] {
@@ -77,7 +79,8 @@ fn longer(
 
 // Returns the initial table: the empty walk to the source, and None for each other node.
 fn first_ways(alloc: Global, net: &Network) -> Result<Vec<Option<Way>>, AllocError>
-    ensures { IfOk result (λ ways. ways.items ≡ set (replicate net.now.net.nodes None) net.now.net.source (Some [])) }
+    ensures { IfOk result
+        (λ ways. ways.items ≡ set (replicate net.now.net.nodes None) net.now.net.source (Some [])) }
 {
     let mut ways = Vec::with_capacity(alloc, net.node_count() as usize)?;
     for _ in 0..net.node_count() {

@@ -91,7 +91,8 @@ fn way_out(
     requires spent { AreSpent net.now.net.links flows.now spent.old.items }
     requires count { length spent.old.items ≡ net.now.net.nodes }
     ensures way { IfOk result (λ way. way.items ≡ way_out_by net.now.net flows.now) }
-    ensures within { IfOk result (λ way. AllByRecursion (λ e. e < length net.now.net.links) way.items) }
+    ensures within { IfOk result
+        (λ way. AllByRecursion (λ e. e < length net.now.net.links) way.items) }
     ensures flow { IfOk result (λ way. HaveFlow flows.now way.items) }
     ensures spent { OnOk result (AreSpent net.now.net.links flows.now spent.new.items) }
     ensures count { OnOk result (length spent.new.items ≡ net.now.net.nodes) }
@@ -126,7 +127,8 @@ fn least_along(flows: &[Q], way: &[LinkId]) -> Q
 // Subtracts a rate from the flow of each of these links. Refuses at the first operation that exceeds its bound.
 fn take(flows: &mut Vec<Q>, way: &[LinkId], rate: Q) -> Result<(), PassedAt<Q>>
     requires { AllByRecursion (λ e. e < length flows.old.items) way.now }
-    ensures list { seen_at (λ _. flows.new.items) (λ q. q) result ≡ at_part Quick (take_list passes_Q rate way.now flows.old.items) }
+    ensures list { seen_at (λ _. flows.new.items) (λ q. q) result
+        ≡ at_part Quick (take_list passes_Q rate way.now flows.old.items) }
     ensures count { length flows.new.items ≡ length flows.old.items }
 {
     for link in way {
@@ -142,8 +144,10 @@ fn take(flows: &mut Vec<Q>, way: &[LinkId], rate: Q) -> Result<(), PassedAt<Q>>
 fn walk_off(flows: &mut Vec<Q>, links: Vec<LinkId>) -> Result<Rated, PassedAt<Q>>
     requires { AllByRecursion (λ e. e < length flows.old.items) links.items }
     ensures list { seen_at (λ _. flows.new.items) (λ q. q) result
-        ≡ at_part Quick (take_list passes_Q (least_along_by flows.old.items None links.items) links.items flows.old.items) }
-    ensures walk { IfOk result (λ rated. rated ≡ record { rate = least_along_by flows.old.items None links.items; walk = links.items }) }
+        ≡ at_part Quick (take_list passes_Q
+        (least_along_by flows.old.items None links.items) links.items flows.old.items) }
+    ensures walk { IfOk result (λ rated. rated
+        ≡ record { rate = least_along_by flows.old.items None links.items; walk = links.items }) }
     ensures count { length flows.new.items ≡ length flows.old.items }
 {
     let rate = least_along(flows, &links);

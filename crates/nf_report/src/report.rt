@@ -81,10 +81,12 @@ pub fn write_report<O: Sink>(
 ) -> Result<(), SinkFault>
     requires { IsWellFormed net.now.net
         (record { horizon = horizon; flow = flow_of flow.now; stop = option_copied stopped; last = last.now }) }
-    ensures wrote { Wrote (state_of O.Sink out.old) (state_of O.Sink out.new) (report_text net.now (record { horizon = horizon; flow = flow_of flow.now; stop = option_copied stopped.entry; last = last.now }))
+    ensures wrote { Wrote (state_of O.Sink out.old) (state_of O.Sink out.new) (report_text net.now
+        (record { horizon = horizon; flow = flow_of flow.now; stop = option_copied stopped.entry; last = last.now }))
         result }
     ensures reads_back { report_in net.now
-        (report_text net.now (record { horizon = horizon; flow = flow_of flow.now; stop = option_copied stopped.entry; last = last.now }))
+        (report_text net.now
+        (record { horizon = horizon; flow = flow_of flow.now; stop = option_copied stopped.entry; last = last.now }))
         ≡ Ok (record { horizon = horizon; flow = flow_of flow.now; stop = option_copied stopped.entry; last = last.now }) }
 {
     // Proof: all numbers and counts of the report can be read.

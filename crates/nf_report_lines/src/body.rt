@@ -80,7 +80,8 @@ fn read_state(net: &Network, link: LinkId, word: &[u8]) -> Result<State, ReportR
 
 // Returns whether the next line begins with the word of this kind and this name.
 fn goes_on(next: Option<&ReadLine>, kind: Kind, name: &[u8]) -> bool
-    ensures { result ≡ begins_with (key_word (seen_kind kind)) name.now (words_behind (option_copied next.entry)) }
+    ensures { result ≡ begins_with (key_word (seen_kind kind)) name.now
+        (words_behind (option_copied next.entry)) }
 {
     match next {
         Some(next) => {
@@ -103,7 +104,8 @@ impl Draft {
         requires words { 0 < length line.now.words }
         requires within { IsWithin net.now self.now }
         ensures says { let draft = seen_draft net.now self.now in
-            point_line (seen_kind kind) draft (drop 1 line.now.words) ≡ said_by (drafted net.now draft) result }
+            point_line (seen_kind kind) draft (drop 1 line.now.words)
+            ≡ said_by (drafted net.now draft) result }
         ensures fits { IfOk result (λ entry. Fits net.now (seen_draft net.now self.now) entry) }
     {
         if line.len() != 4 {
@@ -136,7 +138,8 @@ impl Draft {
         requires words { 0 < length line.now.words }
         requires within { IsWithin net.now self.now }
         ensures says { let draft = seen_draft net.now self.now in
-            trace_line (seen_kind kind) draft (words_behind (option_copied next.entry)) (drop 1 line.now.words)
+            trace_line (seen_kind kind) draft (words_behind (option_copied next.entry))
+            (drop 1 line.now.words)
             ≡ said_by (drafted net.now draft) result }
         ensures fits { IfOk result (λ entry. Fits net.now (seen_draft net.now self.now) entry) }
     {
@@ -182,7 +185,8 @@ impl Draft {
         requires words { 0 < length line.now.words }
         requires within { IsWithin net.now self.now }
         ensures says { let draft = seen_draft net.now self.now in
-            state_line net.now draft (drop 1 line.now.words) ≡ said_by (drafted net.now draft) result }
+            state_line net.now draft (drop 1 line.now.words)
+            ≡ said_by (drafted net.now draft) result }
         ensures fits { IfOk result (λ entry. Fits net.now (seen_draft net.now self.now) entry) }
     {
         if line.len() != 3 {
@@ -231,7 +235,8 @@ impl Draft {
         requires words { 0 < length line.now.words }
         requires within { IsWithin net.now self.now }
         ensures says { let draft = seen_draft net.now self.now in
-            body_line net.now draft (words_behind (option_copied next.entry)) line.now.words ≡ said_by (drafted net.now draft) result }
+            body_line net.now draft (words_behind (option_copied next.entry)) line.now.words
+            ≡ said_by (drafted net.now draft) result }
         ensures fits { IfOk result (λ entry. Fits net.now (seen_draft net.now self.now) entry) }
     {
         let Some(kind) = kind_of_line(net.version(), line.at(0)) else {

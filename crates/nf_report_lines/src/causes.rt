@@ -128,7 +128,8 @@ fn read_operation(
     left: &[u8],
     right: &[u8],
 ) -> Result<Option<Stop>, ReportRule>
-    ensures { result ≡ passed_cause (phase.now ∷ part.now ∷ place.now ∷ op.now ∷ left.now ∷ right.now ∷ []) }
+    ensures { result
+        ≡ passed_cause (phase.now ∷ part.now ∷ place.now ∷ op.now ∷ left.now ∷ right.now ∷ []) }
 {
     let phase = read_count(phase)?;
     let place = read_place(place)?;

@@ -55,7 +55,8 @@ fn push_rate(rates: &mut Vec<Q>, rate: Option<Q>) -> Result<(), AllocError>
 // Begins a curve with a point at time 0.
 fn begun(alloc: Global, point: &RatedPoint) -> Result<Trace, AllocError>
     requires { comes_after None point.now.time ≡ true }
-    ensures points { IfOk result (λ trace. trace.curve.points ≡ (point.now.time, point.now.value) ∷ []) }
+    ensures points { IfOk result
+        (λ trace. trace.curve.points ≡ (point.now.time, point.now.value) ∷ []) }
     ensures rates { IfOk result (λ trace. trace.rates.items ≡ with_rate [] point.now.rate) }
 {
     let mut rates = Vec::new(alloc);
@@ -67,8 +68,10 @@ fn begun(alloc: Global, point: &RatedPoint) -> Result<Trace, AllocError>
 // Appends a point to a curve. Its time must be later than those of the curve's points.
 fn put_behind(trace: &mut Trace, point: &RatedPoint) -> Result<(), AllocError>
     requires { comes_after (last_or None trace.old.curve.points) point.now.time ≡ true }
-    ensures points { OnOk result (trace.new.curve.points ≡ trace.old.curve.points ++ (point.now.time, point.now.value) ∷ []) }
-    ensures rates { OnOk result (trace.new.rates.items ≡ with_rate trace.old.rates.items point.now.rate) }
+    ensures points { OnOk result (trace.new.curve.points
+        ≡ trace.old.curve.points ++ (point.now.time, point.now.value) ∷ []) }
+    ensures rates { OnOk result
+        (trace.new.rates.items ≡ with_rate trace.old.rates.items point.now.rate) }
 {
     // Proof: a curve has a point.
     trace.curve.recall();
@@ -134,10 +137,12 @@ impl Draft {
 
     // Moves the current curve, if there is one, to the complete curves.
     fn close(&mut self) -> Result<(), AllocError>
-        ensures draft { OnOk result ((n : Named) → seen_draft n self.new ≡ closed (seen_draft n self.old)) }
+        ensures draft { OnOk result
+            ((n : Named) → seen_draft n self.new ≡ closed (seen_draft n self.old)) }
         ensures count { OnOk result (length self.new.done.items ≡ begun_count self.old) }
         ensures shut { OnOk result (self.new.current ≡ None) }
-        ensures idle { OnOk result ((n : Named) → LacksIdleOnly n self.old.done.items → LacksIdleOnly n self.new.done.items) }
+        ensures idle { OnOk result ((n : Named) → LacksIdleOnly n self.old.done.items
+            → LacksIdleOnly n self.new.done.items) }
         ensures states { self.new.states ≡ self.old.states }
     {
         if let Some(trace) = self.current.take() {
@@ -150,9 +155,11 @@ impl Draft {
     fn begin(&mut self, alloc: Global, point: &RatedPoint) -> Result<(), AllocError>
         requires { comes_after None point.now.time ≡ true }
         ensures draft { OnOk result ((n : Named) → begun_count self.old < length (curve_keys n)
-            → seen_draft n self.new ≡ drafted n (seen_draft n self.old) (OfCurve Begins point.now)) }
+            → seen_draft n self.new
+            ≡ drafted n (seen_draft n self.old) (OfCurve Begins point.now)) }
         ensures count { OnOk result (begun_count self.new ≡ begun_count self.old + 1) }
-        ensures idle { OnOk result ((n : Named) → LacksIdleOnly n self.old.done.items → LacksIdleOnly n self.new.done.items) }
+        ensures idle { OnOk result ((n : Named) → LacksIdleOnly n self.old.done.items
+            → LacksIdleOnly n self.new.done.items) }
         ensures states { self.new.states ≡ self.old.states }
     {
         self.close()?;
@@ -163,8 +170,10 @@ impl Draft {
     // Appends a point to the current curve.
     fn go_on(&mut self, point: &RatedPoint) -> Result<(), AllocError>
         requires some { IsSome self.old.current }
-        requires later { IfSome self.old.current (λ trace. comes_after (last_or None trace.curve.points) point.now.time ≡ true) }
-        ensures draft { OnOk result ((n : Named) → seen_draft n self.new ≡ drafted n (seen_draft n self.old) (OfCurve GoesOn point.now)) }
+        requires later { IfSome self.old.current
+            (λ trace. comes_after (last_or None trace.curve.points) point.now.time ≡ true) }
+        ensures draft { OnOk result ((n : Named) → seen_draft n self.new
+            ≡ drafted n (seen_draft n self.old) (OfCurve GoesOn point.now)) }
         ensures count { OnOk result (begun_count self.new ≡ begun_count self.old) }
         ensures done { self.new.done.items ≡ self.old.done.items }
         ensures states { self.new.states ≡ self.old.states }
@@ -179,7 +188,8 @@ impl Draft {
     fn add_never(&mut self) -> Result<(), AllocError>
         ensures draft { (n : Named) → IsWithin n self.old → Fits n (seen_draft n self.old) Never
             → OnOk result (seen_draft n self.new ≡ drafted n (seen_draft n self.old) Never) }
-        ensures within { (n : Named) → IsWithin n self.old → Fits n (seen_draft n self.old) Never → OnOk result (IsWithin n self.new) }
+        ensures within { (n : Named) → IsWithin n self.old → Fits n (seen_draft n self.old) Never
+            → OnOk result (IsWithin n self.new) }
     {
         self.close()?;
         self.done.push(None)?;
@@ -190,7 +200,8 @@ impl Draft {
     fn add_state(&mut self, net: &Network, link: LinkId, state: State) -> Result<(), AllocError>
         requires within { IsWithin net.now self.old }
         requires fits { Fits net.now (seen_draft net.now self.old) (OfLink link state) }
-        ensures draft { OnOk result (seen_draft net.now self.new ≡ drafted net.now (seen_draft net.now self.old) (OfLink link state)) }
+        ensures draft { OnOk result (seen_draft net.now self.new
+            ≡ drafted net.now (seen_draft net.now self.old) (OfLink link state)) }
         ensures within { OnOk result (IsWithin net.now self.new) }
     {
         // Proof: the number of links is small.
@@ -203,7 +214,8 @@ impl Draft {
 
     // Completes the current curve, and marks the report as ended.
     fn add_end(&mut self) -> Result<(), AllocError>
-        ensures draft { (n : Named) → OnOk result (seen_draft n self.new ≡ drafted n (seen_draft n self.old) End) }
+        ensures draft { (n : Named)
+            → OnOk result (seen_draft n self.new ≡ drafted n (seen_draft n self.old) End) }
         ensures within { (n : Named) → IsWithin n self.old → OnOk result (IsWithin n self.new) }
     {
         self.close()?;
@@ -215,7 +227,8 @@ impl Draft {
     pub fn add(&mut self, alloc: Global, net: &Network, entry: &Entry) -> Result<(), AllocError>
         requires within { IsWithin net.now self.old }
         requires fits { Fits net.now (seen_draft net.now self.old) entry.now }
-        ensures draft { OnOk result (seen_draft net.now self.new ≡ drafted net.now (seen_draft net.now self.old) entry.now) }
+        ensures draft { OnOk result (seen_draft net.now self.new
+            ≡ drafted net.now (seen_draft net.now self.old) entry.now) }
         ensures within { OnOk result (IsWithin net.now self.new) }
     {
         match entry {

@@ -68,7 +68,8 @@ impl Draft {
     pub(crate) fn read_reached(&self, line: &ReadLine) -> Result<Q, ReportRule>
         requires { 0 < length line.now.words }
         ensures { (n : Named) → reached_line (seen_draft n self.now) line.now.words
-            ≡ said_by (λ reached. record (seen_draft n self.now) { stage = lines.AtCause; reached = reached }) result }
+            ≡ said_by (λ reached.
+            record (seen_draft n self.now) { stage = lines.AtCause; reached = reached }) result }
     {
         if !is_word(line.at(0), b"reached") {
             return Err(ReportRule::P5);
@@ -84,7 +85,8 @@ impl Draft {
     pub(crate) fn read_stop(&self, line: &ReadLine) -> Result<Option<Stop>, ReportRule>
         requires { 0 < length line.now.words }
         ensures { (n : Named) → cause_line (seen_draft n self.now) line.now.words
-            ≡ said_by (λ stop. record (seen_draft n self.now) { stage = lines.InBody; stop = stop }) result }
+            ≡ said_by
+            (λ stop. record (seen_draft n self.now) { stage = lines.InBody; stop = stop }) result }
     {
         if !is_word(line.at(0), b"cause") {
             return Err(ReportRule::P5);

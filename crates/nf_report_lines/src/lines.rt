@@ -17,7 +17,8 @@ use nf_text::ReadLine;
 
 // Reads `report` and the version. Otherwise fails with P4.
 fn read_version(net: &Network, line: &ReadLine) -> Result<Entry, ReportRule>
-    ensures says { (draft : ReportDraft) → version_line net.now draft line.now.words ≡ said_by (drafted net.now draft) result }
+    ensures says { (draft : ReportDraft)
+        → version_line net.now draft line.now.words ≡ said_by (drafted net.now draft) result }
     ensures fits { (draft : ReportDraft) → IfOk result (λ entry. Fits net.now draft entry) }
 {
     if !is_version(net, line) {
@@ -28,7 +29,8 @@ fn read_version(net: &Network, line: &ReadLine) -> Result<Entry, ReportRule>
 
 // Refuses a line after `end`: with the rule that the line breaks, or else with P14.
 fn read_nothing(said: Result<Entry, ReportRule>) -> Result<Entry, ReportRule>
-    ensures says { (n : Named) → (draft : ReportDraft) → nothing_more (said_by (drafted n draft) said) ≡ said_by (drafted n draft) result }
+    ensures says { (n : Named) → (draft : ReportDraft)
+        → nothing_more (said_by (drafted n draft) said) ≡ said_by (drafted n draft) result }
     ensures none { IsErr result }
 {
     match said {
@@ -48,7 +50,8 @@ impl Draft {
         requires words { 0 < length line.now.words }
         requires within { IsWithin net.now self.now }
         ensures says { let draft = seen_draft net.now self.now in
-            staged_line net.now draft (words_behind (option_copied next.entry)) line.now.words draft.stage
+            staged_line net.now draft
+            (words_behind (option_copied next.entry)) line.now.words draft.stage
             ≡ said_by (drafted net.now draft) result }
         ensures fits { IfOk result (λ entry. Fits net.now (seen_draft net.now self.now) entry) }
     {
@@ -80,7 +83,8 @@ impl Draft {
     ) -> Result<Entry, ReportRule>
         requires { IsWithin net.now self.now }
         ensures says { let draft = seen_draft net.now self.now in
-            report_line net.now draft line.now.plain (words_behind (option_copied next.entry)) line.now.words
+            report_line net.now draft line.now.plain
+            (words_behind (option_copied next.entry)) line.now.words
             ≡ said_by (drafted net.now draft) result }
         ensures fits { IfOk result (λ entry. Fits net.now (seen_draft net.now self.now) entry) }
     {

@@ -35,7 +35,8 @@ impl Draft {
     ) -> Result<Opening, ReportRule>
         requires { IsWithin net.now self.now }
         ensures says { let draft = seen_draft net.now self.now in
-            opened_for draft (seen_kind kind) name.now draft.current ≡ said_by (opened_by draft) result }
+            opened_for draft (seen_kind kind) name.now draft.current
+            ≡ said_by (opened_by draft) result }
         ensures can { IfOk result (λ opening. CanOpen (seen_draft net.now self.now) opening) }
     {
         let done = self.done_count();
@@ -50,14 +51,16 @@ impl Draft {
     /// Returns whether the next curve is an idle node of this name.
     pub(crate) fn never_comes(&self, net: &Network, name: &[u8]) -> bool
         requires { IsWithin net.now self.now }
-        ensures { result ≡ is_some_key lines.OfNever name.now (key_of_number net.now (begun_count self.now)) }
+        ensures { result
+            ≡ is_some_key lines.OfNever name.now (key_of_number net.now (begun_count self.now)) }
     {
         is_key_at(net, self.begun_count(), Kind::Never, name)
     }
 
     /// Returns whether a time may follow in a curve: it is later than the times of the curve's points, or 0 for the first point.
     pub(crate) fn comes_after(&self, opening: Opening, time: Q) -> bool
-        ensures { (n : Named) → result ≡ comes_after_by (last_or None (opened_by (seen_draft n self.now) opening).curve.points) time }
+        ensures { (n : Named) → result ≡ comes_after_by
+            (last_or None (opened_by (seen_draft n self.now) opening).curve.points) time }
     {
         match (opening, &self.current) {
             (Opening::GoesOn, Some(trace)) => is_later(&trace.curve, time),

@@ -161,7 +161,8 @@ pub fn write_passed_call<O: Sink>(
     key: &[u8],
     at: &PassedAt<Q>,
 ) -> Result<(), SinkFault>
-    ensures { WroteLines (state_of O.Sink out.old) (state_of O.Sink out.new) ((key.now ∷ passed_words None None at.now) ∷ []) result }
+    ensures { WroteLines (state_of O.Sink out.old) (state_of O.Sink out.new)
+        ((key.now ∷ passed_words None None at.now) ∷ []) result }
 {
     let mut page = Page::new();
     put_passed(out, &mut page, key, None, None, at)?;
@@ -185,7 +186,8 @@ fn put_stop<O: Sink>(out: &mut O, page: &mut Page, key: &[u8], stop: &Stop) -> R
 ///
 /// The first fault ends the writing; the sink then took a proper prefix of the line.
 pub fn write_stop<O: Sink>(out: &mut O, key: &[u8], stop: &Stop) -> Result<(), SinkFault>
-    ensures { WroteLines (state_of O.Sink out.old) (state_of O.Sink out.new) ((key.now ∷ cause_words (Some stop.now)) ∷ []) result }
+    ensures { WroteLines (state_of O.Sink out.old) (state_of O.Sink out.new)
+        ((key.now ∷ cause_words (Some stop.now)) ∷ []) result }
 {
     let mut page = Page::new();
     put_stop(out, &mut page, key, stop)?;

@@ -55,7 +55,8 @@ pub fn write_curve<O: Sink>(
     name: &[u8],
     curve: &Curve,
 ) -> Result<(), SinkFault>
-    ensures { WroteLines (state_of O.Sink out.old) (state_of O.Sink out.new) (point_lines key.now name.now curve.now.points) result }
+    ensures { WroteLines (state_of O.Sink out.old) (state_of O.Sink out.new)
+        (point_lines key.now name.now curve.now.points) result }
 {
     let mut page = Page::new();
     put_curve(out, &mut page, key, name, curve)?;

@@ -49,7 +49,8 @@ pub fn put_line<O: Sink>(
 ///
 /// The first fault ends the writing; the sink then took a proper prefix of the line.
 pub fn write_line<O: Sink>(out: &mut O, first: &[u8], words: &[&[u8]]) -> Result<(), SinkFault>
-    ensures { WroteLines (state_of O.Sink out.old) (state_of O.Sink out.new) ((first.now ∷ map (λ w. w.now) words.now) ∷ []) result }
+    ensures { WroteLines (state_of O.Sink out.old) (state_of O.Sink out.new)
+        ((first.now ∷ map (λ w. w.now) words.now) ∷ []) result }
 {
     let mut page = Page::new();
     put_line(out, &mut page, first, words)?;

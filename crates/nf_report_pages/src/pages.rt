@@ -74,7 +74,8 @@ fn write_page<O: Sink>(out: &mut O, page: &mut Page) -> Result<(), SinkFault>
 
 // Writes the page, and then puts bytes on it for which it had no room.
 fn put_on_next<O: Sink>(out: &mut O, page: &mut Page, bytes: &[u8]) -> Result<(), SinkFault>
-    ensures { Gathered (state_of O.Sink out.old) (state_of O.Sink out.new) page.old page.new bytes.now result }
+    ensures { Gathered (state_of O.Sink out.old)
+        (state_of O.Sink out.new) page.old page.new bytes.now result }
 {
     write_page(out, page)?;
     match page.append(bytes) {
@@ -85,7 +86,8 @@ fn put_on_next<O: Sink>(out: &mut O, page: &mut Page, bytes: &[u8]) -> Result<()
 
 /// Puts bytes on the page. Writes the page first if they don't fit.
 pub(crate) fn put<O: Sink>(out: &mut O, page: &mut Page, bytes: &[u8]) -> Result<(), SinkFault>
-    ensures { Gathered (state_of O.Sink out.old) (state_of O.Sink out.new) page.old page.new bytes.now result }
+    ensures { Gathered (state_of O.Sink out.old)
+        (state_of O.Sink out.new) page.old page.new bytes.now result }
 {
     match page.append(bytes) {
         Ok(()) => Ok(()),
@@ -95,7 +97,8 @@ pub(crate) fn put<O: Sink>(out: &mut O, page: &mut Page, bytes: &[u8]) -> Result
 
 /// Puts a byte on the page, as `put` does. For speed: a byte takes no copying of a slice.
 pub(crate) fn put_byte<O: Sink>(out: &mut O, page: &mut Page, byte: u8) -> Result<(), SinkFault>
-    ensures { Gathered (state_of O.Sink out.old) (state_of O.Sink out.new) page.old page.new (byte ∷ []) result }
+    ensures { Gathered (state_of O.Sink out.old) (state_of O.Sink out.new) page.old page.new
+        (byte ∷ []) result }
 {
     match page.append_byte(byte) {
         Ok(()) => Ok(()),

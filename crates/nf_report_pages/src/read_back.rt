@@ -28,12 +28,15 @@ pub fn written_reads_back(
     ensures readable { IsReadable
         (record { horizon = horizon; flow = flow_of flow.now; stop = option_copied stopped.entry; last = last.now }) }
     ensures reads_back { report_in net.now
-        (report_text net.now (record { horizon = horizon; flow = flow_of flow.now; stop = option_copied stopped.entry; last = last.now }))
+        (report_text net.now
+        (record { horizon = horizon; flow = flow_of flow.now; stop = option_copied stopped.entry; last = last.now }))
         ≡ Ok (record { horizon = horizon; flow = flow_of flow.now; stop = option_copied stopped.entry; last = last.now }) }
     ensures only { (other : Report) → IsWellFormed net.now.net other → IsReadable other
-        → report_text net.now (record { horizon = horizon; flow = flow_of flow.now; stop = option_copied stopped.entry; last = last.now })
+        → report_text net.now
+        (record { horizon = horizon; flow = flow_of flow.now; stop = option_copied stopped.entry; last = last.now })
         ≡ report_text net.now other
-        → record { horizon = horizon; flow = flow_of flow.now; stop = option_copied stopped.entry; last = last.now } ≡ other }
+        → record { horizon = horizon; flow = flow_of flow.now; stop = option_copied stopped.entry; last = last.now }
+        ≡ other }
 {
     // Proof: the network is that of an accepted file.
     net.recall();

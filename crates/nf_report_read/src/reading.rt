@@ -25,10 +25,13 @@ fn next_line<'a>(
     cursor: &mut Cursor<'a>,
 ) -> Result<Option<ReadLine<'a>>, ReportFault>
     ensures line { IfOk result
-        (λ next. MatchOption next (cursor.old ≡ []) (λ line. map read_line cursor.old ≡ line ∷ map read_line cursor.new)) }
+        (λ next. MatchOption next (cursor.old ≡ [])
+        (λ line. map read_line cursor.old ≡ line ∷ map read_line cursor.new)) }
     ensures fine { IfOk result
-        (λ next. MatchOption next (cursor.new ≡ cursor.old) (λ line. first_fault_of cursor.old ≡ first_fault_of cursor.new)) }
-    ensures fault { IfErr result (λ fault. IfBroken fault (λ broken. option_map as_report_rule (first_fault_of cursor.old) ≡ Some broken)) }
+        (λ next. MatchOption next (cursor.new ≡ cursor.old)
+        (λ line. first_fault_of cursor.old ≡ first_fault_of cursor.new)) }
+    ensures fault { IfErr result (λ fault. IfBroken fault
+        (λ broken. option_map as_report_rule (first_fault_of cursor.old) ≡ Some broken)) }
 {
     match cursor.next_line(alloc) {
         Ok(line) => Ok(line),
@@ -39,7 +42,8 @@ fn next_line<'a>(
 // Tests P1 and P2 for all further lines.
 fn check_rest(alloc: Global, cursor: &mut Cursor) -> Result<(), ReportFault>
     ensures none { OnOk result (first_fault_of cursor.old ≡ None) }
-    ensures fault { IfErr result (λ fault. IfBroken fault (λ broken. option_map as_report_rule (first_fault_of cursor.old) ≡ Some broken)) }
+    ensures fault { IfErr result (λ fault. IfBroken fault
+        (λ broken. option_map as_report_rule (first_fault_of cursor.old) ≡ Some broken)) }
 {
     loop {
         match next_line(alloc, cursor) {
@@ -53,7 +57,8 @@ fn check_rest(alloc: Global, cursor: &mut Cursor) -> Result<(), ReportFault>
 // Returns the fault of a further line that breaks P1 or P2, if there is one, and otherwise `fault`.
 fn first_broken(alloc: Global, cursor: &mut Cursor, fault: ReportFault) -> ReportFault
     ensures { (read : Result SeenReport ReportBroken) → IfBroken fault (λ broken. read ≡ Err broken)
-        → IfBroken result (λ broken. report_by_bytes (first_fault_of cursor.old) read ≡ Err broken) }
+        → IfBroken result
+        (λ broken. report_by_bytes (first_fault_of cursor.old) read ≡ Err broken) }
 {
     match check_rest(alloc, cursor) {
         Ok(()) => fault,
@@ -72,8 +77,10 @@ fn add_line(
 ) -> Result<(), ReportFault>
     requires { IsWithin net.now draft.old }
     ensures adds { let read = in_report_line line.now.number
-        (report_line net.now (seen_draft net.now draft.old) line.now.plain (words_behind (option_copied next.entry)) line.now.words) in
-        MatchResult result (λ _. read ≡ Ok (seen_draft net.now draft.new)) (λ fault. IfBroken fault (λ broken. read ≡ Err broken)) }
+        (report_line net.now (seen_draft net.now draft.old) line.now.plain
+        (words_behind (option_copied next.entry)) line.now.words) in
+        MatchResult result (λ _. read ≡ Ok (seen_draft net.now draft.new))
+        (λ fault. IfBroken fault (λ broken. read ≡ Err broken)) }
     ensures within { OnOk result (IsWithin net.now draft.new) }
 {
     match draft.read_entry(net, line, next) {
@@ -97,13 +104,15 @@ fn add_lines(
     draft: &mut Draft,
 ) -> Result<(), ReportFault>
     requires { IsWithin net.now draft.old }
-    ensures draft { OnOk result (report_lines_from net.now (seen_draft net.now draft.old) (first.entry ∷ map read_line cursor.old)
+    ensures draft { OnOk result (report_lines_from net.now (seen_draft net.now draft.old)
+        (first.entry ∷ map read_line cursor.old)
         ≡ Ok (seen_draft net.now draft.new)) }
     ensures within { OnOk result (IsWithin net.now draft.new) }
     ensures fine { OnOk result (first_fault_of cursor.old ≡ None) }
     ensures fault { IfErr result (λ fault. IfBroken fault (λ broken.
         report_by_bytes (first_fault_of cursor.old)
-        (closed_by (report_lines_from net.now (seen_draft net.now draft.old) (first.entry ∷ map read_line cursor.old))) ≡ Err broken)) }
+        (closed_by (report_lines_from net.now (seen_draft net.now draft.old)
+        (first.entry ∷ map read_line cursor.old))) ≡ Err broken)) }
 {
     let mut line = Some(first);
     while let Some(current) = line {
@@ -123,9 +132,11 @@ fn add_lines(
 // Reads the lines of a text in order, and returns the parser state.
 fn read_draft(alloc: Global, net: &Network, text: &[u8]) -> Result<Draft, ReportFault>
     requires { length text.now ≤ longest_text }
-    ensures draft { IfOk result (λ draft. report_in net.now text.now ≡ if_at_end (seen_stage draft.stage) (seen_draft net.now draft)) }
+    ensures draft { IfOk result (λ draft. report_in net.now text.now
+        ≡ if_at_end (seen_stage draft.stage) (seen_draft net.now draft)) }
     ensures within { IfOk result (λ draft. IsWithin net.now draft) }
-    ensures fault { IfErr result (λ fault. IfBroken fault (λ broken. report_in net.now text.now ≡ Err broken)) }
+    ensures fault { IfErr result
+        (λ fault. IfBroken fault (λ broken. report_in net.now text.now ≡ Err broken)) }
 {
     let mut cursor = Cursor::new(text);
     let line = match next_line(alloc, &mut cursor) {
@@ -162,11 +173,13 @@ fn read_report(alloc: Global, net: &Network, text: &[u8]) -> Result<Report, Repo
 /// Reads the text once, line by line. Also fails if an allocation fails.
 pub fn parse_report(alloc: Global, net: &Network, text: &[u8]) -> Result<Report, ReportFault>
     requires { length text.now ≤ longest_text }
-    ensures reads { MatchResult result (λ report. report_in net.now text.now ≡ Ok (report_of report))
+    ensures reads { MatchResult result
+        (λ report. report_in net.now text.now ≡ Ok (report_of report))
         (λ fault. IfBroken fault (λ broken. report_in net.now text.now ≡ Err broken)) }
     ensures formed { IfOk result (λ report. IsWellFormed net.now.net (report_of report)) }
     ensures text { IfOk result (λ report. text.now ≡ report_text net.now (report_of report)) }
-    ensures all { (report : SeenReport) → IsWellFormed net.now.net report → IsReadable report → text.now ≡ report_text net.now report
+    ensures all { (report : SeenReport) → IsWellFormed net.now.net report → IsReadable report
+        → text.now ≡ report_text net.now report
         → Shows report result }
 {
     // Proof: the network is that of an accepted file.

@@ -49,7 +49,8 @@ impl Sorted {
     // Appends a curve to those of its kind. Every kind except `Never` must have a curve.
     fn put(&mut self, kind: Kind, curve: Option<Trace>) -> Result<(), AllocError>
         requires { curve ≡ None → seen_kind kind ≡ OfNever }
-        ensures { OnOk result ((curves : List ReadCurve) → (key : CurveKey) → key.kind ≡ seen_kind kind → AreSorted curves self.old
+        ensures { OnOk result ((curves : List ReadCurve) → (key : CurveKey)
+            → key.kind ≡ seen_kind kind → AreSorted curves self.old
             → AreSorted (curves ++ seen_curve key curve ∷ []) self.new) }
     {
         match (kind, curve) {

@@ -28,7 +28,8 @@ fn add_leg(
     link: &Link,
     flow: &Q,
 ) -> Result<(), AllocError>
-    ensures { OnOk result (legs.new.items ≡ legs.old.items ++ leg_of forward number link.now flow.now) }
+    ensures { OnOk result
+        (legs.new.items ≡ legs.old.items ++ leg_of forward number link.now flow.now) }
 {
     if can_go(forward, &link.capacity, flow) {
         legs.push(Leg {
@@ -77,7 +78,8 @@ impl Arcs {
     pub(crate) fn of(alloc: Global, nodes: u32, legs: Vec<Leg>) -> Result<Arcs, AllocError>
         requires { AreLegs nodes legs.items }
         ensures legs { IfOk result (λ arcs. arcs.legs.items ≡ legs.items) }
-        ensures chains { IfOk result (λ arcs. AreChains nodes arcs.legs.items arcs.first.items arcs.next.items) }
+        ensures chains { IfOk result
+            (λ arcs. AreChains nodes arcs.legs.items arcs.first.items arcs.next.items) }
     {
         let mut first = vec![in alloc; legs.len(); nodes as usize]?;
         let mut next = vec![in alloc; legs.len(); legs.len()]?;

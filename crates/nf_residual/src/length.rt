@@ -119,7 +119,8 @@ impl Length {
     /// held as whole numbers. A returned number implies that the checked operation does not exceed its bound.
     #[inline(always)]
     pub(crate) fn whole_change(&self, forward: bool, transit: &Length) -> Option<i64>
-        ensures { IfSome result (λ n. (nat_abs n ≤ most) × IsExact forward self.now transit.now (whole n)) }
+        ensures { IfSome result
+            (λ n. (nat_abs n ≤ most) × IsExact forward self.now transit.now (whole n)) }
     {
         if let Form::Whole(number) = &self.form {
             if let Form::Whole(change) = &transit.form {

@@ -95,7 +95,8 @@ impl Reaches {
     /// Returns for each node the length of the best path to it, a time, or None if no path is known. Refuses only if memory can't be
     /// allocated.
     pub(crate) fn distances(&self, alloc: Global) -> Result<Vec<Option<Q>>, AllocError>
-        ensures { IfOk result (λ distances. distances.items ≡ map (option_map (λ reach. reach.distance)) self.now) }
+        ensures { IfOk result
+            (λ distances. distances.items ≡ map (option_map (λ reach. reach.distance)) self.now) }
     {
         let mut distances = Vec::with_capacity(alloc, self.places.len())?;
         for node in 0..self.places.len() {

@@ -118,7 +118,8 @@ impl Residual {
     pub fn shortest(&self, alloc: Global, net: &Network) -> Result<Option<Walk>, Halt<Q>>
         requires sound { IsSound net.now.net self.now }
         requires limited { IsLimited net.now.net }
-        ensures list { Gives (λ found. found) (λ q. q) result (at_part Quick (shortest_list passes_Q net.now.net self.now)) }
+        ensures list { Gives (λ found. found) (λ q. q) result
+            (at_part Quick (shortest_list passes_Q net.now.net self.now)) }
         ensures first { IfOk result (λ found. IsShortest net.now.net self.now found) }
     {
         net.recall();
@@ -139,7 +140,8 @@ impl Residual {
     ) -> Result<Vec<Option<Q>>, Halt<Q>>
         requires sound { IsSound net.now.net self.now }
         requires from { from < net.now.net.nodes }
-        ensures list { Gives (λ v. v.items) (λ q. q) result (at_part Quick (distances_list passes_Q net.now.net self.now from)) }
+        ensures list { Gives (λ v. v.items) (λ q. q) result
+            (at_part Quick (distances_list passes_Q net.now.net self.now from)) }
         ensures least { IfOk result (λ v. AreLeastLengths net.now.net self.now from v.items) }
     {
         net.recall();
@@ -157,7 +159,8 @@ impl Residual {
         requires walk { IsShortestWalk net.now.net self.old walk.now }
         requires some { 0ℚ <ℚ amount }
         requires room { amount ≤ℚ walk.now.room }
-        ensures list { seen_at (λ _. self.new) (λ q. q) result ≡ at_part Quick (push_list passes_Q walk.now.steps amount self.old) }
+        ensures list { seen_at (λ _. self.new) (λ q. q) result
+            ≡ at_part Quick (push_list passes_Q walk.now.steps amount self.old) }
         ensures as_it_was { OnErr result (self.new ≡ self.old) }
         ensures sound { OnOk result (IsSound net.now.net self.new) }
     {

@@ -52,7 +52,8 @@ fn room_after(
 pub(crate) fn room_of(net: &Network, flows: &[Q], steps: &[Step]) -> Result<Option<Q>, PassedAt<Q>>
     requires steps { AllByRecursion (λ step. step.link < length net.now.net.links) steps.now }
     requires flows { length flows.now ≡ length net.now.net.links }
-    ensures { result ≡ at_part Quick (fold_checked (room_after_by passes_Q net.now.net flows.now) None steps.now) }
+    ensures { result ≡ at_part Quick
+        (fold_checked (room_after_by passes_Q net.now.net flows.now) None steps.now) }
 {
     let mut least = None;
     for step in steps {

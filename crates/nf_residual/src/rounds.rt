@@ -38,7 +38,8 @@ fn offer_value(
     requires end { leg.now.end < length places.old.items }
     requires within { AreWithin (length ways.old) places.old.items }
     ensures list { Gives (λ _. known_by ways.new places.new.items) (λ q. q) result
-        (at_part Quick (along_by passes_Q true (Some (way_at ways.old way)) leg.now.step leg.now.transit leg.now.end
+        (at_part Quick (along_by passes_Q true
+        (Some (way_at ways.old way)) leg.now.step leg.now.transit leg.now.end
         (known_by ways.old places.old.items))) }
     ensures grows { OnOk result (Grows ways.old ways.new places.old.items places.new.items) }
     ensures tree { IsTree ways.old }
@@ -65,7 +66,8 @@ fn offer(
     requires end { leg.now.end < length places.old.items }
     requires within { AreWithin (length ways.old) places.old.items }
     ensures list { Gives (λ _. known_by ways.new places.new.items) (λ q. q) result
-        (at_part Quick (along_by passes_Q true (Some (way_at ways.old way)) leg.now.step leg.now.transit leg.now.end
+        (at_part Quick (along_by passes_Q true
+        (Some (way_at ways.old way)) leg.now.step leg.now.transit leg.now.end
         (known_by ways.old places.old.items))) }
     ensures grows { OnOk result (Grows ways.old ways.new places.old.items places.new.items) }
     ensures tree { IsTree ways.old }
@@ -98,7 +100,8 @@ fn fresh_at(node: usize, fresh: usize, before: &[Option<usize>]) -> Option<usize
 fn fresh_way(leg: &Leg, fresh: usize, before: &[Option<usize>]) -> Option<usize>
     requires { leg.now.begin < length before.now }
     ensures way { IfSome result (λ way. place_at before.now leg.now.begin ≡ Some way) }
-    ensures old { result ≡ None → (way : ℕ) → place_at before.now leg.now.begin ≡ Some way → way < fresh }
+    ensures old { result ≡ None → (way : ℕ) → place_at before.now leg.now.begin ≡ Some way
+        → way < fresh }
 {
     fresh_at(leg.begin.index(), fresh, before)
 }
@@ -118,9 +121,11 @@ fn round_in_order(
     requires within { AreWithin (length ways.old) before.now }
     requires settled { AreSettled passes_Q legs.now fresh ways.old before.now }
     ensures list { Gives (λ _. known_by ways.new places.new.items) (λ q. q) result
-        (at_part Quick (fold_checked (along_leg passes_Q (known_by ways.old before.now)) (known_by ways.old before.now) legs.now)) }
+        (at_part Quick (fold_checked (along_leg passes_Q (known_by ways.old before.now))
+        (known_by ways.old before.now) legs.now)) }
     ensures grows { OnOk result (Grows ways.old ways.new before.now places.new.items) }
-    ensures settled { OnOk result (AreSettled passes_Q legs.now (length ways.old) ways.new places.new.items) }
+    ensures settled { OnOk result
+        (AreSettled passes_Q legs.now (length ways.old) ways.new places.new.items) }
 {
     for leg in legs {
         if let Some(way) = fresh_way(leg, fresh, before) {
@@ -143,9 +148,12 @@ fn offer_from(
     requires way { way < length ways.old }
     requires within { AreWithin (length ways.old) places.old.items }
     requires legs { AreLegs (length places.old.items) arcs.now.legs.items }
-    requires chains { AreChains (length places.old.items) arcs.now.legs.items arcs.now.first.items arcs.now.next.items }
-    ensures list { (before : Known) → known_at before node ≡ Some (way_at ways.old way) → OnOk result
-        (fold_checked (along_leg passes_Q before) (known_by ways.old places.old.items) (legs_out node arcs.now.legs.items)
+    requires chains { AreChains
+        (length places.old.items) arcs.now.legs.items arcs.now.first.items arcs.now.next.items }
+    ensures list { (before : Known) → known_at before node ≡ Some (way_at ways.old way)
+        → OnOk result
+        (fold_checked (along_leg passes_Q before) (known_by ways.old places.old.items)
+        (legs_out node arcs.now.legs.items)
         ≡ Ok (known_by ways.new places.new.items)) }
     ensures grows { OnOk result (Grows ways.old ways.new places.old.items places.new.items) }
 {
@@ -166,16 +174,19 @@ fn round_by_nodes(
     places: &mut Vec<Option<usize>>,
 ) -> Result<(), Halt<Q>>
     requires legs { AreLegs (length before.now) arcs.now.legs.items }
-    requires chains { AreChains (length before.now) arcs.now.legs.items arcs.now.first.items arcs.now.next.items }
+    requires chains { AreChains
+        (length before.now) arcs.now.legs.items arcs.now.first.items arcs.now.next.items }
     requires tree { IsTree ways.old }
     requires same { places.old.items ≡ before.now }
     requires within { AreWithin (length ways.old) before.now }
     requires settled { AreSettled passes_Q arcs.now.legs.items fresh ways.old before.now }
     ensures list { OnOk result
-        (fold_checked (along_leg passes_Q (known_by ways.old before.now)) (known_by ways.old before.now) arcs.now.legs.items
+        (fold_checked (along_leg passes_Q (known_by ways.old before.now))
+        (known_by ways.old before.now) arcs.now.legs.items
         ≡ Ok (known_by ways.new places.new.items)) }
     ensures grows { OnOk result (Grows ways.old ways.new before.now places.new.items) }
-    ensures settled { OnOk result (AreSettled passes_Q arcs.now.legs.items (length ways.old) ways.new places.new.items) }
+    ensures settled { OnOk result
+        (AreSettled passes_Q arcs.now.legs.items (length ways.old) ways.new places.new.items) }
 {
     for node in 0..before.len() {
         if let Some(way) = fresh_at(node, fresh, before) {
@@ -195,15 +206,18 @@ fn round(
     places: &mut Vec<Option<usize>>,
 ) -> Result<(), Halt<Q>>
     requires legs { AreLegs (length before.now) arcs.now.legs.items }
-    requires chains { AreChains (length before.now) arcs.now.legs.items arcs.now.first.items arcs.now.next.items }
+    requires chains { AreChains
+        (length before.now) arcs.now.legs.items arcs.now.first.items arcs.now.next.items }
     requires tree { IsTree ways.old }
     requires same { places.old.items ≡ before.now }
     requires within { AreWithin (length ways.old) before.now }
     requires settled { AreSettled passes_Q arcs.now.legs.items fresh ways.old before.now }
     ensures list { GivesBy in_order (λ _. known_by ways.new places.new.items) result (at_part Quick
-        (fold_checked (along_leg passes_Q (known_by ways.old before.now)) (known_by ways.old before.now) arcs.now.legs.items)) }
+        (fold_checked (along_leg passes_Q (known_by ways.old before.now))
+        (known_by ways.old before.now) arcs.now.legs.items)) }
     ensures grows { OnOk result (Grows ways.old ways.new before.now places.new.items) }
-    ensures settled { OnOk result (AreSettled passes_Q arcs.now.legs.items (length ways.old) ways.new places.new.items) }
+    ensures settled { OnOk result
+        (AreSettled passes_Q arcs.now.legs.items (length ways.old) ways.new places.new.items) }
 {
     if in_order {
         round_in_order(&arcs.legs, fresh, before, ways, places)
@@ -246,7 +260,8 @@ fn reaches_by(
 ) -> Result<Reaches, Halt<Q>>
     requires flows { length flows.now ≡ length net.now.net.links }
     requires from { from < net.now.net.nodes }
-    ensures list { GivesBy in_order (λ known. known) result (at_part Quick (reaches_list passes_Q net.now.net flows.now from)) }
+    ensures list { GivesBy in_order (λ known. known) result
+        (at_part Quick (reaches_list passes_Q net.now.net flows.now from)) }
     ensures count { IfOk result (λ known. length known ≡ net.now.net.nodes) }
 {
     let legs = legs_of(alloc, net, flows)?;
@@ -279,7 +294,8 @@ pub(crate) fn reaches(
 ) -> Result<Reaches, Halt<Q>>
     requires flows { length flows.now ≡ length net.now.net.links }
     requires from { from < net.now.net.nodes }
-    ensures list { Gives (λ known. known) (λ q. q) result (at_part Quick (reaches_list passes_Q net.now.net flows.now from)) }
+    ensures list { Gives (λ known. known) (λ q. q) result
+        (at_part Quick (reaches_list passes_Q net.now.net flows.now from)) }
     ensures count { IfOk result (λ known. length known ≡ net.now.net.nodes) }
 {
     match reaches_by(alloc, net, flows, from, false) {

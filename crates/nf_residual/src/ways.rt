@@ -104,7 +104,8 @@ impl Ways {
     /// exceeds its bound.
     pub(crate) fn changed(&self, way: usize, leg: &Leg) -> Result<Length, PassedAt<Q>>
         requires { way < length self.now }
-        ensures { result ≡ checked_at passes_Q Quick (op_of leg.now.step.forward) (twig_at self.now way).distance leg.now.transit }
+        ensures { result ≡ checked_at passes_Q Quick (op_of leg.now.step.forward)
+            (twig_at self.now way).distance leg.now.transit }
     {
         self.twigs[way]
             .distance
@@ -116,7 +117,8 @@ impl Ways {
     pub(crate) fn whole_change(&self, way: usize, leg: &Leg) -> Option<i64>
         requires { way < length self.now }
         ensures { IfSome result (λ n. (nat_abs n ≤ most)
-            × IsExact leg.now.step.forward (twig_at self.now way).distance leg.now.transit (whole n)) }
+            × IsExact leg.now.step.forward (twig_at self.now way).distance leg.now.transit
+            (whole n)) }
     {
         self.twigs[way]
             .distance
@@ -173,7 +175,8 @@ impl Ways {
         requires way { way < length self.now }
         requires other { other < length self.now }
         requires count { (twig_at self.now other).count ≡ suc (twig_at self.now way).count }
-        ensures { result ≡ are_before_by ((way_at self.now way).steps ++ step ∷ []) (way_at self.now other).steps }
+        ensures { result ≡ are_before_by ((way_at self.now way).steps ++ step ∷ [])
+            (way_at self.now other).steps }
     {
         let mut are_before = decided(step, self.last(other), false);
         let mut here = way;
@@ -193,7 +196,8 @@ impl Ways {
     fn are_fewer_or_before(&self, way: usize, step: Step, other: usize) -> bool
         requires way { way < length self.now }
         requires other { other < length self.now }
-        ensures { result ≡ are_fewer_or_before_by ((way_at self.now way).steps ++ step ∷ []) (way_at self.now other).steps }
+        ensures { result ≡ are_fewer_or_before_by ((way_at self.now way).steps ++ step ∷ [])
+            (way_at self.now other).steps }
     {
         let fewer = self.step_count(way);
         let count = self.step_count(other);
@@ -210,7 +214,8 @@ impl Ways {
         requires way { way < length self.now }
         requires other { other < length self.now }
         ensures { (distance : ℚ) → order ≡ cmp_ℚ distance (twig_at self.now other).distance
-            → result ≡ is_better_by (longer (way_at self.now way) step distance) (way_at self.now other) }
+            → result
+            ≡ is_better_by (longer (way_at self.now way) step distance) (way_at self.now other) }
     {
         match order {
             Ordering::Less => true,
@@ -229,7 +234,8 @@ impl Ways {
     ) -> bool
         requires way { way < length self.now }
         requires known { IfSome known (λ other. other < length self.now) }
-        ensures { result ≡ gains (longer (way_at self.now way) step distance.now) (option_map (way_at self.now) known) }
+        ensures { result ≡ gains (longer (way_at self.now way) step distance.now)
+            (option_map (way_at self.now) known) }
     {
         match known {
             None => true,
@@ -252,7 +258,8 @@ impl Ways {
         requires number { nat_abs number ≤ most }
         requires way { way < length self.now }
         requires known { IfSome known (λ other. other < length self.now) }
-        ensures { result ≡ gains (longer (way_at self.now way) step (whole number)) (option_map (way_at self.now) known) }
+        ensures { result ≡ gains (longer (way_at self.now way) step (whole number))
+            (option_map (way_at self.now) known) }
     {
         match known {
             None => true,

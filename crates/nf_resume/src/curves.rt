@@ -19,7 +19,8 @@ use std::alloc::Global;
 
 // Returns the rates of a curve: for each point but the last, the slope to the next. Refuses at the first operation that exceeds its bound.
 fn rates(alloc: Global, curve: &Curve) -> Result<Vec<Q>, Halt<Q>>
-    ensures { Gives (λ rates. rates.items) (λ q. q) result (at_part OfCurve (checked_slopes passes_Q curve.now.points)) }
+    ensures { Gives (λ rates. rates.items) (λ q. q) result
+        (at_part OfCurve (checked_slopes passes_Q curve.now.points)) }
 {
     let count = curve.len() - 1;
     let mut rates = Vec::with_capacity(alloc, count)?;
@@ -36,7 +37,8 @@ fn rates(alloc: Global, curve: &Curve) -> Result<Vec<Q>, Halt<Q>>
 #[tactic(auto, using(nf_curve::proofs::Exits::after_ok, nf_curve::proofs::Exits::after_err))]
 pub(crate) fn cut_short(alloc: Global, curve: &Curve, last: Q) -> Result<Curve, Halt<Q>>
     requires { 0ℚ ≤ℚ last }
-    ensures { Gives (λ c. c.points) (λ q. q) result (at_part OfCurve (cut_short_by passes_Q last curve.now.points)) }
+    ensures { Gives (λ c. c.points) (λ q. q) result
+        (at_part OfCurve (cut_short_by passes_Q last curve.now.points)) }
 {
     let cut = curve.cut(alloc, last, Part::Curve)?;
     Curve::short(alloc, &cut, Part::Curve)
@@ -46,7 +48,8 @@ pub(crate) fn cut_short(alloc: Global, curve: &Curve, last: Q) -> Result<Curve, 
 #[tactic(auto, using(nf_curve::proofs::Exits::after_ok, nf_curve::proofs::Exits::after_err))]
 pub(crate) fn cut_trace(alloc: Global, trace: &Trace, last: Q) -> Result<Trace, Halt<Q>>
     requires { 0ℚ ≤ℚ last }
-    ensures { Gives trace_of (λ q. q) result (at_part OfCurve (cut_trace_by passes_Q last trace.now.curve.points)) }
+    ensures { Gives trace_of (λ q. q) result
+        (at_part OfCurve (cut_trace_by passes_Q last trace.now.curve.points)) }
 {
     let curve = cut_short(alloc, &trace.curve, last)?;
     let rates = rates(alloc, &curve)?;

@@ -43,10 +43,13 @@ impl OfLinks {
     // Appends the curves of a link. Refuses only if memory can't be allocated.
     fn push(&mut self, cut: CutLink) -> Result<(), AllocError>
         ensures inflows { OnOk result
-            (map trace_of self.new.inflows.items ≡ map trace_of self.old.inflows.items ++ (cut_in cut).inflow ∷ []) }
+            (map trace_of self.new.inflows.items
+            ≡ map trace_of self.old.inflows.items ++ (cut_in cut).inflow ∷ []) }
         ensures outflows { OnOk result
-            (map trace_of self.new.outflows.items ≡ map trace_of self.old.outflows.items ++ (cut_in cut).outflow ∷ []) }
-        ensures queues { OnOk result (curves_of self.new.queues.items ≡ curves_of self.old.queues.items ++ (cut_in cut).queue ∷ []) }
+            (map trace_of self.new.outflows.items
+            ≡ map trace_of self.old.outflows.items ++ (cut_in cut).outflow ∷ []) }
+        ensures queues { OnOk result (curves_of self.new.queues.items
+            ≡ curves_of self.old.queues.items ++ (cut_in cut).queue ∷ []) }
     {
         self.inflows.push(cut.inflow)?;
         self.outflows.push(cut.outflow)?;
@@ -57,7 +60,8 @@ impl OfLinks {
 
 // Returns the cut curves of links, each kind in its own list.
 fn in_lists(alloc: Global, cuts: Vec<CutLink>) -> Result<OfLinks, AllocError>
-    ensures { IfOk result (λ links. AreLists (map trace_of links.inflows.items) (map trace_of links.outflows.items)
+    ensures { IfOk result
+        (λ links. AreLists (map trace_of links.inflows.items) (map trace_of links.outflows.items)
         (curves_of links.queues.items) (map cut_in cuts.items)) }
 {
     let mut links = OfLinks {
@@ -77,7 +81,8 @@ fn in_lists(alloc: Global, cuts: Vec<CutLink>) -> Result<OfLinks, AllocError>
 #[tactic(auto, unfolding(nf_resume_def::specs::Resuming::cut_flow))]
 pub(crate) fn cut_flow(alloc: Global, net: &Network, flow: &Flow) -> Result<Flow, Halt<Q>>
     requires { Equilibrium net.now.net (flow_of flow.now) }
-    ensures { Gives flow_of (λ q. q) result (at_part OfCurve (cut_flow_by passes_Q net.now.net (flow_of flow.now))) }
+    ensures { Gives flow_of (λ q. q) result
+        (at_part OfCurve (cut_flow_by passes_Q net.now.net (flow_of flow.now))) }
 {
     // Proof: the network satisfies `IsNetwork`.
     net.recall();

@@ -39,7 +39,8 @@ fn cut_link(
     requires tail { 0ℚ ≤ℚ tail }
     requires head { 0ℚ ≤ℚ head }
     ensures { Gives cut_in (λ q. q) result
-        (at_part OfCurve (cut_ends passes_Q tail head inflow.now.curve.points outflow.now.curve.points queue.now.points)) }
+        (at_part OfCurve (cut_ends passes_Q tail head inflow.now.curve.points
+        outflow.now.curve.points queue.now.points)) }
 {
     let inflow = cut_trace(alloc, inflow, tail)?;
     let outflow = cut_trace(alloc, outflow, head)?;
@@ -63,10 +64,12 @@ pub(crate) fn cut_links(
     requires inflows { length flow.now.inflows.items ≡ length net.now.net.links }
     requires outflows { length flow.now.outflows.items ≡ length net.now.net.links }
     requires queues { length flow.now.queues.items ≡ length net.now.net.links }
-    requires ends { (v : ℕ) → v < net.now.net.nodes → 0ℚ ≤ℚ value_at_end (points_at (curves_of labels.now) v) }
+    requires ends { (v : ℕ) → v < net.now.net.nodes
+        → 0ℚ ≤ℚ value_at_end (points_at (curves_of labels.now) v) }
     ensures { Gives (λ cuts. map cut_in cuts.items) (λ q. q) result (at_part OfCurve
         (each (cut_link_by passes_Q (curves_of labels.now))
-        (links_with net.now.net.links (flow_of flow.now).inflows (flow_of flow.now).outflows (flow_of flow.now).queues))) }
+        (links_with net.now.net.links (flow_of flow.now).inflows (flow_of flow.now).outflows
+        (flow_of flow.now).queues))) }
 {
     let mut cuts = Vec::with_capacity(alloc, net.link_count() as usize)?;
     for number in 0..net.link_count() {

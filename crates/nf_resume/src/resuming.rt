@@ -37,7 +37,8 @@ fn is_earlier(horizon: Q, reached: Q) -> bool
 
 // Refuses if the answer of the check is No.
 fn unless_no(answer: Answer) -> Result<(), ResumeFault>
-    ensures { MatchResult result (λ _. answer ≡ Yes) (λ fault. (fault ≡ ResumeFault.No answer) × (answer ≢ Yes)) }
+    ensures { MatchResult result (λ _. answer ≡ Yes)
+        (λ fault. (fault ≡ ResumeFault.No answer) × (answer ≢ Yes)) }
 {
     match answer {
         Answer::Yes => Ok(()),
@@ -48,7 +49,8 @@ fn unless_no(answer: Answer) -> Result<(), ResumeFault>
 // Refuses if the flow of the report is no equilibrium.
 fn check_first(alloc: Global, net: &Network, report: &Report) -> Result<(), ResumeFault>
     requires { IsWellFormed net.now.net (report_of report.now) }
-    ensures yes { OnOk result (check_list passes_Q net.now.net (report_of report.now).flow ≡ Ok Yes) }
+    ensures yes { OnOk result
+        (check_list passes_Q net.now.net (report_of report.now).flow ≡ Ok Yes) }
     ensures equilibrium { OnOk result (Equilibrium net.now.net (report_of report.now).flow) }
     ensures cause { IfErr result (IsCause passes_Q net.now.net (report_of report.now)) }
 {
@@ -62,7 +64,8 @@ fn check_first(alloc: Global, net: &Network, report: &Report) -> Result<(), Resu
 fn restart(alloc: Global, net: &Network, report: &Report) -> Result<Run, Halt<Q>>
     requires formed { IsWellFormed net.now.net (report_of report.now) }
     requires equilibrium { Equilibrium net.now.net (report_of report.now).flow }
-    ensures list { Gives (λ run. run) (λ q. q) result (at_part OfCurve (restart_list passes_Q net.now.net (report_of report.now))) }
+    ensures list { Gives (λ run. run) (λ q. q) result
+        (at_part OfCurve (restart_list passes_Q net.now.net (report_of report.now))) }
     ensures reaches { IfOk result (Reaches passes_Q net.now.net) }
     ensures time { IfOk result (λ run. run.time ≡ (report_of report.now).flow.reached) }
     ensures fresh { IfOk result (λ run. run.made ≡ 0) }
@@ -96,14 +99,17 @@ pub fn resume(
 ) -> Result<Solution, ResumeFault>
     requires { IsWellFormed net.now.net (report_of report.now) }
     ensures resumed { IfOk result
-        (λ s. IsResumedReport passes_Q net.now.net (bounds_of horizon budgets) (report_of report.now) s.phases (report_in horizon s)) }
+        (λ s. IsResumedReport passes_Q net.now.net (bounds_of horizon budgets)
+        (report_of report.now) s.phases (report_in horizon s)) }
     ensures equilibrium { IfOk result (λ s. Equilibrium net.now.net (flow_of s.flow)) }
-    ensures goes_on { IfOk result (λ s. GoesOnFrom net.now.net (report_of report.now).flow (flow_of s.flow)) }
+    ensures goes_on { IfOk result
+        (λ s. GoesOnFrom net.now.net (report_of report.now).flow (flow_of s.flow)) }
     ensures short { IfOk result (λ s. IsShortFlow net.now.net (flow_of s.flow)) }
     ensures ends { IfOk result (λ s. EndsAtItsLabels net.now.net (flow_of s.flow)) }
     ensures formed { IfOk result (λ s. IsWellFormed net.now.net (report_in horizon s)) }
     ensures not_earlier { OnOk result ((report_of report.now).flow.reached ≤ℚ horizon) }
-    ensures fault { IfErr result (IsResumeFault passes_Q net.now.net (report_of report.now) horizon) }
+    ensures fault { IfErr result
+        (IsResumeFault passes_Q net.now.net (report_of report.now) horizon) }
 {
     // Proof: the network is that of an accepted file.
     net.recall();

@@ -40,7 +40,8 @@ pub struct Routed {
 fn ended(alloc: Global, links: Vec<Option<LoadedLink>>) -> Result<(Vec<Q>, Vec<Loaded>), AllocError>
     requires { AreLoaded links.items }
     ensures ends { IfOk result (λ parts. parts.0.items ≡ map (end_or passes_Q) links.items) }
-    ensures loaded { IfOk result (λ parts. map loaded_of parts.1.items ≡ map (loaded_or passes_Q) links.items) }
+    ensures loaded { IfOk result
+        (λ parts. map loaded_of parts.1.items ≡ map (loaded_or passes_Q) links.items) }
 {
     let mut ends = Vec::new(alloc);
     let mut all = Vec::new(alloc);
@@ -57,8 +58,10 @@ fn ended(alloc: Global, links: Vec<Option<LoadedLink>>) -> Result<(Vec<Q>, Vec<L
 fn parted(alloc: Global, entries: Vec<Stages>) -> Result<(Vec<Vec<Curve>>, Vec<Curve>), AllocError>
     requires { HaveSent entries.items }
     ensures entries { IfOk result
-        (λ parts. map (λ sent. map (λ c. c.points) sent.items) parts.0.items ≡ map (but_last passes_Q) entries.items) }
-    ensures arrivals { IfOk result (λ parts. map (λ c. c.points) parts.1.items ≡ map last_entry entries.items) }
+        (λ parts. map (λ sent. map (λ c. c.points) sent.items) parts.0.items
+        ≡ map (but_last passes_Q) entries.items) }
+    ensures arrivals { IfOk result
+        (λ parts. map (λ c. c.points) parts.1.items ≡ map last_entry entries.items) }
 {
     let mut all = Vec::new(alloc);
     let mut arrivals = Vec::new(alloc);
@@ -81,10 +84,13 @@ pub(crate) fn load_kept(
 ) -> Result<Routed, Halt<Q>>
     requires horizon { 0ℚ ≤ℚ horizon }
     requires walks { AreWalks net.now.net (routes_of routes.now) }
-    ensures list { Gives routed_of (λ q. q) result (at_part Load (kept_list passes_Q kept net.now.net (routes_of routes.now) horizon)) }
-    ensures routed { (all : lists.Routed) → routes_list passes_Q net.now.net (routes_of routes.now) horizon ≡ Ok all
+    ensures list { Gives routed_of (λ q. q) result
+        (at_part Load (kept_list passes_Q kept net.now.net (routes_of routes.now) horizon)) }
+    ensures routed { (all : lists.Routed)
+        → routes_list passes_Q net.now.net (routes_of routes.now) horizon ≡ Ok all
         → IsRouted net.now.net (routes_of routes.now) horizon all }
-    ensures arrives { (all : lists.Routed) → routes_list passes_Q net.now.net (routes_of routes.now) horizon ≡ Ok all
+    ensures arrives { (all : lists.Routed)
+        → routes_list passes_Q net.now.net (routes_of routes.now) horizon ≡ Ok all
         → RoutesArrive net.now.net (routes_of routes.now) horizon all }
 {
     // Proof: transit times and capacities are those of a network.
@@ -118,9 +124,12 @@ pub fn load_routes(
 ) -> Result<Routed, Halt<Q>>
     requires horizon { 0ℚ ≤ℚ horizon }
     requires walks { AreWalks net.now.net (routes_of routes.now) }
-    ensures list { Gives routed_of (λ q. q) result (at_part Load (routes_list passes_Q net.now.net (routes_of routes.now) horizon)) }
-    ensures routed { IfOk result (λ r. IsRouted net.now.net (routes_of routes.now) horizon (routed_of r)) }
-    ensures arrives { IfOk result (λ r. RoutesArrive net.now.net (routes_of routes.now) horizon (routed_of r)) }
+    ensures list { Gives routed_of (λ q. q) result
+        (at_part Load (routes_list passes_Q net.now.net (routes_of routes.now) horizon)) }
+    ensures routed { IfOk result
+        (λ r. IsRouted net.now.net (routes_of routes.now) horizon (routed_of r)) }
+    ensures arrives { IfOk result
+        (λ r. RoutesArrive net.now.net (routes_of routes.now) horizon (routed_of r)) }
 {
     load_kept(alloc, net, routes, horizon, Kept::Every)
 }

@@ -24,7 +24,8 @@ fn travel(alloc: Global, links: &[Loaded], route: &Route, horizon: Q) -> Result<
     requires exits { HaveExits (map loaded_of links.now) }
     requires over { GoOver (map loaded_of links.now) route.now.route.links }
     ensures { Gives (λ c. c.points) (λ q. q) result
-        (at_part Load (travel_along passes_Q horizon (map loaded_of links.now) route.now.route.links (departures_by horizon))) }
+        (at_part Load (travel_along passes_Q horizon (map loaded_of links.now) route.now.route.links
+        (departures_by horizon))) }
 {
     let mut travel = Curve::identity(alloc, horizon)?;
     for link in route.links() {
@@ -83,10 +84,12 @@ fn next_travel(
     requires exits { HaveExits (map loaded_of links.now) }
     requires over { GoOverAll (map loaded_of links.now) (routes_of routes.now) }
     requires left { length travels.now < length routes.now }
-    requires travels { AreTravels horizon (map loaded_of links.now) routes.now (map (λ c. c.points) travels.now) }
+    requires travels { AreTravels horizon (map loaded_of links.now) routes.now
+        (map (λ c. c.points) travels.now) }
     ensures { Gives (λ c. c.points) (λ q. q) result
         (at_part Load
-        (travel_along passes_Q horizon (map loaded_of links.now) (links_at routes.now (length travels.now)) (departures_by horizon))) }
+        (travel_along passes_Q horizon (map loaded_of links.now)
+        (links_at routes.now (length travels.now)) (departures_by horizon))) }
 {
     let route = travels.len();
     let alike = first_alike(routes, route);
@@ -109,7 +112,8 @@ pub fn travels(
     requires exits { HaveExits (map loaded_of links.now) }
     requires over { GoOverAll (map loaded_of links.now) (routes_of routes.now) }
     ensures { Gives (λ travels. map (λ c. c.points) travels.items) (λ q. q) result
-        (at_part Load (each (λ route. travel_along passes_Q horizon (map loaded_of links.now) route.links (departures_by horizon))
+        (at_part Load (each (λ route.
+        travel_along passes_Q horizon (map loaded_of links.now) route.links (departures_by horizon))
         (routes_of routes.now))) }
 {
     let mut travels = Vec::new(alloc);

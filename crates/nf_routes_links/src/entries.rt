@@ -44,7 +44,8 @@ fn goes_over(links: &[LinkId], link: LinkId) -> bool
 fn first_entry(alloc: Global, pieces: &[Piece], horizon: Q) -> Result<Curve, Halt<Q>>
     requires pieces { ArePieces pieces.now }
     requires horizon { 0ℚ ≤ℚ horizon }
-    ensures { Gives (λ c. c.points) (λ q. q) result (at_part Load (first_by passes_Q pieces.now horizon)) }
+    ensures { Gives (λ c. c.points) (λ q. q) result
+        (at_part Load (first_by passes_Q pieces.now horizon)) }
 {
     let amounts = cumulative(alloc, pieces, horizon)?;
     Curve::short(alloc, &amounts, Part::Load)
@@ -61,7 +62,8 @@ fn begin(
     requires pieces { ArePieces route.now.route.pieces }
     requires horizon { 0ℚ ≤ℚ horizon }
     ensures { Gives (λ _. sent.new) (λ q. q) result
-        (at_part Load (lists.begin_if passes_Q (lists.begins_with route.now.route.links link) horizon route.now.route sent.old)) }
+        (at_part Load (lists.begin_if passes_Q
+        (lists.begins_with route.now.route.links link) horizon route.now.route sent.old)) }
 {
     if begins_with(route.links(), link) {
         let first = first_entry(alloc, route.pieces(), horizon)?;
@@ -100,7 +102,8 @@ fn with_entry(
 ) -> Result<Curve, Halt<Q>>
     requires { Sends link route.now.route sent.now }
     ensures { Gives (λ c. c.points) (λ q. q) result
-        (at_part Load (lists.add_if passes_Q (lists.goes_over route.now.route.links link) total.points (lists.last_entry sent.now))) }
+        (at_part Load (lists.add_if passes_Q
+        (lists.goes_over route.now.route.links link) total.points (lists.last_entry sent.now))) }
 {
     if goes_over(route.links(), link) {
         Curve::sum(alloc, &total, sent.last(), Part::Load)
@@ -118,7 +121,8 @@ pub(crate) fn inflow_of(
 ) -> Result<Curve, Halt<Q>>
     requires { Along (Sends link) (routes_of routes.now) entries.now }
     ensures { Gives (λ c. c.points) (λ q. q) result
-        (at_part Load (lists.sum_from passes_Q link ((0ℚ, 0ℚ) ∷ []) (routes_of routes.now) entries.now)) }
+        (at_part Load
+        (lists.sum_from passes_Q link ((0ℚ, 0ℚ) ∷ []) (routes_of routes.now) entries.now)) }
 {
     let mut total = Curve::start(alloc, Q::zero())?;
     for i in 0..routes.len() {
@@ -140,7 +144,8 @@ fn send_on(
     requires known { AreKnown exit.now.points known.old.items }
     requires sends { Sends link route.now.route sent.old }
     ensures list { Gives (λ _. sent.new) (λ q. q) result
-        (at_part Load (lists.next_if passes_Q (lists.goes_over route.now.route.links link) exit.now.points sent.old)) }
+        (at_part Load (lists.next_if passes_Q
+        (lists.goes_over route.now.route.links link) exit.now.points sent.old)) }
     ensures known { AreKnown exit.now.points known.new.items }
 {
     if goes_over(route.links(), link) {
@@ -161,7 +166,8 @@ pub(crate) fn send_all_on(
     requires exits { AreExits exit.now.points }
     requires send { Along (Sends link) (routes_of routes.now) entries.old }
     ensures { Gives (λ _. entries.new) (λ q. q) result
-        (at_part Load (lists.next_all passes_Q link exit.now.points (routes_of routes.now) entries.old)) }
+        (at_part Load
+        (lists.next_all passes_Q link exit.now.points (routes_of routes.now) entries.old)) }
 {
     let mut known = copied_points(alloc, exit.as_points())?;
     for i in 0..routes.len() {

@@ -35,7 +35,8 @@ pub(crate) fn load_here(
     requires may { MayLoad net.now.net (routes_of routes.now) link (seen_so_far so_far.old) }
     ensures { Gives (λ _. seen_so_far so_far.new) (λ q. q) result
         (at_part Load
-        (lists.load_here passes_Q horizon (routes_of routes.now) (seen_so_far so_far.old) link (slice_get net.now.net.links link))) }
+        (lists.load_here passes_Q horizon (routes_of routes.now) (seen_so_far so_far.old) link
+        (slice_get net.now.net.links link))) }
 {
     let here = net.link(link);
     let end = end_of(routes, &so_far.links, link, horizon);
@@ -59,8 +60,10 @@ pub fn load_all(
     requires horizon { 0ℚ ≤ℚ horizon }
     requires routes { AreRoutes net.now.net (routes_of routes.now) }
     requires straight { ¬ HoldCircle (routes_of routes.now) }
-    ensures list { Gives seen_so_far (λ q. q) result (at_part Load (all_kept passes_Q kept net.now.net (routes_of routes.now) horizon)) }
-    ensures complete { IfOk result (λ so_far. IsComplete net.now.net (routes_of routes.now) (seen_so_far so_far)) }
+    ensures list { Gives seen_so_far (λ q. q) result
+        (at_part Load (all_kept passes_Q kept net.now.net (routes_of routes.now) horizon)) }
+    ensures complete { IfOk result
+        (λ so_far. IsComplete net.now.net (routes_of routes.now) (seen_so_far so_far)) }
 {
     // Proof: transit times and capacities are those of a network.
     net.recall();

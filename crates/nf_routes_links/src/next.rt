@@ -22,7 +22,8 @@ use std::alloc::{AllocError, Global};
 
 // Returns both values at a moment, if the left curve has a point there, and the right value is known by the point of this number.
 fn sides_there(left: &[Point], known: &[Point], moment: &Moment, place: usize) -> Option<Sides>
-    ensures { IfSome result (λ sides. AreThere left.now known.now moment.now.time (sides_of sides)) }
+    ensures { IfSome result
+        (λ sides. AreThere left.now known.now moment.now.time (sides_of sides)) }
 {
     if moment.left == 0 {
         return None;
@@ -48,7 +49,8 @@ fn sides_near(
     requires right { IsCurve right.now }
     requires known { AreKnown right.now known.now }
     requires there { IsMoment left.now right.now moment.now }
-    ensures { seen_at sides_of (λ q. q) result ≡ at_part Load (sides_by passes_Q left.now right.now moment.now.time) }
+    ensures { seen_at sides_of (λ q. q) result
+        ≡ at_part Load (sides_by passes_Q left.now right.now moment.now.time) }
 {
     match sides_there(left, known, moment, place) {
         Some(sides) => Ok(sides),
@@ -67,7 +69,8 @@ fn all_sides(
     requires right { IsCurve right.now }
     requires known { AreKnown right.now known.now }
     ensures { Gives (λ sides. map sides_of sides.items) (λ q. q) result
-        (at_part Load (each (sides_by passes_Q left.now right.now) (both_times left.now right.now))) }
+        (at_part Load
+        (each (sides_by passes_Q left.now right.now) (both_times left.now right.now))) }
 {
     let mut all = Vec::with_capacity(alloc, left.len() + right.len())?;
     let mut place = 0;
@@ -107,7 +110,8 @@ fn keep_exits(alloc: Global, all: &[Sides], known: &mut Vec<Point>) -> Result<()
 
 // Returns the amount entered by each exit. The first point is (0, 0). Each exit that differs from the one before adds a point.
 fn next_points(alloc: Global, all: &[Sides]) -> Result<Vec<Point>, AllocError>
-    ensures { IfOk result (λ points. points.items ≡ (0ℚ, 0ℚ) ∷ next_from 0ℚ (map sides_of all.now)) }
+    ensures { IfOk result
+        (λ points. points.items ≡ (0ℚ, 0ℚ) ∷ next_from 0ℚ (map sides_of all.now)) }
 {
     let mut points = Vec::with_capacity(alloc, all.len() + 1)?;
     let mut last = Q::zero();
@@ -135,7 +139,8 @@ pub(crate) fn next_entry(
     requires exits { AreExits exit.now.points }
     requires known { AreKnown exit.now.points known.old.items }
     requires amount { IsAmount entry.now.points }
-    ensures list { Gives (λ c. c.points) (λ q. q) result (at_part Load (next_by passes_Q exit.now.points entry.now.points)) }
+    ensures list { Gives (λ c. c.points) (λ q. q) result
+        (at_part Load (next_by passes_Q exit.now.points entry.now.points)) }
     ensures known { AreKnown exit.now.points known.new.items }
     ensures amount { IfOk result (λ c. IsAmount c.points) }
     ensures next { (last : ℚ) → CanShare exit.now.points entry.now.points last

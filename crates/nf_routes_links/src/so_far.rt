@@ -62,8 +62,10 @@ fn no_entries(alloc: Global, routes: &[Route]) -> Result<Vec<Stages>, AllocError
 impl SoFar {
     /// Returns the progress at the start: no link is loaded, and no route has sent anything.
     pub fn new(alloc: Global, net: &Network, routes: &[Route]) -> Result<SoFar, AllocError>
-        ensures links { IfOk result (λ so_far. so_far.links.items ≡ nothing_loaded net.now.net.links) }
-        ensures entries { IfOk result (λ so_far. so_far.entries.items ≡ nothing_sent (routes_of routes.now)) }
+        ensures links { IfOk result
+            (λ so_far. so_far.links.items ≡ nothing_loaded net.now.net.links) }
+        ensures entries { IfOk result
+            (λ so_far. so_far.entries.items ≡ nothing_sent (routes_of routes.now)) }
     {
         Ok(SoFar {
             links: no_links(alloc, net)?,

@@ -77,7 +77,8 @@ impl Stages {
     pub fn end(self) -> Option<(Vec<Curve>, Curve)>
         requires { 0 < length self }
         ensures some { IsSome result }
-        ensures sent { IfSome result (λ parts. map (λ c. c.points) parts.0.items ≡ but_last passes_Q self) }
+        ensures sent { IfSome result
+            (λ parts. map (λ c. c.points) parts.0.items ≡ but_last passes_Q self) }
         ensures arrival { IfSome result (λ parts. parts.1.points ≡ last_entry self) }
     {
         let mut curves = self.curves;

@@ -50,7 +50,8 @@ impl Draft {
     // Returns the first of G10 to G12 that a route breaks after the routes so far.
     fn route_rule(&self, net: &Network, route: &Route) -> Option<RoutesRule>
         requires { All (λ e. e < length net.now.link_names) route.now.route.links }
-        ensures { result ≡ routes_rule_of net.now.net self.now (RouteLine route.now.name route.now.route.links) }
+        ensures { result
+            ≡ routes_rule_of net.now.net self.now (RouteLine route.now.name route.now.route.links) }
     {
         // Proof: each link has a name.
         net.recall();

@@ -25,7 +25,8 @@ pub enum Entry {
 // Returns the word as a name, if it is one.
 #[tactic(auto, using(nf_net_file::proofs::NameText::name_is_text, crate::proofs::RouteNames::no_name_text))]
 fn name_of(word: &[u8]) -> Option<&str>
-    ensures { MatchOption result (names.is_name word.now ≡ false) (λ name. (name.now ≡ word.now) × (names.is_name word.now ≡ true)) }
+    ensures { MatchOption result (names.is_name word.now ≡ false)
+        (λ name. (name.now ≡ word.now) × (names.is_name word.now ≡ true)) }
 {
     match std::str::from_utf8(word) {
         Ok(name) if is_name(word) => Some(name),
@@ -59,7 +60,8 @@ fn read_links(
     line: &ReadLine,
 ) -> Result<Vec<LinkId>, LineFault<RoutesRule>>
     requires { 2 ≤ length line.now.words }
-    ensures { MatchResult result (λ links. AreLinksOf net.now.link_names (drop 2 line.now.words) links.items)
+    ensures { MatchResult result
+        (λ links. AreLinksOf net.now.link_names (drop 2 line.now.words) links.items)
         (λ fault. NoLinks fault net.now.link_names (drop 2 line.now.words)) }
 {
     let mut links = Vec::new(alloc);
@@ -136,7 +138,8 @@ pub fn read_entry(
     routes: &[Route],
     line: &ReadLine,
 ) -> Result<Entry, LineFault<RoutesRule>>
-    ensures says { Says (routes_entry net.now.link_names (route_names routes.now) line.now.words) result }
+    ensures says { Says
+        (routes_entry net.now.link_names (route_names routes.now) line.now.words) result }
     ensures fits { IfOk result (λ entry. Fits (length routes.now) entry) }
     ensures links { IfOk result (λ entry. HasLinks (length net.now.link_names) entry) }
 {

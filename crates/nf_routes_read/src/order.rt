@@ -17,7 +17,8 @@ fn is_taken(taken: &[LinkId], link: LinkId) -> bool
 
 // Returns whether each direct predecessor of the link on this route was taken.
 fn may_follow(links: &[LinkId], taken: &[LinkId], link: LinkId) -> bool
-    ensures { result ≡ list_all (λ p. not (p.1 == link) || is_taken_by taken.now p.0) (pairs_of links.now) }
+    ensures { result
+        ≡ list_all (λ p. not (p.1 == link) || is_taken_by taken.now p.0) (pairs_of links.now) }
 {
     for i in 1..links.len() {
         if links[i] == link && !is_taken(taken, links[i - 1]) {
@@ -29,7 +30,8 @@ fn may_follow(links: &[LinkId], taken: &[LinkId], link: LinkId) -> bool
 
 // Returns whether each direct predecessor of the link on all routes was taken.
 fn may_follow_all(routes: &[Route], taken: &[LinkId], link: LinkId) -> bool
-    ensures { result ≡ list_all (λ p. not (p.1 == link) || is_taken_by taken.now p.0) (all_pairs (routes_of routes.now)) }
+    ensures { result ≡ list_all (λ p. not (p.1 == link) || is_taken_by taken.now p.0)
+        (all_pairs (routes_of routes.now)) }
 {
     for route in routes {
         if !may_follow(route.links(), taken, link) {
@@ -48,7 +50,8 @@ fn is_free(routes: &[Route], taken: &[LinkId], link: LinkId) -> bool
 
 // Returns the lowest remaining link whose direct predecessors were all taken, if there is one.
 fn next_free(routes: &[Route], taken: &[LinkId], link_count: u32) -> Option<LinkId>
-    ensures { result ≡ first_free (all_pairs (routes_of routes.now)) taken.now (range_with_len 0 link_count) }
+    ensures { result
+        ≡ first_free (all_pairs (routes_of routes.now)) taken.now (range_with_len 0 link_count) }
 {
     for number in 0..link_count {
         let link = LinkId(number);

@@ -37,7 +37,8 @@ pub fn parse_routes(alloc: Global, net: &Network, text: &[u8]) -> Result<Routes,
         (λ fault. IfBroken fault (λ broken. ReadsRoutes net.now text.now (Err broken))) }
     ensures kept { IfOk result (λ routes. AreKept routes) }
     ensures walks { IfOk result (λ routes. AreWalks net.now.net (routes_of routes)) }
-    ensures circle { IfErr result (λ fault. IfBroken fault (λ broken. broken.rule ≡ G17 → HoldsCircleIn net.now text.now)) }
+    ensures circle { IfErr result
+        (λ fault. IfBroken fault (λ broken. broken.rule ≡ G17 → HoldsCircleIn net.now text.now)) }
 {
     read_routes(alloc, net, text)
 }

@@ -30,7 +30,8 @@ impl Model for Route {
 impl Route {
     /// Returns a route without pieces.
     pub(crate) fn new(alloc: Global, name: &str, links: Vec<LinkId>) -> Result<Route, AllocError>
-        ensures { IfOk result (λ route. route ≡ record { name = name.now; route = record { links = links.items; pieces = [] } }) }
+        ensures { IfOk result (λ route. route
+            ≡ record { name = name.now; route = record { links = links.items; pieces = [] } }) }
     {
         let name = String::from_str(alloc, name)?;
         Ok(Route {

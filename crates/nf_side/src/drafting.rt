@@ -36,8 +36,10 @@ pub trait SideDraft: Drop {
     /// Adds the entry of a line. Refuses with the first rule that the line breaks, or if an allocation fails.
     fn add_line(&mut self, net: &Network, line: &ReadLine) -> Result<(), LineFault<Self::Rule>>
         requires { fits net.now self.old }
-        ensures adds { MatchResult result (λ _. (frame net.now).add self.old line.now.words ≡ Ok self.new)
-            (λ fault. IfRule fault (λ rule. (frame net.now).add self.old line.now.words ≡ Err rule)) }
+        ensures adds { MatchResult result
+            (λ _. (frame net.now).add self.old line.now.words ≡ Ok self.new)
+            (λ fault.
+            IfRule fault (λ rule. (frame net.now).add self.old line.now.words ≡ Err rule)) }
         ensures fits { OnOk result (fits net.now self.new) };
 }
 
@@ -48,8 +50,10 @@ fn add_lines<D: SideDraft>(
     lines: &[ReadLine],
 ) -> Result<D, FileFault<D::Rule>>
     requires { D.fits net.now draft }
-    ensures adds { MatchResult result (λ next. add_lines_by (D.frame net.now).add draft lines.now ≡ Ok next)
-        (λ fault. IfBroken fault (λ broken. add_lines_by (D.frame net.now).add draft lines.now ≡ Err broken)) }
+    ensures adds { MatchResult result
+        (λ next. add_lines_by (D.frame net.now).add draft lines.now ≡ Ok next)
+        (λ fault. IfBroken fault
+        (λ broken. add_lines_by (D.frame net.now).add draft lines.now ≡ Err broken)) }
     ensures fits { IfOk result (λ next. D.fits net.now next) }
 {
     for line in lines {

@@ -36,7 +36,8 @@ fn is_not_after(before: &[Piece], start: Q) -> bool
 /// The first rule that a piece breaks behind those before it, in the order of the fields of PieceRules; None where it breaks none. Takes
 /// no memory.
 pub fn piece_rule<R: Copy>(before: &[Piece], piece: &Piece, rules: PieceRules<R>) -> Option<R>
-    ensures { result ≡ piece_rule_by rules.most rules.negative rules.not_after rules.too_many before.now piece.now }
+    ensures { result ≡ piece_rule_by rules.most rules.negative rules.not_after rules.too_many
+        before.now piece.now }
 {
     if piece.start.is_below(Q::zero()) || piece.rate.is_below(Q::zero()) {
         return Some(rules.negative);

@@ -13,7 +13,8 @@ use nf_text::is_word;
 /// Returns the link that a word names; None exactly if no link has this name. Idle links are not considered.
 #[tactic(auto, using(crate::proofs::NamesOf::link_is_there, crate::proofs::NamesOf::no_link_text))]
 pub fn link_of(net: &Network, word: &[u8]) -> Option<LinkId>
-    ensures { MatchOption result (has_name net.now.link_names word.now ≡ false) (λ link. IsNameAt net.now.link_names word.now link) }
+    ensures { MatchOption result (has_name net.now.link_names word.now ≡ false)
+        (λ link. IsNameAt net.now.link_names word.now link) }
 {
     // Proof: names of links differ.
     net.recall();
@@ -26,7 +27,8 @@ pub fn link_of(net: &Network, word: &[u8]) -> Option<LinkId>
 /// Returns the link that a word names, as `link_of` does. The name of the link `near` is compared first, for speed: neighbouring
 /// lines of a file often name the same link.
 pub fn link_near(net: &Network, word: &[u8], near: LinkId) -> Option<LinkId>
-    ensures { MatchOption result (has_name net.now.link_names word.now ≡ false) (λ link. IsNameAt net.now.link_names word.now link) }
+    ensures { MatchOption result (has_name net.now.link_names word.now ≡ false)
+        (λ link. IsNameAt net.now.link_names word.now link) }
 {
     // Proof: names of links differ.
     net.recall();
@@ -42,7 +44,8 @@ pub fn link_near(net: &Network, word: &[u8], near: LinkId) -> Option<LinkId>
 /// Returns the node that a word names; None exactly if no node has this name. Idle nodes are not considered.
 #[tactic(auto, using(crate::proofs::NamesOf::node_is_there, crate::proofs::NamesOf::no_node_text))]
 pub fn node_of(net: &Network, word: &[u8]) -> Option<NodeId>
-    ensures { MatchOption result (has_name net.now.node_names word.now ≡ false) (λ node. IsNameAt net.now.node_names word.now node) }
+    ensures { MatchOption result (has_name net.now.node_names word.now ≡ false)
+        (λ node. IsNameAt net.now.node_names word.now node) }
 {
     // Proof: names of nodes differ.
     net.recall();

@@ -50,9 +50,11 @@ impl<'a> Cursor<'a> {
     /// Returns the next line, and moves behind it; returns None at the end of the text. A line with a fault, and an allocation
     /// failure, give an `Err` and leave the cursor where it was.
     pub fn next_line(&mut self, alloc: Global) -> Result<Option<ReadLine<'a>>, TextFault>
-        ensures line { IfOk result (λ next. MatchOption next (self.old ≡ []) (λ line. map as_read self.old ≡ line ∷ map as_read self.new)) }
+        ensures line { IfOk result (λ next. MatchOption next (self.old ≡ [])
+            (λ line. map as_read self.old ≡ line ∷ map as_read self.new)) }
         ensures fine { IfOk result
-            (λ next. MatchOption next (self.new ≡ self.old) (λ line. first_fault_of self.old ≡ first_fault_of self.new)) }
+            (λ next. MatchOption next (self.new ≡ self.old)
+            (λ line. first_fault_of self.old ≡ first_fault_of self.new)) }
         ensures fault { IfErr result (λ fault. Tells fault (first_fault_of self.old)) }
         ensures kept { OnErr result (self.new ≡ self.old) }
     {

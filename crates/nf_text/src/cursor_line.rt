@@ -34,7 +34,8 @@ impl<'a> ReadLine<'a> {
     // Makes the line of these words, which must lie within `bytes`.
     pub(crate) fn new(number: u32, plain: bool, bytes: &'a [u8], spans: Vec<Span>) -> ReadLine<'a>
         requires { AreWithin bytes.now spans.items }
-        ensures { result ≡ record { number = number; plain = plain; words = map (text_of bytes.now) spans.items } }
+        ensures { result
+            ≡ record { number = number; plain = plain; words = map (text_of bytes.now) spans.items } }
     {
         ReadLine {
             line_number: number,

@@ -93,7 +93,8 @@ pub fn lines(alloc: Global, text: &[u8]) -> Result<Vec<Line>, TextFault>
     requires { length text.now ≤ longest_text }
 
     // Each word's text is the slice of its span.
-    ensures lines { IfOk result (λ read. map (seen_line text.now) read.items ≡ read_lines text.now) }
+    ensures lines { IfOk result
+        (λ read. map (seen_line text.now) read.items ≡ read_lines text.now) }
     ensures within { IfOk result (λ read. All (WordsAreIn text.now) read.items) }
     ensures rise { IfOk result (λ read. Rise 0 (length text.now) (spans_of read.items)) }
 

@@ -27,7 +27,8 @@ fn is_without(bytes: &[u8], wanted: u8) -> bool
 fn is_row_without(bytes: &[u8], at: usize, wanted: u8) -> bool
     requires { at ≤ length bytes.now }
     ensures { IsTrue result
-        → (at + 16 ≤ length bytes.now) × (list_all (λ b. not (b == wanted)) (take 16 (drop at bytes.now)) ≡ true) }
+        → (at + 16 ≤ length bytes.now)
+        × (list_all (λ b. not (b == wanted)) (take 16 (drop at bytes.now)) ≡ true) }
 {
     if bytes.len() - at < ROW {
         return false;

@@ -85,14 +85,16 @@ pub fn read_line(
 ) -> Result<(Line, usize), TextFault>
     requires some { start < length text.now }
     requires small { length text.now ≤ longest_text }
-    ensures line { IfOk result (λ r. seen_line text.now r.0 ≡ as_read (first_line number (drop start text.now))) }
+    ensures line { IfOk result
+        (λ r. seen_line text.now r.0 ≡ as_read (first_line number (drop start text.now))) }
     ensures rise { IfOk result (λ r. Rise start r.1 r.0.words.items) }
     ensures next { IfOk result (λ r. r.1 ≡ start + whole_len (drop start text.now)) }
     ensures more { IfOk result (λ r. start < r.1) }
     ensures within { IfOk result (λ r. r.1 ≤ length text.now) }
     ensures words { IfOk result (λ r. WordsAreIn text.now r.0) }
     ensures none { OnOk result (line_fault (first_line number (drop start text.now)) ≡ None) }
-    ensures fault { IfErr result (λ fault. Tells fault (line_fault (first_line number (drop start text.now)))) }
+    ensures fault { IfErr result
+        (λ fault. Tells fault (line_fault (first_line number (drop start text.now)))) }
 {
     let extent = first_extent(&text[start..]);
     let bytes = &text[start..start + extent.bytes];

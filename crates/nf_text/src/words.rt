@@ -55,7 +55,8 @@ fn has_word(text: &[u8], at: usize, end: usize, word: Span) -> bool
     requires ordered { at ≤ end }
     requires within { end ≤ length text.now }
     requires word { word.start + word.len ≤ length text.now }
-    ensures same { result ≡ bytes_eq (take (length (text_of text.now word)) (between text.now at end)) (text_of text.now word) }
+    ensures same { result ≡ bytes_eq
+        (take (length (text_of text.now word)) (between text.now at end)) (text_of text.now word) }
     ensures fits { IsTrue result → at + word.len ≤ end }
 {
     if end - at < word.len as usize {
@@ -87,7 +88,8 @@ fn after_word(text: &[u8], at: usize, end: usize, word: Span, spaced: bool) -> O
     requires ordered { at ≤ end }
     requires within { end ≤ length text.now }
     requires word { word.start + word.len ≤ length text.now }
-    ensures goes_on { GoesOn text.now end (between text.now at end) (space_before spaced (text_of text.now word)) result }
+    ensures goes_on { GoesOn text.now end (between text.now at end)
+        (space_before spaced (text_of text.now word)) result }
     ensures within { IfSome result (λ next. next ≤ end) }
 {
     if spaced {
@@ -103,7 +105,8 @@ pub fn is_plain(text: &[u8], start: usize, end: usize, words: &[Span]) -> bool
     requires ordered { start ≤ end }
     requires within { end ≤ length text.now }
     requires words { All (λ span. span.start + span.len ≤ length text.now) words.now }
-    ensures { result ≡ bytes_eq (between text.now start end) (line_of_words (map (text_of text.now) words.now)) }
+    ensures { result
+        ≡ bytes_eq (between text.now start end) (line_of_words (map (text_of text.now) words.now)) }
 {
     let mut at = start;
     for (index, word) in words.iter().enumerate() {

@@ -23,7 +23,8 @@ pub fn push_word(text: &mut Vec<u8>, word: &[u8]) -> Result<(), AllocError>
 
 // Appends the words, with a space before each.
 fn push_words(text: &mut Vec<u8>, words: &[&[u8]]) -> Result<(), AllocError>
-    ensures { OnOk result (text.new.items ≡ text.old.items ++ flat_map (λ w. 32 ∷ w.now) words.now) }
+    ensures { OnOk result
+        (text.new.items ≡ text.old.items ++ flat_map (λ w. 32 ∷ w.now) words.now) }
 {
     for word in words {
         push_word(text, word)?;
@@ -33,7 +34,8 @@ fn push_words(text: &mut Vec<u8>, words: &[&[u8]]) -> Result<(), AllocError>
 
 /// Appends the line of the words. Fails only if an allocation fails.
 pub fn push_line(text: &mut Vec<u8>, first: &[u8], words: &[&[u8]]) -> Result<(), AllocError>
-    ensures { OnOk result (text.new.items ≡ text.old.items ++ line_of_words (first.now ∷ map (λ w. w.now) words.now)) }
+    ensures { OnOk result (text.new.items
+        ≡ text.old.items ++ line_of_words (first.now ∷ map (λ w. w.now) words.now)) }
 {
     push_bytes(text, first)?;
     push_words(text, words)?;

@@ -40,8 +40,10 @@ fn try_narrow(
 ) -> Result<Option<Thin>, SearchFault>
     requires problem { IsPosed problem.now.ranking }
     requires guide { GuidesFor problem.now narrow.now.guide.now }
-    requires forcing { IsForcing problem.now.ranking.sets.now (unbounded_of problem.now.ranking.net.now.net) narrow.now.forced.now }
-    requires question { patterns.old.question ≡ question_left narrow.now.forced.now (question_in problem.now.ranking) }
+    requires forcing { IsForcing problem.now.ranking.sets.now
+        (unbounded_of problem.now.ranking.net.now.net) narrow.now.forced.now }
+    requires question { patterns.old.question
+        ≡ question_left narrow.now.forced.now (question_in problem.now.ranking) }
     requires start { patterns.old.last ≡ AtStart }
     requires pace { walk_of pace.old ≡ None }
     requires whole { whole.old ≡ problem.now.ranking.base.now }
@@ -73,7 +75,8 @@ fn try_narrow(
 // Returns the listing of the patterns left without the links that have forced states. Fails if an allocation fails.
 fn narrowed(alloc: Global, ranking: &Ranking, forced: &Pattern) -> Result<Patterns, AllocError>
     requires ranking { IsPosed ranking.now }
-    requires forcing { IsForcing ranking.now.sets.now (unbounded_of ranking.now.net.now.net) forced.now }
+    requires forcing { IsForcing ranking.now.sets.now
+        (unbounded_of ranking.now.net.now.net) forced.now }
     ensures { IfOk result (λ patterns. patterns
         ≡ record { question = question_left forced.now (question_in ranking.now); last = AtStart; place = 0 }) }
 {
@@ -86,7 +89,8 @@ fn narrowed(alloc: Global, ranking: &Ranking, forced: &Pattern) -> Result<Patter
 fn go_narrow(alloc: Global, problem: &Problem, narrow: &Narrow) -> Result<Option<Thin>, SearchFault>
     requires problem { IsPosed problem.now.ranking }
     requires guide { GuidesFor problem.now narrow.now.guide.now }
-    requires forcing { IsForcing problem.now.ranking.sets.now (unbounded_of problem.now.ranking.net.now.net) narrow.now.forced.now }
+    requires forcing { IsForcing problem.now.ranking.sets.now
+        (unbounded_of problem.now.ranking.net.now.net) narrow.now.forced.now }
     ensures { NarrowFindsFor problem.now narrow.now.forced.now result }
 {
     let mut whole = problem.ranking.base.copy(alloc)?;

@@ -28,11 +28,14 @@ pub(crate) fn known_by(
     problem: &Problem,
     last: SolvedPattern,
 ) -> Result<Option<Known>, AllocError>
-    requires { IsSolved passes_Q problem.now.ranking.net.now.net problem.now.ranking.sets.now problem.now.rate last }
+    requires { IsSolved passes_Q problem.now.ranking.net.now.net problem.now.ranking.sets.now
+        problem.now.rate last }
     ensures known { IfOk result (λ found. IfSome found
-        (λ known. IsKnown passes_Q problem.now.ranking.net.now.net problem.now.ranking.sets.now problem.now.rate known)) }
+        (λ known. IsKnown passes_Q problem.now.ranking.net.now.net problem.now.ranking.sets.now
+        problem.now.rate known)) }
     ensures thin { IfOk result (λ found. IfSome found
-        (λ known. AreThinSlopes problem.now.ranking.net.now.net problem.now.ranking.sets.now problem.now.rate known.slopes.items)) }
+        (λ known. AreThinSlopes problem.now.ranking.net.now.net problem.now.ranking.sets.now
+        problem.now.rate known.slopes.items)) }
 {
     let SolvedPattern { pattern, values } = last;
     if !each_is_led(problem.ranking.net, problem.ranking.sets, &pattern) {

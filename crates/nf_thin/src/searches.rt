@@ -31,7 +31,8 @@ fn go_through(
     patterns: &mut Patterns,
 ) -> Result<Thin, SearchFault>
     requires problem { IsPosed problem.now.ranking }
-    requires question { AsksOf problem.now.ranking.net.now.net problem.now.ranking.sets.now patterns.old }
+    requires question { AsksOf problem.now.ranking.net.now.net problem.now.ranking.sets.now
+        patterns.old }
     requires base { patterns.old.question.base ≡ problem.now.ranking.base.now }
     ensures { Searches (IsAnswerTo problem.now) problem.now.ranking.budget result }
 {
@@ -79,8 +80,10 @@ pub fn search(
 ) -> Result<Thin, SearchFault>
     requires sets { AreSetsOf net.now.net sets.now }
     requires base { IsPattern sets.now (unbounded_of net.now.net) base.now }
-    ensures search { Searches (IsSearch passes_Q net.now.net sets.now rate base.now budget) budget result }
-    ensures thin { IfOk result (λ thin. IsThinFlow net.now.net sets.now rate thin.flows.items thin.labels.items) }
+    ensures search { Searches
+        (IsSearch passes_Q net.now.net sets.now rate base.now budget) budget result }
+    ensures thin { IfOk result
+        (λ thin. IsThinFlow net.now.net sets.now rate thin.flows.items thin.labels.items) }
     ensures only { IfOk result (λ thin. SlopesAreOnly net.now.net sets.now rate thin.labels.items) }
 {
     // Proof: the network is well formed.
@@ -121,9 +124,12 @@ pub fn find_thin(
 ) -> Result<ThinFlow, SearchFault>
     requires sets { AreSetsOf net.now.net sets.now }
     requires base { IsPattern sets.now (unbounded_of net.now.net) base.now }
-    ensures finds { Finds (IsSearch passes_Q net.now.net sets.now rate base.now budget) budget result }
-    ensures thin { IfOk result (λ found. IsThinFlow net.now.net sets.now rate found.flows.items found.slopes.items) }
-    ensures only { IfOk result (λ found. SlopesAreOnly net.now.net sets.now rate found.slopes.items) }
+    ensures finds { Finds
+        (IsSearch passes_Q net.now.net sets.now rate base.now budget) budget result }
+    ensures thin { IfOk result
+        (λ found. IsThinFlow net.now.net sets.now rate found.flows.items found.slopes.items) }
+    ensures only { IfOk result
+        (λ found. SlopesAreOnly net.now.net sets.now rate found.slopes.items) }
 {
     // Proof: the network is well formed.
     net.recall();

@@ -73,7 +73,8 @@ pub(crate) fn guide_of(
     first: &Pattern,
 ) -> Result<Option<Guide>, AllocError>
     requires problem { IsPosed problem.now.ranking }
-    requires first { IsPatternIn problem.now.ranking.net.now.net problem.now.ranking.sets.now first.now }
+    requires first { IsPatternIn problem.now.ranking.net.now.net
+        problem.now.ranking.sets.now first.now }
     ensures { IfOk result (λ found. IfSome found (λ guide. GuidesFor problem.now guide)) }
 {
     let net = problem.ranking.net;

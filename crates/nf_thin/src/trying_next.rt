@@ -19,7 +19,8 @@ pub(crate) fn try_next(
     pattern: &Pattern,
     vain: &mut Vain,
 ) -> Result<Option<Thin>, SearchFault>
-    requires pattern { IsPatternIn problem.now.ranking.net.now.net problem.now.ranking.sets.now pattern.now }
+    requires pattern { IsPatternIn problem.now.ranking.net.now.net problem.now.ranking.sets.now
+        pattern.now }
     requires within { vain.old.tried ≤ problem.now.ranking.budget }
     ensures { TriesFor problem.now pattern.now vain.old vain.new result }
 {

@@ -76,7 +76,8 @@ fn only_open(net: &Network, open: &[OpenAt], node: NodeId) -> Option<LinkId>
 // Returns the flow left for a link that leaves or enters a node. `needed` is the node's surplus, and `others` the surplus of its other
 // links.
 fn left_for(leaves: bool, needed: Range, others: Range) -> Range
-    ensures { (x s n : ℚ) → IsWithin others s → IsWithin needed n → MatchBool leaves (s +ℚ x ≡ n) (s -ℚ x ≡ n) → IsWithin result x }
+    ensures { (x s n : ℚ) → IsWithin others s → IsWithin needed n
+        → MatchBool leaves (s +ℚ x ≡ n) (s -ℚ x ≡ n) → IsWithin result x }
 {
     if leaves {
         needed.difference(others)
@@ -163,7 +164,8 @@ pub(crate) fn comes_out(
     ranges: &mut Vec<Range>,
 ) -> Result<bool, AllocError>
     requires { length ranges.old.items ≡ length net.now.net.links }
-    ensures { IfOk result (λ fits. (flow : ℕ → ℚ) → AreWithin ranges.old.items flow → IsConserved net.now.net supply flow → fits ≡ true) }
+    ensures { IfOk result (λ fits. (flow : ℕ → ℚ) → AreWithin ranges.old.items flow
+        → IsConserved net.now.net supply flow → fits ≡ true) }
 {
     let mut open = open_links(alloc, net, ranges)?;
     for v in 0..net.node_count() {

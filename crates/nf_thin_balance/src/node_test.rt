@@ -44,7 +44,8 @@ fn add_link(range: &mut Range, net: &Network, ranges: &[Range], node: NodeId, li
 /// Returns a range of the node's surplus, its outflow less its inflow, if every link's flow is within its range.
 pub(crate) fn surplus_range(net: &Network, ranges: &[Range], node: NodeId) -> Range
     requires ranges { length ranges.now ≡ length net.now.net.links }
-    ensures { (flow : ℕ → ℚ) → AreWithin ranges.now flow → IsWithin result (surplus_by net.now.net flow node) }
+    ensures { (flow : ℕ → ℚ) → AreWithin ranges.now flow
+        → IsWithin result (surplus_by net.now.net flow node) }
 {
     let mut range = Range::zero();
     for e in 0..net.link_count() {
@@ -55,7 +56,8 @@ pub(crate) fn surplus_range(net: &Network, ranges: &[Range], node: NodeId) -> Ra
 
 /// Returns a range of the surplus that a node needs: `supply` at the source, minus `supply` at the sink, and 0 elsewhere.
 pub(crate) fn needed(net: &Network, supply: Range, node: NodeId) -> Range
-    ensures { (rate : ℚ) → IsWithin supply rate → IsWithin result (needed_at net.now.net rate node) }
+    ensures { (rate : ℚ) → IsWithin supply rate
+        → IsWithin result (needed_at net.now.net rate node) }
 {
     let takes = node == net.sink();
     if takes {
@@ -110,7 +112,8 @@ fn add_to_ends(nodes: &mut Vec<Range>, net: &Network, ranges: &[Range], link: Li
 fn surplus_ranges(alloc: Global, net: &Network, ranges: &[Range]) -> Result<Vec<Range>, AllocError>
     requires ranges { length ranges.now ≡ length net.now.net.links }
     ensures count { IfOk result (λ nodes. length nodes.items ≡ net.now.net.nodes) }
-    ensures each { IfOk result (λ nodes. (flow : ℕ → ℚ) → AreWithin ranges.now flow → AreSurpluses net.now.net nodes.items flow) }
+    ensures each { IfOk result (λ nodes. (flow : ℕ → ℚ) → AreWithin ranges.now flow
+        → AreSurpluses net.now.net nodes.items flow) }
 {
     let nothing = Range::zero();
     let mut nodes = vec![in alloc; nothing; net.node_count() as usize]?;
@@ -124,7 +127,8 @@ fn surplus_ranges(alloc: Global, net: &Network, ranges: &[Range]) -> Result<Vec<
 fn is_balanced(net: &Network, supply: Range, nodes: &[Range], node: NodeId) -> bool
     requires node { node < net.now.net.nodes }
     requires nodes { length nodes.now ≡ net.now.net.nodes }
-    ensures { (flow : ℕ → ℚ) → AreSurpluses net.now.net nodes.now flow → IsConserved net.now.net supply flow → result ≡ true }
+    ensures { (flow : ℕ → ℚ) → AreSurpluses net.now.net nodes.now flow
+        → IsConserved net.now.net supply flow → result ≡ true }
 {
     surplus_at(nodes, node).meets(&needed(net, supply, node))
 }
@@ -132,7 +136,8 @@ fn is_balanced(net: &Network, supply: Range, nodes: &[Range], node: NodeId) -> b
 // Returns the first node whose needed surplus cannot be within its range, or `None`.
 fn first_failing(net: &Network, supply: Range, nodes: &[Range]) -> Option<NodeId>
     requires { length nodes.now ≡ net.now.net.nodes }
-    ensures { (flow : ℕ → ℚ) → AreSurpluses net.now.net nodes.now flow → IsConserved net.now.net supply flow → result ≡ None }
+    ensures { (flow : ℕ → ℚ) → AreSurpluses net.now.net nodes.now flow
+        → IsConserved net.now.net supply flow → result ≡ None }
 {
     for v in 0..net.node_count() {
         if !is_balanced(net, supply, nodes, NodeId(v)) {
@@ -150,7 +155,8 @@ pub(crate) fn first_unbalanced(
     ranges: &[Range],
 ) -> Result<Option<NodeId>, AllocError>
     requires { length ranges.now ≡ length net.now.net.links }
-    ensures { IfOk result (λ found. (flow : ℕ → ℚ) → AreWithin ranges.now flow → IsConserved net.now.net supply flow → found ≡ None) }
+    ensures { IfOk result (λ found. (flow : ℕ → ℚ) → AreWithin ranges.now flow
+        → IsConserved net.now.net supply flow → found ≡ None) }
 {
     let nodes = surplus_ranges(alloc, net, ranges)?;
     Ok(first_failing(net, supply, &nodes))

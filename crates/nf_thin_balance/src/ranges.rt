@@ -152,7 +152,8 @@ impl Range {
 // Full link `full`, and a Zero link 0.
 fn range_in(state: State, full: Range) -> Range
     ensures { (scale : ℕ) (resetting : Bool) (capacity : Option ℚ) (flow tail_slope head_slope : ℚ)
-        → MeetsState scale (Some state) resetting full capacity flow tail_slope head_slope → IsWithin result (scaled scale flow) }
+        → MeetsState scale (Some state) resetting full capacity flow tail_slope head_slope
+        → IsWithin result (scaled scale flow) }
 {
     match state {
         State::Tight => full.from_zero(),
@@ -165,7 +166,8 @@ fn range_in(state: State, full: Range) -> Range
 /// `full`, a Full or resetting link `full`, and any other link 0.
 pub(crate) fn flow_range(state: Option<State>, resetting: bool, full: Range) -> Range
     ensures { (scale : ℕ) (capacity : Option ℚ) (flow tail_slope head_slope : ℚ)
-        → MeetsState scale state resetting full capacity flow tail_slope head_slope → IsWithin result (scaled scale flow) }
+        → MeetsState scale state resetting full capacity flow tail_slope head_slope
+        → IsWithin result (scaled scale flow) }
 {
     if let Some(state) = state {
         return range_in(state, full);

@@ -28,8 +28,10 @@ pub fn ruled_out_at(
     requires sets { length sets.now.active ≡ length net.now.net.links }
     requires scaled { HasRanges net.now.net scaled.now }
     requires states { length pattern.now ≡ length net.now.net.links }
-    ensures { IfOk result (λ node. (rate : ℚ) (slopes flows : List ℚ) → IsScaled net.now.net rate slopes scaled.now
-        → Solves net.now.net sets.now rate pattern.now flows slopes → Meets net.now.net pattern.now flows slopes → node ≡ None) }
+    ensures { IfOk result
+        (λ node. (rate : ℚ) (slopes flows : List ℚ) → IsScaled net.now.net rate slopes scaled.now
+        → Solves net.now.net sets.now rate pattern.now flows slopes
+        → Meets net.now.net pattern.now flows slopes → node ≡ None) }
 {
     // Proof: the network is well formed.
     net.recall();

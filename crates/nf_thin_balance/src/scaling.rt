@@ -38,7 +38,8 @@ fn lower_end(scale: u64, number: Q, end: i128) -> Option<i64>
 
 // Returns `end` if it is at least `scale` times the number. Otherwise, or if it is not known, returns `None`.
 fn upper_end(scale: u64, number: Q, end: i128) -> Option<i64>
-    ensures { IfSome result (λ greatest. (number.num *ℤ pos scale) ≤ℤ (greatest *ℤ pos number.den)) }
+    ensures { IfSome result
+        (λ greatest. (number.num *ℤ pos scale) ≤ℤ (greatest *ℤ pos number.den)) }
 {
     let above = number.numer().checked_mul(scale as i128)?;
     if end > MOST || end < -MOST || end.checked_mul(number.denom())? < above {
@@ -49,7 +50,8 @@ fn upper_end(scale: u64, number: Q, end: i128) -> Option<i64>
 
 // Returns `end`, or else the next whole number, if it is at least `scale` times the number, and `None` otherwise.
 fn first_upper_end(scale: u64, number: Q, end: i128) -> Option<i64>
-    ensures { IfSome result (λ greatest. (number.num *ℤ pos scale) ≤ℤ (greatest *ℤ pos number.den)) }
+    ensures { IfSome result
+        (λ greatest. (number.num *ℤ pos scale) ≤ℤ (greatest *ℤ pos number.den)) }
 {
     if let Some(greatest) = upper_end(scale, number, end) {
         return Some(greatest);

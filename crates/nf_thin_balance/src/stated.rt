@@ -40,8 +40,10 @@ fn range_of(stated: &Stated, link: LinkId) -> Range
 /// Returns the range of each link's scaled flow in its state, in link order. Fails if an allocation fails.
 pub(crate) fn link_ranges(alloc: Global, stated: &Stated) -> Result<Vec<Range>, AllocError>
     requires { IsStated stated.now }
-    ensures count { IfOk result (λ ranges. length ranges.items ≡ length stated.now.net.now.net.links) }
-    ensures carry { IfOk result (λ ranges. (scale : ℕ) (rate : ℚ) (flows : List ℚ) → CanCarry scale stated.now rate flows
+    ensures count { IfOk result
+        (λ ranges. length ranges.items ≡ length stated.now.net.now.net.links) }
+    ensures carry { IfOk result
+        (λ ranges. (scale : ℕ) (rate : ℚ) (flows : List ℚ) → CanCarry scale stated.now rate flows
         → AreWithin ranges.items (scaled_flow scale flows)) }
 {
     let mut ranges = Vec::with_capacity(alloc, stated.net.link_count() as usize)?;
@@ -56,8 +58,10 @@ fn with_link(range: Range, stated: &Stated, node: NodeId, link: LinkId) -> Range
     requires stated { IsStated stated.now }
     requires link { link < length stated.now.net.now.net.links }
     ensures { (scale : ℕ) (rate : ℚ) (flows : List ℚ) → CanCarry scale stated.now rate flows
-        → IsWithin range (surplus_of_first stated.now.net.now.net (scaled_flow scale flows) node link)
-        → IsWithin result (surplus_of_first stated.now.net.now.net (scaled_flow scale flows) node (suc link)) }
+        → IsWithin range
+        (surplus_of_first stated.now.net.now.net (scaled_flow scale flows) node link)
+        → IsWithin result
+        (surplus_of_first stated.now.net.now.net (scaled_flow scale flows) node (suc link)) }
 {
     let hop = &stated.net.hops()[link.index()];
     let leaves = hop.tail == node;
@@ -90,7 +94,8 @@ fn stated_surplus(stated: &Stated, node: NodeId) -> Range
 /// network lacks.
 pub(crate) fn fails_at(stated: &Stated, supply: Range, node: NodeId) -> bool
     requires { IsStated stated.now }
-    ensures { result ≡ true → (scale : ℕ) (rate : ℚ) (flows : List ℚ) → IsWithin supply (scaled scale rate)
+    ensures { result ≡ true → (scale : ℕ) (rate : ℚ) (flows : List ℚ)
+        → IsWithin supply (scaled scale rate)
         → CanCarry scale stated.now rate flows → ⊥ }
 {
     let nodes = stated.net.node_count();

@@ -42,7 +42,8 @@ fn values_of(
     pattern: &Pattern,
 ) -> Result<Option<Vec<Q>>, AllocError>
     requires { IsPatternIn net.now.net sets.now pattern.now }
-    ensures { IfOk result (λ found. IfSome found (λ values. AreValuesOf passes_Q net.now.net sets.now rate pattern.now values.items)) }
+    ensures { IfOk result (λ found. IfSome found
+        (λ values. AreValuesOf passes_Q net.now.net sets.now rate pattern.now values.items)) }
 {
     match pattern_values(alloc, net, sets, rate, pattern) {
         Ok(values) => Ok(values),
@@ -61,7 +62,8 @@ fn solved_pattern(
     pattern: Pattern,
 ) -> Result<Option<SolvedPattern>, AllocError>
     requires { IsPatternIn net.now.net sets.now pattern }
-    ensures { IfOk result (λ found. IfSome found (λ last. IsSolved passes_Q net.now.net sets.now rate last)) }
+    ensures { IfOk result
+        (λ found. IfSome found (λ last. IsSolved passes_Q net.now.net sets.now rate last)) }
 {
     match values_of(alloc, net, sets, rate, &pattern)? {
         Some(values) => Ok(Some(SolvedPattern { pattern, values })),
@@ -81,7 +83,8 @@ fn repaired(
 ) -> Result<Option<Values>, AllocError>
     requires { IsPatternIn net.now.net sets.now pattern.old }
     ensures pattern { IsPatternIn net.now.net sets.now pattern.new }
-    ensures values { IfOk result (λ found. IfSome found (λ values. AreComplete net.now.net values)) }
+    ensures values { IfOk result
+        (λ found. IfSome found (λ values. AreComplete net.now.net values)) }
 {
     let mut rounds = Rounds::start(alloc, pattern)?;
     let mut extent = Extent::Each;
@@ -118,7 +121,8 @@ pub fn guess(
     first: &Pattern,
 ) -> Result<Option<SolvedPattern>, AllocError>
     requires { IsPatternIn net.now.net sets.now first.now }
-    ensures { IfOk result (λ found. IfSome found (λ last. IsSolved passes_Q net.now.net sets.now rate last)) }
+    ensures { IfOk result
+        (λ found. IfSome found (λ last. IsSolved passes_Q net.now.net sets.now rate last)) }
 {
     let mut pattern = first.copy(alloc)?;
     let Some(values) = repaired(alloc, net, sets, rate, &mut pattern)? else {

@@ -31,7 +31,8 @@ fn keep_or_loosen(
 ) -> Result<(), AllocError>
     requires pattern { (sets : Sets) × IsPatternIn net.now.net sets pattern.old }
     requires link { link < length net.now.net.links }
-    ensures { (sets : Sets) → IsPatternIn net.now.net sets pattern.old → IsPatternIn net.now.net sets pattern.new }
+    ensures { (sets : Sets) → IsPatternIn net.now.net sets pattern.old
+        → IsPatternIn net.now.net sets pattern.new }
 {
     match pattern.state(link) {
         Some(State::Tight) => {}
@@ -48,7 +49,8 @@ fn keep_or_loosen(
 // Changes each Tight link that closes a cycle with earlier ones. Returns the forest of those that stay.
 fn cut_cycles(alloc: Global, net: &Network, pattern: &mut Pattern) -> Result<Forest, AllocError>
     requires { (sets : Sets) × IsPatternIn net.now.net sets pattern.old }
-    ensures { (sets : Sets) → IsPatternIn net.now.net sets pattern.old → IsPatternIn net.now.net sets pattern.new }
+    ensures { (sets : Sets) → IsPatternIn net.now.net sets pattern.old
+        → IsPatternIn net.now.net sets pattern.new }
 {
     let mut forest = Forest::new(alloc, net.node_count())?;
     for e in 0..net.link_count() {
@@ -97,7 +99,8 @@ fn enter_by(
 ) -> Result<bool, AllocError>
     requires pattern { (sets : Sets) × IsPatternIn net.now.net sets pattern.old }
     requires link { link < length net.now.net.links }
-    ensures { (sets : Sets) → IsPatternIn net.now.net sets pattern.old → IsPatternIn net.now.net sets pattern.new }
+    ensures { (sets : Sets) → IsPatternIn net.now.net sets pattern.old
+        → IsPatternIn net.now.net sets pattern.new }
 {
     if pattern.state(link).is_none() {
         return Ok(false);
@@ -119,7 +122,8 @@ fn enter_head(
 ) -> Result<(), AllocError>
     requires pattern { (sets : Sets) × IsPatternIn net.now.net sets pattern.old }
     requires link { link < length net.now.net.links }
-    ensures { (sets : Sets) → IsPatternIn net.now.net sets pattern.old → IsPatternIn net.now.net sets pattern.new }
+    ensures { (sets : Sets) → IsPatternIn net.now.net sets pattern.old
+        → IsPatternIn net.now.net sets pattern.new }
 {
     let head = net.link(link).head;
     if is_noted(entered, head) {
@@ -139,7 +143,8 @@ fn enter_nodes(
     pattern: &mut Pattern,
 ) -> Result<(), AllocError>
     requires { (sets : Sets) × IsPatternIn net.now.net sets pattern.old }
-    ensures { (sets : Sets) → IsPatternIn net.now.net sets pattern.old → IsPatternIn net.now.net sets pattern.new }
+    ensures { (sets : Sets) → IsPatternIn net.now.net sets pattern.old
+        → IsPatternIn net.now.net sets pattern.new }
 {
     for e in 0..net.link_count() {
         enter_head(net, LinkId(e), entered, forest, pattern)?;

@@ -17,7 +17,8 @@ use std::alloc::{AllocError, Global};
 pub(crate) fn state_in(sets: &LinkSets, pattern: &Pattern, link: LinkId) -> Option<State>
     requires sets { link < length sets.now.active }
     requires states { link < length pattern.now }
-    ensures { result ≡ Some Full → (net : SeenNetwork) (here : SeenLink) → IsPatternIn net sets.now pattern.now
+    ensures { result ≡ Some Full → (net : SeenNetwork) (here : SeenLink)
+        → IsPatternIn net sets.now pattern.now
         → IsLink net link here → IsSome here.capacity }
 {
     if !sets.active(link) {

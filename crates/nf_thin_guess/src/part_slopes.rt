@@ -272,7 +272,8 @@ fn slopes_from(
 ) -> Result<Option<Vec<Q>>, Halt<Q>>
     requires pattern { IsPatternIn net.now.net sets.now pattern.now }
     requires parts { AreNumberedTo net.now.net.nodes parts.now.numbers.items }
-    ensures { IfOk result (λ found. IfSome found (λ slopes. length slopes.items ≡ net.now.net.nodes)) }
+    ensures { IfOk result
+        (λ found. IfSome found (λ slopes. length slopes.items ≡ net.now.net.nodes)) }
 {
     let links = full_links(alloc, net, sets, pattern, parts)?;
     let sink_part = parts.number(net.sink());
@@ -293,7 +294,8 @@ pub(crate) fn part_slopes(
     pattern: &Pattern,
 ) -> Result<Option<Vec<Q>>, Halt<Q>>
     requires { IsPatternIn net.now.net sets.now pattern.now }
-    ensures { IfOk result (λ found. IfSome found (λ slopes. length slopes.items ≡ net.now.net.nodes)) }
+    ensures { IfOk result
+        (λ found. IfSome found (λ slopes. length slopes.items ≡ net.now.net.nodes)) }
 {
     let Some(forest) = tight_forest(alloc, net, sets, pattern)? else {
         return Ok(None);

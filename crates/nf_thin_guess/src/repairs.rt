@@ -54,7 +54,8 @@ fn may_have(net: &Network, pattern: &Pattern, link: LinkId, state: State) -> boo
 pub(crate) fn change(net: &Network, pattern: &mut Pattern, link: LinkId, state: State) -> bool
     requires states { length pattern.old ≡ length net.now.net.links }
     requires link { link < length net.now.net.links }
-    ensures { (sets : Sets) → IsPatternIn net.now.net sets pattern.old → IsPatternIn net.now.net sets pattern.new }
+    ensures { (sets : Sets) → IsPatternIn net.now.net sets pattern.old
+        → IsPatternIn net.now.net sets pattern.new }
 {
     if !may_have(net, pattern, link, state) {
         return false;
@@ -67,7 +68,8 @@ pub(crate) fn change(net: &Network, pattern: &mut Pattern, link: LinkId, state: 
 pub(crate) fn set_state(net: &Network, pattern: &mut Pattern, link: LinkId, state: State)
     requires states { length pattern.old ≡ length net.now.net.links }
     requires link { link < length net.now.net.links }
-    ensures { (sets : Sets) → IsPatternIn net.now.net sets pattern.old → IsPatternIn net.now.net sets pattern.new }
+    ensures { (sets : Sets) → IsPatternIn net.now.net sets pattern.old
+        → IsPatternIn net.now.net sets pattern.new }
 {
     if may_have(net, pattern, link, state) {
         pattern.set(link, Some(state));

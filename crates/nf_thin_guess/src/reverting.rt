@@ -170,7 +170,8 @@ impl<'a> Reverting<'a> {
     /// Fails if an allocation fails.
     pub(crate) fn reverted(&self, alloc: Global, pattern: Pattern) -> Result<Pattern, AllocError>
         requires { IsPatternIn self.now.net.now.net self.now.sets.now pattern }
-        ensures { IfOk result (λ nearer. IsPatternIn self.now.net.now.net self.now.sets.now nearer) }
+        ensures { IfOk result
+            (λ nearer. IsPatternIn self.now.net.now.net self.now.sets.now nearer) }
     {
         let mut nearer = pattern.copy(alloc)?;
         if self.revert(alloc, &pattern, &mut nearer)? {

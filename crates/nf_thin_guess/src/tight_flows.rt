@@ -153,7 +153,8 @@ fn flow_of(
     undetermined: &mut OpenFlows,
 ) -> Result<Q, Halt<Q>>
     requires link { link < length net.now.net.links }
-    requires bounded { state ≡ Full → (here : SeenLink) → IsLink net.now.net link here → IsSome here.capacity }
+    requires bounded { state ≡ Full → (here : SeenLink) → IsLink net.now.net link here
+        → IsSome here.capacity }
     requires slopes { length slopes.now ≡ net.now.net.nodes }
 {
     let here = net.link(link);

@@ -24,7 +24,8 @@ pub struct Firm {
 // Returns how many assignments have exactly `changes` changes and this state, or 0 if the link may not have it.
 fn ways_if(row: &[u64], base: Option<State>, allowed: bool, state: State, changes: usize) -> u64
     requires { changes < length row.now }
-    ensures { result ≡ (if allowed then left_ways (change_of base (Some state)) (number_in row.now) changes else 0) }
+    ensures { result ≡ (if allowed then left_ways (change_of base (Some state))
+        (number_in row.now) changes else 0) }
 {
     if allowed {
         ways_with(row, base, Some(state), changes)
@@ -36,7 +37,8 @@ fn ways_if(row: &[u64], base: Option<State>, allowed: bool, state: State, change
 // Returns how many assignments have exactly `changes` changes and any of the link's combinable states, capped at 2^64 - 1.
 fn firm_at(row: &[u64], base: Option<State>, firm: Firm, changes: usize) -> u64
     requires { changes < length row.now }
-    ensures { result ≡ min (ways_by (states_of_firm base firm) base (number_in row.now) changes) most }
+    ensures { result
+        ≡ min (ways_by (states_of_firm base firm) base (number_in row.now) changes) most }
 {
     if base.is_none() {
         return ways_with(row, base, None, changes);
@@ -56,7 +58,8 @@ fn firm_under(
     changes: usize,
 ) -> u64
     requires { changes < length row.now }
-    ensures { result ≡ min (ways_below (states_of_firm base firm) base state (number_in row.now) changes) most }
+    ensures { result
+        ≡ min (ways_below (states_of_firm base firm) base state (number_in row.now) changes) most }
 {
     let rank = rank(state);
     if base.is_none() {
@@ -97,7 +100,8 @@ fn along(may_have: bool, earlier: u64) -> u64
 fn add_firm(row: &mut [u64], base: Option<State>, firm: Firm)
     ensures count { length row.new ≡ length row.old }
     ensures ways { (k : ℕ) → k < length row.old
-        → number_in row.new k ≡ min (ways_by (states_of_firm base firm) base (number_in row.old) k) most }
+        → number_in row.new k
+        ≡ min (ways_by (states_of_firm base firm) base (number_in row.old) k) most }
 {
     let mut k = row.len();
     while k > 0 {
@@ -116,7 +120,8 @@ fn earlier_firm(row: &mut [u64], base: &Pattern, pattern: &Pattern, firm: &[Firm
     requires fewer { length base.now < 2 ^ 32 }
     ensures count { length row.new ≡ length row.old }
     ensures ways { Tells row.new (ways (firm_choices base.now firm.now) base.now) }
-    ensures earlier { result ≡ min (firm_earlier (firm_choices base.now firm.now) base.now pattern.now (changes_of base.now pattern.now)) most }
+    ensures earlier { result ≡ min (firm_earlier (firm_choices base.now firm.now) base.now
+        pattern.now (changes_of base.now pattern.now)) most }
 {
     let mut earlier = 0u64;
     let mut made = 0;
@@ -146,7 +151,8 @@ pub fn firm_ways_before(
     requires pattern { length pattern.now ≡ length base.now }
     requires firm { length firm.now ≡ length base.now }
     requires fewer { length base.now < 2 ^ 32 }
-    ensures { IfOk result (λ ways. ways ≡ min (firm_before (firm_choices base.now firm.now) base.now pattern.now) most) }
+    ensures { IfOk result (λ ways. ways
+        ≡ min (firm_before (firm_choices base.now firm.now) base.now pattern.now) most) }
 {
     let links = firm.len();
     let changes = count_changes(base, pattern, links as u32);

@@ -37,7 +37,8 @@ pub(crate) fn ways_with(
 // Returns how many assignments have exactly `changes` changes and any state that the link may have, capped at 2^64 - 1.
 fn ways_at(row: &[u64], base: Option<State>, unbounded: bool, sole: bool, changes: usize) -> u64
     requires { changes < length row.now }
-    ensures { result ≡ min (ways_by (states_of base unbounded sole) base (number_in row.now) changes) most }
+    ensures { result
+        ≡ min (ways_by (states_of base unbounded sole) base (number_in row.now) changes) most }
 {
     if base.is_none() {
         return ways_with(row, base, None, changes);
@@ -65,7 +66,8 @@ fn ways_under(
     changes: usize,
 ) -> u64
     requires { changes < length row.now }
-    ensures { (sole : Bool) → result ≡ min (ways_below (states_of base unbounded sole) base state (number_in row.now) changes) most }
+    ensures { (sole : Bool) → result ≡ min
+        (ways_below (states_of base unbounded sole) base state (number_in row.now) changes) most }
 {
     let rank = rank(state);
     if base.is_none() {
@@ -92,7 +94,8 @@ fn ways_under(
 fn add_link(row: &mut [u64], base: Option<State>, unbounded: bool, sole: bool)
     ensures count { length row.new ≡ length row.old }
     ensures ways { (k : ℕ) → k < length row.old
-        → number_in row.new k ≡ min (ways_by (states_of base unbounded sole) base (number_in row.old) k) most }
+        → number_in row.new k
+        ≡ min (ways_by (states_of base unbounded sole) base (number_in row.old) k) most }
 {
     let mut k = row.len();
     while k > 0 {
@@ -146,7 +149,8 @@ fn count_earlier(
     ensures count { length row.new ≡ length row.old }
     ensures ways { Tells row.new (ways (choices_of base.now unbounded.now sole.now) base.now) }
     ensures earlier { let choices = choices_of base.now unbounded.now sole.now in
-        result ≡ min (ways_earlier choices base.now pattern.now (changes_of base.now pattern.now)) most }
+        result
+        ≡ min (ways_earlier choices base.now pattern.now (changes_of base.now pattern.now)) most }
 {
     let mut earlier = 0u64;
     let mut made = 0;
@@ -189,7 +193,8 @@ pub fn ways_before(
     requires unbounded { length unbounded.now ≡ length base.now }
     requires sole { length sole.now ≡ length base.now }
     requires fewer { length base.now < 2 ^ 32 }
-    ensures { IfOk result (λ ways. ways ≡ min (ways_before_of (choices_of base.now unbounded.now sole.now) base.now pattern.now) most) }
+    ensures { IfOk result (λ ways. ways ≡ min
+        (ways_before_of (choices_of base.now unbounded.now sole.now) base.now pattern.now) most) }
 {
     let links = unbounded.len();
     let changes = count_changes(base, pattern, links as u32);

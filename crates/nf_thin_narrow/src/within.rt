@@ -32,7 +32,8 @@ fn differ_at(one: &Pattern, other: &Pattern, link: LinkId) -> bool
 fn first_other(one: &Pattern, other: &Pattern, links: u32) -> Option<LinkId>
     requires one { length one.now ≡ links }
     requires other { length other.now ≡ links }
-    ensures { MatchOption result (one.now ≡ other.now) (λ link. (link < links) × (one.now ≡ other.now → ⊥)) }
+    ensures { MatchOption result (one.now ≡ other.now)
+        (λ link. (link < links) × (one.now ≡ other.now → ⊥)) }
 {
     for e in 0..links {
         let link = LinkId(e);
@@ -49,7 +50,8 @@ fn other_link(one: &Pattern, other: &Pattern, last: Option<LinkId>, links: u32) 
     requires one { length one.now ≡ links }
     requires other { length other.now ≡ links }
     requires last { IfSome last (λ link. link < links) }
-    ensures { MatchOption result (one.now ≡ other.now) (λ link. (link < links) × (one.now ≡ other.now → ⊥)) }
+    ensures { MatchOption result (one.now ≡ other.now)
+        (λ link. (link < links) × (one.now ≡ other.now → ⊥)) }
 {
     if let Some(link) = last {
         if differ_at(one, other, link) {

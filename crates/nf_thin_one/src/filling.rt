@@ -70,7 +70,8 @@ fn set_number<T: System>(table: &mut T, row: u32, column: u32, number: Q)
     requires column { column < length (T.rows_of table.old) }
     requires blank { number_at (row_at (T.rows_of table.old) row) column ≡ 0ℚ }
     requires takes { IsTrue (T.takes number) }
-    ensures { T.rows_of table.new ≡ set (T.rows_of table.old) row (set (row_at (T.rows_of table.old) row) column number) }
+    ensures { T.rows_of table.new
+        ≡ set (T.rows_of table.old) row (set (row_at (T.rows_of table.old) row) column number) }
 {
     if number.is_zero() {
         return;
@@ -90,7 +91,8 @@ fn fill_node<T: System>(
     requires blank { IsBlank (unknowns net.now.net sets.now) (T.rows_of table.old) row }
     requires sets { length sets.now.active ≡ length net.now.net.links }
     requires takes { IsTrue (T.takes rate) }
-    ensures { ChangesRow (T.rows_of table.old) (T.rows_of table.new) row (node_row net.now.net sets.now rate node) }
+    ensures { ChangesRow (T.rows_of table.old) (T.rows_of table.new) row
+        (node_row net.now.net sets.now rate node) }
 {
     let mut column = net.node_count();
     for e in 0..net.link_count() {
@@ -105,11 +107,13 @@ fn fill_node<T: System>(
 
 // The rows of all nodes but the sink, in node order, after that of the source's slope.
 fn fill_nodes<T: System>(table: &mut T, net: &Network, sets: &LinkSets, rate: Q)
-    requires first { (pattern : SeenPattern) → IsFilledTo (equations net.now.net sets.now rate pattern) (T.rows_of table.old) 1 }
+    requires first { (pattern : SeenPattern)
+        → IsFilledTo (equations net.now.net sets.now rate pattern) (T.rows_of table.old) 1 }
     requires sets { length sets.now.active ≡ length net.now.net.links }
     requires takes { IsTrue (T.takes rate) }
     ensures nodes { (pattern : SeenPattern)
-        → IsFilledTo (equations net.now.net sets.now rate pattern) (T.rows_of table.new) net.now.net.nodes }
+        → IsFilledTo (equations net.now.net sets.now rate pattern)
+        (T.rows_of table.new) net.now.net.nodes }
     ensures size { length (T.rows_of table.new) ≡ length (T.rows_of table.old) }
 {
     let sink = net.sink();
@@ -183,7 +187,8 @@ fn fill_links<T: System>(table: &mut T, net: &Network, sets: &LinkSets, pattern:
     requires sets { length sets.now.active ≡ length net.now.net.links }
     requires states { length pattern.now ≡ length net.now.net.links }
     requires capacities { HoldsCapacities T.takes net.now.net }
-    ensures { (rate : ℚ) → IsFilledTo (equations net.now.net sets.now rate pattern.now) (T.rows_of table.old) net.now.net.nodes
+    ensures { (rate : ℚ) → IsFilledTo (equations net.now.net sets.now rate pattern.now)
+        (T.rows_of table.old) net.now.net.nodes
         → T.rows_of table.new ≡ equations net.now.net sets.now rate pattern.now }
 {
     let mut row = net.node_count();

@@ -34,7 +34,8 @@ fn solve_on<const N: usize>(
     requires few { N ≤ 32 }
     requires values { length values.old ≡ count }
     ensures { seen_at (λ found. values_if found values.new) (λ q. q) result
-        ≡ at_part Part.Table (table_list passes_Q (equations net.now.net sets.now rate pattern.now)) }
+        ≡ at_part Part.Table
+        (table_list passes_Q (equations net.now.net sets.now rate pattern.now)) }
 {
     let mut grid = Grid::<N>::zero(count);
     fill(&mut grid, net, sets, rate, pattern);
@@ -56,7 +57,8 @@ pub fn solve_pattern(
     requires few { count ≤ 32 }
     requires values { length values.old ≡ count }
     ensures { seen_at (λ found. values_if found values.new) (λ q. q) result
-        ≡ at_part Part.Table (table_list passes_Q (equations net.now.net sets.now rate pattern.now)) }
+        ≡ at_part Part.Table
+        (table_list passes_Q (equations net.now.net sets.now rate pattern.now)) }
 {
     if count <= 4 {
         solve_on::<4>(count, net, sets, rate, pattern, values)

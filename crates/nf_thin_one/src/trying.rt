@@ -50,7 +50,8 @@ pub enum Outcome {
 // The flow of each link: a value after the slopes, and 0 for a link that is not active.
 fn spread_flows(net: &Network, sets: &LinkSets, values: &[Q], flows: &mut [Q])
     requires active { length sets.now.active ≡ length net.now.net.links }
-    requires values { length values.now ≡ net.now.net.nodes + length (active_from 0 sets.now.active) }
+    requires values { length values.now
+        ≡ net.now.net.nodes + length (active_from 0 sets.now.active) }
     requires flows { length flows.old ≡ length net.now.net.links }
     ensures { flows.new ≡ flows_in net.now.net.nodes sets.now.active values.now }
 {
@@ -73,8 +74,10 @@ fn flows_of(
     values: &[Q],
 ) -> Result<Vec<Q>, AllocError>
     requires active { length sets.now.active ≡ length net.now.net.links }
-    requires values { length values.now ≡ net.now.net.nodes + length (active_from 0 sets.now.active) }
-    ensures { IfOk result (λ flows. flows.items ≡ flows_in net.now.net.nodes sets.now.active values.now) }
+    requires values { length values.now
+        ≡ net.now.net.nodes + length (active_from 0 sets.now.active) }
+    ensures { IfOk result
+        (λ flows. flows.items ≡ flows_in net.now.net.nodes sets.now.active values.now) }
 {
     let mut flows = vec![in alloc; Q::zero(); net.link_count() as usize]?;
     spread_flows(net, sets, values, &mut flows);
@@ -112,7 +115,8 @@ fn judge_into(
     slopes: &mut [Q],
 ) -> Result<Tried, PassedAt<Q>>
     requires pattern { IsPatternIn net.now.net sets.now pattern.now }
-    requires values { length values.now ≡ net.now.net.nodes + length (active_from 0 sets.now.active) }
+    requires values { length values.now
+        ≡ net.now.net.nodes + length (active_from 0 sets.now.active) }
     requires flows { length flows.old ≡ length net.now.net.links }
     requires slopes { length slopes.old ≡ net.now.net.nodes }
     ensures flows { flows.new ≡ flows_in net.now.net.nodes sets.now.active values.now }
@@ -134,10 +138,13 @@ pub fn judge_values(
     values: Vec<Q>,
 ) -> Result<Outcome, Halt<Q>>
     requires pattern { IsPatternIn net.now.net sets.now pattern.now }
-    requires values { length values.items ≡ net.now.net.nodes + length (active_from 0 sets.now.active) }
-    ensures { JudgesValues net.now.net pattern.now (flows_in net.now.net.nodes sets.now.active values.items)
+    requires values { length values.items
+        ≡ net.now.net.nodes + length (active_from 0 sets.now.active) }
+    ensures { JudgesValues net.now.net pattern.now
+        (flows_in net.now.net.nodes sets.now.active values.items)
         (slopes_in net.now.net.nodes values.items)
-        (at_part Part.Verdict (verdict_list passes_Q net.now.net pattern.now (slopes_in net.now.net.nodes values.items))) result }
+        (at_part Part.Verdict (verdict_list passes_Q net.now.net pattern.now
+        (slopes_in net.now.net.nodes values.items))) result }
 {
     let flows = flows_of(alloc, net, sets, &values)?;
     let mut slopes = values;
@@ -163,7 +170,8 @@ fn only_values(found: Solved<Q>) -> Option<Vec<Q>>
 
 /// The only solution of a table, and None where there is none or more than one.
 pub fn solved(alloc: Global, table: Table<Q>) -> Result<Option<Vec<Q>>, Halt<Q>>
-    ensures { Gives (option_map (λ values. values.items)) (λ q. q) result (at_part Part.Table (table_list passes_Q table)) }
+    ensures { Gives (option_map (λ values. values.items)) (λ q. q) result
+        (at_part Part.Table (table_list passes_Q table)) }
 {
     let found = solve(alloc, table)?;
     Ok(only_values(found))
@@ -180,7 +188,8 @@ fn small_solution(
     requires pattern { IsPatternIn net.now.net sets.now pattern.now }
     requires small { HoldsNumbers takes_small net.now.net rate }
     ensures { IfOk result (λ found. IfSome found
-        (λ solved. table_list passes_Q (equations net.now.net sets.now rate pattern.now) ≡ Ok (values_of (λ q. q) solved))) }
+        (λ solved. table_list passes_Q (equations net.now.net sets.now rate pattern.now)
+        ≡ Ok (values_of (λ q. q) solved))) }
 {
     let mut table = Table::<Small>::new(alloc, unknown_count(net, sets))?;
     fill(&mut table, net, sets, rate, pattern);
@@ -197,7 +206,8 @@ pub fn pattern_values(
 ) -> Result<Option<Vec<Q>>, Halt<Q>>
     requires { IsPatternIn net.now.net sets.now pattern.now }
     ensures { Gives (option_map (λ values. values.items)) (λ q. q) result
-        (at_part Part.Table (table_list passes_Q (equations net.now.net sets.now rate pattern.now))) }
+        (at_part Part.Table
+        (table_list passes_Q (equations net.now.net sets.now rate pattern.now))) }
 {
     if has_small_numbers(net, rate) {
         if let Some(found) = small_solution(alloc, net, sets, rate, pattern)? {

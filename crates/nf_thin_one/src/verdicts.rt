@@ -88,7 +88,8 @@ fn judge_link(
     tail_slope: Q,
     head_slope: Q,
 ) -> Result<bool, PassedAt<Q>>
-    ensures { result ≡ at_part Verdict (link_verdict passes_Q state capacity flow tail_slope head_slope) }
+    ensures { result
+        ≡ at_part Verdict (link_verdict passes_Q state capacity flow tail_slope head_slope) }
 {
     let bound = bound(state, capacity, head_slope)?;
     Ok(is_not_negative(flow) && keeps_state(state, bound, flow, tail_slope, head_slope))
@@ -107,7 +108,8 @@ fn judge(
     requires flows { length flows.now ≡ length net.now.net.links }
     requires slopes { length slopes.now ≡ net.now.net.nodes }
     ensures { (here : SeenLink) → IsLink net.now.net link here
-        → result ≡ at_part Verdict (numbered_verdict passes_Q pattern.now flows.now slopes.now (link, here)) }
+        → result ≡ at_part Verdict
+        (numbered_verdict passes_Q pattern.now flows.now slopes.now (link, here)) }
 {
     let here = net.link(link);
     judge_link(
@@ -139,7 +141,8 @@ fn first_failing(
     requires states { length pattern.now ≡ length net.now.net.links }
     requires flows { length flows.now ≡ length net.now.net.links }
     requires slopes { length slopes.now ≡ net.now.net.nodes }
-    ensures { result ≡ at_part Verdict (first_broken passes_Q net.now.net pattern.now flows.now slopes.now) }
+    ensures { result
+        ≡ at_part Verdict (first_broken passes_Q net.now.net pattern.now flows.now slopes.now) }
 {
     let mut found = None;
     for e in 0..net.link_count() {
@@ -153,7 +156,8 @@ fn first_failing(
 // The first node with a slope below 0.
 fn first_negative(net: &Network, slopes: &[Q]) -> Option<NodeId>
     requires { length slopes.now ≡ net.now.net.nodes }
-    ensures { MatchOption result (NoneNegativeBefore slopes.now (length slopes.now)) (IsFirstNegative slopes.now) }
+    ensures { MatchOption result (NoneNegativeBefore slopes.now (length slopes.now))
+        (IsFirstNegative slopes.now) }
 {
     for v in 0..net.node_count() {
         if is_negative_at(slopes, v as usize) {

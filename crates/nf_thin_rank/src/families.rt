@@ -56,7 +56,8 @@ fn may_replace(net: &Network, listed: &Pattern, node: NodeId, keeper: LinkId, li
 // Returns a Tight or Full link into the node other than its keeper, or `None` if there is none.
 fn other_keeper(net: &Network, listed: &Pattern, node: NodeId, keeper: LinkId) -> Option<LinkId>
     requires listed { length listed.now ≡ length net.now.net.links }
-    ensures { IfSome result (λ other. (other ≢ keeper) × ((sets : Sets) → MayKeep net.now.net sets listed.now other node)) }
+    ensures { IfSome result (λ other. (other ≢ keeper)
+        × ((sets : Sets) → MayKeep net.now.net sets listed.now other node)) }
 {
     for e in 0..net.link_count() {
         if may_replace(net, listed, node, keeper, LinkId(e)) {
@@ -93,7 +94,8 @@ fn spare_keeper(
     requires listed { IsListedFor ranking.now listed.now }
     requires keepers { AreKeepersFor ranking.now listed.now keepers.now }
     requires node { node < ranking.now.net.now.net.nodes }
-    ensures { IfSome result (IsSpare ranking.now.net.now.net ranking.now.sets.now ranking.now.base.now listed.now keepers.now node) }
+    ensures { IfSome result (IsSpare ranking.now.net.now.net ranking.now.sets.now
+        ranking.now.base.now listed.now keepers.now node) }
 {
     let keeper = keeper_of(keepers, node)?;
     if !has_state(ranking.base, keeper) {
@@ -134,7 +136,8 @@ fn ways_by_other(
     requires keepers { AreKeepersFor ranking.now listed.now keepers.now }
     requires node { node < ranking.now.net.now.net.nodes }
     ensures { IfOk result
-        (λ ways. IsByOther ranking.now.net.now.net ranking.now.sets.now ranking.now.base.now pattern.now listed.now keepers.now node ways) }
+        (λ ways. IsByOther ranking.now.net.now.net ranking.now.sets.now ranking.now.base.now
+        pattern.now listed.now keepers.now node ways) }
 {
     let Some(spare) = spare_keeper(ranking, listed, keepers, node) else {
         return Ok(0);

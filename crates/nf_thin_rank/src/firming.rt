@@ -31,8 +31,10 @@ fn keep(keepers: &mut [Option<LinkId>], node: NodeId, link: LinkId, resets: bool
     requires { node < length keepers.old }
     ensures count { length keepers.new ≡ length keepers.old }
     ensures keeps { (v e : ℕ) → slice_get keepers.new v ≡ Some (Some e)
-        → (slice_get keepers.old v ≡ Some (Some e)) ⊎ ((v ≡ node) × (e ≡ link) × ((resets ≡ true) ⊎ (leads ≡ true))) }
-    ensures there { (v : ℕ) → slice_get keepers.new v ≡ Some None → slice_get keepers.old v ≡ Some None }
+        → (slice_get keepers.old v ≡ Some (Some e))
+        ⊎ ((v ≡ node) × (e ≡ link) × ((resets ≡ true) ⊎ (leads ≡ true))) }
+    ensures there { (v : ℕ) → slice_get keepers.new v ≡ Some None
+        → slice_get keepers.old v ≡ Some None }
     ensures kept { slice_get keepers.new node ≡ Some None → (resets ≡ true) ⊎ (leads ≡ true) → ⊥ }
 {
     if resets || (leads && keepers[node.index()].is_none()) {
@@ -100,7 +102,8 @@ pub(crate) fn firm_states(
     requires ranking { IsPosed ranking.now }
     requires listed { IsListedFor ranking.now listed.now }
     requires keepers { AreKeepersFor ranking.now listed.now keepers.now }
-    ensures { IfOk result (λ firm. AreFirmBy ranking.now.net.now.net ranking.now.sets.now listed.now keepers.now out firm.items) }
+    ensures { IfOk result (λ firm. AreFirmBy ranking.now.net.now.net ranking.now.sets.now listed.now
+        keepers.now out firm.items) }
 {
     let mut firm = Vec::new(alloc);
     for e in 0..ranking.net.link_count() {

@@ -27,7 +27,8 @@ pub fn unbounded_flags(alloc: Global, net: &Network) -> Result<Vec<bool>, AllocE
 pub fn listing(alloc: Global, ranking: &Ranking, base: &Pattern) -> Result<Patterns, AllocError>
     requires ranking { IsPosed ranking.now }
     requires base { IsPatternFor ranking.now base.now }
-    ensures asked { IfOk result (λ patterns. AsksOf ranking.now.net.now.net ranking.now.sets.now patterns) }
+    ensures asked { IfOk result
+        (λ patterns. AsksOf ranking.now.net.now.net ranking.now.sets.now patterns) }
     ensures base { IfOk result (λ patterns. patterns.question.base ≡ base.now) }
     ensures place { IfOk result (λ patterns. patterns.place ≡ 0) }
 {

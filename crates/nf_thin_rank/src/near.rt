@@ -45,7 +45,8 @@ pub fn near_listed(
 // Makes the link Tight if it has a state.
 fn tighten(link: LinkId, pattern: &mut Pattern)
     requires { link < length pattern.old }
-    ensures { (sets : Sets) (unbounded : List Bool) → IsPattern sets unbounded pattern.old → IsPattern sets unbounded pattern.new }
+    ensures { (sets : Sets) (unbounded : List Bool) → IsPattern sets unbounded pattern.old
+        → IsPattern sets unbounded pattern.new }
 {
     if pattern.state(link).is_none() {
         return;

@@ -41,7 +41,8 @@ impl Pace {
         requires listed { IsListedFor ranking.now pattern.now }
         requires behind { StaysBehind (question_in ranking.now) self.old pattern.now }
         ensures told { Tells (question_in ranking.now) pattern.now ranking.now.budget result }
-        ensures in_step { (result ≡ Beyond → ⊥) → IsInStep (question_in ranking.now) self.new pattern.now }
+        ensures in_step { (result ≡ Beyond → ⊥)
+            → IsInStep (question_in ranking.now) self.new pattern.now }
     {
         let Some(all) = &mut self.walk else {
             return Standing::Unknown;
@@ -63,8 +64,10 @@ impl Pace {
     ) -> Result<Standing, AllocError>
         requires ranking { IsPosed ranking.now }
         requires listed { IsListedFor ranking.now pattern.now }
-        ensures told { IfOk result (λ standing. Tells (question_in ranking.now) pattern.now ranking.now.budget standing) }
-        ensures in_step { IfOk result (λ standing. (standing ≡ Beyond → ⊥) → IsInStep (question_in ranking.now) self.new pattern.now) }
+        ensures told { IfOk result
+            (λ standing. Tells (question_in ranking.now) pattern.now ranking.now.budget standing) }
+        ensures in_step { IfOk result (λ standing. (standing ≡ Beyond → ⊥)
+            → IsInStep (question_in ranking.now) self.new pattern.now) }
     {
         let all = listing(alloc, ranking, ranking.base)?;
         self.walk = Some(all);
@@ -83,8 +86,10 @@ impl Pace {
         requires ranking { IsPosed ranking.now }
         requires listed { IsListedFor ranking.now pattern.now }
         requires behind { StaysBehind (question_in ranking.now) self.old pattern.now }
-        ensures told { IfOk result (λ standing. Tells (question_in ranking.now) pattern.now ranking.now.budget standing) }
-        ensures in_step { IfOk result (λ standing. (standing ≡ Beyond → ⊥) → IsInStep (question_in ranking.now) self.new pattern.now) }
+        ensures told { IfOk result
+            (λ standing. Tells (question_in ranking.now) pattern.now ranking.now.budget standing) }
+        ensures in_step { IfOk result (λ standing. (standing ≡ Beyond → ⊥)
+            → IsInStep (question_in ranking.now) self.new pattern.now) }
     {
         if self.walk.is_some() {
             return Ok(self.go_on(ranking, pattern));

@@ -29,7 +29,8 @@ pub(crate) fn is_early(
 ) -> Result<bool, AllocError>
     requires ranking { IsPosed ranking.now }
     requires pattern { length pattern.now ≡ length ranking.now.net.now.net.links }
-    ensures { IfOk result (λ early. early ≡ true → StandsWithin (question_in ranking.now) pattern.now ranking.now.budget true) }
+    ensures { IfOk result (λ early. early ≡ true
+        → StandsWithin (question_in ranking.now) pattern.now ranking.now.budget true) }
 {
     let net = ranking.net;
     let unbounded = unbounded_flags(alloc, net)?;
@@ -49,7 +50,8 @@ fn is_late_by(
     requires ranking { IsPosed ranking.now }
     requires pattern { length pattern.now ≡ length ranking.now.net.now.net.links }
     requires listed { IfSome found (λ listed. IsListedFor ranking.now listed) }
-    ensures { IfOk result (λ late. late ≡ true → StandsWithin (question_in ranking.now) pattern.now ranking.now.budget false) }
+    ensures { IfOk result (λ late. late ≡ true
+        → StandsWithin (question_in ranking.now) pattern.now ranking.now.budget false) }
 {
     let Some(listed) = found else {
         return Ok(false);
@@ -67,7 +69,8 @@ pub(crate) fn is_late(
 ) -> Result<bool, AllocError>
     requires ranking { IsPosed ranking.now }
     requires pattern { length pattern.now ≡ length ranking.now.net.now.net.links }
-    ensures { IfOk result (λ late. late ≡ true → StandsWithin (question_in ranking.now) pattern.now ranking.now.budget false) }
+    ensures { IfOk result (λ late. late ≡ true
+        → StandsWithin (question_in ranking.now) pattern.now ranking.now.budget false) }
 {
     let near = near_listed(alloc, ranking, ranking.base)?;
     if is_late_by(alloc, ranking, pattern, near)? {
@@ -86,7 +89,8 @@ pub(crate) fn is_within(
 ) -> Result<bool, AllocError>
     requires ranking { IsPosed ranking.now }
     requires pattern { length pattern.now ≡ length ranking.now.net.now.net.links }
-    ensures { IfOk result (λ within. StandsWithin (question_in ranking.now) pattern.now ranking.now.budget within) }
+    ensures { IfOk result
+        (λ within. StandsWithin (question_in ranking.now) pattern.now ranking.now.budget within) }
 {
     if is_early(alloc, ranking, pattern)? {
         return Ok(true);
@@ -125,7 +129,8 @@ impl Standing {
         requires ranking { IsPosed ranking.now }
         requires pattern { length pattern.now ≡ length ranking.now.net.now.net.links }
         requires told { Tells (question_in ranking.now) pattern.now ranking.now.budget self }
-        ensures { IfOk result (λ within. StandsWithin (question_in ranking.now) pattern.now ranking.now.budget within) }
+        ensures { IfOk result (λ within.
+            StandsWithin (question_in ranking.now) pattern.now ranking.now.budget within) }
     {
         match self {
             Standing::Within => Ok(true),
