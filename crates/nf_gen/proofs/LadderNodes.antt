@@ -1,7 +1,7 @@
 -- The nodes of a ladder: those that its links lead from and to, in the order of first appearance.
-use Rattle.std.proofs.Common.{◌≡◌, ℕ, zero, suc, ◌+◌, ◌-◌, ◌*◌, ◌≤◌, true, List, [], ◌∷◌, ◌++◌, length, map, flat_map, codes, refl, sym, ◌∙◌, ap, arith, append_assoc, length-append}
+use Rattle.std.proofs.Common.{◌≡◌, ℕ, zero, suc, ◌+◌, ◌-◌, ◌*◌, ◌≤◌, Bool, true, List, [], ◌∷◌, ◌++◌, length, map, flat_map, codes, refl, sym, ◌∙◌, ap, arith, append_assoc, length-append}
 use Rattle.std.specs.List.{AllByRecursion, list_all, range_with_len}
-use Rattle.std.proofs.lemmas.Bool.{or_from, or_left}
+use Rattle.std.proofs.lemmas.Bool.{and_from, or_from, or_left}
 use Rattle.std.proofs.lemmas.Grind.{flat_map-append}
 use Rattle.nf_net_def.specs.Names.{Name, is_name, has_name, with_names}
 use Rattle.nf_net_def.specs.Named.{NamedLink, ends, names_of}
@@ -10,7 +10,6 @@ use Rattle.nf_gen.specs.Ladder.{upper, lower, Ends, rails_on, rung_at, links_in,
 use Rattle.nf_gen.proofs.Ranges.{all_flat, all_map, count_push}
 use Rattle.nf_gen.proofs.LadderNames.{lettered_is_name, no_upper, no_lower, has_upper, has_lower}
 use Rattle.nf_net_laws.proofs.AcceptedNamed.{every_append}
-use Rattle.nf_net_laws.proofs.ReadBack.{list_all-from}
 
 -- ---- what is drawn changes no names
 -- the ends of links, in order
@@ -78,6 +77,10 @@ already_there : (names more : List Name) → AllByRecursion (λ x. has_name name
 already_there names [] h = refl
 already_there names (x ∷ more) h = ap (λ l. with_names l more) (with_name_there names x h.0) ∙ already_there names more h.1
 
+tested : (test : Name → Bool) (names : List Name) → AllByRecursion (λ x. test x ≡ true) names → list_all test names ≡ true
+tested test [] h = refl
+tested test (x ∷ names) h = and_from (test x) (list_all test names) h.0 (tested test names h.1)
+
 length_rails : (a n : ℕ) → length (flat_map rung_nodes (range_with_len a n)) ≡ 2 * n
 length_rails a zero = refl
 length_rails a (suc n) = let h : length (flat_map rung_nodes (range_with_len (a + 1) n)) ≡ 2 * n = length_rails (a + 1) n in omega arith
@@ -119,7 +122,7 @@ module _ (rungs : ℕ) (some : 1 ≤ rungs) where
       (every_append (HasEnds (ladder_nodes rungs)) (links_in ++ links_along rungs) (links_down rungs) (every_append (HasEnds (ladder_nodes rungs)) links_in (links_along rungs) ends_into ends_along) ends_down) ends_out
 
   pub ends_listed : list_all (has_name (ladder_nodes rungs)) (ends_of (ladder_ends rungs)) ≡ true
-  ends_listed = list_all-from (has_name (ladder_nodes rungs)) (ends_of (ladder_ends rungs)) (each_end (ladder_nodes rungs) (ladder_ends rungs) ends_there)
+  ends_listed = tested (has_name (ladder_nodes rungs)) (ends_of (ladder_ends rungs)) (each_end (ladder_nodes rungs) (ladder_ends rungs) ends_there)
 
   all_rungs : with_names (ladder_nodes 1) (ends_of (links_along rungs)) ≡ ladder_nodes rungs
   all_rungs = along_rails (rungs - 1) ∙ (let e : suc (rungs - 1) ≡ rungs = omega arith in ap (λ (k : ℕ). ladder_nodes k) e)
@@ -136,7 +139,7 @@ module _ (rungs : ℕ) (some : 1 ≤ rungs) where
       ∙ already_there (ladder_nodes rungs) (ends_of (links_out rungs)) (each_end (ladder_nodes rungs) (links_out rungs) ends_out)
 
   pub node_names : rungs ≤ 30 → list_all is_name (ladder_nodes rungs) ≡ true
-  node_names few = list_all-from is_name (ladder_nodes rungs) (
+  node_names few = tested is_name (ladder_nodes rungs) (
     refl,
     (
       refl,

@@ -17,19 +17,22 @@ use Rattle.nf_graph.specs.Distances.{NoneNegative, AreDistances}
 use Rattle.nf_net_def.specs.Named.{Named}
 use Rattle.nf_net_def.specs.WellNamed.{IsNamed}
 use Rattle.nf_net_laws.proofs.WalkFacts.{CameFrom, came_from}
-use Rattle.nf_net_laws.proofs.ClosesBack.{head_below}
 
 module _ (n : Named) (h : IsNamed n) (kept : List Hop) (are : kept ≡ hops n.net) where
   tails : (e : ℕ) (hop : Hop) → IsHop (hops n.net) e hop → hop.tail < n.net.nodes
   tails e hop is = let c : CameFrom hop_of n.net.links e hop = came_from hop_of n.net.links e hop is in
       subst (λ (x : Hop). x.tail < n.net.nodes) c.is_image (h.network.tails e c.entry c.is_entry)
 
+  heads : (e : ℕ) (hop : Hop) → IsHop (hops n.net) e hop → hop.head < n.net.nodes
+  heads e hop is = let c : CameFrom hop_of n.net.links e hop = came_from hop_of n.net.links e hop is in
+      subst (λ (x : Hop). x.head < n.net.nodes) c.is_image (h.network.heads e c.entry c.is_entry)
+
   transits : (e : ℕ) (hop : Hop) → IsHop (hops n.net) e hop → 0ℚ ≤ℚ hop.transit
   transits e hop is = let c : CameFrom hop_of n.net.links e hop = came_from hop_of n.net.links e hop is in
       subst (λ (x : Hop). 0ℚ ≤ℚ x.transit) c.is_image (h.network.transits e c.entry c.is_entry)
 
   pub net_below : AreBelow n.net.nodes kept
-  net_below = subst (λ (hs : List Hop). AreBelow n.net.nodes hs) (sym are) (record { tails = tails; head_below = head_below })
+  net_below = subst (λ (hs : List Hop). AreBelow n.net.nodes hs) (sym are) (record { tails = tails; heads = heads })
 
   pub net_transits : NoneNegative kept
   net_transits = subst NoneNegative (sym are) transits

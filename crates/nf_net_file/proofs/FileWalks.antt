@@ -30,7 +30,6 @@ use Rattle.nf_net_laws.proofs.AcceptedWalks.{file_transits}
 use Rattle.nf_net_file.specs.Contents.{IsRead}
 use Rattle.nf_net_file.specs.Closing.{HasEnds, flag_at, some_unreached, AreFlags, HasFraction}
 use Rattle.std.proofs.lemmas.Bool.{and_parts, not-false}
-use Rattle.nf_net_laws.proofs.SomeReading.{head_there}
 
 pub good_of : (draft : Draft) → IsRead draft → IsGoodDraft draft
 good_of draft h = draft_kept h.lines draft h.read
@@ -53,8 +52,13 @@ module _ (draft : Draft) (g : IsGoodDraft draft) where
       let c : CameFrom (λ l. hop_of (numbered draft.nodes l)) draft.links e hop = came_from (λ l. hop_of (numbered draft.nodes l)) draft.links e hop is in
       subst (λ (x : Hop). x.tail < length draft.nodes) c.is_image (place_below draft.nodes c.entry.tail (ends_at (has_name draft.nodes) draft.links e c.entry g.ends_there c.is_entry).0)
 
+  head_below : (e : ℕ) (hop : Hop) → IsHop (draft_hops draft) e hop → hop.head < length draft.nodes
+  head_below e hop is =
+      let c : CameFrom (λ l. hop_of (numbered draft.nodes l)) draft.links e hop = came_from (λ l. hop_of (numbered draft.nodes l)) draft.links e hop is in
+      subst (λ (x : Hop). x.head < length draft.nodes) c.is_image (place_below draft.nodes c.entry.head (ends_at (has_name draft.nodes) draft.links e c.entry g.ends_there c.is_entry).1)
+
   hops_below : AreBelow (length draft.nodes) (draft_hops draft)
-  hops_below = record { tails = tail_below; heads = head_there }
+  hops_below = record { tails = tail_below; heads = head_below }
 
 module _ (draft : Draft) (hops : List Hop) (read : IsRead draft) (are : hops ≡ draft_hops draft) where
   pub below_of : AreBelow (length draft.nodes) hops

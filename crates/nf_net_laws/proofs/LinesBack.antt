@@ -225,7 +225,7 @@ name_of_list (x ∷ xs) (suc i) h low = name_of_list xs i (second (is_name x) (l
     second true b e = e
     second false b e = absurd (cc)
 
-pub list_all-left : (xs ys : List Name) → list_all is_name (xs ++ ys) ≡ true → list_all is_name xs ≡ true
+list_all-left : (xs ys : List Name) → list_all is_name (xs ++ ys) ≡ true → list_all is_name xs ≡ true
 list_all-left [] ys h = refl
 list_all-left (x ∷ xs) ys h = both (is_name x) (list_all is_name (xs ++ ys)) (list_all is_name xs) h (list_all-left xs ys)
   where

@@ -128,7 +128,7 @@ plain_lines_from n (ws ∷ lines) h = ap (map read_line) (lines_from-line n ws (
     ∙ ap (λ l. l ∷ map read_line (lines_from (n + 1) (flat_map line_of_words lines))) (read_plain n ws h.0)
     ∙ ap (λ t. record { number = n; plain = true; words = ws } ∷ t) (plain_lines_from (n + 1) lines h.1)
 
-pub list_all-from : {A : Type 0} (p : A → Bool) (xs : List A) → AllByRecursion (λ b. p b ≡ true) xs → list_all p xs ≡ true
+list_all-from : (p : ℕ → Bool) (xs : List ℕ) → AllByRecursion (λ b. p b ≡ true) xs → list_all p xs ≡ true
 list_all-from p [] h = refl
 list_all-from p (x ∷ xs) h = ap (λ t. t && list_all p xs) h.0 ∙ list_all-from p xs h.1
 
