@@ -13,7 +13,6 @@ use crate::run::Run;
 use nf_frac::Q;
 use nf_net::Network;
 use nf_phase_curves::{extend_labels, extend_links, reserve_labels, reserve_links};
-use nf_thin::ThinFlow;
 use std::alloc::{AllocError, Global};
 
 // Returns the label of the source, which equals the departure.
@@ -37,22 +36,18 @@ impl Run {
     {
         reserve_labels(&mut self.label_curves)?;
         reserve_links(&mut self.link_curves)?;
-        let reached = departure_in(net, &phase.labels);
-        extend_labels(
-            &mut self.label_curves,
-            reached,
-            &phase.labels,
-            &phase.thin.slopes,
-        );
-        extend_links(&mut self.link_curves, net, &phase.labels, &phase.steps);
+        let Phase {
+            length: _,
+            labels,
+            steps,
+            thin,
+        } = phase;
+        let reached = departure_in(net, &labels);
+        extend_labels(&mut self.label_curves, reached, &labels, &thin.slopes);
+        extend_links(&mut self.link_curves, net, &labels, &steps);
         self.reached = reached;
-        self.labels = phase.labels;
-        let ThinFlow {
-            flows: _,
-            slopes: _,
-            pattern,
-        } = phase.thin;
-        self.last = pattern;
+        self.labels = labels;
+        self.last = thin.pattern;
         self.made += 1;
         Ok(())
     }

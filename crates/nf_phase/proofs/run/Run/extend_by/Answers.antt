@@ -78,7 +78,7 @@ extend_links-requires-clause-later c =
 
 pub returns-clause-made : goal.returns-clause-made
 returns-clause-made c =
-    new_standing passes_Q c.args.net.now.net c.requires.named.network c.requires.leads.0 c.requires.leads.1 c.args.self.now c.requires.reaches c.args.phase c.requires.leads.2 c.departure_in-reached.result (all_grown (with_items (with_items c.self.inside.label_curves c.reserve_labels.new.curves) c.extend_labels.new.curves).items) (all_grown (with_items (with_items c.self.inside.link_curves c.reserve_links.new.curves) c.extend_links.new.curves).items) (c.self.inside.made + 1) c.args.phase.pattern
+    new_standing passes_Q c.args.net.now.net c.requires.named.network c.requires.leads.0 c.requires.leads.1 c.args.self.now c.requires.reaches c.args.phase c.requires.leads.2 c.departure_in-reached.result (all_grown (with_items (with_items c.self.inside.label_curves c.reserve_labels.new.curves) c.extend_labels.new.curves).items) (all_grown (with_items (with_items c.self.inside.link_curves c.reserve_links.new.curves) c.extend_links.new.curves).items) (c.self.inside.made + 1) c.args.phase.thin.pattern
     (c.departure_in-reached.ensures ∙ ap (λ (l : List ℚ). number_at l c.args.net.now.net.source) c.deref.ensures.value ∙ source_next passes_Q c.args.net.now.net c.requires.named.network c.requires.leads.0 c.requires.leads.1 c.args.self.now c.requires.reaches c.args.phase c.requires.leads.2)
     (ap all_grown (with_items_is (with_items c.self.inside.label_curves c.reserve_labels.new.curves) c.extend_labels.new.curves (c.extend_labels.auto.curves ∙ c.deref_mut-3.ensures.len)) ∙ c.extend_labels.ensures ∙ rw (c.deref-2.ensures.value, c.deref-3.ensures.value, (ap all_grown (c.deref_mut-3.ensures.value ∙ with_items_is c.self.inside.label_curves c.reserve_labels.new.curves (c.reserve_labels.auto.curves ∙ c.deref_mut.ensures.len)) ∙ c.in_ok-reserve_labels.ensures.same ∙ ap all_grown c.deref_mut.ensures.value ∙ ap (λ (s : Standing). s.label_curves) c.self.view_is)) refl)
     (ap all_grown (with_items_is (with_items c.self.inside.link_curves c.reserve_links.new.curves) c.extend_links.new.curves (c.extend_links.auto.curves ∙ c.deref_mut-4.ensures.len)) ∙ c.extend_links.ensures ∙ rw (c.deref-4.ensures.value, c.deref-5.ensures.value, (ap all_grown (c.deref_mut-4.ensures.value ∙ with_items_is c.self.inside.link_curves c.reserve_links.new.curves (c.reserve_links.auto.curves ∙ c.deref_mut-2.ensures.len)) ∙ c.in_ok-reserve_links.ensures.same ∙ ap all_grown c.deref_mut-2.ensures.value ∙ ap (λ (s : Standing). s.link_curves) c.self.view_is)) refl)
