@@ -14,6 +14,7 @@ import nfot
 from nfot import tools
 from nfot.program import WARNING
 
+from .cases import SHOWS
 from .tooling import EXAMPLES, Case
 
 resource: Any
@@ -138,7 +139,7 @@ class Output(Case):
 
     def test_seconds_on_a_terminal(self) -> None:
         """A command that takes over a second shows it on a terminal, and nothing where standard error is a file."""
-        slow = self.write("slow", "#!/bin/sh\nsleep 1.5\necho done\n")
+        slow = self.write("slow", SHOWS + "sleep 1.5\necho done\n")
         os.chmod(slow, 0o755)
         environment = dict(ENVIRONMENT, NFOT=str(self.folder / slow))
         ours, theirs = os.openpty()
@@ -153,7 +154,7 @@ class Output(Case):
 
     def test_terminated(self) -> None:
         """SIGTERM ends a run at once, with the program that it runs, and leaves no temporary files."""
-        slow = self.write("slow", "#!/bin/sh\nexec sleep 60\n")
+        slow = self.write("slow", SHOWS + "exec sleep 60\n")
         os.chmod(slow, 0o755)
         (self.folder / "tmp").mkdir()
         environment = dict(ENVIRONMENT, NFOT=str(self.folder / slow), TMPDIR=str(self.folder / "tmp"))
