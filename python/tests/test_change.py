@@ -34,6 +34,13 @@ class Change(Case):
         self.assertIn("0:17 is minute 17 of the run; for times of day give --clock", self.run_tool("change", net, "--begin", "0:17")[2])
         self.refused(2, "--begin 6:00 isn't after minute 0", "change", net, "--begin", "6:00", "--clock", "7:00")
 
+    def test_tools_without_a_clock(self) -> None:
+        """They say once as which minute a time of day is read."""
+        net = EXAMPLES / "two.net"
+        for words in (["thin", net, "0:02"], ["judge", net, EXAMPLES / "late.loads", "0:02"], ["solve-on", net, "--horizon", "0:02"]):
+            status, _, err = self.run_tool(*words)
+            self.assertEqual((status, err), (0, "nfot-py: 0:02 is minute 2 of the run\n"))
+
     def test_a_later_begin(self) -> None:
         status, out, err = self.run_tool("change", EXAMPLES / "bridge.net", "--begin", "12.5")
         self.assertEqual((status, err), (0, "change: the supply begins at 12.5\n"))

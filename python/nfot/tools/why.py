@@ -33,7 +33,7 @@ def check_words(words: Sequence[str]) -> None:
 def add_arguments(parser: argparse.ArgumentParser) -> None:
     """The arguments of the tool."""
     parser.add_argument("files", metavar="FILE", nargs="*", help="the files of the command that printed the lines; or a rule, a status or a line itself")
-    parser.usage = "nfot-py why [RULE | LINE] [FILE ..]  or  nfot-py why -- nfot COMMAND .."
+    parser.usage = "nfot-py why [RULE | STATUS | LINE] [FILE ..]  or  nfot-py why -- nfot COMMAND .."
 
 
 def run_explained(words: list[str]) -> int:
