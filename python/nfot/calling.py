@@ -88,8 +88,8 @@ def near_time(time: Fraction) -> str:
 
 
 def stop_of(cause: str, report: Optional[Report], status: Optional[int] = None) -> Stopped:
-    """The fault of a run that ended early, by its cause."""
+    """The fault of a run that ended early, by its cause; with a status that of a run without a horizon."""
     ended = CAUSES.get(cause.split(" ")[0], 1) if status is None else status
     reached = f" at departure {near_time(report.reached)}" if report else ""
-    reached += f" of {short(report.horizon)}" if report and report.horizon > report.reached else ""
+    reached += f" of {short(report.horizon)}" if report and status is None else ""
     return Stopped(f"the run stopped{reached} (cause {cause}): {TO_DO.get(ended, 'see the cause')}", status=ended, cause=cause, report=report)

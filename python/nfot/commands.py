@@ -168,7 +168,8 @@ def _arrival(words: List[str]) -> Union[Fraction, None, Stopped]:
 def forever(net: Net, *, phases: Optional[int] = None, patterns: Optional[int] = None, timeout: Optional[float] = None) -> Forever:
     """The run without a horizon, up to the phase that never ends, with the slopes and flows of that phase.
 
-    Stopped, with the report up to the departure reached, where a budget is used up (status 12 or 6) or an operation passes (7).
+    Stopped, with the report up to the departure reached, where a budget is used up (status 12 or 6) or an operation passes (7). That
+    report has the next whole departure as its horizon, since a report has one.
     """
     network = as_network(net)
     words = ["--forever", *words_of_budgets(phases=phases, patterns=patterns)]
@@ -177,7 +178,8 @@ def forever(net: Net, *, phases: Optional[int] = None, patterns: Optional[int] =
     reached = found.only("reached")[0]
     kept = ("label ", "never ", "inflow ", "outflow ", "queue ", "state ")
     body = [line for line in answer.out.splitlines() if line.startswith(kept)]
-    head = [f"report {network.version}", f"horizon {reached}", f"reached {reached}", "cause done"]
+    horizon, cause = (int(Fraction(reached)) + 1, answer.cause) if answer.status else (reached, "done")
+    head = [f"report {network.version}", f"horizon {horizon}", f"reached {reached}", f"cause {cause}"]
     report = report_of([*head, *body, "end"], "the run of nfot", network)
     if answer.status:
         raise stop_of(answer.cause, report, status=answer.status)

@@ -91,30 +91,42 @@ def from_networkx(graph: Any, source: Hashable, sink: Hashable, *, supply: Itera
         if limit != 0:
             links.append(Link(names.new(called or joined(str(tail), str(head))), str(tail), str(head), time, limit))
     reader.refuse()
+    version, order = kept(graph, links)
     if len({str(node) for node in graph.nodes}) < len(graph.nodes):
         raise Refused("two nodes of the graph have the same name as a text: relabel them by networkx.relabel_nodes(graph, nfot.clean_names(graph))")
-    return Network(str(source), str(sink), links, supply)
+    return Network(str(source), str(sink), sorted(links, key=lambda link: order.get(link.name, len(order))), supply, version)
+
+
+def kept(graph: Any, links: Iterable[Link]) -> tuple[int, dict[str, int]]:
+    """The version of the network file and the order of links that `to_networkx` kept; those of another graph are 2 and its own.
+
+    Version 1 has no unbounded links."""
+    version, names = graph.graph.get("nfot", (2, ()))
+    bounded = all(link.capacity is not None for link in links)
+    return version if bounded else 2, {name: at for at, name in enumerate(names)}
 
 
 def to_networkx(net: Net, run: Optional[Run] = None, every: Time = 5) -> Any:
     """The network as a MultiDiGraph of networkx: keys are the names of links, `transit` and `capacity` are Fractions (None: unbounded).
 
     With a report each edge also has the lists `queue`, `wait`, `in` and `out`, as the columns of `table`: one value for each of the
-    times, `every` minutes apart, that the graph's attribute `times` has. An idle link has 0.
-    The graph's attributes `source`, `sink` and `supply` hold the rest, so `from_networkx(graph, source, sink, supply=supply)` gives the
-    network back. Raises a Fault where networkx isn't installed, and where the report is one of another network."""
+    times, `every` minutes apart, that the graph's attribute `times` has. A list ends with the last value that is known. An idle link
+    has 0, and the attribute `notes` names it.
+    The graph's attributes `source`, `sink`, `supply` and `nfot` (the version of the file, the order of links) hold the rest, so
+    `from_networkx(graph, source, sink, supply=supply)` gives an equal network back. Raises a Fault where networkx isn't installed, and
+    where the report is one of another network."""
     try:
         networkx: Any = importlib.import_module("networkx")
     except ImportError:
         raise Fault("networkx isn't installed: `pip install networkx`") from None
     net = as_network(net)
-    graph = networkx.MultiDiGraph(source=net.source, sink=net.sink, supply=net.supply)
+    graph = networkx.MultiDiGraph(source=net.source, sink=net.sink, supply=net.supply, nfot=(net.version, tuple(net.links)))
     graph.add_nodes_from([*net.nodes(), *net.idle_nodes()])
     for link in net.links.values():
         graph.add_edge(link.tail, link.head, key=link.name, transit=link.transit, capacity=link.capacity)
     if run is not None:
         rows = table(as_report(net, run), every, show=LINK_WORDS)
-        graph.graph["times"] = [row["time"] for row in rows]
+        graph.graph.update(times=[row["time"] for row in rows], notes=rows.notes)
         for _, _, name, data in graph.edges(keys=True, data=True):
-            data.update({word: [row.get(f"{name} {word}", Fraction(0)) for row in rows] for word in LINK_WORDS})
+            data.update({word: rows.values(f"{name} {word}") for word in LINK_WORDS})
     return graph

@@ -15,6 +15,7 @@ from typing import IO, Dict, Iterator, Mapping, Optional, Sequence, Tuple, Union
 
 from . import slow
 from .faults import Fault, Killed, NotFound, Timeout
+from .starting import is_nfot, start
 
 PathLike = Union[str, "os.PathLike[str]"]
 WARNING = "nfot: no proved program found; using the slow one (put nfot on the PATH, or set NFOT)"
@@ -25,7 +26,7 @@ _warned = False
 
 @dataclass(frozen=True)
 class Program:
-    """The program: the words that begin its command line, whether it is the proved one, and where it is."""
+    """The program: the words that begin its command line, `proved` (False: the slow program), and where it is."""
     words: Tuple[str, ...]
     proved: bool
     place: str
@@ -42,8 +43,8 @@ class Done:
 def program() -> Program:
     """The program that is used: NFOT in the environment, else `nfot` on the PATH, else the build of this checkout, else the slow one.
 
-    The slow one gives one warning on standard error. NotFound where NFOT names no program. Any program but the slow one counts as
-    the proved one.
+    The slow one gives one warning on standard error. `proved` says that it is not the slow one: the package can't verify that a program
+    is the proved one. NotFound where NFOT names no program, and where the program doesn't show a tiny network as `nfot` does.
     """
     named = os.environ.get("NFOT")
     place = shutil.which(named or "nfot")
@@ -52,8 +53,12 @@ def program() -> Program:
     if place is None:
         build = pathlib.Path(__file__).resolve().parents[2] / "crates/nfot/out/nfot"
         place = shutil.which(str(build))
+    if place is not None and slow.is_slow(place):
+        return Program((place,), False, place)
     if place is not None:
-        return Program((place,), not slow.is_slow(place), place)
+        if not is_nfot(place):
+            raise NotFound(f"{place} is not nfot: it doesn't show a network as nfot does; set NFOT to the program", status=NO_PROGRAM)
+        return Program((place,), True, place)
     words = slow.words()
     _warn()
     return Program(words, False, words[-1])
@@ -76,8 +81,7 @@ def run(words: Sequence[str], *, timeout: Optional[float] = None, input: Optiona
     """
     used, name = program(), " ".join(["nfot", *words[:1]])
     try:
-        process = subprocess.Popen([*used.words, *words], stdin=None if input is None else subprocess.PIPE, stdout=stdout or subprocess.PIPE,
-                                   stderr=subprocess.PIPE, close_fds=False)  # a word may be /dev/fd/63
+        process = start([*used.words, *words], None if input is None else subprocess.PIPE, stdout or subprocess.PIPE, subprocess.PIPE)
     except (OSError, ValueError) as fault:
         why = fault.strerror if isinstance(fault, OSError) else str(fault)
         raise NotFound(f"{used.place} can't be run: {why}", status=NO_PROGRAM) from None

@@ -5,6 +5,7 @@ import csv
 import importlib
 import io
 from fractions import Fraction
+from itertools import takewhile
 from typing import Any, Callable, Collection, Dict, Iterable, Iterator, Optional, Sequence, Union, overload
 
 from .curves import Curve
@@ -34,10 +35,12 @@ def cell_text(cell: Cell, digits: int, exact: bool) -> str:
 
 
 class Rows(Sequence[RowDict]):
-    """Rows of one table: dicts with the same keys, in the same order. Values are Fractions, texts, or None where nothing is known."""
+    """Rows of one table: dicts with the same keys, in the same order. Values are Fractions, texts, or None where nothing is known.
 
-    def __init__(self, columns: Sequence[str], rows: Iterable[Sequence[Cell]]) -> None:
-        self.columns = tuple(columns)
+    `notes` has sentences on the table, as on idle links."""
+
+    def __init__(self, columns: Sequence[str], rows: Iterable[Sequence[Cell]], notes: Iterable[str] = ()) -> None:
+        self.columns, self.notes = tuple(columns), tuple(notes)
         self._rows = [dict(zip(self.columns, row)) for row in rows]
 
     @overload
@@ -57,6 +60,10 @@ class Rows(Sequence[RowDict]):
 
     def __repr__(self) -> str:
         return f"Rows({len(self)} rows: {', '.join(self.columns)})"
+
+    def values(self, column: str) -> list[Cell]:
+        """The values of a column, up to the first one that isn't known."""
+        return list(takewhile(lambda cell: cell is not None, (row[column] for row in self._rows)))
 
     def csv_text(self, exact: bool = False, semicolon: bool = False, counts: Collection[str] = ()) -> str:
         """The table as CSV: decimals with at most six digits behind the point, or with `exact` the fractions themselves.
@@ -124,6 +131,7 @@ def grown(curve: Curve, start: Fraction, end: Fraction) -> Optional[Fraction]:
 
 Column = Callable[[Fraction, Fraction], Cell]  # of the time of a row and of the next one
 NO_COLUMNS: Dict[str, Column] = {word: lambda time, after: None for word in ("queue", "wait", "in", "out")}  # of a link that isn't there
+ZEROS: Dict[str, Column] = {word: lambda time, after: Fraction(0) for word in NO_COLUMNS}  # of an idle link
 
 
 def clock_column(clock: Union[str, Fraction]) -> Column:
@@ -150,9 +158,9 @@ def link_columns(run: Report, link: str, name: str) -> dict[str, Column]:
             f"{name}in": lambda time, after: grown(into, time, after), f"{name}out": lambda time, after: grown(out, time, after)}
 
 
-def rows_of(times: Sequence[Fraction], step: Fraction, columns: dict[str, Column], first: str = "time") -> Rows:
+def rows_of(times: Sequence[Fraction], step: Fraction, columns: dict[str, Column], notes: Iterable[str]) -> Rows:
     """The rows of these columns, one for each time."""
-    return Rows([first, *columns], ([time, *(column(time, time + step) for column in columns.values())] for time in times))
+    return Rows(["time", *columns], ([time, *(column(time, time + step) for column in columns.values())] for time in times), notes)
 
 
 DRIVER_WORDS, LINK_WORDS = ("arrive", "takes"), ("queue", "wait", "in", "out")
@@ -170,19 +178,24 @@ def table(run: Report, every: Time = 5, links: Union[str, Iterable[str], None] =
     Columns: `time`; with `clock` (the time of day of time 0, as "6:00") `clock`; `arrive` and `takes` of a driver who leaves the source
     then; of each link `LINK queue` and `LINK wait` at that time, and `LINK in` and `LINK out`, the vehicles that enter and leave it until
     the next row. `show` picks some of arrive, takes, queue, wait, in, out; with one of a link, and without `links`, all links have it.
-    A value that isn't known is None. Raises a Fault for a link that isn't in the network or is idle, and for a word that is no column."""
+    A value that isn't known is None; all those of idle links, which are told in `notes`, are 0. Raises a Fault for a link that isn't in the
+    network, for an idle one in `links`, and for a word that is no column."""
     wanted = names_in(show) or [*DRIVER_WORDS, *LINK_WORDS]
     check_words(wanted, [*DRIVER_WORDS, *LINK_WORDS])
-    every_link = with_network(run).used_links() if links is None and show is not None and set(wanted) & set(LINK_WORDS) else []
+    named = list(with_network(run).links) if links is None and show is not None and set(wanted) & set(LINK_WORDS) else names_in(links)
+    idle = [link for link in named if links is None and link not in run.queues]
     columns: dict[str, Column] = {"clock": clock_column(clock)} if clock is not None else {}
     columns.update((word, column) for word, column in arrival_columns(run).items() if word in wanted)
     stop = run.reached
-    for link in names_in(links) or [each.name for each in every_link]:
-        check_link({"": run}, link, "the report has no")
-        columns.update((f"{link} {word}", column) for word, column in link_columns(run, link, "").items() if word in wanted)
-        stop = max(stop, run.queue(link).until)
+    for link in named:
+        if link not in idle:
+            check_link({"": run}, link, "the report has no")
+            stop = max(stop, run.queue(link).until)
+        offered = ZEROS if link in idle else link_columns(run, link, "")
+        columns.update((f"{link} {word}", column) for word, column in offered.items() if word in wanted)
     times = grid(every, stop)
-    return rows_of(times, times[1] - times[0] if len(times) > 1 else stop, columns)
+    notes = [f"no walk from the source reaches the tail of {', '.join(idle)}: each value is 0"] * bool(idle)
+    return rows_of(times, times[1] - times[0] if len(times) > 1 else stop, columns, notes)
 
 
 def check_words(wanted: Sequence[str], offered: Sequence[str]) -> None:

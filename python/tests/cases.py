@@ -20,6 +20,8 @@ SLOW = ROOT / "tests/independent/nfot"
 TRANSITS = ["0", "1", "1", "2", "3", "1/2", "5/3"]
 CAPACITIES = ["1", "2", "3", "1/2", "3/2", "4", "inf"]
 
+SHOWS = '#!/bin/sh\n[ "$1" != show ] || exec /bin/cat "$2"\n'  # a program that the package takes for nfot
+
 Pairs = List[Tuple[Fraction, Fraction]]
 
 
@@ -102,9 +104,9 @@ class Case(unittest.TestCase):
 
     @contextlib.contextmanager
     def program_of(self, script: str) -> Iterator[str]:
-        """Runs with a shell script in place of the program."""
+        """Runs with a shell script in place of the program, which shows networks as the program does."""
         place = self.folder() / "nfot"
-        place.write_text(f"#!/bin/sh\n{script}\n")
+        place.write_text(f"{SHOWS}{script}\n")
         place.chmod(0o755)
         with mock.patch.dict(os.environ, {"NFOT": str(place)}):
             yield str(place)

@@ -6,21 +6,36 @@ import signal
 import subprocess
 import sys
 import time
+import unittest
 from pathlib import Path
+from typing import Any
 
 import nfot
 from nfot import tools
 from nfot.program import WARNING
 
+from .cases import SHOWS
 from .tooling import EXAMPLES, Case
 
+resource: Any
+try:
+    import resource
+except ImportError:
+    resource = None
+
 PYTHON = str(EXAMPLES.parent / "python")
+BEFORE = 100_000  # bytes of a file that takes 40 more; temporary files are shorter
 ENVIRONMENT = dict(os.environ, PYTHONPATH=PYTHON)
 
 
 def command(*words: object) -> list[str]:
     """The words that run `nfot-py` as a process."""
     return [sys.executable, "-m", "nfot", *map(str, words)]
+
+
+def limited() -> None:
+    """Lets this process write up to a size of a file: a longer write takes a part first, as on a disk that becomes full."""
+    resource.setrlimit(resource.RLIMIT_FSIZE, (BEFORE + 40, BEFORE + 40))
 
 
 def told(text: bytes) -> bytes:
@@ -90,13 +105,29 @@ class Output(Case):
             self.assertEqual((done.returncode, told(done.stderr).count(b"\n")), (9, 1), done.stderr)
             self.assertIn(b"standard output: No space left on device", done.stderr)
 
+    @unittest.skipIf(resource is None, "this system has no limit on files")
+    def test_cut_file(self) -> None:
+        """A file that takes only a part gives 9 and one line, also where Python has no buffer for standard output."""
+        net, report = self.solved()
+        self.write("many.net", "nfot 2\nsource s\nsink t\n" + "".join(f"link a{number} s t {number} 1\n" for number in range(99)) + "end\n")
+        for words in (["solve-on", net, "--horizon", 4], ["series", net, report, "--every", "1/10"], ["phases", net, report], ["why", "N8"],
+                      ["change", "many.net", "--without", "a7"], ["times", net, report, "--every", "1/10", "--csv", "-"], ["city", "--roads"], ["--help"]):
+            self.write("cut", "-" * BEFORE)
+            with open("cut", "a") as cut:
+                done = subprocess.run(command(*words), stdout=cut, stderr=subprocess.PIPE, env=dict(ENVIRONMENT, PYTHONUNBUFFERED="1"), preexec_fn=limited)
+            self.assertEqual((done.returncode, told(done.stderr).count(b"\n")), (9, 1), (words, done.stderr))
+            self.assertIn(b"standard output: ", done.stderr)
+            self.assertEqual((self.folder / "cut").stat().st_size, BEFORE + 40)
+
     def test_closed_pipe(self) -> None:
-        for words in (["city", "--roads"], ["times", *self.solved(), "--every", "1/1000", "--csv", "-"]):
-            with subprocess.Popen(command(*words), stdout=subprocess.PIPE, stderr=subprocess.PIPE, env=ENVIRONMENT) as process:
-                assert process.stdout is not None and process.stderr is not None
-                process.stdout.close()
-                err = process.stderr.read()
-            self.assertEqual(told(err), b"")
+        """Whoever closes the pipe gets no line; the status is that of nfot."""
+        for words in (["city", "--roads"], ["times", *self.solved(), "--every", "1/1000", "--csv", "-"], ["solve-on", EXAMPLES / "two.net", "--horizon", "4"]):
+            for setting in ("", "1"):
+                with subprocess.Popen(command(*words), stdout=subprocess.PIPE, stderr=subprocess.PIPE, env=dict(ENVIRONMENT, PYTHONUNBUFFERED=setting)) as process:
+                    assert process.stdout is not None and process.stderr is not None
+                    process.stdout.close()
+                    err = process.stderr.read()
+                self.assertEqual((told(err), process.returncode), (b"", 9), words)
 
     def test_whole_files(self) -> None:
         """A file that can't be replaced stays as it was, and nothing is left beside it."""
@@ -108,7 +139,7 @@ class Output(Case):
 
     def test_seconds_on_a_terminal(self) -> None:
         """A command that takes over a second shows it on a terminal, and nothing where standard error is a file."""
-        slow = self.write("slow", "#!/bin/sh\nsleep 1.5\necho done\n")
+        slow = self.write("slow", SHOWS + "sleep 1.5\necho done\n")
         os.chmod(slow, 0o755)
         environment = dict(ENVIRONMENT, NFOT=str(self.folder / slow))
         ours, theirs = os.openpty()
@@ -123,7 +154,7 @@ class Output(Case):
 
     def test_terminated(self) -> None:
         """SIGTERM ends a run at once, with the program that it runs, and leaves no temporary files."""
-        slow = self.write("slow", "#!/bin/sh\nexec sleep 60\n")
+        slow = self.write("slow", SHOWS + "exec sleep 60\n")
         os.chmod(slow, 0o755)
         (self.folder / "tmp").mkdir()
         environment = dict(ENVIRONMENT, NFOT=str(self.folder / slow), TMPDIR=str(self.folder / "tmp"))

@@ -75,6 +75,14 @@ class Answers(Case):
         self.assertEqual(nfot.forever(example("corridor")).reached, 122)
         self.assertTrue(nfot.check(example("bridge"), nfot.forever(example("bridge")).report))
 
+    def test_forever_that_stops(self) -> None:
+        """The report says that it isn't done; it is the one of a run with a horizon, and goes on as that does."""
+        net = example("bridge")  # its first phase ends at 20
+        stop = self.faulted(nfot.Stopped, r"the run stopped at departure 20 \(cause phases 1\): allow more phases, or give a horizon", nfot.forever, net, phases=1)
+        assert isinstance(stop, nfot.Stopped) and stop.report is not None
+        self.assertEqual((stop.report.cause, stop.report.reached, stop.report.horizon), ("phases 1", 20, 21))
+        self.assertEqual((str(nfot.check(net, stop.report)), nfot.resume(net, stop.report, 60)), ("yes", nfot.solve(net, 60)))
+
     def test_settle(self) -> None:
         half = {"a": Fraction(1, 2), "b": "0.5"}
         settled = nfot.settle(example("even"), half, {"s": 1, "t": 1})

@@ -1,12 +1,14 @@
 """Networks from and to graphs of networkx."""
 from __future__ import annotations
 
+import random
 import unittest
 from fractions import Fraction
 from typing import Any
 
 import nfot
 
+from .cases import random_network
 from .tooling import EXAMPLES
 
 networkx: Any
@@ -36,28 +38,35 @@ class Graphs(unittest.TestCase):
                                      "link bay-work bay work 1 inf\ninflow 0 4\ninflow 60 0\nend\n")
 
     def test_back_and_forth(self) -> None:
-        for name in ("paradox.net", "siouxfalls.net", "corridor.net"):
-            net = nfot.read_network(EXAMPLES / name)
+        """The network comes back, with the order of its links and the version of its file; another graph has its own order."""
+        nets = [nfot.read_network(EXAMPLES / name) for name in ("paradox.net", "siouxfalls.net", "braess.net")]
+        for net in [random_network(random.Random(seed)) for seed in range(20)] + nets:
             graph = nfot.to_networkx(net)
             again = nfot.from_networkx(graph, graph.graph["source"], graph.graph["sink"], supply=graph.graph["supply"])
-            self.assertEqual((set(again.links.values()), again.supply), (set(net.links.values()), net.supply))
+            self.assertEqual((again, again.version, list(again.links)), (net, net.version, list(net.links)))
+        graph.add_edge(net.source, net.sink, key="new", transit=1)
+        again = nfot.from_networkx(graph, net.source, net.sink)
+        self.assertEqual((again.version, list(again.links)), (2, [*net.links, "new"]))
 
     def test_results_stand_on_edges(self) -> None:
-        """Up to 20 all 4 a minute take the bridge, which lets 2 through; then both roads take 2. The bay road's end is known up to 60."""
+        """Each list ends with the last value that is known. Up to 20 all 4 a minute take the bridge, which lets 2 through; then both roads take 2. The bay road's end is known up to 60."""
         net = nfot.read_network(EXAMPLES / "bridge.net")
         run = nfot.solve(net, 60)
         graph = nfot.to_networkx(net, run, every=20)
         self.assertEqual(graph.graph["times"], [0, 20, 40, 60])
         self.assertEqual({word: graph.edges["home", "work", "bridge"][word] for word in ("in", "queue", "wait")},
-                         {"in": [80, 40, 40, None], "queue": [0, 40, 40, 40], "wait": [0, 20, 20, 20]})
-        self.assertEqual(graph.edges["home", "work", "bay"]["in"], [0, 40, 40, None])
+                         {"in": [80, 40, 40], "queue": [0, 40, 40, 40], "wait": [0, 20, 20, 20]})
+        self.assertEqual((graph.edges["home", "work", "bay"]["in"], graph.graph["notes"]), ([0, 40, 40], ()))
         with self.assertRaisesRegex(nfot.OutOfRange, "no label of the node s"):
             nfot.to_networkx(nfot.read_network(EXAMPLES / "two.net"), run)
 
     def test_an_idle_link_carries_nothing(self) -> None:
         net = nfot.network_of("nfot 2\nsource s\nsink t\nlink a s t 1 2\nlink b u t 1 2\ninflow 0 2\nend\n")
         graph = nfot.to_networkx(net, nfot.solve(net, 2), every=1)
-        self.assertEqual((graph.edges["s", "t", "a"]["in"], graph.edges["u", "t", "b"]["in"]), ([2, 2, None], [0, 0, 0]))
+        self.assertEqual((graph.edges["s", "t", "a"]["in"], graph.edges["u", "t", "b"]["in"]), ([2, 2], [0, 0, 0]))
+        rows = nfot.table(nfot.solve(net, 2), every=1, show="in")
+        self.assertEqual(rows.csv_text(), "time,a in,b in\n0,2,0\n1,2,0\n2,,0\n")
+        self.assertEqual((rows.notes, graph.graph["notes"]), (("no walk from the source reaches the tail of b: each value is 0",),) * 2)
 
     def test_rounding(self) -> None:
         net = self.made(self.graph(minutes=9.96, per_minute=1.93), round_to="1/10")

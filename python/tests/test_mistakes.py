@@ -173,28 +173,7 @@ class Cases(Results):
         self.assertEqual([line.split(":")[0] for line in self.fine("cut", "turned.net", "--amount", 7).splitlines()], ["a", "b"])
 
 
-class Change(Results):
-    def test_changes(self) -> None:
-        net = EXAMPLES / "bridge.net"
-        status, out, err = self.run_tool("change", net, "--capacity", "bridge=2.5", "--time", "bridge=9", "--capacity", "bay=inf")
-        self.assertEqual(status, 4)  # a file of version 1 has no inf
-        status, out, err = self.run_tool("change", net, "--capacity", "bridge=2.5", "--time", "bridge=9", "--without", "bay")
-        self.assertEqual((status, err.splitlines()), (0, ["change: capacity of bridge: 2 becomes 2.5", "change: time of bridge: 10 becomes 9", "change: bay is left out"]))
-        self.assertEqual(nfot.network_of(out), nfot.read_network(net).without("bay").with_link(nfot.Link("bridge", "home", "work", 9, "5/2")))
-
-    def test_what_changes_nothing(self) -> None:
-        for words, status, wanted in [(["--capacity", "bridge=2.0"], 1, "the capacity of bridge is 2.0 already"), (["--capacity", "brigde=3"], 1, "(the nearest name is bridge)"),
-                                      ([], 2, "say what changes"), (["--time", "bridge"], 2, "bridge is no LINK=VALUE"), (["--without", "Bay"], 1, "(the nearest name is bay)"),
-                                      (["--time", "bay=inf"], 2, "inf is no number"), (["--capacity", "bay=0"], 4, "isn't above 0")]:
-            self.refused(status, wanted, "change", EXAMPLES / "bridge.net", *words)
-
-
-    def test_a_later_begin(self) -> None:
-        status, out, err = self.run_tool("change", EXAMPLES / "bridge.net", "--begin", "12.5")
-        self.assertEqual((status, err), (0, "change: the supply begins at 12.5\n"))
-        self.assertEqual(nfot.network_of(out).supply, ((Fraction(25, 2), 4), (60, 0)))
-        self.refused(1, "nobody leaves before 12.5", "change", "-", "--begin", "12.5", stdin=out)
-
+class LastBy(Results):
     def test_last_departure_at_a_node(self) -> None:
         """In paradox.net the label of v is 2 + 2 d up to 8, so departure 4 is at v at 10."""
         pair = self.solved("paradox.net", 60)

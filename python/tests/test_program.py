@@ -15,7 +15,7 @@ import nfot
 from nfot import program as _program_function  # noqa: F401  (the call, not the module)
 from nfot.program import in_files, progress, run, write_beside
 
-from .cases import EXAMPLES, ROOT, SLOW, Case, example
+from .cases import EXAMPLES, ROOT, SHOWS, SLOW, Case, example
 
 MODULE = sys.modules["nfot.program"]
 FULL = pathlib.Path("/dev/full")
@@ -35,6 +35,16 @@ class Which(Case):
             fault = self.faulted(nfot.NotFound, "NFOT is /nowhere/nfot, and there is no program of this name", nfot.show, EXAMPLES / "one.net")
             self.assertEqual(fault.status, 127)
 
+    def test_another_program_is_refused(self) -> None:
+        """One that doesn't show a network as nfot does, also one that prints without end, and `nfot-py` itself, which would run itself."""
+        place = self.folder() / "nfot-py"
+        place.write_text(SHOWS)
+        place.chmod(0o755)
+        for other in ("/bin/true", "/bin/false", "/usr/bin/yes", "/bin/echo", str(place)):
+            with mock.patch.dict(os.environ, {"NFOT": other}):
+                fault = self.faulted(nfot.NotFound, f"{os.path.basename(other)} is not nfot: it doesn't show a network as nfot does", nfot.program)
+                self.assertEqual(fault.status, 127)
+
     def test_then_the_path(self) -> None:
         with self.program_of("exit 0") as place, self.alone():
             with mock.patch.dict(os.environ, {"PATH": os.path.dirname(place)}):
@@ -50,7 +60,7 @@ class Which(Case):
         checkout = self.folder()
         build = checkout / "crates/nfot/out/nfot"
         build.parent.mkdir(parents=True)
-        build.write_text("#!/bin/sh\n")
+        build.write_text(SHOWS)
         build.chmod(0o755)
         with self.alone(), mock.patch.object(MODULE, "__file__", str(checkout / "python/nfot/program.py")):
             self.assertEqual((nfot.program().place, nfot.program().proved), (str(build.resolve()), True))
@@ -91,6 +101,24 @@ class Ends(Case):
             parent.stdout.read()  # the child has this pipe too, so it ends with the child
         self.assertLess(time.monotonic() - begun, 5)
         self.assertGreater(child, 0)
+
+    @unittest.skipUnless(sys.platform.startswith("linux"), "another system doesn't end a child with its parent")
+    def test_the_program_ends_with_its_parent(self) -> None:
+        """Where SIGTERM ends a Python script, and where `kill -9` ends the command or the script."""
+        calls = ("import sys, nfot; nfot.solve(sys.argv[1], 9)", "import sys; from nfot import tools; tools.main(['solve-on', sys.argv[1], '--horizon', '9'])",
+                 "import sys; from nfot import tools; tools.main(['solve', sys.argv[1], '--horizon', '9'])")
+        for call, number in zip(calls, (signal.SIGTERM, signal.SIGKILL, signal.SIGKILL)):
+            begun, ours = os.pipe()
+            with self.program_of(f"echo >&{ours}; exec sleep 60"):
+                with subprocess.Popen([sys.executable, "-c", call, str(EXAMPLES / "two.net")], cwd=ROOT / "python", stdout=subprocess.PIPE, stderr=subprocess.PIPE,
+                                      pass_fds=[ours], env={**os.environ, "TMPDIR": str(self.folder())}) as parent:
+                    os.close(ours)
+                    self.assertEqual(os.read(begun, 1), b"\n", call)
+                    parent.send_signal(number)
+                    early = time.monotonic()
+                    self.assertEqual(os.read(begun, 1), b"", call)  # the program has this pipe too, so it has ended
+            os.close(begun)
+            self.assertLess(time.monotonic() - early, 30)
 
     def test_a_timeout_ends_the_program(self) -> None:
         with self.program_of("exec sleep 60"):

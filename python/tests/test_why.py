@@ -43,6 +43,23 @@ class Why(Case):
         self.assertIn("nfot-py solve-on", " ".join(self.said(["nfot: stopped: patterns 1 100000"])[0]))
         self.assertEqual(self.said(["label s 0 0"]), [[]])
 
+    def test_statuses_of_killed_runs(self) -> None:
+        """Those of a shell: 124 of `timeout`, 128 and the number of a signal (9, 15, 25), 127 without a program."""
+        for word, wanted in [("124", "`timeout`, or the package, ended the command at its limit of seconds"), ("137", "the signal SIGKILL ended the command"),
+                             ("status 143", "the signal SIGTERM ended the command"), ("153", "the signal SIGXFSZ ended the command (the limit of `ulimit -f` on a file)")]:
+            out = self.fine("why", word)
+            self.assertIn(wanted, out)
+            self.assertIn("none of its output is a result", out)
+        self.assertIn("there is no program of this name", self.fine("why", "127"))
+        self.refused(1, "there is no status 128 of nfot", "why", "128")
+
+    def test_unknown_words(self) -> None:
+        """They are refused at once: nothing is read from standard input, which may be a terminal."""
+        self.refused(2, "kiled is no file, no rule", "why", "kiled", stdin="nfot: memory\n")
+        self.refused(2, "none.net is no file", "why", "N8", "none.net")
+        self.write("x.net", DECIMAL)
+        self.refused(2, "the file x.net says nothing of what was answered, and standard input was empty", "why", "x.net")
+
     def test_line_of_the_file(self) -> None:
         self.write("x.net", DECIMAL)
         self.assertEqual(self.said(["nfot: network line 4: N8"], "x.net")[0][0], "x.net line 4: link a s t 1.5 1")

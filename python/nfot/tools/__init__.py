@@ -16,9 +16,10 @@ from typing import Any, NoReturn, Optional, Sequence
 
 from ..faults import Fault, Refused
 from .passing import COMMANDS, pass_through
+from .streams import closed_output, whole_streams
 
 TOOLS = ["table", "change", "city", "solve-on", "times", "queues", "series", "compare", "phases", "judge", "gap", "same", "cut", "bottleneck", "thin", "why"]
-OUTPUT, INTERNAL, INTERRUPTED, ENDED, CLOSED = 9, 70, 130, 143, 141  # statuses
+OUTPUT, INTERNAL, INTERRUPTED, ENDED = 9, 70, 130, 143  # statuses
 
 Words = Sequence[str]
 
@@ -94,14 +95,6 @@ def chosen(words: Words) -> int:
     raise Refused(f"{words[0]} is no command or tool; `nfot-py --help` lists them")
 
 
-def closed_output() -> None:
-    """Sends what is still to be written nowhere, since standard output doesn't take it."""
-    try:
-        os.dup2(os.open(os.devnull, os.O_WRONLY), sys.stdout.fileno())
-    except (OSError, ValueError, AttributeError):
-        pass  # standard output is no file, as in tests
-
-
 def ended(number: int, frame: Optional[FrameType]) -> NoReturn:
     """What SIGTERM does: it ends the process in order, so that temporary files go and a running program is ended."""
     sys.exit(ENDED)
@@ -137,13 +130,19 @@ def main(words: Optional[Words] = None) -> int:
         signal.signal(signal.SIGTERM, ended)
     except ValueError:
         pass  # another thread than the main one
+    with whole_streams():
+        return finished(name, words)
+
+
+def finished(name: str, words: Words) -> int:
+    """Runs the command or the tool, and looks whether all of its output was written; the status."""
     try:
         status = tried(name, words)
         sys.stdout.flush()
         return status
-    except BrokenPipeError:
+    except BrokenPipeError:  # without a line: whoever closed the pipe has read enough
         closed_output()
-        return CLOSED
+        return OUTPUT
     except KeyboardInterrupt:
         return told(name, "interrupted", INTERRUPTED)
     except OSError as fault:

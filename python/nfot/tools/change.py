@@ -11,10 +11,12 @@ import sys
 from fractions import Fraction
 from typing import Optional
 
+from ..demand import minutes_at
 from ..faults import Refused
 from ..networks import Link, Network, read_network
 from ..numbers import exact, short
-from .options import positive
+from .common import tell_minutes
+from .options import add_clock
 
 
 def add_arguments(parser: argparse.ArgumentParser) -> None:
@@ -23,7 +25,8 @@ def add_arguments(parser: argparse.ArgumentParser) -> None:
     parser.add_argument("--capacity", metavar="LINK=C", action="append", default=[], help="the new capacity of a link (`inf`: no limit), in units of the file")
     parser.add_argument("--time", metavar="LINK=T", action="append", default=[], help="the new transit time of a link")
     parser.add_argument("--without", metavar="LINK", action="append", default=[], help="leave a link out: the road is closed")
-    parser.add_argument("--begin", metavar="T", type=positive, help="nobody leaves before T")
+    parser.add_argument("--begin", metavar="T", help="nobody leaves before T, in minutes or with --clock as a time of day")
+    add_clock(parser)
 
 
 def changed(network: Network, word: str, what: str) -> tuple[Network, str]:
@@ -40,14 +43,18 @@ def changed(network: Network, word: str, what: str) -> tuple[Network, str]:
     return network.with_link(new), f"{what} of {name}: {shown(before)} becomes {shown(number)}"
 
 
-def begun(network: Network, time: Fraction) -> Network:
-    """The network whose supply begins at a departure."""
+def begun(network: Network, word: str, clock: Optional[Fraction]) -> tuple[Network, str]:
+    """The network whose supply begins at a departure, in minutes or as a time of day, and the line on it."""
+    time = minutes_at(word, clock)
+    said = short(time) if clock is not None or ":" not in word else f"{short(time)} ({word} without --clock is minute {short(time)})"
+    if time <= 0:
+        raise Refused(f"--begin {word} isn't after minute 0")
     if not network.supplied(time):
-        raise Refused(f"nobody leaves before {short(time)}, so nothing would change", status=1)
+        raise Refused(f"nobody leaves before {said}, so nothing would change", status=1)
     rate = [rate for start, rate in network.supply if start <= time][-1]
     if not rate and all(start <= time or not later for start, later in network.supply):
-        raise Refused(f"nobody leaves after {short(time)}, so no supply would be left", status=1)
-    return network.with_supply([(time, rate), *(piece for piece in network.supply if piece[0] > time)])
+        raise Refused(f"nobody leaves after {said}, so no supply would be left", status=1)
+    return network.with_supply([(time, rate), *(piece for piece in network.supply if piece[0] > time)]), f"the supply begins at {short(time)}"
 
 
 def shown(value: Optional[Fraction]) -> str:
@@ -69,8 +76,9 @@ def main(arguments: argparse.Namespace) -> int:
         network = network.without(name)
         lines.append(f"{name} is left out")
     if arguments.begin is not None:
-        network = begun(network, arguments.begin)
-        lines.append(f"the supply begins at {short(arguments.begin)}")
+        network, line = begun(network, arguments.begin, arguments.clock)
+        lines.append(line)
+        tell_minutes("change", [arguments.begin], arguments.clock)
     print(network.text(), end="", flush=True)
     for line in lines:
         print(f"change: {line}", file=sys.stderr)

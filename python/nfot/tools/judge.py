@@ -13,14 +13,14 @@ from ..inputs import read_sent
 from ..judging import report_of_flows, report_of_routes
 from ..networks import read_network
 from ..reports import write_report
-from .options import natural
+from .options import minute
 
 
 def add_arguments(parser: argparse.ArgumentParser) -> None:
     """The arguments of the tool."""
     parser.add_argument("net", metavar="NET", help="the network file")
     parser.add_argument("flows", metavar="FLOWS", help="the loads file or the routes file (`-`: standard input)")
-    parser.add_argument("reached", metavar="REACHED", type=natural, help="the last departure that is judged; routes are sent until then")
+    parser.add_argument("reached", metavar="REACHED", type=minute, help="the last departure that is judged; routes are sent until then")
     parser.add_argument("--out", metavar="PATH", help="write the report to this file, not to standard output")
 
 

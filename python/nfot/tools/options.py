@@ -2,6 +2,7 @@
 from __future__ import annotations
 
 import argparse
+import sys
 from fractions import Fraction
 from typing import Callable
 
@@ -29,6 +30,14 @@ def least(bound: Fraction, open_end: bool = False) -> Callable[[str], Fraction]:
 
 
 positive, natural = least(Fraction(0), True), least(Fraction(0))
+
+
+def minute(word: str) -> Fraction:
+    """A time of a run, of a tool without --clock: how a word as 7:30 is read is said on standard error."""
+    found = natural(word)
+    if ":" in word:
+        print(f"nfot-py: {word} is minute {short(found)} of the run", file=sys.stderr)
+    return found
 
 
 def seconds(word: str) -> float:

@@ -12,6 +12,7 @@ from ..faults import BROKEN, Fault, NotFound
 from ..numbers import parse
 from ..program import program, progress
 from ..rules import windows_lines
+from ..starting import start
 
 TAKEN = re.compile(r"-?\d+(/0*[1-9]\d*)?")  # a number as nfot takes it on its command line
 
@@ -82,7 +83,7 @@ def pass_through(words: Sequence[str]) -> int:
         return 0
     sys.stdout.flush()
     try:
-        process = subprocess.Popen([*program().words, *plain(words)], close_fds=False)  # a word may be /dev/fd/63
+        process = start([*program().words, *plain(words)])
     except OSError as fault:
         raise NotFound(f"the program doesn't start: {fault.strerror}", file=os.fspath(program().words[0])) from None
     status = status_of(process, f"nfot {words[0]}")

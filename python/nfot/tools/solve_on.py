@@ -14,13 +14,13 @@ from ..commands import solve
 from ..faults import Stopped
 from ..networks import read_network
 from ..reports import Report, write_report
-from .options import count, natural, seconds
+from .options import count, minute, seconds
 
 
 def add_arguments(parser: argparse.ArgumentParser) -> None:
     """The arguments of the tool."""
     parser.add_argument("net", metavar="NET", help="the network file; `-` is standard input")
-    parser.add_argument("--horizon", metavar="Q", type=natural, required=True, help="the last departure")
+    parser.add_argument("--horizon", metavar="Q", type=minute, required=True, help="the last departure")
     parser.add_argument("--phases", metavar="N", type=count, help="the most phases of a run (10000)")
     parser.add_argument("--patterns", metavar="N", type=count, help="the most patterns that a phase tries before the package helps (100000)")
     parser.add_argument("--timeout", metavar="SECONDS", type=seconds, help="the most seconds of each run of nfot")

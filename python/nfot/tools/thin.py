@@ -16,7 +16,7 @@ from ..inputs import read_flows
 from ..networks import read_network
 from ..theory import all_broken, candidate, thin
 from .common import read_run
-from .options import natural
+from .options import minute
 
 NOT_THIN = 15  # as `nfot settle` ends
 
@@ -24,7 +24,7 @@ NOT_THIN = 15  # as `nfot settle` ends
 def add_arguments(parser: argparse.ArgumentParser) -> None:
     """The arguments of the tool."""
     parser.add_argument("net", metavar="NET", help="the network file")
-    parser.add_argument("departure", metavar="DEPARTURE", type=natural, help="the departure whose thin flow is meant")
+    parser.add_argument("departure", metavar="DEPARTURE", type=minute, help="the departure whose thin flow is meant")
     parser.add_argument("flows", metavar="FLOWS", nargs="?", help="the flows file to check (`-`: standard input)")
     parser.add_argument("--report", metavar="REPORT", help="an equilibrium of the network that comes to DEPARTURE, in place of solving for it")
 

@@ -1,8 +1,8 @@
 """Explains what nfot answers: the rule or status in words, the line of the file, and what to do.
 
-Behind `--` is a command, which is run; its output and status stay. A rule (N8), a status (`status 7`) or a line of nfot may stand as a word.
-Without either, lines of nfot are read from standard input, and FILEs are the files of the command (to show the line that is meant). A line
-without a rule or a status is printed as it is.
+Behind `--` is a command, which is run; its output and status stay. A rule (N8), a status (7, or 137 of a killed run)
+or a line of nfot may stand as a word. Without either, lines of nfot are read from standard input, and FILEs are the files of the command (to
+show the line that is meant). A line without a rule or a status is printed as it is.
 
 example: nfot-py why -- nfot solve my.net --horizon 60
 example: nfot-py why N8
@@ -33,7 +33,7 @@ def check_words(words: Sequence[str]) -> None:
 def add_arguments(parser: argparse.ArgumentParser) -> None:
     """The arguments of the tool."""
     parser.add_argument("files", metavar="FILE", nargs="*", help="the files of the command that printed the lines; or a rule, a status or a line itself")
-    parser.usage = "nfot-py why [RULE | LINE] [FILE ..]  or  nfot-py why -- nfot COMMAND .."
+    parser.usage = "nfot-py why [RULE | STATUS | LINE] [FILE ..]  or  nfot-py why -- nfot COMMAND .."
 
 
 def run_explained(words: list[str]) -> int:
@@ -82,11 +82,15 @@ def main(arguments: argparse.Namespace) -> int:
         return command(arguments.behind, arguments.files)
     lines = [word for word in arguments.files if not os.path.exists(word) and (LINE.fullmatch(word) or told_of_word(word))]
     files = [word for word in arguments.files if word not in lines]
+    for word in files:
+        if not os.path.exists(word):
+            raise Refused(f"{word} is no file, no rule (as N8), no status (as 7 or 137) and no line of nfot")
     if lines:
         explained(lines, files)
         return 0
     if sys.stdin.isatty():
         print("nfot-py why: waiting for lines of nfot, which end with Ctrl-D; or write nfot-py why -- nfot COMMAND ..", file=sys.stderr)
     if not explained(sys.stdin, files):
-        raise Refused("standard input was empty: give a line of nfot or a rule, as `nfot-py why N8`, or a command, as `nfot-py why -- nfot show my.net`")
+        said = f"the file {files[0]} says nothing of what was answered, and standard input" if files else "standard input"
+        raise Refused(f"{said} was empty: give a line of nfot or a rule, as `nfot-py why N8`, or a command, as `nfot-py why -- nfot show my.net`")
     return 0
