@@ -1,19 +1,19 @@
 /* Good reduced operations on fractions of 127 bits, and good reading and printing, for bench/floor.py to count their instructions.
 
        gcc -O2 -o floor bench/floor.c
-       ./floor KIND FILE
+       ./floor KIND FILE [KIND FILE]..
 
    KIND is sum, difference, product, quotient or comparison: each line of FILE is an operation, with the two parts of the left operand and those of the
    right one. Or KIND is read or print: FILE is any text of words, numbers and fractions. What is to be counted happens within `measured_KIND`:
 
-       valgrind --tool=callgrind --toggle-collect=measured_KIND ./floor KIND FILE
+       valgrind --tool=callgrind --toggle-collect='measured_*' ./floor KIND FILE [KIND FILE]..
 
-   The program prints one number that depends on all results. For read and print it is the number of bytes. */
-#include <ctype.h>
+   The program prints a number for each file that depends on all results, and asks callgrind for a dump after each file. */
 #include <stdint.h>
 #include <stdio.h>
 #include <stdlib.h>
 #include <string.h>
+#include <valgrind/callgrind.h>
 
 typedef __int128 wide;
 typedef unsigned __int128 bits;
@@ -242,8 +242,8 @@ LOOP(product)
 LOOP(quotient)
 LOOP(comparison)
 
-__attribute__((noinline)) static size_t measured_read(const char *text, token *tokens) { return read_text(text, tokens); }
-__attribute__((noinline)) static char *measured_print(const token *tokens, size_t count, char *out) { return print_text(tokens, count, out); }
+__attribute__((noinline, flatten)) static size_t measured_read(const char *text, token *tokens) { return read_text(text, tokens); }
+__attribute__((noinline, flatten)) static char *measured_print(const token *tokens, size_t count, char *out) { return print_text(tokens, count, out); }
 
 static char *text_of(const char *name) {
     FILE *file = fopen(name, "rb");
@@ -268,22 +268,31 @@ static int count_operations(loop *does, const token *tokens, size_t count) {
     return 0;
 }
 
-int main(int count, char **words) {
+/* Does what is asked for with one file; whether it can't be done. */
+static int count_one(const char *kind, const char *name) {
     static const struct { const char *name; loop *does; } kinds[] = {
         {"sum", measured_sum}, {"difference", measured_difference}, {"product", measured_product},
         {"quotient", measured_quotient}, {"comparison", measured_comparison}};
-    char *text, *out;
-    token *tokens;
+    char *text = text_of(name), *out = malloc(strlen(text) + 1);
+    token *tokens = malloc((strlen(text) + 1) * sizeof *tokens);
     size_t made;
-    if (count != 3) return 2;
-    text = text_of(words[2]);
-    tokens = malloc((strlen(text) + 1) * sizeof *tokens);
-    out = malloc(strlen(text) + 1);
     if (!tokens || !out) return 1;
-    made = measured_read(text, tokens);
+    if (!strcmp(kind, "read")) {
+        printf("%zu\n", measured_read(text, tokens));
+        return 0;
+    }
+    made = read_text(text, tokens);
     for (size_t at = 0; at < sizeof kinds / sizeof *kinds; at++)
-        if (!strcmp(words[1], kinds[at].name)) return count_operations(kinds[at].does, tokens, made);
-    out[measured_print(tokens, made, out) - out] = 0;
+        if (!strcmp(kind, kinds[at].name)) return count_operations(kinds[at].does, tokens, made);
+    *measured_print(tokens, made, out) = 0;
     printf("%zu\n", strlen(out));
     return strcmp(out, text) != 0;
+}
+
+int main(int count, char **words) {
+    for (int at = 1; at + 1 < count; at += 2) {
+        if (count_one(words[at], words[at + 1])) return 1;
+        CALLGRIND_DUMP_STATS;
+    }
+    return count % 2 == 0;
 }

@@ -96,18 +96,38 @@ def compiled(folder: str) -> str:
     return made
 
 
-def cost_of(program: str, kind: str, text: str, folder: str) -> int:
-    """Returns how many instructions a kind takes on a text."""
-    name = f"{folder}/operands"
-    with open(name, "w", encoding="utf-8") as it:
-        it.write(text)
-    told = ["valgrind", "--tool=callgrind", "--callgrind-out-file=/dev/null"]
-    ran = subprocess.run([*told, f"--toggle-collect=measured_{kind}", program, kind, name], capture_output=True, text=True, check=True)
-    return int(next(line.split()[-1] for line in ran.stderr.splitlines() if "Collected :" in line))
+def costs_of(program: str, works: list[tuple[str, str]], folder: str) -> list[int]:
+    """Returns how many instructions kinds take on texts, each on its own."""
+    words, out = [], f"{folder}/counts"
+    for number, (kind, text) in enumerate(works):
+        name = f"{folder}/operands{number}"
+        with open(name, "w", encoding="utf-8") as it:
+            it.write(text)
+        words += [kind, name]
+    told = ["valgrind", "--tool=callgrind", f"--callgrind-out-file={out}", "--toggle-collect=measured_*"]
+    subprocess.run([*told, program, *words], capture_output=True, check=True)
+    found = []
+    for number in range(len(works)):
+        with open(f"{out}.{number + 1}", encoding="utf-8") as dump:
+            found.append(int(next(line.split()[1] for line in dump if line.startswith("totals:"))))
+    return found
+
+
+def print_costs(samples: dict[tuple[str, str], list[str]], text: str, folder: str) -> None:
+    """Prints the table of costs, from samples of operands and a text."""
+    works = []
+    for (kind, length), lines in sorted(samples.items()):
+        works.append((kind, length, lines[:: 1 + len(lines) // SAMPLED]))
+    counts = costs_of(compiled(folder), [(kind, "\n".join(lines) + "\n") for kind, _, lines in works] + [(it, text) for it in TEXTS], folder)
+    print("# instructions for an operation, by kind and length, or for a byte; from how many operations or bytes of the bench's runs")
+    for (kind, length, lines), count in zip(works, counts):
+        print(f"{kind} {length} {count / len(lines):.1f} {len(lines)}")
+    for kind, count in zip(TEXTS, counts[len(works):]):
+        print(f"{kind} byte {count / len(text):.1f} {len(text)}")
 
 
 def measure(asked: argparse.Namespace, folder: str) -> None:
-    """Prints the table of costs, from the operands and texts of the runs."""
+    """Makes the runs, and prints the table of costs."""
     samples: dict[tuple[str, str], list[str]] = collections.defaultdict(list)
     texts: list[str] = []
     for run in runs_of(asked, folder):
@@ -116,15 +136,7 @@ def measure(asked: argparse.Namespace, folder: str) -> None:
             texts.append(counts.answer[1].decode()[:SAMPLED_BYTES // 20])
             for key, lines in counts.samples.items():
                 samples[key] += lines
-    program = compiled(folder)
-    print("# instructions for an operation, by kind and length, or for a byte; from how many operations or bytes of the bench's runs")
-    for (kind, length), lines in sorted(samples.items()):
-        taken = lines[:: 1 + len(lines) // SAMPLED]
-        cost = cost_of(program, kind, "\n".join(taken) + "\n", folder)
-        print(f"{kind} {length} {cost / len(taken):.1f} {len(taken)}", flush=True)
-    text = "".join(texts)[:SAMPLED_BYTES].rpartition("\n")[0] + "\n"
-    for kind in TEXTS:
-        print(f"{kind} byte {cost_of(program, kind, text, folder) / len(text):.1f} {len(text)}", flush=True)
+    print_costs(samples, "".join(texts)[:SAMPLED_BYTES].rpartition("\n")[0] + "\n", folder)
 
 
 def read_costs() -> dict[tuple[str, str], float]:
