@@ -149,6 +149,9 @@ def read_costs() -> dict[tuple[str, str], float]:
 def floor_of(counts: Counts, costs: dict[tuple[str, str], float], different: bool = False) -> float:
     """Returns the floor of a run: of all operations, or of the different ones alone."""
     operations = counts.different if different else counts.operations
+    for key in operations:
+        if key not in costs:
+            raise instructions.Failed(f"{COSTS} has no cost of {' '.join(key)}: --measure")
     does = sum(number * costs[key] for key, number in operations.items())
     return does + counts.read * costs["read", "byte"] + len(counts.answer[1]) * costs["print", "byte"]
 
