@@ -1,5 +1,5 @@
-use Rattle.std.proofs.Common.{◌≡◌, ◌<◌, ℕ, List, length, sym, ap, ◌∙◌, arith}
-use Rattle.std.specs.Prelude.{slice_get, slice_set, Some}
+use Rattle.std.proofs.Common.{◌≡◌, ℕ, List, length, sym, ap, ◌∙◌, arith}
+use Rattle.std.specs.Prelude.{slice_get, slice_set}
 use Rattle.nf_model.specs.Walk.{Hop}
 use Rattle.nf_thin_narrow.proofs.Entries.{length_set}
 use Rattle.nf_thin_balance.proofs.Conserving.{link_read}
@@ -39,7 +39,7 @@ put_number-requires-4 c =
     let is : (f.0).head ≡ c.hop.inside.head = f.3 ∙ ap (λ (h : Hop). h.head) (sym c.hop.view_is) in
     let below = c.hops.ensures.named.network.heads c.args.link f.0 f.1 in
     let n : length c.put_number-3.new.numbers.items ≡ c.args.net.now.net.nodes = ap (λ (l : List ℕ). length l) c.put_number-3.ensures
-    ∙ (length_set c.args.first.now.items c.index-tail.result c.args.link ∙ c.requires.later.nodes) in
+    ∙ (length_set c.args.first.now.items c.index-tail.result c.link.inside.0 ∙ c.requires.later.nodes) in
     let t = c.index-head.ensures in
     omega arith
 
@@ -59,4 +59,5 @@ returns c =
     c.put_number.new.numbers.items c.put_number-2.new.numbers.items c.put_number-3.new.numbers.items c.put_number-4.new.numbers.items
     (c.put_number.ensures ∙ ap (λ (k : ℕ). slice_set c.args.at_tail.now.items k c.number_at.result) c.index-2.ensures)
     (c.put_number-2.ensures ∙ ap (λ (k : ℕ). slice_set c.args.at_head.now.items k c.number_at-2.result) c.index-3.ensures)
-    c.put_number-3.ensures c.put_number-4.ensures
+    (c.put_number-3.ensures ∙ ap (λ (k : ℕ). slice_set c.args.first.now.items c.index-tail.result k) c.link.view_is)
+    (c.put_number-4.ensures ∙ ap (λ (k : ℕ). slice_set c.put_number-3.new.numbers.items c.index-head.result k) c.link.view_is)

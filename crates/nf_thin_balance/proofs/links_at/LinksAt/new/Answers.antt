@@ -1,7 +1,5 @@
-use Rattle.std.proofs.Common.{◌≡◌, ℕ, suc, List, length, replicate, refl, sym, ap, subst, ◌∙◌, add-one, arith}
+use Rattle.std.proofs.Common.{◌≡◌, ℕ, List, length, replicate, ap, ◌∙◌, arith}
 use Rattle.std.proofs.lemmas.List.{length-replicate}
-use Rattle.std.proofs.lemmas.Result.{IfOk-from_err}
-use Rattle.nf_thin_balance.specs.LinksAt.{HasLinksFrom}
 use Rattle.nf_thin_balance.proofs.LinksAt.{none_added}
 use Rattle.nf_thin_balance.proofs.links_at.LinksAt.new.Goals as goal
 

@@ -1,5 +1,5 @@
 use Rattle.std.proofs.Common.{◌≡◌, ◌≤◌, ℕ, suc, List, length, sym, ap, subst, ◌∙◌, arith}
-use Rattle.std.specs.Prelude.{slice_get, Some}
+use Rattle.std.specs.Prelude.{slice_get}
 use Rattle.nf_model.specs.Walk.{Hop}
 use Rattle.nf_net.proofs.Limits.{few_links}
 use Rattle.nf_thin_balance.specs.LinksAt.{IsNextAt}
