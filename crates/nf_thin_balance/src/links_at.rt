@@ -42,7 +42,8 @@ fn add_first(
     link: LinkId,
 )
     requires link { link < length net.now.net.links }
-    requires later { HasLinksFrom net.now.net (suc link) first.old.items at_tail.old.items at_head.old.items }
+    requires later { HasLinksFrom net.now.net
+        (suc link) first.old.items at_tail.old.items at_head.old.items }
     ensures { HasLinksFrom net.now.net link first.new.items at_tail.new.items at_head.new.items }
 {
     let hop = &net.hops()[link.index()];
