@@ -27,7 +27,7 @@ eqb_same v w same = ⊎_elim
     (λ (t : (eqb v w ≡ false) × (v ≢ w)). absurd (t.1 same))
     (eqb_tells v w)
 
-eqb_other : (v w : ℕ) → v ≢ w → eqb v w ≡ false
+pub eqb_other : (v w : ℕ) → v ≢ w → eqb v w ≡ false
 eqb_other v w other = ⊎_elim
     (λ (t : (eqb v w ≡ true) × (v ≡ w)). absurd (other t.1))
     (λ (t : (eqb v w ≡ false) × (v ≢ w)). t.0)

@@ -13,7 +13,7 @@ use Rattle.nf_rational_laws.proofs.Polynomial.{ring, reading, reading_of}
 use Rattle.nf_rational_laws.proofs.IntegerRing.{ints_ring}
 use Rattle.nf_rational_laws.proofs.Ratio.{Is-self, Is-same, Is-times, Is-less, Is-whole}
 use Rattle.nf_rational_laws.proofs.Field.{whole-plus}
-use Rattle.nf_rational_laws.proofs.Linear.{le, eq, linear_le, linear_eq}
+use Rattle.nf_rational_laws.proofs.Linear.{le, linear_le, linear_eq}
 use Rattle.nf_rational_laws.proofs.Order.{≤ℚ_of_same, less_nn, nn_in, nn_out, nn_times, nn_whole}
 use Rattle.nf_rational_laws.proofs.Chains.{≤ℚ_trans}
 use Rattle.nf_frac_def.specs.declared.Op.{Op}

@@ -2,3 +2,4 @@ pub mod Ranges
 pub mod Conserving
 pub mod Stating
 pub mod Scaled
+pub mod LinksAt

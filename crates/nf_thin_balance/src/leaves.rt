@@ -5,8 +5,10 @@ ghost use Rattle.nf_rational.specs.Rational.{ℚ};
 ghost use Rattle.nf_rational.specs.Operations.{◌+ℚ◌, ◌-ℚ◌};
 ghost use Rattle.nf_model.specs.Network.{IsNetwork};
 ghost use Rattle.nf_thin_balance.specs.Ranges.{IsWithin};
+ghost use Rattle.nf_thin_balance.specs.LinksAt.{HasLinks};
 ghost use Rattle.nf_thin_balance.specs.Conserving.{AreWithin, IsConserved, Keeps};
 
+use crate::links_at::LinksAt;
 use crate::node_test::{first_unbalanced, needed, range_at, surplus_range};
 use crate::ranges::Range;
 use nf_graph::{LinkId, NodeId};
@@ -95,7 +97,15 @@ fn put_range(ranges: &mut Vec<Range>, link: LinkId, range: Range)
 }
 
 // Sets a link's flow to what conservation at a node leaves for it. Returns false if the link cannot carry that flow.
-fn close(net: &Network, supply: Range, ranges: &mut Vec<Range>, node: NodeId, link: LinkId) -> bool
+fn close(
+    net: &Network,
+    links: &LinksAt,
+    supply: Range,
+    ranges: &mut Vec<Range>,
+    node: NodeId,
+    link: LinkId,
+) -> bool
+    requires links { HasLinks net.now.net links.now }
     requires node { node < net.now.net.nodes }
     requires link { link < length net.now.net.links }
     requires ranges { length ranges.old.items ≡ length net.now.net.links }
@@ -110,7 +120,7 @@ fn close(net: &Network, supply: Range, ranges: &mut Vec<Range>, node: NodeId, li
     }
     let own = range_at(ranges, link);
     put_range(ranges, link, Range::zero());
-    let others = surplus_range(net, ranges, node);
+    let others = surplus_range(net, links, ranges, node);
     let flow = left_for(leaves, needed(net, supply, node), others);
     let fits = own.meets(&flow);
     put_range(ranges, link, flow);
@@ -129,11 +139,13 @@ fn other_end(net: &Network, link: LinkId, node: NodeId) -> NodeId
 // Determines links from a node on, while the current node has only one undetermined link. Returns false if a link cannot carry its flow.
 fn close_from(
     net: &Network,
+    links: &LinksAt,
     supply: Range,
     ranges: &mut Vec<Range>,
     open: &mut Vec<OpenAt>,
     start: NodeId,
 ) -> bool
+    requires links { HasLinks net.now.net links.now }
     requires start { start < net.now.net.nodes }
     requires ranges { length ranges.old.items ≡ length net.now.net.links }
     ensures count { length ranges.new.items ≡ length net.now.net.links }
@@ -144,7 +156,7 @@ fn close_from(
         let Some(link) = only_open(net, open, node) else {
             return true;
         };
-        if !close(net, supply, ranges, node, link) {
+        if !close(net, links, supply, ranges, node, link) {
             return false;
         }
         let other = other_end(net, link, node);
@@ -167,9 +179,10 @@ pub(crate) fn comes_out(
     ensures { IfOk result (λ fits. (flow : ℕ → ℚ) → AreWithin ranges.old.items flow
         → IsConserved net.now.net supply flow → fits ≡ true) }
 {
+    let links = LinksAt::new(alloc, net)?;
     let mut open = open_links(alloc, net, ranges)?;
     for v in 0..net.node_count() {
-        if !close_from(net, supply, ranges, &mut open, NodeId(v)) {
+        if !close_from(net, &links, supply, ranges, &mut open, NodeId(v)) {
             return Ok(false);
         }
     }

@@ -2,6 +2,7 @@
 #![tactic(auto)]
 
 mod leaves;
+mod links_at;
 mod node_test;
 mod ranges;
 mod ruling;

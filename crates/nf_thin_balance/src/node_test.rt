@@ -2,8 +2,10 @@
 ghost use Rattle.std.specs.Prelude.{◌≡◌, ◌<◌, ℕ, suc, true, length, slice_get, slice_set, Some, None, IfOk};
 ghost use Rattle.nf_rational.specs.Rational.{ℚ};
 ghost use Rattle.nf_thin_balance.specs.Ranges.{IsWithin};
+ghost use Rattle.nf_thin_balance.specs.LinksAt.{HasLinks};
 ghost use Rattle.nf_thin_balance.specs.Conserving.{AreWithin, IsConserved, BoundsFirst, BoundEach, AreSurpluses, surplus_by, needed_at};
 
+use crate::links_at::LinksAt;
 use crate::ranges::Range;
 use nf_graph::{LinkId, NodeId};
 use nf_net::Network;
@@ -41,15 +43,20 @@ fn add_link(range: &mut Range, net: &Network, ranges: &[Range], node: NodeId, li
     *range = range.difference(flow);
 }
 
-/// Returns a range of the node's surplus, its outflow less its inflow, if every link's flow is within its range.
-pub(crate) fn surplus_range(net: &Network, ranges: &[Range], node: NodeId) -> Range
+/// Returns a range of the node's surplus, its outflow less its inflow, if every link's flow is within its range. Visits the links at the
+/// node alone.
+pub(crate) fn surplus_range(net: &Network, links: &LinksAt, ranges: &[Range], node: NodeId) -> Range
+    requires links { HasLinks net.now.net links.now }
     requires ranges { length ranges.now ≡ length net.now.net.links }
+    requires node { node < net.now.net.nodes }
     ensures { (flow : ℕ → ℚ) → AreWithin ranges.now flow
         → IsWithin result (surplus_by net.now.net flow node) }
 {
     let mut range = Range::zero();
-    for e in 0..net.link_count() {
-        add_link(&mut range, net, ranges, node, LinkId(e));
+    let mut link = links.first(net, node);
+    while link < net.link_count() {
+        add_link(&mut range, net, ranges, node, LinkId(link));
+        link = links.next(net, node, LinkId(link));
     }
     range
 }

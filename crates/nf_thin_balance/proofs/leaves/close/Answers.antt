@@ -54,5 +54,7 @@ put_range-requires c = let n = c.requires.ranges in let l = c.requires.link in o
 
 pub surplus_range-others-requires : goal.surplus_range-others-requires
 surplus_range-others-requires c = record {
+  links = c.requires.links;
+  node = c.requires.node;
   ranges = ap (λ (l : List Range). length l) (c.deref-2.ensures.value ∙ c.put_range.ensures) ∙ (length_set c.args.ranges.now.items c.args.link c.zero.result ∙ c.requires.ranges);
 }
