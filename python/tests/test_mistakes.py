@@ -188,7 +188,7 @@ class LastBy(Results):
 class Why(Results):
     def test_rules_statuses_and_lines_as_words(self) -> None:
         self.write("x.net", "nfot 1\nsource s\nsink t\nlink a s t 1.5 1\nend\n")
-        for words, wanted in [(["N8"], "N8: a number word is no number"), (["network line 4: N8", "x.net"], "x.net line 4: link a s t 1.5 1"), (["status 7"], "to do: round to"),
+        for words, wanted in [(["N8"], "N8: a word in a number's place is no number"), (["network line 4: N8", "x.net"], "x.net line 4: link a s t 1.5 1"), (["status 7"], "to do: round to"),
                               (["no C3 t 2 7 5"], "printed label 7, right label 5")]:
             self.assertIn(wanted, self.fine("why", *words))
         self.refused(1, "there is no rule N99", "why", "N99")

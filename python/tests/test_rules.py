@@ -32,7 +32,7 @@ class Lines(Case):
         path.write_text("nfot 1\nsource s\nsink t\nlink a s t 1 1,5\ninflow 0 3\nend\n")
         told = nfot.explain("nfot: network line 4: N8", [str(path)])
         self.assertEqual(told[0], f"{path} line 4: link a s t 1 1,5")
-        self.assertTrue(told[1].startswith("N8: a number word is no number"))
+        self.assertTrue(told[1].startswith("N8: a word in a number's place is no number"))
         self.assertIn("1,5 is no number: write 3/2", told[2])
         path.write_text("nfot 1\nsource s\nsink t\nlink a s t 1 1\nlink b w t 1 1\nend\n")
         self.assertIn("to w", nfot.explain("nfot: network line 0: N20", [str(path)])[-1])
