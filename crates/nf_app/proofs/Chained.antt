@@ -191,7 +191,7 @@ module _ (run : Run) (c : ChecksSolved run.call) where
   says : NoFault run → (answer : ProgramAnswer) → IsShownWhole answer run.out run.err run.status → Answers run.call told_check answer → Says
   unfolding told_check
   says no_fault answer shown (inl none) = inr (inr (shown.status_is ∙ ap status_of none))
-  says no_fault answer shown (inr (inl h)) = absurd (no_fault.shelf h.1)
+  says no_fault answer _ (inr (inl h)) = absurd (no_fault.shelf h.1)
   says no_fault answer shown (inr (inr h)) = said answer shown (yes_given answer h.1)
 
 pub says_yes : (run : Run) → Ran run → SaysYes run

@@ -87,7 +87,7 @@ SettleGives n (Ok given) answer = (labels : List ℚ) × AreStartLabels n.net la
 SettleGives n (Err broken) answer = answer ≡ MalformedFlows broken
 
 -- `resume`: the horizon comes first, then the list of resuming, then the run that goes on
-abbrev pub RestGives : Named → Bounds → Report → Result resuming.Outcome (PassedAt ℚ) → ProgramAnswer → Type 0
+abbrev pub RestGives : Named → Bounds → Report → Result resuming.Restart (PassedAt ℚ) → ProgramAnswer → Type 0
 RestGives n bounds old (Ok (Stands first)) answer = (made : ℕ) × (report : Report) × IsResumedReport passes_Q n.net bounds old made report
     × (answer ≡ Solved n report)
 RestGives n bounds old (Ok (Refused verdict)) answer = answer ≡ Checked n verdict

@@ -158,7 +158,7 @@ one_settle n good (Ok given) a b g h =
 one_settle n good (Err broken) a b g h = g ∙ sym h
 
 -- ---- a report that is gone on from
-one_rest : (n : Named) (bounds : Bounds) (old : Report) → length old.last ≡ length n.net.links → (r : Result resuming.Outcome (PassedAt ℚ)) (a b : ProgramAnswer) → RestGives n bounds old r a
+one_rest : (n : Named) (bounds : Bounds) (old : Report) → length old.last ≡ length n.net.links → (r : Result resuming.Restart (PassedAt ℚ)) (a b : ProgramAnswer) → RestGives n bounds old r a
     → RestGives n bounds old r b → a ≡ b
 one_rest n bounds old states (Ok (Stands first)) a b g h = g.3 ∙ ap (Solved n) (one_resumed passes_Q n.net bounds old g.0 h.0 g.1 h.1 states g.2 h.2).1 ∙ sym h.3
 one_rest n bounds old states (Ok (Refused verdict)) a b g h = g ∙ sym h

@@ -62,9 +62,9 @@ module _ (n : Named) (text : List ℕ) (answer : ProgramAnswer) where
       so : (read : Result Report ReportBroken) → report_in n text ≡ read → ResumeGives n (bounds_to horizon phases patterns) read answer → ResumeGives n (bounds_to horizon phases patterns) (report_in n text) answer
       so read e h = subst (λ (r : Result Report ReportBroken). ResumeGives n (bounds_to horizon phases patterns) r answer) (sym e) h
 
-      on : (old : Report) (r : Result resuming.Outcome (PassedAt ℚ)) → resuming.resume_list passes_Q n.net old ≡ r → RestGives n (bounds_to horizon phases patterns) old r answer
+      on : (old : Report) (r : Result resuming.Restart (PassedAt ℚ)) → resuming.resume_list passes_Q n.net old ≡ r → RestGives n (bounds_to horizon phases patterns) old r answer
           → RestGives n (bounds_to horizon phases patterns) old (resuming.resume_list passes_Q n.net old) answer
-      on old r e h = subst (λ (s : Result resuming.Outcome (PassedAt ℚ)). RestGives n (bounds_to horizon phases patterns) old s answer) (sym e) h
+      on old r e h = subst (λ (s : Result resuming.Restart (PassedAt ℚ)). RestGives n (bounds_to horizon phases patterns) old s answer) (sym e) h
 
       by : IsResultOf n text (Resume file name horizon phases patterns) answer → ResumeGives n (bounds_to horizon phases patterns) (report_in n text) answer
       by (inl h) = so (Ok h.old) h.read.reads (inr (h.not_earlier, on h.old (Ok (resuming.Stands h.resumed.run.first)) h.resumed.run.stands (h.made, h.new, h.resumed, h.is)))
