@@ -1,7 +1,7 @@
 """The ten commands of `nfot` as calls, each with an answer of its own.
 
 Each call takes a network or the name of its file, and `timeout` in seconds for each run of the program. Besides the faults that it
-names, each raises NotFound without a program, Killed where a signal ended it, and Timeout.
+names, each raises NotFound without a program, Killed where a signal ended it, Timeout, and a Fault with status 1 where memory is short.
 """
 from __future__ import annotations
 
@@ -10,7 +10,7 @@ from typing import Iterable, List, Mapping, Optional, Sequence, Tuple, Union
 
 from .answers import Carried, Forever, Generated, Lines, Loaded, Quickest, Settled, Verdict, lines_of
 from .calling import Answer, ask, stop_of, words_of_budgets
-from .faults import Fault, Refused, Stopped, Unbounded
+from .faults import Fault, Refused, Stopped, Unbounded, with_memory
 from .given import Net, Run, as_network, as_report, as_routes
 from .graph import path_of
 from .hints import go_on_past
@@ -25,6 +25,7 @@ from .meanings import meaning
 Pieces = Iterable[Tuple[Number, Number]]
 
 
+@with_memory()
 def solve(net: Net, horizon: Number, *, phases: Optional[int] = None, patterns: Optional[int] = None,
           timeout: Optional[float] = None, go_on: bool = True) -> Report:
     """The equilibrium of all who leave by the horizon.
@@ -39,6 +40,7 @@ def solve(net: Net, horizon: Number, *, phases: Optional[int] = None, patterns: 
     return _reached(network, answer, words, timeout, go_on)
 
 
+@with_memory()
 def resume(net: Net, report: Run, horizon: Number, *, phases: Optional[int] = None, patterns: Optional[int] = None,
            timeout: Optional[float] = None, go_on: bool = True) -> Report:
     """The run of a report, gone on up to the horizon, as `solve`.
@@ -72,6 +74,7 @@ def _reached(net: Network, answer: Answer, words: Sequence[str], timeout: Option
     return report
 
 
+@with_memory()
 def check(net: Net, report: Run, *, timeout: Optional[float] = None) -> Verdict:
     """Whether the flow of a report is an equilibrium of the network up to the departure reached.
 
@@ -108,6 +111,7 @@ def _loading(command: str, net: Net, horizon: Number, given: Union[PathLike, Lis
     return lines_of(ask(command, ["--horizon", str(_horizon(horizon))], texts, named, timeout=timeout).out)
 
 
+@with_memory()
 def load(net: Net, loads: Union[PathLike, Mapping[str, Pieces]], horizon: Number, *, timeout: Optional[float] = None) -> Loaded:
     """Queues, outflows and exits of links that take given inflows, up to the time horizon.
 
@@ -118,6 +122,7 @@ def load(net: Net, loads: Union[PathLike, Mapping[str, Pieces]], horizon: Number
     return Loaded(found.curves_of("queue"), found.curves_of("outflow"), found.curves_of("exit"))
 
 
+@with_memory()
 def routes(net: Net, routes: Union[PathLike, Mapping[str, Tuple[Sequence[str], Pieces]]], horizon: Number, *,
            timeout: Optional[float] = None) -> Carried:
     """Queues, outflows, exits, arrivals and travel times of what is sent along routes up to the time horizon.
@@ -135,11 +140,13 @@ def routes(net: Net, routes: Union[PathLike, Mapping[str, Tuple[Sequence[str], P
     return Carried(*(found.curves_of(kind) for kind in ("queue", "outflow", "exit", "arrival", "travel")))
 
 
+@with_memory()
 def show(net: Net) -> str:
     """The canonical text of a network, as `nfot show` writes it."""
     return ask("show", [], {"network": as_network(net).text()}).out
 
 
+@with_memory()
 def quick(net: Net, amount: Number, *, augments: Optional[int] = None, timeout: Optional[float] = None) -> Quickest:
     """The quickest flow of an amount, its cut, and when the amount has arrived in the equilibrium.
 
@@ -165,6 +172,7 @@ def _arrival(words: List[str]) -> Union[Fraction, None, Stopped]:
     return None if words[0] == "none" else Fraction(words[0])
 
 
+@with_memory()
 def forever(net: Net, *, phases: Optional[int] = None, patterns: Optional[int] = None, timeout: Optional[float] = None) -> Forever:
     """The run without a horizon, up to the phase that never ends, with the slopes and flows of that phase.
 
@@ -186,6 +194,7 @@ def forever(net: Net, *, phases: Optional[int] = None, patterns: Optional[int] =
     return Forever(report, found.numbers["slope"], found.numbers["flow"])
 
 
+@with_memory()
 def settle(net: Net, flows: Union[PathLike, Mapping[str, Number]], slopes: Mapping[str, Number] = {}, *,
            timeout: Optional[float] = None) -> Settled:
     """The thin flow of given flows and slopes at departure 0 without flow round cycles, with the states of its links.
@@ -204,6 +213,7 @@ def settle(net: Net, flows: Union[PathLike, Mapping[str, Number]], slopes: Mappi
     return Settled({link: state for link, state in found.words.get("state", [])}, found.numbers.get("flow", {}))
 
 
+@with_memory()
 def gen(number: int, rungs: int, horizon: Number, *, phases: Optional[int] = None, patterns: Optional[int] = None,
         timeout: Optional[float] = None) -> Generated:
     """The run of a ladder, a network that its number stands for, up to the horizon. Stopped where the horizon isn't reached."""

@@ -14,7 +14,7 @@ from dataclasses import dataclass
 from typing import IO, Dict, Iterator, Mapping, Optional, Sequence, Tuple, Union
 
 from . import slow
-from .faults import Fault, Killed, NotFound, Timeout
+from .faults import Fault, Killed, NotFound, Timeout, with_memory
 from .starting import is_nfot, start
 
 PathLike = Union[str, "os.PathLike[str]"]
@@ -40,6 +40,7 @@ class Done:
     err: str
 
 
+@with_memory()
 def program() -> Program:
     """The program that is used: NFOT in the environment, else `nfot` on the PATH, else the build of this checkout, else the slow one.
 

@@ -14,7 +14,7 @@ import sys
 from types import FrameType, ModuleType
 from typing import Any, NoReturn, Optional, Sequence
 
-from ..faults import Fault, Refused
+from ..faults import Fault, Refused, with_memory
 from .passing import COMMANDS, pass_through
 from .streams import closed_output, whole_streams
 
@@ -109,7 +109,8 @@ def told(name: str, line: str, status: int) -> int:
 def tried(name: str, words: Words) -> int:
     """Runs the command or the tool, and prints a Fault in one line."""
     try:
-        return chosen(words)
+        with with_memory():
+            return chosen(words)
     except SystemExit as end:  # argparse, behind --help
         return int(end.code or 0)
     except Fault as fault:
