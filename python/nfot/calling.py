@@ -7,7 +7,7 @@ from dataclasses import dataclass
 from fractions import Fraction
 from typing import Collection, List, Mapping, NoReturn, Optional, Sequence
 
-from .faults import Fault, NotFound, Refused, Stopped
+from .faults import SHORT, Fault, NotFound, Refused, Stopped, is_short
 from .lines import PathLike, shown_name
 from .numbers import decimal, short
 from .program import Done, in_files, run
@@ -69,6 +69,8 @@ def _raise(command: str, done: Done, answer: Answer, named: Mapping[str, str]) -
     if done.status in FIXED:
         raise Refused(f"nfot {command}: {FIXED[done.status]}", status=done.status)
     last = (done.err.strip().splitlines() or ["nothing on standard error"])[-1]
+    if is_short(RuntimeError(last)):
+        raise Fault(SHORT, status=1)
     raise Fault(f"nfot {command} ended with the status {done.status}: {last[:200]}", status=done.status or 1)
 
 
