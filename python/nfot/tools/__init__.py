@@ -53,6 +53,7 @@ def overview() -> str:
     lines += [f"  {name:<{width}}{command.summary}" for name, command in COMMANDS.items()]
     lines += ["", "Tools:"] + [f"  {name:<{width}}{summary(name)}" for name in TOOLS]
     lines += ["", "`nfot-py NAME --help` explains a command or tool, with an example. `nfot-py --version` says which program is used.",
+              "`nfot-py --cite` prints an entry of BibTeX.",
               "Numbers may be 2.5, 7/2, 1e6, or 7:30 (hours and minutes, as minutes).",
               "", "example: nfot-py solve bridge.net --horizon 60 > bridge.report && nfot-py times bridge.net bridge.report 0 30 60"]
     return "\n".join(lines)
@@ -87,6 +88,10 @@ def chosen(words: Words) -> int:
     if words[0] == "--version":
         from .passing import version
         print(version())
+        return 0
+    if words[0] == "--cite":
+        from .citing import citation
+        print(citation())
         return 0
     if words[0] in COMMANDS:
         return pass_through(words)
