@@ -41,18 +41,19 @@ def words_of_budgets(**budgets: Optional[int]) -> List[str]:
 
 
 def ask(command: str, options: Sequence[str], texts: Mapping[str, str], named: Mapping[str, PathLike] = {}, *,
-        timeout: Optional[float] = None, statuses: Collection[int] = (0,)) -> Answer:
+        timeout: Optional[float] = None, statuses: Collection[int] = (0,), caller: str = "") -> Answer:
     """Runs a command on texts, which are put into temporary files, and on files that the caller names, in this order.
 
-    The keys are the program's words for the files: network, report, loads, flows, routes. Any other status than `statuses` is raised.
+    The keys are the program's words for the files: network, report, loads, flows, routes. Any other status than `statuses` is raised,
+    as a fault of the call `caller` where that is another one than the command.
     """
     with in_files(texts) as paths:
         names = {**paths, **{key: os.fspath(path) for key, path in named.items()}}
-        done = run([command, *options, "--", *names.values()], timeout=timeout)
+        done = run([command, *options, "--", *names.values()], timeout=timeout, caller=caller)
     stopped = _STOPPED.match(done.err)
     answer = Answer(done.status, done.out, stopped[1] if stopped else "")
     if done.status not in statuses:
-        _raise(command, done, answer, {key: shown_name(path) for key, path in named.items()})
+        _raise(caller or command, done, answer, {key: shown_name(path) for key, path in named.items()})
     return answer
 
 

@@ -6,7 +6,7 @@ names, each raises NotFound without a program, Killed where a signal ended it, T
 from __future__ import annotations
 
 from fractions import Fraction
-from typing import Iterable, List, Mapping, Optional, Sequence, Tuple, Union
+from typing import Callable, Iterable, List, Mapping, Optional, Sequence, Tuple, Union
 
 from .answers import Carried, Forever, Generated, Lines, Loaded, Quickest, Settled, Verdict, lines_of
 from .calling import Answer, ask, stop_of, words_of_budgets
@@ -23,6 +23,7 @@ from .report_values import Report
 from .meanings import meaning
 
 Pieces = Iterable[Tuple[Number, Number]]
+Again = Callable[[Mapping[str, str]], Answer]
 
 
 @with_memory()
@@ -37,7 +38,7 @@ def solve(net: Net, horizon: Number, *, phases: Optional[int] = None, patterns: 
     network = as_network(net)
     words = ["--horizon", str(_horizon(horizon)), *words_of_budgets(phases=phases, patterns=patterns)]
     answer = ask("solve", words, {"network": network.text()}, timeout=timeout, statuses=(0, 5, 6, 7))
-    return _reached(network, answer, words, timeout, go_on)
+    return _reached(network, answer, _again("solve", words, timeout) if go_on else None)
 
 
 @with_memory()
@@ -53,7 +54,7 @@ def resume(net: Net, report: Run, horizon: Number, *, phases: Optional[int] = No
     answer = ask("resume", words, files, timeout=timeout, statuses=(0, 5, 6, 7, 10))
     if answer.status == 10:
         raise Refused(f"the report is no equilibrium: {_verdict(answer.out).why}", status=10)
-    return _reached(network, answer, words, timeout, go_on)
+    return _reached(network, answer, _again("resume", words, timeout) if go_on else None)
 
 
 def _horizon(horizon: Number) -> Fraction:
@@ -64,11 +65,16 @@ def _horizon(horizon: Number) -> Fraction:
     return number
 
 
-def _reached(net: Network, answer: Answer, words: Sequence[str], timeout: Optional[float], go_on: bool) -> Report:
-    """The report of a run, gone on past the pattern budget; Stopped where it doesn't reach the horizon."""
+def _again(caller: str, words: Sequence[str], timeout: Optional[float]) -> Again:
+    """How a call goes on from its files: by `resume`, whose faults name the call."""
+    return lambda files: ask("resume", words, files, timeout=timeout, statuses=(0, 5, 6, 7), caller=caller)
+
+
+def _reached(net: Network, answer: Answer, again: Optional[Again]) -> Report:
+    """The report of a run, gone on past the pattern budget by `again` if that is given; Stopped where it doesn't reach the horizon."""
     report = report_of(answer.out, "the report of nfot", net) if answer.out or not answer.cause else None
-    if report is not None and go_on and answer.status == 6:
-        report = go_on_past(net, report, lambda files: ask("resume", words, files, timeout=timeout, statuses=(0, 5, 6, 7)))
+    if report is not None and again is not None and answer.status == 6:
+        report = go_on_past(net, report, again)
     if report is None or report.cause != "done":
         raise stop_of(report.cause if report else answer.cause, report)
     return report
