@@ -19,29 +19,34 @@ import sys
 if sys.version_info < (3, 9):
     sys.exit("nfot: Python 3.9 or later is needed, and this is Python %d.%d" % sys.version_info[:2])
 
-from .answers import Carried, Forever, Generated, Loaded, Quickest, Settled, Verdict
-from .commands import check, forever, gen, load, quick, resume, routes, settle, show, solve
-from .comparing import Comparison, compare
-from .curves import Curve
-from .demand import Demand, demand_of_words, read_demand
-from .evidence import Open, same, unsaid
-from .faults import Fault, Killed, NotFound, OutOfRange, Refused, Stopped, Timeout, Unbounded, outcome
-from .gaps import Gap, gap
-from .graphs import clean_names, from_networkx, to_networkx
-from .inputs import read_flows, read_loads, read_routes
-from .judging import report_of_flows, report_of_routes, supply_of
-from .networks import Link, Network, network_of, read_network, write_network
-from .numbers import clock, decimal, exact, parse, short
-from .phases import Phase, phases
-from .program import Program, program
-from .queues import Queue, longest_first, queues_of
-from .reports import Report, mismatch, read_pair, read_report, report_of, write_report
-from .roads import Columns, Roads, read_roads
-from .rows import Rows, side_by_side, table
-from .rules import explain, meaning, status
-from .tables import Made, Units, network_of_table
-from .theory import Broken, broken, candidate, thin
-from .vehicles import loads_of_vehicles, routes_of_vehicles
+try:
+    from .answers import Carried, Forever, Generated, Loaded, Quickest, Settled, Verdict
+    from .commands import check, forever, gen, load, quick, resume, routes, settle, show, solve
+    from .comparing import Comparison, compare
+    from .curves import Curve
+    from .demand import Demand, demand_of_words, read_demand
+    from .evidence import Open, same, unsaid
+    from .faults import Fault, Killed, NotFound, OutOfRange, Refused, Stopped, Timeout, Unbounded, outcome
+    from .gaps import Gap, gap
+    from .graphs import clean_names, from_networkx, to_networkx
+    from .inputs import read_flows, read_loads, read_routes
+    from .judging import report_of_flows, report_of_routes, supply_of
+    from .networks import Link, Network, network_of, read_network, write_network
+    from .numbers import clock, decimal, exact, parse, short
+    from .phases import Phase, phases
+    from .program import Program, program
+    from .queues import Queue, longest_first, queues_of
+    from .reports import Report, mismatch, read_pair, read_report, report_of, write_report
+    from .roads import Columns, Roads, read_roads
+    from .rows import Rows, side_by_side, table
+    from .rules import explain, meaning, status
+    from .tables import Made, Units, network_of_table
+    from .theory import Broken, broken, candidate, thin
+    from .vehicles import loads_of_vehicles, routes_of_vehicles
+except (MemoryError, ImportError) as fault:
+    if isinstance(fault, ImportError) and "failed to map" not in str(fault):  # a library that memory is too short for
+        raise
+    sys.exit("nfot: memory is short: raise its limit (ulimit -v), or end other programs")
 
 __all__ = [
     "Broken", "Carried", "Columns", "Comparison", "Curve", "Demand", "Fault", "Forever", "Gap", "Generated", "Killed", "Link", "Loaded",

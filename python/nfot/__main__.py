@@ -1,7 +1,12 @@
 """python3 -m nfot: the command `nfot-py`."""
 import sys
 
-from .tools import main
+from .faults import SHORT
+
+try:
+    from .tools import main
+except MemoryError:
+    sys.exit(f"nfot-py: {SHORT}")
 
 if __name__ == "__main__":
     sys.exit(main())

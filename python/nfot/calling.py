@@ -7,7 +7,7 @@ from dataclasses import dataclass
 from fractions import Fraction
 from typing import Collection, List, Mapping, NoReturn, Optional, Sequence
 
-from .faults import Fault, NotFound, Refused, Stopped
+from .faults import SHORT, Fault, NotFound, Refused, Stopped, is_short
 from .lines import PathLike, shown_name
 from .numbers import decimal, short
 from .program import Done, in_files, run
@@ -41,18 +41,19 @@ def words_of_budgets(**budgets: Optional[int]) -> List[str]:
 
 
 def ask(command: str, options: Sequence[str], texts: Mapping[str, str], named: Mapping[str, PathLike] = {}, *,
-        timeout: Optional[float] = None, statuses: Collection[int] = (0,)) -> Answer:
+        timeout: Optional[float] = None, statuses: Collection[int] = (0,), caller: str = "") -> Answer:
     """Runs a command on texts, which are put into temporary files, and on files that the caller names, in this order.
 
-    The keys are the program's words for the files: network, report, loads, flows, routes. Any other status than `statuses` is raised.
+    The keys are the program's words for the files: network, report, loads, flows, routes. Any other status than `statuses` is raised,
+    as a fault of the call `caller` where that is another one than the command.
     """
     with in_files(texts) as paths:
         names = {**paths, **{key: os.fspath(path) for key, path in named.items()}}
-        done = run([command, *options, "--", *names.values()], timeout=timeout)
+        done = run([command, *options, "--", *names.values()], timeout=timeout, caller=caller)
     stopped = _STOPPED.match(done.err)
     answer = Answer(done.status, done.out, stopped[1] if stopped else "")
     if done.status not in statuses:
-        _raise(command, done, answer, {key: shown_name(path) for key, path in named.items()})
+        _raise(caller or command, done, answer, {key: shown_name(path) for key, path in named.items()})
     return answer
 
 
@@ -69,6 +70,8 @@ def _raise(command: str, done: Done, answer: Answer, named: Mapping[str, str]) -
     if done.status in FIXED:
         raise Refused(f"nfot {command}: {FIXED[done.status]}", status=done.status)
     last = (done.err.strip().splitlines() or ["nothing on standard error"])[-1]
+    if is_short(RuntimeError(last)):
+        raise Fault(SHORT, status=1)
     raise Fault(f"nfot {command} ended with the status {done.status}: {last[:200]}", status=done.status or 1)
 
 

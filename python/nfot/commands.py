@@ -1,16 +1,16 @@
 """The ten commands of `nfot` as calls, each with an answer of its own.
 
 Each call takes a network or the name of its file, and `timeout` in seconds for each run of the program. Besides the faults that it
-names, each raises NotFound without a program, Killed where a signal ended it, and Timeout.
+names, each raises NotFound without a program, Killed where a signal ended it, Timeout, and a Fault with status 1 where memory is short.
 """
 from __future__ import annotations
 
 from fractions import Fraction
-from typing import Iterable, List, Mapping, Optional, Sequence, Tuple, Union
+from typing import Callable, Iterable, List, Mapping, Optional, Sequence, Tuple, Union
 
 from .answers import Carried, Forever, Generated, Lines, Loaded, Quickest, Settled, Verdict, lines_of
 from .calling import Answer, ask, stop_of, words_of_budgets
-from .faults import Fault, Refused, Stopped, Unbounded
+from .faults import Fault, Refused, Stopped, Unbounded, with_memory
 from .given import Net, Run, as_network, as_report, as_routes
 from .graph import path_of
 from .hints import go_on_past
@@ -23,8 +23,10 @@ from .report_values import Report
 from .meanings import meaning
 
 Pieces = Iterable[Tuple[Number, Number]]
+Again = Callable[[Mapping[str, str]], Answer]
 
 
+@with_memory()
 def solve(net: Net, horizon: Number, *, phases: Optional[int] = None, patterns: Optional[int] = None,
           timeout: Optional[float] = None, go_on: bool = True) -> Report:
     """The equilibrium of all who leave by the horizon.
@@ -36,9 +38,10 @@ def solve(net: Net, horizon: Number, *, phases: Optional[int] = None, patterns: 
     network = as_network(net)
     words = ["--horizon", str(_horizon(horizon)), *words_of_budgets(phases=phases, patterns=patterns)]
     answer = ask("solve", words, {"network": network.text()}, timeout=timeout, statuses=(0, 5, 6, 7))
-    return _reached(network, answer, words, timeout, go_on)
+    return _reached(network, answer, _again("solve", words, timeout) if go_on else None)
 
 
+@with_memory()
 def resume(net: Net, report: Run, horizon: Number, *, phases: Optional[int] = None, patterns: Optional[int] = None,
            timeout: Optional[float] = None, go_on: bool = True) -> Report:
     """The run of a report, gone on up to the horizon, as `solve`.
@@ -51,7 +54,7 @@ def resume(net: Net, report: Run, horizon: Number, *, phases: Optional[int] = No
     answer = ask("resume", words, files, timeout=timeout, statuses=(0, 5, 6, 7, 10))
     if answer.status == 10:
         raise Refused(f"the report is no equilibrium: {_verdict(answer.out).why}", status=10)
-    return _reached(network, answer, words, timeout, go_on)
+    return _reached(network, answer, _again("resume", words, timeout) if go_on else None)
 
 
 def _horizon(horizon: Number) -> Fraction:
@@ -62,16 +65,22 @@ def _horizon(horizon: Number) -> Fraction:
     return number
 
 
-def _reached(net: Network, answer: Answer, words: Sequence[str], timeout: Optional[float], go_on: bool) -> Report:
-    """The report of a run, gone on past the pattern budget; Stopped where it doesn't reach the horizon."""
+def _again(caller: str, words: Sequence[str], timeout: Optional[float]) -> Again:
+    """How a call goes on from its files: by `resume`, whose faults name the call."""
+    return lambda files: ask("resume", words, files, timeout=timeout, statuses=(0, 5, 6, 7), caller=caller)
+
+
+def _reached(net: Network, answer: Answer, again: Optional[Again]) -> Report:
+    """The report of a run, gone on past the pattern budget by `again` if that is given; Stopped where it doesn't reach the horizon."""
     report = report_of(answer.out, "the report of nfot", net) if answer.out or not answer.cause else None
-    if report is not None and go_on and answer.status == 6:
-        report = go_on_past(net, report, lambda files: ask("resume", words, files, timeout=timeout, statuses=(0, 5, 6, 7)))
+    if report is not None and again is not None and answer.status == 6:
+        report = go_on_past(net, report, again)
     if report is None or report.cause != "done":
         raise stop_of(report.cause if report else answer.cause, report)
     return report
 
 
+@with_memory()
 def check(net: Net, report: Run, *, timeout: Optional[float] = None) -> Verdict:
     """Whether the flow of a report is an equilibrium of the network up to the departure reached.
 
@@ -108,6 +117,7 @@ def _loading(command: str, net: Net, horizon: Number, given: Union[PathLike, Lis
     return lines_of(ask(command, ["--horizon", str(_horizon(horizon))], texts, named, timeout=timeout).out)
 
 
+@with_memory()
 def load(net: Net, loads: Union[PathLike, Mapping[str, Pieces]], horizon: Number, *, timeout: Optional[float] = None) -> Loaded:
     """Queues, outflows and exits of links that take given inflows, up to the time horizon.
 
@@ -118,6 +128,7 @@ def load(net: Net, loads: Union[PathLike, Mapping[str, Pieces]], horizon: Number
     return Loaded(found.curves_of("queue"), found.curves_of("outflow"), found.curves_of("exit"))
 
 
+@with_memory()
 def routes(net: Net, routes: Union[PathLike, Mapping[str, Tuple[Sequence[str], Pieces]]], horizon: Number, *,
            timeout: Optional[float] = None) -> Carried:
     """Queues, outflows, exits, arrivals and travel times of what is sent along routes up to the time horizon.
@@ -135,11 +146,13 @@ def routes(net: Net, routes: Union[PathLike, Mapping[str, Tuple[Sequence[str], P
     return Carried(*(found.curves_of(kind) for kind in ("queue", "outflow", "exit", "arrival", "travel")))
 
 
+@with_memory()
 def show(net: Net) -> str:
     """The canonical text of a network, as `nfot show` writes it."""
     return ask("show", [], {"network": as_network(net).text()}).out
 
 
+@with_memory()
 def quick(net: Net, amount: Number, *, augments: Optional[int] = None, timeout: Optional[float] = None) -> Quickest:
     """The quickest flow of an amount, its cut, and when the amount has arrived in the equilibrium.
 
@@ -165,6 +178,7 @@ def _arrival(words: List[str]) -> Union[Fraction, None, Stopped]:
     return None if words[0] == "none" else Fraction(words[0])
 
 
+@with_memory()
 def forever(net: Net, *, phases: Optional[int] = None, patterns: Optional[int] = None, timeout: Optional[float] = None) -> Forever:
     """The run without a horizon, up to the phase that never ends, with the slopes and flows of that phase.
 
@@ -186,6 +200,7 @@ def forever(net: Net, *, phases: Optional[int] = None, patterns: Optional[int] =
     return Forever(report, found.numbers["slope"], found.numbers["flow"])
 
 
+@with_memory()
 def settle(net: Net, flows: Union[PathLike, Mapping[str, Number]], slopes: Mapping[str, Number] = {}, *,
            timeout: Optional[float] = None) -> Settled:
     """The thin flow of given flows and slopes at departure 0 without flow round cycles, with the states of its links.
@@ -204,6 +219,7 @@ def settle(net: Net, flows: Union[PathLike, Mapping[str, Number]], slopes: Mappi
     return Settled({link: state for link, state in found.words.get("state", [])}, found.numbers.get("flow", {}))
 
 
+@with_memory()
 def gen(number: int, rungs: int, horizon: Number, *, phases: Optional[int] = None, patterns: Optional[int] = None,
         timeout: Optional[float] = None) -> Generated:
     """The run of a ladder, a network that its number stands for, up to the horizon. Stopped where the horizon isn't reached."""

@@ -1,7 +1,9 @@
 """Faults: everything that can go wrong, as one sentence with its status, file, line and rule."""
 from __future__ import annotations
 
-from typing import TYPE_CHECKING, Any, Callable, List, Optional, Sequence, TypeVar, Union
+import errno
+from contextlib import contextmanager
+from typing import TYPE_CHECKING, Any, Callable, Iterator, List, Optional, Sequence, TypeVar, Union
 
 if TYPE_CHECKING:
     from .reports import Report
@@ -9,6 +11,7 @@ if TYPE_CHECKING:
 Value = TypeVar("Value")
 
 WORDS, NO_FILE, BROKEN, UNFIT = 2, 3, 4, 1  # statuses: arguments, a file that can't be read, a broken rule, values that don't fit
+SHORT = "memory is short: raise its limit (ulimit -v), or end other programs"
 
 
 class Fault(Exception):
@@ -101,3 +104,22 @@ def outcome(call: Callable[..., Value], *given: Any, **named: Any) -> Union[Valu
         return call(*given, **named)
     except Fault as fault:
         return fault
+
+
+def is_short(fault: BaseException) -> bool:
+    """Whether an exception says that memory is short: for Python, for another process, for a thread or for a library."""
+    wanting = ("can't start new thread", "failed to map segment", "preexec_fn")
+    return isinstance(fault, MemoryError) or getattr(fault, "errno", None) == errno.ENOMEM or any(word in str(fault) for word in wanting)
+
+
+@contextmanager
+def with_memory() -> Iterator[None]:
+    """A Fault with status 1 where memory is short for the block, or for the call that this decorates."""
+    try:
+        yield
+    except Fault:
+        raise
+    except Exception as fault:
+        if not is_short(fault):
+            raise
+        raise Fault(SHORT, status=UNFIT) from None

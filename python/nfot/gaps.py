@@ -32,13 +32,14 @@ class Gap:
     """What all vehicles together spend on the way, what they would spend if each arrived at the label (`best`), and the difference.
 
     All in amount times time. `relative` is gap over best (None where best is 0 and the gap isn't). `worst` is the greatest loss of one
-    vehicle, over all walks whose links take flow when they are entered.
+    vehicle, over all walks whose links take flow when they are entered. `reached` is the last departure that counts.
     """
     spent: Fraction
     best: Fraction
     gap: Fraction
     relative: Optional[Fraction]
     worst: Loss
+    reached: Fraction
 
     def __str__(self) -> str:
         relative = "-" if self.relative is None else rounded(self.relative, 4)
@@ -74,7 +75,7 @@ def gap(net: Net, report: Run) -> Gap:
     best = time_of_best(stretches)
     order = sorted(net.nodes(), key=lambda node: given.label(node)(given.reached))
     relative = (spent - best) / best if best else ZERO if spent == best else None
-    return Gap(spent, best, spent - best, relative, worst(latest(net, flows, order), stretches))
+    return Gap(spent, best, spent - best, relative, worst(latest(net, flows, order), stretches), given.reached)
 
 
 def check_whole(net: Network, flows: Mapping[str, FedLink], report: Report) -> None:

@@ -14,7 +14,7 @@ from dataclasses import dataclass
 from typing import IO, Dict, Iterator, Mapping, Optional, Sequence, Tuple, Union
 
 from . import slow
-from .faults import Fault, Killed, NotFound, Timeout
+from .faults import Fault, Killed, NotFound, Timeout, with_memory
 from .starting import is_nfot, start
 
 PathLike = Union[str, "os.PathLike[str]"]
@@ -40,6 +40,7 @@ class Done:
     err: str
 
 
+@with_memory()
 def program() -> Program:
     """The program that is used: NFOT in the environment, else `nfot` on the PATH, else the build of this checkout, else the slow one.
 
@@ -73,13 +74,13 @@ def _warn() -> None:
 
 
 def run(words: Sequence[str], *, timeout: Optional[float] = None, input: Optional[bytes] = None,
-        stdout: Optional[IO[bytes]] = None) -> Done:
+        stdout: Optional[IO[bytes]] = None, caller: str = "") -> Done:
     """Runs the program with these words: at most `timeout` seconds, its standard output to `stdout` if that is given.
 
-    Standard input is `input`, or that of this process. Raises NotFound without a program, Timeout, and Killed where a signal ended
+    Standard input is `input`, or that of this process. Faults name the call `caller`, or else the first word. Raises NotFound without a program, Timeout, and Killed where a signal ended
     the program. Any status is returned as it is.
     """
-    used, name = program(), " ".join(["nfot", *words[:1]])
+    used, name = program(), " ".join(["nfot", *([caller] if caller else words[:1])])
     try:
         process = start([*used.words, *words], None if input is None else subprocess.PIPE, stdout or subprocess.PIPE, subprocess.PIPE)
     except (OSError, ValueError) as fault:

@@ -10,6 +10,8 @@ import threading
 from functools import lru_cache
 from typing import IO, Any, Optional, Sequence, Union
 
+from .faults import with_memory
+
 Stream = Union[None, int, IO[bytes]]
 SET_DEATH_SIGNAL, ENDED = 1, 143  # PR_SET_PDEATHSIG of prctl; the status of a process whose parent has ended already
 TINY = pathlib.Path(__file__).parent / "data/tiny.net"  # in canonical form
@@ -29,15 +31,16 @@ def _prctl() -> Any:
 
 
 def start(words: Sequence[str], stdin: Stream = None, stdout: Stream = None, stderr: Stream = None) -> "subprocess.Popen[bytes]":
-    """Starts a program, which on Linux is killed when this process ends, in whichever way."""
+    """Starts a program, which on Linux is killed when this process ends, in whichever way. A Fault where memory is short."""
     prctl, parent = _prctl(), os.getpid()
 
     def bound() -> None:
         prctl(SET_DEATH_SIGNAL, int(signal.SIGKILL))
         if os.getppid() != parent:
             os._exit(ENDED)
-    return subprocess.Popen(words, stdin=stdin, stdout=stdout, stderr=stderr, close_fds=False,  # a word may be /dev/fd/63
-                            preexec_fn=bound if prctl is not None else None)
+    with with_memory():
+        return subprocess.Popen(words, stdin=stdin, stdout=stdout, stderr=stderr, close_fds=False,  # a word may be /dev/fd/63
+                                preexec_fn=bound if prctl is not None else None)
 
 
 def is_nfot(place: str) -> bool:
@@ -57,8 +60,8 @@ def _shows(place: str, changed: int) -> bool:
     with start([place, "show", str(TINY)], subprocess.DEVNULL, subprocess.PIPE, subprocess.PIPE) as process:
         assert process.stdout is not None and process.stderr is not None
         timer = threading.Timer(SECONDS, process.kill)
-        timer.start()
         try:
+            timer.start()
             out = process.stdout.read(len(wanted) + 1)
             if len(out) >= len(wanted):
                 return out == wanted

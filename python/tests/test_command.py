@@ -2,6 +2,7 @@
 from __future__ import annotations
 
 import os
+import re
 import signal
 import subprocess
 import sys
@@ -9,10 +10,12 @@ import time
 import unittest
 from pathlib import Path
 from typing import Any
+from unittest import mock
 
 import nfot
 from nfot import tools
 from nfot.program import WARNING
+from nfot.tools import citing
 
 from .cases import SHOWS
 from .tooling import EXAMPLES, Case
@@ -60,6 +63,18 @@ class Help(Case):
     def test_wrong_words(self) -> None:
         self.refused(2, "sole is no command or tool", "sole")
         self.refused(2, "required: NET", "times")
+
+    def test_cite(self) -> None:
+        """The entry has the title, the authors, the version and the year of CITATION.cff, and the commit of a checkout."""
+        told, cited = self.fine("--cite"), (EXAMPLES.parent / "CITATION.cff").read_text(encoding="utf-8")
+        found = dict(re.findall(r"^  (\w+) = \{+([^{}]*)\}+,$", told, re.MULTILINE))
+        self.assertTrue(told.startswith("@software{nfot,\n") and told.endswith("}\n"))
+        for line in (f'title: "{found["title"]}"', f'  - name: "{found["author"]}"', f"version: {found['version']}", f"date-released: {found['year']}-"):
+            self.assertIn(f"\n{line}", cited)
+        with mock.patch.object(citing, "commit", return_value="0123"):
+            self.assertIn("\n  note = {commit 0123},\n}", self.fine("--cite"))
+        with mock.patch.object(subprocess, "run", side_effect=FileNotFoundError):
+            self.assertNotIn("note", self.fine("--cite"))
 
     def test_version(self) -> None:
         self.assertTrue(self.fine("--version").startswith(f"nfot-py {nfot.__version__}, with the "))

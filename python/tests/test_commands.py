@@ -188,6 +188,16 @@ class PastTheBudget(Case):
         run = nfot.resume(net, nfot.solve(net, 0), 20, patterns=1)
         self.assertEqual(run.reached, 20)
 
+    def test_a_fault_names_the_call(self) -> None:
+        """`solve` goes on by resume: its faults say `nfot solve`."""
+        stop = nfot.outcome(nfot.solve, EXAMPLES / "twelve.net", 30, patterns=1, go_on=False)
+        assert isinstance(stop, nfot.Stopped) and stop.report is not None
+        cut = self.folder() / "cut"
+        nfot.write_report(stop.report, cut)
+        for after, wanted in (("exec sleep 60", "^nfot solve took more than 1 seconds"), ("exit 99", "^nfot solve ended with the status 99"), ("kill -9 $$", "^nfot solve was ended by the signal")):
+            with self.program_of(f'[ "$1" = resume ] || {{ cat "{cut}"; echo "nfot: stopped: {stop.cause}" >&2; exit 6; }}\n{after}'):
+                self.faulted(nfot.Fault, wanted, nfot.solve, EXAMPLES / "twelve.net", 30, timeout=1)
+
     def test_labels_are_those_of_one_long_run(self) -> None:
         net = example("twelve")
         self.assertEqual(nfot.solve(net, 8, patterns=1).labels, nfot.solve(net, 8).labels)

@@ -90,7 +90,7 @@ def section(title: str) -> List[str]:
 def public_names() -> List[str]:
     """The names that the package takes from its modules."""
     tree = ast.parse((PACKAGE / "__init__.py").read_text(encoding="utf-8"))
-    return [alias.name for node in tree.body if isinstance(node, ast.ImportFrom) for alias in node.names]
+    return [alias.name for node in ast.walk(tree) if isinstance(node, ast.ImportFrom) for alias in node.names]
 
 
 class Page(Case):

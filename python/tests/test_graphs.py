@@ -45,7 +45,7 @@ class Graphs(unittest.TestCase):
             again = nfot.from_networkx(graph, graph.graph["source"], graph.graph["sink"], supply=graph.graph["supply"])
             self.assertEqual((again, again.version, list(again.links)), (net, net.version, list(net.links)))
         graph.add_edge(net.source, net.sink, key="new", transit=1)
-        again = nfot.from_networkx(graph, net.source, net.sink)
+        again = nfot.from_networkx(graph, net.source, net.sink, supply=net.supply)
         self.assertEqual((again.version, list(again.links)), (2, [*net.links, "new"]))
 
     def test_results_stand_on_edges(self) -> None:
@@ -87,10 +87,10 @@ class Graphs(unittest.TestCase):
         graph = networkx.DiGraph()
         graph.add_edge("Höhe 2", "Höhe_2", transit=1)
         with self.assertRaisesRegex(nfot.Refused, "'Höhe 2' is no name of a node: .*nfot.clean_names"):
-            nfot.from_networkx(graph, "Höhe 2", "Höhe_2")
+            nfot.from_networkx(graph, "Höhe 2", "Höhe_2", supply=[])
         names = nfot.clean_names(graph)
         self.assertEqual(names, {"Höhe 2": "Hoehe_2", "Höhe_2": "Hoehe_2.2"})
-        self.assertEqual(nfot.from_networkx(networkx.relabel_nodes(graph, names), "Hoehe_2", "Hoehe_2.2").source, "Hoehe_2")
+        self.assertEqual(nfot.from_networkx(networkx.relabel_nodes(graph, names), "Hoehe_2", "Hoehe_2.2", supply=[]).source, "Hoehe_2")
 
     def test_faults(self) -> None:
         graph = self.graph()
@@ -100,6 +100,16 @@ class Graphs(unittest.TestCase):
                              ({"per_minute": -1}, "`per_minute` of the edge home-work: -1 is below 0"), ({"per_minute": "x"}, "x is no number")]:
             with self.assertRaisesRegex(nfot.Fault, wanted):
                 self.made(self.graph(**data))
+
+    def test_forgotten(self) -> None:
+        """A capacity that no edge has, and a supply that isn't given, would give a run without queues."""
+        words = {"supply": [(0, 4), (60, 0)], "transit": "minutes"}
+        with self.assertRaisesRegex(nfot.Refused, "no edge has the attribute `per_min`, .*: `minutes`, `per_minute`$"):
+            nfot.from_networkx(self.graph(), "home", "work", capacity="per_min", **words)
+        with self.assertRaisesRegex(nfot.Refused, "no supply is given, so nothing would enter"):
+            nfot.from_networkx(self.graph(), "home", "work", transit="minutes", capacity="per_minute")
+        self.assertIsNone(nfot.from_networkx(self.graph(per_min=None), "home", "work", capacity="per_min", **words).links["bay-work"].capacity)
+        self.assertIsNone(nfot.from_networkx(self.graph(), "home", "work", **words).links["home-work"].capacity)
 
     def test_closed_roads_are_left_out(self) -> None:
         self.assertEqual(list(self.made(self.graph(per_minute=0)).links), ["home-bay", "bay-work"])

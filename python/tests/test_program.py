@@ -1,5 +1,6 @@
 """Which program is used, what ends it, temporary files, and whole files."""
 import contextlib
+import errno
 import io
 import os
 import pathlib
@@ -12,6 +13,7 @@ import unittest
 from unittest import mock
 
 import nfot
+from nfot import faults, tools
 from nfot import program as _program_function  # noqa: F401  (the call, not the module)
 from nfot.program import in_files, progress, run, write_beside
 
@@ -223,6 +225,30 @@ class Whole(Case):
                 show("phase 10")
                 show("phase 9")
             self.assertEqual(told.getvalue(), wanted)
+
+
+class Memory(Case):
+    def test_short(self) -> None:
+        """Whatever says that memory is short gives one Fault with status 1, in the library and for the command; other faults stay."""
+        for fault in (MemoryError(), OSError(errno.ENOMEM, "Cannot allocate memory"), RuntimeError("can't start new thread")):
+            with mock.patch.object(subprocess, "Popen", side_effect=fault), self.program_of("exit 0"):
+                self.assertEqual(self.faulted(nfot.Fault, "^memory is short: ", nfot.show, EXAMPLES / "one.net").status, 1)
+                self.assertIs(type(nfot.outcome(nfot.solve, EXAMPLES / "one.net", 1)), nfot.Fault)
+                err = io.StringIO()
+                with contextlib.redirect_stderr(err):
+                    self.assertEqual(tools.main(["solve", str(EXAMPLES / "one.net"), "--horizon", "1"]), 1)
+                self.assertRegex(err.getvalue(), r"\Anfot-py solve: memory is short: .*\n\Z")
+        with self.assertRaises(RuntimeError), faults.with_memory():
+            raise RuntimeError("another one")
+
+    @unittest.skipUnless(sys.platform.startswith("linux"), "the limit is one of Linux")
+    def test_limit(self) -> None:
+        """By a limit on memory a command ends with 0, or with status 1 and one line that isn't a traceback's; at the first limit Python has no thread."""
+        for limit in (26, 34):
+            done = subprocess.run(["/bin/sh", "-c", f'ulimit -v {limit}000; exec "$0" -m nfot show "$1"', sys.executable, str(EXAMPLES / "one.net")],
+                                  stdout=subprocess.PIPE, stderr=subprocess.PIPE, text=True, env={**os.environ, "PYTHONPATH": str(ROOT / "python")})
+            if "nfot" in done.stderr and "Traceback" not in done.stderr or not done.stderr:
+                self.assertIn((done.returncode, "memory is short" in done.stderr), [(0, False), (1, True)], done.stderr)
 
 
 if __name__ == "__main__":

@@ -75,6 +75,18 @@ class Times(Results):
 
 
 class Warned(Results):
+    def test_stopped(self) -> None:
+        """Three phases of examples/twelve.net end at departure 12. Each tool says so in one line, and nothing of a whole report."""
+        net, good = self.solved("two.net", 4)
+        stop = nfot.outcome(nfot.solve, EXAMPLES / "twelve.net", 30, phases=3)
+        assert isinstance(stop, nfot.Stopped) and stop.report is not None
+        self.write("cut.report", stop.report.text())
+        for tool in ("series", "phases", "gap"):
+            status, out, err = self.run_tool(tool, EXAMPLES / "twelve.net", "cut.report")
+            self.assertEqual((status, bool(out), err), (0, True, f"nfot-py {tool}: cut.report ends at departure 12, not at 30: phases 3\n"))
+            self.assertEqual(self.run_tool(tool, net, good)[::2], (0, ""))
+        self.assertEqual(nfot.gap(EXAMPLES / "twelve.net", stop.report).reached, 12)
+
     def test_no_equilibrium(self) -> None:
         """examples/late.report breaks C3: at 2 the label of t is 7, and 5 is right. The tools say so, and nothing of a report that is one."""
         net, good = self.solved("two.net", 4)

@@ -14,7 +14,7 @@ import sys
 from types import FrameType, ModuleType
 from typing import Any, NoReturn, Optional, Sequence
 
-from ..faults import Fault, Refused
+from ..faults import Fault, Refused, with_memory
 from .passing import COMMANDS, pass_through
 from .streams import closed_output, whole_streams
 
@@ -53,6 +53,7 @@ def overview() -> str:
     lines += [f"  {name:<{width}}{command.summary}" for name, command in COMMANDS.items()]
     lines += ["", "Tools:"] + [f"  {name:<{width}}{summary(name)}" for name in TOOLS]
     lines += ["", "`nfot-py NAME --help` explains a command or tool, with an example. `nfot-py --version` says which program is used.",
+              "`nfot-py --cite` prints an entry of BibTeX.",
               "Numbers may be 2.5, 7/2, 1e6, or 7:30 (hours and minutes, as minutes).",
               "", "example: nfot-py solve bridge.net --horizon 60 > bridge.report && nfot-py times bridge.net bridge.report 0 30 60"]
     return "\n".join(lines)
@@ -88,6 +89,10 @@ def chosen(words: Words) -> int:
         from .passing import version
         print(version())
         return 0
+    if words[0] == "--cite":
+        from .citing import citation
+        print(citation())
+        return 0
     if words[0] in COMMANDS:
         return pass_through(words)
     if words[0] in TOOLS:
@@ -109,7 +114,8 @@ def told(name: str, line: str, status: int) -> int:
 def tried(name: str, words: Words) -> int:
     """Runs the command or the tool, and prints a Fault in one line."""
     try:
-        return chosen(words)
+        with with_memory():
+            return chosen(words)
     except SystemExit as end:  # argparse, behind --help
         return int(end.code or 0)
     except Fault as fault:

@@ -7,6 +7,7 @@ import sys
 from fractions import Fraction
 from typing import Optional, Sequence
 
+from ..calling import near_time
 from ..commands import check
 from ..comparing import alike
 from ..demand import minutes_at
@@ -74,6 +75,12 @@ def warn(tool: str, report: str, run: Report, so: str = "") -> None:
         return
     if not verdict:
         print(f"nfot-py {tool}: {shown_name(report)} is no equilibrium{so}: {verdict.why}", file=sys.stderr)
+
+
+def tell_stopped(tool: str, report: str, run: Report) -> None:
+    """Says on standard error that a report ends before its horizon, where it does. `report` is the name of its file."""
+    if run.cause != "done":
+        print(f"nfot-py {tool}: {shown_name(report)} ends at departure {near_time(run.reached)}, not at {near_time(run.horizon)}: {run.cause}", file=sys.stderr)
 
 
 def check_inputs(*paths: Optional[str]) -> None:

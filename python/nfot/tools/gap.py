@@ -11,7 +11,7 @@ import argparse
 
 from ..gaps import gap
 from ..rows import Rows
-from .common import read_run, write_rows
+from .common import read_run, tell_stopped, write_rows
 from .options import add_csv, add_pair
 
 
@@ -25,6 +25,7 @@ def main(arguments: argparse.Namespace) -> int:
     """Prints the gap, or writes it as CSV."""
     network, report = read_run(arguments.net, arguments.report)
     found = gap(network, report)
+    tell_stopped("gap", arguments.report, report)
     if arguments.csv is None and not arguments.exact:
         print(found)
         return 0

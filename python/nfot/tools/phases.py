@@ -10,7 +10,7 @@ import argparse
 
 from ..rows import Cell, Rows
 from ..phases import Phase, phases
-from .common import read_run, warn, write_rows
+from .common import read_run, tell_stopped, warn, write_rows
 from .options import add_csv, add_pair
 
 
@@ -30,6 +30,7 @@ def main(arguments: argparse.Namespace) -> int:
     network, run = read_run(arguments.net, arguments.report)
     found = phases(network, run)
     warn("phases", arguments.report, run, ", so a phase may be no thin flow")
+    tell_stopped("phases", arguments.report, run)
     if arguments.csv is None:
         print("".join(f"{phase}\n" for phase in found), end="")
         return 0

@@ -14,7 +14,7 @@ from ..faults import Refused
 from ..networks import Network
 from ..reports import Report
 from ..rows import side_by_side
-from .common import check_inputs, read_run, tell_alike, tell_ends, warn, write_rows
+from .common import check_inputs, read_run, tell_alike, tell_ends, tell_stopped, warn, write_rows
 from .options import add_clock, add_csv, positive
 
 
@@ -52,5 +52,6 @@ def main(arguments: argparse.Namespace) -> int:
         tell("series", arguments.files[::2], list(found.values()))
     for report, run in zip(arguments.files[1::2], runs.values()):
         warn("series", report, run)
+        tell_stopped("series", report, run)
     write_rows(rows, arguments)
     return 0
