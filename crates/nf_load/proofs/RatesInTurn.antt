@@ -1,5 +1,5 @@
 -- The rates between the points of a supply, piece by piece.
-use Rattle.std.proofs.Common.{◌≡◌, ⊎_elim, ◌⊎◌, inl, inr, ℕ, zero, suc, ◌<◌, drop, Bool, true, false, List, [], ◌∷◌, ◌++◌, append-nil, refl, sym, ap, subst, ◌∙◌, arith}
+use Rattle.std.proofs.Common.{◌≡◌, ◌+◌, ⊎_elim, ◌⊎◌, inl, inr, ℕ, zero, suc, ◌<◌, drop, Bool, true, false, List, [], ◌∷◌, ◌++◌, length, append-nil, refl, sym, ap, subst, ◌∙◌, arith}
 use Rattle.std.specs.Prelude.{Ok, Some, slice_get}
 use Rattle.nf_rational.specs.Rational.{ℚ}
 use Rattle.nf_rational.specs.Operations.{0ℚ}
@@ -32,6 +32,14 @@ are_rates (p ∷ []) [] last h = tt
 are_rates (p ∷ []) (rate ∷ rates) last h = absurd h
 are_rates (p ∷ q ∷ rest) [] last h = tt
 are_rates (p ∷ q ∷ rest) (rate ∷ rates) last h = (h.0, are_rates (q ∷ rest) rates last h.1)
+
+pub as_many : (points : List Point) (rates : List ℚ) (last : Point) → RatesTo points rates last → length points ≡ length rates + 1
+as_many [] [] last h = absurd h
+as_many [] (rate ∷ rates) last h = absurd h
+as_many (p ∷ []) [] last h = refl
+as_many (p ∷ []) (rate ∷ rates) last h = absurd h
+as_many (p ∷ q ∷ rest) [] last h = absurd h
+as_many (p ∷ q ∷ rest) (rate ∷ rates) last h = let e : length (q ∷ rest) ≡ length rates + 1 = as_many (q ∷ rest) rates last h.1 in omega arith
 
 one_more : (points : List Point) (rates : List ℚ) (p q : Point) (rate : ℚ) → RatesTo points rates p → checked_slope passes_Q p q ≡ Ok rate → RatesTo (points ++ q ∷ []) (rates ++ rate ∷ []) q
 one_more [] [] p q rate h s = absurd h

@@ -1,5 +1,5 @@
 // The amount supplied by pieces, by time, and the rates between its points.
-ghost use Rattle.std.specs.Prelude.{◌≡◌, [], ◌∷◌, ◌++◌, IfOk, OnOk};
+ghost use Rattle.std.specs.Prelude.{◌≡◌, ◌+◌, [], ◌∷◌, ◌++◌, length, IfOk, OnOk};
 ghost use Rattle.nf_rational.specs.Operations.{0ℚ};
 ghost use Rattle.nf_rational.specs.Order.{◌≤ℚ◌};
 ghost use Rattle.nf_frac_def.specs.declared.Part.TheVariants.{Load};
@@ -106,6 +106,7 @@ fn supply_until(alloc: Global, pieces: &[Piece], last: Q) -> Result<Supply, Halt
     ensures list { Gives (λ supply. supply.points.items) (λ q. q) result
         (at_part Load (checked_cumulative passes_Q pieces.now last)) }
     ensures rates { IfOk result (λ supply. AreRates supply.points.items supply.rates.items) }
+    ensures all { IfOk result (λ supply. length supply.points.items ≡ length supply.rates.items + 1) }
 {
     let mut supply = Supply::start(alloc, pieces)?;
     let mut so_far = Q::zero();
@@ -140,7 +141,7 @@ pub fn cumulative(alloc: Global, pieces: &[Piece], until: Q) -> Result<Curve, Ha
     Ok(trace.curve)
 }
 
-/// Returns the same curve as `cumulative`, with the rates between its points. No operation of the slopes between them passes.
+/// Returns the same curve as `cumulative`, with the rates between its points, one for each piece. No operation of these slopes passes.
 pub fn supplied(alloc: Global, pieces: &[Piece], until: Q) -> Result<Trace, Halt<Q>>
     requires pieces { ArePieces pieces.now }
     requires until { 0ℚ ≤ℚ until }
@@ -148,6 +149,7 @@ pub fn supplied(alloc: Global, pieces: &[Piece], until: Q) -> Result<Trace, Halt
         (at_part Load (checked_cumulative passes_Q pieces.now until)) }
     ensures amount { IfOk result (λ t. IsCumulative pieces.now until t.curve.points) }
     ensures rates { IfOk result (λ t. AreRates t.curve.points t.rates.items) }
+    ensures all { IfOk result (λ t. length t.curve.points ≡ length t.rates.items + 1) }
 {
     let supply = supply_until(alloc, pieces, until)?;
     Ok(Trace {

@@ -130,8 +130,8 @@ pub fn load_link(
     load_cut(alloc, transit, capacity, &cut, &[], until)
 }
 
-/// Loads a link as `load_link` does. The rates of the inflow are the slopes between its points, and no operation of these passes, so that
-/// they need not be computed again.
+/// Loads a link as `load_link` does. The rates of the inflow must be the slopes of its first pieces, none of whose operations passes.
+/// They are not computed again.
 pub fn load_trace(
     alloc: Global,
     transit: Q,

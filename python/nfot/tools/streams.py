@@ -1,4 +1,7 @@
-"""Standard output and standard error of the command: whatever Python's settings, a text is written whole, or that it isn't is a fault."""
+"""Standard output and standard error of the command.
+
+A text is written whole, whatever the settings of Python, or a fault says that it was cut.
+"""
 from __future__ import annotations
 
 import contextlib
@@ -9,7 +12,7 @@ from typing import Iterator, Optional, TextIO
 
 
 def buffered(stream: Optional[TextIO]) -> Optional[TextIO]:
-    """The stream; behind a buffer where it has none, as with PYTHONUNBUFFERED: there a write that takes only a part is no fault."""
+    """The stream, behind a buffer where it has none, as with PYTHONUNBUFFERED. Without a buffer a partial write raises no error."""
     raw = getattr(stream, "buffer", None)
     if stream is None or not isinstance(raw, io.RawIOBase):
         return stream

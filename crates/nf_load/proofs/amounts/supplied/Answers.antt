@@ -1,4 +1,4 @@
-use Rattle.std.proofs.Common.{List, sym, subst}
+use Rattle.std.proofs.Common.{◌∙◌, List, length, sym, ap, subst}
 use Rattle.nf_rational.specs.Rational.{ℚ}
 use Rattle.nf_frac_def.specs.declared.Part.TheVariants.{Load}
 use Rattle.nf_frac_def.specs.Passing.{passes_Q}
@@ -23,3 +23,6 @@ returns-clause-amount c =
 pub returns-clause-rates : goal.returns-clause-rates
 returns-clause-rates c =
     subst (λ (l : List (ℚ × ℚ)). AreRates l c.in_ok-supply.supply.rates.items) (sym c.of_points.ensures) c.in_ok-supply.ensures.rates
+
+pub returns-clause-all : goal.returns-clause-all
+returns-clause-all c = ap (λ (l : List (ℚ × ℚ)). length l) c.of_points.ensures ∙ c.in_ok-supply.ensures.all

@@ -14,7 +14,7 @@ use Rattle.nf_load_def.specs.Cumulative.{end_of, point_if_after_0, with_piece, c
 use Rattle.nf_curve.proofs.Exits.{was_ok}
 use Rattle.nf_load.specs.Rates.{rate_if_after_0}
 use Rattle.nf_load.proofs.Supplying.{within_next, begins_with, ends_before_at, ends_there, goes_on_at, stops_at, one_on}
-use Rattle.nf_load.proofs.RatesInTurn.{are_rates, first_rates, pushed_rates, RatesSoFar, next_rates, up_to_start, up_to_late, up_to_last}
+use Rattle.nf_load.proofs.RatesInTurn.{are_rates, as_many, first_rates, pushed_rates, RatesSoFar, next_rates, up_to_start, up_to_late, up_to_last}
 use Rattle.nf_load.proofs.amounts.supply_until.Goals as goal
 
 pub loop-index-init : goal.loop-index-init
@@ -40,6 +40,17 @@ returns-then-not-is_below-clause-rates c =
     let late : lt_ℚ c.index-pieces-index.result.start c.args.last ≡ false =
     sym (c.is_below.ensures ∙ ap (λ (p : Piece). lt_ℚ p.start c.args.last) c.piece.view_is) ∙ c.if-not-is_below.true in
     are_rates _ _ _ (pushed_rates c.loop-index.supply.points.items _ c.loop-index.supply.rates.items _ c.loop-index.so_far c.loop-index.rate c.args.last c.recall.ensures
+    c.in_ok-ended.ensures.points c.in_ok-ended.ensures.rates
+    (up_to_late c.loop-index.supply.points.items c.loop-index.supply.rates.items c.loop-index.so_far c.loop-index.rate c.args.last c.args.pieces.now c.loop-index.index c.loop-index.invariant.rates
+    c.index-pieces-index.result g late))
+
+pub returns-then-not-is_below-clause-all : goal.returns-then-not-is_below-clause-all
+returns-then-not-is_below-clause-all c =
+    let inside : c.loop-index.index < length c.args.pieces.now = c.loop-index-test.true in
+    let g = slice_get_read c.args.pieces.now _ c.loop-index.index c.index-pieces-index.result refl inside c.index-pieces-index.is in
+    let late : lt_ℚ c.index-pieces-index.result.start c.args.last ≡ false =
+    sym (c.is_below.ensures ∙ ap (λ (p : Piece). lt_ℚ p.start c.args.last) c.piece.view_is) ∙ c.if-not-is_below.true in
+    as_many _ _ _ (pushed_rates c.loop-index.supply.points.items _ c.loop-index.supply.rates.items _ c.loop-index.so_far c.loop-index.rate c.args.last c.recall.ensures
     c.in_ok-ended.ensures.points c.in_ok-ended.ensures.rates
     (up_to_late c.loop-index.supply.points.items c.loop-index.supply.rates.items c.loop-index.so_far c.loop-index.rate c.args.last c.args.pieces.now c.loop-index.index c.loop-index.invariant.rates
     c.index-pieces-index.result g late))
@@ -81,6 +92,14 @@ pub returns-clause-rates : goal.returns-clause-rates
 returns-clause-rates c =
     let past : length c.args.pieces.now ≤ c.loop-index.index = omega arith in
     are_rates _ _ _ (pushed_rates c.loop-index.supply.points.items _ c.loop-index.supply.rates.items _ c.loop-index.so_far c.loop-index.rate c.args.last c.recall.ensures
+    c.in_ok-ended-2.ensures.points c.in_ok-ended-2.ensures.rates
+    (up_to_last c.loop-index.supply.points.items c.loop-index.supply.rates.items c.loop-index.so_far c.loop-index.rate c.args.last c.args.pieces.now c.loop-index.index c.loop-index.invariant.rates
+    (drop_all c.loop-index.index c.args.pieces.now past)))
+
+pub returns-clause-all : goal.returns-clause-all
+returns-clause-all c =
+    let past : length c.args.pieces.now ≤ c.loop-index.index = omega arith in
+    as_many _ _ _ (pushed_rates c.loop-index.supply.points.items _ c.loop-index.supply.rates.items _ c.loop-index.so_far c.loop-index.rate c.args.last c.recall.ensures
     c.in_ok-ended-2.ensures.points c.in_ok-ended-2.ensures.rates
     (up_to_last c.loop-index.supply.points.items c.loop-index.supply.rates.items c.loop-index.so_far c.loop-index.rate c.args.last c.args.pieces.now c.loop-index.index c.loop-index.invariant.rates
     (drop_all c.loop-index.index c.args.pieces.now past)))
