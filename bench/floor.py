@@ -1,12 +1,12 @@
 #!/usr/bin/env python3
 """Counts the floor of runs: the instructions of the operations that docs/LISTS.md asks for, each done once and well, and of reading and printing.
 
-    python3 bench/floor.py --groups [--only WORD] [--each] PROGRAM [PEER]
-    python3 bench/floor.py --measure [--only WORD] PROGRAM
+    python3 bench/floor.py --groups [--only WORD] [--seconds N] [--each] PROGRAM [PEER]
+    python3 bench/floor.py --measure [--only WORD] [--seconds N] PROGRAM
 
 `--groups` makes the runs of bench/instructions.py and prints two tables: the operations of each part by kind and length, and their floor with the
-instructions of PROGRAM and PEER over it. bench/floor_trace.py says how operations are counted. A run whose operations can't be counted, or whose bytes
-aren't PROGRAM's, is left out and named.
+instructions of PROGRAM and PEER over it. bench/floor_trace.py says how operations are counted. A run whose operations can't be counted within the
+seconds, or whose bytes aren't PROGRAM's, is left out and named. The second table says how many runs of how many were counted.
 
 `--measure` prints the table of costs, bench/floor.costs.txt: instructions of bench/floor.c for an operation of each kind and length, by callgrind, on
 a sample of the operands of the runs themselves; and for a byte that is read or printed.
@@ -17,7 +17,9 @@ from __future__ import annotations
 
 import argparse
 import collections
+import contextlib
 import os
+import signal
 import subprocess
 import sys
 import tempfile
@@ -50,6 +52,13 @@ class Traced(NamedTuple):
     theirs: Optional[int]
 
 
+class Made(NamedTuple):
+    """A run that was made, and its status, whether or not its operations were counted."""
+
+    work: str
+    status: int
+
+
 # ---- runs ----
 
 
@@ -62,10 +71,26 @@ def runs_of(asked: argparse.Namespace, folder: str) -> Iterator[instructions.Run
                 yield run
 
 
+@contextlib.contextmanager
+def limited(seconds: float) -> Iterator[None]:
+    """Raises NotCounted after so many seconds; 0 is no limit."""
+
+    def ended(number: int, frame: object) -> None:
+        raise floor_trace.NotCounted(f"it takes more than {seconds:g} seconds")
+
+    signal.signal(signal.SIGALRM, ended)
+    signal.setitimer(signal.ITIMER_REAL, seconds)
+    try:
+        yield
+    finally:
+        signal.setitimer(signal.ITIMER_REAL, 0)
+
+
 def counts_of(run: instructions.Run, asked: argparse.Namespace, folder: str) -> Optional[Counts]:
     """Returns the operations of a run; none, with a line on standard error, where they can't be counted."""
     try:
-        counts = floor_trace.trace(run.words, asked.program, folder)
+        with limited(asked.seconds):
+            counts = floor_trace.trace(run.words, asked.program, folder)
         if counts.answer == instructions.answered([asked.program, *run.words]):
             return counts
         fault = "other bytes"
@@ -178,7 +203,7 @@ def quotient(above: float, below: float) -> str:
     return f"{above / below:.1f}"
 
 
-def print_floors(parts: dict[str, list[Traced]], peer: Optional[str]) -> None:
+def print_floors(parts: dict[str, list[Traced]], made: dict[str, list[Made]], peer: Optional[str]) -> None:
     """Prints the floors of the parts, and the programs' instructions over them."""
     costs = read_costs()
     print_head(["work", "runs", "operations, thousands", "floor, millions", "of this texts", "different operations alone", "program, millions",
@@ -189,7 +214,7 @@ def print_floors(parts: dict[str, list[Traced]], peer: Optional[str]) -> None:
         texts = floor - sum(number * costs[key] for it in them for key, number in it.counts.operations.items())
         ours = sum(it.ours for it in them)
         operations = sum(sum(it.counts.operations.values()) for it in them)
-        cells = [work, str(len(them)), f"{operations / 1000:.0f}", *(f"{it / 1e6:.2f}" for it in (floor, texts, least, ours))]
+        cells = [work, f"{len(them)} of {len(made.get(work, them))}", f"{operations / 1000:.0f}", *(f"{it / 1e6:.2f}" for it in (floor, texts, least, ours))]
         cells.append(quotient(ours, floor))
         if them[0].theirs is not None:
             theirs = sum(it.theirs for it in them if it.theirs)
@@ -199,9 +224,10 @@ def print_floors(parts: dict[str, list[Traced]], peer: Optional[str]) -> None:
 
 def groups(asked: argparse.Namespace, folder: str) -> None:
     """Makes the runs, and prints the tables."""
-    costs, found = read_costs(), []
+    costs, found, made = read_costs(), [], []
     for run in runs_of(asked, folder):
         traced = traced_of(run, asked, folder)
+        made.append(Made(run.work, traced.status if traced else instructions.answered([asked.program, *run.words])[0]))
         if traced:
             found.append(traced)
             if asked.each:
@@ -211,7 +237,7 @@ def groups(asked: argparse.Namespace, folder: str) -> None:
     if found:
         parts = instructions.parts_of(found)
         print_operations(parts)
-        print_floors(parts, asked.peer)
+        print_floors(parts, instructions.parts_of(made), asked.peer)
 
 
 def main() -> int:
@@ -223,6 +249,7 @@ def main() -> int:
     how.add_argument("program", metavar="PROGRAM")
     how.add_argument("peer", metavar="PEER", nargs="?")
     how.add_argument("--only", default="", help="the parts whose names have this word")
+    how.add_argument("--seconds", type=float, default=0, help="leave out a run whose operations take longer to count (0: no limit)")
     how.add_argument("--each", action="store_true", help="name the status, floor and quotient of each run on standard error")
     asked = how.parse_args()
     try:
