@@ -75,6 +75,9 @@ class Help(Case):
             self.assertIn("\n  note = {commit 0123},\n}", self.fine("--cite"))
         with mock.patch.object(subprocess, "run", side_effect=FileNotFoundError):
             self.assertNotIn("note", self.fine("--cite"))
+            self.write("commit.txt", "4567\n")
+            with mock.patch.object(citing, "RELEASED", self.folder / "commit.txt"):
+                self.assertIn("\n  note = {commit 4567},\n}", self.fine("--cite"))
 
     def test_version(self) -> None:
         self.assertTrue(self.fine("--version").startswith(f"nfot-py {nfot.__version__}, with the "))
@@ -89,6 +92,18 @@ class Passing(Case):
             here = subprocess.run(command(*given), stdout=subprocess.PIPE, stderr=subprocess.PIPE, env=ENVIRONMENT)
             there = subprocess.run([*words, *map(str, given)], stdout=subprocess.PIPE, stderr=subprocess.PIPE)
             self.assertEqual((here.returncode, here.stdout, told(here.stderr)), (there.returncode, there.stdout, there.stderr))
+
+    def test_check_of_a_stopped_report(self) -> None:
+        """The answer is the program's; a line beside it says up to which departure it holds."""
+        with self.assertRaises(nfot.Stopped) as stopped:
+            nfot.solve(EXAMPLES / "bridge.net", 60, phases=1)
+        report = stopped.exception.report
+        assert report is not None
+        wanted = f"nfot-py check: stopped.report was checked up to departure {report.reached}, where it ends, not up to 60: phases 1\n"
+        for text, more in ((report.text(), wanted), (nfot.solve(EXAMPLES / "bridge.net", 60).text(), "")):
+            self.write("stopped.report", text)
+            done = subprocess.run(command("check", EXAMPLES / "bridge.net", "stopped.report"), stdout=subprocess.PIPE, stderr=subprocess.PIPE, env=ENVIRONMENT)
+            self.assertEqual((done.returncode, done.stdout, told(done.stderr).decode()), (0, b"yes\n", more))
 
     def test_process_substitution(self) -> None:
         """A file may be an open descriptor, as a shell makes one of `<(nfot solve ..)`."""

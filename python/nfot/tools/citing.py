@@ -1,4 +1,4 @@
-"""What `nfot-py --cite` prints: an entry of BibTeX, with the commit where the package runs from a checkout."""
+"""What `nfot-py --cite` prints: an entry of BibTeX, with the commit where the package runs from a checkout or is that of a release."""
 from __future__ import annotations
 
 import pathlib
@@ -8,8 +8,13 @@ from typing import Optional
 TITLE, AUTHORS, YEAR = "nfot: exact dynamic traffic equilibria, proved", "The nfot authors", "2026"  # as in CITATION.cff
 
 
+RELEASED = pathlib.Path(__file__).resolve().parents[1] / "data/commit.txt"  # written by tools/release.sh, and in no checkout
+
+
 def commit() -> Optional[str]:
-    """The commit of the checkout that the package runs from, with `-dirty` where files were changed; None where there is none."""
+    """The commit of the release, or that of the checkout that the package runs from, with `-dirty` where files were changed; None without both."""
+    if RELEASED.is_file():
+        return RELEASED.read_text(encoding="ascii").strip()
     top = pathlib.Path(__file__).resolve().parents[3]
     if not (top / ".git").exists() or not (top / "CITATION.cff").is_file():
         return None

@@ -8,10 +8,12 @@ import sys
 import time
 from typing import NamedTuple, Sequence
 
+from ..calling import near_time
 from ..faults import BROKEN, Fault, NotFound
+from ..lines import LONGEST_LINE
 from ..numbers import parse
 from ..program import program, progress
-from ..rules import windows_lines
+from ..rules import files_of, windows_lines
 from ..starting import start
 
 TAKEN = re.compile(r"-?\d+(/0*[1-9]\d*)?")  # a number as nfot takes it on its command line
@@ -29,7 +31,7 @@ COMMANDS = {
                      "nfot-py solve bridge.net --horizon 60 > bridge.report"),
     "resume": Command("NET REPORT --horizon Q [--phases N] [--patterns N]", "Goes on from a report to a later horizon.",
                       "nfot-py resume bridge.net bridge.report --horizon 90 > longer.report"),
-    "check": Command("NET REPORT", "Says whether the flow of a report is an equilibrium, and if not, where it breaks which rule.",
+    "check": Command("NET REPORT", "Says whether the flow of a report is an equilibrium up to the departure reached, and if not, where it breaks which rule.",
                      "nfot-py check bridge.net bridge.report"),
     "load": Command("NET LOADS --horizon Q", "Prints queues and exit times of links for given inflows.", "nfot-py load bridge.net tolled.loads --horizon 60"),
     "routes": Command("NET ROUTES --horizon Q", "Prints arrivals of drivers whose routes are given.", "nfot-py routes merge.net merge.routes --horizon 2"),
@@ -87,9 +89,36 @@ def pass_through(words: Sequence[str]) -> int:
     except OSError as fault:
         raise NotFound(f"the program doesn't start: {fault.strerror}", file=os.fspath(program().words[0])) from None
     status = status_of(process, f"nfot {words[0]}")
-    for line in windows_lines(words) if status == BROKEN else []:
+    for line in added_lines(words, status):
         print(f"nfot-py {words[0]}: {line}", file=sys.stderr)
     return status if status >= 0 else 128 - status
+
+
+def added_lines(words: Sequence[str], status: int) -> list[str]:
+    """What the package says beside the program's answer, on standard error."""
+    if status == BROKEN:
+        return windows_lines(words)
+    return stopped_lines(words) if status == 0 and words[0] == "check" else []
+
+
+def stopped_lines(words: Sequence[str]) -> list[str]:
+    """The line on a report that ends before its horizon, after `check` said yes: up to which departure that holds. A pipe is read by then."""
+    names = files_of(words)[1:2]
+    heads = head_of(names[0]) if names and os.path.isfile(names[0]) else {}
+    if heads.keys() < {"horizon", "reached", "cause"} or heads["cause"] == "done":
+        return []
+    reached, horizon = (near_time(parse(heads[word])) for word in ("reached", "horizon"))
+    return [f"{names[0]} was checked up to departure {reached}, where it ends, not up to {horizon}: {heads['cause']}"]
+
+
+def head_of(name: str) -> dict[str, str]:
+    """What the lines 2 to 4 of a report say, by their first word."""
+    try:
+        with open(name, encoding="ascii", errors="replace") as file:
+            lines = [file.readline(LONGEST_LINE + 1).rstrip("\n").partition(" ") for _ in range(4)]
+    except OSError:
+        return {}
+    return {word: text for word, _, text in lines[1:]}
 
 
 def status_of(process: "subprocess.Popen[bytes]", name: str) -> int:
