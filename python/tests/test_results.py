@@ -237,7 +237,9 @@ class Bottlenecks(Results):
         self.assertEqual(self.fine("bottleneck", EXAMPLES / "bridge.net"), "travel times settle: the slope of the sink is 1\n")
         self.refused(1, "other nodes", "bottleneck", EXAMPLES / "bridge.net", "-", stdin=forever)
         self.refused(1, "aren't those of this network", "bottleneck", EXAMPLES / "two.net", "-", stdin=forever.replace("3/2", "5/2"))
-        self.refused(1, "standard input has no slopes", "bottleneck", EXAMPLES / "two.net", "-", stdin="forever 1\n")
+        for text, why in (("forever 1\n", "has no slopes: the run stopped"), ("quick 71\ncut s 0\n", "is the output of `nfot quick`, whose links `nfot-py cut`"),
+                          ("report 1\n", "is a report"), ("\n", "has no slopes: this tool takes the output of `nfot solve NET --forever`")):
+            self.refused(1, f"standard input {why}", "bottleneck", EXAMPLES / "two.net", "-", stdin=text)
 
 
 class Library(Results):

@@ -11,6 +11,7 @@ from __future__ import annotations
 import argparse
 import sys
 from fractions import Fraction
+from typing import Sequence
 
 from ..commands import forever
 from ..cuts import bottleneck, numbers_of
@@ -37,8 +38,17 @@ def slopes_of(network: Network, path: str | None) -> dict[str, Fraction]:
     lines = sys.stdin.readlines() if path == "-" else read_bytes(path).decode("ascii", "replace").splitlines()
     slopes = numbers_of(lines, "slope", name)
     if not slopes:
-        raise Refused(f"{name} has no slopes: the run stopped before a phase that never ends; `nfot-py cut NET --amount 1000000` shows the same links", status=1)
+        raise Refused(f"{name} {why_none(lines)}", status=1)
     return slopes
+
+
+def why_none(lines: Sequence[str]) -> str:
+    """Why a text has no slopes, by its first word."""
+    word = next((line.split()[0] for line in lines if line.split()), "")
+    if word == "forever":
+        return "has no slopes: the run stopped before a phase that never ends; `nfot-py cut NET --amount 1000000` shows the same links"
+    reason = {"quick": "is the output of `nfot quick`, whose links `nfot-py cut` shows", "report": "is a report, whose run has a horizon"}
+    return f"{reason.get(word, 'has no slopes')}: this tool takes the output of `nfot solve NET --forever`"
 
 
 def main(arguments: argparse.Namespace) -> int:
