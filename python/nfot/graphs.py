@@ -70,22 +70,22 @@ def edges(graph: Any) -> Iterator[tuple[Hashable, Hashable, Optional[str], Mappi
             yield head, tail, f"{key}_back" if isinstance(key, str) else None, data
 
 
-def named_capacity(graph: Any, capacity: str) -> str:
-    """The attribute of capacities that a caller names; Refused where the graph has edges and none has it."""
+def check_capacity(graph: Any, capacity: str) -> None:
+    """Refuses a graph with edges none of which has the attribute of capacities."""
     found = [data for _, _, _, data in edges(graph)]
     if found and not any(capacity in data for data in found):
         there = ", ".join(f"`{word}`" for word in dict.fromkeys(str(word) for data in found for word in data)) or "none"
-        raise Refused(f"no edge has the attribute `{capacity}`, so each link would be unbounded; edges have the attributes: {there}")
-    return capacity
+        raise Refused(f"no edge has the attribute `{capacity}`, so each link would be unbounded; edges have the attributes: {there}. Name the one with "
+                      f"capacities by capacity=, or give an edge `{capacity}` None if all are unbounded")
 
 
 def from_networkx(graph: Any, source: Hashable, sink: Hashable, *, supply: Optional[Iterable[tuple[Number, Number]]] = None,
-                  transit: str = "transit", capacity: Optional[str] = None, name: Optional[str] = None, round_to: Optional[Number] = None,
+                  transit: str = "transit", capacity: str = "capacity", name: Optional[str] = None, round_to: Optional[Number] = None,
                   most_change: Union[int, Fraction] = MOST) -> Network:
     """The network of a graph of networkx (of any kind; an edge of an undirected one is a road with both directions).
 
-    `supply` is needed; `[]` means that nothing enters. `transit` and `capacity` name attributes of edges (without names `transit` and
-    `capacity`). An edge without a capacity is unbounded, one of capacity 0 is closed and left out; some edge has the one that is named.
+    `supply` is needed; `[]` means that nothing enters. `transit` and `capacity` name attributes of edges. An edge without a capacity is
+    unbounded, one of capacity 0 is closed and left out. Refused where no edge has the attribute `capacity`.
     `name` is the attribute with the name of a link; without one it is the key of a multigraph, if that is a text, else `TAIL-HEAD`.
     Numbers are exact; floats need `round_to`, the unit to whose multiples times and capacities are rounded. Raises a Fault where a number
     is a float, where rounding changes one by more than `most_change` percent, and for a name that the network file doesn't allow
@@ -95,8 +95,8 @@ def from_networkx(graph: Any, source: Hashable, sink: Hashable, *, supply: Optio
             raise OutOfRange(f"the graph has no node {node!r}")
     if supply is None:
         raise Refused("no supply is given, so nothing would enter: give pairs (start, rate), as supply=[(0, 4), (60, 0)]")
-    limits = "capacity" if capacity is None else named_capacity(graph, capacity)
-    reader, names, links = Reader(transit, limits, round_to, Fraction(most_change)), Names(), []
+    check_capacity(graph, capacity)
+    reader, names, links = Reader(transit, capacity, round_to, Fraction(most_change)), Names(), []
     for tail, head, key, data in edges(graph):
         what = f"the edge {tail}-{head}"
         time, limit = reader.numbers(data, what)

@@ -85,7 +85,7 @@ class Graphs(unittest.TestCase):
 
     def test_clean_names(self) -> None:
         graph = networkx.DiGraph()
-        graph.add_edge("Höhe 2", "Höhe_2", transit=1)
+        graph.add_edge("Höhe 2", "Höhe_2", transit=1, capacity=1)
         with self.assertRaisesRegex(nfot.Refused, "'Höhe 2' is no name of a node: .*nfot.clean_names"):
             nfot.from_networkx(graph, "Höhe 2", "Höhe_2", supply=[])
         names = nfot.clean_names(graph)
@@ -104,12 +104,14 @@ class Graphs(unittest.TestCase):
     def test_forgotten(self) -> None:
         """A capacity that no edge has, and a supply that isn't given, would give a run without queues."""
         words = {"supply": [(0, 4), (60, 0)], "transit": "minutes"}
-        with self.assertRaisesRegex(nfot.Refused, "no edge has the attribute `per_min`, .*: `minutes`, `per_minute`$"):
-            nfot.from_networkx(self.graph(), "home", "work", capacity="per_min", **words)
+        for given in ({"capacity": "per_min"}, {}):
+            wanted = f"no edge has the attribute `{given.get('capacity', 'capacity')}`, .*: `minutes`, `per_minute`. Name"
+            with self.assertRaisesRegex(nfot.Refused, wanted):
+                nfot.from_networkx(self.graph(), "home", "work", **given, **words)
         with self.assertRaisesRegex(nfot.Refused, "no supply is given, so nothing would enter"):
             nfot.from_networkx(self.graph(), "home", "work", transit="minutes", capacity="per_minute")
         self.assertIsNone(nfot.from_networkx(self.graph(per_min=None), "home", "work", capacity="per_min", **words).links["bay-work"].capacity)
-        self.assertIsNone(nfot.from_networkx(self.graph(), "home", "work", **words).links["home-work"].capacity)
+        self.assertIsNone(nfot.from_networkx(self.graph(capacity=None), "home", "work", **words).links["home-work"].capacity)
 
     def test_closed_roads_are_left_out(self) -> None:
         self.assertEqual(list(self.made(self.graph(per_minute=0)).links), ["home-bay", "bay-work"])
