@@ -7,6 +7,8 @@ usage() {
 usage: tools/release.sh FOLDER
 
 Writes FOLDER/nfot-VERSION-linux-x86_64.tar.gz from this tree, as it is committed. Build it first (`bash .ci/run`).
+The program is crates/nfot/out/nfot. It is refused if a source in crates is newer than it is. That it is the proved build of this commit
+can't be told from its bytes: run the gate right before.
 The archive holds bin/nfot, the wheel, examples, docs, README.md, CHANGELOG.md, CONTRIBUTING.md, CITATION.cff, BUILD (commit, version, kit)
 and SHA256SUMS. Of crates and bench it holds only the files that pages link, such as the definitions that docs/CLAIMS.md cites.
 The same commit and program give the same bytes. The unpacked program is tried on examples/one.net.
@@ -29,6 +31,9 @@ cd "$top"
 program=crates/nfot/out/nfot
 [ -x "$program" ] || refuse "$program is not built: run bash .ci/run first"
 [ -z "$(git status --porcelain)" ] || refuse "the tree has changes that are not committed"
+newer=$(find crates crates.txt -name out -prune -o -type f ! -name '*.md' -newer "$program" -print -quit)
+[ -z "$newer" ] || refuse "$program is older than $newer: run bash .ci/run again"
+echo "release: takes $program of $(date -u -r "$program" '+%Y-%m-%d %H:%M UTC'), sha256 $(sha256sum <"$program" | cut -d ' ' -f 1); no source is newer"
 version=$(sed -n 's/^version = "\(.*\)"$/\1/p' pyproject.toml)
 [ -n "$version" ] || refuse "pyproject.toml has no version"
 grep -qx "version: $version" CITATION.cff || refuse "CITATION.cff has another version than pyproject.toml, $version"
@@ -40,9 +45,11 @@ trap 'rm -rf "$work"' EXIT
 SOURCE_DATE_EPOCH=$(git log -1 --format=%ct)
 export SOURCE_DATE_EPOCH
 
-# Copies what the release holds, from the commit alone; the wheel is built from it too, so that nothing of the folder creeps in.
+# Copies what the release holds, from the commit alone; the wheel is built from it too, so that nothing of the folder creeps in. The wheel
+# also holds the commit, for `nfot-py --cite`.
 mkdir -p "$work/tree" "$work/$name/bin"
 git archive HEAD | tar xf - -C "$work/tree"
+git rev-parse HEAD >"$work/tree/python/nfot/data/commit.txt"
 (cd "$work/tree" && python3 -m pip wheel --quiet --no-deps --no-build-isolation --no-cache-dir --wheel-dir "$work/$name" .) || refuse "the wheel could not be built"
 cp -r "$work/tree/examples" "$work/tree/docs" "$work/tree/README.md" "$work/tree/CHANGELOG.md" "$work/tree/CONTRIBUTING.md" "$work/tree/CITATION.cff" "$work/$name"
 # The files of crates and bench that the pages link, with their paths, so that these links work in the archive.

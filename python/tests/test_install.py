@@ -1,7 +1,9 @@
 """An installed copy, in a fresh virtual environment outside the checkout and without the program."""
+import hashlib
 import importlib.util
 import os
 import pathlib
+import shutil
 import subprocess
 import sys
 import tempfile
@@ -42,6 +44,42 @@ class Installed(Case):
         if (ROOT / "python/nfot/__main__.py").exists():
             done = self.run_there("nfot-py", "solve", str(EXAMPLES / "one.net"), "--horizon", "2")
             self.assertEqual((done.returncode, done.stdout.encode()), (0, report), done.stderr)
+
+
+@unittest.skipUnless(shutil.which("git") and shutil.which("bash"), "git or bash isn't here")
+class Released(Case):
+    def setUp(self) -> None:
+        """A committed tree with the script, a source and a program that was built after it."""
+        self.top = self.folder()
+        for name, text in (("crates/one/src/lib.rt", ""), ("crates/one/notes.md", ""), ("crates/nfot/out/nfot", "#!/bin/sh\n"), ("crates.txt", ""), (".gitignore", "out/\n")):
+            (self.top / name).parent.mkdir(parents=True, exist_ok=True)
+            (self.top / name).write_text(text)
+            os.utime(self.top / name, (1_000_000, 1_000_000))
+        (self.top / "crates/nfot/out/nfot").chmod(0o755)
+        os.utime(self.top / "crates/nfot/out/nfot", (2_000_000, 2_000_000))
+        (self.top / "pyproject.toml").write_text("")
+        (self.top / "tools").mkdir()
+        shutil.copy(ROOT / "tools/release.sh", self.top / "tools")
+        for words in (["init"], ["add", "."], ["-c", "user.name=n", "-c", "user.email=n@n", "commit", "-m", "one"]):
+            subprocess.run(["git", *words], cwd=self.top, check=True, stdout=subprocess.PIPE, stderr=subprocess.PIPE)
+
+    def release(self) -> "subprocess.CompletedProcess[str]":
+        """Runs the script."""
+        return subprocess.run(["bash", "tools/release.sh", "."], cwd=self.top, stdout=subprocess.PIPE, stderr=subprocess.PIPE, text=True)
+
+    def test_a_program_older_than_a_source_is_refused(self) -> None:
+        os.utime(self.top / "crates/one/src/lib.rt", (3_000_000, 3_000_000))
+        done = self.release()
+        self.assertEqual((done.returncode, done.stdout), (1, ""))
+        self.assertEqual(done.stderr, "release: crates/nfot/out/nfot is older than crates/one/src/lib.rt: run bash .ci/run again\n")
+
+    def test_the_build_that_is_taken_is_named(self) -> None:
+        """A newer page is no source, nor is what stands in out."""
+        os.utime(self.top / "crates/one/notes.md", (3_000_000, 3_000_000))
+        done, program = self.release(), (self.top / "crates/nfot/out/nfot").read_bytes()
+        self.assertEqual(done.stdout, "release: takes crates/nfot/out/nfot of 1970-01-24 03:33 UTC, sha256 "
+                                      f"{hashlib.sha256(program).hexdigest()}; no source is newer\n")
+        self.assertEqual((done.returncode, done.stderr), (1, "release: pyproject.toml has no version\n"))
 
 
 class Built(Case):
