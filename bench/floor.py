@@ -199,8 +199,8 @@ def print_operations(parts: dict[str, list[Traced]]) -> None:
 
 
 def quotient(above: float, below: float) -> str:
-    """Returns a quotient with one decimal."""
-    return f"{above / below:.1f}"
+    """Returns a quotient with one decimal; "-" where nothing is counted, as for a run that stops in its first phase."""
+    return f"{above / below:.1f}" if below else "-"
 
 
 def print_floors(parts: dict[str, list[Traced]], made: dict[str, list[Made]], peer: Optional[str]) -> None:

@@ -44,10 +44,13 @@ Run = collections.namedtuple("Run", "work words peer_words")
 Count = collections.namedtuple("Count", "work status ours theirs same")
 
 BUDGET_STATUS = 6
+# Statuses of runs whose words or files are wrong.
+WRONG = (2, 3, 4)
 # An amount that none of the networks supplies.
 NEVER_SUPPLIED = 10**9
 # The layered networks: nodes of a layer, layers.
 LAYERS = [(6, 10), (10, 6), (12, 5), (20, 3)]
+EXAMPLES_FOLDER = f"{city.HERE}/../examples"
 EXAMPLES = ["braess", "bridge", "corridor", "even", "merge", "paradox", "two"]
 ZONE_PAIRS = [f"{a}-{b}" for a in city.ZONES for b in city.ZONES if a != b]
 GENERATED = [(7, 10), (7, 15), (3, 20), (2, 30), (1, 30), (7, 20)]
@@ -166,7 +169,7 @@ def other_runs(shelf):
 
 def forever_runs(shelf):
     """Yields the runs of `solve --forever`."""
-    nets = [f"{os.path.dirname(city.ROADS)}/{name}.net" for name in EXAMPLES]
+    nets = [f"{EXAMPLES_FOLDER}/{name}.net" for name in EXAMPLES]
     for network in grid_networks() + random_networks()[:6] + ladder_networks():
         nets.append(shelf.put(f"{network.name}.net", city.text_of(network)))
     for net in nets:
@@ -242,6 +245,8 @@ def count_of(run, program, peer):
     """Returns what a run takes."""
     own = [program, *run.words]
     answer = answered(own)
+    if answer[0] in WRONG:
+        raise Failed(f"{' '.join(own)} ends with status {answer[0]}")
     ours = instructions(own)
     if not peer or run.peer_words is None:
         return Count(run.work, answer[0], ours, None, None)
