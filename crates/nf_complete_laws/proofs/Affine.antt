@@ -1,15 +1,8 @@
 -- Affine numbers: a linear form of an assignment, plus a constant.
 use Rattle.std.proofs.Common.{◌≡◌, ℕ, zero, suc, List, [], ◌∷◌, ◌++◌, Bool, true, false, if◌then◌else◌, eqb, map, ◌∙◌}
-use Rattle.nf_rational.specs.Rational.{ℚ}
-use Rattle.nf_rational.specs.Operations.{0ℚ, ◌+ℚ◌, ◌-ℚ◌, ◌*ℚ◌}
-use Rattle.nf_rational.specs.Order.{◌≤ℚ◌}
-use Rattle.nf_rational_laws.proofs.Polynomial.{reading_of}
-use Rattle.nf_rational_laws.proofs.Linear.{le, eq, eq_times, linear_le, linear_eq}
-use Rattle.nf_rational_laws.proofs.Facts.{zero_plus}
-use Rattle.nf_model.specs.Network.{Link, sum_in, sum_out}
-use Rattle.nf_model_laws.proofs.Potential.{sum_to}
+use Rattle.nf_complete_laws.proofs.Common.{ℚ, 0ℚ, ◌+ℚ◌, ◌-ℚ◌, ◌*ℚ◌, ◌≤ℚ◌, reading_of, le, eq, eq_times, linear_le, linear_eq, zero_plus, Link, sum_in, sum_out}
+use Rattle.nf_complete_laws.proofs.Common.{sum_to, Form, form_value}
 use Rattle.nf_complete_laws.proofs.Turned.{turned, sum_in-turned}
-use Rattle.nf_linear_laws.specs.Systems.{Form, form_value}
 use Rattle.nf_linear_laws.proofs.Forms.{form_value-append, scaled, form_value-scaled, variable, form_value-variable}
 
 pub record Affine (f : (ℕ → ℚ) → ℚ) : Type 0 where

@@ -1,18 +1,9 @@
 -- Systems describe oversupplies. So there is an oversupply with the least sum of slopes, and among those, one with the least flow out of
 -- the source.
 use Rattle.std.proofs.Common.{◌≡◌, ◌≢◌, ℕ, zero, suc, ◌<◌, ◌⊎◌, Option, Some, None, sym, ap, subst, refl, ◌∙◌}
-use Rattle.std.proofs.lemmas.Option.{none-some, same_Some}
-use Rattle.nf_rational.specs.Rational.{ℚ}
-use Rattle.nf_rational.specs.Operations.{0ℚ, 1ℚ, ◌+ℚ◌, ◌-ℚ◌, ◌*ℚ◌}
-use Rattle.nf_rational.specs.Order.{◌≤ℚ◌}
-use Rattle.nf_model.specs.Entries.{Has}
-use Rattle.nf_model.specs.Network.{Link, Network, IsNetwork, sum_in, sum_out}
-use Rattle.nf_model.specs.ThinFlow.{Sets, Enters}
-use Rattle.nf_model.specs.Pattern.{NeedsState, Fills}
-use Rattle.nf_model_laws.proofs.Potential.{sum_to, sum_to-nn}
-use Rattle.nf_linear_laws.specs.Systems.{form_value}
+use Rattle.nf_complete_laws.proofs.Common.{none-some, same_Some, ℚ, 0ℚ, 1ℚ, ◌+ℚ◌, ◌-ℚ◌, ◌*ℚ◌, ◌≤ℚ◌, Has, Link, Network, IsNetwork, sum_in, sum_out, Sets}
+use Rattle.nf_complete_laws.proofs.Common.{Enters, NeedsState, Fills, sum_to, sum_to-nn, form_value, Fits, demand, IsOversupply}
 use Rattle.nf_linear_laws.proofs.Choices.{MeetsOne, LeastOfTwo, least_of_two}
-use Rattle.nf_complete_laws.specs.Oversupply.{Fits, demand, IsOversupply}
 use Rattle.nf_complete_laws.proofs.Deciding.{both}
 use Rattle.nf_complete_laws.proofs.Bare.{flagged, same_node}
 use Rattle.nf_complete_laws.proofs.ExistsDeciding.{not_so, SomeLink}

@@ -1,26 +1,11 @@
 -- An oversupply without excess at any node is a thin flow.
 use Rattle.std.proofs.Common.{◌≡◌, ◌≢◌, ℕ, ◌<◌, ◌≤◌, if◌then◌else◌, List, [], ◌∷◌, length, ◌⊎◌, inl, inr, ⊎_elim, Bool, true, false, eqb, Option, Some, None, slice_get, sym, ap, subst, refl, ◌∙◌}
-use Rattle.std.proofs.lemmas.Bool.Decides.{eqb_tells}
-use Rattle.std.proofs.lemmas.Bool.{cases_lt}
-use Rattle.std.proofs.lemmas.Option.{slice_get_within}
-use Rattle.nf_rational.specs.Rational.{ℚ}
-use Rattle.nf_rational.specs.Operations.{0ℚ, ◌+ℚ◌, ◌-ℚ◌}
-use Rattle.nf_rational.specs.Order.{◌≤ℚ◌, ◌<ℚ◌}
-use Rattle.nf_rational_laws.proofs.Polynomial.{reading_of}
-use Rattle.nf_rational_laws.proofs.Order.{≤ℚ_of_same, lt_or_le_ℚ}
-use Rattle.nf_rational_laws.proofs.Linear.{le, eq, linear_eq}
-use Rattle.nf_model.specs.Entries.{number_at, Has}
-use Rattle.nf_model.specs.Network.{Link, Network, IsLink, IsNetwork, sum_in, sum_out}
-use Rattle.nf_model.specs.ThinFlow.{Sets, surplus, exit_slope, exit_slope_at, Enters, IsThinFlow}
-use Rattle.nf_model_laws.proofs.Earliest.{IsPositive-link}
-use Rattle.nf_model_laws.proofs.Sums.{sum_in-same, sum_out-same}
-use Rattle.nf_model_laws.proofs.Potential.{out_less_in}
-use Rattle.nf_thin_laws.specs.ActiveLinks.{AreSets}
-use Rattle.nf_thin_laws.proofs.Flags.{entry_beyond, flag, flag-cases}
-use Rattle.nf_thin_laws.proofs.ExitSlopes.{exit_resetting}
+use Rattle.nf_complete_laws.proofs.Common.{eqb_tells, cases_lt, slice_get_within, ℚ, 0ℚ, ◌+ℚ◌, ◌-ℚ◌, ◌≤ℚ◌, ◌<ℚ◌, reading_of, ≤ℚ_of_same, lt_or_le_ℚ, le, eq}
+use Rattle.nf_complete_laws.proofs.Common.{linear_eq, number_at, Has, Link, Network, IsLink, IsNetwork, sum_in, sum_out, Sets, surplus, exit_slope}
+use Rattle.nf_complete_laws.proofs.Common.{exit_slope_at, Enters, IsThinFlow, IsPositive-link, sum_in-same, sum_out-same, out_less_in, AreSets, entry_beyond}
+use Rattle.nf_complete_laws.proofs.Common.{flag, flag-cases, exit_resetting, Fits, demand, IsOversupply}
 use Rattle.nf_thin_laws.proofs.Cuts.{EndsBelow-net}
 use Rattle.nf_model_laws.proofs.Totals.{all_zero, two_cancel}
-use Rattle.nf_complete_laws.specs.Oversupply.{Fits, demand, IsOversupply}
 use Rattle.nf_complete_laws.proofs.Fitting.{fits_exit, fits_least, fits_used}
 use Rattle.nf_complete_laws.proofs.Numbers.{numbers, length-numbers, number_at-numbers, number_at-past}
 use Rattle.nf_complete_laws.proofs.Spare.{spare, HasSpare, spare_of_enough, not_negative}

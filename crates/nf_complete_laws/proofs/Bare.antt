@@ -1,21 +1,9 @@
 -- A node without inflow has no outflow. Whether a link enters such a node is decidable.
 use Rattle.std.proofs.Common.{◌≡◌, ◌≢◌, ℕ, ◌<◌, ◌≤◌, List, [], ◌∷◌, ◌⊎◌, inl, inr, ⊎_elim, Bool, true, false, eqb, sym, subst, refl, ◌∙◌, arith}
-use Rattle.std.proofs.lemmas.Bool.Decides.{eqb_tells}
-use Rattle.std.proofs.lemmas.Bool.{cases_lt}
-use Rattle.nf_rational.specs.Rational.{ℚ}
-use Rattle.nf_rational.specs.Operations.{0ℚ, ◌-ℚ◌}
-use Rattle.nf_rational.specs.Order.{◌≤ℚ◌}
-use Rattle.nf_rational_laws.proofs.Polynomial.{reading_of}
-use Rattle.nf_rational_laws.proofs.Order.{≤ℚ_antisymm}
-use Rattle.nf_rational_laws.proofs.Linear.{le, eq, linear_le}
-use Rattle.nf_rational_laws.proofs.Chains.{≤ℚ_trans}
-use Rattle.nf_model.specs.Entries.{number_at, Has}
-use Rattle.nf_model.specs.Network.{Link, Network, IsLink, IsNetwork, sum_in, sum_out}
-use Rattle.nf_model.specs.ThinFlow.{Sets, surplus, IsThinFlow}
-use Rattle.nf_model_laws.proofs.Sums.{sum_in-same, sum_in-none, sum_out-each}
-use Rattle.nf_thin_laws.proofs.Flags.{flag, flag-cases}
+use Rattle.nf_complete_laws.proofs.Common.{eqb_tells, cases_lt, ℚ, 0ℚ, ◌-ℚ◌, ◌≤ℚ◌, reading_of, ≤ℚ_antisymm, le, eq, linear_le, ≤ℚ_trans, number_at, Has, Link}
+use Rattle.nf_complete_laws.proofs.Common.{Network, IsLink, IsNetwork, sum_in, sum_out, Sets, surplus, IsThinFlow, sum_in-same, sum_in-none, sum_out-each, flag}
+use Rattle.nf_complete_laws.proofs.Common.{flag-cases, IsBare, IsFirstLevel, LeadsToBare}
 use Rattle.nf_model_laws.proofs.Totals.{IsThinFlow-sink}
-use Rattle.nf_complete_def.specs.SettledPattern.{IsBare, IsFirstLevel, LeadsToBare}
 use Rattle.nf_complete_laws.proofs.Deciding.{Decided, both, either, same_or_not, First, NoLink, first_or_none}
 
 pub flagged : (flags : List Bool) (e : ℕ) → Decided (Has flags e)

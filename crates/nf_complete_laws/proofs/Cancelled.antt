@@ -1,34 +1,15 @@
 -- Cancelling one cycle: the flows stay a thin flow with the same slopes, no link becomes interior, and at least one link stops being
 -- interior.
 use Rattle.std.proofs.Common.{◌≡◌, ◌≢◌, ℕ, ◌+◌, ◌<◌, ◌≤◌, List, [], ◌∷◌, length, ◌⊎◌, inl, inr, ⊎_elim, Bool, true, false, if◌then◌else◌, eqb, Option, Some, None, slice_get, unwrap_or, sym, ap, subst, refl, ◌∙◌, arith}
-use Rattle.std.specs.Prelude.{Contains, Ok}
-use Rattle.std.specs.List.{enumerate_from}
-use Rattle.std.proofs.lemmas.Option.{same_Some, slice_get_within}
-use Rattle.std.proofs.lemmas.Bool.Decides.{eqb_tells}
-use Rattle.nf_rational.specs.Rational.{ℚ}
-use Rattle.nf_rational.specs.Operations.{0ℚ, 1ℚ, ◌+ℚ◌, ◌-ℚ◌, ◌*ℚ◌}
-use Rattle.nf_rational.specs.Order.{◌≤ℚ◌, ◌<ℚ◌}
-use Rattle.nf_rational_laws.proofs.Polynomial.{reading_of}
-use Rattle.nf_rational_laws.proofs.Order.{≤ℚ_of_same, ≤ℚ_of_lt, not_both_ℚ, less_ps}
-use Rattle.nf_rational_laws.proofs.Linear.{le, eq, eq_times, linear_le, linear_eq}
-use Rattle.nf_rational_laws.proofs.Chains.{≤ℚ_refl}
-use Rattle.nf_frac_def.specs.Passing.{Passing}
-use Rattle.nf_frac_def.specs.Checked.{checked, each}
+use Rattle.nf_complete_laws.proofs.Common.{Contains, Ok, enumerate_from, same_Some, slice_get_within, eqb_tells, ℚ, 0ℚ, 1ℚ, ◌+ℚ◌, ◌-ℚ◌, ◌*ℚ◌, ◌≤ℚ◌, ◌<ℚ◌}
+use Rattle.nf_complete_laws.proofs.Common.{reading_of, ≤ℚ_of_same, ≤ℚ_of_lt, not_both_ℚ, less_ps, le, eq, eq_times, linear_le, linear_eq, ≤ℚ_refl, Passing}
+use Rattle.nf_complete_laws.proofs.Common.{checked, each, number_at, Has, Hop, Link, Network, IsLink, IsNetwork, hops, sum_in, sum_out, Sets, surplus}
+use Rattle.nf_complete_laws.proofs.Common.{IsThinFlow, IsTrail, AllDiffer, IsLink-unique, link_at, number_at-is, sum_in-same, sum_out-same, sum_in-line}
+use Rattle.nf_complete_laws.proofs.Common.{sum_out-line, HoldNoCycle, IsActiveWalk, entry, same_Ok, entry_beyond, number_at-beyond, IsInterior, links_of}
+use Rattle.nf_complete_laws.proofs.Common.{turn_of, IsCycle}
 use Rattle.nf_frac_def.proofs.Binding.{bind_ok}
 use Rattle.nf_frac_def.specs.declared.Op.TheVariants.{Sum, Difference, Product}
 use Rattle.nf_frac_def.proofs.Exact.{checked-is}
-use Rattle.nf_model.specs.Entries.{number_at, Has}
-use Rattle.nf_model.specs.Walk.{Hop}
-use Rattle.nf_model.specs.Network.{Link, Network, IsLink, IsNetwork, hops, sum_in, sum_out}
-use Rattle.nf_model.specs.ThinFlow.{Sets, surplus, IsThinFlow}
-use Rattle.nf_model.specs.Pattern.{IsTrail, AllDiffer}
-use Rattle.nf_model_laws.proofs.Networks.{IsLink-unique, link_at, number_at-is}
-use Rattle.nf_model_laws.proofs.Sums.{sum_in-same, sum_out-same, sum_in-line, sum_out-line}
-use Rattle.nf_thin_laws.specs.ActiveLinks.{HoldNoCycle, IsActiveWalk}
-use Rattle.nf_rational_laws.proofs.Entries.{entry}
-use Rattle.nf_rational_laws.proofs.Results.{same_Ok}
-use Rattle.nf_thin_laws.proofs.Flags.{entry_beyond, number_at-beyond}
-use Rattle.nf_complete_def.specs.Interior.{IsInterior, links_of, turn_of, IsCycle}
 use Rattle.nf_complete_def.specs.Cancelling.{full_on, full_at, fulls_list, room_on, room_at, least_room, change_on, change_at, cancel_list}
 use Rattle.nf_complete_laws.proofs.Trails.{signed, carried_by, turn-first, turn-contains, trail-allowed, carried-closed}
 use Rattle.nf_complete_laws.proofs.Eachs.{each-at, each-length}

@@ -1,35 +1,17 @@
 -- The states of links in the pattern of settled flows. The flows solve the pattern's equations and satisfy its inequalities.
 use Rattle.std.proofs.Common.{◌≡◌, ◌≢◌, ℕ, ◌<◌, List, [], ◌∷◌, ◌⊎◌, inl, inr, ⊎_elim, Bool, true, false, Option, Some, None, slice_get, sym, ap, subst, refl, ◌∙◌}
-use Rattle.std.specs.Prelude.{is_none}
+use Rattle.nf_complete_laws.proofs.Common.{is_none, same_Some, slice_get-map, none-some, ℚ, 0ℚ, ◌*ℚ◌, ◌≤ℚ◌, ◌<ℚ◌, reading_of, ≤ℚ_of_lt, ≤ℚ_antisymm, lt_or_le_ℚ}
+use Rattle.nf_complete_laws.proofs.Common.{nn_times, le, eq, linear_le, above_not_zero, State, Tight, Full, Zero, number_at, Has, Hop, IsHop, Link, Network}
+use Rattle.nf_complete_laws.proofs.Common.{IsLink, hop_of, hops, unbounded, Sets, exit_slope, exit_slope_at, Enters, IsThinFlow, Pattern, HasState, NeedsState}
+use Rattle.nf_complete_laws.proofs.Common.{IsPattern, Fills, Equation, Inequality, Solves, Meets, IsPositive, IsPositive-link, hop_at, flag, flag-cases}
+use Rattle.nf_complete_laws.proofs.Common.{exit_tight, IsInterior, IsBare, LeadsToBare, IsSettledPattern, AreGoodSets}
 use Rattle.std.specs.Option.{option_map}
-use Rattle.std.proofs.lemmas.Option.{same_Some, slice_get-map, none-some}
-use Rattle.nf_rational.specs.Rational.{ℚ}
-use Rattle.nf_rational.specs.Operations.{0ℚ, ◌*ℚ◌}
-use Rattle.nf_rational.specs.Order.{◌≤ℚ◌, ◌<ℚ◌}
-use Rattle.nf_rational_laws.proofs.Polynomial.{reading_of}
-use Rattle.nf_rational_laws.proofs.Order.{≤ℚ_of_lt, ≤ℚ_antisymm, lt_or_le_ℚ, nn_times}
-use Rattle.nf_rational_laws.proofs.Linear.{le, eq, linear_le}
-use Rattle.nf_rational_laws.proofs.Facts.{above_not_zero}
-use Rattle.nf_model.specs.declared.State.{State}
-use Rattle.nf_model.specs.declared.State.TheVariants.{Tight, Full, Zero}
-use Rattle.nf_model.specs.Entries.{number_at, Has}
-use Rattle.nf_model.specs.Walk.{Hop, IsHop}
-use Rattle.nf_model.specs.Network.{Link, Network, IsLink, hop_of, hops, unbounded}
-use Rattle.nf_model.specs.ThinFlow.{Sets, exit_slope, exit_slope_at, Enters, IsThinFlow}
-use Rattle.nf_model.specs.Pattern.{Pattern, HasState, NeedsState, IsPattern, Fills, Equation, Inequality, Solves, Meets}
-use Rattle.nf_model_laws.specs.Capacity.{IsPositive}
+use Rattle.nf_rational_laws.proofs.Order.{some_or_none}
 use Rattle.nf_model_laws.proofs.Affine.{le_from_times}
-use Rattle.nf_model_laws.proofs.Earliest.{IsPositive-link}
-use Rattle.nf_model_laws.proofs.Networks.{hop_at}
-use Rattle.nf_thin_laws.proofs.Flags.{flag, flag-cases}
-use Rattle.nf_thin_laws.proofs.ExitSlopes.{exit_tight}
 use Rattle.nf_thin_laws.proofs.LinkLaws.{LinkLaw}
 use Rattle.nf_thin_laws.proofs.Slopes.{link_law}
-use Rattle.nf_complete_def.specs.Interior.{IsInterior}
-use Rattle.nf_complete_def.specs.SettledPattern.{IsBare, LeadsToBare, IsSettledPattern}
-use Rattle.nf_complete_laws.specs.SettleLaws.{AreGoodSets}
 use Rattle.nf_complete_laws.proofs.Levels.{state_law, interior-level}
-use Rattle.nf_complete_laws.proofs.Deciding.{Decided, same_or_not, some_or_none, First, NoLink, first_or_none}
+use Rattle.nf_complete_laws.proofs.Deciding.{Decided, same_or_not, First, NoLink, first_or_none}
 use Rattle.nf_complete_laws.proofs.Bare.{flagged, Brings, brings_or_not, IsBare-none, LevelInto, level_or_not, IsFirstLevel-first, leads_or_not}
 
 -- ---- plain numbers: x is the flow of a link, s and t the slopes of its tail and its head

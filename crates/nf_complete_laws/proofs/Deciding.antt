@@ -1,11 +1,6 @@
 -- Decidable properties of a network's links.
 use Rattle.std.proofs.Common.{◌≡◌, ℕ, zero, suc, ◌<◌, List, [], ◌∷◌, ◌⊎◌, inl, inr, ⊎_elim, Some, slice_get, sym, subst, refl, arith}
-use Rattle.std.proofs.lemmas.Option.{same_Some}
-use Rattle.nf_rational.specs.Rational.{ℚ}
-use Rattle.nf_rational.specs.Operations.{0ℚ}
-use Rattle.nf_rational.specs.Order.{◌≤ℚ◌, ◌<ℚ◌}
-use Rattle.nf_rational_laws.proofs.Order.{≤ℚ_of_same, ≤ℚ_antisymm, lt_or_le_ℚ, not_both_ℚ}
-use Rattle.nf_model.specs.Network.{Link}
+use Rattle.nf_complete_laws.proofs.Common.{same_Some, ℚ, ◌≤ℚ◌, ◌<ℚ◌, ≤ℚ_of_same, ≤ℚ_antisymm, lt_or_le_ℚ, not_both_ℚ, Link}
 
 abbrev pub Decided : Type 0 → Type 0
 Decided A = A ⊎ (A → ⊥)
@@ -28,9 +23,6 @@ same_or_not x y = ⊎_elim
     (λ (k : x ≤ℚ y). inl (≤ℚ_antisymm _ _ k h))
     (lt_or_le_ℚ y x))
     (lt_or_le_ℚ x y)
-
-pub some_or_none : (x : ℚ) → 0ℚ ≤ℚ x → (0ℚ <ℚ x) ⊎ (x ≡ 0ℚ)
-some_or_none x n = ⊎_elim (λ (h : 0ℚ <ℚ x). inl h) (λ (h : x ≤ℚ 0ℚ). inr (≤ℚ_antisymm _ _ h n)) (lt_or_le_ℚ 0ℚ x)
 
 -- the first link with a property, or none has it
 abbrev pub First : List Link → (ℕ → Link → Type 0) → Type 0

@@ -1,15 +1,7 @@
 -- Properties of an assignment, described by finitely many systems of which one must be met.
 use Rattle.std.proofs.Common.{◌≡◌, ℕ, zero, suc, ◌<◌, List, [], ◌∷◌, ◌++◌, ◌⊎◌, inl, inr, ⊎_elim, Some, slice_get, sym, subst, refl, arith}
-use Rattle.std.proofs.lemmas.Option.{none-some, same_Some}
-use Rattle.nf_rational.specs.Rational.{ℚ}
-use Rattle.nf_rational.specs.Operations.{◌+ℚ◌, ◌-ℚ◌}
-use Rattle.nf_rational.specs.Order.{◌≤ℚ◌}
-use Rattle.nf_rational_laws.proofs.Polynomial.{reading_of}
-use Rattle.nf_rational_laws.proofs.Order.{≤ℚ_of_same, ≤ℚ_antisymm}
-use Rattle.nf_rational_laws.proofs.Linear.{le, eq, linear_le}
-use Rattle.nf_model.specs.Network.{Link}
-use Rattle.nf_rational_laws.proofs.Naturals.{before_or_at}
-use Rattle.nf_linear_laws.specs.Systems.{form_value, AtMost, MeetsAll}
+use Rattle.nf_complete_laws.proofs.Common.{none-some, same_Some, ℚ, ◌+ℚ◌, ◌-ℚ◌, ◌≤ℚ◌, reading_of, ≤ℚ_of_same, ≤ℚ_antisymm, le, eq, linear_le, Link}
+use Rattle.nf_complete_laws.proofs.Common.{before_or_at, form_value, AtMost, MeetsAll}
 use Rattle.nf_linear_laws.proofs.Forms.{less, form_value-less}
 use Rattle.nf_linear_laws.proofs.Constraints.{MeetsAll-append, MeetsAll-front, MeetsAll-rest}
 use Rattle.nf_linear_laws.proofs.Choices.{MeetsOne}

@@ -1,15 +1,7 @@
 -- A least oversupply whose nodes with excess are closed is a thin flow. Otherwise the slopes of these nodes could be lowered.
 use Rattle.std.proofs.Common.{ℕ, ◌<◌, List, length, ⊎_elim}
-use Rattle.nf_rational.specs.Rational.{ℚ}
-use Rattle.nf_rational.specs.Operations.{0ℚ}
-use Rattle.nf_rational.specs.Order.{◌≤ℚ◌, ◌<ℚ◌}
-use Rattle.nf_rational_laws.proofs.Order.{not_both_ℚ}
-use Rattle.nf_rational_laws.proofs.Chains.{≤ℚ_refl}
-use Rattle.nf_model.specs.Network.{Network, IsNetwork}
-use Rattle.nf_model.specs.ThinFlow.{Sets, IsThinFlow}
-use Rattle.nf_model_laws.proofs.Potential.{sum_to}
-use Rattle.nf_thin_laws.specs.ActiveLinks.{AreSets, HoldNoCycle, EachIsEntered}
-use Rattle.nf_complete_laws.specs.Oversupply.{IsOversupply, ResetsAreBounded, OversupplyExists}
+use Rattle.nf_complete_laws.proofs.Common.{ℚ, 0ℚ, ◌≤ℚ◌, ◌<ℚ◌, not_both_ℚ, ≤ℚ_refl, Network, IsNetwork, Sets, IsThinFlow, sum_to, AreSets, HoldNoCycle}
+use Rattle.nf_complete_laws.proofs.Common.{EachIsEntered, IsOversupply, ResetsAreBounded, OversupplyExists}
 use Rattle.nf_complete_laws.specs.ExistenceLaws.{ThinFlowExists}
 use Rattle.nf_complete_laws.proofs.ExistsDeciding.{some_below}
 use Rattle.nf_complete_laws.proofs.Spare.{HasSpare, spare_or_not}

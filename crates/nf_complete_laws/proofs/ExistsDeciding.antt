@@ -1,10 +1,6 @@
 -- More decidable properties of numbers and links.
 use Rattle.std.proofs.Common.{◌≡◌, ℕ, zero, suc, ◌<◌, List, ◌⊎◌, inl, inr, ⊎_elim, Some, slice_get, subst, arith}
-use Rattle.nf_rational.specs.Rational.{ℚ}
-use Rattle.nf_rational.specs.Order.{◌≤ℚ◌, ◌<ℚ◌}
-use Rattle.nf_rational_laws.proofs.Order.{lt_or_le_ℚ, not_both_ℚ}
-use Rattle.nf_model.specs.Network.{Link}
-use Rattle.nf_rational_laws.proofs.Naturals.{before_or_at}
+use Rattle.nf_complete_laws.proofs.Common.{ℚ, ◌≤ℚ◌, ◌<ℚ◌, lt_or_le_ℚ, not_both_ℚ, Link, before_or_at}
 use Rattle.nf_complete_laws.proofs.Deciding.{Decided, First, NoLink, first_or_none}
 
 pub not_so : {A : Type 0} → Decided A → Decided (A → ⊥)

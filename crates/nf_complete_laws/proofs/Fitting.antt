@@ -1,19 +1,8 @@
 -- Flows that fit slopes. Here x is the flow of a link, s and t are the slopes at its tail and its head.
 use Rattle.std.proofs.Common.{◌≡◌, [], ◌∷◌, ◌⊎◌, inl, inr, ⊎_elim, false, Option, Some, None, unwrap_or, sym, ap, subst, refl, ◌∙◌}
-use Rattle.std.proofs.lemmas.Option.{none-some, same_Some}
-use Rattle.nf_rational.specs.Rational.{ℚ}
-use Rattle.nf_rational.specs.Operations.{0ℚ, ◌+ℚ◌, ◌-ℚ◌, ◌*ℚ◌}
-use Rattle.nf_rational.specs.Order.{◌≤ℚ◌, ◌<ℚ◌, min_ℚ}
-use Rattle.nf_rational_laws.proofs.Polynomial.{reading_of}
-use Rattle.nf_rational_laws.proofs.Order.{≤ℚ_of_same, ≤ℚ_of_lt, ≤ℚ_antisymm, lt_or_le_ℚ, not_both_ℚ, nn_times}
-use Rattle.nf_rational_laws.proofs.Chains.{≤ℚ_refl, ≤ℚ_trans}
-use Rattle.nf_rational_laws.proofs.Linear.{le, eq, le_times, linear_le}
-use Rattle.nf_rational_laws.proofs.Extremes.{min_left, min_right, min_keeps}
-use Rattle.nf_model.specs.ThinFlow.{exit_slope}
-use Rattle.nf_model.specs.Pattern.{Fills}
-use Rattle.nf_model_laws.specs.Capacity.{IsPositive}
-use Rattle.nf_thin_laws.proofs.ExitSlopes.{exit_full, exit_tight, exit_zero}
-use Rattle.nf_complete_laws.specs.Oversupply.{Fits}
+use Rattle.nf_complete_laws.proofs.Common.{none-some, same_Some, ℚ, 0ℚ, ◌+ℚ◌, ◌-ℚ◌, ◌*ℚ◌, ◌≤ℚ◌, ◌<ℚ◌, min_ℚ, reading_of, ≤ℚ_of_same, ≤ℚ_of_lt, ≤ℚ_antisymm}
+use Rattle.nf_complete_laws.proofs.Common.{lt_or_le_ℚ, not_both_ℚ, nn_times, ≤ℚ_refl, ≤ℚ_trans, le, eq, le_times, linear_le, min_left, min_right, min_keeps}
+use Rattle.nf_complete_laws.proofs.Common.{exit_slope, Fills, IsPositive, exit_full, exit_tight, exit_zero, Fits}
 use Rattle.nf_complete_laws.proofs.Deciding.{Decided}
 
 -- ---- flows of at most what fills the link, of exactly that, and of less

@@ -1,22 +1,10 @@
 -- Pushes: starting with flows that send the least out of the source, they end with flows whose nodes with excess are closed.
 use Rattle.std.proofs.Common.{◌≡◌, ◌≢◌, ℕ, zero, suc, ◌<◌, ◌≤◌, [], ◌∷◌, ◌⊎◌, inl, inr, ⊎_elim, Option, Some, None, sym, subst, refl, ◌∙◌, arith}
-use Rattle.std.proofs.lemmas.Option.{none-some, same_Some}
-use Rattle.nf_rational.specs.Rational.{ℚ}
-use Rattle.nf_rational.specs.Operations.{0ℚ, 1ℚ, ◌+ℚ◌, ◌-ℚ◌, ◌*ℚ◌, ◌/ℚ◌}
-use Rattle.nf_rational.specs.Order.{◌≤ℚ◌, ◌<ℚ◌, min_ℚ}
-use Rattle.nf_rational_laws.proofs.Polynomial.{reading_of}
-use Rattle.nf_rational_laws.proofs.Order.{≤ℚ_of_lt}
+use Rattle.nf_complete_laws.proofs.Common.{none-some, same_Some, ℚ, 0ℚ, 1ℚ, ◌+ℚ◌, ◌-ℚ◌, ◌*ℚ◌, ◌/ℚ◌, ◌≤ℚ◌, ◌<ℚ◌, min_ℚ, reading_of, ≤ℚ_of_lt, le, lt, eq}
+use Rattle.nf_complete_laws.proofs.Common.{linear_le, linear_lt, linear_eq, linear_false, min_left, min_right, min_keeps, nn_after_less, nn_less_part}
+use Rattle.nf_complete_laws.proofs.Common.{less_some_le, Has, Link, Network, IsLink, IsNetwork, sum_out, Sets, NeedsState, HoldNoCycle, EachIsEntered}
+use Rattle.nf_complete_laws.proofs.Common.{NoneEntersSource, NoneEntersSource-acyclic, IsOversupply}
 use Rattle.nf_rational_laws.proofs.Quotient.{/ℚ-times, ps_apart}
-use Rattle.nf_rational_laws.proofs.Linear.{le, lt, eq, linear_le, linear_lt, linear_eq, linear_false}
-use Rattle.nf_rational_laws.proofs.Extremes.{min_left, min_right, min_keeps}
-use Rattle.nf_rational_laws.proofs.Facts.{nn_after_less, nn_less_part, less_some_le}
-use Rattle.nf_model.specs.Entries.{Has}
-use Rattle.nf_model.specs.Network.{Link, Network, IsLink, IsNetwork, sum_out}
-use Rattle.nf_model.specs.ThinFlow.{Sets}
-use Rattle.nf_model.specs.Pattern.{NeedsState}
-use Rattle.nf_thin_laws.specs.ActiveLinks.{HoldNoCycle, EachIsEntered, NoneEntersSource}
-use Rattle.nf_thin_laws.proofs.ActiveLinks.{NoneEntersSource-acyclic}
-use Rattle.nf_complete_laws.specs.Oversupply.{IsOversupply}
 use Rattle.nf_complete_laws.proofs.Deciding.{Decided, both, same_or_not, NoLink}
 use Rattle.nf_complete_laws.proofs.Bare.{flagged, same_node}
 use Rattle.nf_complete_laws.proofs.ExistsDeciding.{not_so, less_or_not, SomeLink, some_link}

@@ -1,8 +1,6 @@
 -- The least value of a function on the links with a property.
 use Rattle.std.proofs.Common.{◌≡◌, ℕ, zero, suc, ◌<◌, ◌≤◌, List, [], ◌∷◌, ◌⊎◌, inl, inr, ⊎_elim, Some, slice_get, subst, refl, arith}
-use Rattle.std.proofs.lemmas.Bool.{cases_lt}
-use Rattle.std.proofs.lemmas.Option.{none-some, same_Some}
-use Rattle.nf_model.specs.Network.{Link}
+use Rattle.nf_complete_laws.proofs.Common.{cases_lt, none-some, same_Some, Link}
 use Rattle.nf_complete_laws.proofs.Deciding.{NoLink}
 
 -- A property of the first link and of the others.

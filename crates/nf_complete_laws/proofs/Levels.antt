@@ -1,19 +1,9 @@
 -- An interior link of a thin flow has equal slopes at its ends.
 use Rattle.std.proofs.Common.{◌≡◌, ℕ, List, ⊎_elim, Bool, true, false, Option, Some, None, sym, subst, refl}
-use Rattle.nf_rational.specs.Rational.{ℚ}
-use Rattle.nf_rational.specs.Operations.{0ℚ, ◌*ℚ◌}
-use Rattle.nf_rational.specs.Order.{◌≤ℚ◌, ◌<ℚ◌}
-use Rattle.nf_rational_laws.proofs.Order.{≤ℚ_antisymm, not_both_ℚ}
-use Rattle.nf_model.specs.Entries.{number_at, Has}
-use Rattle.nf_model.specs.Network.{Link, Network, IsLink, IsNetwork}
-use Rattle.nf_model.specs.ThinFlow.{Sets, IsThinFlow}
-use Rattle.nf_model.specs.Pattern.{NeedsState}
-use Rattle.nf_model_laws.proofs.Networks.{IsLink-unique}
-use Rattle.nf_thin_laws.specs.ActiveLinks.{HoldNoCycle}
-use Rattle.nf_thin_laws.proofs.Flags.{flag, flag-cases}
+use Rattle.nf_complete_laws.proofs.Common.{ℚ, 0ℚ, ◌*ℚ◌, ◌≤ℚ◌, ◌<ℚ◌, ≤ℚ_antisymm, not_both_ℚ, number_at, Has, Link, Network, IsLink, IsNetwork, Sets, IsThinFlow}
+use Rattle.nf_complete_laws.proofs.Common.{NeedsState, IsLink-unique, HoldNoCycle, flag, flag-cases, IsInterior}
 use Rattle.nf_thin_laws.proofs.LinkLaws.{LinkLaw}
 use Rattle.nf_thin_laws.proofs.Slopes.{link_law}
-use Rattle.nf_complete_def.specs.Interior.{IsInterior}
 
 pub level_by : (capacity : Option ℚ) (x s t : ℚ) → LinkLaw false capacity x s t → 0ℚ <ℚ x → ((c : ℚ) → capacity ≡ Some c → x <ℚ c *ℚ t) → t ≡ s
 level_by None x s t l h k = sym (l.used h)

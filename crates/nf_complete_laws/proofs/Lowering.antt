@@ -1,26 +1,10 @@
 -- If the nodes with excess are closed, the slopes of all of them can be lowered. The result is an oversupply with a smaller sum of slopes.
 use Rattle.std.proofs.Common.{◌≡◌, ◌≢◌, ℕ, zero, suc, ◌<◌, [], ◌∷◌, ◌⊎◌, inl, inr, ⊎_elim, Option, Some, None, slice_get, unwrap_or, sym, ap, subst, refl, ◌∙◌, arith}
-use Rattle.std.proofs.lemmas.Option.{none-some}
-use Rattle.nf_rational.specs.Rational.{ℚ}
-use Rattle.nf_rational.specs.Operations.{0ℚ, ◌+ℚ◌, ◌-ℚ◌, ◌*ℚ◌}
-use Rattle.nf_rational.specs.Order.{◌≤ℚ◌, ◌<ℚ◌}
-use Rattle.nf_rational_laws.proofs.Polynomial.{reading_of}
-use Rattle.nf_rational_laws.proofs.Order.{≤ℚ_of_same, ≤ℚ_of_lt, ≤ℚ_antisymm, lt_or_le_ℚ, not_both_ℚ}
-use Rattle.nf_rational_laws.proofs.Chains.{≤ℚ_refl, ≤ℚ_trans}
-use Rattle.nf_rational_laws.proofs.Linear.{le, lt, eq, le_times, linear_le, linear_lt, linear_false}
-use Rattle.nf_model.specs.Entries.{Has}
-use Rattle.nf_model.specs.Network.{Link, Network, IsLink, IsNetwork, sum_in, sum_out}
-use Rattle.nf_model.specs.ThinFlow.{Sets, Enters}
-use Rattle.nf_model.specs.Pattern.{NeedsState, Fills}
-use Rattle.nf_model_laws.specs.Capacity.{IsPositive}
-use Rattle.nf_model_laws.proofs.Earliest.{IsPositive-link}
-use Rattle.nf_model_laws.proofs.Sums.{sum_in-same, sum_in-line, sum_in-order, sum_out-order, HasIn}
-use Rattle.nf_model_laws.proofs.Potential.{sum_to}
-use Rattle.nf_thin_laws.specs.ActiveLinks.{AreSets, HoldNoCycle}
-use Rattle.nf_thin_laws.proofs.ActiveLinks.{none_first}
-use Rattle.nf_rational_laws.proofs.Naturals.{before_or_at}
-use Rattle.nf_rational_laws.proofs.Facts.{sum_le, sum_lt_le, sum_le_lt}
-use Rattle.nf_complete_laws.specs.Oversupply.{Fits, demand, IsOversupply, ResetsAreBounded}
+use Rattle.nf_complete_laws.proofs.Common.{none-some, ℚ, 0ℚ, ◌+ℚ◌, ◌-ℚ◌, ◌*ℚ◌, ◌≤ℚ◌, ◌<ℚ◌, reading_of, ≤ℚ_of_same, ≤ℚ_of_lt, ≤ℚ_antisymm, lt_or_le_ℚ}
+use Rattle.nf_complete_laws.proofs.Common.{not_both_ℚ, ≤ℚ_refl, ≤ℚ_trans, le, lt, eq, le_times, linear_le, linear_lt, linear_false, Has, Link, Network, IsLink}
+use Rattle.nf_complete_laws.proofs.Common.{IsNetwork, sum_in, sum_out, Sets, Enters, NeedsState, Fills, IsPositive, IsPositive-link, sum_in-same, sum_in-line}
+use Rattle.nf_complete_laws.proofs.Common.{sum_in-order, sum_out-order, HasIn, sum_to, AreSets, HoldNoCycle, none_first, before_or_at, sum_le, sum_lt_le}
+use Rattle.nf_complete_laws.proofs.Common.{sum_le_lt, Fits, demand, IsOversupply, ResetsAreBounded}
 use Rattle.nf_complete_laws.proofs.Deciding.{Decided}
 use Rattle.nf_complete_laws.proofs.Small.{Small, Small-map, Small-both, Small-when, Small-at_most, Small-apart, Small-times, Small-to, Small-links}
 use Rattle.nf_complete_laws.proofs.LinkSums.{sum_in-not_negative}

@@ -1,12 +1,7 @@
 -- The list of a function's values below n.
 use Rattle.std.proofs.Common.{◌≡◌, ℕ, ◌<◌, ◌≤◌, List, length, map, Option, unwrap_or, ap, ◌∙◌, arith}
-use Rattle.std.specs.List.{range_with_len}
-use Rattle.std.proofs.lemmas.Option.{slice_get-get_or}
+use Rattle.nf_complete_laws.proofs.Common.{range_with_len, slice_get-get_or, ℚ, 0ℚ, number_at, number_at-beyond}
 use Rattle.std.proofs.lemmas.List.FromFn.{length-map-range_with_len, get_or-map-range_with_len}
-use Rattle.nf_rational.specs.Rational.{ℚ}
-use Rattle.nf_rational.specs.Operations.{0ℚ}
-use Rattle.nf_model.specs.Entries.{number_at}
-use Rattle.nf_thin_laws.proofs.Flags.{number_at-beyond}
 
 abbrev pub numbers : ℕ → (ℕ → ℚ) → List ℚ
 numbers n f = map f (range_with_len 0 n)

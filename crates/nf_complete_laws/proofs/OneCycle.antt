@@ -1,23 +1,10 @@
 -- The next cycle is unique. Two next cycles close with the same link. The difference of their flows balances at each node and uses only
 -- links before that link, which form a forest.
 use Rattle.std.proofs.Common.{◌≡◌, ◌≢◌, ℕ, zero, suc, ◌<◌, ◌≤◌, List, [], ◌∷◌, ⊎_elim, Bool, true, false, if◌then◌else◌, eqb, Option, Some, None, sym, ap, subst, refl, ◌∙◌, arith}
-use Rattle.std.specs.Prelude.{Contains}
-use Rattle.std.proofs.lemmas.Bool.{cases_lt}
-use Rattle.std.proofs.lemmas.Bool.Decides.{eqb_tells}
-use Rattle.nf_rational.specs.Rational.{ℚ}
-use Rattle.nf_rational.specs.Operations.{0ℚ, 1ℚ, ◌+ℚ◌, ◌-ℚ◌, ◌*ℚ◌}
-use Rattle.nf_rational_laws.proofs.Polynomial.{reading_of}
-use Rattle.nf_rational_laws.proofs.Order.{≤ℚ_of_same, not_both_ℚ}
-use Rattle.nf_rational_laws.proofs.Linear.{eq, eq_times, linear_eq, linear_false}
-use Rattle.nf_model.specs.Walk.{Hop}
-use Rattle.nf_model.specs.Network.{Link, Network, IsLink, IsNetwork, hops}
-use Rattle.nf_model.specs.ThinFlow.{Sets}
-use Rattle.nf_model.specs.Pattern.{IsTrail, AllDiffer}
-use Rattle.nf_model_laws.proofs.Potential.{out_less_in}
-use Rattle.nf_model_laws.proofs.Sums.{sum_in-line, sum_out-line}
-use Rattle.nf_model_laws.proofs.Contained.{contains_more, contains_first}
+use Rattle.nf_complete_laws.proofs.Common.{Contains, cases_lt, eqb_tells, ℚ, 0ℚ, 1ℚ, ◌+ℚ◌, ◌-ℚ◌, ◌*ℚ◌, reading_of, ≤ℚ_of_same, not_both_ℚ, eq, eq_times}
+use Rattle.nf_complete_laws.proofs.Common.{linear_eq, linear_false, Hop, Link, Network, IsLink, IsNetwork, hops, Sets, IsTrail, AllDiffer, out_less_in}
+use Rattle.nf_complete_laws.proofs.Common.{sum_in-line, sum_out-line, contains_more, contains_first, IsInterior, links_of, turn_of, IsNextCycle}
 use Rattle.nf_thin_laws.proofs.Forests.{Carries, forest-none}
-use Rattle.nf_complete_def.specs.Interior.{IsInterior, links_of, turn_of, IsNextCycle}
 use Rattle.nf_complete_laws.proofs.Trails.{signed, carried_by, turn-contains, trail-allowed, carried-closed}
 use Rattle.nf_complete_laws.proofs.Deciding.{same_or_not}
 

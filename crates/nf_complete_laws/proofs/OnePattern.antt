@@ -1,17 +1,8 @@
 -- Settled flows have one pattern.
 use Rattle.std.proofs.Common.{◌≡◌, ℕ, ◌<◌, List, length, ⊎_elim, Option, Some, None, slice_get, sym, ◌∙◌, arith}
-use Rattle.nf_rational.specs.Rational.{ℚ}
-use Rattle.nf_rational.specs.Operations.{0ℚ}
-use Rattle.nf_model.specs.declared.State.{State}
-use Rattle.nf_model.specs.declared.State.TheVariants.{Tight, Full, Zero}
-use Rattle.nf_model.specs.Entries.{number_at}
-use Rattle.nf_model.specs.Network.{Link, Network, IsLink}
-use Rattle.nf_model.specs.ThinFlow.{Sets, IsThinFlow}
-use Rattle.nf_model.specs.Pattern.{Pattern, NeedsState}
+use Rattle.nf_complete_laws.proofs.Common.{ℚ, 0ℚ, State, Tight, Full, Zero, number_at, Link, Network, IsLink, Sets, IsThinFlow, Pattern, NeedsState, entry}
+use Rattle.nf_complete_laws.proofs.Common.{IsSettledPattern, AreGoodSets}
 use Rattle.nf_thin_laws.proofs.Bases.{same_entries}
-use Rattle.nf_rational_laws.proofs.Entries.{entry}
-use Rattle.nf_complete_def.specs.SettledPattern.{IsSettledPattern}
-use Rattle.nf_complete_laws.specs.SettleLaws.{AreGoodSets}
 use Rattle.nf_complete_laws.proofs.Settled.{Leads, Filled, Fits, chosen}
 
 module _ (net : Network) (sets : Sets) (rate : ℚ) (flows slopes : List ℚ) (good : AreGoodSets net sets) (thin : IsThinFlow net sets rate flows slopes) where

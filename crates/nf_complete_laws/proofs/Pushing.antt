@@ -1,20 +1,8 @@
 -- More or less flow on a link whose ends have equal slopes.
 use Rattle.std.proofs.Common.{◌≡◌, ◌≢◌, ℕ, ◌<◌, [], ◌∷◌, ◌⊎◌, inl, inr, ⊎_elim, sym, ap, subst, refl, ◌∙◌}
-use Rattle.nf_rational.specs.Rational.{ℚ}
-use Rattle.nf_rational.specs.Operations.{0ℚ, 1ℚ, ◌+ℚ◌, ◌-ℚ◌, ◌*ℚ◌}
-use Rattle.nf_rational.specs.Order.{◌≤ℚ◌}
-use Rattle.nf_rational_laws.proofs.Polynomial.{reading_of}
-use Rattle.nf_rational_laws.proofs.Order.{≤ℚ_of_same}
-use Rattle.nf_rational_laws.proofs.Linear.{eq, eq_times, linear_eq}
-use Rattle.nf_rational_laws.proofs.Facts.{moved_by_zero, same_differences}
-use Rattle.nf_model.specs.Entries.{Has}
-use Rattle.nf_model.specs.Network.{Link, Network, IsLink, sum_in, sum_out}
-use Rattle.nf_model.specs.ThinFlow.{Sets}
-use Rattle.nf_model.specs.Pattern.{NeedsState, Fills}
-use Rattle.nf_model_laws.proofs.Networks.{IsLink-unique}
-use Rattle.nf_model_laws.proofs.Sums.{sum_in-line, sum_out-line}
-use Rattle.nf_model_laws.proofs.Potential.{only_at, only_at-here, only_at-else}
-use Rattle.nf_complete_laws.specs.Oversupply.{Fits, demand, IsOversupply}
+use Rattle.nf_complete_laws.proofs.Common.{ℚ, 0ℚ, 1ℚ, ◌+ℚ◌, ◌-ℚ◌, ◌*ℚ◌, ◌≤ℚ◌, reading_of, ≤ℚ_of_same, eq, eq_times, linear_eq, moved_by_zero, same_differences}
+use Rattle.nf_complete_laws.proofs.Common.{Has, Link, Network, IsLink, sum_in, sum_out, Sets, NeedsState, Fills, IsLink-unique, sum_in-line, sum_out-line}
+use Rattle.nf_complete_laws.proofs.Common.{only_at, only_at-here, only_at-else, Fits, demand, IsOversupply}
 use Rattle.nf_complete_laws.proofs.LinkSums.{at_place, at_place-cases, sum_in-place, sum_out-place}
 use Rattle.nf_complete_laws.proofs.Fitting.{IsAtMost}
 use Rattle.nf_complete_laws.proofs.Spare.{spare, enough_of_spare}

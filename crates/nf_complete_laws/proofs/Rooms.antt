@@ -1,13 +1,7 @@
 -- The least of some rooms.
-use Rattle.std.proofs.Common.{◌≡◌, ℕ, zero, suc, List, [], ◌∷◌, ⊎_elim, sym, ap, subst, refl, ◌∙◌}
-use Rattle.std.specs.Prelude.{Option, Some, None, slice_get}
-use Rattle.std.proofs.lemmas.Option.{none-some, same_Some}
-use Rattle.nf_rational.specs.Rational.{ℚ}
-use Rattle.nf_rational.specs.Order.{◌≤ℚ◌, ◌<ℚ◌, min_ℚ}
+use Rattle.std.proofs.Common.{◌≡◌, ℕ, zero, suc, List, [], ◌∷◌, ⊎_elim, sym, ap, subst, refl, ◌∙◌, Option, Some, None, slice_get}
+use Rattle.nf_complete_laws.proofs.Common.{none-some, same_Some, ℚ, ◌≤ℚ◌, ◌<ℚ◌, min_ℚ, ≤ℚ_refl, ≤ℚ_trans, min_left, min_right, lesser_room, least_room}
 use Rattle.nf_rational_laws.proofs.Tests.{min_ℚ_cases}
-use Rattle.nf_rational_laws.proofs.Chains.{≤ℚ_refl, ≤ℚ_trans}
-use Rattle.nf_rational_laws.proofs.Extremes.{min_left, min_right}
-use Rattle.nf_complete_def.specs.Cancelling.{lesser_room, least_room}
 
 -- it is at most each of them
 first_least : (x a : ℚ) (rest : Option ℚ) → lesser_room (Some x) rest ≡ Some a → a ≤ℚ x

@@ -2,29 +2,12 @@
 -- inflow, the only Tight links are the one chosen to enter it and those chosen to enter further such nodes. The flow of the entering link
 -- therefore continues forever along active links, which hold no cycle. So the trail uses interior links only, which hold no cycle.
 use Rattle.std.proofs.Common.{◌≡◌, ◌≢◌, ℕ, ◌<◌, ◌≤◌, List, [], ◌∷◌, ◌++◌, ◌⊎◌, inl, inr, ⊎_elim, Bool, true, false, if◌then◌else◌, eqb, Option, Some, None, sym, ap, subst, refl, ◌∙◌, arith}
-use Rattle.std.proofs.lemmas.Bool.{cases_lt}
-use Rattle.std.proofs.lemmas.Bool.Decides.{eqb_tells}
-use Rattle.nf_rational.specs.Rational.{ℚ}
-use Rattle.nf_rational.specs.Operations.{0ℚ, ◌-ℚ◌}
-use Rattle.nf_rational.specs.Order.{◌≤ℚ◌}
-use Rattle.nf_rational_laws.proofs.Polynomial.{reading_of}
-use Rattle.nf_rational_laws.proofs.Order.{≤ℚ_of_same, not_both_ℚ}
-use Rattle.nf_rational_laws.proofs.Linear.{eq, linear_eq, linear_false}
-use Rattle.nf_model.specs.declared.State.TheVariants.{Tight, Full, Zero}
-use Rattle.nf_model.specs.Entries.{number_at, Has}
-use Rattle.nf_model.specs.Network.{Link, Network, IsLink, IsNetwork, hops, sum_in}
-use Rattle.nf_model.specs.ThinFlow.{Sets, IsThinFlow}
-use Rattle.nf_model.specs.Pattern.{Pattern, HasState, IsTrail, AllDiffer, IsForest}
-use Rattle.nf_model_laws.proofs.Networks.{link_at}
-use Rattle.nf_model_laws.proofs.Potential.{only_at, only_at-here, only_at-else, out_less_in}
-use Rattle.nf_model_laws.proofs.Sums.{sum_in-same, sum_out-same, sum_out-none}
-use Rattle.nf_model_laws.proofs.Ways.{way_back}
-use Rattle.nf_thin_laws.specs.ActiveLinks.{HoldNoCycle, IsActiveWalk}
-use Rattle.nf_thin_laws.proofs.ActiveLinks.{Way, no_way_round}
+use Rattle.nf_complete_laws.proofs.Common.{cases_lt, eqb_tells, ℚ, 0ℚ, ◌-ℚ◌, ◌≤ℚ◌, reading_of, ≤ℚ_of_same, not_both_ℚ, eq, linear_eq, linear_false, Tight, Full}
+use Rattle.nf_complete_laws.proofs.Common.{Zero, number_at, Has, Link, Network, IsLink, IsNetwork, hops, sum_in, Sets, IsThinFlow, Pattern, HasState, IsTrail}
+use Rattle.nf_complete_laws.proofs.Common.{AllDiffer, IsForest, link_at, only_at, only_at-here, only_at-else, out_less_in, sum_in-same, sum_out-same}
+use Rattle.nf_complete_laws.proofs.Common.{sum_out-none, way_back, HoldNoCycle, IsActiveWalk, Way, no_way_round, IsInterior, links_of, turn_of, IsBare}
+use Rattle.nf_complete_laws.proofs.Common.{LeadsToBare, IsSettledPattern, AreGoodSets}
 use Rattle.nf_thin_laws.proofs.Forests.{Dart, Carries, forest-none}
-use Rattle.nf_complete_def.specs.Interior.{IsInterior, links_of, turn_of}
-use Rattle.nf_complete_def.specs.SettledPattern.{IsBare, LeadsToBare, IsSettledPattern}
-use Rattle.nf_complete_laws.specs.SettleLaws.{AreGoodSets}
 use Rattle.nf_complete_laws.proofs.Trails.{mark, sum_in-only, signed, carried_by, turn-first, trail-allowed, carried-closed}
 use Rattle.nf_complete_laws.proofs.Deciding.{Decided, both, same_or_not, First, NoLink, first_or_none}
 use Rattle.nf_complete_laws.proofs.Bare.{same_node, bare_out}

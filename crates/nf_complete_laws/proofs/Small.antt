@@ -1,17 +1,8 @@
 -- Properties of all sufficiently small numbers that are not negative.
 use Rattle.std.proofs.Common.{◌≡◌, ℕ, zero, suc, ◌<◌, List, [], ◌∷◌, ⊎_elim, Some, slice_get, sym, subst, arith}
-use Rattle.std.proofs.lemmas.Option.{none-some}
-use Rattle.nf_rational.specs.Rational.{ℚ}
-use Rattle.nf_rational.specs.Operations.{0ℚ, 1ℚ, ◌+ℚ◌, ◌-ℚ◌, ◌*ℚ◌, ◌/ℚ◌}
-use Rattle.nf_rational.specs.Order.{◌≤ℚ◌, ◌<ℚ◌, min_ℚ}
-use Rattle.nf_rational_laws.proofs.Polynomial.{reading_of}
-use Rattle.nf_rational_laws.proofs.Order.{ps_times}
-use Rattle.nf_rational_laws.proofs.Chains.{≤ℚ_trans}
+use Rattle.nf_complete_laws.proofs.Common.{none-some, ℚ, 0ℚ, 1ℚ, ◌+ℚ◌, ◌-ℚ◌, ◌*ℚ◌, ◌/ℚ◌, ◌≤ℚ◌, ◌<ℚ◌, min_ℚ, reading_of, ps_times, ≤ℚ_trans, le, lt, eq}
+use Rattle.nf_complete_laws.proofs.Common.{le_times, linear_le, linear_lt, min_left, min_right, min_keeps, Link, before_or_at}
 use Rattle.nf_rational_laws.proofs.Quotient.{/ℚ_is, /ℚ-times, ps_apart, ps_inv}
-use Rattle.nf_rational_laws.proofs.Linear.{le, lt, eq, le_times, linear_le, linear_lt}
-use Rattle.nf_rational_laws.proofs.Extremes.{min_left, min_right, min_keeps}
-use Rattle.nf_model.specs.Network.{Link}
-use Rattle.nf_rational_laws.proofs.Naturals.{before_or_at}
 use Rattle.nf_complete_laws.proofs.LeastLinks.{each_of}
 use Rattle.nf_complete_laws.proofs.Deciding.{Decided}
 use Rattle.nf_complete_laws.proofs.ExistsDeciding.{less_or_not}

@@ -1,19 +1,7 @@
 -- The excess of a node in an oversupply, its inflow less its outflow and demand; and properties of the links.
 use Rattle.std.proofs.Common.{◌≢◌, ℕ, ◌==◌, if◌then◌else◌, Bool, true, false, [], ◌∷◌, ◌⊎◌, inl, inr, ⊎_elim, sym}
-use Rattle.nf_rational.specs.Rational.{ℚ}
-use Rattle.nf_rational.specs.Operations.{0ℚ, ◌+ℚ◌, ◌-ℚ◌}
-use Rattle.nf_rational.specs.Order.{◌≤ℚ◌, ◌<ℚ◌}
-use Rattle.nf_rational_laws.proofs.Polynomial.{reading_of}
-use Rattle.nf_rational_laws.proofs.Order.{≤ℚ_of_same}
-use Rattle.nf_rational_laws.proofs.Chains.{≤ℚ_refl}
-use Rattle.nf_rational_laws.proofs.Linear.{le, lt, linear_le, linear_lt}
-use Rattle.nf_model.specs.Entries.{Has}
-use Rattle.nf_model.specs.Network.{Link, Network, IsLink, IsNetwork, sum_in, sum_out}
-use Rattle.nf_model.specs.ThinFlow.{Sets}
-use Rattle.nf_model.specs.Pattern.{NeedsState}
-use Rattle.nf_model_laws.proofs.Earliest.{IsPositive-link}
-use Rattle.nf_model_laws.proofs.Sums.{HasIn, sum_in-some}
-use Rattle.nf_complete_laws.specs.Oversupply.{demand, IsOversupply}
+use Rattle.nf_complete_laws.proofs.Common.{ℚ, 0ℚ, ◌+ℚ◌, ◌-ℚ◌, ◌≤ℚ◌, ◌<ℚ◌, reading_of, ≤ℚ_of_same, ≤ℚ_refl, le, lt, linear_le, linear_lt, Has, Link, Network}
+use Rattle.nf_complete_laws.proofs.Common.{IsLink, IsNetwork, sum_in, sum_out, Sets, NeedsState, IsPositive-link, HasIn, sum_in-some, demand, IsOversupply}
 use Rattle.nf_complete_laws.proofs.Deciding.{Decided, both}
 use Rattle.nf_complete_laws.proofs.Bare.{flagged, same_node}
 use Rattle.nf_complete_laws.proofs.ExistsDeciding.{not_so, less_or_not}

@@ -1,15 +1,9 @@
 -- If a phase run stopped because no pattern was left, there is no thin flow there.
 use Rattle.std.proofs.Common.{◌≡◌, ℕ, suc, ◌<◌, List, length, get_or, Option, Some, None, unwrap_or, sym, ap, subst, ◌∙◌, arith}
-use Rattle.std.proofs.lemmas.Option.{none-some, slice_get-get_or, same_Some}
+use Rattle.nf_complete_laws.proofs.Common.{none-some, slice_get-get_or, same_Some, ℚ, 0ℚ, not_both_ℚ, Passing, number_at, Network, IsNetwork, rate_at, sets_at}
+use Rattle.nf_complete_laws.proofs.Common.{IsThinFlow, AreSets-sets_at, HoldNoCycle-sets_at, same_entries, AreGoodSets}
 use Rattle.std.proofs.lemmas.List.FromFn.{length-map-range_with_len, get_or-map-range_with_len}
-use Rattle.nf_rational.specs.Rational.{ℚ}
-use Rattle.nf_rational.specs.Operations.{0ℚ}
-use Rattle.nf_rational_laws.proofs.Order.{not_both_ℚ}
-use Rattle.nf_frac_def.specs.Passing.{Passing}
 use Rattle.nf_frac_def.specs.declared.PassedAt.{PassedAt}
-use Rattle.nf_model.specs.Entries.{number_at}
-use Rattle.nf_model.specs.Network.{Network, IsNetwork, rate_at}
-use Rattle.nf_model.specs.ThinFlow.{sets_at, IsThinFlow}
 use Rattle.nf_model.specs.Equilibrium.{label}
 use Rattle.nf_net_def.specs.declared.Cause.{Cause}
 use Rattle.nf_net_def.specs.Report.{Report}
@@ -17,13 +11,10 @@ use Rattle.nf_thin_def.specs.Search.{SearchAnswer, Found, OverBudget, PassesAt, 
 use Rattle.nf_thin_def.specs.PhaseRun.{Standing, Bounds, Seeks, cause_of_search, Fails, at_slack, at_search, at_lists, Runs, at_horizon, at_phases, fails, goes, IsRunReport, flow_of}
 use Rattle.nf_model_laws.proofs.Slacks.{slack_of_resetting}
 use Rattle.nf_model_laws.proofs.Supply.{rate_from-not_negative}
-use Rattle.nf_thin_laws.proofs.ActiveLinks.{AreSets-sets_at, HoldNoCycle-sets_at}
-use Rattle.nf_rational_laws.proofs.Entries.{same_entries}
 use Rattle.nf_phase_laws.proofs.WellRun.{WellRun, WellRun-start}
 use Rattle.nf_phase_laws.proofs.Run.{WellRun-goes}
 use Rattle.nf_phase_laws.proofs.Standing.{grown_at, label_count_at, unbounded_slack_at}
 use Rattle.nf_complete_def.specs.Reached.{labels_reached, StopsForNoThinFlow}
-use Rattle.nf_complete_laws.specs.SettleLaws.{AreGoodSets}
 use Rattle.nf_complete_laws.proofs.Settled.{none-search}
 
 -- the sets of a phase are such sets

@@ -1,24 +1,10 @@
 -- The existence of an oversupply. Slopes are powers of a great number, by the heights of nodes. Into each node leads a link that brings
 -- more than all links out of it can carry.
 use Rattle.std.proofs.Common.{◌≡◌, ℕ, zero, suc, ◌<◌, ◌≤◌, List, [], ◌∷◌, ◌⊎◌, inl, inr, ⊎_elim, Bool, true, false, eqb, if◌then◌else◌, Option, Some, None, slice_get, unwrap_or, ap, sym, subst, refl, ◌∙◌, arith}
-use Rattle.std.proofs.lemmas.Option.{none-some, same_Some}
-use Rattle.nf_rational.specs.Rational.{ℚ}
-use Rattle.nf_rational.specs.Operations.{0ℚ, 1ℚ, ◌+ℚ◌, ◌*ℚ◌}
-use Rattle.nf_rational.specs.Order.{◌≤ℚ◌, ◌<ℚ◌}
-use Rattle.nf_rational_laws.proofs.Polynomial.{reading_of}
-use Rattle.nf_rational_laws.proofs.Order.{≤ℚ_of_lt, nn_plus, nn_times}
-use Rattle.nf_rational_laws.proofs.Linear.{le, le_times, linear_le}
-use Rattle.nf_rational_laws.proofs.Chains.{≤ℚ_refl, ≤ℚ_trans}
-use Rattle.nf_rational_laws.proofs.Facts.{times_le}
-use Rattle.nf_rational_laws.proofs.Results.{not_both}
-use Rattle.nf_model.specs.Entries.{Has}
-use Rattle.nf_model.specs.Network.{Link, Network, IsLink, IsNetwork, sum_in, sum_out}
-use Rattle.nf_model.specs.ThinFlow.{Sets, Enters}
-use Rattle.nf_model.specs.Pattern.{NeedsState, Fills}
-use Rattle.nf_model_laws.proofs.Sums.{sum_in-each}
-use Rattle.nf_thin_laws.specs.ActiveLinks.{AreSets, HoldNoCycle, EachIsEntered}
-use Rattle.nf_thin_laws.proofs.Flags.{flag, flag-cases}
-use Rattle.nf_complete_laws.specs.Oversupply.{Fits, demand, IsOversupply, ResetsAreBounded}
+use Rattle.nf_complete_laws.proofs.Common.{none-some, same_Some, ℚ, 0ℚ, 1ℚ, ◌+ℚ◌, ◌*ℚ◌, ◌≤ℚ◌, ◌<ℚ◌, reading_of, ≤ℚ_of_lt, nn_plus, nn_times, le, le_times}
+use Rattle.nf_complete_laws.proofs.Common.{linear_le, ≤ℚ_refl, ≤ℚ_trans, times_le, not_both, Has, Link, Network, IsLink, IsNetwork, sum_in, sum_out, Sets}
+use Rattle.nf_complete_laws.proofs.Common.{Enters, NeedsState, Fills, sum_in-each, AreSets, HoldNoCycle, EachIsEntered, flag, flag-cases, Fits, demand}
+use Rattle.nf_complete_laws.proofs.Common.{IsOversupply, ResetsAreBounded}
 use Rattle.nf_complete_laws.proofs.Powers.{power, power-one, power-nn, power-rises, room, room-positive, rooms, rooms-nn, sum_out-within, IsWide, wide}
 use Rattle.nf_complete_laws.proofs.Loads.{bound, bound-tail, Load, load}
 use Rattle.nf_complete_laws.proofs.Heights.{Heights, heights}

@@ -1,8 +1,6 @@
 -- Links with their ends exchanged: the sum into a node is the sum out of it along the turned links.
 use Rattle.std.proofs.Common.{◌≡◌, ℕ, suc, List, [], ◌∷◌, map, if◌then◌else◌, eqb, ap, refl}
-use Rattle.nf_rational.specs.Rational.{ℚ}
-use Rattle.nf_rational.specs.Operations.{◌+ℚ◌}
-use Rattle.nf_model.specs.Network.{Link, sum_in, sum_out}
+use Rattle.nf_complete_laws.proofs.Common.{ℚ, ◌+ℚ◌, Link, sum_in, sum_out}
 
 abbrev pub turned : Link → Link
 turned link = record { tail = link.head; head = link.tail; transit = link.transit; capacity = link.capacity }

@@ -1,6 +1,5 @@
 -- One computation and then another.
-use Rattle.std.specs.Prelude.{◌≡◌, Result, Ok, Err, refl}
-use Rattle.std.proofs.Common.{ap}
+use Rattle.std.proofs.Common.{ap, ◌≡◌, Result, Ok, Err, refl}
 use Rattle.nf_frac_def.specs.Checked.{◌>>=◌}
 
 -- both have a value where the whole has one

@@ -1,7 +1,6 @@
 -- If no operation of a computation passes, its value is also that of the computation in which fewer operations can pass.
 -- So it is the exact value: that of the computation in which no operation can pass.
-use Rattle.std.proofs.Common.{◌≡◌, List, [], ◌∷◌, Bool, true, false, refl, ap, ◌∙◌}
-use Rattle.std.specs.Prelude.{if◌then◌else◌, Result, Ok, Err, map}
+use Rattle.std.proofs.Common.{◌≡◌, List, [], ◌∷◌, Bool, true, false, refl, ap, ◌∙◌, if◌then◌else◌, Result, Ok, Err, map}
 use Rattle.nf_rational.specs.Rational.{ℚ}
 use Rattle.nf_frac_def.specs.declared.Op.{Op}
 use Rattle.nf_frac_def.specs.declared.Passed.{Passed}
@@ -63,3 +62,7 @@ none_passes passes op x y e = refl
 pub each_exact : {A B E : Type 0} (f : A → Result B E) (g : A → B) → ((x : A) → f x ≡ Ok (g x)) → (xs : List A) → each f xs ≡ Ok (map g xs)
 each_exact f g h [] = refl
 each_exact f g h (x ∷ xs) = ap (λ (w : Result _ _). w >>= λ y. each f xs >>= λ ys. Ok (y ∷ ys)) (h x) ∙ ap (λ (w : Result _ _). w >>= λ ys. Ok (g x ∷ ys)) (each_exact f g h xs)
+
+pub checked-never : (op : Op) (x y : ℚ) → checked never op x y ≡ Ok (result_of op x y)
+unfolding checked
+checked-never op x y = refl

@@ -1,6 +1,5 @@
 -- The list of operations with its first passing one, and the checked computation, are one thing.
-use Rattle.std.proofs.Common.{◌≡◌, ◌++◌, [], ◌∷◌, List, Bool, true, false, cond, refl, sym, ap, ◌∙◌}
-use Rattle.std.specs.Prelude.{if◌then◌else◌, Option, Some, None, find, Result, Ok, Err}
+use Rattle.std.proofs.Common.{◌≡◌, ◌++◌, [], ◌∷◌, List, Bool, true, false, cond, refl, sym, ap, ◌∙◌, if◌then◌else◌, Option, Some, None, find, Result, Ok, Err}
 use Rattle.std.specs.Option.{option_or, unwrap_or}
 use Rattle.std.specs.List.{AllByRecursion}
 use Rattle.std.proofs.lemmas.List.Folds.{find-append}

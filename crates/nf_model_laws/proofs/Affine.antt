@@ -1,14 +1,8 @@
 -- Steps over plain numbers that the laws of curves and queues are made of.
 use Rattle.std.proofs.Common.{◌≡◌, [], ◌∷◌, ⊎_elim, sym, subst}
-use Rattle.nf_rational.specs.Rational.{ℚ}
-use Rattle.nf_rational.specs.Operations.{◌+ℚ◌, ◌-ℚ◌, ◌*ℚ◌, ◌/ℚ◌, 0ℚ}
-use Rattle.nf_rational.specs.Order.{◌≤ℚ◌, ◌<ℚ◌}
-use Rattle.nf_rational_laws.proofs.Polynomial.{reading_of}
-use Rattle.nf_rational_laws.proofs.Order.{≤ℚ_of_lt, ≤ℚ_of_same, ≤ℚ_antisymm, nn_times, ps_times, less_ps, lt_or_le_ℚ}
-use Rattle.nf_rational_laws.proofs.Quotient.{/ℚ_is, /ℚ-times, ps_apart, ps_inv}
-use Rattle.nf_rational_laws.proofs.Linear.{le, lt, eq, le_times, eq_times, linear_le, linear_lt, linear_eq, linear_false}
-use Rattle.nf_model_laws.specs.Affine.{IsAffine}
-use Rattle.nf_rational_laws.proofs.Chains.{≤ℚ_refl, ≤ℚ_trans}
+use Rattle.nf_model_laws.proofs.Common.{ℚ, ◌+ℚ◌, ◌-ℚ◌, ◌*ℚ◌, ◌/ℚ◌, 0ℚ, ◌≤ℚ◌, ◌<ℚ◌, reading_of, ≤ℚ_of_lt, ≤ℚ_of_same, ≤ℚ_antisymm, nn_times, ps_times, less_ps}
+use Rattle.nf_model_laws.proofs.Common.{lt_or_le_ℚ, /ℚ_is, /ℚ-times, ps_apart, ps_inv, le, lt, eq, le_times, eq_times, linear_le, linear_lt, linear_eq}
+use Rattle.nf_model_laws.proofs.Common.{linear_false, IsAffine, ≤ℚ_refl, ≤ℚ_trans}
 pub use Rattle.nf_rational_laws.proofs.Chains.{<_≤_trans}
 
 -- ---- quotients

@@ -1,18 +1,10 @@
 -- Values of curves.
 use Rattle.std.proofs.Common.{◌≡◌, List, [], ◌∷◌, ◌++◌, ⊎_elim, Bool, true, false, if◌then◌else◌, sym, ap, subst, refl, ◌∙◌, append_assoc}
-use Rattle.nf_rational.specs.Rational.{ℚ}
-use Rattle.nf_rational.specs.Operations.{◌+ℚ◌, ◌-ℚ◌, ◌*ℚ◌, ◌/ℚ◌, 0ℚ}
-use Rattle.nf_rational.specs.Order.{◌≤ℚ◌, ◌<ℚ◌, lt_ℚ}
-use Rattle.nf_rational_laws.proofs.Polynomial.{reading_of}
-use Rattle.nf_rational_laws.proofs.Order.{≤ℚ_of_lt, ≤ℚ_antisymm, lt_or_le_ℚ, less_ps, not_both_ℚ}
-use Rattle.nf_rational_laws.proofs.Quotient.{/ℚ-unique, ps_apart}
-use Rattle.nf_rational_laws.proofs.Linear.{le, lt, eq, le_times, eq_times, linear_le, linear_lt, linear_eq}
-use Rattle.nf_rational_laws.proofs.Tests.{lt_ℚ_cases}
-use Rattle.nf_model.specs.Curve.{Within, slope, value, TimesRise, IsCurve, NeverFalls}
-use Rattle.nf_model_laws.specs.Affine.{IsAffine}
+use Rattle.nf_model_laws.proofs.Common.{ℚ, ◌+ℚ◌, ◌-ℚ◌, ◌*ℚ◌, ◌/ℚ◌, 0ℚ, ◌≤ℚ◌, ◌<ℚ◌, lt_ℚ, reading_of, ≤ℚ_of_lt, ≤ℚ_antisymm, lt_or_le_ℚ, less_ps, not_both_ℚ}
+use Rattle.nf_model_laws.proofs.Common.{/ℚ-unique, ps_apart, le, lt, eq, le_times, eq_times, linear_le, linear_lt, linear_eq, lt_ℚ_cases, Within, slope, value}
+use Rattle.nf_model_laws.proofs.Common.{TimesRise, IsCurve, NeverFalls, IsAffine, ≤ℚ_refl, ≤ℚ_trans, <_≤_trans}
 use Rattle.nf_model_laws.specs.CurveLaws.{ValuesRise}
 use Rattle.nf_model_laws.proofs.Affine.{quotient-times, le_from_times, quotient-gap, nn-slope, line_end, line_start, line_rises}
-use Rattle.nf_rational_laws.proofs.Chains.{≤ℚ_refl, ≤ℚ_trans, <_≤_trans}
 
 -- where t lies before the second point, and where it does not
 pub by_first : {P : Type 0} (p q : ℚ × ℚ) (rest : List (ℚ × ℚ)) (t : ℚ)
@@ -254,22 +246,18 @@ EndsAt-push points p q e h = record {
 pub EndsAt-push_line : (points : List (ℚ × ℚ)) (p q : ℚ × ℚ) (t : ℚ) → EndsAt points p → p.0 <ℚ q.0 → p.0 ≤ℚ t → t ≤ℚ q.0 → value (points ++ q ∷ []) t ≡ p.1 +ℚ slope p q *ℚ (t -ℚ p.0)
 EndsAt-push_line points p q t e h k l = ap (λ (l : List (ℚ × ℚ)). value (l ++ q ∷ []) t) e.same ∙ value-push_piece e.front p q t (rises_at points e.front p e.same e.curve) h k l
 
-push_before : (front : List (ℚ × ℚ)) (p q : ℚ × ℚ) (t : ℚ) → IsCurve (front ++ p ∷ []) → p.0 <ℚ q.0 → 0ℚ ≤ℚ t → t ≤ℚ p.0 → value ((front ++ p ∷ []) ++ q ∷ []) t ≡ value (front ++ p ∷ []) t
-push_before [] p q t c h i k =
+pub value-append_before : (front : List (ℚ × ℚ)) (p q : ℚ × ℚ) (t : ℚ) → IsCurve (front ++ p ∷ []) → p.0 <ℚ q.0 → 0ℚ ≤ℚ t → t ≤ℚ p.0 → value ((front ++ p ∷ []) ++ q ∷ []) t ≡ value (front ++ p ∷ []) t
+value-append_before [] p q t c h i k =
     value-line p q [] t (h, tt) (≤ℚ_trans _ _ _ k (≤ℚ_of_lt _ _ h)) ∙ subst (λ (u : ℚ). p.1 +ℚ slope p q *ℚ (u -ℚ p.0) ≡ p.1) (≤ℚ_antisymm _ _ (subst (λ (z : ℚ). z ≤ℚ t) (sym c.0) i) k) (line_start p.0 p.1 (slope p q))
-push_before (x ∷ front) p q t c h i k = value-push_before front x p q t c.1 h k
+value-append_before (x ∷ front) p q t c h i k = value-push_before front x p q t c.1 h k
 
 pub EndsAt-push_before : (points : List (ℚ × ℚ)) (p q : ℚ × ℚ) (t : ℚ) → EndsAt points p → p.0 <ℚ q.0 → 0ℚ ≤ℚ t → t ≤ℚ p.0 → value (points ++ q ∷ []) t ≡ value points t
 EndsAt-push_before points p q t e h i k =
-    ap (λ (l : List (ℚ × ℚ)). value (l ++ q ∷ []) t) e.same ∙ push_before e.front p q t (subst (λ (l : List (ℚ × ℚ)). IsCurve l) e.same e.curve) h i k ∙ sym (ap (λ (l : List (ℚ × ℚ)). value l t) e.same)
+    ap (λ (l : List (ℚ × ℚ)). value (l ++ q ∷ []) t) e.same ∙ value-append_before e.front p q t (subst (λ (l : List (ℚ × ℚ)). IsCurve l) e.same e.curve) h i k ∙ sym (ap (λ (l : List (ℚ × ℚ)). value l t) e.same)
 
 -- ---- the same for a curve as it stands
 pub IsCurve-append : (front : List (ℚ × ℚ)) (p q : ℚ × ℚ) → IsCurve (front ++ p ∷ []) → p.0 <ℚ q.0 → IsCurve ((front ++ p ∷ []) ++ q ∷ [])
 IsCurve-append front p q c h = subst (λ (l : List (ℚ × ℚ)). IsCurve l) (sym (append_one front p q)) (IsCurve-push front p q c h)
-
-pub value-append_before : (front : List (ℚ × ℚ)) (p q : ℚ × ℚ) (t : ℚ) → IsCurve (front ++ p ∷ []) → p.0 <ℚ q.0 → 0ℚ ≤ℚ t → t ≤ℚ p.0
-    → value ((front ++ p ∷ []) ++ q ∷ []) t ≡ value (front ++ p ∷ []) t
-value-append_before = push_before
 
 pub value-append_affine : (front : List (ℚ × ℚ)) (p q : ℚ × ℚ) → IsCurve (front ++ p ∷ []) → p.0 <ℚ q.0 → IsAffine (value ((front ++ p ∷ []) ++ q ∷ [])) p.0 q.0 (slope p q)
 value-append_affine front p q c h =

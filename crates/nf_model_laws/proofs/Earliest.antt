@@ -1,21 +1,11 @@
 -- Labels of a network that are right link by link are the earliest arrivals, and conversely.
 use Rattle.std.proofs.Common.{◌≡◌, ◌≢◌, ℕ, ◌<◌, List, [], ◌∷◌, subst}
-use Rattle.std.proofs.lemmas.Option.{slice_get_within}
-use Rattle.nf_rational.specs.Rational.{ℚ}
-use Rattle.nf_rational.specs.Operations.{0ℚ, ◌+ℚ◌}
-use Rattle.nf_rational.specs.Order.{◌≤ℚ◌}
-use Rattle.nf_model.specs.Walk.{Hop, IsHop}
-use Rattle.nf_model.specs.Network.{Link, Network, IsNetwork, IsLink, hop_of, hops}
-use Rattle.nf_model.specs.Queue.{IsExit}
-use Rattle.nf_model.specs.Earliest.{Arrives, IsEarliest}
-use Rattle.nf_model.specs.Equilibrium.{Flow, HasShape, inflow, label}
-use Rattle.nf_model_laws.specs.Capacity.{IsPositive}
-use Rattle.nf_model_laws.specs.EarliestLaws.{AreLabels, InflowsRise}
+use Rattle.nf_model_laws.proofs.Common.{slice_get_within, ℚ, 0ℚ, ◌+ℚ◌, ◌≤ℚ◌, Hop, IsHop, Link, Network, IsNetwork, IsLink, hop_of, hops, IsExit, Arrives}
+use Rattle.nf_model_laws.proofs.Common.{IsEarliest, Flow, HasShape, inflow, label, IsPositive, AreLabels, InflowsRise, ≤ℚ_trans}
 use Rattle.nf_model_laws.proofs.Queues.{IsExit-after, IsExit-monotone}
 use Rattle.nf_model_laws.proofs.Exists.{HasExit-curve}
 use Rattle.nf_model_laws.proofs.Networks.{IsLink-unique, hop_at, by_link}
 use Rattle.nf_model_laws.proofs.EarliestWalks.{AreLabelsBy, CanCross, AreHops, Comes, IsFirst, IsFirst-label, IsFirst-forward, AreLabelsBy-first}
-use Rattle.nf_rational_laws.proofs.Chains.{≤ℚ_trans}
 
 pub IsPositive-link : (net : Network) (e : ℕ) (link : Link) → IsNetwork net → IsLink net e link → IsPositive link.capacity
 IsPositive-link net e link good p = λ rate some. good.capacities e link rate p some

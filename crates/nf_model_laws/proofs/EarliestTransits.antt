@@ -1,16 +1,8 @@
 -- Labels of a network that are right link by link are the least transit sums, and conversely: crossing a hop takes just its
 -- transit time.
 use Rattle.std.proofs.Common.{◌≡◌, ◌≢◌, ℕ, ◌<◌, List, [], ◌∷◌, sym, ap, subst, refl, ◌∙◌}
-use Rattle.nf_rational.specs.Rational.{ℚ}
-use Rattle.nf_rational.specs.Operations.{0ℚ, ◌+ℚ◌}
-use Rattle.nf_rational.specs.Order.{◌≤ℚ◌}
-use Rattle.nf_rational_laws.proofs.Polynomial.{reading_of}
-use Rattle.nf_rational_laws.proofs.Order.{≤ℚ_of_same}
-use Rattle.nf_rational_laws.proofs.Linear.{le, eq, linear_le, linear_eq}
-use Rattle.nf_rational_laws.proofs.Facts.{zero_plus}
-use Rattle.nf_model.specs.Walk.{Hop, IsHop, transit_of, transit_sum, IsLeastTransit}
-use Rattle.nf_model.specs.Network.{Link, Network, IsNetwork, IsLink, hop_of, hops}
-use Rattle.nf_model_laws.specs.EarliestLaws.{AreTransitLabels}
+use Rattle.nf_model_laws.proofs.Common.{ℚ, 0ℚ, ◌+ℚ◌, ◌≤ℚ◌, reading_of, ≤ℚ_of_same, le, eq, linear_le, linear_eq, zero_plus, Hop, IsHop, transit_of, transit_sum}
+use Rattle.nf_model_laws.proofs.Common.{IsLeastTransit, Link, Network, IsNetwork, IsLink, hop_of, hops, AreTransitLabels}
 use Rattle.nf_model_laws.proofs.Networks.{transit_of-hop, transit_of-is, hop_at, by_link}
 use Rattle.nf_model_laws.proofs.EarliestWalks.{AreLabelsBy, CanCross, Comes, IsFirst, IsFirst-label, AreLabelsBy-first}
 use Rattle.nf_model_laws.proofs.Earliest.{AreHops-net}

@@ -1,17 +1,9 @@
 -- Least labels along walks, whatever it takes to cross a hop: earliest arrivals and least transit sums are two cases of it.
 use Rattle.std.proofs.Common.{◌≡◌, ◌≢◌, ℕ, ◌<◌, List, [], ◌∷◌, ◌++◌, ◌⊎◌, inl, inr, ⊎_elim, true, false, eqb, sym, ap, subst, refl}
-use Rattle.std.proofs.lemmas.Bool.Decides.{eqb_tells}
-use Rattle.nf_rational.specs.Rational.{ℚ}
-use Rattle.nf_rational.specs.Operations.{0ℚ, ◌+ℚ◌}
-use Rattle.nf_rational.specs.Order.{◌≤ℚ◌, ◌<ℚ◌}
-use Rattle.nf_rational_laws.proofs.Polynomial.{reading_of}
-use Rattle.nf_rational_laws.proofs.Order.{≤ℚ_of_same, ≤ℚ_antisymm}
-use Rattle.nf_rational_laws.proofs.Linear.{le, lt, linear_le, linear_false}
-use Rattle.nf_model.specs.Walk.{Hop, IsHop, IsWalk, transit_of, transit_sum}
+use Rattle.nf_model_laws.proofs.Common.{eqb_tells, ℚ, 0ℚ, ◌+ℚ◌, ◌≤ℚ◌, ◌<ℚ◌, reading_of, ≤ℚ_of_same, ≤ℚ_antisymm, le, lt, linear_le, linear_false, Hop, IsHop}
+use Rattle.nf_model_laws.proofs.Common.{IsWalk, transit_of, transit_sum, ≤ℚ_trans, plus_zero_le, first_of_sum}
 use Rattle.nf_model_laws.proofs.Ways.{way_back}
 use Rattle.nf_model_laws.proofs.Networks.{transit_of-hop, IsWalk-append}
-use Rattle.nf_rational_laws.proofs.Chains.{≤ℚ_trans}
-use Rattle.nf_rational_laws.proofs.Facts.{plus_zero_le, first_of_sum}
 
 -- ---- what is said of labels, hop by hop. `Cross e time exit`: who enters hop e at this time leaves it at that one
 

@@ -1,19 +1,10 @@
 -- A link whose inflow is a curve has a queue, an exit and an outflow at each time from 0 on.
 use Rattle.std.proofs.Common.{◌≡◌, List, [], ◌∷◌, ◌++◌, ⊎_elim, Option, sym, subst, refl, ◌∙◌, append_assoc}
-use Rattle.nf_rational.specs.Rational.{ℚ}
-use Rattle.nf_rational.specs.Operations.{0ℚ, ◌+ℚ◌, ◌-ℚ◌}
-use Rattle.nf_rational.specs.Order.{◌≤ℚ◌, ◌<ℚ◌}
-use Rattle.nf_rational_laws.proofs.Polynomial.{reading_of}
-use Rattle.nf_rational_laws.proofs.Order.{≤ℚ_of_lt, lt_or_le_ℚ, less_nn}
-use Rattle.nf_rational_laws.proofs.Linear.{linear_eq}
-use Rattle.nf_model.specs.Curve.{value, slope, IsCurve}
-use Rattle.nf_model.specs.Queue.{IsQueue, IsExit, IsOutflow, waiting}
-use Rattle.nf_model_laws.specs.Affine.{IsAffine, queue_after}
+use Rattle.nf_model_laws.proofs.Common.{ℚ, 0ℚ, ◌+ℚ◌, ◌-ℚ◌, ◌≤ℚ◌, ◌<ℚ◌, reading_of, ≤ℚ_of_lt, lt_or_le_ℚ, less_nn, linear_eq, value, slope, IsCurve, IsQueue}
+use Rattle.nf_model_laws.proofs.Common.{IsExit, IsOutflow, waiting, IsAffine, queue_after, ≤ℚ_refl, plus_zero_times}
 use Rattle.nf_model_laws.proofs.Curves.{IsCurve-rises, TimesRise-rest, value-last, value-affine}
 use Rattle.nf_model_laws.proofs.Queues.{IsOutflow-early, IsOutflow-from_IsQueue}
 use Rattle.nf_model_laws.proofs.Step.{IsQueue-at_0, IsQueue-after}
-use Rattle.nf_rational_laws.proofs.Chains.{≤ℚ_refl}
-use Rattle.nf_rational_laws.proofs.Facts.{plus_zero_times}
 
 abbrev pub HasQueue : Option ℚ → (ℚ → ℚ) → ℚ → Type 0
 HasQueue capacity amount time = (queue : ℚ) × IsQueue capacity amount time queue

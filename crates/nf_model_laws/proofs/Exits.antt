@@ -1,21 +1,11 @@
 -- First in, first out: what has left a link by an exit is what had entered it by the time of entry.
 use Rattle.std.proofs.Common.{◌≡◌, [], ◌∷◌, ⊎_elim, Option, Some, None, ap, subst, refl, ◌∙◌}
-use Rattle.nf_rational.specs.Rational.{ℚ}
-use Rattle.nf_rational.specs.Operations.{0ℚ, ◌+ℚ◌, ◌-ℚ◌, ◌*ℚ◌, ◌/ℚ◌}
-use Rattle.nf_rational.specs.Order.{◌≤ℚ◌, ◌<ℚ◌}
-use Rattle.nf_rational_laws.proofs.Polynomial.{reading_of}
-use Rattle.nf_rational_laws.proofs.Order.{≤ℚ_of_lt, lt_or_le_ℚ}
+use Rattle.nf_model_laws.proofs.Common.{ℚ, 0ℚ, ◌+ℚ◌, ◌-ℚ◌, ◌*ℚ◌, ◌/ℚ◌, ◌≤ℚ◌, ◌<ℚ◌, reading_of, ≤ℚ_of_lt, lt_or_le_ℚ, /ℚ_is, le, eq, le_times, eq_times}
+use Rattle.nf_model_laws.proofs.Common.{linear_le, linear_eq, IsGreatest, NeverFalls, IsQueue, IsExit, IsOutflow, waiting, IsPositive, ≤ℚ_trans, less_zero}
 use Rattle.nf_rational_laws.proofs.Field.{zero-*ℚ}
-use Rattle.nf_rational_laws.proofs.Quotient.{/ℚ_is}
-use Rattle.nf_rational_laws.proofs.Linear.{le, eq, le_times, eq_times, linear_le, linear_eq}
-use Rattle.nf_model.specs.Curve.{IsGreatest, NeverFalls}
-use Rattle.nf_model.specs.Queue.{IsQueue, IsExit, IsOutflow, waiting}
-use Rattle.nf_model_laws.specs.Capacity.{IsPositive}
 use Rattle.nf_model_laws.proofs.Affine.{nn-quotient, quotient-times}
 use Rattle.nf_model_laws.proofs.Queues.{IsQueue-some, IsQueue-nn, IsGreatest-order, IsQueue-unique, IsOutflow-from_IsQueue}
 use Rattle.nf_model_laws.proofs.Step.{IsQueue-at_0}
-use Rattle.nf_rational_laws.proofs.Chains.{≤ℚ_trans}
-use Rattle.nf_rational_laws.proofs.Facts.{less_zero}
 
 -- ---- when what entered at a time leaves the queue, the queue is just what has entered since
 -- over plain numbers: a entered by x, b by the time t, d by z, which is x and the wait w

@@ -1,3 +1,4 @@
+mod Common
 pub mod Affine
 pub mod Curves
 pub mod Merged

@@ -1,17 +1,9 @@
 -- The equilibrium by numbers is one of those of a full link.
 use Rattle.std.proofs.Common.{◌≡◌, ℕ, zero, suc, List, [], ◌∷◌, inl, Option, Some, None, subst, refl}
-use Rattle.nf_rational.specs.Rational.{ℚ}
-use Rattle.nf_rational.specs.Operations.{0ℚ}
-use Rattle.nf_rational.specs.Order.{◌≤ℚ◌, ◌<ℚ◌}
-use Rattle.nf_rational_laws.proofs.Polynomial.{reading_of}
-use Rattle.nf_rational_laws.proofs.Order.{nn_whole, ps_whole}
-use Rattle.nf_rational_laws.proofs.Linear.{linear_le, linear_eq}
-use Rattle.nf_model.specs.Network.{Piece, IsPiece, ArePieces}
-use Rattle.nf_model_laws.specs.MemberLaws.{NotBefore, n, HasMember}
+use Rattle.nf_model_laws.proofs.Common.{ℚ, 0ℚ, ◌≤ℚ◌, ◌<ℚ◌, reading_of, nn_whole, ps_whole, linear_le, linear_eq, Piece, IsPiece, ArePieces, NotBefore, n}
+use Rattle.nf_model_laws.proofs.Common.{HasMember, ≤ℚ_refl, same_Some}
 use Rattle.nf_model_laws.proofs.MemberLink.{IsNetwork-one_link}
 use Rattle.nf_model_laws.proofs.MemberPoints.{Equilibrium-full}
-use Rattle.nf_rational_laws.proofs.Chains.{≤ℚ_refl}
-use Rattle.std.proofs.lemmas.Option.{same_Some}
 
 abbrev first : Piece
 first = record { start = n 0; rate = n 2 }

@@ -1,24 +1,12 @@
 -- A flow is an equilibrium of a network of one link exactly where the whole supply enters the link at once.
 use Rattle.std.proofs.Common.{◌≡◌, ℕ, zero, suc, ◌<◌, List, [], ◌∷◌, ⊎_elim, Option, Some, None, sym, ap, subst, refl, ◌∙◌, arith}
-use Rattle.nf_rational.specs.Rational.{ℚ}
-use Rattle.nf_rational.specs.Operations.{0ℚ, ◌+ℚ◌}
-use Rattle.nf_rational.specs.Order.{◌≤ℚ◌, ◌<ℚ◌}
-use Rattle.nf_rational_laws.proofs.Polynomial.{reading_of}
-use Rattle.nf_rational_laws.proofs.Order.{≤ℚ_of_lt, ≤ℚ_antisymm, lt_or_le_ℚ}
-use Rattle.nf_rational_laws.proofs.Linear.{eq, linear_eq}
-use Rattle.nf_model.specs.Curve.{Within, NeverFalls}
-use Rattle.nf_model.specs.Walk.{Hop, IsHop, IsWalk}
-use Rattle.nf_model.specs.Network.{Link, Piece, Network, IsNetwork, IsLink, ArePieces, hops, supply}
-use Rattle.nf_model.specs.Queue.{IsQueue, IsExit, IsOutflow}
-use Rattle.nf_model.specs.Earliest.{Arrives, IsEarliest}
-use Rattle.nf_model.specs.Equilibrium.{Flow, Balances, Conserves, OnlyShortest, label, inflow, outflow, queue, Equilibrium}
-use Rattle.nf_model_laws.specs.Capacity.{IsPositive}
-use Rattle.nf_model_laws.specs.EarliestLaws.{AreLabels}
-use Rattle.nf_model_laws.specs.MemberLaws.{one_link, FillsLink}
+use Rattle.nf_model_laws.proofs.Common.{ℚ, 0ℚ, ◌+ℚ◌, ◌≤ℚ◌, ◌<ℚ◌, reading_of, ≤ℚ_of_lt, ≤ℚ_antisymm, lt_or_le_ℚ, eq, linear_eq, Within, NeverFalls, Hop, IsHop}
+use Rattle.nf_model_laws.proofs.Common.{IsWalk, Link, Piece, Network, IsNetwork, IsLink, ArePieces, hops, supply, IsQueue, IsExit, IsOutflow, Arrives}
+use Rattle.nf_model_laws.proofs.Common.{IsEarliest, Flow, Balances, Conserves, OnlyShortest, label, inflow, outflow, queue, Equilibrium, IsPositive, AreLabels}
+use Rattle.nf_model_laws.proofs.Common.{one_link, FillsLink, ≤ℚ_refl}
 use Rattle.nf_model_laws.proofs.Queues.{IsOutflow-early}
 use Rattle.nf_model_laws.proofs.Exits.{IsOutflow-at_exit, IsExit-at_0}
 use Rattle.nf_model_laws.proofs.Earliest.{IsEarliest-label}
-use Rattle.nf_rational_laws.proofs.Chains.{≤ℚ_refl}
 
 zero_one : {X : Type 0} → ◌≡◌ {A = ℕ} zero (suc zero) → X
 zero_one e = absurd (cc)

@@ -1,18 +1,10 @@
 -- One link that is supplied at one rate: its flow, point by point.
 use Rattle.std.proofs.Common.{◌≡◌, ℕ, zero, suc, List, [], ◌∷◌, inl, inr, Option, Some, None, slice_get, sym, ap, subst, refl, ◌∙◌}
-use Rattle.nf_rational.specs.Rational.{ℚ}
-use Rattle.nf_rational.specs.Operations.{0ℚ, 1ℚ, ◌+ℚ◌, ◌-ℚ◌, ◌*ℚ◌, ◌/ℚ◌}
-use Rattle.nf_rational.specs.Order.{◌≤ℚ◌, ◌<ℚ◌}
-use Rattle.nf_rational_laws.proofs.Polynomial.{reading_of}
-use Rattle.nf_rational_laws.proofs.Order.{≤ℚ_of_lt, ps_times, not_both_ℚ}
-use Rattle.nf_rational_laws.proofs.Linear.{lt, eq, le_times, eq_times, linear_le, linear_lt, linear_eq}
-use Rattle.nf_rational_laws.proofs.Facts.{without_zero, zero_of_zero_times}
+use Rattle.nf_model_laws.proofs.Common.{ℚ, 0ℚ, 1ℚ, ◌+ℚ◌, ◌-ℚ◌, ◌*ℚ◌, ◌/ℚ◌, ◌≤ℚ◌, ◌<ℚ◌, reading_of, ≤ℚ_of_lt, ps_times, not_both_ℚ, lt, eq, le_times, eq_times}
+use Rattle.nf_model_laws.proofs.Common.{linear_le, linear_lt, linear_eq, without_zero, zero_of_zero_times, Piece, ArePieces, Trace, Flow, points_at, points_of}
+use Rattle.nf_model_laws.proofs.Common.{HasShape, Equilibrium, IsPositive, one_link, at_rate, NotBefore, delayed_trace, prompt_trace, IsOutTrace, steady_flow}
 use Rattle.nf_rational_laws.proofs.Signs.{times_one}
 use Rattle.nf_model.specs.Curve.{Within, slope as slope_of, value, IsCurve, AreSlopes}
-use Rattle.nf_model.specs.Network.{Piece, ArePieces}
-use Rattle.nf_model.specs.Equilibrium.{Trace, Flow, points_at, points_of, HasShape, Equilibrium}
-use Rattle.nf_model_laws.specs.Capacity.{IsPositive}
-use Rattle.nf_model_laws.specs.MemberLaws.{one_link, at_rate, NotBefore, delayed_trace, prompt_trace, IsOutTrace, steady_flow}
 use Rattle.nf_model_laws.proofs.Affine.{quotient-times, same_from_times}
 use Rattle.nf_model_laws.proofs.Curves.{value-line, value-before, value-after, slope-unique, NeverFalls-value}
 use Rattle.nf_model_laws.proofs.MemberLink.{node_cases, only_0, Equilibrium-one_link}

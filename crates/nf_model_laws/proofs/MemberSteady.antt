@@ -1,26 +1,15 @@
 -- One link that is supplied at one rate: its flow, by the values of its curves.
 use Rattle.std.proofs.Common.{◌≡◌, zero, suc, List, [], ◌∷◌, Bool, if◌then◌else◌, ⊎_elim, Option, Some, None, sym, ap, subst, refl, ◌∙◌}
-use Rattle.nf_rational.specs.Rational.{ℚ}
-use Rattle.nf_rational.specs.Operations.{0ℚ, 1ℚ, ◌+ℚ◌, ◌-ℚ◌, ◌*ℚ◌, ◌/ℚ◌}
-use Rattle.nf_rational.specs.Order.{◌≤ℚ◌, ◌<ℚ◌}
-use Rattle.nf_rational_laws.proofs.Polynomial.{reading_of}
-use Rattle.nf_rational_laws.proofs.Order.{≤ℚ_of_lt, lt_or_le_ℚ, not_both_ℚ, ps_whole}
-use Rattle.nf_rational_laws.proofs.Tests.{test_of_le, test_of_lt, max0_none, max0_of}
-use Rattle.nf_rational_laws.proofs.Linear.{le, lt, eq, le_times, eq_times, linear_le, linear_lt, linear_eq}
-use Rattle.nf_model.specs.Curve.{Within, NeverFalls}
-use Rattle.nf_model.specs.Network.{Piece, ArePieces, rate_from, supplied}
-use Rattle.nf_model.specs.Queue.{IsQueue, IsExit, IsOutflow, waiting}
-use Rattle.nf_model.specs.Equilibrium.{Flow, label, inflow, outflow, queue, HasShape, HasSlopes}
-use Rattle.nf_model_laws.specs.Affine.{IsAffine, queue_after}
-use Rattle.nf_model_laws.specs.Capacity.{IsPositive}
-use Rattle.nf_model_laws.specs.MemberLaws.{one_link, at_rate, NotBefore, FillsLink}
+use Rattle.nf_model_laws.proofs.Common.{ℚ, 0ℚ, 1ℚ, ◌+ℚ◌, ◌-ℚ◌, ◌*ℚ◌, ◌/ℚ◌, ◌≤ℚ◌, ◌<ℚ◌, reading_of, ≤ℚ_of_lt, lt_or_le_ℚ, not_both_ℚ, ps_whole, test_of_le}
+use Rattle.nf_model_laws.proofs.Common.{test_of_lt, max0_none, max0_of, le, lt, eq, le_times, eq_times, linear_le, linear_lt, linear_eq, Within, NeverFalls}
+use Rattle.nf_model_laws.proofs.Common.{Piece, ArePieces, rate_from, supplied, IsQueue, IsExit, IsOutflow, waiting, Flow, label, inflow, outflow, queue}
+use Rattle.nf_model_laws.proofs.Common.{HasShape, HasSlopes, IsAffine, queue_after, IsPositive, one_link, at_rate, NotBefore, FillsLink, ≤ℚ_refl, ≤ℚ_trans}
 use Rattle.nf_model_laws.proofs.Affine.{quotient-times, le_from_times, same_from_times}
 use Rattle.nf_model_laws.proofs.Queues.{IsOutflow-early}
 use Rattle.nf_model_laws.specs.SupplyLaws.{NoStartBetween}
 use Rattle.nf_model_laws.proofs.Supply.{supplied-goes_on, supplied-begins}
 use Rattle.nf_model_laws.proofs.Step.{IsQueue-after, IsQueue-at_0}
 use Rattle.nf_model_laws.proofs.Exits.{IsOutflow-at_exit, waiting-none}
-use Rattle.nf_rational_laws.proofs.Chains.{≤ℚ_refl, ≤ℚ_trans}
 use Rattle.nf_rational_laws.proofs.Field.{zero-*ℚ}
 
 -- ---- the supply

@@ -1,10 +1,6 @@
 -- A curve in short form: where the new slope is the last one, the last point gives way to the new one.
 use Rattle.std.proofs.Common.{◌≡◌, List, [], ◌∷◌, ◌++◌, ⊎_elim, sym, ap, subst, ◌∙◌, append_assoc}
-use Rattle.nf_rational.specs.Rational.{ℚ}
-use Rattle.nf_rational.specs.Order.{◌≤ℚ◌, ◌<ℚ◌}
-use Rattle.nf_rational.specs.Operations.{0ℚ}
-use Rattle.nf_rational_laws.proofs.Order.{≤ℚ_of_lt, lt_or_le_ℚ}
-use Rattle.nf_model.specs.Curve.{value, slope, IsCurve}
+use Rattle.nf_model_laws.proofs.Common.{ℚ, ◌≤ℚ◌, ◌<ℚ◌, 0ℚ, ≤ℚ_of_lt, lt_or_le_ℚ, value, slope, IsCurve}
 use Rattle.nf_model_laws.proofs.Curves.{TimesRise-merge, value-front, value-merge, EndsAt}
 
 -- the list of points without the one between has the same values

@@ -1,11 +1,6 @@
 -- Links as hops, and walks along them.
 use Rattle.std.proofs.Common.{◌≡◌, ℕ, List, [], ◌∷◌, ◌++◌, Option, Some, None, slice_get, unwrap_or, option_map, map, sym, ap, subst, refl, ◌∙◌}
-use Rattle.std.proofs.lemmas.Option.{slice_get-map}
-use Rattle.nf_rational.specs.Rational.{ℚ}
-use Rattle.nf_rational.specs.Operations.{0ℚ}
-use Rattle.nf_model.specs.Entries.{number_at}
-use Rattle.nf_model.specs.Walk.{Hop, IsHop, IsWalk, transit_of}
-use Rattle.nf_model.specs.Network.{Link, Network, IsLink, hop_of, hops}
+use Rattle.nf_model_laws.proofs.Common.{slice_get-map, ℚ, 0ℚ, number_at, Hop, IsHop, IsWalk, transit_of, Link, Network, IsLink, hop_of, hops}
 
 -- ---- entries
 pub number_at-is : (xs : List ℚ) (i : ℕ) (x : ℚ) → slice_get xs i ≡ Some x → number_at xs i ≡ x

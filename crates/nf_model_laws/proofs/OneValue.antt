@@ -1,15 +1,7 @@
 -- Least and greatest values that are stated as relations are at most one each.
 use Rattle.std.proofs.Common.{◌≡◌, ℕ, List, [], ◌∷◌, inl, inr, sym, ap, subst, ◌∙◌}
-use Rattle.nf_rational.specs.Rational.{ℚ}
-use Rattle.nf_rational.specs.Operations.{1ℚ, ◌+ℚ◌, ◌-ℚ◌}
-use Rattle.nf_rational.specs.Order.{◌≤ℚ◌, ◌<ℚ◌, min_ℚ}
-use Rattle.nf_rational_laws.proofs.Polynomial.{reading_of}
-use Rattle.nf_rational_laws.proofs.Order.{≤ℚ_antisymm, not_both_ℚ}
-use Rattle.nf_rational_laws.proofs.Linear.{linear_lt}
-use Rattle.nf_rational_laws.proofs.Facts.{nn_plus_one}
-use Rattle.nf_model.specs.Walk.{Hop, IsLeastTransit}
-use Rattle.nf_model.specs.Network.{Network}
-use Rattle.nf_model.specs.Earliest.{IsEarliest}
+use Rattle.nf_model_laws.proofs.Common.{ℚ, 1ℚ, ◌+ℚ◌, ◌-ℚ◌, ◌≤ℚ◌, ◌<ℚ◌, min_ℚ, reading_of, ≤ℚ_antisymm, not_both_ℚ, linear_lt, nn_plus_one, Hop, IsLeastTransit}
+use Rattle.nf_model_laws.proofs.Common.{Network, IsEarliest}
 use Rattle.nf_model.specs.Phases.{IsExtension, IsUnending, IsPhaseLength}
 
 pub IsLeastTransit-unique : (hops : List Hop) (v w : ℕ) (y z : ℚ) → IsLeastTransit hops v w y → IsLeastTransit hops v w z → y ≡ z

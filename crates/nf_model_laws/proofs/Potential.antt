@@ -1,14 +1,7 @@
 -- Sums over nodes and over links: what a flow carries along a potential.
 use Rattle.std.proofs.Common.{◌≡◌, ◌≢◌, ℕ, zero, suc, ◌<◌, ◌≤◌, List, [], ◌∷◌, ⊎_elim, Bool, true, false, if◌then◌else◌, eqb, Some, slice_get, sym, ap, subst, refl, ◌∙◌, arith}
-use Rattle.std.proofs.lemmas.Bool.Decides.{eqb_tells}
-use Rattle.nf_rational.specs.Rational.{ℚ}
-use Rattle.nf_rational.specs.Operations.{0ℚ, ◌+ℚ◌, ◌-ℚ◌, ◌*ℚ◌}
-use Rattle.nf_rational.specs.Order.{◌≤ℚ◌}
-use Rattle.nf_rational_laws.proofs.Polynomial.{reading_of}
-use Rattle.nf_rational_laws.proofs.Order.{nn_plus, ≤ℚ_of_same, ≤ℚ_antisymm}
-use Rattle.nf_rational_laws.proofs.Linear.{le, eq, linear_le, linear_eq}
-use Rattle.nf_rational_laws.proofs.Facts.{first_and_zero, sum_le}
-use Rattle.nf_model.specs.Network.{Link, sum_in, sum_out}
+use Rattle.nf_model_laws.proofs.Common.{eqb_tells, ℚ, 0ℚ, ◌+ℚ◌, ◌-ℚ◌, ◌*ℚ◌, ◌≤ℚ◌, reading_of, nn_plus, ≤ℚ_of_same, ≤ℚ_antisymm, le, eq, linear_le, linear_eq}
+use Rattle.nf_model_laws.proofs.Common.{first_and_zero, sum_le, Link, sum_in, sum_out}
 
 -- the sum of f below n
 abbrev pub sum_to : ℕ → (ℕ → ℚ) → ℚ
@@ -83,7 +76,7 @@ pub sum_to-zero : (n : ℕ) (f : ℕ → ℚ) → ((k : ℕ) → k < n → f k �
 sum_to-zero zero f e = refl
 sum_to-zero (suc n) f e = first_and_zero _ _ 0ℚ (sum_to-zero n f (λ k h. e k (omega arith))) (e n (omega arith))
 
-sum_to-at : (n v : ℕ) (g : ℕ → ℚ) → v < n → sum_to n (λ k. if eqb v k then g k else 0ℚ) ≡ g v
+pub sum_to-at : (n v : ℕ) (g : ℕ → ℚ) → v < n → sum_to n (λ k. if eqb v k then g k else 0ℚ) ≡ g v
 sum_to-at n v g h = sum_to-same n (λ k. if eqb v k then g k else 0ℚ) (only_at v (g v)) (λ k _. same k) ∙ sum_to-only n v (g v) h
   where
     same : (k : ℕ) → (if eqb v k then g k else 0ℚ) ≡ only_at v (g v) k

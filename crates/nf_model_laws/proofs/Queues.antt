@@ -1,19 +1,10 @@
 -- Queues, exits and outflows of a link, for any cumulative inflow.
 use Rattle.std.proofs.Common.{◌≡◌, [], ◌∷◌, Option, Some, None, sym, ap, subst, refl, ◌∙◌, ⊎_elim}
-use Rattle.nf_rational.specs.Rational.{ℚ}
-use Rattle.nf_rational.specs.Operations.{0ℚ, ◌+ℚ◌, ◌-ℚ◌, ◌*ℚ◌}
-use Rattle.nf_rational.specs.Order.{◌≤ℚ◌, ◌<ℚ◌}
-use Rattle.nf_rational_laws.proofs.Polynomial.{reading_of}
-use Rattle.nf_rational_laws.proofs.Order.{≤ℚ_of_same, ≤ℚ_antisymm, lt_or_le_ℚ, not_both_ℚ, less_nn}
-use Rattle.nf_rational_laws.proofs.Linear.{le, eq, eq_times, linear_le, linear_eq}
-use Rattle.nf_model.specs.Curve.{Within, IsGreatest, IsLeast, NeverFalls}
-use Rattle.nf_model.specs.Queue.{IsQueue, IsExit, IsOutflow, waiting}
-use Rattle.nf_model_laws.specs.Capacity.{IsPositive}
+use Rattle.nf_model_laws.proofs.Common.{ℚ, 0ℚ, ◌+ℚ◌, ◌-ℚ◌, ◌*ℚ◌, ◌≤ℚ◌, ◌<ℚ◌, reading_of, ≤ℚ_of_same, ≤ℚ_antisymm, lt_or_le_ℚ, not_both_ℚ, less_nn, le, eq}
+use Rattle.nf_model_laws.proofs.Common.{eq_times, linear_le, linear_eq, Within, IsGreatest, IsLeast, NeverFalls, IsQueue, IsExit, IsOutflow, waiting}
+use Rattle.nf_model_laws.proofs.Common.{IsPositive, ≤ℚ_refl, ≤ℚ_trans, less_zero, same_Some}
 use Rattle.nf_model_laws.proofs.Affine.{nn-quotient, quotient-times, le_from_times}
-use Rattle.nf_rational_laws.proofs.Chains.{≤ℚ_refl, ≤ℚ_trans}
-use Rattle.nf_rational_laws.proofs.Facts.{less_zero}
 use Rattle.nf_rational_laws.proofs.Signs.{zero_from_same}
-use Rattle.std.proofs.lemmas.Option.{same_Some}
 
 -- ---- at most one value
 pub IsGreatest-unique : (f : ℚ → ℚ) (a b y z : ℚ) → IsGreatest f a b y → IsGreatest f a b z → y ≡ z

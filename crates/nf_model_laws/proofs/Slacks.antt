@@ -1,18 +1,10 @@
 -- Slacks, the sets that they make, and how they move.
 use Rattle.std.proofs.Common.{◌≡◌, ℕ, zero, suc, List, [], ◌∷◌, length, Bool, true, false, Some, slice_get, option_map, map, ⊎_elim, sym, ap, refl, ◌∙◌}
-use Rattle.std.proofs.lemmas.Option.{slice_get-map, same_Some}
-use Rattle.nf_rational.specs.Rational.{ℚ}
-use Rattle.nf_rational.specs.Operations.{0ℚ, ◌+ℚ◌, ◌-ℚ◌, ◌*ℚ◌}
-use Rattle.nf_rational.specs.Order.{◌≤ℚ◌, ◌<ℚ◌, le_ℚ, lt_ℚ}
-use Rattle.nf_rational_laws.proofs.Polynomial.{reading_of}
-use Rattle.nf_rational_laws.proofs.Tests.{le_ℚ_cases, lt_ℚ_cases}
-use Rattle.nf_rational_laws.proofs.Linear.{eq, linear_eq}
-use Rattle.nf_model.specs.Entries.{number_at, Has}
-use Rattle.nf_model.specs.Network.{Link, Network, IsLink, hop_of, hops}
+use Rattle.nf_model_laws.proofs.Common.{slice_get-map, same_Some, ℚ, 0ℚ, ◌+ℚ◌, ◌-ℚ◌, ◌*ℚ◌, ◌≤ℚ◌, ◌<ℚ◌, le_ℚ, lt_ℚ, reading_of, le_ℚ_cases, lt_ℚ_cases, eq}
+use Rattle.nf_model_laws.proofs.Common.{linear_eq, number_at, Has, Link, Network, IsLink, hop_of, hops, not_both_ℚ}
 use Rattle.nf_model.specs.ThinFlow.{slack, slacks_of, sets_at}
 use Rattle.nf_model.specs.Phases.{moved, slack_after}
 use Rattle.nf_model_laws.proofs.Networks.{hop_at, number_at-is}
-use Rattle.nf_rational_laws.proofs.Order.{not_both_ℚ}
 
 -- the slack in the list is that of the link
 slack_entry : (net : Network) (labels : List ℚ) (e : ℕ) (link : Link) → IsLink net e link → slice_get (slacks_of (hops net) labels) e ≡ Some (slack labels (hop_of link))

@@ -1,17 +1,8 @@
 -- One step of a queue: while the inflow is affine. `rate` is its slope, `capacity` the rate at which the queue is served.
 use Rattle.std.proofs.Common.{◌≡◌, [], ◌∷◌, ⊎_elim, Option, Some, None, sym, subst, refl, ◌∙◌}
-use Rattle.nf_rational.specs.Rational.{ℚ}
-use Rattle.nf_rational.specs.Operations.{◌+ℚ◌, ◌-ℚ◌, ◌*ℚ◌, 0ℚ}
-use Rattle.nf_rational.specs.Order.{◌≤ℚ◌, ◌<ℚ◌, max_ℚ}
-use Rattle.nf_rational_laws.proofs.Polynomial.{reading_of}
-use Rattle.nf_rational_laws.proofs.Order.{≤ℚ_of_lt, ≤ℚ_of_same, ≤ℚ_antisymm, lt_or_le_ℚ}
-use Rattle.nf_rational_laws.proofs.Tests.{max_ℚ_cases}
-use Rattle.nf_rational_laws.proofs.Linear.{le, eq, le_times, linear_le, linear_eq}
-use Rattle.nf_model.specs.Curve.{Within, IsGreatest}
-use Rattle.nf_model.specs.Queue.{IsQueue}
-use Rattle.nf_model_laws.specs.Affine.{IsAffine, queue_after}
+use Rattle.nf_model_laws.proofs.Common.{ℚ, ◌+ℚ◌, ◌-ℚ◌, ◌*ℚ◌, 0ℚ, ◌≤ℚ◌, ◌<ℚ◌, max_ℚ, reading_of, ≤ℚ_of_lt, ≤ℚ_of_same, ≤ℚ_antisymm, lt_or_le_ℚ, max_ℚ_cases, le}
+use Rattle.nf_model_laws.proofs.Common.{eq, le_times, linear_le, linear_eq, Within, IsGreatest, IsQueue, IsAffine, queue_after, ≤ℚ_refl, ≤ℚ_trans}
 use Rattle.nf_model_laws.proofs.Queues.{IsQueue-nn, IsGreatest-order, IsQueue-none, IsQueue-some}
-use Rattle.nf_rational_laws.proofs.Chains.{≤ℚ_refl, ≤ℚ_trans}
 
 -- what each earlier time gives, over plain numbers: a is the amount at the start, b at the earlier time u, d at x
 from_before : (r c s x u q z a b d : ℚ) → d ≡ a +ℚ r *ℚ (x -ℚ s) → a -ℚ b -ℚ c *ℚ (s -ℚ u) ≤ℚ q → q +ℚ (r -ℚ c) *ℚ (x -ℚ s) ≤ℚ z → d -ℚ b -ℚ c *ℚ (x -ℚ u) ≤ℚ z

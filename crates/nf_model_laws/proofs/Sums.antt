@@ -1,15 +1,7 @@
 -- Sums over the links into a node and out of it.
 use Rattle.std.proofs.Common.{◌≡◌, ℕ, zero, suc, List, [], ◌∷◌, Bool, true, false, if◌then◌else◌, eqb, Some, slice_get, ap, refl, ◌∙◌, ◌⊎◌, inl, inr, ⊎_elim}
-use Rattle.std.proofs.lemmas.Bool.{eqb-true, eq-eqb}
-use Rattle.nf_rational.specs.Rational.{ℚ}
-use Rattle.nf_rational.specs.Operations.{0ℚ, ◌+ℚ◌, ◌*ℚ◌}
-use Rattle.nf_rational.specs.Order.{◌≤ℚ◌, ◌<ℚ◌}
-use Rattle.nf_rational_laws.proofs.Polynomial.{reading_of}
-use Rattle.nf_rational_laws.proofs.Linear.{le, eq, linear_le, linear_eq, lt, linear_lt}
-use Rattle.nf_model.specs.Network.{Link, sum_in, sum_out}
-use Rattle.nf_rational_laws.proofs.Chains.{≤ℚ_refl}
-use Rattle.nf_rational_laws.proofs.Order.{lt_or_le_ℚ, <ℚ_irrefl}
-use Rattle.std.proofs.lemmas.Option.{same_Some}
+use Rattle.nf_model_laws.proofs.Common.{eqb-true, eq-eqb, ℚ, 0ℚ, ◌+ℚ◌, ◌*ℚ◌, ◌≤ℚ◌, ◌<ℚ◌, reading_of, le, eq, linear_le, linear_eq, lt, linear_lt, Link, sum_in}
+use Rattle.nf_model_laws.proofs.Common.{sum_out, ≤ℚ_refl, lt_or_le_ℚ, <ℚ_irrefl, same_Some}
 
 -- ---- the same terms
 pub if_same : (b : Bool) (a c s t : ℚ) → (b ≡ true → a ≡ c) → s ≡ t → (if b then a +ℚ s else s) ≡ (if b then c +ℚ t else t)

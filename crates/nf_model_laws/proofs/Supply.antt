@@ -1,18 +1,10 @@
 -- The supply grows at its rate while no piece starts.
 use Rattle.std.proofs.Common.{◌≡◌, suc, List, [], ◌∷◌, ◌⊎◌, inl, inr, ⊎_elim, Bool, true, false, if◌then◌else◌, sym, ap, refl, ◌∙◌}
-use Rattle.nf_rational.specs.Rational.{ℚ}
-use Rattle.nf_rational.specs.Operations.{◌+ℚ◌, ◌-ℚ◌, ◌*ℚ◌, 0ℚ}
-use Rattle.nf_rational.specs.Order.{◌≤ℚ◌, ◌<ℚ◌, le_ℚ, min_ℚ, max_ℚ}
-use Rattle.nf_rational_laws.proofs.Polynomial.{reading_of}
-use Rattle.nf_rational_laws.proofs.Order.{≤ℚ_of_lt, ≤ℚ_antisymm, lt_or_le_ℚ, not_both_ℚ, less_nn}
-use Rattle.nf_rational_laws.proofs.Tests.{le_ℚ_cases, max0_none, max0_of}
-use Rattle.nf_rational_laws.proofs.Linear.{le, lt, eq, le_times, eq_times, linear_le, linear_eq, linear_false}
-use Rattle.nf_model.specs.Curve.{NeverFalls}
-use Rattle.nf_model.specs.Network.{Piece, ArePieces, time_in, supplied, rate_from}
+use Rattle.nf_model_laws.proofs.Common.{ℚ, ◌+ℚ◌, ◌-ℚ◌, ◌*ℚ◌, 0ℚ, ◌≤ℚ◌, ◌<ℚ◌, le_ℚ, min_ℚ, max_ℚ, reading_of, ≤ℚ_of_lt, ≤ℚ_antisymm, lt_or_le_ℚ, not_both_ℚ}
+use Rattle.nf_model_laws.proofs.Common.{less_nn, le_ℚ_cases, max0_none, max0_of, le, lt, eq, le_times, eq_times, linear_le, linear_eq, linear_false, NeverFalls}
+use Rattle.nf_model_laws.proofs.Common.{Piece, ArePieces, time_in, supplied, rate_from, ≤ℚ_refl, ≤ℚ_trans, gap_np, term_and_zero, less_le}
 use Rattle.nf_model_laws.specs.SupplyLaws.{NoStartBetween}
-use Rattle.nf_rational_laws.proofs.Chains.{≤ℚ_refl, ≤ℚ_trans}
 use Rattle.nf_rational_laws.proofs.Extremes.{min_left, max_left, min_is_left, min_is_right, max_keeps, min_right, max_right, min_keeps}
-use Rattle.nf_rational_laws.proofs.Facts.{gap_np, term_and_zero, less_le}
 
 -- each piece starts later than the one before
 abbrev pub StartsRise : List Piece → Type 0

@@ -1,15 +1,7 @@
 -- The surpluses of all nodes add up to 0, since each link leaves one node and enters one node. Also sums over all links.
 use Rattle.std.proofs.Common.{◌≡◌, ◌≢◌, ℕ, suc, ◌<◌, List, [], ◌∷◌, ⊎_elim, true, false, eqb, sym, subst, refl, ◌∙◌, Bool, if◌then◌else◌, Some, slice_get, zero}
-use Rattle.std.proofs.lemmas.Bool.Decides.{eqb_tells}
-use Rattle.nf_rational.specs.Rational.{ℚ}
-use Rattle.nf_rational.specs.Operations.{0ℚ, 1ℚ, ◌+ℚ◌, ◌-ℚ◌, ◌*ℚ◌}
-use Rattle.nf_rational.specs.Order.{◌≤ℚ◌}
-use Rattle.nf_rational_laws.proofs.Polynomial.{reading_of}
-use Rattle.nf_rational_laws.proofs.Linear.{eq, linear_eq, le}
-use Rattle.nf_rational_laws.proofs.Chains.{≤ℚ_refl}
-use Rattle.nf_rational_laws.proofs.Facts.{same_sums, sum_le}
-use Rattle.nf_model.specs.Entries.{number_at}
-use Rattle.nf_model.specs.Network.{Link, Network, IsNetwork, sum_in, sum_out}
+use Rattle.nf_model_laws.proofs.Common.{eqb_tells, ℚ, 0ℚ, 1ℚ, ◌+ℚ◌, ◌-ℚ◌, ◌*ℚ◌, ◌≤ℚ◌, reading_of, eq, linear_eq, le, ≤ℚ_refl, same_sums, sum_le, number_at}
+use Rattle.nf_model_laws.proofs.Common.{Link, Network, IsNetwork, sum_in, sum_out}
 use Rattle.nf_model.specs.ThinFlow.{Sets, surplus, IsThinFlow}
 use Rattle.nf_model_laws.proofs.Potential.{sum_to, sum_to-same, sum_to-plus, sum_to-only, only_at, only_at-here, only_at-else, carried, carried-is, EndsBelow, out_less_in, sum_to-zero, first_le, rest_le}
 

@@ -1,20 +1,12 @@
 -- Reached nodes of an accepted file, and walks by the numbers of the file and of its network.
 use Rattle.std.proofs.Common.{◌≡◌, ℕ, zero, suc, ◌<◌, ◌==◌, ◌||◌, Bool, true, false, List, [], ◌∷◌, ◌++◌, length, map, slice_get, Option, Some, None, is_none, unwrap_or, refl, sym, ◌∙◌, ap, subst, inl, inr, bytes_eq}
-use Rattle.std.specs.Bool.{MatchBool}
-use Rattle.std.specs.List.{AllByRecursion, list_all}
-use Rattle.std.proofs.lemmas.Bool.{and_parts, or_left, or_right}
-use Rattle.nf_model.specs.Walk.{Hop, IsHop, IsWalk}
-use Rattle.nf_model.specs.Network.{hop_of}
-use Rattle.nf_net_def.specs.Names.{Name, has_name, place_of, name_at, with_names}
-use Rattle.nf_net_def.specs.Named.{NamedLink, numbered, ends}
-use Rattle.nf_net_def.specs.NetLines.{Draft}
-use Rattle.nf_net_def.specs.NetClosing.{draft_hops, source_name, sink_name, source_place, IsReached, LeavesUnreached, Breaks, closing_rules, marked, AreActive}
+use Rattle.nf_net_laws.proofs.Common.{MatchBool, AllByRecursion, list_all, and_parts, or_left, or_right, Hop, IsHop, IsWalk, hop_of, Name, has_name, place_of}
+use Rattle.nf_net_laws.proofs.Common.{name_at, with_names, NamedLink, numbered, ends, Draft, draft_hops, source_name, sink_name, source_place, IsReached}
+use Rattle.nf_net_laws.proofs.Common.{LeavesUnreached, Breaks, closing_rules, marked, AreActive, slice_get-image, true_or_false}
 use Rattle.nf_net_laws.proofs.NameFacts.{bytes_eq-self, place_below, name_at-place}
 use Rattle.nf_net_laws.proofs.WalkFacts.{entry_all, CameFrom, came_from, walk_push, LastHop, last_hop}
 use Rattle.nf_net_laws.proofs.DraftKept.{IsGoodDraft}
 use Rattle.nf_net_laws.proofs.MarkedFacts.{Entry, in_marked, marked_have, marked_all, every_with_names, has_every}
-use Rattle.nf_rational_laws.proofs.Entries.{slice_get-image}
-use Rattle.nf_rational_laws.proofs.Results.{true_or_false}
 
 -- ---- lists of links
 pub all_implied : {X : Type 0} (P Q : X → Type 0) → ((x : X) → P x → Q x) → (xs : List X) → AllByRecursion P xs → AllByRecursion Q xs

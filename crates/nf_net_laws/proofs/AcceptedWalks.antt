@@ -1,19 +1,10 @@
 -- Walks of an accepted file, by the numbers of the file and of its network.
 use Rattle.std.proofs.Common.{◌≡◌, ℕ, ◌⊎◌, true, List, ◌∷◌, length, slice_get, Some, refl, sym, ap, subst, inl, inr}
-use Rattle.nf_rational.specs.Operations.{0ℚ}
-use Rattle.nf_rational.specs.Order.{◌≤ℚ◌, ◌<ℚ◌}
-use Rattle.nf_rational_laws.proofs.Order.{lt_or_le_ℚ}
-use Rattle.nf_model.specs.Walk.{Hop, IsHop, IsWalk, transit_sum}
-use Rattle.nf_model.specs.Network.{hop_of}
-use Rattle.nf_net_def.specs.Names.{Name, has_name, place_of, name_at}
-use Rattle.nf_net_def.specs.Named.{NamedLink, numbered, hops_among}
-use Rattle.nf_net_def.specs.NetLines.{Draft}
-use Rattle.nf_net_def.specs.NetClosing.{draft_hops, HasZeroCycle}
-use Rattle.nf_net_def.specs.WellNamed.{IsNamedLink}
+use Rattle.nf_net_laws.proofs.Common.{0ℚ, ◌≤ℚ◌, ◌<ℚ◌, lt_or_le_ℚ, Hop, IsHop, IsWalk, transit_sum, hop_of, Name, has_name, place_of, name_at, NamedLink}
+use Rattle.nf_net_laws.proofs.Common.{numbered, hops_among, Draft, draft_hops, HasZeroCycle, IsNamedLink, slice_get-image}
 use Rattle.nf_net_laws.proofs.NameFacts.{name_at-place}
 use Rattle.nf_net_laws.proofs.WalkFacts.{entry_all, CameFrom, came_from, Corresponds, Carried, carried, starts_with_one, all_zero}
 use Rattle.nf_net_laws.proofs.DraftKept.{IsGoodDraft}
-use Rattle.nf_rational_laws.proofs.Entries.{slice_get-image}
 
 -- transits of a file's hops aren't negative
 pub file_transits : (draft : Draft) → IsGoodDraft draft → (i : ℕ) (hop : Hop) → IsHop (draft_hops draft) i hop → 0ℚ ≤ℚ hop.transit

@@ -1,12 +1,6 @@
 -- A canonical text is read as the network that it is the text of.
 use Rattle.std.proofs.Common.{◌≡◌, None, Ok, sym, ◌∙◌, ap, subst}
-use Rattle.nf_text_def.specs.Words.{read_lines, content_lines}
-use Rattle.nf_text_def.specs.Faults.{first_fault}
-use Rattle.nf_net_def.specs.Named.{Named}
-use Rattle.nf_net_def.specs.NetLines.{draft_from}
-use Rattle.nf_net_def.specs.NetFile.{by_bytes, Reads}
-use Rattle.nf_net_def.specs.NetText.{canonical_lines, canonical}
-use Rattle.nf_net_def.specs.WellNamed.{IsNamed}
+use Rattle.nf_net_laws.proofs.Common.{read_lines, content_lines, first_fault, Named, draft_from, by_bytes, Reads, canonical_lines, canonical, IsNamed}
 use Rattle.nf_net_laws.proofs.ClosesBack.{draft_of, closes_back}
 use Rattle.nf_net_laws.proofs.LinesBack.{content_back}
 use Rattle.nf_net_laws.proofs.TextBack.{contents_back, no_fault_back}

@@ -1,27 +1,19 @@
 -- Properties of the parser state, line by line.
 use Rattle.std.proofs.Common.{◌≡◌, ℕ, ◌+◌, ◌<◌, ◌≤◌, ◌⊎◌, ◌&&◌, ◌||◌, Bool, true, false, if◌then◌else◌, List, [], ◌∷◌, ◌++◌, length, nat_le, refl, sym, ◌∙◌, ap, subst, inl, inr, arith, bytes_eq, length-append, codes, Option, Some, None, Result, Ok, Err, is_some, unwrap_or}
 use Rattle.std.specs.List.{AllByRecursion, IsDistinct, last_or, list_all}
-use Rattle.std.proofs.lemmas.Bool.{and_parts, or_parts, leb-false, ltb-false, or_left, or_right, not-false}
-use Rattle.nf_rational.specs.Rational.{ℚ}
-use Rattle.nf_rational.specs.Operations.{0ℚ}
+use Rattle.nf_net_laws.proofs.Common.{and_parts, or_parts, leb-false, ltb-false, or_left, or_right, not-false, ℚ, 0ℚ, le_of_test, lt_of_test, Piece, ReadLine}
+use Rattle.nf_net_laws.proofs.Common.{NetRule, N4, N5, N7, N9, N10, N11, N12, N13, N14, N15, N16, Name, is_name, has_name, with_name, with_names, number_in}
+use Rattle.nf_net_laws.proofs.Common.{capacity_in, NamedLink, ends, names_of, Entry, Source, Sink, LinkLine, InflowLine, End, node_line, link_entry, link_line}
+use Rattle.nf_net_laws.proofs.Common.{inflow_entry, inflow_line, end_line, entry_of, Draft, empty_draft, after, first_rule, too_many_nodes, is_negative}
+use Rattle.nf_net_laws.proofs.Common.{is_no_capacity, is_not_after, broken_rule, unless, add_line, in_line, add_lines, version_of, draft_after, draft_from}
+use Rattle.nf_net_laws.proofs.Common.{IsFraction, IsCapacity, IsNamedLink, IsFractionPiece, same_Ok}
 use Rattle.nf_rational.specs.Order.{◌≤ℚ◌, le_ℚ, lt_ℚ}
-use Rattle.nf_rational_laws.proofs.Tests.{le_of_test, lt_of_test}
 use Rattle.nf_frac_def.specs.Checked.{◌>>=◌}
-use Rattle.nf_model.specs.Network.{Piece}
-use Rattle.nf_text_def.specs.Words.{ReadLine}
-use Rattle.nf_net_def.specs.declared.NetRule.{NetRule}
-use Rattle.nf_net_def.specs.declared.NetRule.TheVariants.{N4, N5, N7, N9, N10, N11, N12, N13, N14, N15, N16}
-use Rattle.nf_net_def.specs.Names.{Name, is_name, has_name, with_name, with_names}
-use Rattle.nf_net_def.specs.Numbers.{number_in, capacity_in}
-use Rattle.nf_net_def.specs.Named.{NamedLink, ends, names_of}
-use Rattle.nf_net_def.specs.NetLines.{Entry, Source, Sink, LinkLine, InflowLine, End, node_line, link_entry, link_line, inflow_entry, inflow_line, end_line, entry_of, Draft, empty_draft, after, first_rule, too_many_nodes, is_negative, is_no_capacity, is_not_after, broken_rule, unless, add_line, in_line, add_lines, version_of, draft_after, draft_from}
-use Rattle.nf_net_def.specs.WellNamed.{IsFraction, IsCapacity, IsNamedLink, IsFractionPiece}
 use Rattle.nf_net_laws.proofs.NameFacts.{has_name-append, with_name_there, with_name_new, bytes_eq-turned, same_names, bytes_eq-self}
 use Rattle.nf_net_laws.proofs.LinkFacts.{ends-append, map-append}
 use Rattle.nf_net_laws.proofs.LinesBack.{Rises, AreNotNegative}
 use Rattle.nf_net_laws.proofs.NumbersKept.{IsReadCapacity, number_kept, capacity_kept}
 use Rattle.std.proofs.lemmas.Option.{same_Some}
-use Rattle.nf_rational_laws.proofs.Results.{same_Ok}
 
 -- ---- lists of names with some behind
 distinct_push : (xs : List Name) (y : Name) → IsDistinct bytes_eq xs → has_name xs y ≡ false → IsDistinct bytes_eq (xs ++ y ∷ [])

@@ -1,3 +1,4 @@
+mod Common
 pub mod RuleExamples
 pub mod Reaching
 pub mod Settling

@@ -1,10 +1,7 @@
 -- Links by names and by numbers.
 use Rattle.std.proofs.Common.{◌≡◌, ℕ, suc, ◌<◌, Bool, true, false, not, List, [], ◌∷◌, ◌++◌, length, map, slice_get, Some, refl, ◌∙◌, ap, arith, bytes_eq}
 use Rattle.std.specs.List.{AllByRecursion, AllZip, IsDistinct}
-use Rattle.nf_model.specs.Network.{Link}
-use Rattle.nf_net_def.specs.Names.{Name, place_of, name_at}
-use Rattle.nf_net_def.specs.Named.{NamedLink, numbered, link_by_name, links_by_name, ends, names_of}
-use Rattle.nf_net_def.specs.NetClosing.{marked}
+use Rattle.nf_net_laws.proofs.Common.{Link, Name, place_of, name_at, NamedLink, numbered, link_by_name, links_by_name, ends, names_of, marked}
 use Rattle.nf_net_laws.proofs.NameFacts.{has_at, place_at, place_left}
 
 -- ---- distinct names

@@ -1,11 +1,7 @@
 -- Links that flags mark, and the others.
 use Rattle.std.proofs.Common.{◌≡◌, ℕ, zero, suc, ◌+◌, ◌≤◌, ◌||◌, ◌&&◌, Bool, true, false, not, if◌then◌else◌, List, [], ◌∷◌, ◌++◌, length, map, slice_get, Some, refl, sym, ◌∙◌, ap, subst, arith, bytes_eq}
-use Rattle.std.specs.Bool.{Decides}
+use Rattle.nf_net_laws.proofs.Common.{Decides, and_parts, or_left, or_right, Name, has_name, with_name, with_names, NamedLink, names_of, marked}
 use Rattle.std.specs.List.{AllByRecursion, AllZip, IsDistinct, list_all}
-use Rattle.std.proofs.lemmas.Bool.{and_parts, or_left, or_right}
-use Rattle.nf_net_def.specs.Names.{Name, has_name, with_name, with_names}
-use Rattle.nf_net_def.specs.Named.{NamedLink, names_of}
-use Rattle.nf_net_def.specs.NetClosing.{marked}
 use Rattle.nf_net_laws.proofs.NameFacts.{same_names, bytes_eq-self, bytes_eq-turned, with_name_there, with_name_new}
 
 -- ---- entries

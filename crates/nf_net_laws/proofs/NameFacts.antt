@@ -3,8 +3,7 @@ use Rattle.std.proofs.Common.{◌≡◌, ℕ, zero, suc, ◌+◌, ◌<◌, ◌�
 use Rattle.std.specs.List.{AllByRecursion, IsDistinct}
 use Rattle.std.proofs.lemmas.Slice.Eq.{bytes_eq-Decides}
 use Rattle.std.proofs.lemmas.List.Folds.{list_any-append}
-use Rattle.std.proofs.lemmas.Bool.{or_left, or_right}
-use Rattle.nf_net_def.specs.Names.{Name, has_name, place_of, name_at, with_name, with_names, without}
+use Rattle.nf_net_laws.proofs.Common.{or_left, or_right, Name, has_name, place_of, name_at, with_name, with_names, without}
 use Rattle.std.proofs.lemmas.List.Elements.{filter-append}
 
 -- ---- equal names

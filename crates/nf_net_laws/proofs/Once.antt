@@ -1,16 +1,8 @@
 -- A text has at most one reading.
-use Rattle.std.proofs.Common.{◌≡◌, ℕ, List, [], ◌∷◌, Bool, not, refl, sym, ◌∙◌, ap, inl, inr}
-use Rattle.std.specs.Prelude.{map, Option, Some, None, Result, Ok, Err}
-use Rattle.std.specs.Bool.{Decides, one_answer}
-use Rattle.std.specs.List.{AllByRecursion, AllZip}
-use Rattle.nf_net_def.specs.declared.NetRule.{NetRule}
-use Rattle.nf_text_def.specs.Words.{read_lines, content_lines}
-use Rattle.nf_text_def.specs.Faults.{LineFault, first_fault}
-use Rattle.nf_net_def.specs.Names.{place_of}
-use Rattle.nf_net_def.specs.Named.{NamedLink, Named}
-use Rattle.nf_net_def.specs.NetLines.{Broken, Draft, draft_from}
-use Rattle.nf_net_def.specs.NetClosing.{IsReached, Breaks, closing_rules, IsFirst, marked, network_of, StandsFor}
-use Rattle.nf_net_def.specs.NetFile.{Closes, by_lines, by_bytes, Reads}
+use Rattle.std.proofs.Common.{◌≡◌, ℕ, List, [], ◌∷◌, Bool, not, refl, sym, ◌∙◌, ap, inl, inr, map, Option, Some, None, Result, Ok, Err}
+use Rattle.nf_net_laws.proofs.Common.{Decides, one_answer, AllByRecursion, AllZip, NetRule, read_lines, content_lines, LineFault, first_fault, place_of}
+use Rattle.nf_net_laws.proofs.Common.{NamedLink, Named, Broken, Draft, draft_from, IsReached, Breaks, closing_rules, IsFirst, marked, network_of, StandsFor}
+use Rattle.nf_net_laws.proofs.Common.{Closes, by_lines, by_bytes, Reads}
 
 module _ (P : NetRule → Type 0) where
   pub first_once : (rules : List NetRule) (a b : NetRule) → IsFirst P rules a → IsFirst P rules b → a ≡ b

@@ -1,14 +1,8 @@
 -- The lines of a canonical text are made of plain words, and are short.
 use Rattle.std.proofs.Common.{◌≡◌, ℕ, ◌*◌, ◌<◌, ◌≤◌, ◌⊎◌, true, List, [], ◌∷◌, ◌++◌, length, map, refl, sym, subst, inl, inr, arith, codes, Option, Some, None}
-use Rattle.std.specs.List.{AllByRecursion, join_with_byte}
-use Rattle.nf_rational.specs.Rational.{ℚ}
-use Rattle.nf_model.specs.Network.{Piece}
+use Rattle.nf_net_laws.proofs.Common.{AllByRecursion, join_with_byte, ℚ, Piece, Name, is_name, name_at, capacity_word, NamedLink, Named, active_links}
+use Rattle.nf_net_laws.proofs.Common.{all_links, link_words, inflow_words, canonical_lines, IsCapacity, IsNamedLink, IsFractionPiece, IsNamed}
 use Rattle.nf_frac_words.specs.Digits.{digits_of}
-use Rattle.nf_net_def.specs.Names.{Name, is_name, name_at}
-use Rattle.nf_net_def.specs.Numbers.{capacity_word}
-use Rattle.nf_net_def.specs.Named.{NamedLink, Named, active_links, all_links}
-use Rattle.nf_net_def.specs.NetText.{link_words, inflow_words, canonical_lines}
-use Rattle.nf_net_def.specs.WellNamed.{IsCapacity, IsNamedLink, IsFractionPiece, IsNamed}
 use Rattle.nf_net_laws.proofs.LinesBack.{s_is_name, t_is_name}
 use Rattle.nf_net_laws.proofs.LinkFacts.{map-append}
 use Rattle.nf_net_laws.proofs.ShortWords.{IsShortWord, short_name, short_number, short_key, length_join, plain_words}

@@ -1,10 +1,7 @@
 -- Which nodes walks lead to is decided: the nodes found so far grow along hops until no hop leads out of them.
 use Rattle.std.proofs.Common.{◌≡◌, ℕ, zero, suc, ◌+◌, ◌<◌, ◌≤◌, ◌++◌, ◌==◌, ◌&&◌, ◌||◌, Bool, true, false, not, List, [], ◌∷◌, length, slice_get, Some, refl, sym, ◌∙◌, ap, subst, inl, inr, arith}
-use Rattle.std.specs.Bool.{Decides}
-use Rattle.std.specs.List.{AllByRecursion, list_all, list_any}
-use Rattle.std.proofs.lemmas.Bool.{and_parts, or_cases, eqb-true, eq-eqb, or_left, or_right}
-use Rattle.nf_rational_laws.proofs.Results.{true_or_false}
-use Rattle.nf_model.specs.Walk.{Hop, IsWalk}
+use Rattle.nf_net_laws.proofs.Common.{Decides, AllByRecursion, list_all, list_any, and_parts, or_cases, eqb-true, eq-eqb, or_left, or_right, true_or_false, Hop}
+use Rattle.nf_net_laws.proofs.Common.{IsWalk}
 use Rattle.nf_net_laws.proofs.WalkFacts.{walk_push, entry_all}
 use Rattle.std.proofs.lemmas.Map.Keys.{any_passes_from_place}
 

@@ -1,29 +1,20 @@
 -- Plain lines read back.
-use Rattle.std.specs.Prelude.{◌≡◌, ℕ, ◌+◌, ◌-◌, ◌<◌, ◌≤◌, ◌==◌, Bool, true, false, not, ◌&&◌, ◌||◌, nat_le, nat_lt, List, [], ◌∷◌, ◌++◌, length, take, map, All, None, Some, refl}
-use Rattle.std.proofs.Common.{arith, ◌∙◌, sym, ap, cond, get_or, append_assoc, take_all, true≢false}
-use Rattle.std.specs.List.{flat_map, slice_split, join_with_byte, list_all, AllByRecursion, position_or_len}
+use Rattle.nf_net_laws.proofs.Common.{◌≡◌, ℕ, ◌+◌, ◌-◌, ◌<◌, ◌≤◌, ◌==◌, Bool, true, false, not, ◌&&◌, ◌||◌, nat_le, nat_lt, List, [], ◌∷◌, ◌++◌, length, take}
+use Rattle.nf_net_laws.proofs.Common.{map, All, None, Some, refl, flat_map, slice_split, join_with_byte, list_all, AllByRecursion, position_or_len, ne_eqb}
+use Rattle.nf_net_laws.proofs.Common.{leb-true, le-leb, le-ltb, not-true, read_line, is_blank, words, without_comment, parts_with_bytes, line_of_words}
+use Rattle.nf_net_laws.proofs.Common.{NotAscii, LongLine, is_allowed, line_fault, first_fault_of, longest_line, is_word_byte, IsWord, plain_from, AreWords}
+use Rattle.nf_net_laws.proofs.Common.{AreShort}
+use Rattle.std.proofs.Common.{arith, ◌∙◌, ap, cond, get_or, append_assoc, take_all, bytes_eq}
 use Rattle.std.specs.Option.{option_or}
-use Rattle.std.specs.Str.{bytes_eq}
+use Rattle.std.specs.Cmp.{first_so, second_so}
 use Rattle.std.proofs.lemmas.List.Elements.{All-from_recursion}
 use Rattle.std.proofs.lemmas.List.Splits.{slice_split_at, slice_split_none, length-slice_split}
 use Rattle.std.proofs.lemmas.List.Sums.{position_or_len_is}
-use Rattle.std.proofs.lemmas.Bool.{ne_eqb, leb-true, le-leb, le-ltb, not-true}
 use Rattle.nf_text_def.specs.Lines.{TextLine, lines_from, lines_of_parts, ended_line}
-use Rattle.nf_text_def.specs.Words.{read_line, is_blank, words, without_comment, parts_with_bytes, line_of_words}
-use Rattle.nf_text_def.specs.Faults.{NotAscii, LongLine, is_allowed, line_fault, first_fault_of, longest_line}
-use Rattle.nf_net_laws.specs.LineLaws.{is_word_byte, IsWord, plain_from, AreWords, AreShort}
 use Rattle.nf_net_laws.proofs.AcceptedNamed.{every_append}
 use Rattle.nf_net_laws.proofs.NameFacts.{bytes_eq-self}
 
 -- ---- tests
-first_so : (a b : Bool) → (a && b) ≡ true → a ≡ true
-first_so true b h = refl
-first_so false b h = h
-
-second_so : (a b : Bool) → (a && b) ≡ true → b ≡ true
-second_so true b h = h
-second_so false b h = absurd (true≢false (sym h))
-
 -- ---- a byte of a word
 above_space : (b : ℕ) → is_word_byte b ≡ true → 33 ≤ b
 above_space b h = leb-true 33 b (first_so (nat_le 33 b) (nat_le b 126 && not (b == 35)) h)

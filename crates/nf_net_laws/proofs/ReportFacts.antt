@@ -1,10 +1,8 @@
 -- The report of an equilibrium is well formed.
 use Rattle.std.proofs.Common.{◌≡◌, ℕ, suc, ◌↔◌, List, [], ◌∷◌, length, None, refl, ap}
-use Rattle.nf_rational.specs.Rational.{ℚ}
-use Rattle.nf_rational.specs.Order.{◌≤ℚ◌}
+use Rattle.nf_net_laws.proofs.Common.{ℚ, ◌≤ℚ◌, Link, Network, IsLink}
 use Rattle.nf_model.specs.declared.State.TheVariants.{Full}
 use Rattle.nf_model.specs.Curve.{AreSlopes}
-use Rattle.nf_model.specs.Network.{Link, Network, IsLink}
 use Rattle.nf_model.specs.Equilibrium.{Trace, HasSlopes, Equilibrium}
 use Rattle.nf_model.specs.Pattern.{HasState}
 use Rattle.nf_net_def.specs.Report.{Report, HaveRates, IsWellFormed}

@@ -1,18 +1,11 @@
 -- Least transit sums exist: nodes are settled one by one, each time at the cheapest hop that leads out of the settled ones.
 use Rattle.std.proofs.Common.{◌≡◌, ℕ, zero, suc, ◌+◌, ◌<◌, ◌≤◌, ◌⊎◌, ◌==◌, ◌&&◌, ◌||◌, ◌++◌, Bool, true, false, not, if◌then◌else◌, List, [], ◌∷◌, length, slice_get, Some, refl, sym, ◌∙◌, ap, subst, inl, inr, arith}
-use Rattle.std.specs.List.{AllByRecursion, list_all}
-use Rattle.std.proofs.lemmas.Bool.{and_parts, eqb-true, eq-eqb, or_left, or_right}
-use Rattle.nf_rational.specs.Rational.{ℚ}
-use Rattle.nf_rational.specs.Operations.{0ℚ, ◌+ℚ◌}
-use Rattle.nf_rational.specs.Order.{◌≤ℚ◌}
-use Rattle.nf_rational_laws.proofs.Polynomial.{reading_of}
-use Rattle.nf_rational_laws.proofs.Order.{lt_or_le_ℚ, ≤ℚ_of_lt, ≤ℚ_of_same}
-use Rattle.nf_rational_laws.proofs.Linear.{le, eq, linear_le, linear_eq}
-use Rattle.nf_model.specs.Walk.{Hop, IsHop, IsWalk, transit_of, transit_sum, IsLeastTransit}
+use Rattle.nf_net_laws.proofs.Common.{AllByRecursion, list_all, and_parts, eqb-true, eq-eqb, or_left, or_right, ℚ, 0ℚ, ◌+ℚ◌, ◌≤ℚ◌, reading_of, lt_or_le_ℚ}
+use Rattle.nf_net_laws.proofs.Common.{≤ℚ_of_lt, ≤ℚ_of_same, le, eq, linear_le, linear_eq, Hop, IsHop, IsWalk, transit_of, transit_sum, IsLeastTransit}
+use Rattle.nf_net_laws.proofs.Common.{transit_of-hop}
 use Rattle.nf_net_laws.proofs.WalkFacts.{walk_push, entry_all, transit_sum_nn}
 use Rattle.nf_net_laws.proofs.Reaching.{heads_in, at_most_all, stays_in, one_more_head, stays_closed}
 use Rattle.nf_rational_laws.proofs.Chains.{≤ℚ_trans}
-use Rattle.nf_model_laws.proofs.Networks.{transit_of-hop}
 
 module _ (hops : List Hop) (positive : (e : ℕ) (hop : Hop) → IsHop hops e hop → 0ℚ ≤ℚ hop.transit) (u : ℕ) where
   -- some nodes, with their least transit sums

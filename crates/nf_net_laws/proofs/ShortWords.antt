@@ -1,19 +1,12 @@
 -- Words of lines that are written: plain, and of at most 80 bytes, as printed numbers, names and the words of a format are.
 use Rattle.std.proofs.Common.{◌≡◌, ◌≢◌, ℕ, zero, suc, ◌+◌, ◌*◌, ◌/◌, ◌%◌, ◌^◌, ◌<◌, ◌≤◌, ◌==◌, ◌&&◌, ◌||◌, true, not, List, [], ◌∷◌, ◌++◌, length, nat_lt, nat_le, nat_abs, ℤ, pos, negsuc, refl, inl, inr, arith, length-append, lit<, lit≤, pow-suc, le-leb, ne_eqb}
-use Rattle.std.specs.List.{AllByRecursion, list_all, join_with_byte}
+use Rattle.nf_net_laws.proofs.Common.{AllByRecursion, list_all, join_with_byte, and_parts, or_cases, leb-true, ltb-true, eqb-true, ℚ, digits_of, slash, Name}
+use Rattle.nf_net_laws.proofs.Common.{is_name_byte, is_name, greatest, IsFraction, is_word_byte, IsWord}
 use Rattle.std.specs.Char.{is_ascii_alphanumeric}
 use Rattle.std.specs.Int.{is_in_range}
-use Rattle.std.proofs.lemmas.Bool.{and_parts, or_cases, leb-true, ltb-true, eqb-true}
-use Rattle.nf_rational.specs.Rational.{ℚ}
-use Rattle.nf_frac_words.specs.Digits.{digits_of}
-use Rattle.nf_frac_words.specs.Numbers.{slash}
 use Rattle.nf_frac_words.specs.Printed.{signed_digits_of, printed}
 use Rattle.nf_frac_words.proofs.Digits.{by_steps}
 use Rattle.nf_frac_words.proofs.Bytes.{IsNumberByte, printed_bytes, some_printed, printed_either}
-use Rattle.nf_net_def.specs.Names.{Name, is_name_byte, is_name}
-use Rattle.nf_net_def.specs.Numbers.{greatest}
-use Rattle.nf_net_def.specs.WellNamed.{IsFraction}
-use Rattle.nf_net_laws.specs.LineLaws.{is_word_byte, IsWord}
 use Rattle.nf_net_laws.proofs.LinesBack.{within}
 
 -- ---- how long numbers are printed

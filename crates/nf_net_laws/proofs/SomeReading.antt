@@ -1,27 +1,11 @@
 -- Each text has a reading.
 use Rattle.std.proofs.Common.{◌≡◌, ◌≢◌, ℕ, zero, suc, ◌<◌, ◌⊎◌, ◌==◌, ◌&&◌, ◌||◌, Bool, true, false, not, if◌then◌else◌, List, [], ◌∷◌, length, map, Option, Some, None, Result, Ok, Err, is_none, unwrap_or, refl, sym, ◌∙◌, ap, subst, inl, inr, arith, bytes_eq}
-use Rattle.std.specs.Bool.{MatchBool, Decides}
-use Rattle.std.specs.List.{AllByRecursion, AllZip, list_any}
-use Rattle.std.proofs.lemmas.Bool.{and_parts, eqb-true, eqb-false, not-true}
-use Rattle.nf_rational.specs.Rational.{ℚ}
-use Rattle.nf_rational.specs.Operations.{0ℚ}
-use Rattle.nf_rational.specs.Order.{◌≤ℚ◌, le_ℚ}
-use Rattle.nf_rational_laws.proofs.Order.{≤ℚ_antisymm, ≤ℚ_of_same}
-use Rattle.nf_rational_laws.proofs.Tests.{le_of_test, test_of_le}
-use Rattle.nf_frac_def.specs.Passing.{is_wide, passes_Q}
-use Rattle.nf_frac_def.specs.declared.Op.TheVariants.{Sum}
-use Rattle.nf_model.specs.Walk.{Hop, IsHop, IsWalk, transit_of, IsLeastTransit}
-use Rattle.nf_model.specs.Network.{hop_of}
-use Rattle.nf_text_def.specs.Words.{read_lines, content_lines}
-use Rattle.nf_text_def.specs.Faults.{LineFault, first_fault}
-use Rattle.nf_net_def.specs.declared.NetRule.{NetRule}
-use Rattle.nf_net_def.specs.declared.NetRule.TheVariants.{N17, N18, N19, N20, N21, N22}
-use Rattle.nf_net_def.specs.Names.{Name, has_name, place_of}
-use Rattle.nf_net_def.specs.Numbers.{greatest}
-use Rattle.nf_net_def.specs.Named.{NamedLink, Named, numbered}
-use Rattle.nf_net_def.specs.NetLines.{Broken, Draft, draft_from}
-use Rattle.nf_net_def.specs.NetClosing.{draft_hops, sink_name, source_place, IsReached, LeavesUnreached, HasZeroCycle, HasPassingSum, Breaks, closing_rules, IsFirst, marked, network_of}
-use Rattle.nf_net_def.specs.NetFile.{as_rule, Closes, by_lines, by_bytes, Reads}
+use Rattle.nf_net_laws.proofs.Common.{MatchBool, Decides, AllByRecursion, AllZip, list_any, and_parts, eqb-true, eqb-false, not-true, ℚ, 0ℚ, ◌≤ℚ◌, le_ℚ}
+use Rattle.nf_net_laws.proofs.Common.{≤ℚ_antisymm, ≤ℚ_of_same, le_of_test, test_of_le, is_wide, passes_Q, Sum, Hop, IsHop, IsWalk, transit_of, IsLeastTransit}
+use Rattle.nf_net_laws.proofs.Common.{hop_of, read_lines, content_lines, LineFault, first_fault, NetRule, N17, N18, N19, N20, N21, N22, Name, has_name}
+use Rattle.nf_net_laws.proofs.Common.{place_of, greatest, NamedLink, Named, numbered, Broken, Draft, draft_from, draft_hops, sink_name, source_place, IsReached}
+use Rattle.nf_net_laws.proofs.Common.{LeavesUnreached, HasZeroCycle, HasPassingSum, Breaks, closing_rules, IsFirst, marked, network_of, as_rule, Closes}
+use Rattle.nf_net_laws.proofs.Common.{by_lines, by_bytes, Reads, slice_get-image, true_or_false, transit_of-hop}
 use Rattle.nf_net_laws.proofs.NameFacts.{same_names, bytes_eq-self, place_below}
 use Rattle.nf_net_laws.proofs.WalkFacts.{CameFrom, came_from, entry_all}
 use Rattle.nf_net_laws.proofs.DraftKept.{IsGoodDraft, draft_kept}
@@ -29,9 +13,6 @@ use Rattle.nf_net_laws.proofs.AcceptedNodes.{ends_of_each}
 use Rattle.nf_net_laws.proofs.AcceptedWalks.{file_transits}
 use Rattle.nf_net_laws.proofs.Reaching.{FoundEntry, found, stays_closed, closure, reaching}
 use Rattle.nf_net_laws.proofs.Settling.{AllSettled, all_settled}
-use Rattle.nf_rational_laws.proofs.Entries.{slice_get-image}
-use Rattle.nf_rational_laws.proofs.Results.{true_or_false}
-use Rattle.nf_model_laws.proofs.Networks.{transit_of-hop}
 use Rattle.std.proofs.lemmas.Map.Keys.{any_passes_from_place}
 
 -- ---- the first of some rules that are decided

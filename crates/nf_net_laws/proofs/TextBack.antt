@@ -1,10 +1,8 @@
 -- The lines and words of a text that is made of plain words, each line of which has one at least: what is read of it is what was
 -- written (by the laws of lines).
 use Rattle.std.proofs.Common.{◌≡◌, ℕ, ◌+◌, ◌<◌, ◌≤◌, Bool, true, not, cond, List, [], ◌∷◌, length, flat_map, refl, ◌∙◌, ap, arith, None, ne_eqb}
-use Rattle.std.specs.List.{AllByRecursion, join_with_byte}
-use Rattle.nf_text_def.specs.Words.{line_of_words, read_lines, content_lines}
-use Rattle.nf_text_def.specs.Faults.{first_fault}
-use Rattle.nf_net_laws.specs.LineLaws.{IsWord, plain_from, AreWords, AreShort}
+use Rattle.nf_net_laws.proofs.Common.{AllByRecursion, join_with_byte, line_of_words, read_lines, content_lines, first_fault, IsWord, plain_from, AreWords}
+use Rattle.nf_net_laws.proofs.Common.{AreShort}
 use Rattle.nf_net_laws.proofs.ReadBack.{plain_lines_from, no_fault_from}
 use Rattle.nf_net_laws.proofs.LinesBack.{lines_from}
 

@@ -1,15 +1,8 @@
 -- Walks along hops that correspond to those of another list.
 use Rattle.std.proofs.Common.{◌≡◌, ℕ, zero, suc, ◌+◌, List, [], ◌∷◌, ◌++◌, length, map, slice_get, Some, refl, sym, ◌∙◌, ap, subst, arith}
-use Rattle.std.specs.List.{AllByRecursion}
-use Rattle.nf_rational.specs.Rational.{ℚ}
-use Rattle.nf_rational.specs.Operations.{0ℚ, ◌+ℚ◌}
-use Rattle.nf_rational.specs.Order.{◌≤ℚ◌}
-use Rattle.nf_rational_laws.proofs.Polynomial.{reading_of}
-use Rattle.nf_rational_laws.proofs.Order.{≤ℚ_of_same, ≤ℚ_antisymm, nn_plus}
-use Rattle.nf_rational_laws.proofs.Linear.{le, linear_le}
+use Rattle.nf_net_laws.proofs.Common.{AllByRecursion, ℚ, 0ℚ, ◌+ℚ◌, ◌≤ℚ◌, reading_of, ≤ℚ_of_same, ≤ℚ_antisymm, nn_plus, le, linear_le, Hop, IsHop, IsWalk}
+use Rattle.nf_net_laws.proofs.Common.{transit_of, transit_sum, transit_of-hop}
 use Rattle.nf_rational_laws.proofs.Facts.{same_sums}
-use Rattle.nf_model.specs.Walk.{Hop, IsHop, IsWalk, transit_of, transit_sum}
-use Rattle.nf_model_laws.proofs.Networks.{transit_of-hop}
 
 -- ---- entries of joined lists
 module _ {X : Type 0} where

@@ -1,12 +1,10 @@
 -- A text is its lines, each with its ending.
-use Rattle.std.specs.Prelude.{◌≡◌, ℕ, ◌+◌, ◌-◌, ◌==◌, Bool, true, false, List, [], ◌∷◌, ◌++◌, length, take, map, slice_index, refl}
+use Rattle.nf_net_laws.proofs.Common.{◌≡◌, ℕ, ◌+◌, ◌-◌, ◌==◌, Bool, true, false, List, [], ◌∷◌, ◌++◌, length, take, map, slice_index, refl, flat_map}
+use Rattle.nf_net_laws.proofs.Common.{slice_split, join_with_byte, eqb-true, ne_eqb, whole_line, numbers_from}
 use Rattle.std.proofs.Common.{arith, suc, ◌∙◌, sym, ap, cond, get_or, append_assoc, append-nil, take_all, true≢false}
-use Rattle.std.specs.List.{flat_map, slice_split, join_with_byte}
 use Rattle.std.proofs.lemmas.List.{take_more}
 use Rattle.std.proofs.lemmas.List.Splits.{join_with_byte-slice_split}
-use Rattle.std.proofs.lemmas.Bool.{eqb-true, ne_eqb}
 use Rattle.nf_text_def.specs.Lines.{TextLine, lines, lines_of_parts, ended_line}
-use Rattle.nf_net_laws.specs.LineLaws.{whole_line, numbers_from}
 
 -- ---- one line
 abbrev ends_with_cr : List ℕ → Bool

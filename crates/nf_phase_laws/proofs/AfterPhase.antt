@@ -1,11 +1,7 @@
 -- The lists of curves after a phase, entry by entry.
-use Rattle.std.proofs.Common.{◌≡◌, ℕ, zero, suc, List, [], ◌∷◌, length, ap, refl, ◌∙◌, arith}
-use Rattle.std.specs.Prelude.{Some, slice_get}
-use Rattle.std.proofs.lemmas.Option.{none-some, same_Some}
-use Rattle.nf_rational.specs.Rational.{ℚ}
-use Rattle.nf_model.specs.Network.{Link}
-use Rattle.nf_thin_def.specs.CurveList.{LinkStep}
-use Rattle.nf_thin_def.specs.ReportCurves.{GrowingCurve, LinkCurves, curve_with, label_curves_after, curves_after, link_curves_after}
+use Rattle.std.proofs.Common.{◌≡◌, ℕ, zero, suc, List, [], ◌∷◌, length, ap, refl, ◌∙◌, arith, Some, slice_get}
+use Rattle.nf_phase_laws.proofs.Common.{none-some, same_Some, ℚ, Link, LinkStep, GrowingCurve, LinkCurves, curve_with, label_curves_after, curves_after}
+use Rattle.nf_phase_laws.proofs.Common.{link_curves_after}
 
 pub label_after_at : (time : ℚ) (labels slopes : List ℚ) (curves : List GrowingCurve) (v : ℕ) (x r : ℚ) (c : GrowingCurve) → slice_get labels v ≡ Some x → slice_get slopes v ≡ Some r → slice_get curves v ≡ Some c
     → slice_get (label_curves_after time labels slopes curves) v ≡ Some (curve_with c (time, x) r)

@@ -1,18 +1,7 @@
 -- The labels of a run are the earliest arrivals, as those of each equilibrium are.
-use Rattle.std.proofs.Common.{ℕ, ◌<◌, sym, subst}
-use Rattle.std.specs.Prelude.{Option}
-use Rattle.nf_rational.specs.Rational.{ℚ}
-use Rattle.nf_rational.specs.Operations.{0ℚ}
-use Rattle.nf_rational_laws.proofs.Chains.{≤ℚ_refl}
-use Rattle.nf_frac_def.specs.Passing.{Passing}
-use Rattle.nf_model.specs.Entries.{number_at}
-use Rattle.nf_model.specs.Curve.{Within}
-use Rattle.nf_model.specs.Network.{Network, IsNetwork}
-use Rattle.nf_model.specs.Earliest.{IsEarliest}
-use Rattle.nf_model.specs.Equilibrium.{label, inflow, Equilibrium}
-use Rattle.nf_net_def.specs.declared.Cause.{Cause}
-use Rattle.nf_net_def.specs.Report.{Report}
-use Rattle.nf_thin_def.specs.PhaseRun.{Standing, Bounds, IsPhaseRun, IsRunReport, flow_of}
+use Rattle.std.proofs.Common.{ℕ, ◌<◌, sym, subst, Option}
+use Rattle.nf_phase_laws.proofs.Common.{ℚ, 0ℚ, ≤ℚ_refl, Passing, number_at, Within, Network, IsNetwork, IsEarliest, label, inflow, Equilibrium, Cause, Report}
+use Rattle.nf_phase_laws.proofs.Common.{Standing, Bounds, IsPhaseRun, IsRunReport, flow_of}
 use Rattle.nf_phase_laws.proofs.Run.{run_equilibrium, report_equilibrium}
 use Rattle.nf_phase_laws.proofs.ShortRun.{run_keeps}
 

@@ -1,26 +1,10 @@
 -- The curves built phase by phase from the start are those of an equilibrium.
 use Rattle.std.proofs.Common.{◌≡◌, ℕ, ◌<◌, List, [], ◌∷◌, if◌then◌else◌, Bool, true, false, ⊎_elim, sym, ap, subst, refl, ◌∙◌}
-use Rattle.nf_rational.specs.Rational.{ℚ}
-use Rattle.nf_rational.specs.Operations.{0ℚ, ◌+ℚ◌, ◌-ℚ◌, ◌*ℚ◌}
-use Rattle.nf_rational.specs.Order.{◌≤ℚ◌, ◌<ℚ◌, lt_ℚ}
-use Rattle.nf_rational_laws.proofs.Polynomial.{reading_of}
-use Rattle.nf_rational_laws.proofs.Order.{≤ℚ_antisymm}
-use Rattle.nf_rational_laws.proofs.Tests.{lt_ℚ_cases}
-use Rattle.nf_rational_laws.proofs.Linear.{eq, eq_times, linear_eq}
-use Rattle.nf_model.specs.Entries.{number_at}
-use Rattle.nf_model.specs.Curve.{Point, value, slope}
-use Rattle.nf_model.specs.Network.{Link, Network, IsNetwork, IsLink, hops, rate_at}
-use Rattle.nf_model.specs.ThinFlow.{slacks_of}
-use Rattle.nf_model.specs.Phases.{AreStartLabels, Lasts, IsPhase}
-use Rattle.nf_model.specs.Equilibrium.{Flow, HasShape, HasSlopes, Equilibrium}
-use Rattle.nf_model_laws.proofs.Affine.{quotient-gap, same_from_times}
-use Rattle.nf_model_laws.proofs.Curves.{by_first}
-use Rattle.nf_model_laws.proofs.Supply.{rate_from-not_negative}
-use Rattle.nf_phase_laws.specs.Invariant.{HoldsUpTo, IsStart, GoesOn}
-use Rattle.nf_phase_laws.specs.Description.{DescribesLinks, DescriptionGoesOn}
-use Rattle.nf_phase_laws.specs.CurveSteps.{LastPoint, at, CurvesStand, CurvesGoOn}
-use Rattle.nf_phase_laws.specs.DescriptionCurves.{DescriptionStands, DescriptionCurvesGoOn}
-use Rattle.nf_phase_laws.specs.CurveRun.{Curves, first_points, FirstCurves, GrowByPhases, begin, grow, curves_of}
+use Rattle.nf_phase_laws.proofs.Common.{ℚ, 0ℚ, ◌+ℚ◌, ◌-ℚ◌, ◌*ℚ◌, ◌≤ℚ◌, ◌<ℚ◌, lt_ℚ, reading_of, ≤ℚ_antisymm, lt_ℚ_cases, eq, eq_times, linear_eq, number_at}
+use Rattle.nf_phase_laws.proofs.Common.{Point, value, slope, Link, Network, IsNetwork, IsLink, hops, rate_at, slacks_of, AreStartLabels, Lasts, IsPhase, Flow}
+use Rattle.nf_phase_laws.proofs.Common.{HasShape, HasSlopes, Equilibrium, quotient-gap, same_from_times, by_first, rate_from-not_negative, HoldsUpTo, IsStart}
+use Rattle.nf_phase_laws.proofs.Common.{GoesOn, DescribesLinks, DescriptionGoesOn, LastPoint, at, CurvesStand, CurvesGoOn, DescriptionStands}
+use Rattle.nf_phase_laws.proofs.Common.{DescriptionCurvesGoOn, Curves, first_points, FirstCurves, GrowByPhases, begin, grow, curves_of}
 use Rattle.nf_phase_laws.proofs.Holds.{IsNashFlow-from_HoldsUpTo, link_within}
 use Rattle.nf_phase_laws.proofs.Start.{HoldsUpTo-start, transit_sum-not_negative}
 use Rattle.nf_phase_laws.proofs.Phases.{Lasts-phase, Stands, stands_after}

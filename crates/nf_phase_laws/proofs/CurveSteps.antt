@@ -1,20 +1,10 @@
 -- Extending the curves over a phase by one point each extends the flow.
 use Rattle.std.proofs.Common.{◌≡◌, ℕ, ◌<◌, List, [], ◌∷◌, ◌++◌, ⊎_elim, sym, ap, subst, refl, ◌∙◌, append_assoc}
-use Rattle.nf_rational.specs.Rational.{ℚ}
-use Rattle.nf_rational.specs.Operations.{0ℚ, ◌+ℚ◌, ◌-ℚ◌, ◌*ℚ◌}
-use Rattle.nf_rational.specs.Order.{◌≤ℚ◌, ◌<ℚ◌}
-use Rattle.nf_rational_laws.proofs.Polynomial.{reading_of}
-use Rattle.nf_rational_laws.proofs.Order.{≤ℚ_of_same, ≤ℚ_of_lt, ≤ℚ_antisymm, lt_or_le_ℚ}
-use Rattle.nf_rational_laws.proofs.Linear.{le, eq, eq_times, linear_le, linear_eq}
-use Rattle.nf_model.specs.Curve.{Point, Within, value, slope}
-use Rattle.nf_model.specs.Network.{Link, Network, IsNetwork, IsLink}
-use Rattle.nf_model_laws.specs.Affine.{IsAffine}
-use Rattle.nf_model_laws.proofs.Affine.{same_from_times}
-use Rattle.nf_model_laws.proofs.Curves.{EndsAt, EndsAt-nn, EndsAt-value, EndsAt-push, EndsAt-push_line, EndsAt-push_before, slope-times}
+use Rattle.nf_phase_laws.proofs.Common.{ℚ, 0ℚ, ◌+ℚ◌, ◌-ℚ◌, ◌*ℚ◌, ◌≤ℚ◌, ◌<ℚ◌, reading_of, ≤ℚ_of_same, ≤ℚ_of_lt, ≤ℚ_antisymm, lt_or_le_ℚ, le, eq, eq_times}
+use Rattle.nf_phase_laws.proofs.Common.{linear_le, linear_eq, Point, Within, value, slope, Link, Network, IsNetwork, IsLink, IsAffine, same_from_times, EndsAt}
+use Rattle.nf_phase_laws.proofs.Common.{EndsAt-nn, EndsAt-value, EndsAt-push, EndsAt-push_line, EndsAt-push_before, slope-times, GoesOn, LastPoint, GoesOnTo}
+use Rattle.nf_phase_laws.proofs.Common.{at, CurvesStand, CurvesGoOn, ≤ℚ_refl, ≤ℚ_trans}
 use Rattle.nf_model_laws.proofs.Merged.{value-push_or_merge, EndsAt-merged}
-use Rattle.nf_phase_laws.specs.Invariant.{GoesOn}
-use Rattle.nf_phase_laws.specs.CurveSteps.{LastPoint, GoesOnTo, at, CurvesStand, CurvesGoOn}
-use Rattle.nf_rational_laws.proofs.Chains.{≤ℚ_refl, ≤ℚ_trans}
 
 pub ends_at : (points : List Point) (p : Point) → LastPoint points p → EndsAt points p
 ends_at points p l = record { front = l.front; same = l.same; curve = l.curve }

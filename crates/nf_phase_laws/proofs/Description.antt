@@ -1,28 +1,14 @@
 -- Outflows and queues described by departure are the outflows and queues of the links.
 use Rattle.std.proofs.Common.{◌≡◌, ℕ, ◌<◌, List, [], ◌∷◌, ⊎_elim, Option, Some, None, sym, ap, subst, ◌∙◌}
-use Rattle.nf_rational.specs.Rational.{ℚ}
-use Rattle.nf_rational.specs.Operations.{0ℚ, ◌+ℚ◌, ◌-ℚ◌, ◌*ℚ◌}
-use Rattle.nf_rational.specs.Order.{◌≤ℚ◌, ◌<ℚ◌, max_ℚ}
-use Rattle.nf_rational_laws.proofs.Polynomial.{reading_of}
-use Rattle.nf_rational_laws.proofs.Order.{≤ℚ_of_lt, ≤ℚ_antisymm, lt_or_le_ℚ}
-use Rattle.nf_rational_laws.proofs.Linear.{le, eq, le_times, eq_times, linear_le, linear_eq}
-use Rattle.nf_model.specs.Entries.{number_at}
-use Rattle.nf_model.specs.Curve.{Within}
-use Rattle.nf_model.specs.Network.{Link, Network, IsNetwork, IsLink, hops, rate_at}
-use Rattle.nf_model.specs.Queue.{IsQueue, IsOutflow}
-use Rattle.nf_model.specs.ThinFlow.{slacks_of, sets_at, IsThinFlow}
-use Rattle.nf_model.specs.Phases.{Lasts, AreStartLabels}
-use Rattle.nf_model_laws.specs.Affine.{IsAffine}
-use Rattle.nf_model_laws.proofs.Affine.{same_from_times}
-use Rattle.nf_phase_laws.specs.Invariant.{link_slack, queue_by_slack, sent, HoldsUpTo, LabelsAre, IsStart, GoesOn}
-use Rattle.nf_phase_laws.specs.Description.{DescribesLinks, DescriptionGoesOn}
+use Rattle.nf_phase_laws.proofs.Common.{ℚ, 0ℚ, ◌+ℚ◌, ◌-ℚ◌, ◌*ℚ◌, ◌≤ℚ◌, ◌<ℚ◌, max_ℚ, reading_of, ≤ℚ_of_lt, ≤ℚ_antisymm, lt_or_le_ℚ, le, eq, le_times, eq_times}
+use Rattle.nf_phase_laws.proofs.Common.{linear_le, linear_eq, number_at, Within, Link, Network, IsNetwork, IsLink, hops, rate_at, IsQueue, IsOutflow, slacks_of}
+use Rattle.nf_phase_laws.proofs.Common.{sets_at, IsThinFlow, Lasts, AreStartLabels, IsAffine, same_from_times, link_slack, queue_by_slack, sent, HoldsUpTo}
+use Rattle.nf_phase_laws.proofs.Common.{LabelsAre, IsStart, GoesOn, DescribesLinks, DescriptionGoesOn, ≤ℚ_refl, ≤ℚ_trans, max0_none, max0_of}
 use Rattle.nf_phase_laws.proofs.Idle.{queue_by_slack-low}
 use Rattle.nf_phase_laws.proofs.Holds as held
 use Rattle.nf_phase_laws.proofs.Start.{at_first, label_not_negative, nothing_sent, slack_none}
 use Rattle.nf_phase_laws.proofs.Lasting.{step_of}
 use Rattle.nf_phase_laws.proofs.Phase.{PhaseStep, by_time, sent_before, sent_after, slack_before, slack_after, rises_on, line_order, still_nn}
-use Rattle.nf_rational_laws.proofs.Chains.{≤ℚ_refl, ≤ℚ_trans}
-use Rattle.nf_rational_laws.proofs.Tests.{max0_none, max0_of}
 
 module _ (net : Network) (amount label outflow queue : ℕ → ℚ → ℚ) (until : ℚ) (good : IsNetwork net) (holds : HoldsUpTo net amount label until) (describes : DescribesLinks net amount label outflow queue until) where
   pub IsOutflow-described : (e : ℕ) (link : Link) (time : ℚ) → IsLink net e link → Within 0ℚ (label link.head until) time → IsOutflow link.transit link.capacity (amount e) time (outflow e time)

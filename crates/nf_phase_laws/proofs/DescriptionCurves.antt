@@ -1,24 +1,10 @@
 -- Extending outflow and queue curves over a phase by one point each extends the description.
 use Rattle.std.proofs.Common.{◌≡◌, ℕ, List, [], ◌∷◌, ⊎_elim, sym, ap, subst, refl, ◌∙◌}
-use Rattle.nf_rational.specs.Rational.{ℚ}
-use Rattle.nf_rational.specs.Operations.{0ℚ, ◌+ℚ◌, ◌-ℚ◌, ◌*ℚ◌}
-use Rattle.nf_rational.specs.Order.{◌≤ℚ◌, ◌<ℚ◌}
-use Rattle.nf_rational_laws.proofs.Polynomial.{reading_of}
-use Rattle.nf_rational_laws.proofs.Order.{≤ℚ_of_lt, ≤ℚ_antisymm, lt_or_le_ℚ}
-use Rattle.nf_rational_laws.proofs.Linear.{le, lt, eq, eq_times, linear_le, linear_eq}
-use Rattle.nf_model.specs.Curve.{Point, Within, value}
-use Rattle.nf_model.specs.Network.{Link, Network, IsNetwork, IsLink}
-use Rattle.nf_model.specs.Queue.{IsQueue}
-use Rattle.nf_model_laws.specs.Affine.{IsAffine}
-use Rattle.nf_model_laws.proofs.Curves.{EndsAt-value}
-use Rattle.nf_model_laws.proofs.Queues.{IsQueue-unique}
-use Rattle.nf_phase_laws.specs.Invariant.{link_slack, queue_by_slack, HoldsUpTo, GoesOn}
-use Rattle.nf_phase_laws.specs.Description.{DescribesLinks, DescriptionGoesOn}
-use Rattle.nf_phase_laws.specs.CurveSteps.{LastPoint, GoesOnTo, at}
-use Rattle.nf_phase_laws.specs.DescriptionCurves.{DescriptionStands, DescriptionCurvesGoOn}
+use Rattle.nf_phase_laws.proofs.Common.{ℚ, 0ℚ, ◌+ℚ◌, ◌-ℚ◌, ◌*ℚ◌, ◌≤ℚ◌, ◌<ℚ◌, reading_of, ≤ℚ_of_lt, ≤ℚ_antisymm, lt_or_le_ℚ, le, lt, eq, eq_times, linear_le}
+use Rattle.nf_phase_laws.proofs.Common.{linear_eq, Point, Within, value, Link, Network, IsNetwork, IsLink, IsQueue, IsAffine, EndsAt-value, IsQueue-unique}
+use Rattle.nf_phase_laws.proofs.Common.{link_slack, queue_by_slack, HoldsUpTo, GoesOn, DescribesLinks, DescriptionGoesOn, LastPoint, GoesOnTo, at}
+use Rattle.nf_phase_laws.proofs.Common.{DescriptionStands, DescriptionCurvesGoOn, ≤ℚ_refl, same_slacks}
 use Rattle.nf_phase_laws.proofs.CurveSteps.{ends_at, GoesOnTo-slope, LastPoint-at}
-use Rattle.nf_rational_laws.proofs.Chains.{≤ℚ_refl}
-use Rattle.nf_rational_laws.proofs.Facts.{same_slacks}
 
 -- ---- an extended curve while time increases: from a on for l d, to the value z
 module _ (points points' : List Point) (a z l d : ℚ) (not_back : 0ℚ ≤ℚ l) (stand : LastPoint points (a, value points a))

@@ -1,29 +1,15 @@
 -- The value of the extend list is the extension length.
 use Rattle.std.proofs.Common.{◌≡◌, ℕ, zero, suc, ◌+◌, List, [], ◌∷◌, Bool, true, false, if◌then◌else◌, sym, ap, subst, refl, arith}
-use Rattle.std.specs.Prelude.{Option, Some, None, Ok, slice_get}
-use Rattle.std.specs.List.{enumerate_from}
-use Rattle.std.proofs.lemmas.Option.{none-some, same_Some}
-use Rattle.nf_rational.specs.Rational.{ℚ}
-use Rattle.nf_rational.specs.Operations.{0ℚ, ◌+ℚ◌, ◌-ℚ◌}
-use Rattle.nf_rational.specs.Order.{◌≤ℚ◌, ◌<ℚ◌, lt_ℚ}
-use Rattle.nf_rational_laws.proofs.Polynomial.{reading_of}
-use Rattle.nf_rational_laws.proofs.Linear.{le, lt, linear_le, linear_false}
-use Rattle.nf_rational_laws.proofs.Order.{≤ℚ_of_lt, ≤ℚ_of_same, less_ps}
-use Rattle.nf_frac_def.specs.Passing.{Passing}
+use Rattle.nf_phase_laws.proofs.Common.{Option, Some, None, Ok, slice_get, enumerate_from, none-some, same_Some, ℚ, 0ℚ, ◌+ℚ◌, ◌-ℚ◌, ◌≤ℚ◌, ◌<ℚ◌, lt_ℚ}
+use Rattle.nf_phase_laws.proofs.Common.{reading_of, le, lt, linear_le, linear_false, ≤ℚ_of_lt, ≤ℚ_of_same, less_ps, Passing, number_at, Link, Piece, Network}
+use Rattle.nf_phase_laws.proofs.Common.{IsLink, IsPiece, ArePieces, first_start, next_change, Lasts, IsExtension, IsUnending, StartsRise, StartsRise-pieces}
+use Rattle.nf_phase_laws.proofs.Common.{StartsRise-rest, is_zero, are_opposite, never, ≤ℚ_refl, ≤ℚ_trans, less_of_test, not_less_of_test}
 use Rattle.nf_frac_def.specs.Checked.{checked, fold_checked}
-use Rattle.nf_model.specs.Entries.{number_at}
-use Rattle.nf_model.specs.Network.{Link, Piece, Network, IsLink, IsPiece, ArePieces, first_start, next_change}
-use Rattle.nf_model.specs.Phases.{Lasts, IsExtension, IsUnending}
-use Rattle.nf_model_laws.proofs.Supply.{StartsRise, StartsRise-pieces}
-use Rattle.nf_rational.specs.Signs.{is_zero, are_opposite}
 use Rattle.nf_thin_def.specs.Extend.{to_zero, after_link, least_after, until_change, extend_list}
-use Rattle.nf_frac_def.specs.Passing.{never}
 use Rattle.nf_thin_laws.proofs.Exact.{extend_list_as}
 use Rattle.nf_phase_laws.proofs.Limits.{HoldsUpTo, IsLimit, Both, IsLimit-same, IsLimit-with, IsLimit-lesser}
 use Rattle.nf_phase_laws.proofs.Sides.{KeepsSide, keeps_at_zero, keeps_away, keeps_until}
-use Rattle.nf_rational_laws.proofs.Chains.{≤ℚ_refl, ≤ℚ_trans}
 use Rattle.nf_frac_def.proofs.Binding.{bind_ok}
-use Rattle.nf_rational_laws.proofs.Tests.{less_of_test, not_less_of_test}
 use Rattle.nf_rational_laws.proofs.Results.{same_Ok}
 
 -- ---- one link
@@ -91,10 +77,6 @@ each_from piece [] rise (suc i) p e = absurd (none-some p e)
 each_from piece (next ∷ later) rise zero p e = ≤ℚ_of_same _ _ (ap (λ (q : Piece). q.start) (same_Some piece p e))
 each_from piece (next ∷ later) rise (suc i) p e = ≤ℚ_trans piece.start next.start p.start (≤ℚ_of_lt _ _ rise.0) (each_from next later rise.1 i p e)
 
-StartsRise-later : (piece : Piece) (later : List Piece) → StartsRise (piece ∷ later) → StartsRise later
-StartsRise-later piece [] rise = tt
-StartsRise-later piece (next ∷ later) rise = rise.1
-
 module _ (time : ℚ) where
   -- No piece that starts after the time starts before a phase of this length ends.
   abbrev NoneStarts : List Piece → ℚ → Type 0
@@ -121,7 +103,7 @@ module _ (time : ℚ) where
 
   change_limits : (pieces : List Piece) → StartsRise pieces → IsLimit (NoneStarts pieces) (limit_of (first_start pieces time))
   change_limits [] rise = λ length h i p e k. absurd (none-some p e)
-  change_limits (piece ∷ later) rise = first_limits (lt_ℚ time piece.start) piece later rise refl (change_limits later (StartsRise-later piece later rise))
+  change_limits (piece ∷ later) rise = first_limits (lt_ℚ time piece.start) piece later rise refl (change_limits later (StartsRise-rest piece later rise))
 
   until_limits : (P Q : ℚ → Type 0) (change least next : Option ℚ) → IsLimit P least → IsLimit Q (limit_of change) → until_change never least time change ≡ Ok next → IsLimit (Both P Q) next
   unfolding checked

@@ -1,30 +1,15 @@
 -- The slope of a queue over a phase: inflow rate minus capacity on a filled link, and 0 otherwise.
 use Rattle.std.proofs.Common.{◌≡◌, ℕ, List, [], ◌∷◌, get_or, Bool, true, false, ⊎_elim, sym, ap, subst, refl, ◌∙◌, arith}
-use Rattle.std.specs.Prelude.{Option, Some, None, slice_get, unwrap_or}
-use Rattle.std.proofs.lemmas.Option.{none-some, same_Some, slice_get-get_or, slice_get_within}
-use Rattle.nf_rational.specs.Rational.{ℚ}
-use Rattle.nf_rational.specs.Operations.{0ℚ, ◌+ℚ◌, ◌-ℚ◌, ◌*ℚ◌, ◌/ℚ◌}
-use Rattle.nf_rational.specs.Order.{◌≤ℚ◌, ◌<ℚ◌, max_ℚ}
-use Rattle.nf_rational_laws.proofs.Polynomial.{reading_of}
-use Rattle.nf_rational_laws.proofs.Order.{≤ℚ_of_lt, lt_or_le_ℚ}
-use Rattle.nf_rational_laws.proofs.Linear.{le, eq, le_times, eq_times, linear_le, linear_eq}
+use Rattle.nf_phase_laws.proofs.Common.{Option, Some, None, slice_get, unwrap_or, none-some, same_Some, slice_get-get_or, slice_get_within, ℚ, 0ℚ, ◌+ℚ◌, ◌-ℚ◌}
+use Rattle.nf_phase_laws.proofs.Common.{◌*ℚ◌, ◌/ℚ◌, ◌≤ℚ◌, ◌<ℚ◌, max_ℚ, reading_of, ≤ℚ_of_lt, lt_or_le_ℚ, le, eq, le_times, eq_times, linear_le, linear_eq}
+use Rattle.nf_phase_laws.proofs.Common.{number_at, Has, Link, Network, IsLink, hop_of, hops, unbounded, slack, slacks_of, sets_at, Pattern, NeedsState}
+use Rattle.nf_phase_laws.proofs.Common.{HasState, IsPattern, Fills, Equation, Solves, Meets, slack_after, Lasts, quotient-times, slack_at, active_of_slack}
+use Rattle.nf_phase_laws.proofs.Common.{slack_of_active, resetting_of_slack, slack_of_resetting, is_filled, queue_by_slack, ≤ℚ_refl, max0_of, false≢true}
 use Rattle.nf_model.specs.declared.State.{State}
 use Rattle.nf_model.specs.declared.State.TheVariants.{Tight, Full, Zero}
-use Rattle.nf_model.specs.Entries.{number_at, Has}
-use Rattle.nf_model.specs.Network.{Link, Network, IsLink, hop_of, hops, unbounded}
-use Rattle.nf_model.specs.ThinFlow.{slack, slacks_of, sets_at}
-use Rattle.nf_model.specs.Pattern.{Pattern, NeedsState, HasState, IsPattern, Fills, Equation, Solves, Meets}
-use Rattle.nf_model.specs.Phases.{slack_after, Lasts}
-use Rattle.nf_model_laws.proofs.Affine.{quotient-times}
-use Rattle.nf_model_laws.proofs.Slacks.{slack_at, active_of_slack, slack_of_active, resetting_of_slack, slack_of_resetting}
-use Rattle.nf_thin_def.specs.CurveList.{is_filled}
 use Rattle.nf_thin_laws.proofs.ActiveLinks.{AreSets-sets_at}
-use Rattle.nf_phase_laws.specs.Invariant.{queue_by_slack}
 use Rattle.nf_phase_laws.proofs.Idle.{queue_by_slack-low}
 use Rattle.nf_phase_laws.proofs.StepValues.{filled_slope}
-use Rattle.nf_rational_laws.proofs.Chains.{≤ℚ_refl}
-use Rattle.nf_rational_laws.proofs.Tests.{max0_of}
-use Rattle.std.proofs.lemmas.Bool.{false≢true}
 
 -- Facts on a link that the flow fills, and on one that it doesn't: its slacks at the ends of the phase.
 pub record Filled (capacity : Option ℚ) (s n x m : ℚ) (filled : Bool) : Type 0 where

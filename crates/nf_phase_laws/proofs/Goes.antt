@@ -1,35 +1,15 @@
 -- One phase of a run preserves the properties of its curves.
-use Rattle.std.proofs.Common.{◌≡◌, ℕ, ◌<◌, List, [], ◌∷◌, length, sym, ap, subst, refl, ◌∙◌, arith}
-use Rattle.std.specs.Prelude.{Option, Some, None, map, slice_get, unwrap_or}
-use Rattle.std.specs.List.{last_or}
-use Rattle.std.specs.Option.{option_map_or}
-use Rattle.std.proofs.lemmas.Option.{same_Some, slice_get_within}
-use Rattle.nf_rational.specs.Rational.{ℚ}
-use Rattle.nf_rational.specs.Operations.{0ℚ, ◌+ℚ◌, ◌-ℚ◌, ◌*ℚ◌, ◌/ℚ◌}
-use Rattle.nf_rational.specs.Order.{◌<ℚ◌}
-use Rattle.nf_rational_laws.proofs.Polynomial.{reading_of}
-use Rattle.nf_rational_laws.proofs.Linear.{eq, linear_eq}
-use Rattle.nf_frac_def.specs.Passing.{Passing}
-use Rattle.nf_model.specs.Entries.{number_at}
-use Rattle.nf_model.specs.Curve.{Point, Within, AreSlopes}
-use Rattle.nf_model.specs.Equilibrium.{Trace}
-use Rattle.nf_rational.specs.Signs.{is_positive}
-use Rattle.nf_model.specs.Network.{Link, Network, IsNetwork, IsLink, hop_of, hops, rate_at}
-use Rattle.nf_model.specs.ThinFlow.{slack, slacks_of, sets_at, IsThinFlow}
-use Rattle.nf_model.specs.Pattern.{Pattern, IsListedIn, Solves, Meets}
-use Rattle.nf_model.specs.Phases.{slack_after, Lasts, IsPhaseLength, IsPhase}
-use Rattle.nf_model_laws.proofs.Curves.{EndsAt-value}
-use Rattle.nf_model_laws.proofs.Slacks.{slack_at, slack_after-moved}
-use Rattle.nf_thin_def.specs.CurveList.{LinkStep, LinkPhase, link_phase}
-use Rattle.nf_thin_def.specs.ReportCurves.{GrowingCurve, LinkCurves, curve_with, curves_after, amount_so_far, trace_after}
-use Rattle.nf_thin_def.specs.PhaseRun.{Standing, PhaseStep, standing_after, flow_of}
+use Rattle.std.proofs.Common.{◌≡◌, ℕ, ◌<◌, List, [], ◌∷◌, length, sym, ap, subst, refl, ◌∙◌, arith, Option, Some, None, map, slice_get, unwrap_or}
+use Rattle.nf_phase_laws.proofs.Common.{last_or, option_map_or, same_Some, slice_get_within, ℚ, 0ℚ, ◌+ℚ◌, ◌-ℚ◌, ◌*ℚ◌, ◌/ℚ◌, ◌<ℚ◌, reading_of, eq, linear_eq}
+use Rattle.nf_phase_laws.proofs.Common.{Passing, number_at, Point, Within, AreSlopes, Trace, is_positive, Link, Network, IsNetwork, IsLink, hop_of, hops}
+use Rattle.nf_phase_laws.proofs.Common.{rate_at, slack, slacks_of, sets_at, IsThinFlow, Pattern, IsListedIn, Solves, Meets, slack_after, Lasts, IsPhaseLength}
+use Rattle.nf_phase_laws.proofs.Common.{IsPhase, EndsAt-value, slack_at, slack_after-moved, LinkStep, LinkPhase, link_phase, GrowingCurve, LinkCurves}
+use Rattle.nf_phase_laws.proofs.Common.{curve_with, curves_after, amount_so_far, trace_after, Standing, PhaseStep, standing_after, flow_of, link_slack}
+use Rattle.nf_phase_laws.proofs.Common.{queue_by_slack, LastPoint, GoesOnTo, at, CurvesGoOn, DescriptionCurvesGoOn, Curves, GrowByPhases, grow, curves_of}
+use Rattle.nf_phase_laws.proofs.Common.{last-append, slice_get-image, entry, ≤ℚ_refl, later_by}
 use Rattle.nf_thin_laws.proofs.Ending.{number-moved, length-moved, PhaseParts}
 use Rattle.nf_thin_laws.proofs.Accepted.{IsThinFlow-accepted}
 use Rattle.nf_thin_laws.proofs.ActiveLinks.{AreSets-sets_at}
-use Rattle.nf_phase_laws.specs.Invariant.{link_slack, queue_by_slack}
-use Rattle.nf_phase_laws.specs.CurveSteps.{LastPoint, GoesOnTo, at, CurvesGoOn}
-use Rattle.nf_phase_laws.specs.DescriptionCurves.{DescriptionCurvesGoOn}
-use Rattle.nf_phase_laws.specs.CurveRun.{Curves, GrowByPhases, grow, curves_of}
 use Rattle.nf_phase_laws.proofs.Holds.{sent-is}
 use Rattle.nf_phase_laws.proofs.Thin.{slack-is}
 use Rattle.nf_phase_laws.proofs.Phases.{Lasts-phase}
@@ -42,9 +22,6 @@ use Rattle.nf_phase_laws.proofs.Filled.{queue_slope, Filled-at}
 use Rattle.nf_phase_laws.proofs.Traces.{same_point, went_to, TraceStep, TraceStep-after, QueueStepped, QueueStepped-after}
 use Rattle.nf_phase_laws.proofs.AfterPhase.{label_after_at, label_after-length, link_after_at, link_after-length}
 use Rattle.nf_phase_laws.proofs.WellRun.{number_is, label_points, inflow_points, outflow_points, queue_points, WellRun}
-use Rattle.nf_rational_laws.proofs.Entries.{last-append, slice_get-image, entry}
-use Rattle.nf_rational_laws.proofs.Chains.{≤ℚ_refl}
-use Rattle.nf_rational_laws.proofs.Facts.{later_by}
 
 -- ---- the amount that has entered a link so far
 end_amount : (c : LinkCurves) (last : Point) → LastPoint c.inflow.points last → amount_so_far c ≡ last.1

@@ -1,28 +1,13 @@
 -- A flow that satisfies the invariant of phases is a Nash flow over time.
 use Rattle.std.proofs.Common.{◌≡◌, ◌≢◌, ℕ, ◌<◌, ◌≤◌, [], ◌∷◌, length, get_or, slice_get, ⊎_elim, Option, Some, None, sym, ap, subst, refl, ◌∙◌, arith}
-use Rattle.std.proofs.lemmas.Option.{slice_get_within, slice_get_cases}
-use Rattle.nf_rational.specs.Rational.{ℚ}
-use Rattle.nf_rational.specs.Operations.{0ℚ, ◌+ℚ◌, ◌-ℚ◌, ◌*ℚ◌}
-use Rattle.nf_rational.specs.Order.{◌≤ℚ◌, ◌<ℚ◌, max_ℚ}
-use Rattle.nf_rational_laws.proofs.Polynomial.{reading_of}
-use Rattle.nf_rational_laws.proofs.Order.{≤ℚ_of_lt, ≤ℚ_antisymm, lt_or_le_ℚ, not_both_ℚ, less_nn}
-use Rattle.nf_rational_laws.proofs.Linear.{le, lt, eq, le_times, linear_le, linear_lt, linear_eq}
-use Rattle.nf_model.specs.Curve.{Within, NeverFalls, IsGreatest}
-use Rattle.nf_model.specs.Network.{Link, Network, IsNetwork, IsLink, sum_in, sum_out, supply}
-use Rattle.nf_model.specs.Queue.{IsQueue, IsExit, IsOutflow}
-use Rattle.nf_model.specs.Earliest.{IsEarliest}
-use Rattle.nf_model.specs.Equilibrium.{Balances, IsNashFlow}
-use Rattle.nf_model_laws.specs.Capacity.{IsPositive}
-use Rattle.nf_model_laws.specs.EarliestLaws.{AreLabels}
-use Rattle.nf_model_laws.proofs.Affine.{le_from_times}
-use Rattle.nf_model_laws.proofs.Queues.{IsOutflow-from_IsQueue, IsOutflow-early}
+use Rattle.nf_phase_laws.proofs.Common.{slice_get_within, slice_get_cases, ℚ, 0ℚ, ◌+ℚ◌, ◌-ℚ◌, ◌*ℚ◌, ◌≤ℚ◌, ◌<ℚ◌, max_ℚ, reading_of, ≤ℚ_of_lt, ≤ℚ_antisymm}
+use Rattle.nf_phase_laws.proofs.Common.{lt_or_le_ℚ, not_both_ℚ, less_nn, le, lt, eq, le_times, linear_le, linear_lt, linear_eq, Within, NeverFalls, IsGreatest}
+use Rattle.nf_phase_laws.proofs.Common.{Link, Network, IsNetwork, IsLink, sum_in, sum_out, supply, IsQueue, IsExit, IsOutflow, IsEarliest, Balances, IsNashFlow}
+use Rattle.nf_phase_laws.proofs.Common.{IsPositive, AreLabels, le_from_times, IsOutflow-from_IsQueue, IsOutflow-early, IsEarliest-label, IsPositive-link}
+use Rattle.nf_phase_laws.proofs.Common.{sum_out-same, sum_in-none, sum_out-none, link_slack, queue_by_slack, tail_or, sent, HoldsUpTo, ≤ℚ_refl, ≤ℚ_trans}
+use Rattle.nf_phase_laws.proofs.Common.{in_time}
 use Rattle.nf_model_laws.proofs.Exits.{IsOutflow-at_exit}
-use Rattle.nf_model_laws.proofs.Earliest.{IsEarliest-label, IsPositive-link}
-use Rattle.nf_model_laws.proofs.Sums.{sum_out-same, sum_in-none, sum_out-none}
-use Rattle.nf_phase_laws.specs.Invariant.{link_slack, queue_by_slack, tail_or, sent, HoldsUpTo}
 use Rattle.nf_phase_laws.proofs.Idle.{max0_cases, waiting-by_slack, IsQueue-before_any}
-use Rattle.nf_rational_laws.proofs.Chains.{≤ℚ_refl, ≤ℚ_trans}
-use Rattle.nf_rational_laws.proofs.Facts.{in_time}
 
 -- The amount sent into a link, by its tail.
 pub sent-is : (net : Network) (amount label : ℕ → ℚ → ℚ) (e : ℕ) (link : Link) (departure : ℚ) → IsLink net e link → sent net amount label e departure ≡ amount e (label link.tail departure)
@@ -69,7 +54,7 @@ module _ (net : Network) (amount label : ℕ → ℚ → ℚ) (until : ℚ) (goo
   pub amount_starts : (e : ℕ) (link : Link) → IsLink net e link → amount e 0ℚ ≡ 0ℚ
   amount_starts e link p = holds.amount_starts e (slice_get_within net.links e link p)
 
-  first : Within 0ℚ until 0ℚ
+  pub first : Within 0ℚ until 0ℚ
   first = (≤ℚ_refl 0ℚ, holds.begun)
 
   pub label_not_negative : (v : ℕ) (departure : ℚ) → v < net.nodes → Within 0ℚ until departure → 0ℚ ≤ℚ label v departure
@@ -107,7 +92,7 @@ module _ (net : Network) (amount label : ℕ → ℚ → ℚ) (until : ℚ) (goo
   labels_earliest v departure h w = IsEarliest-label net amount departure (λ v. label v departure) good holds.amount_rises (AreLabels-at departure w) v h
 
   -- ---- outflows: the amount that entered by a departure has left by the label of the head
-  slack_start : (e : ℕ) (link : Link) → IsLink net e link → link_slack label link 0ℚ ≤ℚ 0ℚ
+  pub slack_start : (e : ℕ) (link : Link) → IsLink net e link → link_slack label link 0ℚ ≤ℚ 0ℚ
   slack_start e link p = wait_none link.capacity (amount e) (label link.tail 0ℚ) _ (positive e link p) (amount_rises e link p) (amount_starts e link p)
       (sym (sent-is net amount label e link 0ℚ p) ∙ holds.sent_starts e link p) (λ none. holds.unbounded e link 0ℚ p none first) (holds.queue e link 0ℚ p first)
 

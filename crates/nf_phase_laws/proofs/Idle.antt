@@ -1,20 +1,8 @@
 -- Slacks as waiting times, and queues where nothing enters.
 use Rattle.std.proofs.Common.{◌≡◌, [], ◌∷◌, ⊎_elim, Option, Some, None, sym, refl, ◌∙◌}
-use Rattle.nf_rational.specs.Rational.{ℚ}
-use Rattle.nf_rational.specs.Operations.{0ℚ, ◌+ℚ◌, ◌-ℚ◌, ◌*ℚ◌, ◌/ℚ◌}
-use Rattle.nf_rational.specs.Order.{◌≤ℚ◌, ◌<ℚ◌, max_ℚ}
-use Rattle.nf_rational_laws.proofs.Polynomial.{reading_of}
-use Rattle.nf_rational_laws.proofs.Order.{≤ℚ_of_lt}
-use Rattle.nf_rational_laws.proofs.Tests.{max_ℚ_cases, max0_none}
-use Rattle.nf_rational_laws.proofs.Linear.{eq, le_times, linear_le, linear_eq}
-use Rattle.nf_model.specs.Queue.{IsQueue, waiting}
-use Rattle.nf_model_laws.specs.Capacity.{IsPositive}
-use Rattle.nf_model_laws.proofs.Affine.{quotient-times, same_from_times}
-use Rattle.nf_model_laws.proofs.Queues.{IsQueue-none}
-use Rattle.nf_model_laws.proofs.Step.{IsQueue-step_empty, IsQueue-at_0}
-use Rattle.nf_phase_laws.specs.Invariant.{queue_by_slack}
-use Rattle.nf_rational_laws.proofs.Chains.{≤ℚ_refl}
-use Rattle.nf_rational_laws.proofs.Facts.{times_second_zero}
+use Rattle.nf_phase_laws.proofs.Common.{ℚ, 0ℚ, ◌+ℚ◌, ◌-ℚ◌, ◌*ℚ◌, ◌/ℚ◌, ◌≤ℚ◌, ◌<ℚ◌, max_ℚ, reading_of, ≤ℚ_of_lt, max_ℚ_cases, max0_none, eq, le_times, linear_le}
+use Rattle.nf_phase_laws.proofs.Common.{linear_eq, IsQueue, waiting, IsPositive, quotient-times, same_from_times, IsQueue-none, IsQueue-step_empty}
+use Rattle.nf_phase_laws.proofs.Common.{IsQueue-at_0, queue_by_slack, ≤ℚ_refl, times_second_zero}
 
 -- ---- the greater of 0 and a number
 pub max0_cases : {P : Type 0} (s m : ℚ) → m ≡ max_ℚ 0ℚ s → (m ≡ s → 0ℚ ≤ℚ s → P) → (m ≡ 0ℚ → s <ℚ 0ℚ → P) → P

@@ -1,21 +1,10 @@
 -- A phase by lists: its thin flow, its length and the supply during it, in the form that the step theorem requires.
 use Rattle.std.proofs.Common.{◌≡◌, ℕ, List, [], ◌∷◌, sym, subst, ◌∙◌}
-use Rattle.nf_rational.specs.Rational.{ℚ}
-use Rattle.nf_rational.specs.Operations.{0ℚ, ◌+ℚ◌, ◌-ℚ◌, ◌*ℚ◌}
-use Rattle.nf_rational.specs.Order.{◌≤ℚ◌, ◌<ℚ◌}
-use Rattle.nf_rational_laws.proofs.Polynomial.{reading_of}
-use Rattle.nf_rational_laws.proofs.Linear.{le, eq, linear_le, linear_eq}
-use Rattle.nf_model.specs.Entries.{number_at}
-use Rattle.nf_model.specs.Curve.{Within}
-use Rattle.nf_model.specs.Network.{Link, Network, IsNetwork, IsLink, hops, supply, rate_at}
-use Rattle.nf_model.specs.ThinFlow.{slacks_of, sets_at, IsThinFlow}
-use Rattle.nf_model.specs.Phases.{Lasts}
-use Rattle.nf_model_laws.proofs.Slacks.{slack_at}
-use Rattle.nf_model_laws.proofs.Supply.{supplied-goes_on}
-use Rattle.nf_phase_laws.specs.Invariant.{link_slack, HoldsUpTo, LabelsAre, GoesOn}
+use Rattle.nf_phase_laws.proofs.Common.{ℚ, 0ℚ, ◌+ℚ◌, ◌-ℚ◌, ◌*ℚ◌, ◌≤ℚ◌, ◌<ℚ◌, reading_of, le, eq, linear_le, linear_eq, number_at, Within, Link, Network}
+use Rattle.nf_phase_laws.proofs.Common.{IsNetwork, IsLink, hops, supply, rate_at, slacks_of, sets_at, IsThinFlow, Lasts, slack_at, supplied-goes_on, link_slack}
+use Rattle.nf_phase_laws.proofs.Common.{HoldsUpTo, LabelsAre, GoesOn, ≤ℚ_trans}
 use Rattle.nf_phase_laws.proofs.Thin.{slack-is, IsThinBy-of}
 use Rattle.nf_phase_laws.proofs.Phase.{PhaseStep, HoldsUpTo-phase}
-use Rattle.nf_rational_laws.proofs.Chains.{≤ℚ_trans}
 
 -- The supply grows at its rate while no piece starts.
 pub supply-lasts : (net : Network) (slacks slopes : List ℚ) (until length : ℚ) → IsNetwork net → Lasts net slacks slopes until length → (t : ℚ) → Within 0ℚ length t

@@ -1,19 +1,9 @@
 -- Phases have positive length: from any slacks and slopes on a phase can last for some time.
 use Rattle.std.proofs.Common.{◌≡◌, ℕ, zero, suc, List, [], ◌∷◌, inl, inr, ⊎_elim, Some, slice_get, sym, subst, refl}
-use Rattle.nf_rational.specs.Rational.{ℚ}
-use Rattle.nf_rational.specs.Operations.{0ℚ, 1ℚ, ◌+ℚ◌, ◌-ℚ◌, ◌*ℚ◌, ◌/ℚ◌}
-use Rattle.nf_rational.specs.Order.{◌≤ℚ◌, ◌<ℚ◌, min_ℚ}
-use Rattle.nf_rational_laws.proofs.Polynomial.{reading_of}
-use Rattle.nf_rational_laws.proofs.Order.{≤ℚ_of_lt, ps_times, lt_or_le_ℚ, not_both_ℚ, less_ps}
+use Rattle.nf_phase_laws.proofs.Common.{ℚ, 0ℚ, 1ℚ, ◌+ℚ◌, ◌-ℚ◌, ◌*ℚ◌, ◌/ℚ◌, ◌≤ℚ◌, ◌<ℚ◌, min_ℚ, reading_of, ≤ℚ_of_lt, ps_times, lt_or_le_ℚ, not_both_ℚ, less_ps}
+use Rattle.nf_phase_laws.proofs.Common.{le, lt, eq, le_times, linear_le, linear_lt, number_at, Within, Link, Piece, Network, Lasts, IsExtension, IsPhaseLength}
+use Rattle.nf_phase_laws.proofs.Common.{IsPhase, quotient-times, ≤ℚ_trans, <_≤_trans, min_left, min_right, min_keeps}
 use Rattle.nf_rational_laws.proofs.Quotient.{/ℚ_is, ps_inv}
-use Rattle.nf_rational_laws.proofs.Linear.{le, lt, eq, le_times, linear_le, linear_lt}
-use Rattle.nf_model.specs.Entries.{number_at}
-use Rattle.nf_model.specs.Curve.{Within}
-use Rattle.nf_model.specs.Network.{Link, Piece, Network}
-use Rattle.nf_model.specs.Phases.{Lasts, IsExtension, IsPhaseLength, IsPhase}
-use Rattle.nf_model_laws.proofs.Affine.{quotient-times}
-use Rattle.nf_rational_laws.proofs.Chains.{≤ℚ_trans, <_≤_trans}
-use Rattle.nf_rational_laws.proofs.Extremes.{min_left, min_right, min_keeps}
 
 -- ---- if each entry of a list allows some time, some time is allowed by all of them
 pub record Fitting {A : Type 0} (xs : List A) (Fits : ℕ → A → ℚ → Type 0) : Type 0 where

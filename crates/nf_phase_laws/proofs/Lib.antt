@@ -1,3 +1,4 @@
+mod Common
 pub mod Idle
 pub mod Holds
 pub mod Start

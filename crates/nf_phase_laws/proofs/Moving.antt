@@ -1,23 +1,8 @@
 -- The change of labels in a phase of a run, and the rates of the links that follow.
-use Rattle.std.proofs.Common.{◌≡◌, ℕ, List, [], ◌∷◌, length, Bool, true, false, sym, ap, subst, refl, ◌∙◌}
-use Rattle.std.specs.Prelude.{Some, map, slice_get}
-use Rattle.std.proofs.lemmas.Option.{same_Some, none-some}
-use Rattle.nf_rational.specs.Rational.{ℚ}
-use Rattle.nf_rational.specs.Operations.{0ℚ, ◌+ℚ◌, ◌*ℚ◌}
-use Rattle.nf_rational.specs.Order.{◌<ℚ◌}
-use Rattle.nf_rational_laws.proofs.Polynomial.{reading_of}
-use Rattle.nf_rational_laws.proofs.Linear.{lt, linear_lt}
-use Rattle.nf_rational_laws.proofs.Order.{ps_times}
-use Rattle.nf_frac_def.specs.Passing.{Passing}
-use Rattle.nf_model.specs.Entries.{number_at}
-use Rattle.nf_model.specs.Network.{Link, Network, IsLink}
-use Rattle.nf_model.specs.ThinFlow.{sets_at}
-use Rattle.nf_model.specs.Pattern.{Pattern}
-use Rattle.nf_rational.specs.Signs.{is_positive}
-use Rattle.nf_thin_def.specs.CurveList.{QueueStep, LinkStep, LinkPhase, link_phase}
-use Rattle.nf_thin_def.specs.ReportCurves.{amount_so_far}
-use Rattle.nf_thin_def.specs.PhaseRun.{Standing, PhaseStep}
-use Rattle.nf_thin_laws.proofs.Ending.{number-moved, PhaseParts}
+use Rattle.std.proofs.Common.{◌≡◌, ℕ, List, [], ◌∷◌, length, Bool, true, false, sym, ap, subst, refl, ◌∙◌, Some, map, slice_get}
+use Rattle.nf_phase_laws.proofs.Common.{same_Some, none-some, ℚ, 0ℚ, ◌+ℚ◌, ◌*ℚ◌, ◌<ℚ◌, reading_of, lt, linear_lt, ps_times, Passing, number_at, Link, Network}
+use Rattle.nf_phase_laws.proofs.Common.{IsLink, sets_at, Pattern, is_positive, QueueStep, LinkStep, LinkPhase, link_phase, amount_so_far, Standing, PhaseStep}
+use Rattle.nf_phase_laws.proofs.Common.{number-moved, PhaseParts}
 use Rattle.nf_phase_laws.proofs.StepValues.{rate_value, queue_value, step_value, step_value_at, positive_of}
 
 -- ---- the source of a rate

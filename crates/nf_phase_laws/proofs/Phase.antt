@@ -1,31 +1,16 @@
 -- A phase preserves the invariant: if it holds up to a departure, it holds up to the end of a phase that begins there.
 use Rattle.std.proofs.Common.{◌≡◌, ◌≢◌, ℕ, ◌<◌, [], ◌∷◌, ⊎_elim, Option, None, sym, ap, subst, refl, ◌∙◌}
-use Rattle.std.proofs.lemmas.Option.{slice_get_within}
-use Rattle.nf_rational.specs.Rational.{ℚ}
-use Rattle.nf_rational.specs.Operations.{0ℚ, 1ℚ, ◌+ℚ◌, ◌-ℚ◌, ◌*ℚ◌}
-use Rattle.nf_rational.specs.Order.{◌≤ℚ◌, ◌<ℚ◌}
-use Rattle.nf_rational_laws.proofs.Polynomial.{reading_of}
-use Rattle.nf_rational_laws.proofs.Order.{≤ℚ_of_same, ≤ℚ_of_lt, ≤ℚ_antisymm, lt_or_le_ℚ, not_both_ℚ}
-use Rattle.nf_rational_laws.proofs.Linear.{le, lt, eq, le_times, eq_times, linear_le, linear_lt, linear_eq, linear_false}
-use Rattle.nf_model.specs.Curve.{Within, NeverFalls}
-use Rattle.nf_model.specs.Network.{Link, Network, IsNetwork, IsLink, sum_in, sum_out, supply}
-use Rattle.nf_model.specs.Queue.{IsQueue}
-use Rattle.nf_model_laws.specs.Affine.{IsAffine}
-use Rattle.nf_model_laws.proofs.Affine.{same_from_times}
-use Rattle.nf_model_laws.proofs.Queues.{IsQueue-same}
-use Rattle.nf_model_laws.proofs.Step.{IsQueue-at_0}
-use Rattle.nf_model_laws.proofs.Curves.{line_takes}
-use Rattle.nf_model_laws.proofs.Earliest.{IsPositive-link}
-use Rattle.nf_model_laws.proofs.Sums.{sum_in-same, sum_out-same, sum_in-line, sum_out-line}
-use Rattle.nf_phase_laws.specs.Invariant.{link_slack, queue_by_slack, sent, HoldsUpTo, GoesOn}
+use Rattle.nf_phase_laws.proofs.Common.{slice_get_within, ℚ, 0ℚ, 1ℚ, ◌+ℚ◌, ◌-ℚ◌, ◌*ℚ◌, ◌≤ℚ◌, ◌<ℚ◌, reading_of, ≤ℚ_of_same, ≤ℚ_of_lt, ≤ℚ_antisymm, lt_or_le_ℚ}
+use Rattle.nf_phase_laws.proofs.Common.{not_both_ℚ, le, lt, eq, le_times, eq_times, linear_le, linear_lt, linear_eq, linear_false, Within, NeverFalls, Link}
+use Rattle.nf_phase_laws.proofs.Common.{Network, IsNetwork, IsLink, sum_in, sum_out, supply, IsQueue, IsAffine, same_from_times, IsQueue-same, IsQueue-at_0}
+use Rattle.nf_phase_laws.proofs.Common.{line_takes, IsPositive-link, sum_in-same, sum_out-same, sum_in-line, sum_out-line, link_slack, queue_by_slack, sent}
+use Rattle.nf_phase_laws.proofs.Common.{HoldsUpTo, GoesOn, ≤ℚ_refl, ≤ℚ_trans, same_slacks, in_time, less_le}
 use Rattle.nf_phase_laws.proofs.Idle.{queue_by_slack-low, IsQueue-stays_empty}
 use Rattle.nf_phase_laws.proofs.Holds as held
 use Rattle.nf_phase_laws.proofs.Holds.{link_within}
 use Rattle.nf_phase_laws.proofs.Thin.{IsThinBy}
 use Rattle.nf_phase_laws.proofs.QueueCases.{LinkStep, IsQueue-by_slack, unused_below, unbounded_below}
 use Rattle.nf_phase_laws.proofs.Rising.{le_along, NeverFalls-goes_on}
-use Rattle.nf_rational_laws.proofs.Chains.{≤ℚ_refl, ≤ℚ_trans}
-use Rattle.nf_rational_laws.proofs.Facts.{same_slacks, in_time, less_le}
 
 -- Facts on a phase.
 pub record PhaseStep (net : Network) (amount label : ℕ → ℚ → ℚ) (until length rate : ℚ) (x slope : ℕ → ℚ) (amount' label' : ℕ → ℚ → ℚ) : Type 0 where

@@ -1,24 +1,12 @@
 -- Each phase preserves the invariant.
 use Rattle.std.proofs.Common.{◌≡◌, ℕ, List, [], ◌∷◌, length, inl, inr, ⊎_elim, sym, ap, subst, ◌∙◌}
-use Rattle.nf_rational.specs.Rational.{ℚ}
-use Rattle.nf_rational.specs.Operations.{0ℚ, ◌+ℚ◌, ◌-ℚ◌, ◌*ℚ◌}
-use Rattle.nf_rational.specs.Order.{◌≤ℚ◌, ◌<ℚ◌, min_ℚ}
-use Rattle.nf_rational_laws.proofs.Polynomial.{reading_of}
-use Rattle.nf_rational_laws.proofs.Tests.{min_ℚ_cases}
-use Rattle.nf_rational_laws.proofs.Linear.{le, lt, eq, linear_le, linear_eq}
-use Rattle.nf_model.specs.Entries.{number_at}
-use Rattle.nf_model.specs.Network.{Network, IsNetwork, hops}
-use Rattle.nf_model.specs.ThinFlow.{slacks_of}
-use Rattle.nf_model.specs.Phases.{Lasts, IsPhaseLength, IsPhase}
-use Rattle.nf_model.specs.Equilibrium.{IsNashFlow}
-use Rattle.nf_model_laws.proofs.Slacks.{moved-at, length-moved}
-use Rattle.nf_phase_laws.specs.Invariant.{HoldsUpTo, LabelsAre, GoesOn}
+use Rattle.nf_phase_laws.proofs.Common.{ℚ, 0ℚ, ◌+ℚ◌, ◌-ℚ◌, ◌*ℚ◌, ◌≤ℚ◌, ◌<ℚ◌, min_ℚ, reading_of, min_ℚ_cases, le, lt, eq, linear_le, linear_eq, number_at}
+use Rattle.nf_phase_laws.proofs.Common.{Network, IsNetwork, hops, slacks_of, Lasts, IsPhaseLength, IsPhase, IsNashFlow, moved-at, length-moved, HoldsUpTo}
+use Rattle.nf_phase_laws.proofs.Common.{LabelsAre, GoesOn, ≤ℚ_refl, ≤ℚ_trans, min_left}
 use Rattle.nf_phase_laws.specs.Run.{GoesByPhases, begins, goes_on}
 use Rattle.nf_phase_laws.proofs.Holds.{IsNashFlow-from_HoldsUpTo}
 use Rattle.nf_phase_laws.proofs.Start.{HoldsUpTo-start}
 use Rattle.nf_phase_laws.proofs.Lasting.{HoldsUpTo-lasts}
-use Rattle.nf_rational_laws.proofs.Chains.{≤ℚ_refl, ≤ℚ_trans}
-use Rattle.nf_rational_laws.proofs.Extremes.{min_left}
 
 -- If a phase can have a length, it can have each smaller one.
 pub Lasts-shorter : (net : Network) (slacks slopes : List ℚ) (time long short : ℚ) → Lasts net slacks slopes time long → 0ℚ ≤ℚ short → short ≤ℚ long → Lasts net slacks slopes time short

@@ -1,24 +1,10 @@
 -- Curves in short form extended by a point: the recorded slope is that of the last two points.
 use Rattle.std.proofs.Common.{◌≡◌, ℕ, suc, List, [], ◌∷◌, ◌++◌, length, Bool, true, false, sym, ap, subst, refl, ◌∙◌, append_assoc, length-append, arith}
-use Rattle.std.specs.Prelude.{◌-◌, ◌+◌, Option, Some, None, take}
-use Rattle.std.specs.List.{last_or}
-use Rattle.std.specs.Option.{option_map_or}
-use Rattle.std.proofs.lemmas.Option.{same_Some}
-use Rattle.nf_rational.specs.Rational.{ℚ}
-use Rattle.nf_rational.specs.Operations.{0ℚ, ◌-ℚ◌, ◌*ℚ◌}
-use Rattle.nf_rational.specs.Order.{◌<ℚ◌}
-use Rattle.nf_rational_laws.proofs.Polynomial.{reading_of}
-use Rattle.nf_rational_laws.proofs.Order.{less_ps}
-use Rattle.nf_rational_laws.proofs.Linear.{eq, linear_eq}
-use Rattle.nf_model.specs.Curve.{Point, slope, TimesRise, IsCurve, AreSlopes}
-use Rattle.nf_model_laws.proofs.Affine.{same_from_times}
-use Rattle.nf_model_laws.proofs.Curves.{slope-times, TimesRise-rest}
-use Rattle.nf_thin_def.specs.ReportCurves.{keeps_slope, with_point, with_rate}
+use Rattle.nf_phase_laws.proofs.Common.{◌-◌, ◌+◌, Option, Some, None, take, last_or, option_map_or, same_Some, ℚ, 0ℚ, ◌-ℚ◌, ◌*ℚ◌, ◌<ℚ◌, reading_of, less_ps, eq}
+use Rattle.nf_phase_laws.proofs.Common.{linear_eq, Point, slope, TimesRise, IsCurve, AreSlopes, same_from_times, slope-times, TimesRise-rest, keeps_slope}
+use Rattle.nf_phase_laws.proofs.Common.{with_point, with_rate, LastPoint, GoesOnTo, last-append, false≢true}
 use Rattle.nf_thin_def.specs.Ends.{end_of}
-use Rattle.nf_phase_laws.specs.CurveSteps.{LastPoint, GoesOnTo}
 use Rattle.nf_phase_laws.proofs.CurveSteps.{GoesOnTo-appended, GoesOnTo-replaced}
-use Rattle.nf_rational_laws.proofs.Entries.{last-append}
-use Rattle.std.proofs.lemmas.Bool.{false≢true}
 use Rattle.nf_rational_laws.proofs.SignTests.{same_of_test}
 
 -- ---- the slope from one point to another

@@ -1,23 +1,10 @@
 -- The queue of a link over one phase. Here c is the capacity, s the slack at the beginning and n the slack after the time t by departure.
 -- The slopes at tail and head are l and m; the flow is x by departure and r by time.
 use Rattle.std.proofs.Common.{◌≡◌, [], ◌∷◌, ◌⊎◌, ⊎_elim, Option, Some, None, sym, subst, refl}
-use Rattle.nf_rational.specs.Rational.{ℚ}
-use Rattle.nf_rational.specs.Operations.{0ℚ, ◌+ℚ◌, ◌-ℚ◌, ◌*ℚ◌}
-use Rattle.nf_rational.specs.Order.{◌≤ℚ◌, ◌<ℚ◌, max_ℚ}
-use Rattle.nf_rational_laws.proofs.Polynomial.{reading_of}
-use Rattle.nf_rational_laws.proofs.Order.{≤ℚ_of_same, ≤ℚ_of_lt, ≤ℚ_antisymm, lt_or_le_ℚ, not_both_ℚ}
-use Rattle.nf_rational_laws.proofs.Linear.{le, lt, eq, le_times, eq_times, linear_le, linear_eq, linear_false}
-use Rattle.nf_model.specs.Queue.{IsQueue}
-use Rattle.nf_model_laws.specs.Affine.{IsAffine}
-use Rattle.nf_model_laws.specs.Capacity.{IsPositive}
-use Rattle.nf_model_laws.proofs.Affine.{le_from_times}
-use Rattle.nf_model_laws.proofs.Queues.{IsQueue-none}
-use Rattle.nf_model_laws.proofs.Step.{IsQueue-step, IsQueue-step_empty}
-use Rattle.nf_phase_laws.specs.Invariant.{queue_by_slack}
+use Rattle.nf_phase_laws.proofs.Common.{ℚ, 0ℚ, ◌+ℚ◌, ◌-ℚ◌, ◌*ℚ◌, ◌≤ℚ◌, ◌<ℚ◌, max_ℚ, reading_of, ≤ℚ_of_same, ≤ℚ_of_lt, ≤ℚ_antisymm, lt_or_le_ℚ, not_both_ℚ, le}
+use Rattle.nf_phase_laws.proofs.Common.{lt, eq, le_times, eq_times, linear_le, linear_eq, linear_false, IsQueue, IsAffine, IsPositive, le_from_times}
+use Rattle.nf_phase_laws.proofs.Common.{IsQueue-none, IsQueue-step, IsQueue-step_empty, queue_by_slack, ≤ℚ_trans, max0_none, max0_of, times_second_zero}
 use Rattle.nf_phase_laws.proofs.Thin.{LinkLaw}
-use Rattle.nf_rational_laws.proofs.Chains.{≤ℚ_trans}
-use Rattle.nf_rational_laws.proofs.Tests.{max0_none, max0_of}
-use Rattle.nf_rational_laws.proofs.Facts.{times_second_zero}
 
 queue_goal : (r c l x q t y : ℚ) → r *ℚ l ≡ x → y ≡ q +ℚ (x -ℚ c *ℚ l) *ℚ t → (a : ℚ) → y ≡ q +ℚ (r -ℚ c) *ℚ ((a +ℚ l *ℚ t) -ℚ a)
 queue_goal r c l x q t y e f a = linear_eq (r ∷ c ∷ l ∷ x ∷ q ∷ t ∷ y ∷ a ∷ []) (eq_times t e ∷ eq f ∷ []) (search reading_of depth 12) tt tt

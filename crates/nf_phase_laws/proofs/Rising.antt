@@ -1,15 +1,7 @@
 -- The inflow of a link over one phase never falls.
 use Rattle.std.proofs.Common.{◌≡◌, [], ◌∷◌, ⊎_elim, sym, subst, ◌∙◌}
-use Rattle.nf_rational.specs.Rational.{ℚ}
-use Rattle.nf_rational.specs.Operations.{0ℚ, ◌+ℚ◌, ◌-ℚ◌, ◌*ℚ◌}
-use Rattle.nf_rational.specs.Order.{◌≤ℚ◌, ◌<ℚ◌}
-use Rattle.nf_rational_laws.proofs.Polynomial.{reading_of}
-use Rattle.nf_rational_laws.proofs.Order.{≤ℚ_of_same, ≤ℚ_of_lt, ≤ℚ_antisymm, lt_or_le_ℚ}
-use Rattle.nf_rational_laws.proofs.Linear.{le, eq, le_times, eq_times, linear_le, linear_eq}
-use Rattle.nf_model.specs.Curve.{Within, NeverFalls}
-use Rattle.nf_model_laws.specs.Affine.{IsAffine}
-use Rattle.nf_model_laws.proofs.Affine.{le_from_times}
-use Rattle.nf_rational_laws.proofs.Chains.{≤ℚ_refl, ≤ℚ_trans}
+use Rattle.nf_phase_laws.proofs.Common.{ℚ, 0ℚ, ◌+ℚ◌, ◌-ℚ◌, ◌*ℚ◌, ◌≤ℚ◌, ◌<ℚ◌, reading_of, ≤ℚ_of_same, ≤ℚ_of_lt, ≤ℚ_antisymm, lt_or_le_ℚ, le, eq, le_times}
+use Rattle.nf_phase_laws.proofs.Common.{eq_times, linear_le, linear_eq, Within, NeverFalls, IsAffine, le_from_times, ≤ℚ_refl, ≤ℚ_trans}
 
 -- Plain numbers: from a on at the rate r for the time l d, where r l = x.
 rate_nn : (r l x : ℚ) → 0ℚ <ℚ l → r *ℚ l ≡ x → 0ℚ ≤ℚ x → 0ℚ ≤ℚ r

@@ -1,19 +1,9 @@
 -- The report of a run is an equilibrium.
-use Rattle.std.proofs.Common.{◌≡◌, length, sym, subst, ◌∙◌}
-use Rattle.std.specs.Prelude.{Option, map}
+use Rattle.std.proofs.Common.{◌≡◌, length, sym, subst, ◌∙◌, Option, map}
 use Rattle.std.proofs.lemmas.List.{length-map}
-use Rattle.nf_rational.specs.Rational.{ℚ}
-use Rattle.nf_frac_def.specs.Passing.{Passing}
-use Rattle.nf_model.specs.Curve.{AreSlopes}
-use Rattle.nf_model.specs.Network.{Network, IsNetwork}
-use Rattle.nf_model.specs.Phases.{IsPhase}
-use Rattle.nf_model.specs.Equilibrium.{Trace, HasShape, HasSlopes, Equilibrium}
-use Rattle.nf_net_def.specs.declared.Cause.{Cause}
-use Rattle.nf_net_def.specs.Report.{Report}
-use Rattle.nf_thin_def.specs.ReportCurves.{GrowingCurve, LinkCurves}
-use Rattle.nf_thin_def.specs.PhaseRun.{Standing, Bounds, Goes, Runs, at_horizon, at_phases, fails, goes, IsPhaseRun, IsRunReport, flow_of}
-use Rattle.nf_thin_laws.proofs.Ending.{from_map, PhaseParts, phase_parts}
-use Rattle.nf_phase_laws.specs.CurveRun.{GrowByPhases, curves_of}
+use Rattle.nf_phase_laws.proofs.Common.{ℚ, Passing, AreSlopes, Network, IsNetwork, IsPhase, Trace, HasShape, HasSlopes, Equilibrium, Cause, Report}
+use Rattle.nf_phase_laws.proofs.Common.{GrowingCurve, LinkCurves, Standing, Bounds, Goes, Runs, at_horizon, at_phases, fails, goes, IsPhaseRun, IsRunReport}
+use Rattle.nf_phase_laws.proofs.Common.{flow_of, from_map, PhaseParts, phase_parts, GrowByPhases, curves_of}
 use Rattle.nf_phase_laws.proofs.Holds.{link_within}
 use Rattle.nf_phase_laws.proofs.CurveRun.{Grown, Equilibrium-grown}
 use Rattle.nf_phase_laws.proofs.WellRun.{WellRun, WellRun-start, GrowByPhases-start}

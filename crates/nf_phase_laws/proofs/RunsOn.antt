@@ -1,17 +1,8 @@
 -- Runs whose first phase may be the remainder of an interrupted one. A run from the start is not mid-phase.
 use Rattle.std.proofs.Common.{◌≡◌, ℕ, zero, suc, ◌<◌, [], ◌∷◌, length, Option, Some, None, slice_get, replicate, sym, ap, refl, ◌∙◌, arith}
-use Rattle.std.proofs.lemmas.Option.{slice_get_within}
-use Rattle.nf_rational.specs.Rational.{ℚ}
-use Rattle.nf_rational.specs.Operations.{0ℚ, ◌+ℚ◌, ◌-ℚ◌}
-use Rattle.nf_rational_laws.proofs.Polynomial.{reading_of}
-use Rattle.nf_rational_laws.proofs.Linear.{eq, linear_eq}
-use Rattle.nf_frac_def.specs.Passing.{Passing}
-use Rattle.nf_model.specs.Entries.{number_at}
-use Rattle.nf_model.specs.Network.{Link, Network, IsNetwork, IsLink}
-use Rattle.nf_model.specs.Pattern.{Pattern}
-use Rattle.nf_model_laws.specs.EarliestLaws.{AreTransitLabels}
+use Rattle.nf_phase_laws.proofs.Common.{slice_get_within, ℚ, 0ℚ, ◌+ℚ◌, ◌-ℚ◌, reading_of, eq, linear_eq, Passing, number_at, Link, Network, IsNetwork, IsLink}
+use Rattle.nf_phase_laws.proofs.Common.{Pattern, AreTransitLabels, Cause}
 use Rattle.nf_model_laws.proofs.EarliestTransits.{AreTransitLabels-least}
-use Rattle.nf_net_def.specs.declared.Cause.{Cause}
 use Rattle.nf_thin_def.specs.PhaseRun.{Standing, Bounds, IsStart}
 use Rattle.nf_phase_def.specs.Open.{Continues, Steps, continues, begins, RunsOn, at_horizon, at_phases, fails, steps}
 use Rattle.nf_phase_laws.proofs.WellRun.{WellRun, WellRun-counted}

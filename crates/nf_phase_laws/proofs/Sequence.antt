@@ -1,12 +1,7 @@
 -- The phases of a run are a phase sequence.
-use Rattle.std.proofs.Common.{◌≡◌, ℕ, suc, ◌+◌, List, [], ◌∷◌, length, sym, ap, refl, ◌∙◌, arith}
-use Rattle.std.specs.Prelude.{Option, Some, slice_get}
-use Rattle.nf_rational.specs.Rational.{ℚ}
-use Rattle.nf_frac_def.specs.Passing.{Passing}
-use Rattle.nf_model.specs.Network.{Network, IsNetwork}
-use Rattle.nf_model.specs.Phases.{IsPhase, PhasesFrom, IsPhaseSequence}
-use Rattle.nf_net_def.specs.declared.Cause.{Cause}
-use Rattle.nf_thin_def.specs.PhaseRun.{Standing, Bounds, Runs, at_horizon, at_phases, fails, goes, IsPhaseRun}
+use Rattle.std.proofs.Common.{◌≡◌, ℕ, suc, ◌+◌, List, [], ◌∷◌, length, sym, ap, refl, ◌∙◌, arith, Option, Some, slice_get}
+use Rattle.nf_phase_laws.proofs.Common.{ℚ, Passing, Network, IsNetwork, IsPhase, PhasesFrom, IsPhaseSequence, Cause, Standing, Bounds, Runs, at_horizon}
+use Rattle.nf_phase_laws.proofs.Common.{at_phases, fails, goes, IsPhaseRun}
 use Rattle.nf_thin_laws.proofs.Agree.{IsPhaseSequence-agree}
 use Rattle.nf_phase_laws.specs.RunLaws.{reached_by}
 use Rattle.nf_phase_laws.proofs.WellRun.{WellRun, WellRun-start}

@@ -1,18 +1,9 @@
 -- Curves in short form stay in short form when extended by a point: no inner point has equal slopes on both sides.
-use Rattle.std.proofs.Common.{◌≡◌, List, [], ◌∷◌, ◌++◌, length, Bool, true, false, sym, ap, subst, refl, ◌∙◌, append_assoc}
-use Rattle.std.specs.Prelude.{◌-◌, Option, Some, None, take}
-use Rattle.std.specs.List.{last_or}
-use Rattle.std.proofs.lemmas.Option.{same_Some}
-use Rattle.nf_rational.specs.Rational.{ℚ}
-use Rattle.nf_model.specs.Curve.{Point, slope, AreSlopes, IsShort}
-use Rattle.nf_model.specs.Equilibrium.{Trace}
-use Rattle.nf_rational.specs.Signs.{is_same}
-use Rattle.nf_thin_def.specs.ReportCurves.{GrowingCurve, keeps_slope, with_point, with_rate, curve_with, trace_with, trace_after, queue_after}
-use Rattle.nf_thin_def.specs.CurveList.{QueueStep}
+use Rattle.std.proofs.Common.{◌≡◌, List, [], ◌∷◌, ◌++◌, length, Bool, true, false, sym, ap, subst, refl, ◌∙◌, append_assoc, ◌-◌, Option, Some, None, take}
+use Rattle.nf_phase_laws.proofs.Common.{last_or, same_Some, ℚ, Point, slope, AreSlopes, IsShort, Trace, is_same, GrowingCurve, keeps_slope, with_point}
+use Rattle.nf_phase_laws.proofs.Common.{with_rate, curve_with, trace_with, trace_after, queue_after, QueueStep, last-append, false≢true}
 use Rattle.nf_phase_laws.proofs.Points.{taken, EndsWithSlope, LastSlope, LastSlope-rates}
-use Rattle.nf_rational_laws.proofs.Entries.{last-append}
 use Rattle.nf_rational_laws.proofs.SignTests.{same_of_test, is_same-itself}
-use Rattle.std.proofs.lemmas.Bool.{false≢true}
 
 -- ---- the slope of the last two points
 abbrev last_slope : List Point → Option ℚ

@@ -1,28 +1,15 @@
 -- The curves of a run are in short form in every state, and its labels are their values.
-use Rattle.std.proofs.Common.{◌≡◌, ℕ, zero, suc, ◌<◌, List, [], ◌∷◌, length, Bool, true, false, ap, sym, subst, refl, ◌∙◌, arith}
-use Rattle.std.specs.Prelude.{Option, Some, slice_get}
-use Rattle.std.proofs.lemmas.Option.{none-some, same_Some}
-use Rattle.nf_rational.specs.Rational.{ℚ}
-use Rattle.nf_rational.specs.Operations.{◌+ℚ◌}
-use Rattle.nf_frac_def.specs.Passing.{Passing}
-use Rattle.nf_model.specs.Entries.{number_at}
-use Rattle.nf_model.specs.Curve.{IsShort, AreSlopes}
-use Rattle.nf_model.specs.Network.{Link, Network, IsNetwork}
-use Rattle.nf_model.specs.Pattern.{Pattern}
-use Rattle.nf_net_def.specs.declared.Cause.{Cause}
-use Rattle.nf_net_def.specs.Report.{Report}
-use Rattle.nf_rational.specs.Signs.{is_positive}
-use Rattle.nf_thin_def.specs.CurveList.{LinkStep}
-use Rattle.nf_thin_def.specs.ReportCurves.{GrowingCurve, LinkCurves, curve_with, label_curves_after, curves_after, link_curves_after, first_label_curve, first_trace, first_queue, first_curves}
+use Rattle.std.proofs.Common.{◌≡◌, ℕ, zero, suc, ◌<◌, List, [], ◌∷◌, length, Bool, true, false, ap, sym, subst, refl, ◌∙◌, arith, Option, Some, slice_get}
+use Rattle.nf_phase_laws.proofs.Common.{none-some, same_Some, ℚ, ◌+ℚ◌, Passing, number_at, IsShort, AreSlopes, Link, Network, IsNetwork, Pattern, Cause, Report}
+use Rattle.nf_phase_laws.proofs.Common.{is_positive, LinkStep, GrowingCurve, LinkCurves, curve_with, label_curves_after, curves_after, link_curves_after}
+use Rattle.nf_phase_laws.proofs.Common.{first_label_curve, first_trace, first_queue, first_curves, from_map, entry}
 use Rattle.nf_thin_def.specs.PhaseRun.{Standing, PhaseStep, Bounds, IsStart, Goes, Runs, at_horizon, at_phases, fails, goes, IsPhaseRun, IsRunReport, IsShortFlow, standing_after, flow_of}
-use Rattle.nf_thin_laws.proofs.Ending.{from_map}
 use Rattle.nf_phase_laws.specs.RunLaws.{KeepsLabels}
 use Rattle.nf_phase_laws.proofs.Points.{LastSlope}
 use Rattle.nf_phase_laws.proofs.Short.{IsShortCurve, IsShortCurve-with, IsShortCurve-queue, IsShort-trace}
 use Rattle.nf_phase_laws.proofs.WellRun.{label_points, inflow_points, outflow_points, queue_points, WellRun, WellRun-start}
 use Rattle.nf_phase_laws.proofs.Run.{WellRun-goes}
 use Rattle.nf_phase_laws.proofs.Standing.{grown_at, label_count_at}
-use Rattle.nf_rational_laws.proofs.Entries.{entry}
 
 -- ---- the properties
 pub record AreShort (curves : LinkCurves) : Type 0 where
@@ -138,7 +125,7 @@ module _ (passes : Passing) (net : Network) (good : IsNetwork net) (bounds : Bou
       let after : WellRun net (standing_after net s g.pattern g.slopes g.step) = subst (WellRun net) g.new_is (WellRun-goes passes net good bounds s t g well) in
       subst ShortRun (sym g.new_is) (ShortRun-after net s g.pattern g.slopes g.step well after short)
 
-  stands_at : (s last : Standing) (stop : Option (Cause ℚ)) → WellRun net s → ShortRun s → Runs passes net bounds s last stop → WellRun net last × ShortRun last
+  pub stands_at : (s last : Standing) (stop : Option (Cause ℚ)) → WellRun net s → ShortRun s → Runs passes net bounds s last stop → WellRun net last × ShortRun last
   stands_at s last stop well short (at_horizon e) = (well, short)
   stands_at s last stop well short (at_phases below e) = (well, short)
   stands_at s last stop well short (fails may f) = (well, short)

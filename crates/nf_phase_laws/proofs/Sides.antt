@@ -1,19 +1,10 @@
 -- The time for which a link stays on its side: inactive with slack at most 0, or resetting with slack at least 0.
-use Rattle.std.proofs.Common.{◌≡◌, [], ◌∷◌, ◌⊎◌, inl, inr, ⊎_elim, Bool, true, false, sym, refl}
-use Rattle.std.specs.Prelude.{◌&&◌, ◌||◌}
-use Rattle.nf_rational.specs.Rational.{ℚ}
-use Rattle.nf_rational.specs.Operations.{0ℚ, ◌+ℚ◌, ◌-ℚ◌, ◌*ℚ◌, ◌/ℚ◌}
-use Rattle.nf_rational.specs.Order.{◌≤ℚ◌, ◌<ℚ◌, le_ℚ, lt_ℚ}
-use Rattle.nf_rational_laws.proofs.Polynomial.{reading_of}
-use Rattle.nf_rational_laws.proofs.Linear.{le, lt, eq, le_times, linear_le, linear_false}
-use Rattle.nf_rational_laws.proofs.Order.{lt_or_le_ℚ, ps_times, less_ps, ≤ℚ_antisymm, ≤ℚ_of_lt}
+use Rattle.std.proofs.Common.{◌≡◌, [], ◌∷◌, ◌⊎◌, inl, inr, ⊎_elim, Bool, true, false, sym, refl, ◌&&◌, ◌||◌}
+use Rattle.nf_phase_laws.proofs.Common.{ℚ, 0ℚ, ◌+ℚ◌, ◌-ℚ◌, ◌*ℚ◌, ◌/ℚ◌, ◌≤ℚ◌, ◌<ℚ◌, le_ℚ, lt_ℚ, reading_of, le, lt, eq, le_times, linear_le, linear_false}
+use Rattle.nf_phase_laws.proofs.Common.{lt_or_le_ℚ, ps_times, less_ps, ≤ℚ_antisymm, ≤ℚ_of_lt, le_of_test, less_of_test, test_of_less, not_less_of_test, Within}
+use Rattle.nf_phase_laws.proofs.Common.{is_zero, are_opposite, ≤ℚ_refl, ≤ℚ_trans, and_parts, false≢true, or_cases}
 use Rattle.nf_rational_laws.proofs.Quotient.{ps_apart, /ℚ-times}
-use Rattle.nf_rational_laws.proofs.Tests.{le_of_test, less_of_test, test_of_less, not_less_of_test}
-use Rattle.nf_model.specs.Curve.{Within}
-use Rattle.nf_rational.specs.Signs.{is_zero, are_opposite}
 use Rattle.nf_phase_laws.proofs.Limits.{HoldsUpTo, HoldsAlways}
-use Rattle.nf_rational_laws.proofs.Chains.{≤ℚ_refl, ≤ℚ_trans}
-use Rattle.std.proofs.lemmas.Bool.{and_parts, false≢true, or_cases}
 
 pub record KeepsSide (slack change length : ℚ) : Type 0 where
   pub inactive : (while : ℚ) → slack <ℚ 0ℚ → Within 0ℚ length while → (slack +ℚ while *ℚ change) ≤ℚ 0ℚ

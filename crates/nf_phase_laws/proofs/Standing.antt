@@ -1,24 +1,11 @@
 -- Facts on labels and curves in every run state.
-use Rattle.std.proofs.Common.{◌≡◌, ℕ, ◌<◌, List, length, sym, ap, subst, ◌∙◌, arith}
-use Rattle.std.specs.Prelude.{Option, None}
-use Rattle.std.specs.Option.{option_map_or}
-use Rattle.std.proofs.lemmas.Option.{slice_get_within}
-use Rattle.nf_rational.specs.Rational.{ℚ}
-use Rattle.nf_rational.specs.Operations.{0ℚ}
-use Rattle.nf_rational.specs.Order.{◌≤ℚ◌}
-use Rattle.nf_model.specs.Entries.{number_at}
-use Rattle.nf_model.specs.Curve.{Point, Within}
-use Rattle.nf_model.specs.Network.{Link, Network, IsNetwork, IsLink, hop_of}
-use Rattle.nf_model.specs.ThinFlow.{slack}
-use Rattle.nf_thin_def.specs.PhaseRun.{Standing, flow_of}
+use Rattle.std.proofs.Common.{◌≡◌, ℕ, ◌<◌, List, length, sym, ap, subst, ◌∙◌, arith, Option, None}
+use Rattle.nf_phase_laws.proofs.Common.{option_map_or, slice_get_within, ℚ, 0ℚ, ◌≤ℚ◌, number_at, Point, Within, Link, Network, IsNetwork, IsLink, hop_of, slack}
+use Rattle.nf_phase_laws.proofs.Common.{Standing, flow_of, LastPoint, at, Curves, curves_of, last-append, ≤ℚ_refl}
 use Rattle.nf_thin_def.specs.Ends.{end_of, EndsAtLabels}
-use Rattle.nf_phase_laws.specs.CurveSteps.{LastPoint, at}
-use Rattle.nf_phase_laws.specs.CurveRun.{Curves, curves_of}
 use Rattle.nf_phase_laws.proofs.CurveRun.{Grown}
 use Rattle.nf_phase_laws.proofs.Thin.{slack-is}
 use Rattle.nf_phase_laws.proofs.WellRun.{label_points, inflow_points, outflow_points, queue_points, WellRun}
-use Rattle.nf_rational_laws.proofs.Entries.{last-append}
-use Rattle.nf_rational_laws.proofs.Chains.{≤ℚ_refl}
 
 pub end-last : (points : List Point) (last : Point) → LastPoint points last → end_of points ≡ last.0
 end-last points last l = ap end_of l.same ∙ ap (λ (o : Option Point). option_map_or (λ (p : Point). p.0) o 0ℚ) (last-append None l.front last)

@@ -1,29 +1,14 @@
 -- The invariant of phases at the start: nothing has entered a link, and the labels are the least transit sums.
 use Rattle.std.proofs.Common.{◌≡◌, ◌≢◌, ℕ, ◌<◌, List, [], ◌∷◌, ⊎_elim, true, false, eqb, sym, ap, subst, ◌∙◌}
 use Rattle.std.proofs.lemmas.Bool.Decides.{eqb_tells}
-use Rattle.std.proofs.lemmas.Option.{slice_get_within}
-use Rattle.nf_rational.specs.Rational.{ℚ}
-use Rattle.nf_rational.specs.Operations.{0ℚ, ◌+ℚ◌, ◌-ℚ◌}
-use Rattle.nf_rational.specs.Order.{◌≤ℚ◌}
-use Rattle.nf_rational_laws.proofs.Polynomial.{reading_of}
-use Rattle.nf_rational_laws.proofs.Order.{≤ℚ_of_same, ≤ℚ_antisymm, nn_plus, not_both_ℚ}
-use Rattle.nf_rational_laws.proofs.Linear.{le, eq, linear_le, linear_eq}
-use Rattle.nf_model.specs.Entries.{number_at}
-use Rattle.nf_model.specs.Curve.{Within}
-use Rattle.nf_model.specs.Walk.{IsWalk, IsLeastTransit, transit_sum}
-use Rattle.nf_model.specs.Network.{Link, Network, IsNetwork, IsLink, hops, sum_in, sum_out, supply}
-use Rattle.nf_model.specs.Queue.{IsQueue}
-use Rattle.nf_model.specs.Phases.{AreStartLabels}
-use Rattle.nf_model_laws.specs.EarliestLaws.{AreTransitLabels}
-use Rattle.nf_model_laws.proofs.Networks.{IsWalk-starts, StartsWith, transit_of-is}
-use Rattle.nf_model_laws.proofs.Earliest.{IsPositive-link}
+use Rattle.nf_phase_laws.proofs.Common.{slice_get_within, ℚ, 0ℚ, ◌+ℚ◌, ◌-ℚ◌, ◌≤ℚ◌, reading_of, ≤ℚ_of_same, ≤ℚ_antisymm, nn_plus, not_both_ℚ, le, eq, linear_le}
+use Rattle.nf_phase_laws.proofs.Common.{linear_eq, number_at, Within, IsWalk, IsLeastTransit, transit_sum, Link, Network, IsNetwork, IsLink, hops, sum_in}
+use Rattle.nf_phase_laws.proofs.Common.{sum_out, supply, IsQueue, AreStartLabels, AreTransitLabels, IsWalk-starts, StartsWith, transit_of-is, IsPositive-link}
+use Rattle.nf_phase_laws.proofs.Common.{sum_in-same, sum_out-same, sum_in-none, sum_out-none, supplied-begins, link_slack, queue_by_slack, sent, HoldsUpTo}
+use Rattle.nf_phase_laws.proofs.Common.{IsStart, ≤ℚ_refl}
 use Rattle.nf_model_laws.proofs.EarliestTransits.{AreTransitLabels-least}
-use Rattle.nf_model_laws.proofs.Sums.{sum_in-same, sum_out-same, sum_in-none, sum_out-none}
-use Rattle.nf_model_laws.proofs.Supply.{supplied-begins}
-use Rattle.nf_phase_laws.specs.Invariant.{link_slack, queue_by_slack, sent, HoldsUpTo, IsStart}
 use Rattle.nf_phase_laws.proofs.Idle.{queue_by_slack-low, IsQueue-before_any}
 use Rattle.nf_phase_laws.proofs.Holds.{sent-is}
-use Rattle.nf_rational_laws.proofs.Chains.{≤ℚ_refl}
 
 -- no walk has a negative transit sum
 pub transit_sum-not_negative : (net : Network) → IsNetwork net → (walk : List ℕ) (u v : ℕ) → IsWalk (hops net) walk u v → 0ℚ ≤ℚ transit_sum (hops net) walk

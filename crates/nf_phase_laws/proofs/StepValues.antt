@@ -1,29 +1,13 @@
 -- The values of the curve list for a link, in terms of the model's definitions.
-use Rattle.std.proofs.Common.{◌≡◌, ℕ, zero, suc, ◌+◌, List, [], ◌∷◌, length, Bool, true, false, ⊎_elim, sym, ap, refl, ◌∙◌, arith}
-use Rattle.std.specs.Prelude.{Option, Some, None, Result, Ok, slice_get}
-use Rattle.std.specs.List.{enumerate_from}
-use Rattle.std.proofs.lemmas.Option.{none-some}
-use Rattle.nf_rational.specs.Rational.{ℚ}
-use Rattle.nf_rational.specs.Operations.{0ℚ, ◌+ℚ◌, ◌-ℚ◌, ◌*ℚ◌, ◌/ℚ◌}
-use Rattle.nf_rational.specs.Order.{◌≤ℚ◌, ◌<ℚ◌, lt_ℚ}
-use Rattle.nf_rational_laws.proofs.Order.{≤ℚ_of_lt}
-use Rattle.nf_rational_laws.proofs.Tests.{lt_ℚ_cases, max0_of}
-use Rattle.nf_rational_laws.proofs.Entries.{length-enumerated}
+use Rattle.std.proofs.Common.{◌≡◌, ℕ, ◌+◌, List, length, Bool, true, false, ⊎_elim, sym, ap, refl, ◌∙◌, arith, Option, Some, None, Ok, slice_get}
+use Rattle.nf_phase_laws.proofs.Common.{enumerate_from, ℚ, 0ℚ, ◌+ℚ◌, ◌-ℚ◌, ◌*ℚ◌, ◌/ℚ◌, ◌≤ℚ◌, ◌<ℚ◌, lt_ℚ, ≤ℚ_of_lt, lt_ℚ_cases, max0_of, length-enumerated}
+use Rattle.nf_phase_laws.proofs.Common.{Passing, number_at, Link, Network, IsLink, Sets, Pattern, is_positive, never, enumerated, queue_by_slack, false≢true}
 use Rattle.nf_frac_def.proofs.Binding.{bind_at}
-use Rattle.nf_frac_def.specs.Passing.{Passing}
-use Rattle.nf_frac_def.specs.Checked.{Checked, checked, each, ◌>>=◌}
-use Rattle.nf_model.specs.Entries.{number_at}
-use Rattle.nf_model.specs.Network.{Link, Network, IsLink}
-use Rattle.nf_model.specs.ThinFlow.{Sets}
-use Rattle.nf_model.specs.Pattern.{Pattern}
-use Rattle.nf_rational.specs.Signs.{is_positive}
+use Rattle.nf_frac_def.proofs.Each.{each_length, each_at}
+use Rattle.nf_frac_def.specs.Checked.{Checked, checked, ◌>>=◌}
 use Rattle.nf_thin_def.specs.CurveList.{QueueStep, LinkStep, LinkPhase, rate_over, size_at, slope_at, queue_step, link_step, link_phase, curve_list}
-use Rattle.nf_frac_def.specs.Passing.{never}
 use Rattle.nf_thin_laws.proofs.Exact.{curve_list_as}
-use Rattle.nf_thin_laws.proofs.Ending.{each_cons, enumerated}
-use Rattle.nf_phase_laws.specs.Invariant.{queue_by_slack}
 use Rattle.nf_phase_laws.proofs.Idle.{queue_by_slack-low}
-use Rattle.std.proofs.lemmas.Bool.{false≢true}
 
 -- ---- the values
 abbrev pub filled_slope : Bool → Option ℚ → ℚ → ℚ
@@ -101,34 +85,11 @@ step_exact length so_far link =
     ∙ bind_at (queue_step never link into) (queue_value link into) (λ queue. Ok (record { amount = amount; inflow_rate = into; outflow_rate = out; queue = queue })) (queue_exact link into)
 
 -- ---- each entry has its value
-module _ {A B E : Type 0} (f : A → Result B E) where
-  each_found : (xs : List A) (ys : List B) → each f xs ≡ Ok ys → (e : ℕ) (x : A) → slice_get xs e ≡ Some x → (y : B) × (slice_get ys e ≡ Some y) × (f x ≡ Ok y)
-  each_found [] ys h e x at = absurd (none-some x at)
-  each_found (w ∷ xs) ys h zero x at =
-      let c = each_cons f w xs ys h in
-      (c.0, ap (λ (l : List B). slice_get l 0) (sym c.4), ap (λ (o : A). f o) (first w x at) ∙ c.2)
-    where
-      first : (w x : A) → Some w ≡ Some x → x ≡ w
-      first w x e = cc
-  each_found (w ∷ xs) ys h (suc e) x at =
-      let c = each_cons f w xs ys h in
-      let rest = each_found xs c.1 c.3 e x at in
-      (rest.0, ap (λ (l : List B). slice_get l (suc e)) (sym c.4) ∙ rest.1, rest.2)
-
-  each-length : (xs : List A) (ys : List B) → each f xs ≡ Ok ys → length ys ≡ length xs
-  each-length [] ys h = ap length (none ys h)
-    where
-      none : (ys : List B) → ◌≡◌ {A = Result (List B) E} (Ok []) (Ok ys) → ys ≡ []
-      none ys e = cc
-  each-length (w ∷ xs) ys h =
-      let c = each_cons f w xs ys h in
-      ap length (sym c.4) ∙ ap suc (each-length xs c.1 c.3)
-
 pub steps-length : (passes : Passing) (net : Network) (sets : Sets) (pattern : Pattern) (while : ℚ) (flows slopes labels amounts : List ℚ) (steps : List LinkStep)
     → curve_list passes net sets pattern while flows slopes labels amounts ≡ Ok steps → length steps ≡ length net.links
 unfolding curve_list
 steps-length passes net sets pattern while flows slopes labels amounts steps h =
-    each-length (λ (numbered : ℕ × Link). link_step passes while (number_at amounts numbered.0) (link_phase sets pattern flows slopes labels numbered)) (enumerate_from 0 net.links) steps h
+    each_length (λ (numbered : ℕ × Link). link_step passes while (number_at amounts numbered.0) (link_phase sets pattern flows slopes labels numbered)) (enumerate_from 0 net.links) steps h
     ∙ length-enumerated 0 net.links
 
 pub step_value_at : (passes : Passing) (net : Network) (sets : Sets) (pattern : Pattern) (length : ℚ) (flows slopes labels amounts : List ℚ) (steps : List LinkStep)
@@ -136,8 +97,8 @@ pub step_value_at : (passes : Passing) (net : Network) (sets : Sets) (pattern : 
     → slice_get steps e ≡ Some (step_value length (number_at amounts e) (link_phase sets pattern flows slopes labels (e, link)))
 unfolding curve_list
 step_value_at passes net sets pattern length flows slopes labels amounts steps h e link p =
-    let found = each_found (λ (numbered : ℕ × Link). link_step never length (number_at amounts numbered.0) (link_phase sets pattern flows slopes labels numbered)) (enumerate_from 0 net.links) steps
-    (curve_list_as passes net sets pattern length flows slopes labels amounts steps h) e (0 + e, link) (enumerated 0 net.links e link p) in
+    let found = each_at (λ (numbered : ℕ × Link). link_step never length (number_at amounts numbered.0) (link_phase sets pattern flows slopes labels numbered)) (enumerate_from 0 net.links) steps
+    e (0 + e, link) (curve_list_as passes net sets pattern length flows slopes labels amounts steps h) (enumerated 0 net.links e link p) in
     found.1 ∙ ap (λ (s : LinkStep). Some s) (same found.0 (step_value length (number_at amounts (0 + e)) (link_phase sets pattern flows slopes labels (0 + e, link)))
     (sym found.2 ∙ step_exact length (number_at amounts (0 + e)) (link_phase sets pattern flows slopes labels (0 + e, link))))
     ∙ ap (λ (i : ℕ). Some (step_value length (number_at amounts i) (link_phase sets pattern flows slopes labels (i, link)))) (let z : 0 + e ≡ e = omega arith in z)

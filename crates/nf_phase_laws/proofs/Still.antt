@@ -2,26 +2,12 @@
 -- has a constant label. Repeating this leads back along active links without end, but these close no cycle.
 use Rattle.std.proofs.Common.{◌≡◌, ◌≢◌, ℕ, ◌<◌, List, [], ◌∷◌, ◌⊎◌, inr, ⊎_elim, Bool, true, false, eqb, Option, Some, None, slice_get, sym, ap, subst, refl, ◌∙◌}
 use Rattle.std.proofs.lemmas.Bool.Decides.{eqb_tells}
-use Rattle.nf_rational.specs.Rational.{ℚ}
-use Rattle.nf_rational.specs.Operations.{0ℚ, 1ℚ, ◌+ℚ◌, ◌-ℚ◌, ◌*ℚ◌, ◌/ℚ◌}
-use Rattle.nf_rational.specs.Order.{◌≤ℚ◌, ◌<ℚ◌, max_ℚ}
-use Rattle.nf_rational_laws.proofs.Polynomial.{reading_of}
-use Rattle.nf_rational_laws.proofs.Order.{≤ℚ_of_same, ≤ℚ_of_lt, ≤ℚ_antisymm, lt_or_le_ℚ, not_both_ℚ}
-use Rattle.nf_rational_laws.proofs.Tests.{max_ℚ_cases}
-use Rattle.nf_rational_laws.proofs.Linear.{le, lt, eq, le_times, linear_le, linear_lt, linear_false}
-use Rattle.nf_model.specs.Entries.{number_at, Has}
-use Rattle.nf_model.specs.Walk.{IsWalk, transit_sum}
-use Rattle.nf_model.specs.Network.{Link, Network, IsNetwork, IsLink, hop_of, hops, sum_in, sum_out}
-use Rattle.nf_model.specs.ThinFlow.{slack, sets_at, exit_slope, IsThinFlow}
-use Rattle.nf_model_laws.specs.Capacity.{IsPositive}
-use Rattle.nf_model_laws.proofs.Affine.{quotient-times}
+use Rattle.nf_phase_laws.proofs.Common.{ℚ, 0ℚ, 1ℚ, ◌+ℚ◌, ◌-ℚ◌, ◌*ℚ◌, ◌/ℚ◌, ◌≤ℚ◌, ◌<ℚ◌, max_ℚ, reading_of, ≤ℚ_of_same, ≤ℚ_of_lt, ≤ℚ_antisymm, lt_or_le_ℚ}
+use Rattle.nf_phase_laws.proofs.Common.{not_both_ℚ, max_ℚ_cases, le, lt, eq, le_times, linear_le, linear_lt, linear_false, number_at, Has, IsWalk, transit_sum}
+use Rattle.nf_phase_laws.proofs.Common.{Link, Network, IsNetwork, IsLink, hop_of, hops, sum_in, sum_out, slack, sets_at, exit_slope, IsThinFlow, IsPositive}
+use Rattle.nf_phase_laws.proofs.Common.{quotient-times, IsWalk-link, transit_of-is, IsPositive-link, slack_of_active, sum_out-each, sum_in-some, ≤ℚ_trans}
 use Rattle.nf_model_laws.proofs.Ways.{way_back}
-use Rattle.nf_model_laws.proofs.Networks.{IsWalk-link, transit_of-is}
-use Rattle.nf_model_laws.proofs.Earliest.{IsPositive-link}
-use Rattle.nf_model_laws.proofs.Slacks.{slack_of_active}
-use Rattle.nf_model_laws.proofs.Sums.{sum_out-each, sum_in-some}
 use Rattle.nf_model_laws.proofs.Totals.{IsThinFlow-sink}
-use Rattle.nf_rational_laws.proofs.Chains.{≤ℚ_trans}
 
 -- ---- a link with flow whose exit slope is 0 is unbounded, and the label of its tail is constant
 no_quotient : (x c q : ℚ) → 0ℚ <ℚ c → 0ℚ <ℚ x → q *ℚ c ≡ x → q ≤ℚ 0ℚ → ⊥

@@ -1,33 +1,14 @@
 -- A thin flow for the sets of the slacks, link by link, in the form that a phase requires.
 use Rattle.std.proofs.Common.{◌≡◌, ◌≢◌, ℕ, ◌<◌, List, [], ◌∷◌, ◌⊎◌, inl, inr, ⊎_elim, Bool, true, false, Option, Some, None, slice_get, sym, ap, subst, refl, ◌∙◌}
-use Rattle.std.specs.Prelude.{unwrap_or}
-use Rattle.nf_rational.specs.Rational.{ℚ}
-use Rattle.nf_rational.specs.Operations.{0ℚ, 1ℚ, ◌+ℚ◌, ◌-ℚ◌, ◌*ℚ◌, ◌/ℚ◌}
-use Rattle.nf_rational.specs.Order.{◌≤ℚ◌, ◌<ℚ◌, max_ℚ}
-use Rattle.nf_rational_laws.proofs.Polynomial.{reading_of}
-use Rattle.nf_rational_laws.proofs.Order.{≤ℚ_of_same, ≤ℚ_of_lt, not_both_ℚ}
-use Rattle.nf_rational_laws.proofs.Tests.{max_ℚ_cases}
-use Rattle.nf_rational_laws.proofs.Linear.{le, lt, eq, le_times, linear_le, linear_eq, linear_false}
-use Rattle.nf_model.specs.Entries.{number_at}
-use Rattle.nf_model.specs.Curve.{Within}
-use Rattle.nf_model.specs.Walk.{IsWalk, transit_sum}
-use Rattle.nf_model.specs.Network.{Link, Network, IsNetwork, IsLink, hop_of, hops, sum_in, sum_out}
-use Rattle.nf_model.specs.Earliest.{Arrives, IsEarliest}
-use Rattle.nf_model.specs.ThinFlow.{slack, sets_at, exit_slope, exit_slope_at, Enters, IsThinFlow}
-use Rattle.nf_model_laws.specs.Capacity.{IsPositive}
-use Rattle.nf_model_laws.proofs.Affine.{quotient-times}
-use Rattle.nf_model_laws.proofs.Queues.{IsExit-after}
-use Rattle.nf_model_laws.proofs.Networks.{IsWalk-link, transit_of-is}
-use Rattle.nf_model_laws.proofs.Earliest.{IsPositive-link}
-use Rattle.nf_model_laws.proofs.Slacks.{active_of_slack, slack_of_active, resetting_of_slack, slack_of_resetting}
+use Rattle.nf_phase_laws.proofs.Common.{unwrap_or, ℚ, 0ℚ, 1ℚ, ◌+ℚ◌, ◌-ℚ◌, ◌*ℚ◌, ◌/ℚ◌, ◌≤ℚ◌, ◌<ℚ◌, max_ℚ, reading_of, ≤ℚ_of_same, ≤ℚ_of_lt, not_both_ℚ}
+use Rattle.nf_phase_laws.proofs.Common.{max_ℚ_cases, le, lt, eq, le_times, linear_le, linear_eq, linear_false, number_at, Within, IsWalk, transit_sum, Link}
+use Rattle.nf_phase_laws.proofs.Common.{Network, IsNetwork, IsLink, hop_of, hops, sum_in, sum_out, Arrives, IsEarliest, slack, sets_at, exit_slope}
+use Rattle.nf_phase_laws.proofs.Common.{exit_slope_at, Enters, IsThinFlow, IsPositive, quotient-times, IsExit-after, IsWalk-link, transit_of-is}
+use Rattle.nf_phase_laws.proofs.Common.{IsPositive-link, active_of_slack, slack_of_active, resetting_of_slack, slack_of_resetting, link_slack, HoldsUpTo}
+use Rattle.nf_phase_laws.proofs.Common.{≤ℚ_refl, max_left, plus_zero_le, same_Some}
 use Rattle.nf_model_laws.proofs.Totals.{IsThinFlow-sink}
 use Rattle.nf_thin_laws.proofs.LinkLaws.{full_of}
-use Rattle.nf_phase_laws.specs.Invariant.{link_slack, HoldsUpTo}
 use Rattle.nf_phase_laws.proofs.Holds.{labels_earliest}
-use Rattle.nf_rational_laws.proofs.Chains.{≤ℚ_refl}
-use Rattle.nf_rational_laws.proofs.Extremes.{max_left}
-use Rattle.nf_rational_laws.proofs.Facts.{plus_zero_le}
-use Rattle.std.proofs.lemmas.Option.{same_Some}
 
 -- ---- an active link: s is its slack, x its flow, l and m the slopes at its tail and its head
 pub record LinkLaw (capacity : Option ℚ) (s x l m : ℚ) : Type 0 where

@@ -1,22 +1,9 @@
 -- Extensions of the curves of a run in a phase: a curve at a node is extended if the label of the node rises, and unchanged if it is
 -- constant.
-use Rattle.std.proofs.Common.{◌≡◌, List, [], ◌∷◌, Bool, true, false, sym, subst, refl}
-use Rattle.std.specs.Prelude.{Option, None}
-use Rattle.std.specs.List.{last_or}
-use Rattle.nf_rational.specs.Rational.{ℚ}
-use Rattle.nf_rational.specs.Operations.{0ℚ, ◌+ℚ◌, ◌-ℚ◌, ◌*ℚ◌, ◌/ℚ◌}
-use Rattle.nf_rational.specs.Order.{◌<ℚ◌}
-use Rattle.nf_rational_laws.proofs.Polynomial.{reading_of}
-use Rattle.nf_rational_laws.proofs.Order.{ps_times, ≤ℚ_of_same, not_both_ℚ}
-use Rattle.nf_rational_laws.proofs.Linear.{lt, eq, eq_times, linear_lt, linear_eq}
-use Rattle.nf_model.specs.Curve.{Point, AreSlopes}
-use Rattle.nf_model.specs.Equilibrium.{Trace}
-use Rattle.nf_model_laws.proofs.Affine.{quotient-times}
-use Rattle.nf_rational.specs.Signs.{is_positive}
-use Rattle.nf_thin_def.specs.CurveList.{LinkPhase}
-use Rattle.nf_thin_def.specs.ReportCurves.{GrowingCurve, keeps_slope, with_point, with_rate, trace_after, queue_after}
-use Rattle.nf_phase_laws.specs.Invariant.{queue_by_slack}
-use Rattle.nf_phase_laws.specs.CurveSteps.{LastPoint, GoesOnTo}
+use Rattle.std.proofs.Common.{◌≡◌, List, [], ◌∷◌, Bool, true, false, sym, subst, refl, Option, None}
+use Rattle.nf_phase_laws.proofs.Common.{last_or, ℚ, 0ℚ, ◌+ℚ◌, ◌-ℚ◌, ◌*ℚ◌, ◌/ℚ◌, ◌<ℚ◌, reading_of, ps_times, ≤ℚ_of_same, not_both_ℚ, lt, eq, eq_times, linear_lt}
+use Rattle.nf_phase_laws.proofs.Common.{linear_eq, Point, AreSlopes, Trace, quotient-times, is_positive, LinkPhase, GrowingCurve, keeps_slope, with_point}
+use Rattle.nf_phase_laws.proofs.Common.{with_rate, trace_after, queue_after, queue_by_slack, LastPoint, GoesOnTo}
 use Rattle.nf_phase_laws.proofs.Points.{slope_is, LastSlope, Went, went, AreSlopes-after}
 use Rattle.nf_phase_laws.proofs.StepValues.{filled_slope, rate_value, queue_value, positive_of, none_of}
 

@@ -1,27 +1,14 @@
 -- Properties of the curves of a run in every state; they hold at the start.
 use Rattle.std.proofs.Common.{◌≡◌, ℕ, ◌<◌, List, [], ◌∷◌, length, get_or, if◌then◌else◌, Bool, true, false, sym, ap, subst, refl, ◌∙◌, arith}
-use Rattle.std.specs.Prelude.{Option, Some, slice_get, unwrap_or}
-use Rattle.std.proofs.lemmas.Option.{slice_get-get_or}
+use Rattle.nf_phase_laws.proofs.Common.{Option, Some, slice_get, unwrap_or, slice_get-get_or, ℚ, 0ℚ, ◌-ℚ◌, ◌*ℚ◌, ◌<ℚ◌, reading_of, linear_eq, number_at, Point}
+use Rattle.nf_phase_laws.proofs.Common.{slope, AreSlopes, IsNetwork, Link, Network, IsLink, Pattern, Trace, points_at, points_of, is_positive, GrowingCurve}
+use Rattle.nf_phase_laws.proofs.Common.{LinkCurves, first_label_curve, first_trace, first_queue, first_curves, from_map, FirstCurves, GrowByPhases, begin}
+use Rattle.nf_phase_laws.proofs.Common.{curves_of, slice_get-image}
 use Rattle.std.proofs.lemmas.List.{length-map}
-use Rattle.nf_rational.specs.Rational.{ℚ}
-use Rattle.nf_rational.specs.Operations.{0ℚ, ◌-ℚ◌, ◌*ℚ◌}
-use Rattle.nf_rational.specs.Order.{◌<ℚ◌}
-use Rattle.nf_rational_laws.proofs.Polynomial.{reading_of}
-use Rattle.nf_rational_laws.proofs.Linear.{linear_eq}
-use Rattle.nf_model.specs.Entries.{number_at}
-use Rattle.nf_model.specs.Curve.{Point, slope, AreSlopes}
-use Rattle.nf_model.specs.Network.{IsNetwork, Link, Network, IsLink}
-use Rattle.nf_model.specs.Pattern.{Pattern}
-use Rattle.nf_model.specs.Equilibrium.{Trace, points_at, points_of}
-use Rattle.nf_rational.specs.Signs.{is_positive}
-use Rattle.nf_thin_def.specs.ReportCurves.{GrowingCurve, LinkCurves, first_label_curve, first_trace, first_queue, first_curves}
 use Rattle.nf_thin_def.specs.PhaseRun.{Standing, IsStart, flow_of}
-use Rattle.nf_thin_laws.proofs.Ending.{from_map}
-use Rattle.nf_phase_laws.specs.CurveRun.{FirstCurves, GrowByPhases, begin, curves_of}
 use Rattle.nf_phase_laws.proofs.CurveRun.{Grown, grown_by}
 use Rattle.nf_phase_laws.proofs.Points.{slope_is, LastSlope}
 use Rattle.nf_phase_laws.proofs.StepValues.{positive_of}
-use Rattle.nf_rational_laws.proofs.Entries.{slice_get-image}
 
 -- ---- entries
 pub number_is : (xs : List ℚ) (v : ℕ) → v < length xs → slice_get xs v ≡ Some (number_at xs v)

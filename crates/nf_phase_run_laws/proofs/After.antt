@@ -1,14 +1,7 @@
 -- A curve that is below a value is at most that for a while after.
 use Rattle.std.proofs.Common.{◌≡◌, List, [], ◌∷◌, ⊎_elim, pos, sym, subst}
-use Rattle.nf_rational.specs.Rational.{ℚ}
-use Rattle.nf_rational.specs.Operations.{0ℚ, whole, ◌+ℚ◌, ◌-ℚ◌, ◌*ℚ◌, ◌/ℚ◌}
-use Rattle.nf_rational.specs.Order.{◌≤ℚ◌, ◌<ℚ◌}
-use Rattle.nf_rational_laws.proofs.Polynomial.{reading_of}
-use Rattle.nf_rational_laws.proofs.Order.{≤ℚ_of_lt, lt_or_le_ℚ, ps_whole}
-use Rattle.nf_rational_laws.proofs.Chains.{≤ℚ_refl, ≤ℚ_trans}
-use Rattle.nf_rational_laws.proofs.Linear.{le, lt, eq, le_times, linear_le, linear_lt, linear_eq, linear_false}
-use Rattle.nf_rational_laws.proofs.Facts.{later_by}
-use Rattle.nf_model.specs.Curve.{Point, slope, value, IsCurve}
+use Rattle.nf_phase_run_laws.proofs.Common.{ℚ, 0ℚ, whole, ◌+ℚ◌, ◌-ℚ◌, ◌*ℚ◌, ◌/ℚ◌, ◌≤ℚ◌, ◌<ℚ◌, reading_of, ≤ℚ_of_lt, lt_or_le_ℚ, ps_whole, ≤ℚ_refl, ≤ℚ_trans, le}
+use Rattle.nf_phase_run_laws.proofs.Common.{lt, eq, le_times, linear_le, linear_lt, linear_eq, linear_false, later_by, Point, slope, value, IsCurve}
 use Rattle.nf_model_laws.proofs.Affine.{quotient-times}
 use Rattle.nf_model_laws.proofs.Curves.{value-before, value-after}
 use Rattle.nf_check_laws.proofs.Broken.{middle_in}

@@ -1,29 +1,11 @@
 -- The amount that has entered each link by the end of a phase.
 use Rattle.std.proofs.Common.{◌≡◌, ℕ, ◌-◌, List, length, take, Bool, true, false, Option, Some, None, slice_get, unwrap_or, map, sym, ap, refl, ◌∙◌, arith}
-use Rattle.std.specs.List.{last_or}
-use Rattle.std.specs.Option.{option_map_or}
-use Rattle.std.proofs.lemmas.Option.{slice_get_within}
-use Rattle.nf_rational.specs.Rational.{ℚ}
-use Rattle.nf_rational.specs.Operations.{0ℚ, ◌+ℚ◌, ◌*ℚ◌}
-use Rattle.nf_rational.specs.Order.{◌≤ℚ◌}
-use Rattle.nf_rational_laws.proofs.Order.{≤ℚ_antisymm}
-use Rattle.nf_frac_def.specs.Passing.{Passing}
-use Rattle.nf_model.specs.Entries.{number_at}
-use Rattle.nf_model.specs.Curve.{Point}
-use Rattle.nf_model.specs.Network.{Link, Network, IsNetwork, IsLink}
-use Rattle.nf_model.specs.Equilibrium.{Trace}
-use Rattle.nf_model.specs.ThinFlow.{sets_at}
-use Rattle.nf_model.specs.Pattern.{Pattern}
-use Rattle.nf_rational.specs.Signs.{is_positive}
-use Rattle.nf_thin_def.specs.CurveList.{LinkStep, link_phase}
-use Rattle.nf_thin_def.specs.ReportCurves.{with_point, LinkCurves, trace_after, curves_after, amount_so_far}
-use Rattle.nf_thin_def.specs.PhaseRun.{Standing, PhaseStep, standing_after}
-use Rattle.nf_thin_laws.proofs.Ending.{PhaseParts}
+use Rattle.nf_phase_run_laws.proofs.Common.{last_or, option_map_or, slice_get_within, ℚ, 0ℚ, ◌+ℚ◌, ◌*ℚ◌, ◌≤ℚ◌, ≤ℚ_antisymm, Passing, number_at, Point, Link}
+use Rattle.nf_phase_run_laws.proofs.Common.{Network, IsNetwork, IsLink, Trace, sets_at, Pattern, is_positive, LinkStep, link_phase, with_point, LinkCurves}
+use Rattle.nf_phase_run_laws.proofs.Common.{trace_after, curves_after, amount_so_far, Standing, PhaseStep, standing_after, PhaseParts, WellRun, last-append}
+use Rattle.nf_phase_run_laws.proofs.Common.{slice_get-image, entry, term_of_zero}
 use Rattle.nf_phase_laws.proofs.StepValues.{rate_value, step_value, none_of, step_value_at}
 use Rattle.nf_phase_laws.proofs.AfterPhase.{link_after_at}
-use Rattle.nf_phase_laws.proofs.WellRun.{WellRun}
-use Rattle.nf_rational_laws.proofs.Entries.{last-append, slice_get-image, entry}
-use Rattle.nf_rational_laws.proofs.Facts.{term_of_zero}
 
 -- the value of the last point of a trace
 abbrev amount_of : Trace → ℚ

@@ -1,39 +1,22 @@
 -- There is a thin flow for the labels of any departure up to which the invariant of phases holds. So there is one for the labels of an
 -- equilibrium and of a run state.
-use Rattle.std.proofs.Common.{◌≡◌, ℕ, List, subst}
-use Rattle.std.specs.Prelude.{Option}
-use Rattle.nf_rational.specs.Rational.{ℚ}
-use Rattle.nf_rational.specs.Operations.{0ℚ}
-use Rattle.nf_rational.specs.Order.{◌≤ℚ◌}
-use Rattle.nf_rational_laws.proofs.Order.{not_both_ℚ}
-use Rattle.nf_rational_laws.proofs.Chains.{≤ℚ_refl}
-use Rattle.nf_rational_laws.proofs.Facts.{same_slacks}
-use Rattle.nf_frac_def.specs.Passing.{Passing}
-use Rattle.nf_model.specs.Curve.{Within}
-use Rattle.nf_model.specs.Network.{Link, Network, IsNetwork, IsLink, hop_of, rate_at}
-use Rattle.nf_model.specs.ThinFlow.{slack, sets_at}
-use Rattle.nf_model.specs.Equilibrium.{Flow, label, Equilibrium}
+use Rattle.std.proofs.Common.{◌≡◌, ℕ, List, subst, Option}
+use Rattle.nf_phase_run_laws.proofs.Common.{ℚ, 0ℚ, ◌≤ℚ◌, not_both_ℚ, ≤ℚ_refl, same_slacks, Passing, Within, Link, Network, IsNetwork, IsLink, hop_of, rate_at}
+use Rattle.nf_phase_run_laws.proofs.Common.{slack, sets_at, Flow, label, Equilibrium, Cause, Report, IsWellFormed, Standing, Bounds, IsPhaseRun, WellRun}
+use Rattle.nf_phase_run_laws.proofs.Common.{WellRun-start, WellRun-runs, WellRun-on, IsResumed, HasThinFlow}
 use Rattle.nf_model_laws.proofs.Slacks.{active_of_slack, slack_of_resetting}
 use Rattle.nf_model_laws.proofs.Supply.{rate_from-not_negative}
-use Rattle.nf_net_def.specs.declared.Cause.{Cause}
-use Rattle.nf_net_def.specs.Report.{Report, IsWellFormed}
-use Rattle.nf_thin_def.specs.PhaseRun.{Standing, Bounds, IsPhaseRun}
 use Rattle.nf_thin_laws.specs.ActiveLinks.{EachIsEntered}
 use Rattle.nf_thin_laws.proofs.ActiveLinks.{AreSets-sets_at, HoldNoCycle-sets_at}
 use Rattle.nf_phase_laws.specs.Invariant.{link_slack, HoldsUpTo, LabelsAre}
-use Rattle.nf_phase_laws.proofs.WellRun.{WellRun, WellRun-start}
-use Rattle.nf_phase_laws.proofs.Run.{WellRun-runs}
-use Rattle.nf_phase_laws.proofs.RunsOn.{WellRun-on}
 use Rattle.nf_phase_laws.proofs.Standing.{grown_at}
 use Rattle.nf_forever_def.specs.ForeverRun.{End, IsForeverRun}
 use Rattle.nf_forever_laws.proofs.Run.{well_forever}
-use Rattle.nf_resume_def.specs.Meanings.{IsResumed}
 use Rattle.nf_phase_equilibrium_laws.proofs.Invariant.{HoldsUpTo-equilibrium}
 use Rattle.nf_phase_run_laws.proofs.Restarting.{well_restarted}
 use Rattle.nf_complete_laws.specs.Oversupply.{ResetsAreBounded}
 use Rattle.nf_complete_laws.proofs.Supplied.{IsOversupply-some}
 use Rattle.nf_complete_laws.proofs.Exists.{thin_exists}
-use Rattle.nf_phase_run_laws.specs.ThinFlows.{HasThinFlow}
 
 -- ---- the invariant of phases holds
 module _ (net : Network) (amount by_label : ℕ → ℚ → ℚ) (until departure : ℚ) (labels : List ℚ) (good : IsNetwork net) (holds : HoldsUpTo net amount by_label until)

@@ -1,35 +1,22 @@
 -- Restoring a run from its report gives the run's state.
-use Rattle.std.proofs.Common.{◌≡◌, ℕ, suc, ◌<◌, List, [], ◌∷◌, ◌++◌, length, Option, Some, None, slice_get, map, sym, ap, subst, refl, ◌∙◌, arith}
-use Rattle.std.specs.Prelude.{Result, Ok}
-use Rattle.std.proofs.lemmas.Option.{slice_get_within, same_Some}
+use Rattle.std.proofs.Common.{◌≡◌, ℕ, suc, ◌<◌, List, [], ◌∷◌, ◌++◌, length, Option, Some, None, slice_get, map, sym, ap, subst, refl, ◌∙◌, arith, Result, Ok}
+use Rattle.nf_phase_run_laws.proofs.Common.{slice_get_within, same_Some, ℚ, Passing, each, Point, slope, IsShort, Link, Network, IsNetwork, IsLink, Flow}
+use Rattle.nf_phase_run_laws.proofs.Common.{points_at, label, GrowingCurve, LinkCurves, Standing, flow_of, checked_slope, then_ok, checked_slope-is, LastPoint}
+use Rattle.nf_phase_run_laws.proofs.Common.{WellRun, number_is, label_points, inflow_points, outflow_points, queue_points, slice_get-image, entry, same_Ok}
+use Rattle.nf_phase_run_laws.proofs.Common.{with_made}
 use Rattle.std.proofs.lemmas.List.{length-map}
-use Rattle.nf_rational.specs.Rational.{ℚ}
-use Rattle.nf_frac_def.specs.Passing.{Passing}
-use Rattle.nf_frac_def.specs.Checked.{each}
 use Rattle.nf_frac_def.proofs.Each.{each_at, each_length}
-use Rattle.nf_model.specs.Curve.{Point, slope, IsShort}
-use Rattle.nf_model.specs.Network.{Link, Network, IsNetwork, IsLink}
-use Rattle.nf_model.specs.Equilibrium.{Flow, points_at, label}
-use Rattle.nf_thin_def.specs.ReportCurves.{GrowingCurve, LinkCurves}
-use Rattle.nf_thin_def.specs.PhaseRun.{Standing, flow_of}
 use Rattle.nf_thin_laws.proofs.Bases.{same_entries}
-use Rattle.nf_curve_def.specs.Lines.{checked_slope}
-use Rattle.nf_curve_laws.proofs.Operations.{then_ok, checked_slope-is}
-use Rattle.nf_phase_laws.specs.CurveSteps.{LastPoint}
 use Rattle.nf_phase_laws.specs.CurveRun.{curves_of}
 use Rattle.nf_phase_laws.proofs.CurveRun.{Grown}
 use Rattle.nf_phase_laws.proofs.Points.{EndsWithSlope, LastSlope}
 use Rattle.nf_phase_laws.proofs.Short.{HasOnePoint}
 use Rattle.nf_phase_laws.proofs.ShortRun.{ShortRun}
-use Rattle.nf_phase_laws.proofs.WellRun.{WellRun, number_is, label_points, inflow_points, outflow_points, queue_points}
 use Rattle.nf_phase_def.specs.Restoring.{value_at_end, link_curves_of, standing_of, last_slope, growing, restore_list}
 use Rattle.nf_resume_def.specs.Resuming.{OfLink, CutLink, links_with, cut_short, cut_trace, cut_link, cut_flow_of, cut_flow}
 use Rattle.nf_resume_laws.proofs.CutShort.{rest_of}
 use Rattle.nf_phase_equilibrium_laws.proofs.Restored.{value_at_end-is}
 use Rattle.nf_resume_laws.proofs.CutFlow.{of_link, links_with-at, links_with-length}
-use Rattle.nf_rational_laws.proofs.Entries.{slice_get-image, entry}
-use Rattle.nf_rational_laws.proofs.Results.{same_Ok}
-use Rattle.nf_phase_run_laws.specs.ResumedLaws.{with_made}
 use Rattle.nf_phase_run_laws.proofs.Kept.{cut_short-same, cut_trace-same}
 
 -- ---- lists

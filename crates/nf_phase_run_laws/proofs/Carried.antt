@@ -1,21 +1,12 @@
 -- Where all rules but the last hold, what is sent into a link by a departure has come out of it by the label of its head; so flow takes
 -- shortest routes only.
 use Rattle.std.proofs.Common.{◌≡◌, ◌≢◌, ℕ, ◌<◌, List, [], ◌∷◌, length, ⊎_elim, true, false, eqb, slice_get, refl, sym, ap, subst, ◌∙◌}
-use Rattle.std.specs.Option.{option_map_or}
-use Rattle.std.proofs.lemmas.Option.{slice_get_within}
+use Rattle.nf_phase_run_laws.proofs.Common.{option_map_or, slice_get_within, ℚ, 0ℚ, ◌+ℚ◌, ◌≤ℚ◌, ◌<ℚ◌, reading_of, ≤ℚ_of_lt, ≤ℚ_antisymm, not_both_ℚ, lt_or_le_ℚ}
+use Rattle.nf_phase_run_laws.proofs.Common.{≤ℚ_refl, ≤ℚ_trans, le, eq, linear_le, Point, Within, Link, Network, IsNetwork, IsLink, sum_in, sum_out, supply}
+use Rattle.nf_phase_run_laws.proofs.Common.{Flow, Balances, TakesFlow, points_at, label, inflow, outflow, CanBeChecked, end_at-source, end_at-other, by_source}
 use Rattle.std.proofs.lemmas.Bool.Decides.{eqb_tells}
-use Rattle.nf_rational.specs.Rational.{ℚ}
-use Rattle.nf_rational.specs.Operations.{0ℚ, ◌+ℚ◌}
-use Rattle.nf_rational.specs.Order.{◌≤ℚ◌, ◌<ℚ◌}
-use Rattle.nf_rational_laws.proofs.Polynomial.{reading_of}
-use Rattle.nf_rational_laws.proofs.Order.{≤ℚ_of_lt, ≤ℚ_antisymm, not_both_ℚ, lt_or_le_ℚ}
-use Rattle.nf_rational_laws.proofs.Chains.{≤ℚ_refl, ≤ℚ_trans}
-use Rattle.nf_rational_laws.proofs.Linear.{le, eq, linear_le}
-use Rattle.nf_model.specs.Curve.{Point, Within}
-use Rattle.nf_model.specs.Network.{Link, Network, IsNetwork, IsLink, sum_in, sum_out, supply}
 use Rattle.nf_model.specs.Queue.{IsOutflow}
 use Rattle.nf_model.specs.Earliest.{IsEarliest}
-use Rattle.nf_model.specs.Equilibrium.{Flow, Balances, TakesFlow, points_at, label, inflow, outflow}
 use Rattle.nf_model_laws.specs.EarliestLaws.{AreLabels, InflowsRise}
 use Rattle.nf_model_laws.proofs.Exists.{HasExit-curve}
 use Rattle.nf_model_laws.proofs.Queues.{IsExit-unique, IsExit-after, IsOutflow-unique}
@@ -24,8 +15,6 @@ use Rattle.nf_model_laws.proofs.Earliest.{IsPositive-link, IsEarliest-label, IsE
 use Rattle.nf_model_laws.proofs.Sums.{sum_in-same, sum_out-same}
 use Rattle.nf_model_laws.proofs.Potential.{sum_to, sum_to-same, sum_to-plus, only_at, only_at-here, only_at-else, sum_to-only, EndsBelow}
 use Rattle.nf_check_def.specs.Rules.{Label, Inflow, Arrivals, Outflow, Balance, SinkAfter, Route, Holds, ExitAt}
-use Rattle.nf_check_laws.specs.Laws.{CanBeChecked}
-use Rattle.nf_check_laws.proofs.Holding.{end_at-source, end_at-other, by_source}
 use Rattle.nf_check_laws.proofs.Rising.{label-rises}
 use Rattle.nf_phase_run_laws.specs.VerdictLaws.{AllButRoutesHold}
 use Rattle.nf_phase_run_laws.proofs.Leaving.{IsOutflow-rises}

@@ -1,33 +1,17 @@
 -- The numbers computed from the curves of a report in resuming it are fractions of a file if the numbers of the report are.
-use Rattle.std.proofs.Common.{ℕ, List, [], ◌∷◌, ◌++◌, if◌then◌else◌}
-use Rattle.std.specs.Prelude.{Some, None, Ok}
-use Rattle.std.specs.List.{AllByRecursion}
-use Rattle.nf_rational.specs.Rational.{ℚ}
-use Rattle.nf_rational.specs.Operations.{0ℚ}
-use Rattle.nf_rational.specs.Order.{lt_ℚ}
-use Rattle.nf_frac_def.specs.declared.Op.TheVariants.{Sum, Difference, Product, Quotient}
-use Rattle.nf_frac_def.specs.Passing.{passes_Q}
-use Rattle.nf_frac_def.specs.Checked.{checked, each}
-use Rattle.nf_model.specs.Curve.{Point}
-use Rattle.nf_model.specs.Network.{Link, Network}
-use Rattle.nf_model.specs.Pattern.{Pattern}
-use Rattle.nf_model.specs.Equilibrium.{Trace, Flow, points_at}
-use Rattle.nf_net_def.specs.WellNamed.{IsFraction}
-use Rattle.nf_net_def.specs.Report.{Report}
-use Rattle.nf_rational.specs.Signs.{is_same}
-use Rattle.nf_thin_def.specs.ReportCurves.{GrowingCurve}
-use Rattle.nf_thin_def.specs.PhaseRun.{Standing}
+use Rattle.std.proofs.Common.{ℕ, List, [], ◌∷◌, ◌++◌, if◌then◌else◌, Some, None, Ok}
+use Rattle.nf_phase_run_laws.proofs.Common.{AllByRecursion, ℚ, 0ℚ, lt_ℚ, Sum, Difference, Product, Quotient, passes_Q, checked, each, Point, Link, Network}
+use Rattle.nf_phase_run_laws.proofs.Common.{Pattern, Trace, Flow, points_at, IsFraction, Report, is_same, GrowingCurve, Standing, IsFractionOrNone}
+use Rattle.nf_phase_run_laws.proofs.Common.{IsFractionPoint, AreFractionPoints, IsFractionTrace, every_append}
 use Rattle.nf_curve_def.specs.Lines.{checked_slope, checked_line}
 use Rattle.nf_curve_def.specs.Values.{points_before, value_from, checked_value, checked_cut}
 use Rattle.nf_curve_def.specs.Short.{turning, short_points, checked_slopes, checked_short}
-use Rattle.nf_report_laws.specs.Readable.{IsFractionOrNone, IsFractionPoint, AreFractionPoints, IsFractionTrace}
 use Rattle.nf_phase_run_laws.proofs.Lists.{entry_or, all_image}
 use Rattle.nf_phase_run_laws.proofs.Fractions.{AreFractions, either, zero_fraction}
 use Rattle.nf_phase_run_laws.proofs.Fits.{Fits, AreOperands, ok_fits, then_fits, each_fits, one}
 use Rattle.nf_phase_run_laws.proofs.Running.{IsFractionCurve, AreFractionCurves, last_fraction}
 use Rattle.nf_phase_def.specs.Restoring.{value_at_end, link_curves_of, standing_of, last_slope, growing, restore_list}
 use Rattle.nf_resume_def.specs.Resuming.{OfLink, links_with, CutLink, cut_short, cut_trace, cut_link, cut_flow_of, cut_flow, restart_list}
-use Rattle.nf_net_laws.proofs.AcceptedNamed.{every_append}
 
 -- ---- a piece, and the value at a time
 slope_fits : (p q : Point) → IsFractionPoint p → IsFractionPoint q → Fits AreOperands IsFraction (checked_slope passes_Q p q)

@@ -1,33 +1,13 @@
 -- The resumed run and the run from the start end in the same way.
-use Rattle.std.proofs.Common.{◌≡◌, ℕ, suc, List, [], ◌∷◌, ◌⊎◌, inl, inr, ⊎_elim, Option, None, sym, ap, subst, refl, ◌∙◌}
-use Rattle.std.specs.Prelude.{Ok}
-use Rattle.nf_rational.specs.Rational.{ℚ}
-use Rattle.nf_rational.specs.Operations.{◌+ℚ◌}
-use Rattle.nf_rational.specs.Order.{◌≤ℚ◌, ◌<ℚ◌}
-use Rattle.nf_rational_laws.proofs.Order.{≤ℚ_of_lt, ≤ℚ_of_same, not_both_ℚ}
-use Rattle.nf_rational_laws.proofs.Polynomial.{reading_of}
-use Rattle.nf_rational_laws.proofs.Linear.{lt, linear_lt}
-use Rattle.nf_rational_laws.proofs.Chains.{<_≤_trans}
-use Rattle.nf_frac_def.specs.Passing.{Passing}
-use Rattle.nf_model.specs.Network.{Network, IsNetwork, hops}
-use Rattle.nf_model.specs.ThinFlow.{slacks_of}
-use Rattle.nf_model.specs.Pattern.{Pattern}
-use Rattle.nf_model.specs.Equilibrium.{Flow}
-use Rattle.nf_net_def.specs.declared.Cause.{Cause}
-use Rattle.nf_net_def.specs.Report.{Report}
+use Rattle.std.proofs.Common.{◌≡◌, ℕ, suc, List, [], ◌∷◌, ◌⊎◌, inl, inr, ⊎_elim, Option, None, sym, ap, subst, refl, ◌∙◌, Ok}
+use Rattle.nf_phase_run_laws.proofs.Common.{ℚ, ◌+ℚ◌, ◌≤ℚ◌, ◌<ℚ◌, ≤ℚ_of_lt, ≤ℚ_of_same, not_both_ℚ, reading_of, lt, linear_lt, <_≤_trans, Passing, Network}
+use Rattle.nf_phase_run_laws.proofs.Common.{IsNetwork, hops, slacks_of, Pattern, Flow, Cause, Report, one_start, goes_knows, start_knows, then_ok, WellRun}
+use Rattle.nf_phase_run_laws.proofs.Common.{WellRun-start, WellRun-goes, restore_list, IsResumedReport, closed-at_start, list-stands, with_made, NonePassesNext}
+use Rattle.nf_phase_run_laws.proofs.Common.{RestFits}
 use Rattle.nf_thin_def.specs.PhaseRun.{Standing, Bounds, Goes, phase_lists, Runs, at_horizon, at_phases, fails, goes, IsPhaseRun, IsRunReport, flow_of, report_of}
-use Rattle.nf_thin_laws.proofs.OneRun.{one_start, goes_knows, start_knows}
-use Rattle.nf_curve_laws.proofs.Operations.{then_ok}
-use Rattle.nf_phase_laws.proofs.WellRun.{WellRun, WellRun-start}
-use Rattle.nf_phase_laws.proofs.Run.{WellRun-goes}
-use Rattle.nf_phase_laws.proofs.ShortRun.{ShortRun, ShortRun-start, ShortRun-goes}
-use Rattle.nf_phase_def.specs.Restoring.{restore_list}
+use Rattle.nf_phase_laws.proofs.ShortRun.{ShortRun, ShortRun-start, stands_at}
 use Rattle.nf_resume_def.specs.Resuming.{cut_flow, restart_list}
 use Rattle.nf_phase_def.specs.Open.{IsOpen, Continues, with_last, continues, begins, RunsOn, at_horizon as ends_on, at_phases as stops_on, fails as fails_on, steps}
-use Rattle.nf_resume_def.specs.Meanings.{IsResumedReport}
-use Rattle.nf_phase_laws.proofs.RunsOn.{closed-at_start}
-use Rattle.nf_resume_laws.proofs.Stepping.{list-stands}
-use Rattle.nf_phase_run_laws.specs.ResumedLaws.{with_made, NonePassesNext, RestFits}
 use Rattle.nf_phase_run_laws.proofs.Back.{flow-back, standing-back}
 use Rattle.nf_phase_run_laws.proofs.Once.{same_phase, other_length}
 use Rattle.nf_phase_run_laws.proofs.Rest.{restored, opened, rest-whole}
@@ -124,17 +104,11 @@ module _ (passes : Passing) (net : Network) where
 
 -- ---- from a report
 module _ (passes : Passing) (net : Network) (good : IsNetwork net) where
-  stands : (bounds : Bounds) (s last : Standing) (stop : Option (Cause ℚ)) → WellRun net s → ShortRun s → Runs passes net bounds s last stop → WellRun net last × ShortRun last
-  stands bounds s last stop well short (at_horizon e) = (well, short)
-  stands bounds s last stop well short (at_phases below e) = (well, short)
-  stands bounds s last stop well short (fails may f) = (well, short)
-  stands bounds s last stop well short (goes {new = t} may g rest) = stands bounds t last stop (WellRun-goes passes net good bounds s t g well) (ShortRun-goes passes net good bounds s t g well short) rest
-
   pub run-restored : (bounds : Bounds) (last first : Standing) (stop : Option (Cause ℚ)) → IsPhaseRun passes net bounds last stop → restart_list passes net (report_of bounds.horizon last stop) ≡ Ok first
       → first ≡ with_made 0 last
   unfolding restart_list
   run-restored bounds last first stop run e =
-      let w : WellRun net last × ShortRun last = stands bounds run.first last stop (WellRun-start net good run.first run.start) (ShortRun-start net run.first run.start) run.runs in
+      let w : WellRun net last × ShortRun last = stands_at passes net good bounds run.first last stop (WellRun-start net good run.first run.start) (ShortRun-start net run.first run.start) run.runs in
       let k = then_ok (cut_flow passes net (flow_of last)) _ first e in
       let flow : k.between ≡ flow_of last = flow-back passes net good last w.0 w.1 k.between k.first in
       standing-back passes net good last w.0 w.1 first (ap (λ (f : Flow). restore_list passes f last.last) (sym flow) ∙ k.next)

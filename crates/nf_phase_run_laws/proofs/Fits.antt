@@ -1,16 +1,10 @@
 -- Computations from fractions: the values that they give, and the operands of the operation that passes.
-use Rattle.std.proofs.Common.{◌≡◌, List, [], ◌∷◌, Bool, true, false, if◌then◌else◌, refl, subst}
-use Rattle.std.specs.Prelude.{Result, Ok, Err}
-use Rattle.std.specs.List.{AllByRecursion}
-use Rattle.nf_rational.specs.Rational.{ℚ}
-use Rattle.nf_frac_def.specs.declared.Op.{Op}
+use Rattle.std.proofs.Common.{◌≡◌, List, [], ◌∷◌, Bool, true, false, if◌then◌else◌, refl, subst, Result, Ok, Err}
+use Rattle.nf_phase_run_laws.proofs.Common.{AllByRecursion, ℚ, Op, passes_Q, result_of, IsFraction, same_Ok, same_Err}
 use Rattle.nf_frac_def.specs.declared.Part.{Part}
 use Rattle.nf_frac_def.specs.declared.Passed.{Passed}
 use Rattle.nf_frac_def.specs.declared.PassedAt.{PassedAt}
-use Rattle.nf_frac_def.specs.Passing.{passes_Q, result_of}
 use Rattle.nf_frac_def.specs.Checked.{Checked, checked, each, fold_checked, placed, at_part, ◌>>=◌}
-use Rattle.nf_net_def.specs.WellNamed.{IsFraction}
-use Rattle.nf_rational_laws.proofs.Results.{same_Ok, same_Err}
 use Rattle.nf_phase_run_laws.proofs.Fractions.{result_fraction}
 
 -- the value has a property, and what is passed has another

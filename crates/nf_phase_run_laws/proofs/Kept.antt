@@ -1,24 +1,11 @@
 -- Cutting a curve in short form at its end doesn't change it or its rates.
-use Rattle.std.proofs.Common.{◌≡◌, ◌≢◌, List, [], ◌∷◌, ◌++◌, ⊎_elim, Bool, true, false, refl, sym, ap, ◌∙◌}
-use Rattle.std.specs.Prelude.{Ok, if◌then◌else◌}
-use Rattle.nf_rational.specs.Rational.{ℚ}
-use Rattle.nf_rational.specs.Order.{◌≤ℚ◌, ◌<ℚ◌, lt_ℚ}
-use Rattle.nf_rational_laws.proofs.Order.{≤ℚ_of_lt, ≤ℚ_of_same, not_both_ℚ}
-use Rattle.nf_rational_laws.proofs.Tests.{test_of_not_less, test_of_less}
-use Rattle.nf_rational_laws.proofs.Chains.{≤ℚ_refl, ≤ℚ_trans, <_≤_trans}
-use Rattle.nf_frac_def.specs.Passing.{Passing}
-use Rattle.nf_frac_def.specs.Checked.{Checked, ◌>>=◌}
-use Rattle.nf_model.specs.Curve.{Point, slope, TimesRise, IsShort, AreSlopes}
-use Rattle.nf_model.specs.Equilibrium.{Trace}
-use Rattle.nf_rational.specs.Signs.{is_same}
-use Rattle.nf_curve_def.specs.Lines.{checked_line}
+use Rattle.std.proofs.Common.{◌≡◌, ◌≢◌, List, [], ◌∷◌, ◌++◌, ⊎_elim, Bool, true, false, refl, sym, ap, ◌∙◌, Ok, if◌then◌else◌}
+use Rattle.nf_phase_run_laws.proofs.Common.{ℚ, ◌≤ℚ◌, ◌<ℚ◌, lt_ℚ, ≤ℚ_of_lt, ≤ℚ_of_same, not_both_ℚ, test_of_not_less, test_of_less, ≤ℚ_refl, ≤ℚ_trans, <_≤_trans}
+use Rattle.nf_phase_run_laws.proofs.Common.{Passing, Checked, ◌>>=◌, Point, slope, TimesRise, IsShort, AreSlopes, Trace, is_same, checked_line, then_ok}
+use Rattle.nf_phase_run_laws.proofs.Common.{is_same_cases, LastPoint, cut_short, cut_trace, same_Ok}
 use Rattle.nf_curve_def.specs.Values.{points_before, value_from, checked_value, checked_cut}
 use Rattle.nf_curve_def.specs.Short.{turning, checked_slopes, checked_short}
-use Rattle.nf_curve_laws.proofs.Operations.{then_ok, is_same_cases}
 use Rattle.nf_curve_laws.proofs.Short.{SlopesFrom, slopes-are}
-use Rattle.nf_phase_laws.specs.CurveSteps.{LastPoint}
-use Rattle.nf_resume_def.specs.Resuming.{cut_short, cut_trace}
-use Rattle.nf_rational_laws.proofs.Results.{same_Ok}
 
 -- ---- tests
 not_same : (x y : ℚ) → y <ℚ x → is_same x y ≡ false

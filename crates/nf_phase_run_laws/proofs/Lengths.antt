@@ -1,21 +1,10 @@
 -- At a departure before the horizon, each phase has a length. If no operation exceeds its bound, the extend list gives the extension
 -- length, or None if every length is possible.
-use Rattle.std.proofs.Common.{◌≡◌, List, [], ◌∷◌, inl, inr, Bool, true, false, refl, ap, ◌∙◌}
-use Rattle.std.specs.Prelude.{Option, Some, None, Result, Ok}
-use Rattle.std.specs.List.{enumerate_from}
-use Rattle.nf_rational.specs.Rational.{ℚ}
-use Rattle.nf_rational.specs.Operations.{0ℚ, ◌-ℚ◌}
-use Rattle.nf_rational.specs.Order.{min_ℚ}
-use Rattle.nf_frac_def.specs.declared.Op.{Op}
-use Rattle.nf_frac_def.specs.declared.Op.TheVariants.{Difference, Quotient}
-use Rattle.nf_frac_def.specs.Passing.{result_of}
+use Rattle.std.proofs.Common.{◌≡◌, List, [], ◌∷◌, inl, inr, Bool, true, false, refl, ap, ◌∙◌, Option, Some, None, Result, Ok}
+use Rattle.nf_phase_run_laws.proofs.Common.{enumerate_from, ℚ, 0ℚ, ◌-ℚ◌, min_ℚ, Op, Difference, Quotient, result_of, number_at, Network, ArePieces, next_change}
+use Rattle.nf_phase_run_laws.proofs.Common.{IsPhaseLength, is_zero, are_opposite, never}
 use Rattle.nf_frac_def.specs.Checked.{checked, fold_checked, ◌>>=◌}
-use Rattle.nf_model.specs.Entries.{number_at}
-use Rattle.nf_model.specs.Network.{Network, ArePieces, next_change}
-use Rattle.nf_model.specs.Phases.{IsPhaseLength}
-use Rattle.nf_rational.specs.Signs.{is_zero, are_opposite}
 use Rattle.nf_thin_def.specs.Extend.{lesser, to_zero, after_link, least_after, until_change, extend_list}
-use Rattle.nf_frac_def.specs.Passing.{never}
 use Rattle.nf_phase_laws.proofs.Extension.{extension_is, unending_is}
 
 abbrev HasValue : {A E : Type 0} → Result A E → Type 0

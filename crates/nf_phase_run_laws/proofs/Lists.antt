@@ -1,8 +1,6 @@
 -- Properties of all entries of a list, for lists that are made of others.
-use Rattle.std.proofs.Common.{ℕ, zero, suc, ◌+◌, ◌<◌, List, [], ◌∷◌, length, map, flat_map, arith}
-use Rattle.std.specs.Prelude.{take, drop, slice_get, unwrap_or}
-use Rattle.std.specs.List.{AllByRecursion, enumerate_from}
-use Rattle.nf_net_laws.proofs.AcceptedNamed.{every_append}
+use Rattle.std.proofs.Common.{ℕ, zero, suc, ◌+◌, ◌<◌, List, [], ◌∷◌, length, map, flat_map, arith, take, drop, slice_get, unwrap_or}
+use Rattle.nf_phase_run_laws.proofs.Common.{AllByRecursion, enumerate_from, every_append}
 
 module _ {A : Type 0} (P : A → Type 0) where
   pub all_take : (n : ℕ) (xs : List A) → AllByRecursion P xs → AllByRecursion P (take n xs)

@@ -1,24 +1,12 @@
 -- Phases from one run state, for any horizon and budget, have the same pattern, flows and slopes. Phases of equal length have the same
 -- result.
-use Rattle.std.proofs.Common.{◌≡◌, ℕ, ◌+◌, ◌≤◌, List, length, sym, ap, subst, ◌∙◌, arith}
-use Rattle.std.specs.Prelude.{Result, Ok, map}
-use Rattle.nf_rational.specs.Rational.{ℚ}
-use Rattle.nf_frac_def.specs.Passing.{Passing}
-use Rattle.nf_model.specs.Network.{Network, IsNetwork, hops, rate_at}
-use Rattle.nf_model.specs.ThinFlow.{Sets, slacks_of, sets_at}
-use Rattle.nf_model.specs.Pattern.{Pattern}
-use Rattle.nf_model.specs.Phases.{moved, IsPhaseLength}
-use Rattle.nf_thin_def.specs.CurveList.{LinkStep, curve_list}
+use Rattle.std.proofs.Common.{◌≡◌, ℕ, ◌+◌, ◌≤◌, List, length, sym, ap, subst, ◌∙◌, arith, Result, Ok, map}
+use Rattle.nf_phase_run_laws.proofs.Common.{ℚ, Passing, Network, IsNetwork, hops, rate_at, Sets, slacks_of, sets_at, Pattern, moved, IsPhaseLength, LinkStep}
+use Rattle.nf_phase_run_laws.proofs.Common.{curve_list, amount_so_far, Standing, Bounds, PhaseStep, Goes, Seeks, standing_after, length-sets, PhaseParts}
+use Rattle.nf_phase_run_laws.proofs.Common.{WellRun, parts_of, IsPhaseLength-unique}
 use Rattle.nf_thin_def.specs.Search.{Found, IsSearch}
-use Rattle.nf_thin_def.specs.ReportCurves.{amount_so_far}
-use Rattle.nf_thin_def.specs.PhaseRun.{Standing, Bounds, PhaseStep, Goes, Seeks, standing_after}
 use Rattle.nf_thin_laws.proofs.Bases.{one_base}
 use Rattle.nf_thin_laws.proofs.Searches.{one_answer}
-use Rattle.nf_thin_laws.proofs.OneRun.{length-sets}
-use Rattle.nf_thin_laws.proofs.Ending.{PhaseParts}
-use Rattle.nf_phase_laws.proofs.WellRun.{WellRun}
-use Rattle.nf_phase_laws.proofs.Run.{parts_of}
-use Rattle.nf_model_laws.proofs.OneValue.{IsPhaseLength-unique}
 
 -- A result of the search with a budget is one with a greater budget.
 more_patterns : (passes : Passing) (net : Network) (sets : Sets) (rate : ℚ) (base : Pattern) (fewer more place : ℕ) (pattern : Pattern) (flows slopes : List ℚ) → fewer ≤ more

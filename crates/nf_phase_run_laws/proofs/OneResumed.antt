@@ -1,22 +1,11 @@
 -- A resumed run has a unique end: each phase, and each cause for which there is none, follows from the run state.
-use Rattle.std.proofs.Common.{◌≡◌, ℕ, length, sym, ap, ◌∙◌, subst}
-use Rattle.std.specs.Prelude.{Option, Ok}
-use Rattle.nf_rational.specs.Rational.{ℚ}
-use Rattle.nf_rational.specs.Order.{◌<ℚ◌}
-use Rattle.nf_frac_def.specs.Passing.{Passing}
-use Rattle.nf_frac_def.specs.Checked.{each}
-use Rattle.nf_model.specs.Network.{Network}
-use Rattle.nf_net_def.specs.declared.Cause.{Cause}
-use Rattle.nf_net_def.specs.Report.{Report}
-use Rattle.nf_thin_def.specs.PhaseRun.{Standing, Bounds, Fails, report_of}
-use Rattle.nf_thin_laws.proofs.OneRun.{one_phase, goes_or_fails, goes_knows, StepsTo, horizon_met, phases_made, none_made, one_made, same_end}
-use Rattle.nf_rational_laws.proofs.Results.{same_Ok}
-use Rattle.nf_curve_laws.proofs.Operations.{then_ok}
+use Rattle.std.proofs.Common.{◌≡◌, ℕ, length, sym, ap, ◌∙◌, subst, Option, Ok}
+use Rattle.nf_phase_run_laws.proofs.Common.{ℚ, ◌<ℚ◌, Passing, each, Network, Cause, Report, Standing, Bounds, Fails, report_of, one_phase, goes_or_fails}
+use Rattle.nf_phase_run_laws.proofs.Common.{goes_knows, StepsTo, horizon_met, phases_made, none_made, one_made, same_end, same_Ok, then_ok, IsResumedReport}
+use Rattle.nf_phase_run_laws.proofs.Common.{list-stands}
 use Rattle.nf_phase_def.specs.Restoring.{growing, restore_list}
 use Rattle.nf_resume_def.specs.Resuming.{Stands, cut_flow, restart_list}
 use Rattle.nf_phase_def.specs.Open.{with_last, Steps, continues, begins, RunsOn, at_horizon, at_phases, fails, steps}
-use Rattle.nf_resume_def.specs.Meanings.{IsResumedReport}
-use Rattle.nf_resume_laws.proofs.Stepping.{list-stands}
 
 -- ---- one more phase
 module _ (passes : Passing) (net : Network) (horizon : ℚ) (patterns : ℕ) (s : Standing) where

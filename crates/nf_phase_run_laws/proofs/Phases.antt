@@ -1,27 +1,15 @@
 -- Each point of a phase sequence has curves built by its phases, so there is a thin flow for the labels there.
 use Rattle.std.proofs.Common.{◌≡◌, ℕ, List, [], ◌∷◌, ◌++◌, if◌then◌else◌, ⊎_elim, Bool, true, false, Option, Some, None, slice_get, sym, ap, subst, refl}
-use Rattle.nf_rational.specs.Rational.{ℚ}
-use Rattle.nf_rational.specs.Operations.{0ℚ, ◌+ℚ◌, ◌*ℚ◌}
-use Rattle.nf_rational.specs.Order.{◌≤ℚ◌, ◌<ℚ◌, lt_ℚ}
-use Rattle.nf_rational_laws.proofs.Order.{ps_times, <ℚ_irrefl}
-use Rattle.nf_rational_laws.proofs.Tests.{lt_ℚ_cases, test_of_less}
-use Rattle.nf_rational_laws.proofs.Chains.{≤ℚ_refl}
-use Rattle.nf_rational_laws.proofs.Facts.{later_by}
-use Rattle.nf_model.specs.Curve.{Point}
-use Rattle.nf_model.specs.Entries.{number_at}
-use Rattle.nf_model.specs.Network.{Link, Network, IsNetwork, IsLink, hops, rate_at}
-use Rattle.nf_model.specs.ThinFlow.{slacks_of}
-use Rattle.nf_model.specs.Phases.{AreStartLabels, IsPhase}
+use Rattle.nf_phase_run_laws.proofs.Common.{ℚ, 0ℚ, ◌+ℚ◌, ◌*ℚ◌, ◌≤ℚ◌, ◌<ℚ◌, lt_ℚ, ps_times, <ℚ_irrefl, lt_ℚ_cases, test_of_less, ≤ℚ_refl, later_by, Point}
+use Rattle.nf_phase_run_laws.proofs.Common.{number_at, Link, Network, IsNetwork, IsLink, hops, rate_at, slacks_of, AreStartLabels, IsPhase, at, GoesOnTo}
+use Rattle.nf_phase_run_laws.proofs.Common.{CurvesStand, CurvesGoOn, IsPhaseLength-some, HasThinFlow}
 use Rattle.nf_model_laws.proofs.Supply.{rate_from-not_negative}
-use Rattle.nf_phase_laws.specs.CurveSteps.{at, GoesOnTo, CurvesStand, CurvesGoOn}
 use Rattle.nf_phase_laws.specs.CurveRun.{Curves, first_points, FirstCurves, begin}
 use Rattle.nf_phase_laws.specs.Invariant.{GoesOn}
 use Rattle.nf_phase_laws.proofs.CurveSteps.{GoesOnTo-appended, GoesOn-curves, CurvesStand-after}
 use Rattle.nf_phase_laws.proofs.CurveRun.{Grown, grown_by}
-use Rattle.nf_phase_laws.proofs.Length.{IsPhaseLength-some}
 use Rattle.nf_phase_laws.proofs.Phases.{Stands, stands_after}
 use Rattle.nf_phase_laws.proofs.Still.{leaves_none}
-use Rattle.nf_phase_run_laws.specs.ThinFlows.{HasThinFlow}
 use Rattle.nf_phase_run_laws.proofs.AtLabels.{thin_at}
 
 -- Curves of inflows and labels up to this departure, with the labels there.

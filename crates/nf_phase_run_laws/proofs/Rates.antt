@@ -1,17 +1,7 @@
 -- The rate of the supply is constant while no piece starts.
-use Rattle.std.proofs.Common.{◌≡◌, ℕ, suc, List, [], ◌∷◌, ⊎_elim, Bool, true, false, sym, ap, refl, ◌∙◌}
-use Rattle.std.specs.Prelude.{Some, slice_get, if◌then◌else◌}
-use Rattle.nf_rational.specs.Rational.{ℚ}
-use Rattle.nf_rational.specs.Operations.{0ℚ, ◌+ℚ◌}
-use Rattle.nf_rational.specs.Order.{◌≤ℚ◌, ◌<ℚ◌, le_ℚ}
-use Rattle.nf_rational_laws.proofs.Order.{lt_or_le_ℚ}
-use Rattle.nf_rational_laws.proofs.Tests.{le_ℚ_cases, test_of_le, test_of_lt}
-use Rattle.nf_rational_laws.proofs.Chains.{≤ℚ_trans}
-use Rattle.nf_rational_laws.proofs.Polynomial.{reading_of}
-use Rattle.nf_rational_laws.proofs.Linear.{le, lt, linear_false}
-use Rattle.nf_rational_laws.proofs.Facts.{not_before_by}
-use Rattle.nf_model.specs.Network.{Piece, Network, rate_from, rate_at}
-use Rattle.nf_model.specs.Phases.{Lasts}
+use Rattle.std.proofs.Common.{◌≡◌, ℕ, suc, List, [], ◌∷◌, ⊎_elim, Bool, true, false, sym, ap, refl, ◌∙◌, Some, slice_get, if◌then◌else◌}
+use Rattle.nf_phase_run_laws.proofs.Common.{ℚ, 0ℚ, ◌+ℚ◌, ◌≤ℚ◌, ◌<ℚ◌, le_ℚ, lt_or_le_ℚ, le_ℚ_cases, test_of_le, test_of_lt, ≤ℚ_trans, reading_of, le, lt}
+use Rattle.nf_phase_run_laws.proofs.Common.{linear_false, not_before_by, Piece, Network, rate_from, rate_at, Lasts}
 
 rates_stay : (before time later : ℚ) (pieces : List Piece) → time ≤ℚ later → ((i : ℕ) (piece : Piece) → slice_get pieces i ≡ Some piece → time <ℚ piece.start → later <ℚ piece.start)
     → rate_from before pieces later ≡ rate_from before pieces time

@@ -1,16 +1,9 @@
 -- A readable report reads back, and so that of a run.
 use Rattle.std.proofs.Common.{sym, ap, ◌∙◌}
-use Rattle.nf_frac_def.specs.Passing.{passes_Q}
-use Rattle.nf_net_def.specs.Named.{Named}
-use Rattle.nf_net_def.specs.WellNamed.{IsNamed}
-use Rattle.nf_net_def.specs.Report.{Report, IsWellFormed}
-use Rattle.nf_thin_def.specs.PhaseRun.{Bounds, IsRunReport}
+use Rattle.nf_phase_run_laws.proofs.Common.{passes_Q, Named, IsNamed, Report, IsWellFormed, Bounds, IsRunReport, IsReadable, same_Ok, AreReadable, ReadsBack}
 use Rattle.nf_report_def.specs.ReportFile.{report_in}
-use Rattle.nf_report_laws.specs.Readable.{IsReadable}
 use Rattle.nf_report_laws.proofs.ReportBack.{report_back}
 use Rattle.nf_report_laws.proofs.ReportFit.{fit}
-use Rattle.nf_rational_laws.proofs.Results.{same_Ok}
-use Rattle.nf_phase_run_laws.specs.ReadableLaws.{AreReadable, ReadsBack}
 use Rattle.nf_phase_run_laws.proofs.Running.{report_readable}
 
 -- a readable report is read back from its text

@@ -1,45 +1,21 @@
 -- The remainder of an interrupted phase is the first phase of a resumed run. It has the result of the whole phase.
 use Rattle.std.proofs.Common.{◌≡◌, ℕ, suc, List, [], ◌∷◌, length, inl, inr, ⊎_elim, Option, Some, None, slice_get, unwrap_or, map, sym, ap, subst, refl, ◌∙◌, arith}
-use Rattle.std.specs.Prelude.{Ok}
-use Rattle.std.proofs.lemmas.Option.{slice_get_within}
-use Rattle.nf_rational.specs.Rational.{ℚ}
-use Rattle.nf_rational.specs.Operations.{0ℚ, ◌+ℚ◌, ◌-ℚ◌, ◌*ℚ◌}
-use Rattle.nf_rational.specs.Order.{◌≤ℚ◌, ◌<ℚ◌, min_ℚ}
-use Rattle.nf_rational_laws.proofs.Order.{≤ℚ_of_lt, nn_plus}
-use Rattle.nf_rational_laws.proofs.Tests.{min_ℚ_cases}
-use Rattle.nf_rational_laws.proofs.Polynomial.{reading_of}
-use Rattle.nf_rational_laws.proofs.Linear.{le, lt, eq, linear_lt, linear_eq, linear_false}
-use Rattle.nf_rational_laws.proofs.Extremes.{min_right}
-use Rattle.nf_rational_laws.proofs.Chains.{<_≤_trans}
-use Rattle.nf_rational_laws.proofs.Entries.{entry}
-use Rattle.nf_frac_def.specs.Passing.{Passing}
+use Rattle.nf_phase_run_laws.proofs.Common.{Ok, slice_get_within, ℚ, 0ℚ, ◌+ℚ◌, ◌-ℚ◌, ◌*ℚ◌, ◌≤ℚ◌, ◌<ℚ◌, min_ℚ, ≤ℚ_of_lt, nn_plus, min_ℚ_cases, reading_of, le}
+use Rattle.nf_phase_run_laws.proofs.Common.{lt, eq, linear_lt, linear_eq, linear_false, min_right, <_≤_trans, entry, Passing, number_at, Link, Network}
+use Rattle.nf_phase_run_laws.proofs.Common.{IsNetwork, IsLink, hops, hop_of, rate_at, slack, slacks_of, sets_at, Pattern, IsListedIn, IsBase, IsSolution, moved}
+use Rattle.nf_phase_run_laws.proofs.Common.{Lasts, IsExtension, IsUnending, IsPhaseLength, IsPhaseLength-unique, is_filled, curve_list, label_curves_after}
+use Rattle.nf_phase_run_laws.proofs.Common.{link_curves_after, amount_so_far, Standing, Bounds, Goes, standing_after, length-sets, PhaseParts}
+use Rattle.nf_phase_run_laws.proofs.Common.{IsPhaseLength-some, WellRun, WellRun-counted, WellRun-goes, parts_of, IsOpen, with_last, NonePassesIn, with_made}
 use Rattle.nf_model.specs.declared.State.{State}
-use Rattle.nf_model.specs.Entries.{number_at}
-use Rattle.nf_model.specs.Network.{Link, Network, IsNetwork, IsLink, hops, hop_of, rate_at}
-use Rattle.nf_model.specs.ThinFlow.{slack, slacks_of, sets_at}
-use Rattle.nf_model.specs.Pattern.{Pattern, IsListedIn, IsBase, IsSolution}
-use Rattle.nf_model.specs.Phases.{moved, Lasts, IsExtension, IsUnending, IsPhaseLength}
-use Rattle.nf_model_laws.proofs.OneValue.{IsPhaseLength-unique}
 use Rattle.nf_thin_def.specs.Accepted.{IsAccepted}
 use Rattle.nf_thin_def.specs.Listing.{IsListingIn}
-use Rattle.nf_thin_def.specs.CurveList.{is_filled, curve_list}
-use Rattle.nf_thin_def.specs.ReportCurves.{label_curves_after, link_curves_after, amount_so_far}
-use Rattle.nf_thin_def.specs.PhaseRun.{Standing, Bounds, Goes, standing_after}
-use Rattle.nf_thin_laws.proofs.OneRun.{length-sets}
-use Rattle.nf_thin_laws.proofs.Ending.{PhaseParts}
-use Rattle.nf_phase_laws.proofs.Length.{IsPhaseLength-some}
 use Rattle.nf_phase_laws.proofs.Still.{leaves_none}
-use Rattle.nf_phase_laws.proofs.WellRun.{WellRun, WellRun-counted}
-use Rattle.nf_phase_laws.proofs.Run.{WellRun-goes, parts_of}
 use Rattle.nf_phase_laws.proofs.Goes.{thin}
-use Rattle.nf_phase_def.specs.Open.{IsOpen, with_last}
-use Rattle.nf_resume_def.specs.Meanings.{NonePassesIn}
 use Rattle.nf_resume_laws.proofs.CutPhase.{IsOpen-cut, IsExtension-left, Lasts-left, stays-below, stays-above, slack-moves}
 use Rattle.nf_resume_laws.proofs.Restricted.{resets, filled-same, goes-on, IsSolution-restricted, IsListed-restricted}
 use Rattle.nf_resume_laws.proofs.FirstPlace.{base-first, pattern-base, flows-same, slopes-same}
 use Rattle.nf_resume_laws.proofs.Twice.{label_curves_after-twice}
 use Rattle.nf_resume_laws.proofs.TwoParts.{moved-twice, curves-whole}
-use Rattle.nf_phase_run_laws.specs.ResumedLaws.{with_made}
 use Rattle.nf_phase_run_laws.proofs.Once.{Alike, alike, first_parts, other_parts, other_length, parts_alike, after_alike}
 use Rattle.nf_phase_run_laws.proofs.Rates.{rate-within}
 use Rattle.nf_phase_run_laws.proofs.Amounts.{amounts-on}

@@ -1,24 +1,13 @@
 -- The state of a run resumed from a report that the check accepts.
-use Rattle.std.proofs.Common.{◌≡◌, ℕ, refl, subst}
-use Rattle.std.specs.Prelude.{Ok}
-use Rattle.nf_rational.specs.Rational.{ℚ}
-use Rattle.nf_frac_def.specs.Passing.{Passing}
-use Rattle.nf_model.specs.Network.{Network, IsNetwork}
-use Rattle.nf_model.specs.Equilibrium.{Equilibrium}
-use Rattle.nf_net_def.specs.Report.{Report, IsWellFormed}
-use Rattle.nf_thin_def.specs.PhaseRun.{Standing}
-use Rattle.nf_curve_laws.proofs.Operations.{then_ok}
-use Rattle.nf_phase_laws.proofs.WellRun.{WellRun}
+use Rattle.std.proofs.Common.{◌≡◌, ℕ, refl, subst, Ok}
+use Rattle.nf_phase_run_laws.proofs.Common.{ℚ, Passing, Network, IsNetwork, Equilibrium, Report, IsWellFormed, Standing, then_ok, WellRun, check_list}
+use Rattle.nf_phase_run_laws.proofs.Common.{CanBeChecked, Equilibrium-holding, list-stands}
 use Rattle.nf_check_def.specs.declared.Answer.{Answer}
 use Rattle.nf_check_def.specs.declared.Answer.TheVariants.{Yes, No}
-use Rattle.nf_check_def.specs.CheckList.{check_list}
-use Rattle.nf_check_laws.specs.Laws.{CanBeChecked}
 use Rattle.nf_check_laws.proofs.Checking.{check_list-checks}
-use Rattle.nf_check_laws.proofs.Holding.{Equilibrium-holding}
 use Rattle.nf_resume_def.specs.Resuming.{Stands, cut_flow, restart_list, after_check, resume_list}
 use Rattle.nf_phase_equilibrium_laws.proofs.RestoredRun.{well_from}
 use Rattle.nf_resume_laws.proofs.Restarted.{Equilibrium-cut_flow, EndsAtItsLabels-cut_flow}
-use Rattle.nf_resume_laws.proofs.Stepping.{list-stands}
 
 -- The answer of the check for such a run state.
 answer_was : (passes : Passing) (net : Network) (report : Report) (answer : Answer ℕ ℕ ℚ) (s : Standing) → after_check passes net report answer ≡ Ok (Stands s) → answer ≡ Yes

@@ -1,44 +1,25 @@
 -- The numbers of a run are fractions wherever it stands, and so are those of its report; its counts are within the budgets.
 use Rattle.std.proofs.Common.{◌≡◌, ℕ, suc, ◌<◌, ◌^◌, List, [], ◌∷◌, Bool, true, false, length, map, refl, sym, subst, arith}
-use Rattle.std.specs.Prelude.{◌-◌, take, Option, Some, None, is_none}
-use Rattle.std.specs.List.{AllByRecursion, last_or}
-use Rattle.std.specs.Option.{option_map_or}
-use Rattle.std.proofs.lemmas.Option.{slice_get_within}
-use Rattle.nf_rational.specs.Rational.{ℚ}
-use Rattle.nf_rational.specs.Operations.{0ℚ}
-use Rattle.nf_rational_laws.proofs.Order.{not_both_ℚ}
-use Rattle.nf_frac_def.specs.Passing.{passes_Q}
-use Rattle.nf_model.specs.Entries.{number_at, Has}
-use Rattle.nf_model.specs.Curve.{Point}
-use Rattle.nf_model.specs.Network.{Link, Network, hop_of, hops, unbounded, rate_at}
-use Rattle.nf_model.specs.ThinFlow.{slack, slacks_of, sets_at}
-use Rattle.nf_model.specs.Pattern.{Pattern, IsListedIn}
-use Rattle.nf_model.specs.Equilibrium.{Trace}
+use Rattle.nf_phase_run_laws.proofs.Common.{◌-◌, take, Option, Some, None, is_none, AllByRecursion, last_or, option_map_or, slice_get_within, ℚ, 0ℚ, not_both_ℚ}
+use Rattle.nf_phase_run_laws.proofs.Common.{passes_Q, number_at, Has, Point, Link, Network, hop_of, hops, unbounded, rate_at, slack, slacks_of, sets_at}
+use Rattle.nf_phase_run_laws.proofs.Common.{Pattern, IsListedIn, Trace, Cause, Named, IsFraction, IsNamed, Report, is_positive, QueueStep, LinkStep}
+use Rattle.nf_phase_run_laws.proofs.Common.{GrowingCurve, LinkCurves, keeps_slope, with_point, with_rate, first_label_curve, first_trace, first_queue}
+use Rattle.nf_phase_run_laws.proofs.Common.{first_curves, label_curves_after, trace_after, queue_after, link_curves_after, amount_so_far, Standing, Bounds}
+use Rattle.nf_phase_run_laws.proofs.Common.{IsStart, standing_after, cause_of_search, Seeks, phase_lists, Goes, Fails, at_slack, at_search, at_lists, Runs}
+use Rattle.nf_phase_run_laws.proofs.Common.{at_horizon, at_phases, fails, goes, report_of, IsRunReport, from_map, WellRun, WellRun-start, WellRun-goes, IsCount}
+use Rattle.nf_phase_run_laws.proofs.Common.{IsFractionOrNone, IsFractionPoint, AreFractionPoints, IsFractionTrace, IsReadableCause, IsReadable, AreReadable}
+use Rattle.nf_phase_run_laws.proofs.Common.{every_append}
 use Rattle.nf_model_laws.proofs.Slacks.{slack_of_resetting}
-use Rattle.nf_net_def.specs.declared.Cause.{Cause}
-use Rattle.nf_net_def.specs.Named.{Named}
-use Rattle.nf_net_def.specs.WellNamed.{IsFraction, IsNamed}
-use Rattle.nf_net_def.specs.Report.{Report}
-use Rattle.nf_rational.specs.Signs.{is_positive}
-use Rattle.nf_thin_def.specs.CurveList.{QueueStep, LinkStep}
-use Rattle.nf_thin_def.specs.ReportCurves.{GrowingCurve, LinkCurves, keeps_slope, with_point, with_rate, first_label_curve, first_trace, first_queue, first_curves, label_curves_after, trace_after, queue_after, link_curves_after, amount_so_far}
 use Rattle.nf_thin_def.specs.Search.{SearchAnswer, Found, OverBudget, PassesAt, NoPattern}
-use Rattle.nf_thin_def.specs.PhaseRun.{Standing, Bounds, IsStart, standing_after, cause_of_search, Seeks, phase_lists, Goes, Fails, at_slack, at_search, at_lists, Runs, at_horizon, at_phases, fails, goes, report_of, IsRunReport}
-use Rattle.nf_thin_laws.proofs.Ending.{from_map}
 use Rattle.nf_thin_laws.proofs.ActiveLinks.{AreSets-sets_at}
 use Rattle.nf_thin_equation_laws.specs.Equations.{IsPatternIn}
-use Rattle.nf_phase_laws.proofs.WellRun.{WellRun, WellRun-start}
-use Rattle.nf_phase_laws.proofs.Run.{WellRun-goes}
 use Rattle.nf_phase_laws.proofs.Standing.{source_label_at, unbounded_slack_at}
-use Rattle.nf_report_laws.specs.Readable.{IsCount, IsFractionOrNone, IsFractionPoint, AreFractionPoints, IsFractionTrace, IsReadableCause, IsReadable}
-use Rattle.nf_phase_run_laws.specs.ReadableLaws.{AreReadable}
 use Rattle.nf_phase_run_laws.proofs.Lists.{all_take, all_image}
 use Rattle.nf_phase_run_laws.proofs.Fractions.{AreFractions, zero_fraction, number_fraction, HasFractions, rate_fraction}
 use Rattle.nf_phase_run_laws.proofs.Fits.{Fits, AreOperandsAt}
 use Rattle.nf_phase_run_laws.proofs.PatternFits.{pattern_fits, solution_fractions}
 use Rattle.nf_phase_run_laws.proofs.PhaseFits.{slack_list_fits, IsFractionQueueOrNone, IsFractionStep, AreSteps, phase_fits}
 use Rattle.nf_phase_run_laws.proofs.Starting.{named_fractions, start_fractions}
-use Rattle.nf_net_laws.proofs.AcceptedNamed.{every_append}
 
 -- ---- curves
 abbrev pub IsFractionCurve : GrowingCurve → Type 0

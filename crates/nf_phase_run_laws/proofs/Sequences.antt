@@ -1,22 +1,11 @@
 -- Phase sequences are extended, by one thin flow after the other, until they reach the horizon.
 use Rattle.std.proofs.Common.{◌≡◌, ℕ, zero, suc, ◌<◌, ◌≤◌, List, [], ◌∷◌, length, ◌⊎◌, inl, inr, ⊎_elim, Some, slice_get, sym, ap, subst, refl, arith}
 use Rattle.std.proofs.lemmas.Bool.{cases_lt}
-use Rattle.std.proofs.lemmas.Option.{none-some, same_Some}
-use Rattle.nf_rational.specs.Rational.{ℚ}
-use Rattle.nf_rational.specs.Operations.{0ℚ, ◌+ℚ◌, ◌-ℚ◌}
-use Rattle.nf_rational.specs.Order.{◌≤ℚ◌, ◌<ℚ◌}
-use Rattle.nf_rational_laws.proofs.Polynomial.{reading_of}
-use Rattle.nf_rational_laws.proofs.Order.{lt_or_le_ℚ, ≤ℚ_antisymm}
-use Rattle.nf_rational_laws.proofs.Linear.{le, eq, linear_le}
-use Rattle.nf_rational_laws.proofs.Extremes.{min_left}
-use Rattle.nf_model.specs.Walk.{Hop, IsHop, IsLeastTransit}
-use Rattle.nf_model.specs.Network.{Network, IsNetwork, hop_of, hops}
-use Rattle.nf_model.specs.ThinFlow.{slacks_of}
-use Rattle.nf_model.specs.Phases.{AreStartLabels, moved, IsPhaseLength, IsPhase, PhasesFrom, IsPhaseSequence}
+use Rattle.nf_phase_run_laws.proofs.Common.{none-some, same_Some, ℚ, 0ℚ, ◌+ℚ◌, ◌-ℚ◌, ◌≤ℚ◌, ◌<ℚ◌, reading_of, lt_or_le_ℚ, ≤ℚ_antisymm, le, eq, linear_le}
+use Rattle.nf_phase_run_laws.proofs.Common.{min_left, Hop, IsHop, IsLeastTransit, Network, IsNetwork, hop_of, hops, slacks_of, AreStartLabels, moved}
+use Rattle.nf_phase_run_laws.proofs.Common.{IsPhaseLength, IsPhase, PhasesFrom, IsPhaseSequence, from_map, HasThinFlow}
 use Rattle.nf_net_laws.proofs.Settling.{least_exists}
-use Rattle.nf_thin_laws.proofs.Ending.{from_map}
 use Rattle.nf_complete_laws.proofs.Numbers.{numbers, length-numbers, number_at-numbers}
-use Rattle.nf_phase_run_laws.specs.ThinFlows.{HasThinFlow}
 use Rattle.nf_phase_run_laws.specs.Sequences.{ComesTo, PhaseSequencesGoOn}
 use Rattle.nf_phase_run_laws.proofs.Lengths.{some_length}
 use Rattle.nf_phase_run_laws.proofs.Phases.{HasCome, thin_there, HasCome-start, HasCome-after}

@@ -1,22 +1,11 @@
 -- The numbers of the network of an accepted file are fractions, and so are the least transit sums, from which a run starts.
-use Rattle.std.proofs.Common.{◌≡◌, ℕ, zero, suc, ◌<◌, List, [], ◌∷◌, ◌++◌, length, refl, sym, ap, subst, ◌∙◌, arith}
-use Rattle.std.specs.Prelude.{Option, Some, None}
-use Rattle.std.specs.List.{AllByRecursion}
-use Rattle.nf_rational.specs.Rational.{ℚ}
-use Rattle.nf_rational.specs.Operations.{0ℚ, ◌+ℚ◌}
-use Rattle.nf_rational.specs.Order.{◌≤ℚ◌}
-use Rattle.nf_rational_laws.proofs.Polynomial.{reading_of}
-use Rattle.nf_rational_laws.proofs.Linear.{le, eq, linear_le, linear_eq}
-use Rattle.nf_frac_def.specs.declared.Op.TheVariants.{Sum}
-use Rattle.nf_model.specs.Walk.{Hop, IsWalk, transit_of, transit_sum, IsLeastTransit}
-use Rattle.nf_model.specs.Network.{Link, hops}
-use Rattle.nf_model.specs.Phases.{AreStartLabels}
+use Rattle.std.proofs.Common.{◌≡◌, ℕ, zero, suc, ◌<◌, List, [], ◌∷◌, ◌++◌, length, refl, sym, ap, subst, ◌∙◌, arith, Option, Some, None}
+use Rattle.nf_phase_run_laws.proofs.Common.{AllByRecursion, ℚ, 0ℚ, ◌+ℚ◌, ◌≤ℚ◌, reading_of, le, eq, linear_le, linear_eq, Sum, Hop, IsWalk, transit_of}
+use Rattle.nf_phase_run_laws.proofs.Common.{transit_sum, IsLeastTransit, Link, hops, AreStartLabels, NamedLink, Named, links_by_name, IsFraction, IsCapacity}
+use Rattle.nf_phase_run_laws.proofs.Common.{IsNamedLink, IsNamed, IsFractionOrNone}
 use Rattle.nf_model_laws.proofs.Networks.{transit_of-hop}
 use Rattle.nf_net_def.specs.Names.{Name}
-use Rattle.nf_net_def.specs.Named.{NamedLink, Named, links_by_name}
-use Rattle.nf_net_def.specs.WellNamed.{IsFraction, IsCapacity, IsNamedLink, IsNamed}
 use Rattle.nf_net_laws.proofs.WalkFacts.{walk_push, LastHop}
-use Rattle.nf_report_laws.specs.Readable.{IsFractionOrNone}
 use Rattle.nf_phase_run_laws.proofs.Lists.{all_from}
 use Rattle.nf_phase_run_laws.proofs.Fractions.{AreFractions, zero_fraction, result_fraction, IsFractionLink, HasFractions}
 

@@ -1,17 +1,10 @@
 -- If a resumed run stopped because no pattern was left, there is no thin flow where it stopped.
 use Rattle.std.proofs.Common.{ℕ, Option, sym, subst}
-use Rattle.nf_rational.specs.Rational.{ℚ}
-use Rattle.nf_frac_def.specs.Passing.{Passing}
-use Rattle.nf_model.specs.Network.{Network, IsNetwork}
-use Rattle.nf_net_def.specs.declared.Cause.{Cause}
-use Rattle.nf_net_def.specs.Report.{Report, IsWellFormed}
-use Rattle.nf_thin_def.specs.PhaseRun.{Standing, Bounds}
-use Rattle.nf_phase_laws.proofs.WellRun.{WellRun}
-use Rattle.nf_phase_laws.proofs.RunsOn.{WellRun-step}
+use Rattle.nf_phase_run_laws.proofs.Common.{ℚ, Passing, Network, IsNetwork, Cause, Report, IsWellFormed, Standing, Bounds, WellRun, WellRun-step}
+use Rattle.nf_phase_run_laws.proofs.Common.{IsResumedReport}
 use Rattle.nf_complete_def.specs.Reached.{StopsForNoThinFlow}
 use Rattle.nf_complete_laws.proofs.Stopped.{EndsForNone, horizon_ends, phases_end, failing_ends, end_stops}
 use Rattle.nf_phase_def.specs.Open.{RunsOn, at_horizon, at_phases, fails, steps}
-use Rattle.nf_resume_def.specs.Meanings.{IsResumedReport}
 use Rattle.nf_phase_run_laws.proofs.Restarting.{well_restarted}
 
 module _ (passes : Passing) (net : Network) (good : IsNetwork net) (bounds : Bounds) where

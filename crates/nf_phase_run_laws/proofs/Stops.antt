@@ -1,30 +1,18 @@
 -- No run stops because no pattern is left: otherwise there would be no thin flow for the labels that its flow has reached, but the flow is
 -- an equilibrium.
-use Rattle.std.proofs.Common.{ℕ, refl, sym, subst}
-use Rattle.std.specs.Prelude.{Option}
-use Rattle.nf_rational.specs.Rational.{ℚ}
-use Rattle.nf_rational_laws.proofs.Chains.{≤ℚ_refl}
-use Rattle.nf_frac_def.specs.Passing.{Passing}
-use Rattle.nf_model.specs.Network.{Network, IsNetwork}
-use Rattle.nf_model.specs.Equilibrium.{Flow, label, Equilibrium}
-use Rattle.nf_net_def.specs.declared.Cause.{Cause}
-use Rattle.nf_net_def.specs.Report.{Report, IsWellFormed}
-use Rattle.nf_thin_def.specs.PhaseRun.{Standing, Bounds, IsPhaseRun, flow_of, report_of, IsRunReport}
-use Rattle.nf_phase_laws.proofs.WellRun.{WellRun}
-use Rattle.nf_phase_laws.proofs.Run.{Equilibrium-well, report_equilibrium}
+use Rattle.std.proofs.Common.{ℕ, refl, sym, subst, Option}
+use Rattle.nf_phase_run_laws.proofs.Common.{ℚ, ≤ℚ_refl, Passing, Network, IsNetwork, Flow, label, Equilibrium, Cause, Report, IsWellFormed, Standing, Bounds}
+use Rattle.nf_phase_run_laws.proofs.Common.{IsPhaseRun, flow_of, report_of, IsRunReport, WellRun, Equilibrium-well, report_equilibrium, RunsOn, IsResumedReport}
+use Rattle.nf_phase_run_laws.proofs.Common.{HasThinFlow, WellRun-on}
 use Rattle.nf_complete_def.specs.Reached.{labels_reached, StopsForNoThinFlow}
 use Rattle.nf_complete_laws.proofs.Stopped.{end_stops, stops_for_none}
 use Rattle.nf_forever_def.specs.ForeverRun.{End, Stops, NeverEnds, Forever, forever_of, IsForever}
 use Rattle.nf_forever_laws.proofs.Run.{Equilibrium-forever}
 use Rattle.nf_forever_laws.proofs.Stopped.{forever_stops_for_none}
-use Rattle.nf_phase_def.specs.Open.{RunsOn}
-use Rattle.nf_resume_def.specs.Meanings.{IsResumedReport}
 use Rattle.nf_phase_run_laws.proofs.Stopping.{resumed_ends, resumed_stops_for_none}
 use Rattle.nf_complete_laws.proofs.Numbers.{number_at-numbers}
 use Rattle.nf_phase_run_laws.specs.Stops.{NeverNoPattern}
-use Rattle.nf_phase_run_laws.specs.ThinFlows.{HasThinFlow}
 use Rattle.nf_phase_run_laws.proofs.AtLabels.{thin_in_equilibrium, well_resumed}
-use Rattle.nf_phase_laws.proofs.RunsOn.{WellRun-on}
 
 thin_reached : (net : Network) (flow : Flow) → IsNetwork net → Equilibrium net flow → HasThinFlow net flow.reached (labels_reached net flow)
 thin_reached net flow good is = thin_in_equilibrium net flow flow.reached (labels_reached net flow) good is (is.reached, ≤ℚ_refl flow.reached)

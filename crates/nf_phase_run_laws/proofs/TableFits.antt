@@ -1,20 +1,11 @@
 -- Elimination of a table of fractions.
-use Rattle.std.proofs.Common.{ℕ, zero, suc, List, [], ◌∷◌, ◌++◌, Bool, true, false, length}
-use Rattle.std.specs.Prelude.{◌==◌, ◌||◌, take, drop, Option, Some, None}
-use Rattle.std.specs.List.{AllByRecursion}
-use Rattle.nf_rational.specs.Rational.{ℚ}
-use Rattle.nf_rational.specs.Operations.{0ℚ}
-use Rattle.nf_frac_def.specs.declared.Op.TheVariants.{Difference, Product, Quotient}
-use Rattle.nf_frac_def.specs.Passing.{passes_Q}
-use Rattle.nf_frac_def.specs.Checked.{Checked, checked}
-use Rattle.nf_model.specs.Entries.{number_at}
-use Rattle.nf_net_def.specs.WellNamed.{IsFraction}
-use Rattle.nf_rational.specs.Signs.{is_zero}
+use Rattle.std.proofs.Common.{ℕ, zero, suc, List, [], ◌∷◌, ◌++◌, Bool, true, false, length, ◌==◌, ◌||◌, take, drop, Option, Some, None}
+use Rattle.nf_phase_run_laws.proofs.Common.{AllByRecursion, ℚ, 0ℚ, Difference, Product, Quotient, passes_Q, Checked, checked, number_at, IsFraction, is_zero}
+use Rattle.nf_phase_run_laws.proofs.Common.{every_append}
 use Rattle.nf_linear_def.specs.Table.{Row, Eliminated, row_at, pivot_of, less_unless, entries_less, cleared_row, clear_unless, clear_rows, eliminate_at, if_some, eliminate_from, solution_from, solution_of, table_list}
 use Rattle.nf_phase_run_laws.proofs.Lists.{all_take, all_drop, entry_or}
 use Rattle.nf_phase_run_laws.proofs.Fractions.{AreFractions, zero_fraction, number_fraction}
 use Rattle.nf_phase_run_laws.proofs.Fits.{Fits, AreOperands, ok_fits, then_fits, one}
-use Rattle.nf_net_laws.proofs.AcceptedNamed.{every_append}
 
 abbrev pub AreFractionRows : List Row → Type 0
 AreFractionRows rows = AllByRecursion AreFractions rows

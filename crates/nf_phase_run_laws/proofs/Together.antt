@@ -1,28 +1,11 @@
 -- Two runs from the start, to two horizons. Where the first run ends, the second run has the same state and continues, or it has a longer
 -- phase than the last one of the first run.
 use Rattle.std.proofs.Common.{◌≡◌, List, [], ◌∷◌, length, ◌⊎◌, inl, inr, ⊎_elim, Option, Some, None, sym, ap, subst, refl, ◌∙◌}
-use Rattle.std.proofs.lemmas.Option.{none-some}
-use Rattle.nf_rational.specs.Rational.{ℚ}
-use Rattle.nf_rational.specs.Operations.{◌+ℚ◌, ◌-ℚ◌}
-use Rattle.nf_rational.specs.Order.{◌≤ℚ◌, ◌<ℚ◌, min_ℚ}
-use Rattle.nf_rational_laws.proofs.Order.{≤ℚ_of_lt, ≤ℚ_of_same, ≤ℚ_antisymm, not_both_ℚ, lt_or_le_ℚ}
-use Rattle.nf_rational_laws.proofs.Tests.{min_ℚ_cases}
-use Rattle.nf_rational_laws.proofs.Chains.{≤ℚ_refl, ≤ℚ_trans, <_≤_trans}
-use Rattle.nf_rational_laws.proofs.Polynomial.{reading_of}
-use Rattle.nf_rational_laws.proofs.Linear.{lt, eq, linear_lt, linear_eq}
-use Rattle.nf_rational_laws.proofs.Extremes.{min_right}
-use Rattle.nf_frac_def.specs.Passing.{Passing}
-use Rattle.nf_model.specs.Network.{Network, IsNetwork, hops}
-use Rattle.nf_model.specs.ThinFlow.{slacks_of}
-use Rattle.nf_model.specs.Phases.{IsExtension, IsUnending, IsPhaseLength}
-use Rattle.nf_model_laws.proofs.OneValue.{IsExtension-unique, IsExtension-ends}
-use Rattle.nf_net_def.specs.declared.Cause.{Cause}
-use Rattle.nf_thin_def.specs.PhaseRun.{Standing, Bounds, Goes, Runs, at_horizon, at_phases, fails, goes, standing_after}
-use Rattle.nf_phase_laws.proofs.Length.{IsPhase-some, IsPhaseLength-some}
-use Rattle.nf_phase_laws.proofs.WellRun.{WellRun}
-use Rattle.nf_phase_laws.proofs.Run.{WellRun-goes, IsPhase-goes}
-use Rattle.nf_thin_laws.proofs.OneRun.{goes_knows}
-use Rattle.nf_phase_def.specs.Open.{IsOpen}
+use Rattle.nf_phase_run_laws.proofs.Common.{none-some, ℚ, ◌+ℚ◌, ◌-ℚ◌, ◌≤ℚ◌, ◌<ℚ◌, min_ℚ, ≤ℚ_of_lt, ≤ℚ_of_same, ≤ℚ_antisymm, not_both_ℚ, lt_or_le_ℚ, min_ℚ_cases}
+use Rattle.nf_phase_run_laws.proofs.Common.{≤ℚ_refl, ≤ℚ_trans, <_≤_trans, reading_of, lt, eq, linear_lt, linear_eq, min_right, Passing, Network, IsNetwork}
+use Rattle.nf_phase_run_laws.proofs.Common.{hops, slacks_of, IsExtension, IsUnending, IsPhaseLength, IsExtension-unique, IsExtension-ends, Cause, Standing}
+use Rattle.nf_phase_run_laws.proofs.Common.{Bounds, Goes, Runs, at_horizon, at_phases, fails, goes, standing_after, IsPhase-some, IsPhaseLength-some, WellRun}
+use Rattle.nf_phase_run_laws.proofs.Common.{WellRun-goes, IsPhase-goes, goes_knows, IsOpen}
 use Rattle.nf_resume_laws.proofs.CutPhase.{closed-at_extension}
 use Rattle.nf_phase_run_laws.proofs.Once.{first_parts, other_length, same_end}
 

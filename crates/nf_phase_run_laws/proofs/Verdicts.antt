@@ -1,21 +1,14 @@
 -- The answers of a checker.
-use Rattle.std.proofs.Common.{◌≡◌, ◌≢◌, ◌↔◌, ℕ, ◌<◌, inl, length, refl, sym, ◌∙◌, arith}
-use Rattle.std.specs.Prelude.{Ok}
-use Rattle.nf_rational.specs.Rational.{ℚ}
-use Rattle.nf_frac_def.specs.Passing.{Passing}
-use Rattle.nf_model.specs.Network.{Network, IsNetwork}
-use Rattle.nf_model.specs.Equilibrium.{Flow, Equilibrium}
+use Rattle.std.proofs.Common.{◌≡◌, ◌≢◌, ◌↔◌, ℕ, ◌<◌, inl, length, refl, sym, ◌∙◌, arith, Ok}
+use Rattle.nf_phase_run_laws.proofs.Common.{ℚ, Passing, Network, IsNetwork, Flow, Equilibrium, Sides, check_list, CanBeChecked, AllHold, Equilibrium-holding}
+use Rattle.nf_phase_run_laws.proofs.Common.{AllHold-equilibrium}
 use Rattle.nf_net_laws.proofs.ReportFacts.{have_rates}
-use Rattle.nf_curve_def.specs.Lines.{Sides}
 use Rattle.nf_check_def.specs.declared.CheckRule.{CheckRule}
 use Rattle.nf_check_def.specs.declared.CheckRule.TheVariants.{C8}
 use Rattle.nf_check_def.specs.declared.Subject.{Subject}
 use Rattle.nf_check_def.specs.declared.Answer.{Answer}
 use Rattle.nf_check_def.specs.declared.Answer.TheVariants.{Yes, No}
 use Rattle.nf_check_def.specs.Rules.{Test, Label, Inflow, InflowRates, OutflowRates, Arrivals, Outflow, Queue, Balance, SinkBefore, SinkAfter, Route, rule_of, ComesBefore, Breaks, BreaksFirst}
-use Rattle.nf_check_def.specs.CheckList.{check_list}
-use Rattle.nf_check_laws.specs.Laws.{CanBeChecked, AllHold}
-use Rattle.nf_check_laws.proofs.Holding.{Equilibrium-holding, AllHold-equilibrium}
 use Rattle.nf_check_laws.proofs.Broken.{not-broken}
 use Rattle.nf_check_laws.proofs.Checking.{check_list-checks}
 use Rattle.nf_phase_run_laws.specs.VerdictLaws.{AllButRoutesHold}

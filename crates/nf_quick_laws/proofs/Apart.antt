@@ -1,18 +1,10 @@
 -- The first of all residual walks visits no node twice, so it uses no link twice. Its prefixes are shortest walks. It doesn't leave its
 -- last node, nor return to its first one.
-use Rattle.std.proofs.Common.{◌≡◌, ◌≢◌, ℕ, ◌+◌, ◌<◌, ◌≤◌, List, [], ◌∷◌, ◌++◌, length, ◌⊎◌, inl, inr, ⊎_elim, Bool, true, false, sym, ap, subst, refl, ◌∙◌, append_assoc, arith}
-use Rattle.std.proofs.lemmas.List.{append-nil}
-use Rattle.nf_rational.specs.Rational.{ℚ}
-use Rattle.nf_rational.specs.Operations.{0ℚ, ◌+ℚ◌}
-use Rattle.nf_rational.specs.Order.{◌≤ℚ◌, ◌<ℚ◌}
-use Rattle.nf_rational_laws.proofs.Polynomial.{reading_of}
-use Rattle.nf_rational_laws.proofs.Order.{≤ℚ_of_lt, ≤ℚ_of_same, not_both_ℚ}
-use Rattle.nf_rational_laws.proofs.Linear.{le, eq, linear_le, linear_eq}
-use Rattle.nf_model.specs.Network.{Network}
-use Rattle.nf_quick_def.specs.Steps.{Step, Leads, IsResidualWalk, step_length, walk_length}
-use Rattle.nf_quick_def.specs.Order.{AreFewerOrFirst, IsAtMost}
-use Rattle.nf_quick_def.specs.Shortest.{IsLeastLength, IsFirstWalk, reach_of}
-use Rattle.nf_quick_laws.proofs.ResidualWalks.{IsResidualWalk-append, IsResidualWalk-one, walk_length-append, length-append, Leads-begin, Leads-turn}
+use Rattle.std.proofs.Common.{◌≡◌, ◌≢◌, ℕ, ◌+◌, ◌<◌, ◌≤◌, List, [], ◌∷◌, ◌++◌, length, ◌⊎◌, inl, inr, ⊎_elim, Bool, true, false, sym, ap, subst, refl, ◌∙◌, append_assoc, arith, length-append}
+use Rattle.nf_quick_laws.proofs.Common.{append-nil, ℚ, 0ℚ, ◌+ℚ◌, ◌≤ℚ◌, ◌<ℚ◌, reading_of, ≤ℚ_of_lt, ≤ℚ_of_same, not_both_ℚ, le, eq, linear_le, linear_eq}
+use Rattle.nf_quick_laws.proofs.Common.{Network, Step, Leads, IsResidualWalk, step_length, walk_length, AreFewerOrFirst, IsAtMost, IsLeastLength, IsFirstWalk}
+use Rattle.nf_quick_laws.proofs.Common.{reach_of}
+use Rattle.nf_quick_laws.proofs.ResidualWalks.{IsResidualWalk-append, IsResidualWalk-one, walk_length-append, Leads-begin, Leads-turn}
 
 -- ---- the order
 -- A walk at most another is no longer, and if it has the same length, it has no more steps.
@@ -70,8 +62,8 @@ without_less a b c s h e = linear_le (a ∷ b ∷ c ∷ s ∷ []) (le h ∷ eq e
 front_less : (a b c s t : ℚ) → s ≡ a +ℚ c → t ≡ b +ℚ c → s ≤ℚ t → a ≤ℚ b
 front_less a b c s t e f h = linear_le (a ∷ b ∷ c ∷ s ∷ t ∷ []) (eq e ∷ eq f ∷ le h ∷ []) (search reading_of) tt
 
-one_on : (a l s : ℚ) → s ≡ a +ℚ (l +ℚ 0ℚ) → s ≡ a +ℚ l
-one_on a l s e = linear_eq (a ∷ l ∷ s ∷ []) (eq e ∷ []) (search reading_of) tt tt
+pub sum_last : (a l s : ℚ) → s ≡ a +ℚ (l +ℚ 0ℚ) → s ≡ a +ℚ l
+sum_last a l s e = linear_eq (a ∷ l ∷ s ∷ []) (eq e ∷ []) (search reading_of) tt tt
 
 module _ (net : Network) (flows : List ℚ) (from to : ℕ) (all : List Step) (closed : (walk : List Step) (v : ℕ) → IsResidualWalk net flows walk v v → 0ℚ ≤ℚ walk_length net walk)
     (first : IsFirstWalk net flows from to all) where
@@ -131,7 +123,7 @@ module _ (net : Network) (flows : List ℚ) (from to : ℕ) (all : List Step) (c
     distance = walk_length net front;
     leads = l;
     at_begin = front_least front (step ∷ rest) v split p (w, l, r);
-    at_end = subst (λ (x : ℚ). IsLeastLength net flows from w x) (one_on _ _ _ (walk_length-append net front (step ∷ [])))
+    at_end = subst (λ (x : ℚ). IsLeastLength net flows from w x) (sum_last _ _ _ (walk_length-append net front (step ∷ [])))
         (front_least (front ++ step ∷ []) rest w (one_more front step rest split) (front_more front step v w p l) r);
     begin_other = λ e. no_return front (step ∷ rest) [] v (omega arith) (split ∙ ap (λ (x : List Step). front ++ x) (sym (append-nil (step ∷ rest)))) p
         (w, l, subst (λ (k : ℕ). IsResidualWalk net flows rest w k) (sym e) r) e;

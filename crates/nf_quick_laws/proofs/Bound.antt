@@ -1,22 +1,10 @@
 -- A feasible flow delivers at most the value of a cut: the balances of all nodes, each at the time of the node, are summed.
 use Rattle.std.proofs.Common.{◌≡◌, ◌≢◌, ℕ, suc, ◌<◌, List, [], ◌∷◌, length, ⊎_elim, true, false, eqb, Some, slice_get, sym, subst, refl, ◌∙◌}
-use Rattle.std.proofs.lemmas.Option.{slice_get_within}
-use Rattle.std.proofs.lemmas.Bool.Decides.{eqb_tells}
-use Rattle.nf_rational.specs.Rational.{ℚ}
-use Rattle.nf_rational.specs.Operations.{0ℚ, ◌-ℚ◌}
-use Rattle.nf_rational.specs.Order.{◌≤ℚ◌}
-use Rattle.nf_rational_laws.proofs.Polynomial.{reading_of}
-use Rattle.nf_rational_laws.proofs.Order.{≤ℚ_of_same, less_nn}
-use Rattle.nf_rational_laws.proofs.Linear.{eq, linear_le}
-use Rattle.nf_model.specs.Entries.{number_at}
-use Rattle.nf_model.specs.Network.{Link, Network, IsNetwork}
-use Rattle.nf_model.specs.Quickest.{IsFeasible, delivered, IsCut, let_through, cut_sum, cut_value}
-use Rattle.nf_model_laws.proofs.Sums.{sum_in-same, sum_out-same, sum_in-none, sum_out-none}
-use Rattle.nf_model_laws.proofs.Potential.{sum_to}
+use Rattle.nf_quick_laws.proofs.Common.{slice_get_within, eqb_tells, ℚ, 0ℚ, ◌-ℚ◌, ◌≤ℚ◌, reading_of, ≤ℚ_of_same, less_nn, eq, linear_le, number_at, Link}
+use Rattle.nf_quick_laws.proofs.Common.{Network, IsNetwork, IsFeasible, delivered, IsCut, let_through, cut_sum, cut_value, sum_in-same, sum_out-same}
+use Rattle.nf_quick_laws.proofs.Common.{sum_in-none, sum_out-none, sum_to, ≤ℚ_refl, ≤ℚ_trans, sum_le}
 use Rattle.nf_quick_laws.proofs.NodeSums.{in_less_out, across, sum_to-across, sum_to-each}
 use Rattle.nf_quick_laws.proofs.Amounts.{link_bound}
-use Rattle.nf_rational_laws.proofs.Chains.{≤ℚ_refl, ≤ℚ_trans}
-use Rattle.nf_rational_laws.proofs.Facts.{sum_le}
 
 -- link by link
 pub across-le : (links : List Link) (f g : ℕ → ℕ → ℚ) (cut : List ℚ)

@@ -1,26 +1,14 @@
 -- The forward minus the backward crossings of a link by a walk. They balance at each node except the ends of the walk. Weighted with the
 -- transit times, they sum to the walk's length.
-use Rattle.std.proofs.Common.{◌≡◌, ◌≢◌, ℕ, zero, suc, List, [], ◌∷◌, ◌⊎◌, inl, inr, ⊎_elim, Bool, true, false, if◌then◌else◌, eqb, Some, slice_get, sym, ap, subst, refl, ◌∙◌}
-use Rattle.std.proofs.lemmas.Bool.Decides.{eqb_tells}
-use Rattle.nf_rational.specs.Rational.{ℚ}
-use Rattle.nf_rational.specs.Operations.{0ℚ, 1ℚ, ◌+ℚ◌, ◌-ℚ◌, ◌*ℚ◌}
-use Rattle.nf_rational_laws.proofs.Polynomial.{reading_of}
-use Rattle.nf_rational_laws.proofs.Linear.{eq, eq_times, linear_eq}
-use Rattle.nf_rational_laws.proofs.Facts.{both_are_zero, first_and_zero, term_and_zero, zero_of_zero_times, same_terms, same_differences, same_sums}
-use Rattle.nf_model.specs.Network.{Link, Network, sum_in, sum_out}
-use Rattle.nf_model_laws.proofs.Sums.{sum_in-same, sum_out-same, sum_in-none, sum_out-none}
-use Rattle.nf_model_laws.proofs.Networks.{transit_of-is}
-use Rattle.nf_model_laws.proofs.Potential.{only_at, out_less_in}
-use Rattle.nf_quick_def.specs.Steps.{Step, begin_of, end_of, signed, Leads, IsResidualWalk, step_length, walk_length}
-use Rattle.nf_quick_def.specs.Flows.{cost_from}
-use Rattle.nf_quick_def.specs.Pushed.{crossed}
+use Rattle.std.proofs.Common.{◌≡◌, ◌≢◌, ℕ, zero, suc, List, [], ◌∷◌, ◌⊎◌, inl, inr, ⊎_elim, Bool, true, false, if◌then◌else◌, eqb, Some, slice_get, sym, ap, subst, refl, ◌∙◌, suc-ne-zero}
+use Rattle.nf_rational_laws.proofs.Facts.{first_is_zero}
+use Rattle.nf_quick_laws.proofs.Common.{eqb_tells, ℚ, 0ℚ, 1ℚ, ◌+ℚ◌, ◌-ℚ◌, ◌*ℚ◌, reading_of, eq, eq_times, linear_eq, both_are_zero, first_and_zero}
+use Rattle.nf_quick_laws.proofs.Common.{term_and_zero, zero_of_zero_times, same_terms, same_differences, same_sums, Link, Network, sum_in, sum_out, sum_in-same}
+use Rattle.nf_quick_laws.proofs.Common.{sum_out-same, sum_in-none, sum_out-none, transit_of-is, only_at, out_less_in, Step, begin_of, end_of, signed, Leads}
+use Rattle.nf_quick_laws.proofs.Common.{IsResidualWalk, step_length, walk_length, cost_from, crossed, same_Some}
 use Rattle.nf_quick_laws.proofs.Apart.{EachStep, Takes, AreApart}
-use Rattle.std.proofs.lemmas.Option.{same_Some}
 
 -- ---- link by link
-none_on : (a b c : ℚ) → a ≡ 0ℚ → b ≡ c → a +ℚ b ≡ c
-none_on a b c e f = linear_eq (a ∷ b ∷ c ∷ []) (eq e ∷ eq f ∷ []) (search reading_of) tt tt
-
 pub choose : (b : Bool) (x y : ℚ) → b ≡ true → (if b then x else y) ≡ x
 choose true x y e = refl
 choose false x y e = absurd (cc)
@@ -54,7 +42,7 @@ crossed-cases P (step ∷ walk) e apart each = ⊎_elim
     }))
     (λ (w : (eqb step.link e ≡ false) × (step.link ≢ e)). ⊎_elim
     (λ (z : crossed walk e ≡ 0ℚ). inl (both_are_zero _ _ (choose_not _ _ _ w.0) z))
-    (λ (t : IsTaken P walk e). inr (record { step = t.step; holds = t.holds; link = t.link; once = none_on _ _ _ (choose_not _ _ _ w.0) t.once }))
+    (λ (t : IsTaken P walk e). inr (record { step = t.step; holds = t.holds; link = t.link; once = first_is_zero _ _ (choose_not _ _ _ w.0) ∙ t.once }))
     (crossed-cases P walk e apart.1 each.1))
     (eqb_tells step.link e)
 
@@ -77,16 +65,13 @@ zero_other e p = cc
 suc_other : (k e : ℕ) → k ≢ e → suc k ≢ suc e
 suc_other k e h p = h (cc)
 
-suc_first : (k : ℕ) → suc k ≢ zero
-suc_first k p = cc
-
 pub sum_out-only : (links : List Link) (f : ℕ → ℚ) (k : ℕ) (link : Link) (v : ℕ) → slice_get links k ≡ Some link → ((e : ℕ) → k ≢ e → f e ≡ 0ℚ)
     → sum_out links f v ≡ (if eqb link.tail v then f k else 0ℚ)
 sum_out-only [] f k link v p h = absurd (cc)
 sum_out-only (l ∷ links) f zero link v p h =
     if_one (eqb l.tail v) (f 0) _ (sum_out-same links (λ e. f (suc e)) (λ _. 0ℚ) v (λ e m _ _. h (suc e) (zero_other e)) ∙ sum_out-none links v)
     ∙ ap (λ (m : Link). if eqb m.tail v then f 0 else 0ℚ) (same_Some l link p)
-sum_out-only (l ∷ links) f (suc k) link v p h = if_none (eqb l.tail v) (f 0) _ _ (h 0 (suc_first k)) (sum_out-only links (λ e. f (suc e)) k link v p (λ e other. h (suc e) (suc_other k e other)))
+sum_out-only (l ∷ links) f (suc k) link v p h = if_none (eqb l.tail v) (f 0) _ _ (h 0 (suc-ne-zero k)) (sum_out-only links (λ e. f (suc e)) k link v p (λ e other. h (suc e) (suc_other k e other)))
 
 pub sum_in-only : (links : List Link) (f : ℕ → ℚ) (k : ℕ) (link : Link) (v : ℕ) → slice_get links k ≡ Some link → ((e : ℕ) → k ≢ e → f e ≡ 0ℚ)
     → sum_in links f v ≡ (if eqb link.head v then f k else 0ℚ)
@@ -94,7 +79,7 @@ sum_in-only [] f k link v p h = absurd (cc)
 sum_in-only (l ∷ links) f zero link v p h =
     if_one (eqb l.head v) (f 0) _ (sum_in-same links (λ e. f (suc e)) (λ _. 0ℚ) v (λ e m _ _. h (suc e) (zero_other e)) ∙ sum_in-none links v)
     ∙ ap (λ (m : Link). if eqb m.head v then f 0 else 0ℚ) (same_Some l link p)
-sum_in-only (l ∷ links) f (suc k) link v p h = if_none (eqb l.head v) (f 0) _ _ (h 0 (suc_first k)) (sum_in-only links (λ e. f (suc e)) k link v p (λ e other. h (suc e) (suc_other k e other)))
+sum_in-only (l ∷ links) f (suc k) link v p h = if_none (eqb l.head v) (f 0) _ _ (h 0 (suc-ne-zero k)) (sum_in-only links (λ e. f (suc e)) k link v p (λ e other. h (suc e) (suc_other k e other)))
 
 pub sum_out-plus : (links : List Link) (f g : ℕ → ℚ) (v : ℕ) → sum_out links (λ e. f e +ℚ g e) v ≡ sum_out links f v +ℚ sum_out links g v
 sum_out-plus [] f g v = linear_eq [] [] (search reading_of) tt tt
@@ -119,7 +104,7 @@ pub cost_from-only : (links : List Link) (f : ℕ → ℚ) (k : ℕ) (link : Lin
 cost_from-only [] f k link p h = absurd (cc)
 cost_from-only (l ∷ links) f zero link p h =
     cost_first l.transit (f 0) _ (cost_from-none links (λ e. f (suc e)) (λ e. h (suc e) (zero_other e))) ∙ ap (λ (m : Link). m.transit *ℚ f 0) (same_Some l link p)
-cost_from-only (l ∷ links) f (suc k) link p h = cost_later l.transit (f 0) _ _ (h 0 (suc_first k)) (cost_from-only links (λ e. f (suc e)) k link p (λ e other. h (suc e) (suc_other k e other)))
+cost_from-only (l ∷ links) f (suc k) link p h = cost_later l.transit (f 0) _ _ (h 0 (suc-ne-zero k)) (cost_from-only links (λ e. f (suc e)) k link p (λ e other. h (suc e) (suc_other k e other)))
 
 cost_plus : (r a c s t u : ℚ) → s ≡ t +ℚ u → r *ℚ (a +ℚ c) +ℚ s ≡ (r *ℚ a +ℚ t) +ℚ (r *ℚ c +ℚ u)
 cost_plus r a c s t u e = linear_eq (r ∷ a ∷ c ∷ s ∷ t ∷ u ∷ []) (eq e ∷ []) (search reading_of) tt tt

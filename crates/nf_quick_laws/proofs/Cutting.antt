@@ -1,24 +1,11 @@
 -- If no closed residual walk has negative length, each residual walk can be shortened to one with fewer steps than there are nodes, which
 -- is no longer.
-use Rattle.std.proofs.Common.{◌≡◌, ◌≢◌, ℕ, zero, suc, ◌+◌, ◌<◌, ◌≤◌, List, [], ◌∷◌, ◌++◌, length, ◌⊎◌, inl, inr, ⊎_elim, Bool, true, false, eqb, sym, ap, subst, refl, ◌∙◌, append_assoc, arith}
-use Rattle.std.specs.List.{IsDistinct, list_any}
-use Rattle.std.proofs.lemmas.Bool.Decides.{eqb_tells}
-use Rattle.std.proofs.lemmas.List.{append-nil}
-use Rattle.nf_rational.specs.Rational.{ℚ}
-use Rattle.nf_rational.specs.Operations.{0ℚ, ◌+ℚ◌}
-use Rattle.nf_rational.specs.Order.{◌≤ℚ◌, ◌<ℚ◌}
-use Rattle.nf_rational_laws.proofs.Polynomial.{reading_of}
-use Rattle.nf_rational_laws.proofs.Order.{≤ℚ_antisymm, lt_or_le_ℚ}
-use Rattle.nf_rational_laws.proofs.Linear.{le, eq, linear_le}
-use Rattle.nf_model.specs.Network.{Link, Network, IsNetwork}
-use Rattle.nf_model_laws.proofs.Ways.{distinct_more, distinct_none, few_below}
-use Rattle.nf_quick_def.specs.Steps.{Step, end_of, Leads, IsResidualWalk, walk_length}
-use Rattle.nf_quick_def.specs.Order.{IsAtMost}
-use Rattle.nf_quick_def.specs.Shortest.{reach_of}
-use Rattle.nf_quick_laws.proofs.ResidualWalks.{IsResidualWalk-append, IsResidualWalk-one, walk_length-append, length-append}
+use Rattle.std.proofs.Common.{◌≡◌, ◌≢◌, ℕ, zero, suc, ◌+◌, ◌<◌, ◌≤◌, List, [], ◌∷◌, ◌++◌, length, ◌⊎◌, inl, inr, ⊎_elim, Bool, true, false, eqb, sym, ap, subst, refl, ◌∙◌, append_assoc, arith, length-append}
+use Rattle.nf_quick_laws.proofs.Common.{IsDistinct, list_any, eqb_tells, append-nil, ℚ, 0ℚ, ◌+ℚ◌, ◌≤ℚ◌, ◌<ℚ◌, reading_of, ≤ℚ_antisymm, lt_or_le_ℚ, le, eq}
+use Rattle.nf_quick_laws.proofs.Common.{linear_le, Link, Network, IsNetwork, distinct_more, distinct_none, few_below, Step, end_of, Leads, IsResidualWalk}
+use Rattle.nf_quick_laws.proofs.Common.{walk_length, IsAtMost, reach_of, ≤ℚ_refl, ≤ℚ_trans, or_rest}
+use Rattle.nf_quick_laws.proofs.ResidualWalks.{IsResidualWalk-append, IsResidualWalk-one, walk_length-append}
 use Rattle.nf_quick_laws.proofs.Orders.{IsAtMost-refl}
-use Rattle.nf_rational_laws.proofs.Chains.{≤ℚ_refl, ≤ℚ_trans}
-use Rattle.nf_rational_laws.proofs.Results.{or_rest}
 
 -- A closed section of a walk.
 pub record HasClosed (net : Network) (flows : List ℚ) (u w : ℕ) (walk : List Step) : Type 0 where

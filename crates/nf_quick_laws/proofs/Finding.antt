@@ -1,25 +1,13 @@
 -- Round by round: after k rounds the known path of each node is a residual walk, and is at most each walk of at most k steps.
-use Rattle.std.proofs.Common.{◌≡◌, ◌≢◌, ℕ, zero, suc, ◌+◌, ◌<◌, ◌≤◌, List, [], ◌∷◌, ◌++◌, length, ◌⊎◌, inl, inr, ⊎_elim, Bool, true, false, eqb, Option, Some, None, slice_get, Ok, replicate, sym, ap, subst, refl, ◌∙◌, arith}
-use Rattle.std.proofs.lemmas.Bool.Decides.{eqb_tells}
-use Rattle.std.proofs.lemmas.List.{length-set, length-replicate}
-use Rattle.nf_rational.specs.Rational.{ℚ}
-use Rattle.nf_rational.specs.Operations.{0ℚ, ◌+ℚ◌}
-use Rattle.nf_rational_laws.proofs.Polynomial.{reading_of}
-use Rattle.nf_rational_laws.proofs.Linear.{eq, linear_eq}
-use Rattle.nf_frac_def.specs.Passing.{Passing, result_of}
-use Rattle.nf_model.specs.Entries.{number_at}
-use Rattle.nf_model.specs.Network.{Link, Network, IsLink, IsNetwork}
-use Rattle.nf_model_laws.proofs.Networks.{transit_of-is}
-use Rattle.nf_quick_def.specs.Steps.{Step, begin_of, end_of, signed, can_go, Leads, IsResidualWalk, step_length, walk_length}
-use Rattle.nf_quick_def.specs.Order.{Reach, IsAtMost}
-use Rattle.nf_quick_def.specs.Shortest.{reach_of}
+use Rattle.std.proofs.Common.{◌≡◌, ◌≢◌, ℕ, zero, suc, ◌+◌, ◌<◌, ◌≤◌, List, [], ◌∷◌, ◌++◌, length, ◌⊎◌, inl, inr, ⊎_elim, Bool, true, false, eqb, Option, Some, None, slice_get, Ok, replicate, sym, ap, subst, refl, ◌∙◌, arith, length-append}
+use Rattle.nf_quick_laws.proofs.Common.{eqb_tells, length-set, length-replicate, ℚ, 0ℚ, ◌+ℚ◌, reading_of, eq, linear_eq, Passing, result_of, number_at, Link}
+use Rattle.nf_quick_laws.proofs.Common.{Network, IsLink, IsNetwork, transit_of-is, Step, begin_of, end_of, signed, can_go, Leads, IsResidualWalk, step_length}
+use Rattle.nf_quick_laws.proofs.Common.{walk_length, Reach, IsAtMost, reach_of, same_Some, same_Ok}
 use Rattle.nf_quick_def.specs.Rounds.{Known, known_at, op_of, steps_from, round_list, rounds_list, first_known}
-use Rattle.nf_quick_laws.proofs.ResidualWalks.{IsResidualWalk-append, IsResidualWalk-one, walk_length-append, length-append}
-use Rattle.nf_quick_laws.proofs.Apart.{IsResidualWalk-split}
+use Rattle.nf_quick_laws.proofs.ResidualWalks.{IsResidualWalk-append, IsResidualWalk-one, walk_length-append}
+use Rattle.nf_quick_laws.proofs.Apart.{IsResidualWalk-split, sum_last}
 use Rattle.nf_quick_laws.proofs.Orders.{IsAtMost-refl, IsAtMost-trans, IsAtMost-more}
 use Rattle.nf_quick_laws.proofs.Offers.{AtMostAt, extended, IsIn, AllDone, fold-done, bind-ok, known_at-set, known_at-else}
-use Rattle.std.proofs.lemmas.Option.{same_Some}
-use Rattle.nf_rational_laws.proofs.Results.{same_Ok}
 
 -- ---- the steps of a list of links
 plus_none : (k : ℕ) → k ≡ k + 0
@@ -137,9 +125,6 @@ known_at-none (suc n) (suc v) q e = known_at-none n v q e
 
 pub last_sum : (x y l s : ℚ) → x ≡ y → s ≡ y +ℚ (l +ℚ 0ℚ) → x +ℚ l ≡ s
 last_sum x y l s e f = linear_eq (x ∷ y ∷ l ∷ s ∷ []) (eq e ∷ eq f ∷ []) (search reading_of) tt tt
-
-sum_last : (y l s : ℚ) → s ≡ y +ℚ (l +ℚ 0ℚ) → s ≡ y +ℚ l
-sum_last y l s f = linear_eq (y ∷ l ∷ s ∷ []) (eq f ∷ []) (search reading_of) tt tt
 
 module _ (net : Network) (flows : List ℚ) (from : ℕ) (good : IsNetwork net) (inside : from < net.nodes) where
   pub HasBest-first : HasBest net flows from 0 (first_known net.nodes from)

@@ -1,23 +1,17 @@
 -- The result of all rounds: the first of all residual walks to each node to which one leads. Exact operations never exceed a bound, so such
 -- a walk and a least length exist.
 use Rattle.std.proofs.Common.{◌≡◌, ℕ, zero, suc, ◌+◌, ◌-◌, ◌<◌, ◌≤◌, List, [], ◌∷◌, ◌++◌, length, ◌⊎◌, inl, inr, Bool, true, false, Option, Some, None, Ok, sym, ap, subst, refl, ◌∙◌, arith}
-use Rattle.nf_rational.specs.Rational.{ℚ}
-use Rattle.nf_frac_def.specs.declared.Op.{Op}
-use Rattle.nf_frac_def.specs.Passing.{Passing, result_of}
-use Rattle.nf_frac_def.specs.Checked.{Checked, checked, fold_checked, ◌>>=◌}
-use Rattle.nf_model.specs.Entries.{number_at}
-use Rattle.nf_model.specs.Network.{Link, Network, IsNetwork}
-use Rattle.nf_quick_def.specs.Steps.{Step, begin_of, end_of, can_go, IsResidualWalk, walk_length}
-use Rattle.nf_quick_def.specs.Order.{Reach, IsAtMost}
-use Rattle.nf_quick_def.specs.Shortest.{IsLeastLength, IsFirstWalk, reach_of}
+use Rattle.nf_quick_laws.proofs.Common.{ℚ, Passing, number_at, Link, Network, IsNetwork, Step, begin_of, end_of, can_go, IsResidualWalk, walk_length}
+use Rattle.nf_quick_laws.proofs.Common.{Reach, IsAtMost, IsLeastLength, IsFirstWalk, reach_of, EachHasLeast, NoneNegative, IsFoundAt, same_Some, none-some}
+use Rattle.nf_frac_def.specs.Checked.{Checked, fold_checked, ◌>>=◌}
+use Rattle.nf_frac_def.specs.Passing.{never}
+use Rattle.nf_frac_def.proofs.Exact.{checked-never}
 use Rattle.nf_quick_def.specs.Rounds.{Known, known_at, op_of, offered, along, along_step, steps_from, round_list, rounds_list, reaches_list, first_known}
-use Rattle.nf_quick_laws.specs.ResidualLaws.{EachHasLeast, NoneNegative, IsFoundAt}
 use Rattle.nf_quick_laws.proofs.Apart.{IsAtMost-length}
 use Rattle.nf_quick_laws.proofs.Orders.{IsAtMost-trans}
 use Rattle.nf_quick_laws.proofs.Offers.{AtMostAt}
 use Rattle.nf_quick_laws.proofs.Finding.{HasBest, HasBest-first, HasBest-rounds}
 use Rattle.nf_quick_laws.proofs.Cutting.{IsCutTo, cut, IsCutTo-at_most}
-use Rattle.std.proofs.lemmas.Option.{same_Some, none-some}
 
 module _ (net : Network) (flows : List ℚ) (from : ℕ) (good : IsNetwork net) (inside : from < net.nodes) (closed : NoneNegative net flows) where
   -- The shortened walk to v, or a better one, is known.
@@ -53,18 +47,11 @@ module _ (net : Network) (flows : List ℚ) (from : ℕ) (good : IsNetwork net) 
   reaches-count passes known e = (HasBest-rounds net flows from good inside passes (net.nodes - 1) 0 (first_known net.nodes from) known (HasBest-first net flows from good inside) e).count
 
 -- ---- exactly, where no operation passes
-never : Passing
-never op x y = false
-
 abbrev pub Succeeds : {A : Type 0} → Checked A → Type 0
 Succeeds {A} w = (a : A) × (w ≡ Ok a)
 
-exact : (op : Op) (x y : ℚ) → checked never op x y ≡ Ok (result_of op x y)
-unfolding checked never
-exact op x y = refl
-
 along-given : (goes : Bool) (before : Option Reach) (step : Step) (transit : ℚ) (end : ℕ) (so_far : Known) → Succeeds (along never goes before step transit end so_far)
-along-given true (Some b) step transit end so_far = (_, ap (λ (w : Checked ℚ). ◌>>=◌ w (λ z. Ok (offered so_far end (record { distance = z; steps = b.steps ++ step ∷ [] })))) (exact (op_of step.forward) b.distance transit))
+along-given true (Some b) step transit end so_far = (_, ap (λ (w : Checked ℚ). ◌>>=◌ w (λ z. Ok (offered so_far end (record { distance = z; steps = b.steps ++ step ∷ [] })))) (checked-never (op_of step.forward) b.distance transit))
 along-given true None step transit end so_far = (so_far, refl)
 along-given false before step transit end so_far = (so_far, refl)
 

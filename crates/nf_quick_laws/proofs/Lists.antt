@@ -1,22 +1,11 @@
 -- The results of the operation sequences, if no operation passes: the first residual walk with its room, and the least lengths.
 use Rattle.std.proofs.Common.{◌≡◌, ℕ, ◌<◌, List, Option, Some, None, slice_get, unwrap_or, option_map, map, Ok, sym, subst, ◌∙◌}
-use Rattle.std.proofs.lemmas.List.{length-map}
-use Rattle.std.proofs.lemmas.Option.{slice_get-map, same_Some}
-use Rattle.nf_rational.specs.Rational.{ℚ}
-use Rattle.nf_rational.specs.Operations.{0ℚ}
-use Rattle.nf_frac_def.specs.Passing.{Passing}
-use Rattle.nf_frac_def.specs.Checked.{Checked, fold_checked}
-use Rattle.nf_model.specs.Network.{Network, IsNetwork}
-use Rattle.nf_quick_def.specs.Steps.{Step, IsResidualWalk, IsLimited}
-use Rattle.nf_quick_def.specs.Order.{Reach}
-use Rattle.nf_quick_def.specs.Shortest.{IsLeastLength}
+use Rattle.nf_quick_laws.proofs.Common.{length-map, slice_get-map, same_Some, ℚ, 0ℚ, Passing, Checked, fold_checked, Network, IsNetwork, Step, IsResidualWalk}
+use Rattle.nf_quick_laws.proofs.Common.{IsLimited, Reach, IsLeastLength, IsRoom, IsShortest, AreLeastLengths, NoneNegative, IsFoundAt, same_Ok}
 use Rattle.nf_quick_def.specs.Rounds.{Known, known_at, Walk, room_after, reaches_list, distances_list, with_room, shortest_list}
-use Rattle.nf_quick_def.specs.Answers.{IsRoom, IsShortest, AreLeastLengths}
-use Rattle.nf_quick_laws.specs.ResidualLaws.{NoneNegative, IsFoundAt}
 use Rattle.nf_quick_laws.proofs.Offers.{bind-ok}
 use Rattle.nf_quick_laws.proofs.Found.{IsFoundAt-list, reaches-count, IsLeastLength-first}
 use Rattle.nf_quick_laws.proofs.PushList.{RoomFound, RoomFound-fold, can_go_each, unbounded_walk}
-use Rattle.nf_rational_laws.proofs.Results.{same_Ok}
 
 module _ (passes : Passing) (net : Network) (flows : List ℚ) (good : IsNetwork net) (closed : NoneNegative net flows) where
   room_of : (limited : IsLimited net) (walk : List Step) (room : Option ℚ) → IsResidualWalk net flows walk net.source net.sink → RoomFound passes net flows walk None room → IsRoom net flows walk (unwrap_or room 0ℚ)

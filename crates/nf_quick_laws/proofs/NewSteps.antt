@@ -1,24 +1,10 @@
 -- A push along the first residual walk, of an amount for which it has room, keeps a flow sound.
 use Rattle.std.proofs.Common.{◌≡◌, ◌≢◌, ℕ, ◌<◌, List, [], ◌∷◌, ◌⊎◌, inl, inr, ⊎_elim, Bool, true, false, Option, Some, None, sym, ap, subst, refl, ◌∙◌}
-use Rattle.std.proofs.lemmas.Option.{same_Some}
-use Rattle.std.proofs.lemmas.List.{append-nil}
-use Rattle.nf_rational.specs.Rational.{ℚ}
-use Rattle.nf_rational.specs.Operations.{0ℚ, 1ℚ, ◌+ℚ◌, ◌-ℚ◌, ◌*ℚ◌}
-use Rattle.nf_rational.specs.Order.{◌≤ℚ◌, ◌<ℚ◌, lt_ℚ}
-use Rattle.nf_rational_laws.proofs.Polynomial.{reading_of}
-use Rattle.nf_rational_laws.proofs.Tests.{less_of_test}
-use Rattle.nf_rational_laws.proofs.Linear.{le, lt, eq, eq_times, linear_le, linear_eq}
-use Rattle.nf_rational_laws.proofs.Facts.{moved_by_zero, zero_not_above}
-use Rattle.nf_model.specs.Entries.{number_at}
-use Rattle.nf_model.specs.Network.{Link, Network, IsLink, IsNetwork, hops, sum_in, sum_out}
-use Rattle.nf_model.specs.Walk.{transit_of}
-use Rattle.nf_model_laws.proofs.Sums.{sum_in-same, sum_out-same, sum_in-none, sum_in-line, sum_out-line}
-use Rattle.nf_model_laws.proofs.Potential.{only_at, only_at-here, only_at-else}
-use Rattle.nf_quick_def.specs.Steps.{Step, begin_of, end_of, signed, can_go, Leads, IsResidualWalk, step_length, walk_length}
-use Rattle.nf_quick_def.specs.Flows.{IsSound, value_of, cost_of}
-use Rattle.nf_quick_def.specs.Shortest.{IsLeastLength, IsFirstWalk, HasRoomAlong, HasRoom, HasRoomOn}
-use Rattle.nf_quick_def.specs.Pushed.{crossed, IsPushed}
-use Rattle.nf_quick_laws.specs.ResidualLaws.{EachHasLeast}
+use Rattle.nf_quick_laws.proofs.Common.{same_Some, append-nil, ℚ, 0ℚ, 1ℚ, ◌+ℚ◌, ◌-ℚ◌, ◌*ℚ◌, ◌≤ℚ◌, ◌<ℚ◌, lt_ℚ, reading_of, less_of_test, le, lt, eq, eq_times}
+use Rattle.nf_quick_laws.proofs.Common.{linear_le, linear_eq, moved_by_zero, zero_not_above, number_at, Link, Network, IsLink, IsNetwork, hops, sum_in, sum_out}
+use Rattle.nf_quick_laws.proofs.Common.{transit_of, sum_in-same, sum_out-same, sum_in-none, sum_in-line, sum_out-line, only_at, only_at-here, only_at-else}
+use Rattle.nf_quick_laws.proofs.Common.{Step, begin_of, end_of, signed, can_go, Leads, IsResidualWalk, step_length, walk_length, IsSound, value_of, cost_of}
+use Rattle.nf_quick_laws.proofs.Common.{IsLeastLength, IsFirstWalk, HasRoomAlong, HasRoom, HasRoomOn, crossed, IsPushed, EachHasLeast}
 use Rattle.nf_quick_laws.proofs.ResidualWalks.{Leads-turn}
 use Rattle.nf_quick_laws.proofs.Potentials.{ArePotentials, ArePotentials-walk, ArePotentials-between, ArePotentials-least, IsLeastLength-one}
 use Rattle.nf_quick_laws.proofs.Apart.{EachStep, AreApart, IsFine, front_least, all_fine, all_apart}

@@ -1,19 +1,9 @@
 -- One round: each known path is kept or improved, each residual step from a known node is offered, and there are no other entries.
 use Rattle.std.proofs.Common.{◌≡◌, ◌≢◌, ℕ, zero, suc, ◌<◌, List, [], ◌∷◌, ◌++◌, length, ◌⊎◌, inl, inr, ⊎_elim, Bool, true, false, if◌then◌else◌, eqb, Option, Some, None, Ok, Err, set, sym, ap, subst, refl, ◌∙◌, arith}
-use Rattle.std.proofs.lemmas.Bool.Decides.{eqb_tells}
-use Rattle.std.proofs.lemmas.List.{length-set}
-use Rattle.nf_rational.specs.Rational.{ℚ}
-use Rattle.nf_frac_def.specs.Passing.{Passing, result_of}
-use Rattle.nf_frac_def.specs.Checked.{Checked, checked, fold_checked, ◌>>=◌}
-use Rattle.nf_frac_def.proofs.Exact.{checked-is}
-use Rattle.nf_model.specs.Entries.{number_at}
-use Rattle.nf_model.specs.Network.{Link}
-use Rattle.nf_quick_def.specs.Steps.{Step, begin_of, end_of, can_go}
-use Rattle.nf_quick_def.specs.Order.{Reach, IsAtMost, is_better}
-use Rattle.nf_quick_def.specs.Rounds.{Known, known_at, better_of, offered, op_of, along, along_step}
+use Rattle.nf_quick_laws.proofs.Common.{eqb_tells, length-set, ℚ, Passing, result_of, Checked, checked, fold_checked, ◌>>=◌, checked-is, number_at, Link, Step}
+use Rattle.nf_quick_laws.proofs.Common.{begin_of, end_of, can_go, Reach, IsAtMost, is_better, Known, known_at, better_of, offered, op_of, along, along_step}
+use Rattle.nf_quick_laws.proofs.Common.{same_Some, none-some, same_Ok}
 use Rattle.nf_quick_laws.proofs.Orders.{IsAtMost-refl, IsAtMost-trans, is_better-true, is_better-false}
-use Rattle.std.proofs.lemmas.Option.{same_Some, none-some}
-use Rattle.nf_rational_laws.proofs.Results.{same_Ok}
 
 -- ---- a checked operation that doesn't pass has its exact value
 
@@ -48,7 +38,7 @@ better-new (Some k) r = by_test (is_better r k) refl
     by_test true e = IsAtMost-refl r
     by_test false e = is_better-false r k e
 
-better-old : (k r : Reach) → IsAtMost (better_of (Some k) r) k
+pub better-old : (k r : Reach) → IsAtMost (better_of (Some k) r) k
 better-old k r = by_test (is_better r k) refl
   where
     by_test : (t : Bool) → is_better r k ≡ t → IsAtMost (if t then r else k) k

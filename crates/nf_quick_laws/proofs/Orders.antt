@@ -1,19 +1,8 @@
 -- The order of paths is total and transitive, the test decides it, and extending both by a step preserves it.
-use Rattle.std.proofs.Common.{◌≡◌, ◌≢◌, ℕ, suc, ◌+◌, ◌<◌, ◌≤◌, ◌==◌, ◌&&◌, ◌||◌, nat_lt, List, [], ◌∷◌, ◌++◌, length, ◌⊎◌, inl, inr, ⊎_elim, Bool, true, false, not, eqb, leb, sym, refl, ◌∙◌, arith}
-use Rattle.std.proofs.lemmas.Bool.Decides.{eqb_tells, leb_tells}
-use Rattle.nf_rational.specs.Rational.{ℚ}
-use Rattle.nf_rational.specs.Operations.{◌+ℚ◌}
-use Rattle.nf_rational.specs.Order.{◌≤ℚ◌, ◌<ℚ◌, lt_ℚ}
-use Rattle.nf_rational_laws.proofs.Polynomial.{reading_of}
-use Rattle.nf_rational_laws.proofs.Order.{≤ℚ_antisymm, lt_or_le_ℚ}
-use Rattle.nf_rational_laws.proofs.Tests.{less_of_test, not_less_of_test}
-use Rattle.nf_rational_laws.proofs.Linear.{lt, eq, linear_lt, linear_eq}
-use Rattle.nf_quick_def.specs.Steps.{Step, place}
-use Rattle.nf_quick_def.specs.Order.{Reach, AreFirst, AreFewerOrFirst, IsAtMost, are_before, are_fewer_or_before, is_better}
-use Rattle.nf_quick_laws.proofs.ResidualWalks.{length-append}
-use Rattle.std.proofs.lemmas.Bool.{and_parts, not-false, not-true, or_parts}
-use Rattle.nf_rational_laws.proofs.Chains.{<ℚ_trans}
-use Rattle.nf_rational_laws.proofs.Results.{not_both}
+use Rattle.std.proofs.Common.{◌≡◌, ◌≢◌, ℕ, suc, ◌+◌, ◌<◌, ◌≤◌, ◌==◌, ◌&&◌, ◌||◌, nat_lt, List, [], ◌∷◌, ◌++◌, length, ◌⊎◌, inl, inr, ⊎_elim, Bool, true, false, not, leb, sym, refl, ◌∙◌, arith, length-append}
+use Rattle.nf_quick_laws.proofs.Common.{leb_tells, ℚ, ◌+ℚ◌, ◌≤ℚ◌, ◌<ℚ◌, lt_ℚ, reading_of, ≤ℚ_antisymm, lt_or_le_ℚ, less_of_test, not_less_of_test, lt, eq}
+use Rattle.nf_quick_laws.proofs.Common.{linear_lt, linear_eq, Step, place, Reach, AreFirst, AreFewerOrFirst, IsAtMost, are_before, are_fewer_or_before}
+use Rattle.nf_quick_laws.proofs.Common.{is_better, and_parts, not-false, not-true, or_parts, eqb-true, eqb-false, ltb-true, ltb-false, <ℚ_trans}
 
 -- ---- walks of equally many steps
 pub AreFirst-refl : (walk : List Step) → AreFirst walk walk
@@ -46,7 +35,7 @@ and_false : (a b : Bool) → (a && b) ≡ false → (a ≡ false) ⊎ ((a ≡ tr
 and_false true b e = inr (refl, e)
 and_false false b e = inl refl
 
-lt_tells : (a b : ℕ) → ((nat_lt a b ≡ true) × (a < b)) ⊎ ((nat_lt a b ≡ false) × (b ≤ a))
+pub lt_tells : (a b : ℕ) → ((nat_lt a b ≡ true) × (a < b)) ⊎ ((nat_lt a b ≡ false) × (b ≤ a))
 lt_tells a b = ⊎_elim
     (λ (w : (leb (suc a) b ≡ true) × (suc a ≤ b)). inl (w.0, w.1))
     (λ (w : (leb (suc a) b ≡ false) × (b < suc a)). inr (w.0, below w.1))
@@ -55,18 +44,6 @@ lt_tells a b = ⊎_elim
     below : b < suc a → b ≤ a
     below h = omega arith
 
-lt_true : (a b : ℕ) → nat_lt a b ≡ true → a < b
-lt_true a b e = ⊎_elim (λ (w : (nat_lt a b ≡ true) × (a < b)). w.1) (λ (w : (nat_lt a b ≡ false) × (b ≤ a)). absurd (not_both (nat_lt a b) e w.0)) (lt_tells a b)
-
-lt_false : (a b : ℕ) → nat_lt a b ≡ false → b ≤ a
-lt_false a b e = ⊎_elim (λ (w : (nat_lt a b ≡ true) × (a < b)). absurd (not_both (nat_lt a b) w.0 e)) (λ (w : (nat_lt a b ≡ false) × (b ≤ a)). w.1) (lt_tells a b)
-
-eq_true : (a b : ℕ) → (a == b) ≡ true → a ≡ b
-eq_true a b e = ⊎_elim (λ (w : (eqb a b ≡ true) × (a ≡ b)). w.1) (λ (w : (eqb a b ≡ false) × (a ≢ b)). absurd (not_both (eqb a b) e w.0)) (eqb_tells a b)
-
-eq_false : (a b : ℕ) → (a == b) ≡ false → a ≢ b
-eq_false a b e = ⊎_elim (λ (w : (eqb a b ≡ true) × (a ≡ b)). absurd (not_both (eqb a b) w.0 e)) (λ (w : (eqb a b ≡ false) × (a ≢ b)). w.1) (eqb_tells a b)
-
 less_from : (a b : ℕ) → b ≤ a → a ≢ b → b < a
 less_from a b h other = omega arith
 
@@ -74,9 +51,9 @@ are_before-true : (p q : List Step) → are_before p q ≡ true → AreFirst p q
 are_before-true [] q e = absurd (cc)
 are_before-true (a ∷ p) [] e = absurd (cc)
 are_before-true (a ∷ p) (b ∷ q) e = ⊎_elim
-    (λ (l : nat_lt (place a) (place b) ≡ true). inl (lt_true (place a) (place b) l))
+    (λ (l : nat_lt (place a) (place b) ≡ true). inl (ltb-true (place a) (place b) l))
     (λ (r : (nat_lt (place a) (place b) ≡ false) × (((place a == place b) && are_before p q) ≡ true)).
-    let both : ((place a == place b) ≡ true) × (are_before p q ≡ true) = and_parts _ _ r.1 in inr (eq_true (place a) (place b) both.0, are_before-true p q both.1))
+    let both : ((place a == place b) ≡ true) × (are_before p q ≡ true) = and_parts _ _ r.1 in inr (eqb-true (place a) (place b) both.0, are_before-true p q both.1))
     (or_cases _ _ e)
 
 are_before-false : (p q : List Step) → length p ≡ length q → are_before p q ≡ false → AreFirst q p
@@ -85,10 +62,10 @@ are_before-false [] (b ∷ q) h e = absurd (omega arith)
 are_before-false (a ∷ p) [] h e = absurd (omega arith)
 are_before-false (a ∷ p) (b ∷ q) h e =
     let both : (nat_lt (place a) (place b) ≡ false) × (((place a == place b) && are_before p q) ≡ false) = or_parts _ _ e in
-    let least : place b ≤ place a = lt_false (place a) (place b) both.0 in
+    let least : place b ≤ place a = ltb-false (place a) (place b) both.0 in
     ⊎_elim
-    (λ (other : (place a == place b) ≡ false). inl (less_from (place a) (place b) least (eq_false (place a) (place b) other)))
-    (λ (same : ((place a == place b) ≡ true) × (are_before p q ≡ false)). inr (sym (eq_true (place a) (place b) same.0), are_before-false p q (omega arith) same.1))
+    (λ (other : (place a == place b) ≡ false). inl (less_from (place a) (place b) least (eqb-false (place a) (place b) other)))
+    (λ (same : ((place a == place b) ≡ true) × (are_before p q ≡ false)). inr (sym (eqb-true (place a) (place b) same.0), are_before-false p q (omega arith) same.1))
     (and_false _ _ both.1)
 
 -- ---- fewer steps first
@@ -107,19 +84,19 @@ AreFewerOrFirst-append p q step f = one_more (length-append p (step ∷ [])) (le
 
 are_fewer-true : (p q : List Step) → are_fewer_or_before p q ≡ true → AreFewerOrFirst p q
 are_fewer-true p q e = ⊎_elim
-    (λ (l : nat_lt (length p) (length q) ≡ true). inl (lt_true (length p) (length q) l))
+    (λ (l : nat_lt (length p) (length q) ≡ true). inl (ltb-true (length p) (length q) l))
     (λ (r : (nat_lt (length p) (length q) ≡ false) × (((length p == length q) && are_before p q) ≡ true)).
-    let both : ((length p == length q) ≡ true) × (are_before p q ≡ true) = and_parts _ _ r.1 in inr (eq_true (length p) (length q) both.0, are_before-true p q both.1))
+    let both : ((length p == length q) ≡ true) × (are_before p q ≡ true) = and_parts _ _ r.1 in inr (eqb-true (length p) (length q) both.0, are_before-true p q both.1))
     (or_cases _ _ e)
 
 are_fewer-false : (p q : List Step) → are_fewer_or_before p q ≡ false → AreFewerOrFirst q p
 are_fewer-false p q e =
     let both : (nat_lt (length p) (length q) ≡ false) × (((length p == length q) && are_before p q) ≡ false) = or_parts _ _ e in
-    let least : length q ≤ length p = lt_false (length p) (length q) both.0 in
+    let least : length q ≤ length p = ltb-false (length p) (length q) both.0 in
     ⊎_elim
-    (λ (other : (length p == length q) ≡ false). inl (less_from (length p) (length q) least (eq_false (length p) (length q) other)))
+    (λ (other : (length p == length q) ≡ false). inl (less_from (length p) (length q) least (eqb-false (length p) (length q) other)))
     (λ (same : ((length p == length q) ≡ true) × (are_before p q ≡ false)).
-    let h : length p ≡ length q = eq_true (length p) (length q) same.0 in inr (sym h, are_before-false p q h same.1))
+    let h : length p ≡ length q = eqb-true (length p) (length q) same.0 in inr (sym h, are_before-false p q h same.1))
     (and_false _ _ both.1)
 
 -- ---- shorter first

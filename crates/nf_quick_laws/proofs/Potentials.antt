@@ -1,15 +1,7 @@
 -- Potentials: numbers at some nodes, which no residual step exceeds by more than its length. Least lengths are such numbers.
 use Rattle.std.proofs.Common.{◌≡◌, ℕ, List, [], ◌∷◌, ◌++◌, ⊎_elim, subst, ◌∙◌}
-use Rattle.nf_rational.specs.Rational.{ℚ}
-use Rattle.nf_rational.specs.Operations.{0ℚ, ◌+ℚ◌}
-use Rattle.nf_rational.specs.Order.{◌≤ℚ◌}
-use Rattle.nf_rational_laws.proofs.Polynomial.{reading_of}
-use Rattle.nf_rational_laws.proofs.Order.{≤ℚ_antisymm}
-use Rattle.nf_rational_laws.proofs.Linear.{le, eq, linear_le, linear_eq}
-use Rattle.nf_model.specs.Network.{Network}
-use Rattle.nf_quick_def.specs.Steps.{Step, Leads, IsResidualWalk, step_length, walk_length}
-use Rattle.nf_quick_def.specs.Shortest.{IsLeastLength}
-use Rattle.nf_quick_laws.specs.ResidualLaws.{EachHasLeast}
+use Rattle.nf_quick_laws.proofs.Common.{ℚ, 0ℚ, ◌+ℚ◌, ◌≤ℚ◌, reading_of, ≤ℚ_antisymm, le, eq, linear_le, linear_eq, Network, Step, Leads, IsResidualWalk}
+use Rattle.nf_quick_laws.proofs.Common.{step_length, walk_length, IsLeastLength, EachHasLeast}
 use Rattle.nf_quick_laws.proofs.ResidualWalks.{IsResidualWalk-append, IsResidualWalk-one, walk_length-append}
 
 -- `At v d`: the potential at v is d. From a node that has one, each residual step leads to a node that has one, which is greater by

@@ -1,32 +1,14 @@
 -- The push list, if no operation passes, is a push. The room computed along a walk is the greatest amount that has room on it.
 use Rattle.std.proofs.Common.{◌≡◌, ◌≢◌, ℕ, zero, suc, ◌<◌, List, [], ◌∷◌, length, ◌⊎◌, inl, inr, ⊎_elim, Bool, true, false, if◌then◌else◌, eqb, Option, Some, None, unwrap_or, option_map, Ok, set, sym, ap, subst, refl, ◌∙◌, arith}
-use Rattle.std.proofs.lemmas.Bool.Decides.{eqb_tells}
-use Rattle.std.proofs.lemmas.List.{length-set}
-use Rattle.nf_rational.specs.Rational.{ℚ}
-use Rattle.nf_rational.specs.Operations.{0ℚ, 1ℚ, ◌+ℚ◌, ◌-ℚ◌, ◌*ℚ◌}
-use Rattle.nf_rational.specs.Order.{◌≤ℚ◌, ◌<ℚ◌}
-use Rattle.nf_rational_laws.proofs.Polynomial.{reading_of}
-use Rattle.nf_rational_laws.proofs.Tests.{less_of_test}
-use Rattle.nf_rational_laws.proofs.Linear.{le, eq, eq_times, linear_le, linear_eq}
-use Rattle.nf_frac_def.specs.Passing.{Passing, result_of}
-use Rattle.nf_frac_def.specs.Checked.{Checked, checked, fold_checked}
-use Rattle.nf_frac_def.specs.declared.Op.TheVariants.{Difference}
-use Rattle.nf_frac_def.proofs.Exact.{checked-is}
-use Rattle.nf_model.specs.Entries.{number_at}
-use Rattle.nf_model.specs.Network.{Link, Network, IsLink}
-use Rattle.nf_quick_def.specs.Steps.{Step, begin_of, end_of, signed, can_go, IsResidualWalk, IsUnboundedWalk}
-use Rattle.nf_quick_def.specs.Shortest.{HasRoomAlong, HasRoom, HasRoomOn}
-use Rattle.nf_quick_def.specs.Rounds.{op_of, lesser, capacity_of, room_along, room_after}
+use Rattle.nf_quick_laws.proofs.Common.{eqb_tells, length-set, ℚ, 0ℚ, 1ℚ, ◌+ℚ◌, ◌-ℚ◌, ◌*ℚ◌, ◌≤ℚ◌, ◌<ℚ◌, reading_of, less_of_test, le, eq, eq_times, linear_le}
+use Rattle.nf_quick_laws.proofs.Common.{linear_eq, Passing, result_of, Checked, checked, fold_checked, Difference, checked-is, number_at, Link, Network, IsLink}
+use Rattle.nf_quick_laws.proofs.Common.{Step, begin_of, end_of, signed, can_go, IsResidualWalk, IsUnboundedWalk, HasRoomAlong, HasRoom, HasRoomOn, op_of}
+use Rattle.nf_quick_laws.proofs.Common.{lesser, capacity_of, room_along, room_after, IsPushed, ≤ℚ_refl, ≤ℚ_trans, min_left, min_right, min_keeps, same_Ok}
+use Rattle.nf_quick_laws.proofs.Common.{plus_zero_times, less_ps}
 use Rattle.nf_quick_def.specs.Pushes.{push_step, push_list}
-use Rattle.nf_quick_def.specs.Pushed.{IsPushed}
 use Rattle.nf_quick_laws.proofs.Apart.{EachStep}
 use Rattle.nf_quick_laws.proofs.Crossings.{choose, choose_not}
 use Rattle.nf_quick_laws.proofs.Offers.{bind-ok}
-use Rattle.nf_rational_laws.proofs.Chains.{≤ℚ_refl, ≤ℚ_trans}
-use Rattle.nf_rational_laws.proofs.Extremes.{min_left, min_right, min_keeps}
-use Rattle.nf_rational_laws.proofs.Results.{same_Ok}
-use Rattle.nf_rational_laws.proofs.Facts.{plus_zero_times}
-use Rattle.nf_rational_laws.proofs.Order.{less_ps}
 
 -- ---- entries
 pub number_at-set : (xs : List ℚ) (v : ℕ) (x : ℚ) → v < length xs → number_at (set xs v x) v ≡ x

@@ -1,24 +1,10 @@
 -- The push list along the shortest walk keeps a flow sound.
 use Rattle.std.proofs.Common.{◌≡◌, ℕ, ◌<◌, List, [], ◌∷◌, length, Bool, true, false, Option, Some, None, Ok, sym, subst}
-use Rattle.std.proofs.lemmas.Option.{slice_get_within}
-use Rattle.nf_rational.specs.Rational.{ℚ}
-use Rattle.nf_rational.specs.Operations.{0ℚ, ◌+ℚ◌}
-use Rattle.nf_rational.specs.Order.{◌≤ℚ◌, ◌<ℚ◌}
-use Rattle.nf_rational_laws.proofs.Polynomial.{reading_of}
-use Rattle.nf_rational_laws.proofs.Linear.{le, linear_le}
-use Rattle.nf_frac_def.specs.Passing.{Passing}
-use Rattle.nf_model.specs.Network.{Network, IsNetwork}
-use Rattle.nf_quick_def.specs.Steps.{Step, IsResidualWalk}
-use Rattle.nf_quick_def.specs.Flows.{IsSound}
-use Rattle.nf_quick_def.specs.Shortest.{HasRoomAlong, HasRoomOn}
-use Rattle.nf_quick_def.specs.Rounds.{Walk}
-use Rattle.nf_quick_def.specs.Pushes.{push_list}
-use Rattle.nf_quick_def.specs.Answers.{IsShortestWalk}
-use Rattle.nf_quick_laws.specs.ResidualLaws.{IsPush}
+use Rattle.nf_quick_laws.proofs.Common.{slice_get_within, ℚ, 0ℚ, ◌+ℚ◌, ◌≤ℚ◌, ◌<ℚ◌, reading_of, le, linear_le, Passing, Network, IsNetwork, Step, IsResidualWalk}
+use Rattle.nf_quick_laws.proofs.Common.{IsSound, HasRoomAlong, HasRoomOn, Walk, push_list, IsShortestWalk, IsPush, ≤ℚ_trans}
 use Rattle.nf_quick_laws.proofs.Apart.{EachStep}
 use Rattle.nf_quick_laws.proofs.Found.{EachHasLeast-sound}
 use Rattle.nf_quick_laws.proofs.PushList.{IsPushed-list}
-use Rattle.nf_rational_laws.proofs.Chains.{≤ℚ_trans}
 
 less_room : (x a b c : ℚ) → x +ℚ b ≤ℚ c → a ≤ℚ b → x +ℚ a ≤ℚ c
 less_room x a b c h k = linear_le (x ∷ a ∷ b ∷ c ∷ []) (le h ∷ le k ∷ []) (search reading_of) tt

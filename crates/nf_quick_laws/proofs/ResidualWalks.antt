@@ -1,10 +1,6 @@
 -- Residual walks: concatenation, and closed sections.
-use Rattle.std.proofs.Common.{◌≡◌, ℕ, ◌+◌, List, [], ◌∷◌, ◌++◌, length, Bool, true, false, sym, ap, subst, refl, ◌∙◌, arith}
-use Rattle.nf_rational.specs.Rational.{ℚ}
-use Rattle.nf_rational.specs.Operations.{◌+ℚ◌}
-use Rattle.nf_rational_laws.proofs.Facts.{zero_plus, sum_of_sum}
-use Rattle.nf_model.specs.Network.{Link, Network, IsLink}
-use Rattle.nf_quick_def.specs.Steps.{Step, begin_of, end_of, Leads, IsResidualWalk, walk_length}
+use Rattle.std.proofs.Common.{◌≡◌, ℕ, ◌+◌, List, [], ◌∷◌, ◌++◌, Bool, true, false, sym, ap, subst, refl, ◌∙◌}
+use Rattle.nf_quick_laws.proofs.Common.{ℚ, ◌+ℚ◌, zero_plus, sum_of_sum, Link, Network, IsLink, Step, begin_of, end_of, Leads, IsResidualWalk, walk_length}
 
 -- ---- concatenation
 pub walk_length-append : (net : Network) (walk more : List Step) → walk_length net (walk ++ more) ≡ walk_length net walk +ℚ walk_length net more
@@ -18,10 +14,6 @@ IsResidualWalk-append net flows (step ∷ walk) more u v w p q = (p.0, p.1, IsRe
 
 pub IsResidualWalk-one : (net : Network) (flows : List ℚ) (step : Step) (v w : ℕ) → Leads net flows step v w → IsResidualWalk net flows (step ∷ []) v w
 IsResidualWalk-one net flows step v w l = (w, l, refl)
-
-pub length-append : {A : Type 0} (xs ys : List A) → length (xs ++ ys) ≡ length xs + length ys
-length-append [] ys = omega arith
-length-append (x ∷ xs) ys = let e : length (xs ++ ys) ≡ length xs + length ys = length-append xs ys in omega arith
 
 -- ---- a step has one begin node and one end node
 one_link : (net : Network) (d e : ℕ) (k l : Link) → IsLink net d k → IsLink net e l → d ≡ e → k ≡ l

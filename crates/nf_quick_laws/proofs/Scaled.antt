@@ -1,23 +1,12 @@
 -- A cut scaled down to an earlier time; and no earlier time delivers the amount if the value of a cut equals the amount delivered by its
 -- time.
 use Rattle.std.proofs.Common.{◌≡◌, ℕ, suc, List, [], ◌∷◌, ⊎_elim, Option, Some, None, slice_get, unwrap_or, option_map, sym, ap, subst, refl, ◌∙◌}
-use Rattle.std.proofs.lemmas.Option.{slice_get-map}
-use Rattle.std.proofs.lemmas.List.{length-map}
-use Rattle.nf_rational.specs.Rational.{ℚ}
-use Rattle.nf_rational.specs.Operations.{0ℚ, 1ℚ, ◌+ℚ◌, ◌-ℚ◌, ◌*ℚ◌, ◌/ℚ◌}
-use Rattle.nf_rational.specs.Order.{◌≤ℚ◌, ◌<ℚ◌, max_ℚ}
-use Rattle.nf_rational_laws.proofs.Polynomial.{reading_of}
-use Rattle.nf_rational_laws.proofs.Order.{≤ℚ_of_same, ≤ℚ_of_lt, lt_or_le_ℚ, not_both_ℚ, ps_times, less_ps, nn_times}
-use Rattle.nf_rational_laws.proofs.Linear.{le, lt, eq, le_times, linear_le, linear_lt, linear_false}
-use Rattle.nf_model.specs.Entries.{number_at}
-use Rattle.nf_model.specs.Network.{Link, Network, IsNetwork}
-use Rattle.nf_model.specs.Quickest.{Delivers, IsQuickest, IsCut, let_through, cut_sum, cut_value}
-use Rattle.nf_model_laws.proofs.Affine.{nn-quotient, quotient-times}
+use Rattle.nf_quick_laws.proofs.Common.{slice_get-map, length-map, ℚ, 0ℚ, 1ℚ, ◌+ℚ◌, ◌-ℚ◌, ◌*ℚ◌, ◌/ℚ◌, ◌≤ℚ◌, ◌<ℚ◌, max_ℚ, reading_of, ≤ℚ_of_same, ≤ℚ_of_lt}
+use Rattle.nf_quick_laws.proofs.Common.{lt_or_le_ℚ, not_both_ℚ, ps_times, less_ps, nn_times, le, lt, eq, le_times, linear_le, linear_lt, linear_false}
+use Rattle.nf_quick_laws.proofs.Common.{number_at, Link, Network, IsNetwork, Delivers, IsQuickest, IsCut, let_through, cut_sum, cut_value, nn-quotient}
+use Rattle.nf_quick_laws.proofs.Common.{quotient-times, ≤ℚ_trans, max_left, max_right, max_keeps, zero_of_times_zero}
 use Rattle.nf_quick_laws.specs.DualityLaws.{scaled}
 use Rattle.nf_quick_laws.proofs.Bound.{delivered-le}
-use Rattle.nf_rational_laws.proofs.Chains.{≤ℚ_trans}
-use Rattle.nf_rational_laws.proofs.Extremes.{max_left, max_right, max_keeps}
-use Rattle.nf_rational_laws.proofs.Facts.{zero_of_times_zero}
 
 pub number_at-scaled : (c : ℚ) (cut : List ℚ) (v : ℕ) → number_at (scaled c cut) v ≡ c *ℚ number_at cut v
 number_at-scaled c cut v = ap (λ (o : Option ℚ). unwrap_or o 0ℚ) (slice_get-map (λ a. c *ℚ a) cut v) ∙ by_entry (slice_get cut v)

@@ -1,21 +1,10 @@
 -- The flow 0 is sound, and each walk of the network is a residual walk for it.
 use Rattle.std.proofs.Common.{◌≡◌, ℕ, zero, suc, List, [], ◌∷◌, length, Bool, true, false, Option, Some, None, replicate, sym, ap, subst, refl, ◌∙◌}
-use Rattle.std.proofs.lemmas.List.{length-replicate}
-use Rattle.nf_rational.specs.Rational.{ℚ}
-use Rattle.nf_rational.specs.Operations.{0ℚ}
-use Rattle.nf_rational.specs.Order.{◌≤ℚ◌, ◌<ℚ◌}
-use Rattle.nf_rational_laws.proofs.Order.{≤ℚ_of_lt, ≤ℚ_of_same, nn_plus}
-use Rattle.nf_rational_laws.proofs.Tests.{less_of_test, test_of_less}
-use Rattle.nf_model.specs.Entries.{number_at}
-use Rattle.nf_model.specs.Walk.{Hop, IsWalk, transit_of}
-use Rattle.nf_model.specs.Network.{Link, Network, IsLink, IsNetwork, hops, hop_of, sum_out}
-use Rattle.nf_model_laws.proofs.Sums.{sum_in-same, sum_out-same, sum_in-none, sum_out-none}
-use Rattle.nf_model_laws.proofs.Networks.{transit_of-is, link_at}
-use Rattle.nf_quick_def.specs.Steps.{Step, signed, is_below, can_go, IsResidualWalk, walk_length}
-use Rattle.nf_quick_def.specs.Flows.{IsSound, value_of, cost_of}
+use Rattle.nf_quick_laws.proofs.Common.{length-replicate, ℚ, 0ℚ, ◌≤ℚ◌, ◌<ℚ◌, ≤ℚ_of_lt, ≤ℚ_of_same, nn_plus, less_of_test, test_of_less, number_at, Hop, IsWalk}
+use Rattle.nf_quick_laws.proofs.Common.{transit_of, Link, Network, IsLink, IsNetwork, hops, hop_of, sum_out, sum_in-same, sum_out-same, sum_in-none}
+use Rattle.nf_quick_laws.proofs.Common.{sum_out-none, transit_of-is, link_at, Step, signed, is_below, can_go, IsResidualWalk, walk_length, IsSound, value_of}
+use Rattle.nf_quick_laws.proofs.Common.{cost_of, ≤ℚ_refl, zero_not_above}
 use Rattle.nf_quick_laws.proofs.Crossings.{cost_from-none}
-use Rattle.nf_rational_laws.proofs.Chains.{≤ℚ_refl}
-use Rattle.nf_rational_laws.proofs.Facts.{zero_not_above}
 
 pub number_at-zeros : (n e : ℕ) → number_at (replicate n 0ℚ) e ≡ 0ℚ
 number_at-zeros zero e = refl

@@ -1,9 +1,9 @@
 -- The entries of lists.
-use Rattle.std.proofs.Common.{◌≡◌, ℕ, suc, ◌+◌, ◌<◌, List, [], ◌∷◌, ◌++◌, length, slice_get, get_or, unwrap_or, ap, ◌∙◌, refl, arith}
+use Rattle.std.proofs.Common.{◌≡◌, ℕ, suc, ◌+◌, ◌<◌, List, [], ◌∷◌, ◌++◌, length, slice_get, get_or, unwrap_or, ap, ◌∙◌, refl, arith, zero-add, option_map}
 use Rattle.std.specs.Prelude.{Option, Some, map}
-use Rattle.std.specs.List.{last_or, enumerate_from}
-use Rattle.std.specs.Option.{option_map}
+use Rattle.std.specs.List.{last_or, enumerate_from, range_with_len}
 use Rattle.std.proofs.lemmas.Option.{slice_get-map, slice_get-get_or}
+use Rattle.std.proofs.lemmas.List.FromFn.{get_or-range_with_len, length-range_with_len}
 
 pub entry : {A : Type 0} (xs : List A) (e : ℕ) → e < length xs → (x : A) × (slice_get xs e ≡ Some x)
 entry (x ∷ xs) e h = (get_or (x ∷ xs) e x, slice_get-get_or (x ∷ xs) e x h)
@@ -26,3 +26,10 @@ same_entries d [] [] h e = refl
 same_entries d [] (y ∷ ys) h e = absurd (cc)
 same_entries d (x ∷ xs) [] h e = absurd (cc)
 same_entries d (x ∷ xs) (y ∷ ys) h e = let a : x ≡ y = e 0 (omega arith) in let b : xs ≡ ys = same_entries d xs ys (cc) (λ i k. e (suc i) (omega arith)) in cc
+
+-- ---- numbers in order
+pub range_at : (a n i : ℕ) → i < n → slice_get (range_with_len a n) i ≡ Some (a + i)
+range_at a n i h = slice_get-get_or (range_with_len a n) i 0 (omega (arith, h, length-range_with_len a n)) ∙ ap Some (get_or-range_with_len a n i 0 h)
+
+pub below_at : (n i : ℕ) → i < n → slice_get (range_with_len 0 n) i ≡ Some i
+below_at n i h = range_at 0 n i h ∙ ap Some (zero-add i)

@@ -22,7 +22,7 @@ unfolding whole ratio gcd
 zero_den = refl
 
 -- ---- the sign of x is that of n
-times_one : (a : ℤ) → a *ℤ pos 1 ≡ a
+pub times_one : (a : ℤ) → a *ℤ pos 1 ≡ a
 times_one a = ring ints_ring (a ∷ []) (search reading depth 30) tt
 
 nn_self : (x : ℚ) → 0ℚ ≤ℚ x → pos 0 ≤ℤ x.num
@@ -161,6 +161,9 @@ pub ≤ℚ_antisymm : (x y : ℚ) → x ≤ℚ y → y ≤ℚ x → x ≡ y
   where
     apart : (a b : ℤ) → a ≤ℤ b → b ≤ℤ a → a ≡ b
     apart a b h k = omega (arith, ints)
+
+pub some_or_none : (x : ℚ) → 0ℚ ≤ℚ x → (0ℚ <ℚ x) ⊎ (x ≡ 0ℚ)
+some_or_none x n = ⊎_elim (λ (h : 0ℚ <ℚ x). inl h) (λ (h : x ≤ℚ 0ℚ). inr (≤ℚ_antisymm _ _ h n)) (lt_or_le_ℚ 0ℚ x)
 
 pub not_both_ℚ : (x y : ℚ) → x <ℚ y → y ≤ℚ x → ⊥
 not_both_ℚ x y h k = clash_ℤ h.lt k.le

@@ -14,6 +14,7 @@ use Rattle.nf_rational.specs.Rational.{ℚ, ratio, abs_quot, part_pos, parts_red
 use Rattle.nf_rational_laws.proofs.Ratio.{quot_times}
 use Rattle.nf_rational.specs.Operations.{◌*ℚ◌}
 use Rattle.nf_rational_laws.proofs.Ratio.{Is-self, Is-same, Is-times, Is-ratio}
+use Rattle.nf_rational_laws.proofs.Ints.{abs_neg}
 use Rattle.nf_rational.proofs.Lowest.{num-ratio, den-ratio}
 
 -- ---- numbers with no common factor
@@ -47,14 +48,10 @@ lowest_parts x = subst (λ (m : ℕ). IsGcd (nat_abs x.num) x.den m) x.reduced (
 quotients_apart : (a d : ℕ) → 0 < d → IsGcd (a / gcd a d) (d / gcd a d) 1
 quotients_apart a d some = subst (λ (m : ℕ). IsGcd (a / gcd a d) (d / gcd a d) m) (parts_reduced a d some) (IsGcd-gcd (a / gcd a d) (d / gcd a d))
 
-abs_negative : (k : ℕ) → nat_abs (neg_ℤ (pos k)) ≡ k
-abs_negative zero = refl
-abs_negative (suc k) = refl
-
 pub abs-product : (a b : ℤ) → nat_abs (a *ℤ b) ≡ nat_abs a * nat_abs b
 abs-product (pos a) (pos b) = refl
-abs-product (pos a) (negsuc b) = abs_negative (a * suc b)
-abs-product (negsuc a) (pos b) = abs_negative (suc a * b)
+abs-product (pos a) (negsuc b) = abs_neg (a * suc b)
+abs-product (negsuc a) (pos b) = abs_neg (suc a * b)
 abs-product (negsuc a) (negsuc b) = refl
 
 -- the parts of the product, each reduced against the other's before they meet

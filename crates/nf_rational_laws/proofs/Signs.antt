@@ -8,6 +8,7 @@ use Rattle.nf_rational.specs.Operations.{0ℚ, 1ℚ, whole, ◌+ℚ◌, ◌-ℚ�
 use Rattle.nf_rational.specs.Order.{◌≤ℚ◌, ◌<ℚ◌}
 use Rattle.nf_rational_laws.proofs.Field.{rationals, +ℚ_idl, +ℚ_comm, zero-*ℚ, *ℚ_comm, one-*ℚ}
 use Rattle.nf_rational_laws.proofs.Order.{nn_plus, ps_plus, nn_whole, ps_whole, ≤ℚ_of_same}
+pub use Rattle.nf_rational_laws.proofs.Polynomial.{and_left, and_right}
 
 abbrev pub not_negative : ℤ → Bool
 not_negative (pos n) = true
@@ -28,14 +29,6 @@ abbrev pub more : Poly → Bool
 more none = false
 more (term c [] p) = above c || more p
 more (term c (i ∷ m) p) = more p
-
-pub and_left : (a b : Bool) → T (a && b) → T a
-and_left true b t = tt
-and_left false b t = t
-
-pub and_right : (a b : Bool) → T (a && b) → T b
-and_right true b t = t
-and_right false b t = absurd t
 
 pub or_cases : (a b : Bool) → T (a || b) → T a ⊎ T b
 or_cases true b t = inl tt

@@ -1,15 +1,9 @@
 -- What a static flow carries up a potential.
 use Rattle.std.proofs.Common.{◌≡◌, ◌≢◌, ℕ, ◌<◌, [], ◌∷◌, ⊎_elim, true, false, eqb, sym, ap, subst, ◌∙◌}
 use Rattle.std.proofs.lemmas.Bool.Decides.{eqb_tells}
-use Rattle.nf_rational.specs.Rational.{ℚ}
-use Rattle.nf_rational.specs.Operations.{0ℚ, ◌-ℚ◌, ◌*ℚ◌}
-use Rattle.nf_rational_laws.proofs.Polynomial.{reading_of}
-use Rattle.nf_rational_laws.proofs.Linear.{eq_times, linear_eq}
-use Rattle.nf_rational_laws.proofs.Facts.{times_second_zero}
-use Rattle.nf_model.specs.Network.{Network, IsNetwork}
+use Rattle.nf_settling_laws.proofs.Common.{ℚ, 0ℚ, ◌-ℚ◌, ◌*ℚ◌, reading_of, eq_times, linear_eq, times_second_zero, Network, IsNetwork, link_sum}
 use Rattle.nf_model_laws.proofs.Potential.{sum_to-same, sum_to-only, only_at, only_at-here, only_at-else, carried-is, out_less_in}
 use Rattle.nf_thin_laws.proofs.Cuts.{EndsBelow-net, carried-shift}
-use Rattle.nf_settling_laws.specs.Excess.{link_sum}
 use Rattle.nf_settling_laws.proofs.Terms.{rise, link_sum-carried}
 
 module _ (net : Network) (good : IsNetwork net) (rate : ℚ) (flows : ℕ → ℚ) (source : out_less_in net.links flows net.source ≡ rate)

@@ -1,28 +1,11 @@
 -- The change of the balance is never above 0, and it is below 0 unless each slope is 1. The filled amounts bear the flow, so the change is at
 -- most 0. If a slope is not 1, some link with a filled amount crosses a level between that slope and the slope of the source.
 use Rattle.std.proofs.Common.{◌≡◌, ◌≢◌, ℕ, ◌<◌, List, [], ◌∷◌, inl, inr, ⊎_elim, Bool, true, false, Option, Some, None, unwrap_or, sym, ap, subst, refl, ◌∙◌}
-use Rattle.nf_rational.specs.Rational.{ℚ}
-use Rattle.nf_rational.specs.Operations.{0ℚ, 1ℚ, ◌-ℚ◌, ◌*ℚ◌, ◌/ℚ◌}
-use Rattle.nf_rational.specs.Order.{◌≤ℚ◌, ◌<ℚ◌, lt_ℚ}
-use Rattle.nf_rational_laws.proofs.Polynomial.{reading_of}
-use Rattle.nf_rational_laws.proofs.Order.{≤ℚ_of_lt, ≤ℚ_of_same, ≤ℚ_antisymm, lt_or_le_ℚ, not_both_ℚ}
-use Rattle.nf_rational_laws.proofs.Chains.{≤ℚ_refl, ≤_<_trans}
-use Rattle.nf_rational_laws.proofs.Tests.{test_of_less}
-use Rattle.nf_rational_laws.proofs.Extremes.{max_left}
-use Rattle.nf_rational_laws.proofs.Linear.{eq, eq_times, linear_le}
-use Rattle.nf_rational_laws.proofs.Facts.{gap_np, gap_ng}
-use Rattle.nf_model.specs.Entries.{number_at, Has}
-use Rattle.nf_model.specs.Network.{Link, Network, IsNetwork}
-use Rattle.nf_model.specs.ThinFlow.{Sets, exit_slope, exit_slope_at, Enters, IsThinFlow}
-use Rattle.nf_model_laws.specs.Capacity.{IsPositive}
-use Rattle.nf_model_laws.proofs.Earliest.{IsPositive-link}
-use Rattle.nf_thin_laws.specs.ActiveLinks.{AreSets, HoldNoCycle}
-use Rattle.nf_thin_laws.proofs.Flags.{flag}
+use Rattle.nf_settling_laws.proofs.Common.{ℚ, 0ℚ, 1ℚ, ◌-ℚ◌, ◌*ℚ◌, ◌/ℚ◌, ◌≤ℚ◌, ◌<ℚ◌, lt_ℚ, reading_of, ≤ℚ_of_lt, ≤ℚ_of_same, ≤ℚ_antisymm, lt_or_le_ℚ, not_both_ℚ}
+use Rattle.nf_settling_laws.proofs.Common.{≤ℚ_refl, ≤_<_trans, test_of_less, max_left, eq, eq_times, linear_le, gap_np, gap_ng, number_at, Has, Link, Network}
+use Rattle.nf_settling_laws.proofs.Common.{IsNetwork, Sets, exit_slope, exit_slope_at, Enters, IsThinFlow, IsPositive, IsPositive-link, AreSets, HoldNoCycle}
+use Rattle.nf_settling_laws.proofs.Common.{flag, none_first, Decided, NoLink, both, less_or_not, SomeLink, some_link, link_sum}
 use Rattle.nf_thin_laws.proofs.LinkLaws.{LinkLaw}
-use Rattle.nf_thin_laws.proofs.ActiveLinks.{none_first}
-use Rattle.nf_complete_laws.proofs.Deciding.{Decided, NoLink, both}
-use Rattle.nf_complete_laws.proofs.ExistsDeciding.{less_or_not, SomeLink, some_link}
-use Rattle.nf_settling_laws.specs.Excess.{link_sum}
 use Rattle.nf_settling_laws.proofs.Terms.{rise}
 use Rattle.nf_settling_laws.proofs.Filling.{filled_amount, filled, Kind, law_at, kind_at, carried_up}
 use Rattle.nf_settling_laws.proofs.Levels.{Bears, IsBorne, Up, Down, high_by_link, low_by_link}

@@ -1,25 +1,10 @@
 -- The links of a thin flow are of two kinds. The queue of a full link changes, and its flow is the capacity times the slope of its head. On
 -- any other link nothing changes: it carries no flow, or the slopes at its ends are equal.
 use Rattle.std.proofs.Common.{◌≡◌, ℕ, List, [], ◌∷◌, ◌⊎◌, inl, inr, ⊎_elim, Bool, true, false, Option, Some, None, refl}
-use Rattle.nf_rational.specs.Rational.{ℚ}
-use Rattle.nf_rational.specs.Operations.{0ℚ, ◌-ℚ◌, ◌*ℚ◌}
-use Rattle.nf_rational.specs.Order.{◌≤ℚ◌, ◌<ℚ◌, lt_ℚ}
-use Rattle.nf_rational_laws.proofs.Polynomial.{reading_of}
-use Rattle.nf_rational_laws.proofs.Order.{≤ℚ_antisymm, lt_or_le_ℚ, not_both_ℚ, ps_times}
-use Rattle.nf_rational_laws.proofs.Results.{not_both}
-use Rattle.nf_rational_laws.proofs.Tests.{less_of_test, not_less_of_test}
-use Rattle.nf_rational_laws.proofs.Linear.{le, lt, linear_lt}
-use Rattle.nf_rational_laws.proofs.Chains.{<_≤_trans}
-use Rattle.nf_model.specs.Entries.{number_at, Has}
-use Rattle.nf_model.specs.Network.{Link, Network, IsNetwork, IsLink}
-use Rattle.nf_model.specs.ThinFlow.{Sets, IsThinFlow}
-use Rattle.nf_model_laws.specs.Capacity.{IsPositive}
-use Rattle.nf_model_laws.proofs.Earliest.{IsPositive-link}
-use Rattle.nf_thin_laws.specs.ActiveLinks.{AreSets, HoldNoCycle}
-use Rattle.nf_thin_laws.proofs.Flags.{flag, flag-cases}
+use Rattle.nf_settling_laws.proofs.Common.{ℚ, 0ℚ, ◌-ℚ◌, ◌*ℚ◌, ◌≤ℚ◌, ◌<ℚ◌, lt_ℚ, reading_of, ≤ℚ_antisymm, lt_or_le_ℚ, not_both_ℚ, ps_times, not_both}
+use Rattle.nf_settling_laws.proofs.Common.{less_of_test, not_less_of_test, le, lt, linear_lt, <_≤_trans, number_at, Has, Link, Network, IsNetwork, IsLink, Sets}
+use Rattle.nf_settling_laws.proofs.Common.{IsThinFlow, IsPositive, IsPositive-link, AreSets, HoldNoCycle, flag, flag-cases, link_law, link_sum}
 use Rattle.nf_thin_laws.proofs.LinkLaws.{LinkLaw}
-use Rattle.nf_thin_laws.proofs.Slopes.{link_law}
-use Rattle.nf_settling_laws.specs.Excess.{link_sum}
 use Rattle.nf_settling_laws.proofs.Terms.{rise}
 use Rattle.nf_settling_laws.proofs.Carried.{value_carried}
 

@@ -1,22 +1,10 @@
 -- Numbers at the nodes, and a flow and an amount for each link that bears it. The sum of the amounts, each times the rise of the numbers along
 -- its link, is at most what the flow carries up the numbers. Both are sums over levels. If one of the levels is strict, so is their sum.
 use Rattle.std.proofs.Common.{◌≡◌, ℕ, ◌<◌, List, [], ◌∷◌, ⊎_elim, Bool, true, false, if◌then◌else◌, sym, ap, subst, ◌∙◌}
-use Rattle.nf_rational.specs.Rational.{ℚ}
-use Rattle.nf_rational.specs.Operations.{0ℚ, 1ℚ, ◌+ℚ◌, ◌-ℚ◌, ◌*ℚ◌}
-use Rattle.nf_rational.specs.Order.{◌≤ℚ◌, ◌<ℚ◌, lt_ℚ, min_ℚ}
-use Rattle.nf_rational_laws.proofs.Polynomial.{reading_of}
-use Rattle.nf_rational_laws.proofs.Order.{≤ℚ_of_lt, ≤ℚ_of_same, ≤ℚ_antisymm, lt_or_le_ℚ, not_both_ℚ, less_nn, less_ps}
-use Rattle.nf_rational_laws.proofs.Chains.{≤ℚ_refl, ≤ℚ_trans}
-use Rattle.nf_rational_laws.proofs.Tests.{lt_ℚ_cases}
-use Rattle.nf_rational_laws.proofs.Extremes.{min_is_left, min_is_right}
-use Rattle.nf_rational_laws.proofs.Linear.{le, lt, eq, le_times, eq_times, linear_le, linear_lt, linear_eq}
-use Rattle.nf_rational_laws.proofs.Facts.{gap_np, gap_ng, same_differences}
-use Rattle.nf_model.specs.Entries.{number_at}
-use Rattle.nf_model.specs.Network.{Link, Network, IsNetwork, IsLink}
-use Rattle.nf_model_laws.proofs.Affine.{ps-times_gap}
-use Rattle.nf_curve_laws.proofs.Times.{IsOne}
-use Rattle.nf_unique_laws.proofs.Stretches.{NoneBetween, along_times}
-use Rattle.nf_settling_laws.specs.Excess.{link_sum}
+use Rattle.nf_settling_laws.proofs.Common.{ℚ, 0ℚ, 1ℚ, ◌+ℚ◌, ◌-ℚ◌, ◌*ℚ◌, ◌≤ℚ◌, ◌<ℚ◌, lt_ℚ, min_ℚ, reading_of, ≤ℚ_of_lt, ≤ℚ_of_same, ≤ℚ_antisymm, lt_or_le_ℚ}
+use Rattle.nf_settling_laws.proofs.Common.{not_both_ℚ, less_nn, less_ps, ≤ℚ_refl, ≤ℚ_trans, lt_ℚ_cases, min_is_left, min_is_right, le, lt, eq, le_times}
+use Rattle.nf_settling_laws.proofs.Common.{eq_times, linear_le, linear_lt, linear_eq, gap_np, gap_ng, same_differences, number_at, Link, Network, IsNetwork}
+use Rattle.nf_settling_laws.proofs.Common.{IsLink, ps-times_gap, IsOne, NoneBetween, along_times, link_sum}
 use Rattle.nf_settling_laws.proofs.Terms.{link_sum-line, link_sum-none, link_sum-same, rise}
 use Rattle.nf_settling_laws.proofs.Tops.{top, top-bound, one-entry}
 use Rattle.nf_settling_laws.proofs.Levels.{IsBorne, above, high_level, high_by_sink, low_level, low_by_sink}

@@ -1,18 +1,9 @@
 -- One level of numbers at the nodes: the nodes whose number is above a, if no number is strictly between a and b. Each link has a flow and an
 -- amount that bears it. Over the links that cross the level, the amounts, counted upwards, are at most what the flow carries upwards.
 use Rattle.std.proofs.Common.{◌≡◌, ℕ, ◌<◌, List, [], ◌∷◌, ◌⊎◌, inl, inr, ⊎_elim, Bool, true, false, if◌then◌else◌, length, sym, ap, subst, ◌∙◌}
-use Rattle.nf_rational.specs.Rational.{ℚ}
-use Rattle.nf_rational.specs.Operations.{0ℚ, 1ℚ, ◌-ℚ◌, ◌*ℚ◌}
-use Rattle.nf_rational.specs.Order.{◌≤ℚ◌, ◌<ℚ◌, lt_ℚ}
-use Rattle.nf_rational_laws.proofs.Polynomial.{reading_of}
-use Rattle.nf_rational_laws.proofs.Order.{≤ℚ_of_lt, lt_or_le_ℚ, not_both_ℚ}
-use Rattle.nf_rational_laws.proofs.Chains.{≤ℚ_refl, ≤ℚ_trans}
-use Rattle.nf_rational_laws.proofs.Tests.{lt_ℚ_cases}
-use Rattle.nf_rational_laws.proofs.Linear.{le, lt, eq, le_times, eq_times, linear_le, linear_lt, linear_eq, linear_false}
-use Rattle.nf_model.specs.Entries.{number_at}
-use Rattle.nf_model.specs.Network.{Link, Network, IsNetwork, IsLink}
-use Rattle.nf_model_laws.proofs.Affine.{ps-times_gap}
-use Rattle.nf_settling_laws.specs.Excess.{link_sum}
+use Rattle.nf_settling_laws.proofs.Common.{ℚ, 0ℚ, 1ℚ, ◌-ℚ◌, ◌*ℚ◌, ◌≤ℚ◌, ◌<ℚ◌, lt_ℚ, reading_of, ≤ℚ_of_lt, lt_or_le_ℚ, not_both_ℚ, ≤ℚ_refl, ≤ℚ_trans, lt_ℚ_cases}
+use Rattle.nf_settling_laws.proofs.Common.{le, lt, eq, le_times, eq_times, linear_le, linear_lt, linear_eq, linear_false, number_at, Link, Network, IsNetwork}
+use Rattle.nf_settling_laws.proofs.Common.{IsLink, ps-times_gap, link_sum}
 use Rattle.nf_settling_laws.proofs.Terms.{EachLink, link_sum-le, link_sum-lt, link_sum-times, rise}
 use Rattle.nf_thin_laws.proofs.Cuts.{fall_out, fall_into}
 

@@ -1,3 +1,4 @@
+mod Common
 pub mod Terms
 pub mod Carried
 pub mod Filling

@@ -1,33 +1,15 @@
 -- Labels that grow at constant slopes for ever. In the end a link whose slack grows is resetting, and one whose slack falls is inactive. The
 -- thin flow there keeps its sets, so its slopes grow by the cuts.
 use Rattle.std.proofs.Common.{◌≡◌, ℕ, ◌<◌, List, [], ◌∷◌, length, ⊎_elim, sym, subst, ◌∙◌}
-use Rattle.std.proofs.lemmas.Option.{slice_get_within, same_Some}
-use Rattle.nf_rational.specs.Rational.{ℚ}
-use Rattle.nf_rational.specs.Operations.{0ℚ, 1ℚ, ◌+ℚ◌, ◌-ℚ◌, ◌*ℚ◌, ◌/ℚ◌}
-use Rattle.nf_rational.specs.Order.{◌≤ℚ◌, ◌<ℚ◌, max_ℚ}
-use Rattle.nf_rational_laws.proofs.Polynomial.{reading_of}
-use Rattle.nf_rational_laws.proofs.Order.{≤ℚ_of_lt, lt_or_le_ℚ, less_ps, not_both_ℚ}
-use Rattle.nf_rational_laws.proofs.Chains.{≤ℚ_refl, ≤ℚ_trans, <_≤_trans}
+use Rattle.nf_settling_laws.proofs.Common.{slice_get_within, same_Some, ℚ, 0ℚ, 1ℚ, ◌+ℚ◌, ◌-ℚ◌, ◌*ℚ◌, ◌/ℚ◌, ◌≤ℚ◌, ◌<ℚ◌, max_ℚ, reading_of, ≤ℚ_of_lt, lt_or_le_ℚ}
+use Rattle.nf_settling_laws.proofs.Common.{less_ps, not_both_ℚ, ≤ℚ_refl, ≤ℚ_trans, <_≤_trans, max_left, max_right, le, lt, eq, le_times, linear_le, linear_lt}
+use Rattle.nf_settling_laws.proofs.Common.{linear_eq, gap_ng, number_at, Link, Network, IsNetwork, IsLink, hop_of, rate_at, slack, sets_at, Flow, label}
+use Rattle.nf_settling_laws.proofs.Common.{Equilibrium, quotient-times, same_from_times, active_of_slack, slack_of_resetting, link_slack, HoldNoCycle-sets_at}
+use Rattle.nf_settling_laws.proofs.Common.{KeepsSets, GrowsByCuts, last_rate, GoesByThinFlow, labels-same, goes-by_thin_flow, GrowsLinearly}
+use Rattle.nf_settling_laws.proofs.Common.{LinearGrowthIsByCuts}
 use Rattle.nf_rational_laws.proofs.Entries.{entry, same_entries}
-use Rattle.nf_rational_laws.proofs.Extremes.{max_left, max_right}
-use Rattle.nf_rational_laws.proofs.Linear.{le, lt, eq, le_times, linear_le, linear_lt, linear_eq}
-use Rattle.nf_rational_laws.proofs.Facts.{gap_ng}
-use Rattle.nf_model.specs.Entries.{number_at}
-use Rattle.nf_model.specs.Network.{Link, Network, IsNetwork, IsLink, hop_of, rate_at}
-use Rattle.nf_model.specs.ThinFlow.{slack, sets_at}
-use Rattle.nf_model.specs.Equilibrium.{Flow, label, Equilibrium}
-use Rattle.nf_model_laws.proofs.Affine.{quotient-times, same_from_times}
-use Rattle.nf_model_laws.proofs.Slacks.{active_of_slack, slack_of_resetting}
-use Rattle.nf_phase_laws.specs.Invariant.{link_slack}
-use Rattle.nf_thin_laws.proofs.ActiveLinks.{HoldNoCycle-sets_at}
-use Rattle.nf_forever_laws.specs.Growth.{KeepsSets, GrowsByCuts}
-use Rattle.nf_forever_laws.specs.TailGrowth.{last_rate}
 use Rattle.nf_forever_laws.proofs.Growth.{GrowsByCuts-thin}
 use Rattle.nf_forever_laws.proofs.Least.{GrowsByLeastCut-cuts}
-use Rattle.nf_unique_laws.specs.ThinLaws.{GoesByThinFlow}
-use Rattle.nf_unique_laws.proofs.Labels.{labels-same}
-use Rattle.nf_unique_laws.proofs.Moves.{goes-by_thin_flow}
-use Rattle.nf_settling_laws.specs.Linear.{GrowsLinearly, LinearGrowthIsByCuts}
 use Rattle.nf_settling_laws.proofs.Along.{labels_at, LabelsAre-at, slack-at}
 use Rattle.nf_settling_laws.proofs.Starts.{last_start, IsLastSupply-from, rate-after, all_below}
 

@@ -1,32 +1,18 @@
 -- The tail of a run without a horizon. The flow extended by the tail is an equilibrium up to every departure, and all equilibria have its labels.
 -- So labels grow at the slopes of the tail for ever, and these grow by the cuts.
-use Rattle.std.proofs.Common.{◌≡◌, ℕ, ◌<◌, Bool, true, false, if◌then◌else◌, sym, subst, refl, [], ◌∷◌}
-use Rattle.std.specs.Prelude.{IfSome}
-use Rattle.nf_rational.specs.Rational.{ℚ}
-use Rattle.nf_rational.specs.Operations.{0ℚ, ◌+ℚ◌, ◌-ℚ◌, ◌*ℚ◌}
-use Rattle.nf_rational.specs.Order.{◌≤ℚ◌, lt_ℚ}
-use Rattle.nf_rational_laws.proofs.Polynomial.{reading_of}
-use Rattle.nf_rational_laws.proofs.Order.{≤ℚ_of_same}
-use Rattle.nf_rational_laws.proofs.Chains.{≤ℚ_refl, ≤ℚ_trans}
-use Rattle.nf_rational_laws.proofs.Linear.{eq, linear_eq}
+use Rattle.std.proofs.Common.{◌≡◌, ℕ, ◌<◌, Bool, true, false, if◌then◌else◌, sym, subst, refl, [], ◌∷◌, IfSome}
+use Rattle.nf_settling_laws.proofs.Common.{ℚ, 0ℚ, ◌+ℚ◌, ◌-ℚ◌, ◌*ℚ◌, ◌≤ℚ◌, lt_ℚ, reading_of, ≤ℚ_of_same, ≤ℚ_refl, ≤ℚ_trans, eq, linear_eq, Within, number_at}
+use Rattle.nf_settling_laws.proofs.Common.{Network, IsNetwork, rate_at, sets_at, IsThinFlow, Flow, label, Equilibrium, Tail, last_rate, TailGrows, labels-same}
+use Rattle.nf_settling_laws.proofs.Common.{GrowsLinearly}
 use Rattle.nf_frac_def.specs.Passing.{Passing}
-use Rattle.nf_model.specs.Curve.{Within}
-use Rattle.nf_model.specs.Entries.{number_at}
-use Rattle.nf_model.specs.Network.{Network, IsNetwork, rate_at}
-use Rattle.nf_model.specs.ThinFlow.{sets_at, IsThinFlow}
 use Rattle.nf_model.specs.Pattern.{Pattern}
-use Rattle.nf_model.specs.Equilibrium.{Flow, label, Equilibrium}
 use Rattle.nf_thin_def.specs.PhaseRun.{Standing, flow_of}
 use Rattle.nf_phase_laws.proofs.WellRun.{WellRun}
 use Rattle.nf_phase_laws.proofs.Run.{HasShape-well, Equilibrium-well}
-use Rattle.nf_phase_def.specs.ToEnd.{Tail}
 use Rattle.nf_forever_def.specs.ForeverRun.{End, Stops, NeverEnds, IsForeverRun, Forever, forever_of, IsForever}
 use Rattle.nf_forever_def.specs.Extended.{extended, up_to, flow_until}
-use Rattle.nf_forever_laws.specs.TailGrowth.{last_rate, TailGrows}
 use Rattle.nf_forever_laws.proofs.Run.{well_forever, IsThinFlow-tail, Equilibrium-until}
 use Rattle.nf_forever_laws.proofs.Labels.{label-until}
-use Rattle.nf_unique_laws.proofs.Labels.{labels-same}
-use Rattle.nf_settling_laws.specs.Linear.{GrowsLinearly}
 use Rattle.nf_settling_laws.proofs.Linear.{linear_growth-is_by_cuts}
 use Rattle.nf_settling_laws.proofs.Travel.{each_cut_carries, settled, travel-least}
 

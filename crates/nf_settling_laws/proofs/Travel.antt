@@ -1,19 +1,8 @@
 -- Travel times, if the labels grow at the slopes of a tail.
 use Rattle.std.proofs.Common.{◌≡◌, [], ◌∷◌, ap, ◌∙◌}
-use Rattle.nf_rational.specs.Rational.{ℚ}
-use Rattle.nf_rational.specs.Operations.{1ℚ, ◌+ℚ◌, ◌-ℚ◌, ◌*ℚ◌, ◌/ℚ◌}
-use Rattle.nf_rational.specs.Order.{◌≤ℚ◌, max_ℚ}
-use Rattle.nf_rational_laws.proofs.Polynomial.{reading_of}
-use Rattle.nf_rational_laws.proofs.Chains.{≤ℚ_refl}
-use Rattle.nf_rational_laws.proofs.Linear.{eq, eq_times, linear_le, linear_eq}
-use Rattle.nf_model.specs.Entries.{number_at}
-use Rattle.nf_model.specs.Network.{Network}
-use Rattle.nf_model.specs.Equilibrium.{Flow, label}
-use Rattle.nf_phase_def.specs.ToEnd.{Tail}
+use Rattle.nf_settling_laws.proofs.Common.{ℚ, 1ℚ, ◌+ℚ◌, ◌-ℚ◌, ◌*ℚ◌, ◌/ℚ◌, ◌≤ℚ◌, max_ℚ, reading_of, ≤ℚ_refl, eq, eq_times, linear_le, linear_eq, number_at}
+use Rattle.nf_settling_laws.proofs.Common.{Network, Flow, label, Tail, Cut, IsStaticCut, cut_capacity, IsLeastCapacity, GrowsByLeastCut, travel_time}
 use Rattle.nf_forever_def.specs.Extended.{flow_until}
-use Rattle.nf_forever_laws.specs.Cuts.{Cut, IsStaticCut, cut_capacity, IsLeastCapacity}
-use Rattle.nf_forever_laws.specs.Growth.{GrowsByLeastCut}
-use Rattle.nf_forever_laws.specs.TailGrowth.{travel_time}
 
 -- Arithmetic: r is the departure reached, and l is the label of the sink there. Its labels in the extended flow at r and d are x and y, and s is
 -- its slope.

@@ -1,23 +1,12 @@
 -- Active links hold no cycle, and none enters the source.
 use Rattle.std.proofs.Common.{◌≡◌, ◌≢◌, ℕ, zero, suc, ◌<◌, List, [], ◌∷◌, map, ◌⊎◌, inl, inr, ⊎_elim, Bool, true, false, eqb, Some, sym, ap, subst, refl, ◌∙◌}
-use Rattle.std.proofs.lemmas.Bool.Decides.{eqb_tells}
-use Rattle.std.proofs.lemmas.List.{length-map}
-use Rattle.nf_rational.specs.Rational.{ℚ}
-use Rattle.nf_rational.specs.Operations.{0ℚ, ◌+ℚ◌, ◌-ℚ◌}
-use Rattle.nf_rational.specs.Order.{◌≤ℚ◌, ◌<ℚ◌, le_ℚ, lt_ℚ}
-use Rattle.nf_rational_laws.proofs.Polynomial.{reading_of}
-use Rattle.nf_rational_laws.proofs.Order.{≤ℚ_of_lt}
-use Rattle.nf_rational_laws.proofs.Tests.{lt_ℚ_cases, test_of_le}
-use Rattle.nf_rational_laws.proofs.Linear.{le, lt, eq, linear_le}
-use Rattle.nf_rational_laws.proofs.Facts.{plus_zero_le}
-use Rattle.nf_model.specs.Entries.{number_at, Has}
-use Rattle.nf_model.specs.Walk.{IsWalk, transit_sum, transit_of}
-use Rattle.nf_model.specs.Network.{Link, Network, IsNetwork, hop_of, hops}
-use Rattle.nf_model.specs.ThinFlow.{Sets, Enters, sets_at, slack, slacks_of}
-use Rattle.nf_model_laws.proofs.Networks.{IsWalk-link, transit_of-is}
+use Rattle.nf_rational_laws.proofs.Tests.{less_of_test}
+use Rattle.nf_thin_laws.proofs.Common.{eqb_tells, length-map, ℚ, 0ℚ, ◌+ℚ◌, ◌-ℚ◌, ◌≤ℚ◌, le_ℚ, lt_ℚ, reading_of, ≤ℚ_of_lt, test_of_le, le}
+use Rattle.nf_thin_laws.proofs.Common.{eq, linear_le, plus_zero_le, number_at, Has, IsWalk, transit_sum, transit_of, Link, Network, IsNetwork, hop_of, hops}
+use Rattle.nf_thin_laws.proofs.Common.{Sets, Enters, sets_at, slack, slacks_of, IsWalk-link, transit_of-is, AreSets, IsActiveWalk, HoldNoCycle, EachIsEntered}
+use Rattle.nf_thin_laws.proofs.Common.{NoneEntersSource}
 use Rattle.nf_model_laws.proofs.Slacks.{slack_of_active}
 use Rattle.nf_model_laws.proofs.Ways.{way_back}
-use Rattle.nf_thin_laws.specs.ActiveLinks.{AreSets, IsActiveWalk, HoldNoCycle, EachIsEntered, NoneEntersSource}
 use Rattle.nf_model_laws.proofs.EarliestWalks.{no_loop}
 
 -- ---- the sets of labels
@@ -30,19 +19,10 @@ weaker_flags strict weak w (x ∷ xs) zero h = ap Some (w x (first _ h))
     first b e = cc
 weaker_flags strict weak w (x ∷ xs) (suc e) h = weaker_flags strict weak w xs e h
 
-above_is_not_below : (x : ℚ) → lt_ℚ 0ℚ x ≡ true → le_ℚ 0ℚ x ≡ true
-above_is_not_below x h = ⊎_elim
-    (λ (w : (lt_ℚ 0ℚ x ≡ true) × (0ℚ <ℚ x)). test_of_le 0ℚ x (≤ℚ_of_lt _ _ w.1))
-    (λ (w : (lt_ℚ 0ℚ x ≡ false) × (x ≤ℚ 0ℚ)). absurd (both _ w.0 h))
-    (lt_ℚ_cases 0ℚ x)
-  where
-    both : (b : Bool) → b ≡ false → b ≡ true → ⊥
-    both b e f = cc
-
 pub AreSets-sets_at : (net : Network) (labels : List ℚ) → AreSets net (sets_at net labels)
 AreSets-sets_at net labels = record {
   count = length-map (slacks_of (hops net) labels) (le_ℚ 0ℚ) ∙ length-map (hops net) (slack labels) ∙ length-map net.links hop_of;
-  resetting = λ e h. weaker_flags (lt_ℚ 0ℚ) (le_ℚ 0ℚ) above_is_not_below (slacks_of (hops net) labels) e h;
+  resetting = λ e h. weaker_flags (lt_ℚ 0ℚ) (le_ℚ 0ℚ) (λ x h. test_of_le 0ℚ x (≤ℚ_of_lt 0ℚ x (less_of_test 0ℚ x h))) (slacks_of (hops net) labels) e h;
 }
 
 -- ---- along active links, labels grow by the transit times

@@ -1,15 +1,11 @@
 -- Phase sequences agree.
 use Rattle.std.proofs.Common.{◌≡◌, ℕ, ◌<◌, List, [], ◌∷◌, length, sym, ap, subst, refl, ◌∙◌}
 use mathlib.Core.Path.{ap₂}
-use Rattle.nf_rational.specs.Rational.{ℚ}
-use Rattle.nf_rational.specs.Operations.{0ℚ, ◌+ℚ◌}
-use Rattle.nf_model.specs.Network.{Network, IsNetwork, hops, rate_at}
-use Rattle.nf_model.specs.ThinFlow.{slacks_of, sets_at}
-use Rattle.nf_model.specs.Phases.{AreStartLabels, moved, IsPhaseLength, IsPhase, PhasesFrom, IsPhaseSequence}
+use Rattle.nf_thin_laws.proofs.Common.{ℚ, 0ℚ, ◌+ℚ◌, Network, IsNetwork, hops, rate_at, slacks_of, sets_at, AreStartLabels, moved, IsPhaseLength, IsPhase}
+use Rattle.nf_thin_laws.proofs.Common.{PhasesFrom, IsPhaseSequence, same_entries}
 use Rattle.nf_model_laws.proofs.OneValue.{IsLeastTransit-unique, IsPhaseLength-unique}
 use Rattle.nf_thin_laws.proofs.ActiveLinks.{HoldNoCycle-sets_at}
 use Rattle.nf_thin_laws.proofs.Slopes.{slopes-unique}
-use Rattle.nf_rational_laws.proofs.Entries.{same_entries}
 
 pub AreStartLabels-unique : (net : Network) (labels others : List ℚ) → AreStartLabels net labels → AreStartLabels net others → labels ≡ others
 AreStartLabels-unique net labels others p q = same_entries 0ℚ labels others (p.count ∙ sym q.count)

@@ -1,14 +1,6 @@
 -- The answer of a search among patterns with forced states.
 use Rattle.std.proofs.Common.{ℕ, ◌<◌, ◌≤◌, List}
-use Rattle.nf_rational.specs.Rational.{ℚ}
-use Rattle.nf_frac_def.specs.Passing.{Passing}
-use Rattle.nf_model.specs.Network.{Network}
-use Rattle.nf_model.specs.ThinFlow.{Sets}
-use Rattle.nf_model.specs.Pattern.{Pattern, IsSolution}
-use Rattle.nf_thin_def.specs.Accepted.{IsAccepted}
-use Rattle.nf_thin_def.specs.Listing.{HasPlace}
-use Rattle.nf_thin_def.specs.Search.{Found, OverBudget, IsSearch}
-use Rattle.nf_thin_laws.specs.Forcing.{filled}
+use Rattle.nf_thin_laws.proofs.Common.{ℚ, Passing, Network, Sets, Pattern, IsSolution, IsAccepted, HasPlace, Found, OverBudget, IsSearch, filled}
 use Rattle.nf_thin_laws.specs.NarrowLaws.{Narrows, NoneFilledBefore}
 use Rattle.nf_thin_laws.proofs.Narrowed.{found, beyond}
 

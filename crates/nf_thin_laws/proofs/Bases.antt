@@ -1,13 +1,7 @@
 -- The base pattern of a phase is unique.
 use Rattle.std.proofs.Common.{◌≡◌, ℕ, zero, suc, ◌<◌, List, [], ◌∷◌, Bool, true, false, length, refl, sym, ap, ◌∙◌, arith, inl, inr}
-use Rattle.std.specs.Prelude.{◌⊎◌, Option, Some, None, slice_get}
-use Rattle.std.proofs.lemmas.Option.{none-some, same_Some, slice_get-get_or}
-use Rattle.nf_model.specs.declared.State.{State}
-use Rattle.nf_model.specs.declared.State.TheVariants.{Tight, Full, Zero}
-use Rattle.nf_model.specs.Entries.{Has}
-use Rattle.nf_model.specs.Walk.{Hop}
-use Rattle.nf_model.specs.ThinFlow.{Sets}
-use Rattle.nf_model.specs.Pattern.{Pattern, HasState, NeedsState, IsFirstInto, IsBase}
+use Rattle.nf_thin_laws.proofs.Common.{◌⊎◌, Option, Some, None, slice_get, none-some, same_Some, slice_get-get_or, State, Tight, Full, Zero, Has, Hop, Sets}
+use Rattle.nf_thin_laws.proofs.Common.{Pattern, HasState, NeedsState, IsFirstInto, IsBase}
 
 -- ---- lists with the same entries
 pub same_entries : {A : Type 0} (n : ℕ) (xs ys : List A) → length xs ≡ n → length ys ≡ n → ((e : ℕ) → e < n → slice_get xs e ≡ slice_get ys e) → xs ≡ ys

@@ -1,23 +1,11 @@
 -- The slopes of a thin flow force states.
 use Rattle.std.proofs.Common.{◌≡◌, ◌≢◌, ◌⊎◌, inl, inr, ℕ, Bool, true, false, List, length, refl, sym, ap, subst, ◌∙◌, if◌then◌else◌}
-use Rattle.std.specs.Prelude.{Option, Some, None, slice_get, is_none, unwrap_or}
-use Rattle.std.proofs.lemmas.Option.{none-some, same_Some}
-use Rattle.nf_rational.specs.Rational.{ℚ}
-use Rattle.nf_rational.specs.Order.{◌≤ℚ◌, ◌<ℚ◌, lt_ℚ}
-use Rattle.nf_rational_laws.proofs.Order.{≤ℚ_of_same, not_both_ℚ}
-use Rattle.nf_rational_laws.proofs.Tests.{lt_ℚ_cases}
-use Rattle.nf_model.specs.declared.State.{State}
-use Rattle.nf_model.specs.declared.State.TheVariants.{Tight, Full, Zero}
-use Rattle.nf_model.specs.Entries.{number_at, Has}
-use Rattle.nf_model.specs.Network.{Link, Network, IsLink, IsNetwork, unbounded}
-use Rattle.nf_model.specs.ThinFlow.{Sets, exit_slope, Enters, IsThinFlow}
-use Rattle.nf_model.specs.Pattern.{Pattern, HasState, NeedsState, IsPattern, IsListedIn, IsSolvable}
-use Rattle.nf_thin_laws.specs.ActiveLinks.{AreSets, HoldNoCycle}
-use Rattle.nf_thin_laws.specs.PatternLaws.{AllowState}
+use Rattle.nf_thin_laws.proofs.Common.{Option, Some, None, slice_get, is_none, unwrap_or, none-some, same_Some, ℚ, ◌≤ℚ◌, ◌<ℚ◌, lt_ℚ, ≤ℚ_of_same, not_both_ℚ}
+use Rattle.nf_thin_laws.proofs.Common.{lt_ℚ_cases, State, Tight, Full, Zero, number_at, Has, Link, Network, IsLink, IsNetwork, unbounded, Sets, exit_slope}
+use Rattle.nf_thin_laws.proofs.Common.{Enters, IsThinFlow, Pattern, HasState, NeedsState, IsPattern, IsListedIn, IsSolvable, AreSets, HoldNoCycle, AllowState}
+use Rattle.nf_thin_laws.proofs.Common.{slice_get-image, forced_state, forced_at, forced_by, IsForcing, HasForced}
 use Rattle.nf_thin_laws.proofs.Slopes.{NoneEntersSource-thin}
 use Rattle.nf_thin_laws.proofs.States.{AllowState-thin}
-use Rattle.nf_rational_laws.proofs.Entries.{slice_get-image}
-use Rattle.nf_thin_laws.specs.Forcing.{forced_state, forced_at, forced_by, IsForcing, HasForced}
 use Rattle.nf_thin_laws.proofs.Entrywise.{entrywise-length, entrywise-parts}
 
 -- The forced state of a link, and its reason.

@@ -1,14 +1,7 @@
 -- The states of listed patterns are among the choices.
 use Rattle.std.proofs.Common.{◌≡◌, ◌⊎◌, inl, inr, ℕ, suc, ◌<◌, Bool, true, false, List, [], ◌∷◌, length, refl, sym, ap, subst, ◌∙◌, arith}
-use Rattle.std.specs.Prelude.{Option, Some, None, slice_get}
-use Rattle.std.proofs.lemmas.Option.{none-some, same_Some}
-use Rattle.nf_model.specs.declared.State.{State}
-use Rattle.nf_model.specs.declared.State.TheVariants.{Tight, Full, Zero}
-use Rattle.nf_model.specs.Entries.{Has}
-use Rattle.nf_model.specs.Walk.{Hop, IsHop}
-use Rattle.nf_model.specs.ThinFlow.{Sets}
-use Rattle.nf_model.specs.Pattern.{Pattern, HasState, IsPattern, IsListed}
-use Rattle.nf_thin_laws.specs.Ways.{IsIn, AreIn, AreSole, states_of, choices_of}
+use Rattle.nf_thin_laws.proofs.Common.{Option, Some, None, slice_get, none-some, same_Some, State, Tight, Full, Zero, Has, Hop, IsHop, Sets, Pattern, HasState}
+use Rattle.nf_thin_laws.proofs.Common.{IsPattern, IsListed, IsIn, AreIn, AreSole, states_of, choices_of}
 
 -- link by link
 abbrev EachIsIn : Pattern → List Bool → List Bool → Pattern → Type 0

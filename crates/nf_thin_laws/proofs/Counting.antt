@@ -1,12 +1,7 @@
 -- Fewer assignments come before a pattern than before a later one.
 use Rattle.std.proofs.Common.{◌≡◌, inl, inr, ⊎_elim, ℕ, zero, suc, ◌+◌, ◌<◌, ◌≤◌, Bool, true, false, List, [], ◌∷◌, length, refl, sym, ap, ◌∙◌, arith, leb}
-use Rattle.std.specs.Prelude.{Option, nat_lt, if◌then◌else◌}
-use Rattle.std.proofs.lemmas.Bool.Decides.{leb_tells}
-use Rattle.nf_model.specs.declared.State.{State}
-use Rattle.nf_model.specs.Pattern.{Pattern, rank, changes, IsEarlier, IsBefore}
-use Rattle.nf_rational_laws.proofs.Naturals.{before_or_at}
-use Rattle.nf_thin_laws.specs.Forcing.{change}
-use Rattle.nf_thin_laws.specs.Ways.{Choices, IsIn, AreIn, left_ways, ways_by, ways_below, ways, ways_earlier, ways_fewer, ways_before}
+use Rattle.nf_thin_laws.proofs.Common.{Option, nat_lt, if◌then◌else◌, leb_tells, State, Pattern, rank, changes, IsEarlier, IsBefore, before_or_at, change}
+use Rattle.nf_thin_laws.proofs.Common.{Choices, IsIn, AreIn, left_ways, ways_by, ways_below, ways, ways_earlier, ways_fewer, ways_before}
 use Rattle.nf_thin_laws.proofs.ForcedOrder.{changes_first}
 
 -- ---- a number that is counted only if x is less than y

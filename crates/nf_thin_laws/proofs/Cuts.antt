@@ -1,14 +1,7 @@
 -- Flows across a set of nodes, by a potential of 0 and 1.
 use Rattle.std.proofs.Common.{◌≡◌, ◌≢◌, ℕ, suc, ◌<◌, List, [], ◌∷◌, ⊎_elim, true, false, eqb, sym, ap, refl, ◌∙◌}
-use Rattle.std.proofs.lemmas.Bool.Decides.{eqb_tells}
-use Rattle.nf_rational.specs.Rational.{ℚ}
-use Rattle.nf_rational.specs.Operations.{0ℚ, 1ℚ, ◌+ℚ◌, ◌-ℚ◌, ◌*ℚ◌}
-use Rattle.nf_rational.specs.Order.{◌≤ℚ◌}
-use Rattle.nf_rational_laws.proofs.Polynomial.{reading_of}
-use Rattle.nf_rational_laws.proofs.Linear.{le, eq, eq_times, linear_le, linear_eq}
-use Rattle.nf_rational_laws.proofs.Facts.{less_itself}
-use Rattle.nf_model.specs.Network.{Link, Network, IsNetwork}
-use Rattle.nf_model_laws.proofs.Potential.{carried, carried-is, EndsBelow, out_less_in, sum_to-same}
+use Rattle.nf_thin_laws.proofs.Common.{eqb_tells, ℚ, 0ℚ, 1ℚ, ◌+ℚ◌, ◌-ℚ◌, ◌*ℚ◌, ◌≤ℚ◌, reading_of, le, eq, eq_times, linear_le, linear_eq, less_itself, Link}
+use Rattle.nf_thin_laws.proofs.Common.{Network, IsNetwork, carried, carried-is, EndsBelow, out_less_in, sum_to-same}
 
 -- ---- x and y are two flows on a link, and a and b the potentials of its tail and head
 pub fall_none : (x y a b : ℚ) → a ≡ b → x *ℚ (a -ℚ b) ≤ℚ y *ℚ (a -ℚ b)

@@ -1,40 +1,24 @@
 -- The curves of a run end at the labels of the departure reached.
 use Rattle.std.proofs.Common.{◌≡◌, ℕ, zero, suc, ◌+◌, ◌<◌, List, [], ◌∷◌, Bool, true, false, length, refl, sym, ap, ◌∙◌, subst, arith, inl, inr}
-use Rattle.std.specs.Prelude.{◌-◌, ◌⊎◌, Option, Some, None, Result, Ok, Err, map, take, slice_get, unwrap_or}
-use Rattle.std.specs.List.{enumerate_from}
+use Rattle.nf_thin_laws.proofs.Common.{◌-◌, ◌⊎◌, Option, Some, None, Result, Ok, Err, map, take, slice_get, unwrap_or, enumerate_from, none-some, same_Some}
+use Rattle.nf_thin_laws.proofs.Common.{slice_get-map, ℚ, 0ℚ, ◌+ℚ◌, ◌*ℚ◌, ◌≤ℚ◌, ◌<ℚ◌, lt_ℚ, ≤ℚ_antisymm, ≤ℚ_of_same, nn_plus, lt_ℚ_cases, ring, reading, Passing}
+use Rattle.nf_thin_laws.proofs.Common.{Checked, checked, each, at_part, ◌>>=◌, number_at, Hop, IsHop, IsWalk, transit_sum, transit_of, Link, Network, IsLink}
+use Rattle.nf_thin_laws.proofs.Common.{IsNetwork, hop_of, hops, slacks_of, sets_at, Pattern, moved, AreStartLabels, extend_list, advance_list, last-append}
+use Rattle.nf_thin_laws.proofs.Common.{term_of_zero}
 use Rattle.std.specs.Option.{option_map, option_map_or}
-use Rattle.std.proofs.lemmas.Option.{none-some, same_Some, slice_get-map}
-use Rattle.nf_rational.specs.Rational.{ℚ}
-use Rattle.nf_rational.specs.Operations.{0ℚ, ◌+ℚ◌, ◌*ℚ◌}
-use Rattle.nf_rational.specs.Order.{◌≤ℚ◌, ◌<ℚ◌, lt_ℚ}
-use Rattle.nf_rational_laws.proofs.Order.{≤ℚ_antisymm, ≤ℚ_of_same, nn_plus}
-use Rattle.nf_rational_laws.proofs.Tests.{lt_ℚ_cases}
 use Rattle.nf_rational_laws.proofs.Field.{rationals}
-use Rattle.nf_rational_laws.proofs.Polynomial.{ring, reading}
 use Rattle.nf_frac_def.specs.declared.Part.{Part}
 use Rattle.nf_frac_def.specs.declared.Part.TheVariants.{Extend, Advance, Curve}
 use Rattle.nf_frac_def.specs.declared.Op.TheVariants.{Sum, Difference, Product, Quotient}
-use Rattle.nf_frac_def.specs.Passing.{Passing}
-use Rattle.nf_frac_def.specs.Checked.{Checked, checked, each, at_part, ◌>>=◌}
-use Rattle.nf_model.specs.Entries.{number_at}
 use Rattle.nf_model.specs.Curve.{Point}
-use Rattle.nf_model.specs.Walk.{Hop, IsHop, IsWalk, transit_sum, transit_of}
-use Rattle.nf_model.specs.Network.{Link, Network, IsLink, IsNetwork, hop_of, hops}
-use Rattle.nf_model.specs.ThinFlow.{slacks_of, sets_at}
-use Rattle.nf_model.specs.Pattern.{Pattern}
 use Rattle.nf_model.specs.Equilibrium.{Trace}
 use Rattle.nf_net_def.specs.declared.Cause.{Cause}
-use Rattle.nf_model.specs.Phases.{moved, AreStartLabels}
 use Rattle.nf_rational.specs.Signs.{is_positive}
 use Rattle.nf_thin_def.specs.CurveList.{QueueStep, LinkStep, LinkPhase, rate_over, size_at, slope_at, queue_step, link_step, link_phase, curve_list}
 use Rattle.nf_thin_def.specs.ReportCurves.{GrowingCurve, LinkCurves, with_point, first_label_curve, first_trace, first_queue, first_curves, label_curves_after, trace_after, queue_after, curves_after, link_curves_after, amount_so_far}
 use Rattle.nf_thin_def.specs.PhaseRun.{Standing, Bounds, PhaseStep, IsStart, standing_after, phase_lists, Goes, Runs, at_horizon, at_phases, fails, goes, IsPhaseRun}
-use Rattle.nf_thin_def.specs.Extend.{extend_list}
-use Rattle.nf_thin_def.specs.Advance.{advance_list}
 use Rattle.nf_thin_laws.proofs.Exact.{advanced_exact}
 use Rattle.nf_thin_def.specs.Ends.{end_of, EndsAtLabels}
-use Rattle.nf_rational_laws.proofs.Entries.{last-append}
-use Rattle.nf_rational_laws.proofs.Facts.{term_of_zero}
 use Rattle.nf_frac_def.proofs.Binding.{bind_ok}
 
 -- ---- the last point

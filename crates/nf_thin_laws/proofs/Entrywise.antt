@@ -1,8 +1,6 @@
 -- Two lists entry by entry.
-use Rattle.std.proofs.Common.{◌≡◌, ℕ, zero, suc, List, [], ◌∷◌, length, refl, sym, ap, arith}
-use Rattle.std.specs.Prelude.{Some, slice_get}
-use Rattle.std.proofs.lemmas.Option.{none-some, same_Some}
-use Rattle.nf_thin_laws.specs.Forcing.{entrywise}
+use Rattle.std.proofs.Common.{◌≡◌, ℕ, zero, suc, List, [], ◌∷◌, length, refl, sym, ap, arith, Some, slice_get}
+use Rattle.nf_thin_laws.proofs.Common.{none-some, same_Some, entrywise}
 
 pub entrywise-length : {A B C : Type 0} (f : A → B → C) (xs : List A) (ys : List B) → length xs ≡ length ys → length (entrywise f xs ys) ≡ length ys
 entrywise-length f [] [] h = refl

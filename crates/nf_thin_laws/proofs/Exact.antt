@@ -1,22 +1,11 @@
 -- If no operation of a sequence passes, its value is also that of the sequence in which fewer operations can pass.
 -- So it is the exact value: that of the sequence in which no operation can pass.
 use Rattle.std.proofs.Common.{◌≡◌, ℕ, zero, suc, ◌+◌, List, [], ◌∷◌, Bool, true, false, length, refl, sym, ap, ◌∙◌, arith}
-use Rattle.std.specs.Prelude.{Option, Some, None, Ok, map, slice_get, unwrap_or}
-use Rattle.std.specs.List.{enumerate_from}
-use Rattle.nf_rational.specs.Rational.{ℚ}
-use Rattle.nf_rational.specs.Operations.{0ℚ, ◌+ℚ◌, ◌-ℚ◌, ◌*ℚ◌}
+use Rattle.nf_thin_laws.proofs.Common.{Option, Some, None, Ok, map, slice_get, unwrap_or, enumerate_from, ℚ, 0ℚ, ◌+ℚ◌, ◌-ℚ◌, ◌*ℚ◌, Passing, never, State, Tight}
+use Rattle.nf_thin_laws.proofs.Common.{Full, Zero, number_at, Hop, Link, Network, hops, next_change, Sets, slack, slacks_of, moved, Pattern}
 use Rattle.nf_frac_def.specs.declared.Op.TheVariants.{Sum, Difference, Product, Quotient}
-use Rattle.nf_frac_def.specs.Passing.{Passing, never}
 use Rattle.nf_frac_def.specs.Checked.{Checked, checked, each, ◌>>=◌}
 use Rattle.nf_frac_def.proofs.Exact.{GivesAs, PassesFewer, bind, each_as, fold_as, same, same_value, one, none_passes, each_exact}
-use Rattle.nf_model.specs.declared.State.{State}
-use Rattle.nf_model.specs.declared.State.TheVariants.{Tight, Full, Zero}
-use Rattle.nf_model.specs.Entries.{number_at}
-use Rattle.nf_model.specs.Walk.{Hop}
-use Rattle.nf_model.specs.Network.{Link, Network, hops, next_change}
-use Rattle.nf_model.specs.ThinFlow.{Sets, slack, slacks_of}
-use Rattle.nf_model.specs.Phases.{moved}
-use Rattle.nf_model.specs.Pattern.{Pattern}
 use Rattle.nf_rational.specs.Signs.{is_zero, is_positive, are_opposite}
 use Rattle.nf_thin_def.specs.Slack.{slack_of, slack_list}
 use Rattle.nf_thin_def.specs.Verdict.{bound_on, bound_of, verdict_list}

@@ -1,17 +1,7 @@
 -- Exit slopes of links in each state. Here x is the flow of a link, and s and t are the slopes of its tail and its head.
 use Rattle.std.proofs.Common.{◌≡◌, [], ◌∷◌, true, false, Option, Some, None, sym, ap, subst, refl, ◌∙◌}
-use Rattle.std.proofs.lemmas.Option.{none-some}
-use Rattle.nf_rational.specs.Rational.{ℚ}
-use Rattle.nf_rational.specs.Operations.{0ℚ, ◌*ℚ◌, ◌/ℚ◌}
-use Rattle.nf_rational.specs.Order.{◌≤ℚ◌, ◌<ℚ◌, max_ℚ}
-use Rattle.nf_rational_laws.proofs.Polynomial.{reading_of}
-use Rattle.nf_rational_laws.proofs.Linear.{eq, linear_eq}
-use Rattle.nf_model.specs.ThinFlow.{exit_slope}
-use Rattle.nf_model.specs.Pattern.{Fills}
-use Rattle.nf_model_laws.specs.Capacity.{IsPositive}
-use Rattle.nf_model_laws.proofs.Affine.{quotient-times, le_from_times, same_from_times}
-use Rattle.nf_rational_laws.proofs.Chains.{≤ℚ_trans}
-use Rattle.nf_rational_laws.proofs.Extremes.{max_is_right, max_is_left, max_left}
+use Rattle.nf_thin_laws.proofs.Common.{none-some, ℚ, 0ℚ, ◌*ℚ◌, ◌/ℚ◌, ◌≤ℚ◌, ◌<ℚ◌, max_ℚ, reading_of, eq, linear_eq, exit_slope, Fills, IsPositive}
+use Rattle.nf_thin_laws.proofs.Common.{quotient-times, le_from_times, same_from_times, ≤ℚ_trans, max_is_right, max_is_left, max_left}
 
 swapped : (x c q : ℚ) → q *ℚ c ≡ x → c *ℚ q ≡ x
 swapped x c q e = linear_eq (x ∷ c ∷ q ∷ []) (eq e ∷ []) (search reading_of) tt tt

@@ -1,16 +1,8 @@
 -- Each assignment of freely combinable states is listed.
 use Rattle.std.proofs.Common.{◌≡◌, ◌⊎◌, inl, inr, ℕ, zero, suc, ◌<◌, Bool, true, false, List, [], ◌∷◌, length, refl, sym, ap, subst, ◌∙◌, arith}
-use Rattle.std.specs.Prelude.{Option, Some, None, slice_get}
-use Rattle.std.proofs.lemmas.Option.{none-some, same_Some, slice_get_within}
-use Rattle.nf_model.specs.declared.State.{State}
-use Rattle.nf_model.specs.declared.State.TheVariants.{Tight, Full, Zero}
-use Rattle.nf_model.specs.Entries.{Has}
-use Rattle.nf_model.specs.Walk.{Hop}
-use Rattle.nf_model.specs.ThinFlow.{Sets}
-use Rattle.nf_model.specs.Pattern.{Pattern, HasState, NeedsState, IsPattern, IsListed, rank}
-use Rattle.nf_rational_laws.proofs.Entries.{entry}
-use Rattle.nf_thin_laws.specs.Ways.{IsIn, AreIn}
-use Rattle.nf_thin_laws.specs.Firm.{if_allowed, states_by, choices_by, IsKeeper, AreFirm, Ascend, AllAscend}
+use Rattle.nf_thin_laws.proofs.Common.{Option, Some, None, slice_get, none-some, same_Some, slice_get_within, State, Tight, Full, Zero, Has, Hop, Sets, Pattern}
+use Rattle.nf_thin_laws.proofs.Common.{HasState, NeedsState, IsPattern, IsListed, rank, entry, IsIn, AreIn, if_allowed, states_by, choices_by, IsKeeper}
+use Rattle.nf_thin_laws.proofs.Common.{AreFirm, Ascend, AllAscend}
 use Rattle.nf_thin_laws.proofs.Forced.{forest_within}
 use Rattle.nf_thin_laws.proofs.Counting.{AreIn-length}
 

@@ -1,10 +1,7 @@
 -- Patterns with forced states have the order of the patterns left.
 use Rattle.std.proofs.Common.{◌≡◌, ◌⊎◌, inl, inr, suc, ◌+◌, ◌<◌, Bool, true, false, [], ◌∷◌, length, refl, sym, ap, ◌∙◌, arith}
-use Rattle.std.specs.Prelude.{◌↔◌, Option, Some, None, ◌==◌, if◌then◌else◌}
-use Rattle.std.proofs.lemmas.Option.{same_Some}
-use Rattle.nf_model.specs.declared.State.{State}
-use Rattle.nf_model.specs.Pattern.{Pattern, rank, changes, IsEarlier, IsBefore}
-use Rattle.nf_thin_laws.specs.Forcing.{left_of, HasForced, change, forced_changes}
+use Rattle.nf_thin_laws.proofs.Common.{◌↔◌, Option, Some, None, ◌==◌, if◌then◌else◌, same_Some, State, Pattern, rank, changes, IsEarlier, IsBefore, left_of}
+use Rattle.nf_thin_laws.proofs.Common.{HasForced, change, forced_changes}
 
 pub changes_first : (b s : Option State) (base p : Pattern) → changes (b ∷ base) (s ∷ p) ≡ change b s + changes base p
 changes_first b s base p = go (rank b == rank s)

@@ -1,26 +1,17 @@
 -- A phase run that satisfies its whole definition: one link of transit time 1 and capacity 1, supplied at rate 1, to the horizon 1.
 -- It has one phase, by its first pattern, Tight.
 use Rattle.std.proofs.Common.{◌≡◌, ℕ, zero, suc, ◌<◌, List, [], ◌∷◌, Bool, true, false, length, refl, sym, ap, ◌∙◌, subst, arith, inl, inr}
-use Rattle.std.specs.Prelude.{◌⊎◌, ◌↔◌, Option, Some, None, Result, Ok, Err, IsOk, unwrap_or, map, slice_get}
-use Rattle.std.proofs.lemmas.Option.{none-some, same_Some}
+use Rattle.nf_thin_laws.proofs.Common.{◌⊎◌, ◌↔◌, Option, Some, None, Result, Ok, Err, IsOk, unwrap_or, map, slice_get, none-some, same_Some, <ℚ_irrefl}
+use Rattle.nf_thin_laws.proofs.Common.{≤ℚ_of_same, ≤ℚ_of_lt, ps_whole, eq, linear_eq, reading_of, PassedAt, State, Tight, Full, Zero, number_at, Has, Hop}
+use Rattle.nf_thin_laws.proofs.Common.{IsHop, IsWalk, transit_sum, transit_of, IsLeastTransit, Link, Piece, Network, IsLink, IsPiece, hops, unbounded, rate_at}
+use Rattle.nf_thin_laws.proofs.Common.{Sets, slacks_of, sets_at, surplus, Pattern, HasState, NeedsState, IsTrail, AllDiffer, IsListedIn, IsBefore, IsFirstInto}
+use Rattle.nf_thin_laws.proofs.Common.{IsBase, Equation, Inequality, Solves, IsSolution, AreStartLabels, IsUnending, HasPlace, IsListingIn, Found, IsSearch}
 use Rattle.nf_rational.specs.Gcd.{gcd}
 use Rattle.nf_rational.specs.Rational.{ℚ, ratio, same_parts}
 use Rattle.nf_rational.specs.Operations.{0ℚ, whole, neg_ℚ, inv_ℚ, ◌+ℚ◌, ◌-ℚ◌, ◌*ℚ◌, ◌/ℚ◌}
 use Rattle.nf_rational.specs.Order.{◌≤ℚ◌, ◌<ℚ◌, le_ℚ, lt_ℚ, min_ℚ}
-use Rattle.nf_rational_laws.proofs.Order.{<ℚ_irrefl, ≤ℚ_of_same, ≤ℚ_of_lt, ps_whole}
-use Rattle.nf_rational_laws.proofs.Linear.{eq, linear_eq}
-use Rattle.nf_rational_laws.proofs.Polynomial.{reading_of}
 use Rattle.nf_frac_def.specs.Passing.{beyond}
 use Rattle.nf_frac_def.specs.Checked.{checked}
-use Rattle.nf_frac_def.specs.declared.PassedAt.{PassedAt}
-use Rattle.nf_model.specs.declared.State.{State}
-use Rattle.nf_model.specs.declared.State.TheVariants.{Tight, Full, Zero}
-use Rattle.nf_model.specs.Entries.{number_at, Has}
-use Rattle.nf_model.specs.Walk.{Hop, IsHop, IsWalk, transit_sum, transit_of, IsLeastTransit}
-use Rattle.nf_model.specs.Network.{Link, Piece, Network, IsLink, IsPiece, hops, unbounded, rate_at}
-use Rattle.nf_model.specs.ThinFlow.{Sets, slacks_of, sets_at, surplus}
-use Rattle.nf_model.specs.Pattern.{Pattern, HasState, NeedsState, IsTrail, AllDiffer, IsListedIn, IsBefore, IsFirstInto, IsBase, Equation, Inequality, Solves, IsSolution}
-use Rattle.nf_model.specs.Phases.{AreStartLabels, IsUnending}
 use Rattle.nf_thin_def.specs.Slack.{slack_of, slack_list}
 use Rattle.nf_linear_def.specs.Table.{table_list}
 use Rattle.nf_thin_def.specs.Equations.{equations}
@@ -29,8 +20,6 @@ use Rattle.nf_thin_def.specs.Extend.{extend_list}
 use Rattle.nf_thin_def.specs.Advance.{labels_after, advance_list}
 use Rattle.nf_thin_def.specs.CurveList.{curve_list}
 use Rattle.nf_thin_def.specs.Accepted.{pattern_lists}
-use Rattle.nf_thin_def.specs.Listing.{HasPlace, IsListingIn}
-use Rattle.nf_thin_def.specs.Search.{Found, IsSearch}
 use Rattle.nf_thin_def.specs.PhaseRun.{Standing, Bounds, PhaseStep, IsStart, standing_after, IsSearchHere, phase_lists, Goes, at_horizon, goes, report_of, IsRunReport}
 use Rattle.nf_frac_def.proofs.Examples.{n, in_127_bits}
 use Rattle.nf_thin_def.proofs.Examples.{link}

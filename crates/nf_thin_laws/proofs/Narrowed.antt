@@ -1,19 +1,9 @@
 -- A search among patterns with forced states, and the search among all.
-use Rattle.std.proofs.Common.{◌≡◌, ◌⊎◌, inl, inr, ℕ, zero, suc, ◌+◌, ◌<◌, ◌≤◌, List, length, refl, sym, ap, subst, ◌∙◌, arith}
-use Rattle.std.specs.Prelude.{Some, slice_get, Bool}
-use Rattle.std.proofs.lemmas.Option.{same_Some, slice_get_within}
-use Rattle.nf_rational.specs.Rational.{ℚ}
-use Rattle.nf_frac_def.specs.Passing.{Passing}
-use Rattle.nf_model.specs.Network.{Network, hops, unbounded}
-use Rattle.nf_model.specs.ThinFlow.{Sets}
-use Rattle.nf_model.specs.Pattern.{Pattern, IsPattern, IsListed, IsListedIn, IsBefore, changes}
-use Rattle.nf_thin_def.specs.Accepted.{IsAccepted}
-use Rattle.nf_thin_def.specs.Listing.{HasPlace}
-use Rattle.nf_thin_def.specs.Search.{NoneAcceptedBefore, NoneAccepted, IsOverBudget}
+use Rattle.std.proofs.Common.{◌≡◌, ◌⊎◌, inl, inr, ℕ, zero, suc, ◌+◌, ◌<◌, ◌≤◌, List, length, refl, sym, ap, subst, ◌∙◌, arith, Some, slice_get, Bool}
+use Rattle.nf_thin_laws.proofs.Common.{same_Some, slice_get_within, ℚ, Passing, Network, hops, unbounded, Sets, Pattern, IsPattern, IsListed, IsListedIn}
+use Rattle.nf_thin_laws.proofs.Common.{IsBefore, changes, IsAccepted, HasPlace, NoneAcceptedBefore, NoneAccepted, IsOverBudget, entry, compared, left_of}
+use Rattle.nf_thin_laws.proofs.Common.{filled, sets_left, IsForcing, HasForced, forced_changes}
 use Rattle.nf_thin_laws.proofs.Listings.{IsBefore-asymmetric}
-use Rattle.nf_rational_laws.proofs.Entries.{entry}
-use Rattle.nf_rational_laws.proofs.Naturals.{compared}
-use Rattle.nf_thin_laws.specs.Forcing.{left_of, filled, sets_left, IsForcing, HasForced, forced_changes}
 use Rattle.nf_thin_laws.specs.NarrowLaws.{Narrows, NoneFilledBefore}
 use Rattle.nf_thin_laws.proofs.Forced.{left_of-filled, filled-left_of, same_count, left_count, filled_pattern, has_forced, left_bare, left_listed, filled_listed}
 use Rattle.nf_thin_laws.proofs.ForcedOrder.{changes_split, before_left, before_put}

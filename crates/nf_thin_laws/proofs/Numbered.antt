@@ -1,20 +1,14 @@
 -- A loop that pushes a result for each numbered entry of a list: the results so far come before those of the remaining entries.
 use Rattle.std.proofs.Common.{◌≡◌, ℕ, zero, suc, ◌+◌, ◌≤◌, List, [], ◌∷◌, ◌++◌, length, drop, sym, ap, subst, refl, ◌∙◌, arith}
-use Rattle.std.specs.Prelude.{Some, slice_get, Result, Ok, Err}
-use Rattle.std.specs.List.{enumerate_from}
+use Rattle.nf_thin_laws.proofs.Common.{Some, slice_get, Result, Ok, Err, enumerate_from, append-nil, none-some, same_Some, ℚ, PassedAt, each, at_part, placed}
+use Rattle.nf_thin_laws.proofs.Common.{same_Err}
 use Rattle.std.proofs.Math.ListN.{drop_of_length-le}
-use Rattle.std.proofs.lemmas.List.{append-nil}
 use Rattle.std.proofs.lemmas.List.FromFn.{length-enumerate_from}
-use Rattle.std.proofs.lemmas.Option.{none-some, same_Some}
-use Rattle.nf_rational.specs.Rational.{ℚ}
 use Rattle.nf_frac_def.specs.declared.Part.{Part}
 use Rattle.nf_frac_def.specs.declared.Passed.{Passed}
-use Rattle.nf_frac_def.specs.declared.PassedAt.{PassedAt}
 use Rattle.nf_frac_def.proofs.AtPart.{part_ok}
-use Rattle.nf_frac_def.specs.Checked.{each, at_part, placed}
 use Rattle.nf_frac_def.proofs.Each.{with_front, each_ok, each_err}
 use Rattle.nf_thin_laws.proofs.Ending.{enumerated}
-use Rattle.nf_rational_laws.proofs.Results.{same_Err}
 
 pub drop_at : {A : Type 0} (xs : List A) (i : ℕ) (x : A) → slice_get xs i ≡ Some x → drop i xs ≡ x ∷ drop (suc i) xs
 drop_at [] i x e = absurd (none-some x e)

@@ -1,36 +1,20 @@
 -- Thin flows and phases of the network of one link.
 use Rattle.std.proofs.Common.{◌≡◌, ◌≢◌, ℕ, zero, suc, ◌<◌, List, [], ◌∷◌, length, ◌⊎◌, inl, inr, Bool, true, false, if◌then◌else◌, Option, Some, None, slice_get, sym, ap, subst, refl, ◌∙◌, arith}
-use Rattle.std.specs.Prelude.{is_none}
-use Rattle.std.proofs.lemmas.Option.{none-some, same_Some}
+use Rattle.nf_thin_laws.proofs.Common.{is_none, none-some, same_Some, ℚ, 0ℚ, 1ℚ, ◌+ℚ◌, ◌-ℚ◌, ◌*ℚ◌, ◌/ℚ◌, ◌≤ℚ◌, ◌<ℚ◌, le_ℚ, lt_ℚ, reading_of, ≤ℚ_of_same}
+use Rattle.nf_thin_laws.proofs.Common.{≤ℚ_of_lt, ps_whole, <ℚ_irrefl, not_both_ℚ, lt_ℚ_cases, test_of_le, le, eq, linear_le, linear_eq, State, Tight, Full}
+use Rattle.nf_thin_laws.proofs.Common.{number_at, Has, Hop, IsHop, Link, Piece, Network, IsLink, IsPiece, IsNetwork, ArePieces, hop_of, hops, unbounded}
+use Rattle.nf_thin_laws.proofs.Common.{rate_at, Sets, slacks_of, sets_of, sets_at, IsThinFlow, HasState, NeedsState, IsPattern, IsForest, IsListedIn, Equation}
+use Rattle.nf_thin_laws.proofs.Common.{Inequality, Solves, Meets, IsSolution, moved, AreStartLabels, Lasts, IsPhaseSequence, IsPositive, quotient-times}
+use Rattle.nf_thin_laws.proofs.Common.{nn-quotient, le_from_times, AreSets, HoldNoCycle, ≤ℚ_refl, ≤ℚ_trans, zero_plus}
 use mathlib.Core.Path.{ap₂}
-use Rattle.nf_rational.specs.Rational.{ℚ}
-use Rattle.nf_rational.specs.Operations.{0ℚ, 1ℚ, ◌+ℚ◌, ◌-ℚ◌, ◌*ℚ◌, ◌/ℚ◌}
-use Rattle.nf_rational.specs.Order.{◌≤ℚ◌, ◌<ℚ◌, le_ℚ, lt_ℚ}
-use Rattle.nf_rational_laws.proofs.Polynomial.{reading_of}
-use Rattle.nf_rational_laws.proofs.Order.{≤ℚ_of_same, ≤ℚ_of_lt, ps_whole, <ℚ_irrefl, not_both_ℚ}
-use Rattle.nf_rational_laws.proofs.Tests.{lt_ℚ_cases, test_of_le}
-use Rattle.nf_rational_laws.proofs.Linear.{le, eq, linear_le, linear_eq}
-use Rattle.nf_model.specs.declared.State.{State}
-use Rattle.nf_model.specs.declared.State.TheVariants.{Tight, Full}
-use Rattle.nf_model.specs.Entries.{number_at, Has}
-use Rattle.nf_model.specs.Walk.{Hop, IsHop}
-use Rattle.nf_model.specs.Network.{Link, Piece, Network, IsLink, IsPiece, IsNetwork, ArePieces, hop_of, hops, unbounded, rate_at}
-use Rattle.nf_model.specs.ThinFlow.{Sets, slacks_of, sets_of, sets_at, IsThinFlow}
-use Rattle.nf_model.specs.Pattern.{HasState, NeedsState, IsPattern, IsForest, IsListedIn, Equation, Inequality, Solves, Meets, IsSolution}
-use Rattle.nf_model.specs.Phases.{moved, AreStartLabels, Lasts, IsPhaseSequence}
-use Rattle.nf_model_laws.specs.Capacity.{IsPositive}
 use Rattle.nf_model_laws.specs.EarliestLaws.{AreTransitLabels}
 use Rattle.nf_model_laws.specs.MemberLaws.{one_link, at_rate}
-use Rattle.nf_model_laws.proofs.Affine.{quotient-times, nn-quotient, le_from_times}
 use Rattle.nf_model_laws.proofs.EarliestTransits.{IsLeastTransit-label}
 use Rattle.nf_model_laws.proofs.MemberLink.{IsNetwork-one_link}
-use Rattle.nf_thin_laws.specs.ActiveLinks.{AreSets, HoldNoCycle}
 use Rattle.nf_thin_laws.specs.MemberLaws.{first_labels, first_sets}
 use Rattle.nf_thin_laws.proofs.Flags.{flag}
 use Rattle.nf_thin_laws.proofs.ActiveLinks.{AreSets-sets_at, HoldNoCycle-sets_at}
 use Rattle.nf_thin_laws.proofs.Singular.{IsSolution-met}
-use Rattle.nf_rational_laws.proofs.Chains.{≤ℚ_refl, ≤ℚ_trans}
-use Rattle.nf_rational_laws.proofs.Facts.{zero_plus}
 
 -- A property of the one entry of a list is a property of each entry.
 only_entry : {A : Type 0} (P : ℕ → A → Type 0) (x : A) (e : ℕ) (y : A) → slice_get (x ∷ []) e ≡ Some y → P 0 x → P e y

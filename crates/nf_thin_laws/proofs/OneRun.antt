@@ -1,29 +1,16 @@
 -- A phase run has one end: the run state determines each phase, and each cause for which none is made.
-use Rattle.std.proofs.Common.{◌≡◌, ℕ, suc, ◌<◌, List, length, refl, sym, ap, ◌∙◌, subst, arith}
-use Rattle.std.specs.Prelude.{Option, Some, None, Result, Ok, map}
-use Rattle.std.proofs.lemmas.Option.{none-some, same_Some}
-use Rattle.std.proofs.lemmas.List.{length-map, length-replicate}
-use Rattle.nf_rational.specs.Rational.{ℚ}
-use Rattle.nf_rational.specs.Order.{◌<ℚ◌, le_ℚ}
-use Rattle.nf_rational.specs.Operations.{0ℚ}
-use Rattle.nf_rational_laws.proofs.Order.{<ℚ_irrefl}
-use Rattle.nf_frac_def.specs.Passing.{Passing}
-use Rattle.nf_frac_def.specs.Checked.{placed}
+use Rattle.std.proofs.Common.{◌≡◌, ℕ, suc, ◌<◌, List, length, refl, sym, ap, ◌∙◌, subst, arith, Option, Some, None, Result, Ok, map}
+use Rattle.nf_thin_laws.proofs.Common.{none-some, same_Some, length-map, length-replicate, ℚ, ◌<ℚ◌, le_ℚ, 0ℚ, <ℚ_irrefl, Passing, placed, PassedAt, Network}
+use Rattle.nf_thin_laws.proofs.Common.{hop_of, hops, rate_at, slack, slacks_of, sets_at, Pattern, IsListedIn, AreStartLabels, SearchAnswer, Found, IsSearch}
+use Rattle.nf_thin_laws.proofs.Common.{Standing, Bounds, PhaseStep, IsStart, standing_after, cause_of_search, Seeks, phase_lists, Goes, Fails, at_slack}
+use Rattle.nf_thin_laws.proofs.Common.{at_search, at_lists, Runs, at_horizon, at_phases, fails, goes, IsPhaseRun, report_of, IsRunReport, Ok_not_Err, one_Err}
 use Rattle.nf_frac_def.specs.declared.Part.TheVariants.{Slack}
 use Rattle.nf_frac_def.specs.declared.Passed.{Passed}
-use Rattle.nf_frac_def.specs.declared.PassedAt.{PassedAt}
-use Rattle.nf_model.specs.Network.{Network, hop_of, hops, rate_at}
-use Rattle.nf_model.specs.ThinFlow.{slack, slacks_of, sets_at}
-use Rattle.nf_model.specs.Pattern.{Pattern, IsListedIn}
-use Rattle.nf_model.specs.Phases.{AreStartLabels}
 use Rattle.nf_net_def.specs.declared.Cause.{Cause}
 use Rattle.nf_net_def.specs.Report.{Report}
-use Rattle.nf_thin_def.specs.Search.{SearchAnswer, Found, IsSearch}
 use Rattle.nf_thin_def.specs.ReportCurves.{first_label_curve, first_curves}
-use Rattle.nf_thin_def.specs.PhaseRun.{Standing, Bounds, PhaseStep, IsStart, standing_after, cause_of_search, Seeks, phase_lists, Goes, Fails, at_slack, at_search, at_lists, Runs, at_horizon, at_phases, fails, goes, IsPhaseRun, report_of, IsRunReport}
 use Rattle.nf_thin_laws.proofs.Bases.{one_base}
 use Rattle.nf_thin_laws.proofs.Searches.{one_answer}
-use Rattle.nf_rational_laws.proofs.Results.{Ok_not_Err, one_Err}
 use Rattle.nf_thin_laws.proofs.Agree.{AreStartLabels-unique}
 
 -- ---- the start

@@ -1,15 +1,8 @@
 -- Two parallel links from source to sink, both active: the listing of their patterns from the base (Tight, Zero).
 use Rattle.std.proofs.Common.{◌≡◌, ℕ, zero, suc, ◌<◌, List, [], ◌∷◌, Bool, true, false, length, map, refl, sym, ap, ◌∙◌, subst, arith, inl, inr}
-use Rattle.std.specs.Prelude.{◌⊎◌, ◌↔◌, Option, Some, slice_get, slice_index_or, Contains}
-use Rattle.std.proofs.lemmas.Option.{none-some, same_Some}
-use Rattle.nf_model.specs.declared.State.{State}
-use Rattle.nf_model.specs.declared.State.TheVariants.{Tight, Full, Zero}
-use Rattle.nf_model.specs.Entries.{Has}
-use Rattle.nf_model.specs.Walk.{Hop, IsHop}
-use Rattle.nf_model.specs.Network.{Network, hops, unbounded}
-use Rattle.nf_model.specs.ThinFlow.{Sets}
-use Rattle.nf_model.specs.Pattern.{Pattern, HasState, NeedsState, IsPattern, IsTrail, AllDiffer, IsForest, IsListedIn, IsBefore}
-use Rattle.nf_thin_def.specs.Listing.{HasPlace, IsListingIn}
+use Rattle.nf_thin_laws.proofs.Common.{◌⊎◌, ◌↔◌, Option, Some, slice_get, slice_index_or, Contains, none-some, same_Some, State, Tight, Full, Zero, Has, Hop}
+use Rattle.nf_thin_laws.proofs.Common.{IsHop, Network, hops, unbounded, Sets, Pattern, HasState, NeedsState, IsPattern, IsTrail, AllDiffer, IsForest}
+use Rattle.nf_thin_laws.proofs.Common.{IsListedIn, IsBefore, HasPlace, IsListingIn}
 use Rattle.nf_thin_laws.proofs.Patterns.{none_leads}
 use Rattle.nf_thin_laws.proofs.Listings.{NextInOrder, all_in_order, ordered_by_place}
 use Rattle.nf_frac_def.proofs.Examples.{n}

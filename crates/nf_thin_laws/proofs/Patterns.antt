@@ -2,24 +2,10 @@
 use Rattle.std.proofs.Common.{◌≡◌, ◌≢◌, ℕ, zero, suc, ◌<◌, List, [], ◌∷◌, length, ◌⊎◌, inl, inr, ⊎_elim, Bool, true, false, Option, Some, None, slice_get, unwrap_or, sym, ap, ◌∙◌, arith}
 use Rattle.std.specs.List.{AllByRecursion}
 use Rattle.std.proofs.lemmas.Bool.{true≢false}
-use Rattle.std.proofs.lemmas.Option.{none-some, same_Some, slice_get_within}
-use Rattle.nf_rational.specs.Rational.{ℚ}
-use Rattle.nf_rational.specs.Operations.{◌*ℚ◌}
-use Rattle.nf_rational.specs.Order.{◌<ℚ◌}
-use Rattle.nf_rational.specs.Operations.{0ℚ}
-use Rattle.nf_model.specs.declared.State.{State}
-use Rattle.nf_model.specs.declared.State.TheVariants.{Tight, Full, Zero}
-use Rattle.nf_model.specs.Entries.{Has}
-use Rattle.nf_model.specs.Walk.{Hop, IsHop}
-use Rattle.nf_model.specs.Network.{Link, Network, IsLink, hop_of, hops, unbounded}
-use Rattle.nf_model.specs.ThinFlow.{Sets, Enters}
-use Rattle.nf_model.specs.Pattern.{Pattern, HasState, NeedsState, IsPattern, Fills}
-use Rattle.nf_model_laws.specs.Capacity.{IsPositive}
-use Rattle.nf_model_laws.proofs.Networks.{link_at}
-use Rattle.nf_thin_laws.specs.ActiveLinks.{AreSets}
-use Rattle.nf_thin_laws.specs.PatternLaws.{EachIsLed}
+use Rattle.nf_thin_laws.proofs.Common.{none-some, same_Some, slice_get_within, ℚ, ◌*ℚ◌, ◌<ℚ◌, 0ℚ, State, Tight, Full, Zero, Has, Hop, IsHop, Link, Network}
+use Rattle.nf_thin_laws.proofs.Common.{IsLink, hop_of, hops, unbounded, Sets, Enters, Pattern, HasState, NeedsState, IsPattern, Fills, IsPositive, link_at}
+use Rattle.nf_thin_laws.proofs.Common.{AreSets, EachIsLed, entry}
 use Rattle.nf_thin_laws.proofs.Flags.{flag, flag-cases}
-use Rattle.nf_rational_laws.proofs.Entries.{entry}
 
 -- A filled link has a capacity, and two flows that fill it do so by this capacity.
 pub record FillBoth (x t y v : ℚ) : Type 0 where

@@ -1,13 +1,6 @@
 -- The rank of a listed pattern is at most one more than the number of assignments before it.
-use Rattle.std.proofs.Common.{◌≡◌, ℕ, zero, suc, ◌<◌, ◌≤◌, Bool, List, length, refl, sym, ◌∙◌, arith}
-use Rattle.std.specs.Prelude.{Some, slice_get}
-use Rattle.std.proofs.lemmas.Option.{slice_get_within}
-use Rattle.nf_model.specs.Walk.{Hop}
-use Rattle.nf_model.specs.ThinFlow.{Sets}
-use Rattle.nf_model.specs.Pattern.{Pattern, IsListed}
-use Rattle.nf_thin_def.specs.Listing.{HasPlace, IsListing}
-use Rattle.nf_rational_laws.proofs.Entries.{entry}
-use Rattle.nf_thin_laws.specs.Ways.{Choices, AreIn, ways_before}
+use Rattle.std.proofs.Common.{◌≡◌, ℕ, zero, suc, ◌<◌, ◌≤◌, Bool, List, length, refl, sym, ◌∙◌, arith, Some, slice_get}
+use Rattle.nf_thin_laws.proofs.Common.{slice_get_within, Hop, Sets, Pattern, IsListed, HasPlace, IsListing, entry, Choices, AreIn, ways_before}
 use Rattle.nf_thin_laws.proofs.Counting.{AreIn-length, before_less}
 
 module _ (nodes source : ℕ) (hops : List Hop) (sets : Sets) (unbounded : List Bool) (base : Pattern) (choices : Choices) (listing : List Pattern)

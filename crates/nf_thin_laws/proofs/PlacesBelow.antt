@@ -1,15 +1,8 @@
 -- The rank of a listed pattern is greater than the number of listed assignments before it.
-use Rattle.std.proofs.Common.{◌≡◌, ◌⊎◌, inl, inr, ℕ, zero, suc, ◌<◌, ◌≤◌, Bool, List, length, refl, sym, ap, subst, ◌∙◌, arith}
-use Rattle.std.specs.Prelude.{Some, slice_get}
-use Rattle.std.proofs.lemmas.Option.{same_Some}
-use Rattle.nf_model.specs.Walk.{Hop}
-use Rattle.nf_model.specs.ThinFlow.{Sets}
-use Rattle.nf_model.specs.Pattern.{Pattern, IsListed, IsBefore}
-use Rattle.nf_thin_def.specs.Listing.{HasPlace, IsListing}
+use Rattle.std.proofs.Common.{◌≡◌, ◌⊎◌, inl, inr, ℕ, zero, suc, ◌<◌, ◌≤◌, Bool, List, length, refl, sym, ap, subst, ◌∙◌, arith, Some, slice_get}
+use Rattle.nf_thin_laws.proofs.Common.{same_Some, Hop, Sets, Pattern, IsListed, IsBefore, HasPlace, IsListing, compared, Choices, AreIn, ways_before, AllAscend}
+use Rattle.nf_thin_laws.proofs.Common.{firm_before}
 use Rattle.nf_thin_laws.proofs.Listings.{IsBefore-asymmetric}
-use Rattle.nf_rational_laws.proofs.Naturals.{compared}
-use Rattle.nf_thin_laws.specs.Ways.{Choices, AreIn, ways_before}
-use Rattle.nf_thin_laws.specs.Firm.{AllAscend, firm_before}
 use Rattle.nf_thin_laws.proofs.Counting.{AreIn-length, before_less}
 use Rattle.nf_thin_laws.proofs.Unranking.{number_before}
 

@@ -1,16 +1,8 @@
 -- A search has one answer.
-use Rattle.std.proofs.Common.{◌≡◌, ℕ, ◌<◌, ◌≤◌, List, refl, sym, ap, ◌∙◌, subst, arith, inl, inr}
-use Rattle.std.specs.Prelude.{Result, Ok, Err, is_ok, IsOk}
-use Rattle.std.proofs.lemmas.Bool.{cases_lt}
-use Rattle.nf_rational.specs.Rational.{ℚ}
-use Rattle.nf_frac_def.specs.Passing.{Passing}
-use Rattle.nf_frac_def.specs.declared.PassedAt.{PassedAt}
-use Rattle.nf_model.specs.Network.{Network, hops, unbounded}
-use Rattle.nf_model.specs.ThinFlow.{Sets}
-use Rattle.nf_model.specs.Pattern.{Pattern, Solves}
-use Rattle.nf_thin_def.specs.Accepted.{pattern_lists}
-use Rattle.nf_thin_def.specs.Listing.{HasPlace}
-use Rattle.nf_thin_def.specs.Search.{SearchAnswer, Found, OverBudget, PassesAt, NoPattern, IsFirstAccepted, IsOverBudget, IsInVain, IsFirstPassing, NonePasses, Answers, IsSearch}
+use Rattle.std.proofs.Common.{◌≡◌, ℕ, ◌<◌, ◌≤◌, List, refl, sym, ap, ◌∙◌, subst, arith, inl, inr, Result, Ok, Err, is_ok, IsOk}
+use Rattle.nf_thin_laws.proofs.Common.{cases_lt, ℚ, Passing, PassedAt, Network, hops, unbounded, Sets, Pattern, Solves, pattern_lists, HasPlace, SearchAnswer}
+use Rattle.nf_thin_laws.proofs.Common.{Found, OverBudget, PassesAt, NoPattern, IsFirstAccepted, IsOverBudget, IsInVain, IsFirstPassing, NonePasses, Answers}
+use Rattle.nf_thin_laws.proofs.Common.{IsSearch}
 use Rattle.nf_thin_laws.proofs.Listings.{same_pattern, one_listing}
 
 -- Two ranks are equal if neither is less.
@@ -20,7 +12,7 @@ same_place p q not_before not_after = elim (cases_lt p q) [ inl h ↦ absurd (no
     at : q ≤ p → p ≡ q
     at h = elim (cases_lt q p) [ inl k ↦ absurd (not_after k) | inr k ↦ omega arith ]
 
-ok_or_err : {A E : Type 0} (r : Result A E) (e : E) → IsOk r → r ≡ Err e → ⊥
+pub ok_or_err : {A E : Type 0} (r : Result A E) (e : E) → IsOk r → r ≡ Err e → ⊥
 ok_or_err (Ok x) e is_ok is_err = cc
 ok_or_err (Err f) e is_ok is_err = cc
 

@@ -4,34 +4,18 @@
 -- Conservation makes both equal, so no filled link leads into the nodes. But backward along the links by which the pattern is listed, one
 -- must.
 use Rattle.std.proofs.Common.{◌≡◌, ◌≢◌, ℕ, ◌<◌, ◌≤◌, List, [], ◌∷◌, length, ◌⊎◌, inl, inr, ⊎_elim, Bool, true, false, if◌then◌else◌, eqb, Option, Some, None, slice_get, sym, ap, subst, refl, ◌∙◌, arith}
-use Rattle.std.proofs.lemmas.Bool.{cases_lt}
-use Rattle.std.proofs.lemmas.Bool.Decides.{eqb_tells}
-use Rattle.nf_rational.specs.Rational.{ℚ}
-use Rattle.nf_rational.specs.Operations.{0ℚ, 1ℚ, ◌+ℚ◌, ◌-ℚ◌, ◌*ℚ◌}
-use Rattle.nf_rational.specs.Order.{◌≤ℚ◌, ◌<ℚ◌, lt_ℚ}
-use Rattle.nf_rational_laws.proofs.Polynomial.{reading_of}
-use Rattle.nf_rational_laws.proofs.Order.{≤ℚ_of_same, ≤ℚ_antisymm, ≤ℚ_of_lt, lt_or_le_ℚ, not_both_ℚ}
-use Rattle.nf_rational_laws.proofs.Tests.{lt_ℚ_cases}
-use Rattle.nf_rational_laws.proofs.Linear.{le, lt, eq, le_times, linear_le, linear_lt, linear_eq, linear_false}
-use Rattle.nf_model.specs.declared.State.{State}
-use Rattle.nf_model.specs.declared.State.TheVariants.{Tight, Full, Zero}
-use Rattle.nf_model.specs.Entries.{number_at}
-use Rattle.nf_model.specs.Network.{Link, Network, IsLink, IsNetwork}
-use Rattle.nf_model.specs.ThinFlow.{Sets, surplus, Enters}
-use Rattle.nf_model.specs.Pattern.{Pattern, HasState, IsListedIn, Fills, Equation, Solves, Meets, IsSolution}
-use Rattle.nf_model_laws.proofs.Affine.{ps-times_gap}
-use Rattle.nf_model_laws.proofs.Earliest.{IsPositive-link}
-use Rattle.nf_model_laws.proofs.Potential.{carried-each, fall, out_less_in}
+use Rattle.nf_thin_laws.proofs.Common.{cases_lt, eqb_tells, ℚ, 0ℚ, 1ℚ, ◌+ℚ◌, ◌-ℚ◌, ◌*ℚ◌, ◌≤ℚ◌, ◌<ℚ◌, lt_ℚ, reading_of, ≤ℚ_of_same, ≤ℚ_antisymm, ≤ℚ_of_lt}
+use Rattle.nf_thin_laws.proofs.Common.{lt_or_le_ℚ, not_both_ℚ, lt_ℚ_cases, le, lt, eq, le_times, linear_le, linear_lt, linear_eq, linear_false, State, Tight}
+use Rattle.nf_thin_laws.proofs.Common.{Full, Zero, number_at, Link, Network, IsLink, IsNetwork, Sets, surplus, Enters, Pattern, HasState, IsListedIn, Fills}
+use Rattle.nf_thin_laws.proofs.Common.{Equation, Solves, Meets, IsSolution, ps-times_gap, IsPositive-link, carried-each, fall, out_less_in, AreSets}
+use Rattle.nf_thin_laws.proofs.Common.{HoldNoCycle, SolvesHomogeneous, entry, same_entries}
 use Rattle.nf_model_laws.proofs.Sums.{sum_in-line, sum_out-line, sum_in-none, sum_out-none}
-use Rattle.nf_thin_laws.specs.ActiveLinks.{AreSets, HoldNoCycle}
-use Rattle.nf_thin_laws.specs.PatternLaws.{SolvesHomogeneous}
 use Rattle.nf_thin_laws.proofs.Flags.{flag, entry_beyond, number_at-beyond}
 use Rattle.nf_thin_laws.proofs.Patterns.{FillBoth, FillBoth-of, Stands, with_state, resets, inactive, stands, Leads, by_tight, by_full, by_reset, led}
 use Rattle.nf_thin_laws.proofs.Cuts.{fall_none, fall_into, fall_out, fall_same, into_equal, same_carried}
 use Rattle.nf_model_laws.proofs.Totals.{sink_takes}
 use Rattle.nf_thin_laws.proofs.Forests.{Dart, Carries, forest-none}
 use Rattle.nf_thin_laws.proofs.ActiveLinks.{none_first}
-use Rattle.nf_rational_laws.proofs.Entries.{entry, same_entries}
 
 -- ---- filled links: x and y are their flows, t and v the slopes of their heads
 fill_more : (x y c t v : ℚ) → 0ℚ <ℚ c → x ≡ c *ℚ t → y ≡ c *ℚ v → v <ℚ t → y <ℚ x

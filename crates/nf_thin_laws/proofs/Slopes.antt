@@ -1,22 +1,12 @@
 -- Thin flows for the same sets and rate have the same slopes.
 use Rattle.std.proofs.Common.{◌≡◌, ◌≢◌, ℕ, ◌<◌, List, ◌⊎◌, inl, inr, ⊎_elim, Bool, true, false, if◌then◌else◌, eqb, sym, ap, subst, refl, ◌∙◌}
-use Rattle.std.proofs.lemmas.Bool.Decides.{eqb_tells}
-use Rattle.nf_rational.specs.Rational.{ℚ}
-use Rattle.nf_rational.specs.Operations.{0ℚ, 1ℚ, ◌*ℚ◌}
-use Rattle.nf_rational.specs.Order.{◌≤ℚ◌, ◌<ℚ◌, lt_ℚ}
-use Rattle.nf_rational_laws.proofs.Order.{≤ℚ_of_same, ≤ℚ_antisymm, lt_or_le_ℚ, not_both_ℚ}
-use Rattle.nf_rational_laws.proofs.Tests.{lt_ℚ_cases}
-use Rattle.nf_model.specs.Entries.{number_at, Has}
-use Rattle.nf_model.specs.Network.{Link, Network, IsLink, IsNetwork}
-use Rattle.nf_model.specs.ThinFlow.{Sets, surplus, exit_slope_at, Enters, IsThinFlow}
-use Rattle.nf_model_laws.proofs.Earliest.{IsPositive-link}
-use Rattle.nf_model_laws.proofs.Potential.{carried-each, fall, out_less_in}
-use Rattle.nf_thin_laws.specs.ActiveLinks.{HoldNoCycle, EachIsEntered, NoneEntersSource}
+use Rattle.nf_thin_laws.proofs.Common.{eqb_tells, ℚ, 0ℚ, 1ℚ, ◌*ℚ◌, ◌≤ℚ◌, ◌<ℚ◌, lt_ℚ, ≤ℚ_of_same, ≤ℚ_antisymm, lt_or_le_ℚ, not_both_ℚ, lt_ℚ_cases, number_at}
+use Rattle.nf_thin_laws.proofs.Common.{Has, Link, Network, IsLink, IsNetwork, Sets, surplus, exit_slope_at, Enters, IsThinFlow, IsPositive-link, carried-each}
+use Rattle.nf_thin_laws.proofs.Common.{fall, out_less_in, HoldNoCycle, EachIsEntered, NoneEntersSource, same_entries}
 use Rattle.nf_thin_laws.proofs.Flags.{flag, flag-cases}
 use Rattle.nf_thin_laws.proofs.LinkLaws.{LinkLaw, LinkLaw-of, into_le, out_le, stuck}
 use Rattle.nf_thin_laws.proofs.Cuts.{fall_none, fall_into, fall_out, fall_same, into_equal, same_carried}
 use Rattle.nf_thin_laws.proofs.ActiveLinks.{none_first, NoneEntersSource-acyclic}
-use Rattle.nf_rational_laws.proofs.Entries.{same_entries}
 
 pub EachIsEntered-thin : (net : Network) (sets : Sets) (rate : ℚ) (flows slopes : List ℚ) → IsThinFlow net sets rate flows slopes → EachIsEntered net sets
 EachIsEntered-thin net sets rate flows slopes thin v h other =

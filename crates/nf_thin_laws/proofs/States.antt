@@ -1,14 +1,7 @@
 -- The slopes of a thin flow allow each state of a solvable listed pattern.
 use Rattle.std.proofs.Common.{◌≡◌, ℕ, List, Some, subst}
-use Rattle.nf_rational.specs.Rational.{ℚ}
-use Rattle.nf_model.specs.declared.State.{State}
-use Rattle.nf_model.specs.declared.State.TheVariants.{Tight, Full, Zero}
-use Rattle.nf_model.specs.Entries.{number_at}
-use Rattle.nf_model.specs.Network.{Link, Network, IsLink, IsNetwork}
-use Rattle.nf_model.specs.ThinFlow.{Sets, IsThinFlow}
-use Rattle.nf_model.specs.Pattern.{Pattern, HasState, IsListedIn, Solves, Meets, IsSolvable}
-use Rattle.nf_thin_laws.specs.ActiveLinks.{AreSets, HoldNoCycle}
-use Rattle.nf_thin_laws.specs.PatternLaws.{AllowState}
+use Rattle.nf_thin_laws.proofs.Common.{ℚ, State, Tight, Full, Zero, number_at, Link, Network, IsLink, IsNetwork, Sets, IsThinFlow, Pattern, HasState}
+use Rattle.nf_thin_laws.proofs.Common.{IsListedIn, Solves, Meets, IsSolvable, AreSets, HoldNoCycle, AllowState}
 use Rattle.nf_thin_laws.proofs.Accepted.{IsThinFlow-accepted}
 use Rattle.nf_thin_laws.proofs.Slopes.{slopes-unique}
 

@@ -1,19 +1,11 @@
 -- For each number less than the count of assignments before a pattern, some assignment before it has exactly that many before itself.
 use Rattle.std.proofs.Common.{eqb-true, ◌≡◌, ◌⊎◌, inl, inr, ℕ, zero, suc, ◌+◌, ◌-◌, ◌<◌, ◌≤◌, Bool, true, false, List, [], ◌∷◌, refl, sym, ap, ◌∙◌, arith}
-use Rattle.std.specs.Prelude.{Option, Some, None, ◌==◌, if◌then◌else◌}
+use Rattle.nf_thin_laws.proofs.Common.{Option, Some, None, ◌==◌, if◌then◌else◌, false≢true, cases_lt, State, Tight, Full, Zero, Pattern, rank, changes}
+use Rattle.nf_thin_laws.proofs.Common.{IsEarlier, IsBefore, change, Choices, IsIn, AreIn, left_ways, ways_by, ways_below, ways, ways_earlier, ways_fewer}
+use Rattle.nf_thin_laws.proofs.Common.{ways_before, Ascend, AllAscend, is_in, firm_earlier, firm_before}
 use Rattle.std.proofs.Math.Dec.{eqb-suc-zero}
-use Rattle.std.proofs.lemmas.Bool.{false≢true}
-use Rattle.nf_model.specs.declared.State.{State}
-use Rattle.nf_model.specs.declared.State.TheVariants.{Tight, Full, Zero}
-use Rattle.nf_model.specs.Pattern.{Pattern, rank, changes, IsEarlier, IsBefore}
-use Rattle.nf_thin_laws.specs.Forcing.{change}
-use Rattle.nf_thin_laws.specs.Ways.{Choices, IsIn, AreIn, left_ways, ways_by, ways_below, ways, ways_earlier, ways_fewer, ways_before}
-use Rattle.nf_thin_laws.specs.Firm.{Ascend, AllAscend, is_in, firm_earlier, firm_before}
 use Rattle.nf_thin_laws.proofs.ForcedOrder.{changes_first}
 use Rattle.nf_thin_laws.proofs.Counting.{counted_less, counted_not, left_ways-of}
-
-below_or : (x y : ℕ) → (x < y) ⊎ (y ≤ x)
-below_or x y = grind arith
 
 -- The remaining changes, if the count is not 0.
 left_of_changes : (j : ℕ) (rest : ℕ → ℕ) (n i : ℕ) → i < left_ways j rest n → (m : ℕ) × (n ≡ j + m) × (left_ways j rest n ≡ rest m)
@@ -42,7 +34,7 @@ module _ (b : Option State) (rest : ℕ → ℕ) (n : ℕ) where
 
   state_at : (states : List (Option State)) (j : ℕ) → Ascend states → j < ways_by states b rest n → StateAt states j
   state_at [] j up h = absurd (omega arith)
-  state_at (t ∷ states) j up h = go (below_or j (with t)) (λ more. state_at states (j - with t) up.1 (omega arith))
+  state_at (t ∷ states) j up h = go (cases_lt j (with t)) (λ more. state_at states (j - with t) up.1 (omega arith))
     where
       go : (j < with t) ⊎ (with t ≤ j) → (with t ≤ j → StateAt states (j - with t)) → StateAt (t ∷ states) j
       go (inl less) later = record {
@@ -71,7 +63,7 @@ module _ (b : Option State) (rest : ℕ → ℕ) (n : ℕ) where
 
   state_below : (states : List (Option State)) (r : Option State) (j : ℕ) → Ascend states → j < ways_below states b r rest n → StateBelow states r j
   state_below [] r j up h = absurd (omega arith)
-  state_below (t ∷ states) r j up h = by (below_or (rank t) (rank r))
+  state_below (t ∷ states) r j up h = by (cases_lt (rank t) (rank r))
       (λ before more. state_below states r (j - with t) up.1 (let c = counted_less (rank t) (rank r) (with t) before in omega arith))
       (λ not. state_below states r j up.1 (let c = counted_not (rank t) (rank r) (with t) not in omega arith))
     where
@@ -94,7 +86,7 @@ module _ (b : Option State) (rest : ℕ → ℕ) (n : ℕ) where
       }
 
       by : (rank t < rank r) ⊎ (rank r ≤ rank t) → (rank t < rank r → with t ≤ j → StateBelow states r (j - with t)) → (rank r ≤ rank t → StateBelow states r j) → StateBelow (t ∷ states) r j
-      by (inl before) later none = go before (below_or j (with t)) later
+      by (inl before) later none = go before (cases_lt j (with t)) later
       by (inr not) later none =
           let w = none not in
           absurd (let k = up.0 w.s w.is_state in let l = w.less in omega arith)
@@ -171,7 +163,7 @@ number_earlier : (choices : Choices) (base p : Pattern) (n j : ℕ) → AllAscen
 number_earlier [] base p n j up h = absurd (omega arith)
 number_earlier (c ∷ choices) [] p n j up h = absurd (omega arith)
 number_earlier (c ∷ choices) (b ∷ base) [] n j up h = absurd (omega arith)
-number_earlier (c ∷ choices) (b ∷ base) (s ∷ p) n j up h = go (below_or j (ways_below c b s (ways choices base) n)) (λ m i less. number_earlier choices base p m i up.1 less)
+number_earlier (c ∷ choices) (b ∷ base) (s ∷ p) n j up h = go (cases_lt j (ways_below c b s (ways choices base) n)) (λ m i less. number_earlier choices base p m i up.1 less)
   where
     go : (j < ways_below c b s (ways choices base) n) ⊎ (ways_below c b s (ways choices base) n ≤ j) → ((m i : ℕ) → i < firm_earlier choices base p m → Earlier choices base p m i)
         → Earlier (c ∷ choices) (b ∷ base) (s ∷ p) n j
@@ -223,7 +215,7 @@ by_changes choices base q n k same h = ap (λ (m : ℕ). ways_fewer choices base
 
 number_fewer : (choices : Choices) (base : Pattern) (n k : ℕ) → AllAscend choices → k < ways_fewer choices base n → Fewer choices base n k
 number_fewer choices base zero k up h = absurd (omega arith)
-number_fewer choices base (suc n) k up h = go (below_or k (ways_fewer choices base n)) (λ less. number_fewer choices base n k up less)
+number_fewer choices base (suc n) k up h = go (cases_lt k (ways_fewer choices base n)) (λ less. number_fewer choices base n k up less)
   where
     go : (k < ways_fewer choices base n) ⊎ (ways_fewer choices base n ≤ k) → (k < ways_fewer choices base n → Fewer choices base n k) → Fewer choices base (suc n) k
     go (inl less) down = let w = down less in
@@ -238,7 +230,7 @@ number_fewer choices base (suc n) k up h = go (below_or k (ways_fewer choices ba
         }
 
 pub number_before : (choices : Choices) (base p : Pattern) (k : ℕ) → AllAscend choices → k < firm_before choices base p → Before choices base p k
-number_before choices base p k up h = go (below_or k (ways_fewer choices base (changes base p)))
+number_before choices base p k up h = go (cases_lt k (ways_fewer choices base (changes base p)))
   where
     go : (k < ways_fewer choices base (changes base p)) ⊎ (ways_fewer choices base (changes base p) ≤ k) → Before choices base p k
     go (inl less) = let w = number_fewer choices base (changes base p) k up less in

@@ -1,18 +1,10 @@
 -- Times clipped to [0, last], and curves at such times.
 use Rattle.std.proofs.Common.{◌≡◌, List, [], ◌∷◌, ◌⊎◌, inl, inr, ⊎_elim, false, sym, ap, subst, ◌∙◌}
-use Rattle.nf_rational.specs.Rational.{ℚ}
-use Rattle.nf_rational.specs.Operations.{0ℚ, ◌-ℚ◌}
-use Rattle.nf_rational.specs.Order.{◌≤ℚ◌, ◌<ℚ◌, min_ℚ, max_ℚ}
-use Rattle.nf_rational_laws.proofs.Polynomial.{reading_of}
-use Rattle.nf_rational_laws.proofs.Order.{≤ℚ_of_lt, ≤ℚ_of_same, ≤ℚ_antisymm, not_both_ℚ}
-use Rattle.nf_rational_laws.proofs.Linear.{le, eq, linear_le}
-use Rattle.nf_rational_laws.proofs.Tests.{min_ℚ_cases, max_ℚ_cases}
-use Rattle.nf_rational_laws.proofs.Chains.{≤ℚ_trans}
+use Rattle.nf_unique_laws.proofs.Common.{ℚ, 0ℚ, ◌-ℚ◌, ◌≤ℚ◌, ◌<ℚ◌, min_ℚ, max_ℚ, reading_of, ≤ℚ_of_lt, ≤ℚ_of_same, ≤ℚ_antisymm, not_both_ℚ, le, eq, linear_le}
+use Rattle.nf_unique_laws.proofs.Common.{min_ℚ_cases, max_ℚ_cases, ≤ℚ_trans, Within, value, IsCurve, HasCurve, clipped}
 use Rattle.nf_frac_def.specs.Passing.{Passing}
-use Rattle.nf_model.specs.Curve.{Within, value, IsCurve, HasCurve}
 use Rattle.nf_curve_laws.proofs.Following.{value-follows_past}
 use Rattle.nf_curve_laws.proofs.Values.{cut-follows, follows-curve, follows-values}
-use Rattle.nf_unique_laws.specs.PriceLaws.{clipped}
 
 -- ---- the position of a time, and its clipped value
 pub data Place (time last at : ℚ) : Type 0 where

@@ -1,14 +1,7 @@
 -- A particle that enters a link in two equilibria leaves it at the same time, and waits as long.
 use Rattle.std.proofs.Common.{◌≡◌, ℕ, sym, ap, ◌∙◌}
-use Rattle.nf_rational.specs.Rational.{ℚ}
-use Rattle.nf_rational.specs.Operations.{0ℚ, ◌+ℚ◌}
-use Rattle.nf_rational.specs.Order.{◌≤ℚ◌, min_ℚ}
-use Rattle.nf_rational_laws.proofs.Extremes.{min_keeps}
-use Rattle.nf_model.specs.Curve.{Within}
-use Rattle.nf_model.specs.Network.{Link, Network, IsNetwork, IsLink}
-use Rattle.nf_model.specs.Queue.{IsExit, waiting}
-use Rattle.nf_model.specs.Equilibrium.{Flow, label, inflow, queue, Equilibrium}
-use Rattle.nf_model_laws.proofs.Queues.{IsQueue-unique}
+use Rattle.nf_unique_laws.proofs.Common.{ℚ, 0ℚ, ◌+ℚ◌, ◌≤ℚ◌, min_ℚ, min_keeps, Within, Link, Network, IsNetwork, IsLink, IsExit, waiting, Flow, label, inflow}
+use Rattle.nf_unique_laws.proofs.Common.{queue, Equilibrium, IsQueue-unique}
 use Rattle.nf_phase_equilibrium_laws.proofs.Printed.{label-nn, label-order}
 use Rattle.nf_unique_laws.specs.UniqueLaws.{SameInAll}
 use Rattle.nf_unique_laws.proofs.Labels.{labels-same}

@@ -1,31 +1,17 @@
 -- An equilibrium, up to the departure that it reached, is a feasible flow over time, and delivers the supply by the sink's label.
 use Rattle.std.proofs.Common.{◌≡◌, ◌≢◌, ℕ, ◌<◌, [], ◌∷◌, ⊎_elim, true, false, eqb, Option, Some, unwrap_or, option_map, sym, ap, subst, ◌∙◌}
-use Rattle.std.proofs.lemmas.Bool.Decides.{eqb_tells}
-use Rattle.std.proofs.lemmas.Option.{slice_get_within}
-use Rattle.nf_rational.specs.Rational.{ℚ}
-use Rattle.nf_rational.specs.Operations.{0ℚ, ◌+ℚ◌, ◌-ℚ◌, ◌*ℚ◌}
-use Rattle.nf_rational.specs.Order.{◌≤ℚ◌, ◌<ℚ◌}
-use Rattle.nf_rational_laws.proofs.Polynomial.{reading_of}
-use Rattle.nf_rational_laws.proofs.Order.{≤ℚ_of_lt, ≤ℚ_of_same, lt_or_le_ℚ}
-use Rattle.nf_rational_laws.proofs.Linear.{le, eq, linear_le, linear_eq}
-use Rattle.nf_rational_laws.proofs.Chains.{≤ℚ_refl, ≤ℚ_trans}
-use Rattle.nf_model.specs.Curve.{Within}
-use Rattle.nf_model.specs.Network.{Link, Network, IsNetwork, IsLink, sum_in, sum_out, supply}
-use Rattle.nf_model.specs.Queue.{IsOutflow}
-use Rattle.nf_model.specs.Equilibrium.{Flow, points_at, points_of, label, inflow, outflow, Balances, Equilibrium}
+use Rattle.nf_unique_laws.proofs.Common.{eqb_tells, slice_get_within, ℚ, 0ℚ, ◌+ℚ◌, ◌-ℚ◌, ◌*ℚ◌, ◌≤ℚ◌, ◌<ℚ◌, reading_of, ≤ℚ_of_lt, ≤ℚ_of_same, lt_or_le_ℚ, le, eq}
+use Rattle.nf_unique_laws.proofs.Common.{linear_le, linear_eq, ≤ℚ_refl, ≤ℚ_trans, Within, Link, Network, IsNetwork, IsLink, sum_in, sum_out, supply, IsOutflow}
+use Rattle.nf_unique_laws.proofs.Common.{Flow, points_at, points_of, label, inflow, outflow, Balances, Equilibrium, IsOutflow-unique, tail_or, link_within}
+use Rattle.nf_unique_laws.proofs.Common.{HoldsUpTo-equilibrium, clipped, entered_of, left_of}
 use Rattle.nf_model.specs.Quickest.{IsAmount, IsFeasible, delivered, IsQuickest}
-use Rattle.nf_model_laws.proofs.Queues.{IsOutflow-unique}
 use Rattle.nf_model_laws.proofs.Earliest.{IsPositive-link}
 use Rattle.nf_model_laws.proofs.Sums.{sum_in-same, sum_out-same}
 use Rattle.nf_model_laws.proofs.Supply.{supplied-begins, supplied-rises}
 use Rattle.nf_quick_def.specs.Quick.{Quick}
 use Rattle.nf_quick_def.specs.Answers.{IsQuickFlow}
 use Rattle.nf_quick_def.specs.Departures.{IsDeparture}
-use Rattle.nf_phase_laws.specs.Invariant.{tail_or}
-use Rattle.nf_phase_laws.proofs.Holds.{link_within}
 use Rattle.nf_phase_equilibrium_laws.proofs.Printed.{rises-link, starts-link, label-nn, label-order, comes_out-at}
-use Rattle.nf_phase_equilibrium_laws.proofs.Invariant.{HoldsUpTo-equilibrium}
-use Rattle.nf_unique_laws.specs.PriceLaws.{clipped, entered_of, left_of}
 use Rattle.nf_unique_laws.proofs.Clipped.{clipped-within, clipped-is, HasCurve-clipped}
 use Rattle.nf_unique_laws.proofs.OneLink.{AllServed, entered-before, entered-rises, left-before, left-rises, left-room, left-late, left-queue}
 

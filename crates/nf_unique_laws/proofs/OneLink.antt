@@ -1,21 +1,11 @@
 -- A link whose inflow ends at a last time. Its outflow is known up to the time by which everything that entered has left.
 use Rattle.std.proofs.Common.{◌≡◌, [], ◌∷◌, ⊎_elim, Option, Some, sym, ap, subst, ◌∙◌}
-use Rattle.nf_rational.specs.Rational.{ℚ}
-use Rattle.nf_rational.specs.Operations.{0ℚ, ◌+ℚ◌, ◌-ℚ◌, ◌*ℚ◌}
-use Rattle.nf_rational.specs.Order.{◌≤ℚ◌, ◌<ℚ◌}
-use Rattle.nf_rational_laws.proofs.Polynomial.{reading_of}
-use Rattle.nf_rational_laws.proofs.Order.{≤ℚ_of_lt, ≤ℚ_of_same, ≤ℚ_antisymm, lt_or_le_ℚ, less_nn}
-use Rattle.nf_rational_laws.proofs.Linear.{le, lt, eq, le_times, linear_le, linear_eq}
-use Rattle.nf_rational_laws.proofs.Chains.{≤ℚ_refl, ≤ℚ_trans, ≤_<_trans}
-use Rattle.nf_model.specs.Curve.{Within, IsLeast, NeverFalls}
-use Rattle.nf_model.specs.Queue.{IsOutflow}
+use Rattle.nf_unique_laws.proofs.Common.{ℚ, 0ℚ, ◌+ℚ◌, ◌-ℚ◌, ◌*ℚ◌, ◌≤ℚ◌, ◌<ℚ◌, reading_of, ≤ℚ_of_lt, ≤ℚ_of_same, ≤ℚ_antisymm, lt_or_le_ℚ, less_nn, le, lt, eq}
+use Rattle.nf_unique_laws.proofs.Common.{le_times, linear_le, linear_eq, ≤ℚ_refl, ≤ℚ_trans, ≤_<_trans, Within, IsLeast, NeverFalls, IsOutflow, IsOutflow-unique}
+use Rattle.nf_unique_laws.proofs.Common.{clipped, less_le, line_start}
 use Rattle.nf_model_laws.specs.Capacity.{IsPositive}
-use Rattle.nf_model_laws.proofs.Queues.{IsOutflow-unique}
 use Rattle.nf_phase_equilibrium_laws.proofs.Served.{amount-nn, outflow-nn, outflow-entered, outflow-rises}
-use Rattle.nf_unique_laws.specs.PriceLaws.{clipped}
 use Rattle.nf_unique_laws.proofs.Clipped.{clipped-within, clipped-none, clipped-rises, clipped-stretch, lands}
-use Rattle.nf_rational_laws.proofs.Facts.{less_le}
-use Rattle.nf_model_laws.proofs.Affine.{line_start}
 
 -- ---- over plain numbers: r the transit time, c the capacity, f and g what had entered, x and y what has left
 

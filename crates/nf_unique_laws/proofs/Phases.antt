@@ -2,32 +2,16 @@
 -- of the phase's thin flow: it is still a thin flow at the beginning of the interval, and slopes are unique. So the labels do so in the
 -- whole phase, and in one phase after the other.
 use Rattle.std.proofs.Common.{◌≡◌, ℕ, zero, suc, ◌<◌, List, [], ◌∷◌, length, Some, slice_get, ⊎_elim, Bool, true, false, if◌then◌else◌, sym, ap, subst, refl, ◌∙◌}
-use Rattle.std.proofs.lemmas.Option.{same_Some}
-use Rattle.nf_rational.specs.Rational.{ℚ}
-use Rattle.nf_rational.specs.Operations.{0ℚ, ◌+ℚ◌, ◌-ℚ◌, ◌*ℚ◌}
-use Rattle.nf_rational.specs.Order.{◌≤ℚ◌, ◌<ℚ◌, le_ℚ}
-use Rattle.nf_rational_laws.proofs.Polynomial.{reading_of}
-use Rattle.nf_rational_laws.proofs.Order.{≤ℚ_of_lt, ≤ℚ_of_same, ≤ℚ_antisymm, lt_or_le_ℚ, less_ps, not_both_ℚ, less_nn}
-use Rattle.nf_rational_laws.proofs.Tests.{le_ℚ_cases}
-use Rattle.nf_rational_laws.proofs.Linear.{lt, eq, eq_times, linear_lt, linear_eq}
-use Rattle.nf_rational_laws.proofs.Chains.{≤ℚ_refl, ≤ℚ_trans, <ℚ_trans, <_≤_trans}
-use Rattle.nf_model.specs.Entries.{number_at}
-use Rattle.nf_model.specs.Curve.{Within}
-use Rattle.nf_model.specs.Network.{Piece, Network, IsNetwork, IsPiece, hops, rate_at, rate_from}
-use Rattle.nf_model.specs.ThinFlow.{slacks_of, sets_at, IsThinFlow}
+use Rattle.nf_unique_laws.proofs.Common.{same_Some, ℚ, 0ℚ, ◌+ℚ◌, ◌-ℚ◌, ◌*ℚ◌, ◌≤ℚ◌, ◌<ℚ◌, le_ℚ, reading_of, ≤ℚ_of_lt, ≤ℚ_of_same, ≤ℚ_antisymm, lt_or_le_ℚ}
+use Rattle.nf_unique_laws.proofs.Common.{less_ps, not_both_ℚ, less_nn, le_ℚ_cases, lt, eq, eq_times, linear_lt, linear_eq, ≤ℚ_refl, ≤ℚ_trans, <ℚ_trans}
+use Rattle.nf_unique_laws.proofs.Common.{<_≤_trans, number_at, Within, Piece, Network, IsNetwork, IsPiece, hops, rate_at, rate_from, slacks_of, sets_at}
+use Rattle.nf_unique_laws.proofs.Common.{IsThinFlow, Flow, label, inflow, points_at, Equilibrium, IsAffine, same_from_times, moved-at, length-moved, turns-one}
+use Rattle.nf_unique_laws.proofs.Common.{LabelsAre, HoldsUpTo-equilibrium, HoldNoCycle-sets_at}
 use Rattle.nf_model.specs.Phases.{AreStartLabels, Lasts, moved, IsPhase, PhasesFrom, IsPhaseSequence}
-use Rattle.nf_model.specs.Equilibrium.{Flow, label, inflow, points_at, Equilibrium}
-use Rattle.nf_model_laws.specs.Affine.{IsAffine}
-use Rattle.nf_model_laws.proofs.Affine.{same_from_times}
 use Rattle.nf_model_laws.proofs.OneValue.{IsLeastTransit-unique}
-use Rattle.nf_model_laws.proofs.Slacks.{moved-at, length-moved}
 use Rattle.nf_curve_laws.proofs.Turning.{affine_between}
-use Rattle.nf_curve_laws.proofs.Times.{turns-one}
-use Rattle.nf_phase_laws.specs.Invariant.{LabelsAre}
 use Rattle.nf_phase_laws.proofs.Length.{IsPhase-some}
 use Rattle.nf_phase_laws.proofs.Phases.{Lasts-phase}
-use Rattle.nf_phase_equilibrium_laws.proofs.Invariant.{HoldsUpTo-equilibrium}
-use Rattle.nf_thin_laws.proofs.ActiveLinks.{HoldNoCycle-sets_at}
 use Rattle.nf_thin_laws.proofs.Slopes.{slopes-unique}
 use Rattle.nf_unique_laws.specs.ThinLaws.{GoesByThinFlow}
 use Rattle.nf_unique_laws.proofs.Stretches.{all_times, one-all, NoneBetween, along_times}

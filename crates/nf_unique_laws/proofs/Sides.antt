@@ -1,12 +1,7 @@
 -- Slacks that change along lines, and the exit slopes of links whose slack leaves 0. Here x is the flow of a link, and l and m are the slopes
 -- of its tail and its head.
 use Rattle.std.proofs.Common.{◌≡◌, ⊎_elim, true, false, Option, Some, None, sym, subst, ◌∙◌}
-use Rattle.nf_rational.specs.Rational.{ℚ}
-use Rattle.nf_rational.specs.Operations.{◌/ℚ◌}
-use Rattle.nf_rational.specs.Order.{◌≤ℚ◌, ◌<ℚ◌, max_ℚ}
-use Rattle.nf_rational_laws.proofs.Order.{≤ℚ_of_same, not_both_ℚ}
-use Rattle.nf_rational_laws.proofs.Tests.{max_ℚ_cases}
-use Rattle.nf_model.specs.ThinFlow.{exit_slope}
+use Rattle.nf_unique_laws.proofs.Common.{ℚ, ◌/ℚ◌, ◌≤ℚ◌, ◌<ℚ◌, max_ℚ, ≤ℚ_of_same, not_both_ℚ, max_ℚ_cases, exit_slope}
 
 -- ---- a slack s that changes at c: if it is below 0 at first and at most 0 at y, it is below 0 at d between
 -- ---- if the head's label rises faster than the tail's, its slope is that of the filled link

@@ -1,23 +1,13 @@
 -- The thin flow of a phase stays a thin flow for the sets of the slacks at each time of the phase before its end. A nonzero slack keeps its
 -- side. A link with slack 0 whose head's label falls behind carries nothing. One whose head's label gets ahead is filled.
 use Rattle.std.proofs.Common.{◌≡◌, ◌≢◌, ℕ, ◌<◌, List, [], ◌∷◌, length, ◌⊎◌, inl, inr, ⊎_elim, Bool, true, false, sym, ap, subst, refl, ◌∙◌}
-use Rattle.std.proofs.lemmas.Option.{slice_get_within}
-use Rattle.nf_rational.specs.Rational.{ℚ}
-use Rattle.nf_rational.specs.Operations.{0ℚ, ◌+ℚ◌, ◌-ℚ◌, ◌*ℚ◌}
-use Rattle.nf_rational.specs.Order.{◌≤ℚ◌, ◌<ℚ◌}
-use Rattle.nf_rational_laws.proofs.Polynomial.{reading_of}
-use Rattle.nf_rational_laws.proofs.Order.{≤ℚ_of_lt, ≤ℚ_antisymm, lt_or_le_ℚ, not_both_ℚ}
-use Rattle.nf_rational_laws.proofs.Linear.{le, lt, eq, le_times, linear_le, linear_false}
-use Rattle.nf_rational_laws.proofs.Chains.{≤ℚ_refl}
-use Rattle.nf_rational_laws.proofs.Facts.{lt_of_gap, below_between, above_between}
-use Rattle.nf_model.specs.Entries.{number_at, Has}
-use Rattle.nf_model.specs.Network.{Link, Network, IsNetwork, IsLink, hops, hop_of}
-use Rattle.nf_model.specs.ThinFlow.{Sets, slack, slacks_of, sets_at, Enters, exit_slope, exit_slope_at, IsThinFlow}
+use Rattle.nf_unique_laws.proofs.Common.{slice_get_within, ℚ, 0ℚ, ◌+ℚ◌, ◌-ℚ◌, ◌*ℚ◌, ◌≤ℚ◌, ◌<ℚ◌, reading_of, ≤ℚ_of_lt, ≤ℚ_antisymm, lt_or_le_ℚ, not_both_ℚ, le}
+use Rattle.nf_unique_laws.proofs.Common.{lt, eq, le_times, linear_le, linear_false, ≤ℚ_refl, lt_of_gap, below_between, above_between, number_at, Has, Link}
+use Rattle.nf_unique_laws.proofs.Common.{Network, IsNetwork, IsLink, hops, hop_of, Sets, slack, slacks_of, sets_at, Enters, exit_slope, exit_slope_at}
+use Rattle.nf_unique_laws.proofs.Common.{IsThinFlow, slack_at, slack_after-moved, active_of_slack, slack_of_active, resetting_of_slack, slack_of_resetting}
+use Rattle.nf_unique_laws.proofs.Common.{link_within, AreSets-sets_at, HoldNoCycle-sets_at}
 use Rattle.nf_model.specs.Phases.{Lasts, moved}
-use Rattle.nf_model_laws.proofs.Slacks.{slack_at, slack_after-moved, active_of_slack, slack_of_active, resetting_of_slack, slack_of_resetting}
-use Rattle.nf_phase_laws.proofs.Holds.{link_within}
 use Rattle.nf_phase_laws.proofs.Thin.{exit_slope-tail}
-use Rattle.nf_thin_laws.proofs.ActiveLinks.{AreSets-sets_at, HoldNoCycle-sets_at}
 use Rattle.nf_thin_laws.proofs.Flags.{flag, flag-cases}
 use Rattle.nf_thin_laws.proofs.Slopes.{NoneEntersSource-thin}
 use Rattle.nf_unique_laws.proofs.Sides.{reset_least, reset_equal}

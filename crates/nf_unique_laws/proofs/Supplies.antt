@@ -1,15 +1,8 @@
 -- Equilibria of networks whose supplies differ only after a departure: up to that departure each is an equilibrium of the other's network.
 use Rattle.std.proofs.Common.{◌≡◌, ℕ, suc, ◌<◌, List, [], ◌∷◌, ◌++◌, sym, ap, subst, refl, ◌∙◌}
-use Rattle.nf_rational.specs.Rational.{ℚ}
-use Rattle.nf_rational.specs.Operations.{0ℚ, ◌-ℚ◌}
-use Rattle.nf_rational.specs.Order.{min_ℚ, max_ℚ}
-use Rattle.nf_rational_laws.proofs.Tests.{max0_none}
-use Rattle.nf_rational_laws.proofs.Chains.{≤ℚ_refl, ≤ℚ_trans}
-use Rattle.nf_rational_laws.proofs.Extremes.{min_is_left}
-use Rattle.nf_rational_laws.proofs.Facts.{gap_np, term_and_zero, same_terms}
-use Rattle.nf_model.specs.Curve.{Within}
-use Rattle.nf_model.specs.Network.{Link, Piece, Network, IsNetwork, ArePieces, IsLink, time_in, supplied, supply}
-use Rattle.nf_model.specs.Equilibrium.{Flow, Balances, label, inflow, queue, Equilibrium}
+use Rattle.nf_unique_laws.proofs.Common.{ℚ, 0ℚ, ◌-ℚ◌, min_ℚ, max_ℚ, max0_none, ≤ℚ_refl, ≤ℚ_trans, min_is_left, gap_np, term_and_zero, same_terms, Within, Link}
+use Rattle.nf_unique_laws.proofs.Common.{Piece, Network, IsNetwork, ArePieces, IsLink, time_in, supplied, supply, Flow, Balances, label, inflow, queue}
+use Rattle.nf_unique_laws.proofs.Common.{Equilibrium}
 use Rattle.nf_forever_def.specs.Extended.{up_to}
 use Rattle.nf_forever_laws.proofs.Before.{Equilibrium-before}
 use Rattle.nf_unique_laws.proofs.Labels.{labels-same}

@@ -1,5 +1,4 @@
-use Rattle.std.specs.List.{slice_split}
-use Rattle.std.specs.Prelude.{◌==◌}
+use Rattle.nf_net_laws.proofs.Common.{slice_split, ◌==◌}
 use Rattle.nf_net_laws.proofs.Wholes.{text_whole, parts_numbered}
 use Rattle.nf_net_laws.proofs.text_is_its_lines.Goals as goal
 

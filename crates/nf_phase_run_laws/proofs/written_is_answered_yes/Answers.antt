@@ -1,10 +1,5 @@
-use Rattle.std.proofs.Common.{sym, ap, ◌∙◌}
-use Rattle.std.specs.Prelude.{◌≡◌}
-use Rattle.nf_frac_def.specs.Passing.{passes_Q}
-use Rattle.nf_net_def.specs.Report.{Report}
-use Rattle.nf_check_def.specs.CheckList.{check_list}
-use Rattle.nf_rational_laws.proofs.Results.{same_Ok}
-use Rattle.nf_phase_laws.proofs.Run.{report_equilibrium}
+use Rattle.std.proofs.Common.{sym, ap, ◌∙◌, ◌≡◌}
+use Rattle.nf_phase_run_laws.proofs.Common.{passes_Q, Report, check_list, same_Ok, report_equilibrium}
 use Rattle.nf_report_laws.proofs.ReportBack.{report_back}
 use Rattle.nf_report_laws.proofs.ReportFit.{fit}
 use Rattle.nf_phase_run_laws.proofs.Running.{report_readable}

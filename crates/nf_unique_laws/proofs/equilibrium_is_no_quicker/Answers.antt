@@ -1,5 +1,4 @@
-use Rattle.nf_model.specs.Network.{supply}
-use Rattle.nf_rational_laws.proofs.Chains.{≤ℚ_refl}
+use Rattle.nf_unique_laws.proofs.Common.{supply, ≤ℚ_refl}
 use Rattle.nf_unique_laws.proofs.Feasible.{quickest-le}
 use Rattle.nf_unique_laws.proofs.equilibrium_is_no_quicker.Goals as goal
 
