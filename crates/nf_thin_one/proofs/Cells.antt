@@ -97,20 +97,11 @@ two_changes old once twice i j k x y h a b =
 pub still_inside : (old once : List Row) (i n : ℕ) (row : Row) → n < length old → once ≡ set old i row → n < length once
 still_inside old once i n row h e = subst (λ (k : ℕ). n < k) (sym (ap (λ (l : List Row). length l) e ∙ length-set old i row)) h
 
--- a number that is set where it stands already
-set_own : {A : Type 0} (xs : List A) (i : ℕ) (x d : A) → i < length xs → unwrap_or (slice_get xs i) d ≡ x → set xs i x ≡ xs
-set_own {A = A} [] i x d b e = absurd (omega arith)
-set_own {A = A} (y ∷ xs) zero x d b e = ap (λ (z : A). z ∷ xs) (sym e)
-set_own {A = A} (y ∷ xs) (suc i) x d b e = ap (λ (l : List A). y ∷ l) (set_own xs i x d (omega arith) e)
-
-set_zero : (row : Row) (j : ℕ) → number_at row j ≡ 0ℚ → set row j 0ℚ ≡ row
+-- 0 that is set where it stands already
+pub set_zero : (row : Row) (j : ℕ) → number_at row j ≡ 0ℚ → set row j 0ℚ ≡ row
 set_zero [] j e = refl
 set_zero (y ∷ row) zero e = ap (λ (z : ℚ). z ∷ row) (sym e)
 set_zero (y ∷ row) (suc j) e = ap (λ (l : Row). y ∷ l) (set_zero row j e)
-
-pub zero_stays : (table : List Row) (i j : ℕ) (x : ℚ) → i < length table → number_at (row_at table i) j ≡ 0ℚ → x ≡ 0ℚ → table ≡ set table i (set (row_at table i) j x)
-zero_stays table i j x b e z =
-    sym (ap (λ (y : ℚ). set table i (set (row_at table i) j y)) z ∙ ap (set table i) (set_zero (row_at table i) j e) ∙ set_own table i (row_at table i) [] b refl)
 
 -- ---- row after row
 pub filled_first : (rows table : List Row) → length table ≡ length rows → ((k : ℕ) → k < length table → row_at table k ≡ replicate (length rows + 1) 0ℚ) → IsFilledTo rows table 0

@@ -1,37 +1,21 @@
 -- The numbers of the equations of a pattern, which a table has to hold.
-use Rattle.std.proofs.Common.{◌≡◌, ℕ, ◌+◌, ◌<◌, ◌≤◌, length, Bool, true, false, IsTrue, if◌then◌else◌, slice_get, ⊎_elim, refl, sym, ap, subst, ◌∙◌, arith}
+use Rattle.std.proofs.Common.{◌≡◌, ℕ, ◌+◌, ◌<◌, ◌≤◌, length, Bool, true, IsTrue, slice_get, ⊎_elim, refl, sym, ap, subst, ◌∙◌, arith}
 use Rattle.std.specs.Prelude.{Option, Some, None, unwrap_or}
 use Rattle.std.proofs.lemmas.Option.{same_Some, slice_get_within}
 use Rattle.nf_rational.specs.Rational.{ℚ}
-use Rattle.nf_rational.specs.Operations.{0ℚ, neg_ℚ, ◌-ℚ◌}
+use Rattle.nf_rational.specs.Operations.{0ℚ, neg_ℚ}
 use Rattle.nf_model.specs.Network.{Link, Network, IsLink}
-use Rattle.nf_thin_def.specs.Equations.{one_if}
 use Rattle.nf_frac.specs.Parts.{IsWithin}
 use Rattle.nf_frac.specs.Short.{short}
 use Rattle.nf_frac.proofs.Turned.{neg_within}
 use Rattle.nf_rational_laws.proofs.Naturals.{before_or_at}
-use Rattle.nf_linear.specs.Holding.{HoldsUnits, takes_small, small_held, small_units}
+use Rattle.nf_linear.specs.Holding.{takes_small, small_held, small_units}
 use Rattle.nf_thin_one.specs.Filling.{HoldsCapacity, HoldsNumbers}
-use Rattle.nf_thin_one.proofs.LinkEntries.{minus_zero, unit_same, unit_leaves, unit_enters}
+use Rattle.nf_thin_one.proofs.LinkEntries.{minus_zero}
 
 -- what is a number that is held is one
 pub held_as : (takes : ℚ → Bool) (p q : ℚ) → q ≡ p → IsTrue (takes p) → IsTrue (takes q)
 held_as takes p q e h = subst (λ (r : ℚ). IsTrue (takes r)) (sym e) h
-
-unit_held : (takes : ℚ → Bool) → HoldsUnits takes → (leaves enters : Bool) → IsTrue (takes (one_if leaves -ℚ one_if enters))
-unit_held takes u true true = held_as takes _ _ (sym (unit_same true true refl)) u.zero
-unit_held takes u false false = held_as takes _ _ (sym (unit_same false false refl)) u.zero
-unit_held takes u true false = held_as takes _ _ (sym (unit_leaves true false refl refl)) u.one
-unit_held takes u false true = held_as takes _ _ (sym (unit_enters false true refl refl)) u.minus_one
-
--- at a node, of a link
-pub factor_held : (takes : ℚ → Bool) → HoldsUnits takes → (leaves enters : Bool) (q : ℚ) → q ≡ one_if leaves -ℚ one_if enters → IsTrue (takes q)
-factor_held takes u leaves enters q e = held_as takes _ q e (unit_held takes u leaves enters)
-
--- on the right side of a node's row
-pub surplus_held : (takes : ℚ → Bool) → HoldsUnits takes → (here : Bool) (rate q : ℚ) → q ≡ (if here then rate else 0ℚ) → IsTrue (takes rate) → IsTrue (takes q)
-surplus_held takes u true rate q e h = held_as takes rate q e h
-surplus_held takes u false rate q e h = held_as takes 0ℚ q e u.zero
 
 -- where all numbers are held
 pub all_held : (net : Network) (rate : ℚ) → HoldsNumbers (λ (q : ℚ). true) net rate

@@ -4,7 +4,6 @@ use Rattle.std.specs.Prelude.{if◌then◌else◌, Option, unwrap_or}
 use Rattle.std.proofs.Math.ListN.{length-set}
 use Rattle.std.proofs.lemmas.Bool.{cases_order}
 use Rattle.std.proofs.lemmas.Bool.Decides.{eqb_tells}
-use mathlib.Core.Bool.{beq}
 use Rattle.nf_rational.specs.Rational.{ℚ}
 use Rattle.nf_rational.specs.Operations.{0ℚ, 1ℚ, neg_ℚ, ◌-ℚ◌}
 use Rattle.nf_rational_laws.proofs.Polynomial.{reading_of}
@@ -38,25 +37,25 @@ second_alone = linear_eq [] [] (search reading_of depth 12) tt tt
 pub minus_zero : 0ℚ ≡ neg_ℚ 0ℚ
 minus_zero = linear_eq [] [] (search reading_of depth 12) tt tt
 
-no_step : (b : Bool) → 0ℚ ≡ one_if b -ℚ one_if b
+pub no_step : (b : Bool) → 0ℚ ≡ one_if b -ℚ one_if b
 no_step true = both
 no_step false = neither
 
-pub unit_same : (leaves enters : Bool) → beq leaves enters ≡ true → 0ℚ ≡ one_if leaves -ℚ one_if enters
-unit_same true true e = both
-unit_same false false e = neither
-unit_same true false e = absurd (cc)
-unit_same false true e = absurd (cc)
-
-pub unit_leaves : (leaves enters : Bool) → beq leaves enters ≡ false → leaves ≡ true → 1ℚ ≡ one_if leaves -ℚ one_if enters
-unit_leaves true true n e = absurd (cc)
+-- the coefficient of a link's flow at a node that it leaves, or enters, or neither
+pub unit_leaves : (leaves enters : Bool) → leaves ≡ true → enters ≡ false → 1ℚ ≡ one_if leaves -ℚ one_if enters
 unit_leaves true false n e = first_alone
 unit_leaves false enters n e = absurd (cc)
+unit_leaves true true n e = absurd (cc)
 
-pub unit_enters : (leaves enters : Bool) → beq leaves enters ≡ false → leaves ≡ false → neg_ℚ 1ℚ ≡ one_if leaves -ℚ one_if enters
+pub unit_enters : (leaves enters : Bool) → leaves ≡ false → enters ≡ true → neg_ℚ 1ℚ ≡ one_if leaves -ℚ one_if enters
 unit_enters false true n e = second_alone
-unit_enters false false n e = absurd (cc)
 unit_enters true enters n e = absurd (cc)
+unit_enters false false n e = absurd (cc)
+
+pub unit_neither : (leaves enters : Bool) → leaves ≡ false → enters ≡ false → 0ℚ ≡ one_if leaves -ℚ one_if enters
+unit_neither false false n e = neither
+unit_neither true enters n e = absurd (cc)
+unit_neither false true n e = absurd (cc)
 
 less_nothing : (a : ℚ) → a ≡ a -ℚ 0ℚ
 less_nothing a = linear_eq (a ∷ []) [] (search reading_of depth 12) tt tt

@@ -21,14 +21,14 @@ use Rattle.nf_thin_one.specs.declared.verdicts.Judged.{Judged}
 use Rattle.nf_thin_one.specs.Judging.{IsJudged}
 use Rattle.nf_thin_one.specs.declared.trying.Tried.{Tried}
 use Rattle.nf_thin_one.specs.declared.trying.Outcome.{Outcome}
-use Rattle.nf_thin_one.specs.Trying.{AreValuesOf, JudgesFlows, JudgesValues, Tries, TriesInto}
+use Rattle.nf_thin_one.specs.Trying.{AreValuesOf, JudgesFlows, JudgesValues, TriesOne, TriesInto}
 use Rattle.nf_thin_one.proofs.Patterns.{table_ok, table_passes, verdict_passes, accepted, refused, not_one}
 
 module _ (passes : Passing) (net : Network) (sets : Sets) (rate : ℚ) (pattern : Pattern) (p : IsPatternIn net sets pattern) where
   abbrev list : Result (Option (List ℚ)) (PassedAt ℚ)
   list = at_part Part.Table (table_list passes (equations net sets rate pattern))
 
-  pub tried_err : (h : Halt ℚ) → Stops (λ q. q) h list → Tries passes net sets rate pattern (Err h)
+  pub tried_err : (h : Halt ℚ) → Stops (λ q. q) h list → TriesOne passes net sets rate pattern (Err h)
   tried_err (Halt.Passed at) s = table_passes passes net sets rate pattern p at s
   tried_err Halt.Memory s = tt
 
@@ -42,7 +42,7 @@ module _ (passes : Passing) (net : Network) (sets : Sets) (rate : ℚ) (pattern 
 
   pub tried_values : (values : List ℚ) → AreValuesOf passes net sets rate pattern values → (r : Result Outcome (Halt ℚ))
       → JudgesValues net pattern (flows_in net.nodes sets.active values) (slopes_in net.nodes values) (at_part Part.Verdict (verdict_list passes net pattern (slopes_in net.nodes values))) r
-      → Tries passes net sets rate pattern r
+      → TriesOne passes net sets rate pattern r
   tried_values values h (Ok (Outcome.Accepted flows slopes)) j =
       let found = accepted passes net sets rate pattern p values h j.0 j.3 in
       (found.0, subst (λ (l : List ℚ). IsSolution net sets rate pattern flows.items l) (sym j.2) (subst (λ (f : List ℚ). IsSolution net sets rate pattern f (slopes_in net.nodes values)) (sym j.1) found.1))

@@ -4,21 +4,16 @@ use Rattle.nf_rational.specs.Rational.{ℚ}
 use Rattle.nf_rational.specs.Operations.{0ℚ, 1ℚ, neg_ℚ}
 use Rattle.nf_model.specs.declared.State.{State}
 use Rattle.nf_model.specs.declared.State.TheVariants.{Tight, Full, Zero}
+use Rattle.nf_model.specs.Entries.{number_at}
 use Rattle.nf_model.specs.Network.{Link, Network, IsLink}
 use Rattle.nf_linear_def.specs.Table.{Row, row_at}
-use Rattle.nf_thin_def.specs.Equations.{Unknown}
+use Rattle.nf_thin_def.specs.Equations.{leaves_less_enters}
 
 -- ---- rows of a table
 
 -- as many rows as unknowns, each with a number for each unknown and its right side, all of them 0
 abbrev pub all_zero : ℕ → List Row
 all_zero size = replicate size (replicate (size + 1) 0ℚ)
-
--- a row of a table for these unknowns that is all zero
-pub record IsBlank (unknowns : List Unknown) (table : List Row) (i : ℕ) : Type 0 where
-  pub within : i < length table
-  pub size : length table ≡ length unknowns
-  pub zero : row_at table i ≡ replicate (length unknowns + 1) 0ℚ
 
 -- this row of a table has become another, and no other row has changed
 pub record ChangesRow (old new : List Row) (i : ℕ) (row : Row) : Type 0 where
@@ -31,6 +26,27 @@ pub record IsFilledTo (rows table : List Row) (i : ℕ) : Type 0 where
   pub count : length table ≡ length rows
   pub before : (k : ℕ) → k < i → row_at table k ≡ row_at rows k
   pub after : (k : ℕ) → i ≤ k → k < length table → row_at table k ≡ replicate (length rows + 1) 0ℚ
+
+-- ---- the rows of nodes, which follow that of the source's slope
+
+-- the row of a node: the rows are in node order, and the sink has none
+pub record IsRowOf (sink v i : ℕ) : Type 0 where
+  pub apart : v ≢ sink
+  pub before_sink : v < sink → i ≡ v + 1
+  pub past_sink : sink < v → i ≡ v
+
+-- in the row of a node a column has become this number, and no other row has changed
+pub record SetsAt (sink v column : ℕ) (number : ℚ) (old new : List Row) : Type 0 where
+  pub here : (i : ℕ) → IsRowOf sink v i → row_at new i ≡ set (row_at old i) column number
+  pub others : (i : ℕ) → (IsRowOf sink v i → ⊥) → row_at new i ≡ row_at old i
+  pub count : length new ≡ length old
+
+-- in the rows of all nodes a column that was 0 has become the coefficient of a link's flow, and no row but those of its ends has changed
+pub record AddsFlow (sink column : ℕ) (link : Link) (old new : List Row) : Type 0 where
+  pub nodes : (v i : ℕ) → IsRowOf sink v i → number_at (row_at old i) column ≡ 0ℚ
+      → row_at new i ≡ set (row_at old i) column (leaves_less_enters (Some link) v)
+  pub others : (i : ℕ) → (IsRowOf sink link.tail i → ⊥) → (IsRowOf sink link.head i → ⊥) → row_at new i ≡ row_at old i
+  pub count : length new ≡ length old
 
 -- ---- the row of a link, entry by entry
 

@@ -43,10 +43,10 @@ TriesInto passes net sets rate pattern flows slopes (Ok Tried.NotSolvable) = IsO
 TriesInto passes net sets rate pattern flows slopes (Err at) = pattern_lists passes net sets rate pattern ≡ Err at
 
 -- a pattern is accepted with its only solution, or not solvable; or the first of its operations that passes
-abbrev pub Tries : Passing → Network → Sets → ℚ → Pattern → Result Outcome (Halt ℚ) → Type 0
-Tries passes net sets rate pattern (Ok (Outcome.Accepted flows slopes)) = IsAccepted passes net sets rate pattern
+abbrev pub TriesOne : Passing → Network → Sets → ℚ → Pattern → Result Outcome (Halt ℚ) → Type 0
+TriesOne passes net sets rate pattern (Ok (Outcome.Accepted flows slopes)) = IsAccepted passes net sets rate pattern
     × IsSolution net sets rate pattern flows.items slopes.items
-Tries passes net sets rate pattern (Ok Outcome.Refused) = IsOk (pattern_lists passes net sets rate pattern)
+TriesOne passes net sets rate pattern (Ok Outcome.Refused) = IsOk (pattern_lists passes net sets rate pattern)
     × (IsSolvable net sets rate pattern → ⊥)
-Tries passes net sets rate pattern (Err (Halt.Passed at)) = pattern_lists passes net sets rate pattern ≡ Err at
-Tries passes net sets rate pattern (Err Halt.Memory) = Unit {0}
+TriesOne passes net sets rate pattern (Err (Halt.Passed at)) = pattern_lists passes net sets rate pattern ≡ Err at
+TriesOne passes net sets rate pattern (Err Halt.Memory) = Unit {0}

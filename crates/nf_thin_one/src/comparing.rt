@@ -6,14 +6,14 @@ use nf_model::State;
 use nf_net::Network;
 use nf_pattern::Pattern;
 
-// Two links have one state, or both none.
+// Returns whether two links have the same state, or neither has a state. The contract promises nothing about `false`.
 fn is_one_state(one: Option<State>, other: Option<State>) -> bool
     ensures { IsTrue result → one ≡ other }
 {
     one == other
 }
 
-/// Whether two patterns have the same state at each link. Where it answers true, they have.
+/// Returns whether two patterns have the same state at each link. The contract promises nothing about `false`.
 pub fn is_one_pattern(net: &Network, one: &Pattern, other: &Pattern) -> bool
     requires one { length one.now ≡ length net.now.net.links }
     requires other { length other.now ≡ length net.now.net.links }

@@ -1,13 +1,12 @@
 // The table of the equations of a pattern.
-ghost use Rattle.std.specs.Prelude.{◌≡◌, ◌<◌, ◌≤◌, length, set, Some, unwrap_or, IfOk, if◌then◌else◌, ◌==◌, IsTrue};
+ghost use Rattle.std.specs.Prelude.{◌≡◌, ℕ, ◌<◌, ◌≤◌, length, set, unwrap_or, IfOk, MatchOption, IsTrue};
 ghost use Rattle.nf_rational.specs.Rational.{ℚ};
-ghost use Rattle.nf_rational.specs.Operations.{0ℚ, neg_ℚ, ◌-ℚ◌};
-ghost use Rattle.nf_model.specs.Entries.{number_at};
+ghost use Rattle.nf_rational.specs.Operations.{0ℚ, neg_ℚ};
 ghost use Rattle.nf_model.specs.Pattern.{Pattern as SeenPattern};
 ghost use Rattle.nf_net_def.specs.WellNamed.{IsNamed};
 ghost use Rattle.nf_linear_def.specs.Table.{row_at};
-ghost use Rattle.nf_thin_def.specs.Equations.{unknowns, one_if, leaves_less_enters as leaves_less_enters_of, node_row, equations};
-ghost use Rattle.nf_thin_one.specs.Filling.{all_zero, IsBlank, ChangesRow, IsFilledTo, with_entries, tight_entries, full_entries, link_entries, HoldsCapacity, HoldsCapacities, HoldsNumbers};
+ghost use Rattle.nf_thin_def.specs.Equations.{unknowns, equations};
+ghost use Rattle.nf_thin_one.specs.Filling.{all_zero, ChangesRow, IsFilledTo, IsRowOf, SetsAt, AddsFlow, with_entries, tight_entries, full_entries, link_entries, HoldsCapacity, HoldsCapacities, HoldsNumbers};
 
 use nf_frac::Q;
 use nf_graph::{LinkId, LinkSets, NodeId};
@@ -17,7 +16,7 @@ use nf_net::{Link, Network};
 use nf_pattern::Pattern;
 use std::alloc::{AllocError, Global};
 
-/// How many unknowns there are: the slope of each node, and the flow of each active link.
+/// Returns the number of unknowns: the slope of each node, and the flow of each active link.
 pub fn unknown_count(net: &Network, sets: &LinkSets) -> u32
     requires { length sets.now.active ≡ length net.now.net.links }
     ensures count { result ≡ length (unknowns net.now.net sets.now) }
@@ -37,75 +36,61 @@ pub fn unknown_count(net: &Network, sets: &LinkSets) -> u32
 
 // ---- the rows of nodes
 
-// What a unit of flow on a link adds to the flow out of a node less the flow into it.
-fn unit(leaves: bool, enters: bool) -> Q
-    ensures { result ≡ one_if leaves -ℚ one_if enters }
+// Returns the row of a node, after that of the source's slope. Returns `None` for the sink, which has no row.
+fn row_of(node: NodeId, sink: NodeId) -> Option<u32>
+    ensures { MatchOption result (node ≡ sink) (IsRowOf sink node) }
 {
-    if leaves == enters {
-        Q::zero()
-    } else if leaves {
-        Q::one()
+    if node.0 < sink.0 {
+        Some(node.0 + 1)
+    } else if sink.0 < node.0 {
+        Some(node.0)
     } else {
-        Q::one().negated()
+        None
     }
 }
 
-// 1 where the link leaves the node, -1 where it enters it, else (and for both) 0.
-fn leaves_less_enters(link: Link, node: NodeId) -> Q
-    ensures { result ≡ leaves_less_enters_of (Some link) node }
-{
-    unit(link.tail == node, link.head == node)
-}
-
-/// What leaves a node beyond what enters it.
-pub fn surplus(source: NodeId, rate: Q, node: NodeId) -> Q
-    ensures { result ≡ (if node == source then rate else 0ℚ) }
-{
-    if node == source { rate } else { Q::zero() }
-}
-
-// A number of a row that is 0 so far becomes this one.
-fn set_number<T: System>(table: &mut T, row: u32, column: u32, number: Q)
-    requires row { row < length (T.rows_of table.old) }
+// Sets a number in the row of a node. Does nothing for the sink.
+fn set_at_node<T: System>(table: &mut T, sink: NodeId, node: NodeId, column: u32, number: Q)
+    requires sink { sink < length (T.rows_of table.old) }
+    requires node { node < length (T.rows_of table.old) }
     requires column { column < length (T.rows_of table.old) }
-    requires blank { number_at (row_at (T.rows_of table.old) row) column ≡ 0ℚ }
     requires takes { IsTrue (T.takes number) }
-    ensures { T.rows_of table.new
-        ≡ set (T.rows_of table.old) row (set (row_at (T.rows_of table.old) row) column number) }
+    ensures { SetsAt sink node column number (T.rows_of table.old) (T.rows_of table.new) }
 {
-    if number.is_zero() {
-        return;
+    if let Some(row) = row_of(node, sink) {
+        table.set(row, column, number);
     }
-    table.set(row, column, number);
 }
 
-// The row of a node.
-fn fill_node<T: System>(
-    table: &mut T,
-    net: &Network,
-    sets: &LinkSets,
-    rate: Q,
-    row: u32,
-    node: NodeId,
-)
-    requires blank { IsBlank (unknowns net.now.net sets.now) (T.rows_of table.old) row }
-    requires sets { length sets.now.active ≡ length net.now.net.links }
+// Sets the coefficients of a link's flow: 1 in the row of its tail, -1 in that of its head. Does nothing for a link from a node to itself.
+fn set_flow<T: System>(table: &mut T, sink: NodeId, column: u32, link: Link)
+    requires sink { sink < length (T.rows_of table.old) }
+    requires tail { link.tail < length (T.rows_of table.old) }
+    requires head { link.head < length (T.rows_of table.old) }
+    requires column { column < length (T.rows_of table.old) }
+    ensures { AddsFlow sink column link (T.rows_of table.old) (T.rows_of table.new) }
+{
+    if link.tail != link.head {
+        set_at_node(table, sink, link.tail, column, Q::one());
+        set_at_node(table, sink, link.head, column, Q::one().negated());
+    }
+}
+
+// Sets the right side of the source's row to the supply rate.
+fn set_supply<T: System>(table: &mut T, source: NodeId, sink: NodeId, rate: Q)
+    requires sink { sink < length (T.rows_of table.old) }
+    requires source { source < length (T.rows_of table.old) }
     requires takes { IsTrue (T.takes rate) }
-    ensures { ChangesRow (T.rows_of table.old) (T.rows_of table.new) row
-        (node_row net.now.net sets.now rate node) }
+    ensures { (row : ℕ) → IsRowOf sink source row
+        → ChangesRow (T.rows_of table.old) (T.rows_of table.new) row
+        (set (row_at (T.rows_of table.old) row) (length (T.rows_of table.old)) rate) }
 {
-    let mut column = net.node_count();
-    for e in 0..net.link_count() {
-        if sets.active(LinkId(e)) {
-            let factor = leaves_less_enters(net.link(LinkId(e)), node);
-            set_number(table, row, column, factor);
-            column += 1;
-        }
+    if let Some(row) = row_of(source, sink) {
+        table.set_right(row, rate);
     }
-    table.set_right(row, surplus(net.source(), rate, node));
 }
 
-// The rows of all nodes but the sink, in node order, after that of the source's slope.
+// Fills the rows of all nodes except the sink, in node order, after that of the source's slope.
 fn fill_nodes<T: System>(table: &mut T, net: &Network, sets: &LinkSets, rate: Q)
     requires first { (pattern : SeenPattern)
         → IsFilledTo (equations net.now.net sets.now rate pattern) (T.rows_of table.old) 1 }
@@ -117,19 +102,21 @@ fn fill_nodes<T: System>(table: &mut T, net: &Network, sets: &LinkSets, rate: Q)
     ensures size { length (T.rows_of table.new) ≡ length (T.rows_of table.old) }
 {
     let sink = net.sink();
-    let mut row = 1;
-    for v in 0..net.node_count() {
-        let node = NodeId(v);
-        if node != sink {
-            fill_node(table, net, sets, rate, row, node);
-            row += 1;
+    let mut column = net.node_count();
+    for e in 0..net.link_count() {
+        if sets.active(LinkId(e)) {
+            set_flow(table, sink, column, net.link(LinkId(e)));
+            column += 1;
         }
     }
+    // Proof: the source is not the sink.
+    net.recall();
+    set_supply(table, net.source(), sink, rate);
 }
 
 // ---- the rows of links; the number of each is that of the column of the link's flow
 
-// The slopes of the two ends agree.
+// Fills the row of a Tight link: the slopes of its two ends are equal.
 fn fill_tight<T: System>(table: &mut T, row: u32, link: Link)
     requires row { row < length (T.rows_of table.old) }
     requires tail { link.tail < length (T.rows_of table.old) }
@@ -143,7 +130,7 @@ fn fill_tight<T: System>(table: &mut T, row: u32, link: Link)
     }
 }
 
-// The number of a Full link's row in the column of its head's slope: the capacity, with the other sign. Without a capacity it is 0.
+// Returns the coefficient of the head's slope in the row of a Full link: the negated capacity, or 0 without a capacity.
 fn full_factor(link: Link) -> Q
     ensures { result ≡ neg_ℚ (unwrap_or link.capacity 0ℚ) }
 {
@@ -153,7 +140,7 @@ fn full_factor(link: Link) -> Q
     }
 }
 
-// The flow fills the capacity.
+// Fills the row of a Full or resetting link: its flow is the capacity times the slope of its head.
 fn fill_full<T: System>(table: &mut T, row: u32, link: Link)
     requires row { row < length (T.rows_of table.old) }
     requires head { link.head < length (T.rows_of table.old) }
@@ -165,7 +152,7 @@ fn fill_full<T: System>(table: &mut T, row: u32, link: Link)
     table.set(row, row, Q::one());
 }
 
-// The row of a link in its state.
+// Fills the row of a link in its state. A link without a state is resetting.
 fn fill_link<T: System>(table: &mut T, row: u32, link: Link, state: Option<State>)
     requires row { row < length (T.rows_of table.old) }
     requires tail { link.tail < length (T.rows_of table.old) }
@@ -181,7 +168,7 @@ fn fill_link<T: System>(table: &mut T, row: u32, link: Link, state: Option<State
     }
 }
 
-// The rows of the active links, in link order.
+// Fills the rows of the active links, in link order.
 fn fill_links<T: System>(table: &mut T, net: &Network, sets: &LinkSets, pattern: &Pattern)
     requires size { length (T.rows_of table.old) ≡ length (unknowns net.now.net sets.now) }
     requires sets { length sets.now.active ≡ length net.now.net.links }
@@ -201,9 +188,9 @@ fn fill_links<T: System>(table: &mut T, net: &Network, sets: &LinkSets, pattern:
     }
 }
 
-/// A system for the unknowns of a pattern that is all zero becomes that of its equations at a rate of supply. Its columns are the
-/// slope of each node, in node order, and the flow of each active link, in link order; its rows that of the source's slope, that of
-/// each node but the sink, and that of each active link. The system can hold the rate and the capacities.
+/// Writes the equations of a pattern at a supply rate into a system, which is all zero before. The columns are the slope of each node, in
+/// node order, and then the flow of each active link, in link order. The rows are that of the source's slope, that of each node except the
+/// sink, and that of each active link. The system must be able to hold the rate and the negated capacities.
 pub fn fill<T: System>(table: &mut T, net: &Network, sets: &LinkSets, rate: Q, pattern: &Pattern)
     requires zero { T.rows_of table.old ≡ all_zero (length (unknowns net.now.net sets.now)) }
     requires sets { length sets.now.active ≡ length net.now.net.links }
@@ -219,7 +206,7 @@ pub fn fill<T: System>(table: &mut T, net: &Network, sets: &LinkSets, rate: Q, p
     fill_links(table, net, sets, pattern);
 }
 
-/// The table of the equations of a pattern at a rate of supply, with the columns and rows of `fill`.
+/// Returns the table of the equations of a pattern at a supply rate, with the columns and rows of `fill`. Fails if an allocation fails.
 pub fn table_of(
     alloc: Global,
     net: &Network,

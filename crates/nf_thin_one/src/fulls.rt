@@ -5,7 +5,8 @@ ghost use Rattle.nf_thin_one.specs.Fulls.{full_of};
 
 use nf_frac::Q;
 
-/// The flow that fills a link: its capacity times the slope of its head. None where it is unbounded, or that passes.
+/// Returns the flow that fills a link: its capacity times the slope of its head. Returns `None` for an unbounded link, or if the product
+/// passes.
 pub fn full_flow(capacity: Option<Q>, head_slope: Q) -> Option<Q>
     ensures { result ≡ full_of passes_Q capacity head_slope }
 {

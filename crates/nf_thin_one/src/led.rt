@@ -10,7 +10,7 @@ use nf_model::State;
 use nf_net::{MOST_NODES, Network};
 use nf_pattern::Pattern;
 
-/// Whether the link is Tight, Full or resetting: one that may carry flow. Where it answers true, it is.
+/// Returns whether the link is Tight, Full or resetting, so that it may carry flow. The contract promises nothing about `false`.
 pub fn may_carry(sets: &LinkSets, pattern: &Pattern, link: LinkId) -> bool
     requires link { link < length pattern.now }
     requires sets { length sets.now.active ≡ length pattern.now }
@@ -42,7 +42,7 @@ fn flag_led(net: &Network, sets: &LinkSets, pattern: &Pattern, led: &mut [bool])
     }
 }
 
-// Whether the flags of the first nodes are set. Where it answers true, they are.
+// Returns whether the flags of the first nodes are set. The contract promises nothing about `false`.
 fn are_set(flags: &[bool], nodes: u32) -> bool
     requires { nodes ≤ length flags.now }
     ensures { IsTrue result → (v : ℕ) → v < nodes → Has flags.now v }
@@ -55,7 +55,7 @@ fn are_set(flags: &[bool], nodes: u32) -> bool
     true
 }
 
-/// Whether a link that may carry flow leads to each node but the source. Where it answers true, one does.
+/// Returns whether a link that may carry flow leads to each node except the source. The contract promises nothing about `false`.
 pub fn each_is_led(net: &Network, sets: &LinkSets, pattern: &Pattern) -> bool
     requires { IsPatternIn net.now.net sets.now pattern.now }
     ensures { IsTrue result → EachIsLed net.now.net sets.now pattern.now }

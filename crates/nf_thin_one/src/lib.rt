@@ -12,7 +12,7 @@ mod trying;
 mod verdicts;
 
 pub use comparing::is_one_pattern;
-pub use filling::{surplus, unknown_count};
+pub use filling::unknown_count;
 pub use fulls::full_flow;
 pub use led::{each_is_led, may_carry};
 pub use solving::MOST_GRID_UNKNOWNS;

@@ -9,14 +9,14 @@ use nf_frac::Q;
 use nf_graph::LinkId;
 use nf_net::{Link, Network};
 
-// Whether the parts of a number have at most 63 bits.
+// Returns whether numerator and denominator of a number have at most 63 bits.
 fn is_small(number: Q) -> bool
     ensures { IsTrue result → IsWithin short number }
 {
     number.small().is_some()
 }
 
-// Whether the capacity of a link is small, or it has none.
+// Returns whether the capacity of a link is small, or it has none.
 fn has_small_capacity(link: Link) -> bool
     ensures { IsTrue result → HoldsCapacity takes_small link }
 {
@@ -26,7 +26,7 @@ fn has_small_capacity(link: Link) -> bool
     }
 }
 
-/// Whether a rate of supply and the capacities of all links are small: then a table of small numbers can hold the equations of each
+/// Returns whether a supply rate and the capacities of all links are small. A table of small numbers can then hold the equations of each
 /// pattern.
 pub fn has_small_numbers(net: &Network, rate: Q) -> bool
     ensures { IsTrue result → HoldsNumbers takes_small net.now.net rate }

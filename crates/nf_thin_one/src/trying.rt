@@ -14,7 +14,7 @@ ghost use Rattle.nf_linear.specs.Solved.{values_of};
 ghost use Rattle.nf_linear.specs.Holding.{takes_small};
 ghost use Rattle.nf_thin_equation_laws.specs.Equations.{IsPatternIn};
 ghost use Rattle.nf_thin_one.specs.Filling.{HoldsNumbers};
-ghost use Rattle.nf_thin_one.specs.Trying.{JudgesFlows, JudgesValues, Tries, TriesInto};
+ghost use Rattle.nf_thin_one.specs.Trying.{JudgesFlows, JudgesValues, TriesOne, TriesInto};
 
 use crate::filling::{fill, table_of, unknown_count};
 use crate::small_numbers::has_small_numbers;
@@ -47,7 +47,7 @@ pub enum Outcome {
 
 // ---- flows and slopes, from the values of a table's unknowns, and what is judged of them
 
-// The flow of each link: a value after the slopes, and 0 for a link that is not active.
+// Writes the flow of each link: the next value after the slopes for an active link, and 0 for any other.
 fn spread_flows(net: &Network, sets: &LinkSets, values: &[Q], flows: &mut [Q])
     requires active { length sets.now.active ≡ length net.now.net.links }
     requires values { length values.now
@@ -66,7 +66,7 @@ fn spread_flows(net: &Network, sets: &LinkSets, values: &[Q], flows: &mut [Q])
     }
 }
 
-// The same in a vector.
+// Returns what `spread_flows` writes. Fails if an allocation fails.
 fn flows_of(
     alloc: Global,
     net: &Network,
@@ -84,7 +84,7 @@ fn flows_of(
     Ok(flows)
 }
 
-// Flows and slopes of a pattern are judged.
+// Judges flows and slopes by the inequalities of a pattern.
 fn judge(
     net: &Network,
     sets: &LinkSets,
@@ -105,7 +105,7 @@ fn judge(
     }
 }
 
-// The values that solve the table of a pattern become flows and slopes, and are judged.
+// Writes the values that solve the table of a pattern as flows and slopes, and judges these.
 fn judge_into(
     net: &Network,
     sets: &LinkSets,
@@ -129,7 +129,7 @@ fn judge_into(
     judge(net, sets, pattern, flows, slopes)
 }
 
-/// The values that solve the table of a pattern, judged.
+/// Judges the values that solve the table of a pattern. Refuses if an operation of the verdict passes, or if an allocation fails.
 pub fn judge_values(
     alloc: Global,
     net: &Network,
@@ -158,7 +158,7 @@ pub fn judge_values(
 
 // ---- the values of a table's unknowns
 
-// The values of the only solution, and None where there is none or more than one.
+// Returns the values of the only solution, or `None` if there is none or more than one.
 fn only_values(found: Solved<Q>) -> Option<Vec<Q>>
     ensures { option_map (λ values. values.items) result ≡ values_of (λ q. q) found }
 {
@@ -168,7 +168,7 @@ fn only_values(found: Solved<Q>) -> Option<Vec<Q>>
     }
 }
 
-/// The only solution of a table, and None where there is none or more than one.
+/// Returns the only solution of a table, or `None` if there is none or more than one.
 pub fn solved(alloc: Global, table: Table<Q>) -> Result<Option<Vec<Q>>, Halt<Q>>
     ensures { Gives (option_map (λ values. values.items)) (λ q. q) result
         (at_part Part.Table (table_list passes_Q table)) }
@@ -177,7 +177,7 @@ pub fn solved(alloc: Global, table: Table<Q>) -> Result<Option<Vec<Q>>, Halt<Q>>
     Ok(only_values(found))
 }
 
-// What is found of a pattern's table over small numbers alone, and None where an operation passes those.
+// Solves a pattern's table over small numbers. Returns `None` if a number on the way is not small. Fails if an allocation fails.
 fn small_solution(
     alloc: Global,
     net: &Network,
@@ -196,7 +196,8 @@ fn small_solution(
     solve_small(alloc, table)
 }
 
-/// The only solution of a pattern's table, and None where there is none or more than one; or the first operation that passes.
+/// Returns the only solution of a pattern's table, or `None` if there is none or more than one. Refuses at the first operation that passes,
+/// or if an allocation fails.
 pub fn pattern_values(
     alloc: Global,
     net: &Network,
@@ -246,7 +247,7 @@ pub fn try_pattern(
     requires labels { length labels.old ≡ net.now.net.nodes }
     ensures { TriesInto passes_Q net.now.net sets.now rate pattern.now flows.new labels.new result }
 {
-    // Proof: every network is well formed.
+    // Proof: `recall` does nothing. Its contract states that the network is well formed.
     net.recall();
     let count = unknown_count(net, sets);
     let mut room = [Q::zero(); 32];
@@ -257,8 +258,8 @@ pub fn try_pattern(
     }
 }
 
-/// Whether a pattern is accepted, and with which flows and slopes; or the first of its operations that passes. For however many
-/// unknowns, in a table that takes memory: it is there sooner than a grid is made.
+/// Returns whether a pattern is accepted, and with which flows and slopes. Refuses at the first of its operations that passes, or if an
+/// allocation fails. Takes any number of unknowns. Its table is allocated, which is quicker than to make a grid.
 pub fn try_one(
     alloc: Global,
     net: &Network,
@@ -267,7 +268,7 @@ pub fn try_one(
     pattern: &Pattern,
 ) -> Result<Outcome, Halt<Q>>
     requires { IsPatternIn net.now.net sets.now pattern.now }
-    ensures { Tries passes_Q net.now.net sets.now rate pattern.now result }
+    ensures { TriesOne passes_Q net.now.net sets.now rate pattern.now result }
 {
     match pattern_values(alloc, net, sets, rate, pattern)? {
         Some(values) => judge_values(alloc, net, sets, pattern, values),

@@ -27,7 +27,7 @@ pub enum Judged {
     FailsLink(LinkId),
 }
 
-// The greatest flow that a link may carry in its state: where it is Tight and has a capacity.
+// Returns the greatest flow that a Tight link with a capacity may carry, or `None` for any other link. Refuses if the product passes.
 fn bound(state: Option<State>, capacity: Option<Q>, head_slope: Q) -> Result<Option<Q>, PassedAt<Q>>
     ensures { result ≡ at_part Verdict (bound_on passes_Q state capacity head_slope) }
 {
@@ -43,7 +43,7 @@ fn bound(state: Option<State>, capacity: Option<Q>, head_slope: Q) -> Result<Opt
     }
 }
 
-// The inequality of a state holds, with this bound on the flow.
+// Returns whether the inequality of a state holds, with this bound on the flow.
 fn keeps_state(
     state: Option<State>,
     bound: Option<Q>,
@@ -64,14 +64,14 @@ fn keeps_state(
     }
 }
 
-// A number is at least 0.
+// Returns whether a number is at least 0.
 fn is_not_negative(number: Q) -> bool
     ensures { result ≡ le_ℚ 0ℚ number }
 {
     Q::zero().is_at_most(number)
 }
 
-// The slope of a node is below 0.
+// Returns whether the slope of a node is below 0.
 fn is_negative_at(slopes: &[Q], v: usize) -> bool
     requires { v < length slopes.now }
     ensures { result ≡ not (le_ℚ 0ℚ (number_at slopes.now v)) }
@@ -79,7 +79,7 @@ fn is_negative_at(slopes: &[Q], v: usize) -> bool
     !is_not_negative(slopes[v])
 }
 
-// Whether a link has no negative flow and meets the inequality of its state.
+// Returns whether a link has no negative flow and meets the inequality of its state. Refuses if the bound on its flow passes.
 #[tactic(auto, unfolding(crate::specs::Judging::link_verdict))]
 fn judge_link(
     state: Option<State>,
@@ -95,7 +95,7 @@ fn judge_link(
     Ok(is_not_negative(flow) && keeps_state(state, bound, flow, tail_slope, head_slope))
 }
 
-// Whether the link of a number keeps its inequalities.
+// Runs `judge_link` for a link of the network.
 fn judge(
     net: &Network,
     pattern: &Pattern,
@@ -121,7 +121,7 @@ fn judge(
     )
 }
 
-// The first that fails, after one more link.
+// Returns the first link that fails, after one more link: `found` before it, and `keeps` states whether it meets its inequalities.
 fn first_after(found: Option<LinkId>, keeps: bool, link: LinkId) -> Option<LinkId>
     ensures { result ≡ first_of found keeps link }
 {
@@ -131,7 +131,7 @@ fn first_after(found: Option<LinkId>, keeps: bool, link: LinkId) -> Option<LinkI
     }
 }
 
-// The first link that fails.
+// Returns the first link that fails, or `None` if each link meets its inequalities. Refuses at the first bound that passes.
 fn first_failing(
     net: &Network,
     pattern: &Pattern,
@@ -153,7 +153,7 @@ fn first_failing(
     Ok(found)
 }
 
-// The first node with a slope below 0.
+// Returns the first node with a slope below 0, or `None` if there is none.
 fn first_negative(net: &Network, slopes: &[Q]) -> Option<NodeId>
     requires { length slopes.now ≡ net.now.net.nodes }
     ensures { MatchOption result (NoneNegativeBefore slopes.now (length slopes.now))
