@@ -3,7 +3,7 @@ use Rattle.std.proofs.Common.{◌≡◌, ◌≢◌, ℕ, ◌*◌, ◌≤◌, Boo
 use Rattle.std.specs.Prelude.{Ok, Err}
 use Rattle.nf_rational.specs.Gcd.{gcd}
 use Rattle.nf_rational.specs.Rational.{ℚ, ratio}
-use Rattle.nf_rational.specs.Operations.{whole, 0ℚ, ◌+ℚ◌, ◌-ℚ◌, ◌*ℚ◌, ◌/ℚ◌, neg_ℚ, inv_ℚ}
+use Rattle.nf_rational.specs.Operations.{whole, 0ℚ, ◌+ℚ◌, ◌-ℚ◌, ◌*ℚ◌, neg_ℚ, inv_ℚ}
 use Rattle.nf_rational.specs.Order.{◌<ℚ◌}
 use Rattle.nf_rational_laws.proofs.Polynomial.{reading_of, combine, using, done, reading}
 use Rattle.nf_rational_laws.proofs.IntegerRing.{ints_ring}
@@ -55,17 +55,22 @@ quotient_again rate length amount narrow apart e =
     sym (quotient_done (bound_of 127) amount length rate
     (subst (λ (q : ℚ). IsWithin (bound_of 127) q) is (narrow_out (bound_of 127) rate narrow), is))
 
+-- ---- the slope of a line
+pub line_slope : (start before end after rate length rise : ℚ) → is_wide (bound_of 127) rate ≡ false → start <ℚ end → checked passes_Q Difference end start ≡ Ok length
+    → checked passes_Q Product rate length ≡ Ok rise → checked passes_Q Sum before rise ≡ Ok after → checked_slope passes_Q (start, before) (end, after) ≡ Ok rate
+unfolding checked_slope
+line_slope start before end after rate length rise narrow later l p s =
+    ap (λ r. r >>= λ rise. checked passes_Q Difference end start >>= λ run. checked passes_Q Quotient rise run) (difference_again before rise after s)
+    ∙ ap (λ r. r >>= λ run. checked passes_Q Quotient rise run) l
+    ∙ quotient_again rate length rise narrow (run_apart passes_Q start end length later l) p
+
 -- ---- the slope of a piece
 pub piece_slope : (so_far : ℚ) (piece : Piece) (end sum : ℚ) → is_wide (bound_of 127) piece.rate ≡ false → piece.start <ℚ end
     → with_piece passes_Q so_far piece end ≡ Ok sum → checked_slope passes_Q (piece.start, so_far) (end, sum) ≡ Ok piece.rate
-unfolding checked_slope
 piece_slope so_far piece end sum narrow later e =
     let d = then_ok (checked passes_Q Difference end piece.start) _ sum e in
     let p = then_ok (checked passes_Q Product piece.rate d.between) _ sum d.next in
-    let apart : d.between ≢ 0ℚ = run_apart passes_Q piece.start end d.between later d.first in
-    ap (λ r. r >>= λ rise. checked passes_Q Difference end piece.start >>= λ run. checked passes_Q Quotient rise run) (difference_again so_far p.between sum p.next)
-    ∙ ap (λ r. r >>= λ run. checked passes_Q Quotient p.between run) d.first
-    ∙ quotient_again piece.rate d.between p.between narrow apart p.first
+    line_slope piece.start so_far end sum piece.rate d.between p.between narrow later d.first p.first p.next
 
 -- ---- the slope before the first piece, where nothing is supplied
 zero_num : 0ℚ.num ≡ pos 0
@@ -101,16 +106,16 @@ module _ (limit : ℕ) (time : ℚ) (within : IsWithin limit time) where
       (subst (λ (m : ℕ). m ≤ limit) (sym (abs-mul time.num 1 ∙ times_one (nat_abs time.num))) within.small)
       (subst (λ (z : ℤ). nat_abs z ≤ limit) (sym (only_second 0ℚ.num time.num (pos time.den) zero_num)) within.small)
 
-zero_within : IsWithin (bound_of 127) 0ℚ
+pub zero_within : IsWithin (bound_of 127) 0ℚ
 zero_within = record {
   small = subst (λ (z : ℤ). nat_abs z ≤ bound_of 127) (sym zero_num) (omega arith);
   small_den = subst (λ (k : ℕ). k ≤ bound_of 127) (sym zero_den) (omega arith);
 }
 
-less_zero : (time : ℚ) → IsWithin (bound_of 127) time → checked passes_Q Difference time 0ℚ ≡ Ok time
+pub less_zero : (time : ℚ) → IsWithin (bound_of 127) time → checked passes_Q Difference time 0ℚ ≡ Ok time
 less_zero time within = difference_again 0ℚ time time (sym (sum_done (bound_of 127) 0ℚ time time (zero_fits (bound_of 127) time within, sym (+ℚ_idl time))))
 
-zero_over : (time : ℚ) → checked passes_Q Quotient 0ℚ time ≡ Ok 0ℚ
+pub zero_over : (time : ℚ) → checked passes_Q Quotient 0ℚ time ≡ Ok 0ℚ
 zero_over time =
     let is : 0ℚ ≡ 0ℚ *ℚ inv_ℚ time = sym (zero-*ℚ (inv_ℚ time)) in
     sym (quotient_done (bound_of 127) 0ℚ time 0ℚ (subst (λ (q : ℚ). IsWithin (bound_of 127) q) is zero_within, is))

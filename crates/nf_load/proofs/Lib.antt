@@ -10,3 +10,5 @@ pub mod Pushed
 pub mod TakenOff
 pub mod KnownRates
 pub mod RatesInTurn
+pub mod Alongs
+pub mod Pacing

@@ -1,9 +1,9 @@
 -- The rates between the points of a supply, piece by piece.
-use Rattle.std.proofs.Common.{◌≡◌, ◌+◌, ⊎_elim, ◌⊎◌, inl, inr, ℕ, zero, suc, ◌<◌, drop, Bool, true, false, List, [], ◌∷◌, ◌++◌, length, append-nil, refl, sym, ap, subst, ◌∙◌, arith}
+use Rattle.std.proofs.Common.{◌≡◌, ◌+◌, ⊎_elim, ◌⊎◌, inl, inr, ℕ, zero, suc, drop, Bool, true, false, List, [], ◌∷◌, ◌++◌, length, append-nil, refl, sym, ap, subst, ◌∙◌, arith}
 use Rattle.std.specs.Prelude.{Ok, Some, slice_get}
 use Rattle.nf_rational.specs.Rational.{ℚ}
 use Rattle.nf_rational.specs.Operations.{0ℚ}
-use Rattle.nf_rational.specs.Order.{◌≤ℚ◌, ◌<ℚ◌, lt_ℚ, min_ℚ}
+use Rattle.nf_rational.specs.Order.{◌<ℚ◌, lt_ℚ}
 use Rattle.nf_rational.specs.Signs.{is_same}
 use Rattle.nf_rational_laws.proofs.Chains.{≤_<_trans}
 use Rattle.nf_rational_laws.proofs.Extremes.{min_keeps, min_is_left, min_is_right}

@@ -4,3 +4,5 @@ pub mod InSteps
 pub mod Entries
 pub mod Kept
 pub mod Rates
+pub mod Slopes
+pub mod Paces

@@ -1,5 +1,5 @@
 // Queue, outflow and exit curves of a link.
-ghost use Rattle.std.specs.Prelude.{◌≡◌, map, IfOk};
+ghost use Rattle.std.specs.Prelude.{◌≡◌, map, option_map, IfOk};
 ghost use Rattle.nf_rational.specs.Operations.{0ℚ};
 ghost use Rattle.nf_rational.specs.Order.{◌≤ℚ◌};
 ghost use Rattle.nf_frac_def.specs.declared.Part.TheVariants.{Load};
@@ -10,8 +10,12 @@ ghost use Rattle.nf_curve_def.specs.Values.{checked_cut};
 ghost use Rattle.nf_curve_def.specs.Short.{checked_short};
 ghost use Rattle.nf_load_def.specs.Loading as lists;
 ghost use Rattle.nf_load_def.specs.Loading.{queue_point, exit_point};
+ghost use Rattle.nf_load.specs.Slopes.{AreSlopes};
+ghost use Rattle.nf_load.specs.Paces.{change_of};
 
-use crate::waits::{Exit, Waits};
+use crate::shortening::short_points;
+use crate::waiting::Moments;
+use crate::waits::{Exit, Pace, Waits};
 use nf_curve::{Curve, Point};
 use nf_frac::{Halt, Part, Q};
 use std::alloc::{AllocError, Global};
@@ -24,6 +28,23 @@ fn queue_points(alloc: Global, waits: &[Waits]) -> Result<Vec<Point>, AllocError
         .iter()
         .map(|moment| (moment.time, moment.queue))
         .collect(alloc)
+}
+
+// Returns the slope of the queue, if it is known.
+fn queue_slope(pace: &Option<Pace>) -> Option<Q>
+    ensures { result ≡ option_map change_of pace.now }
+{
+    match pace {
+        Some(pace) => Some(pace.change),
+        None => None,
+    }
+}
+
+// Returns the slopes of the queue that are known.
+fn queue_slopes(alloc: Global, paces: &[Option<Pace>]) -> Result<Vec<Option<Q>>, AllocError>
+    ensures { IfOk result (λ slopes. slopes.items ≡ map (option_map change_of) paces.now) }
+{
+    paces.iter().map(|pace| queue_slope(pace)).collect(alloc)
 }
 
 // Returns the points of the exits.
@@ -61,14 +82,28 @@ fn short_curve(alloc: Global, points: Vec<Point>) -> Result<Curve, Halt<Q>>
     Curve::short(alloc, &curve, Part::Load)
 }
 
-/// Returns the queue by time, in short form.
-pub(crate) fn queue_curve(alloc: Global, waits: &[Waits]) -> Result<Curve, Halt<Q>>
-    requires { IsCurve (map queue_point waits.now) }
+// Returns the curve of the points, in short form. `slopes` are known slopes of its first pieces.
+fn known_short(alloc: Global, points: &[Point], slopes: &[Option<Q>]) -> Result<Curve, Halt<Q>>
+    requires curve { IsCurve points.now }
+    requires slopes { AreSlopes points.now slopes.now }
     ensures { Gives (λ c. c.points) (λ q. q) result
-        (at_part Load (checked_short passes_Q (map queue_point waits.now))) }
+        (at_part Load (checked_short passes_Q points.now)) }
 {
-    let points = queue_points(alloc, waits)?;
-    short_curve(alloc, points)
+    let short = short_points(alloc, points, slopes, Part::Load)?;
+    Ok(Curve::of_points(short))
+}
+
+/// Returns the queue by time, in short form.
+pub(crate) fn queue_curve(alloc: Global, moments: &Moments) -> Result<Curve, Halt<Q>>
+    requires curve { IsCurve (map queue_point moments.now.waits.items) }
+    requires slopes { AreSlopes (map queue_point moments.now.waits.items)
+        (map (option_map change_of) moments.now.paces.items) }
+    ensures { Gives (λ c. c.points) (λ q. q) result
+        (at_part Load (checked_short passes_Q (map queue_point moments.now.waits.items))) }
+{
+    let points = queue_points(alloc, &moments.waits)?;
+    let slopes = queue_slopes(alloc, &moments.paces)?;
+    known_short(alloc, &points, &slopes)
 }
 
 /// Returns the exit by the time of entry, in short form.

@@ -11,6 +11,7 @@ mod exiting;
 mod loading;
 mod loads;
 mod reading;
+mod shortening;
 mod waiting;
 mod waits;
 

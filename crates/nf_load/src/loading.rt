@@ -1,5 +1,6 @@
 // Loading of a link with its inflow.
-ghost use Rattle.std.specs.Prelude.{◌≡◌, IfOk};
+ghost use Rattle.std.specs.Prelude.{◌≡◌, Option, IfOk};
+ghost use Rattle.nf_rational.specs.Rational.{ℚ};
 ghost use Rattle.nf_rational.specs.Operations.{0ℚ};
 ghost use Rattle.nf_rational.specs.Order.{◌≤ℚ◌};
 ghost use Rattle.nf_frac_def.specs.declared.Part.TheVariants.{Load};
@@ -11,13 +12,14 @@ ghost use Rattle.nf_model_laws.specs.Capacity.{IsPositive};
 ghost use Rattle.nf_load_def.specs.Loading.{checked_loading};
 ghost use Rattle.nf_load_def.specs.Meanings.{IsLoaded};
 ghost use Rattle.nf_load.specs.Loadings.{loaded_of};
+ghost use Rattle.nf_load.specs.Paces.{ArePaces};
 ghost use Rattle.nf_load.specs.Rates.{AreRates};
 ghost use Rattle.nf_load.specs.InSteps.{AreCurves, LeadsToCurves, in_short_form, until_transit, behind_cut};
 
 use crate::curves::{exit_curve, outflow_until, queue_curve};
 use crate::exiting::all_exits;
-use crate::waiting::all_waits;
-use crate::waits::{Exit, Waits};
+use crate::waiting::{Moments, all_waits};
+use crate::waits::Exit;
 use nf_curve::{Curve, Trace, ends_at};
 use nf_frac::{Halt, Part, PassedAt, Q, at};
 use std::alloc::Global;
@@ -44,15 +46,17 @@ fn after_transit(time: Q, transit: Q) -> Result<Q, PassedAt<Q>>
 // Returns queue, outflow and exits in short form, from the moments, their exits and the whole outflow.
 fn short_curves(
     alloc: Global,
-    waits: &[Waits],
+    moments: &Moments,
     all: &[Exit],
     whole_outflow: &Curve,
 ) -> Result<Loaded, Halt<Q>>
-    requires { AreCurves waits.now all.now }
+    requires curves { AreCurves moments.now.waits.items all.now }
+    requires paces { (capacity : Option ℚ) × ArePaces capacity moments.now.waits.items moments.now.paces.items }
     ensures { Gives loaded_of (λ q. q) result
-        (at_part Load (in_short_form passes_Q waits.now all.now whole_outflow.now.points)) }
+        (at_part Load
+        (in_short_form passes_Q moments.now.waits.items all.now whole_outflow.now.points)) }
 {
-    let queue = queue_curve(alloc, waits)?;
+    let queue = queue_curve(alloc, moments)?;
     let outflow = Curve::short(alloc, whole_outflow, Part::Load)?;
     let exit = exit_curve(alloc, all)?;
     Ok(Loaded {
@@ -66,19 +70,20 @@ fn short_curves(
 fn curves_until(
     alloc: Global,
     transit: Q,
-    waits: &[Waits],
+    moments: &Moments,
     all: &[Exit],
     until: Q,
 ) -> Result<Loaded, Halt<Q>>
     requires transit { 0ℚ ≤ℚ transit }
-    requires curves { AreCurves waits.now all.now }
+    requires curves { AreCurves moments.now.waits.items all.now }
+    requires paces { (capacity : Option ℚ) × ArePaces capacity moments.now.waits.items moments.now.paces.items }
     requires until { 0ℚ ≤ℚ until }
     ensures { Gives loaded_of (λ q. q) result
-        (at_part Load (until_transit passes_Q transit waits.now all.now until)) }
+        (at_part Load (until_transit passes_Q transit moments.now.waits.items all.now until)) }
 {
     let end = after_transit(until, transit)?;
     let whole_outflow = outflow_until(alloc, all, end)?;
-    short_curves(alloc, waits, all, &whole_outflow)
+    short_curves(alloc, moments, all, &whole_outflow)
 }
 
 // Loads a link with an inflow that is cut at the time `until`. `rates` are known rates of its first pieces.
@@ -98,9 +103,9 @@ fn load_cut(
     ensures { Gives loaded_of (λ q. q) result
         (at_part Load (behind_cut passes_Q transit capacity cut.now.points until)) }
 {
-    let waits = all_waits(alloc, &capacity, cut, rates)?;
-    let exits = all_exits(alloc, &capacity, transit, &waits)?;
-    curves_until(alloc, transit, &waits, &exits, until)
+    let moments = all_waits(alloc, &capacity, cut, rates)?;
+    let exits = all_exits(alloc, &capacity, transit, &moments.waits)?;
+    curves_until(alloc, transit, &moments, &exits, until)
 }
 
 /// Loads a link by the law of the point queue (Koch and Skutella 2011). Returns queue and exit by time up to `until`, and the outflow up to

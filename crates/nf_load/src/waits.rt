@@ -23,6 +23,13 @@ impl Model for Waits {
     ghost inverse = { λ w. record { time = w.time; amount = w.amount; queue = w.queue } };
 }
 
+/// The slopes of the amount entered and of the queue from one moment to the next.
+#[derive(Clone, Copy)]
+pub(crate) struct Pace {
+    pub rate: Q,
+    pub change: Q,
+}
+
 /// A moment, with the exit of flow that enters then.
 #[derive(Clone, Copy)]
 pub(crate) struct Exit {

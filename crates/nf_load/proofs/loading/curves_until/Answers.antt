@@ -15,7 +15,7 @@ use Rattle.nf_load.proofs.loading.curves_until.Goals as goal
 pub returns-in_err-end : goal.returns-in_err-end
 returns-in_err-end c =
     let p = err_from_is_err_and c.from_residual.result c.from_residual.ensures.1 in
-    rw (p.1, p.2) (end_stops passes_Q Load c.args.transit c.args.waits.now c.args.all.now c.args.until c.in_err-end.field-0.0 (sym c.in_err-end.ensures))
+    rw (p.1, p.2) (end_stops passes_Q Load c.args.transit c.args.moments.now.waits.items c.args.all.now c.args.until c.in_err-end.field-0.0 (sym c.in_err-end.ensures))
 
 pub outflow_until-requires-clause-curve : goal.outflow_until-requires-clause-curve
 outflow_until-requires-clause-curve c = c.requires.curves.outflow
@@ -28,13 +28,13 @@ pub returns-in_err-whole_outflow : goal.returns-in_err-whole_outflow
 returns-in_err-whole_outflow c =
     let p = err_from_is_err_and c.from_residual-in_err-whole_outflow.result c.from_residual-in_err-whole_outflow.ensures.1 in
     rw (p.1, p.2) (stops_on c.in_err-whole_outflow.field-0.0 (at_part Load (checked_cut passes_Q (outflow_points c.args.all.now) c.in_ok-end.end))
-    (at_part Load (until_transit passes_Q c.args.transit c.args.waits.now c.args.all.now c.args.until))
-    (whole_stops passes_Q Load c.args.transit c.args.waits.now c.args.all.now c.args.until c.in_ok-end.end (sym c.in_ok-end.ensures)) c.in_err-whole_outflow.ensures)
+    (at_part Load (until_transit passes_Q c.args.transit c.args.moments.now.waits.items c.args.all.now c.args.until))
+    (whole_stops passes_Q Load c.args.transit c.args.moments.now.waits.items c.args.all.now c.args.until c.in_ok-end.end (sym c.in_ok-end.ensures)) c.in_err-whole_outflow.ensures)
 
-pub short_curves-requires : goal.short_curves-requires
-short_curves-requires c = c.requires.curves
+pub short_curves-requires-clause-curves : goal.short_curves-requires-clause-curves
+short_curves-requires-clause-curves c = c.requires.curves
 
 pub returns : goal.returns
 returns c =
-    let e = whole_goes passes_Q Load c.args.transit c.args.waits.now c.args.all.now c.args.until c.in_ok-end.end (sym c.in_ok-end.ensures) c.in_ok-whole_outflow.whole_outflow.points c.in_ok-whole_outflow.ensures in
+    let e = whole_goes passes_Q Load c.args.transit c.args.moments.now.waits.items c.args.all.now c.args.until c.in_ok-end.end (sym c.in_ok-end.ensures) c.in_ok-whole_outflow.whole_outflow.points c.in_ok-whole_outflow.ensures in
     rw e c.short_curves.ensures

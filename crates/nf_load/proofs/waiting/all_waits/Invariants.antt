@@ -2,13 +2,16 @@ use Rattle.std.proofs.Common.{◌≡◌, drop}
 use Rattle.nf_frac_def.specs.Passing.{passes_Q}
 use Rattle.nf_frac_def.proofs.Each.{with_front}
 use Rattle.nf_load_def.specs.Loading.{waits_after, all_waits}
+use Rattle.nf_load.specs.Paces.{IsPaceIf}
+use Rattle.nf_load.proofs.Alongs.{Linked}
 use Rattle.nf_load.proofs.QueueSteps.{Later, IsBefore}
 use Rattle.nf_load.proofs.waiting.all_waits.Given as goal
 
 -- what waits so far, and over the pieces from here on; the last moment so far is the point before this one
 abbrev pub invariant-loop-i : goal.invariant-loop-i
 invariant-loop-i l = record {
-  moments : with_front l.all.items (waits_after passes_Q l.capacity l.last (drop l.i l.inflow.points)) ≡ all_waits passes_Q l.capacity l.inflow.points;
+  moments : with_front l.moments.waits.items (waits_after passes_Q l.capacity l.last (drop l.i l.inflow.points)) ≡ all_waits passes_Q l.capacity l.inflow.points;
   later : Later l.last (drop l.i l.inflow.points);
+  paces : Linked (IsPaceIf l.capacity) l.moments.waits.items l.moments.paces.items l.last;
   before : IsBefore l.inflow.points l.last l.i;
 }

@@ -1,4 +1,5 @@
 use Rattle.std.proofs.Common.{Bool, sym, ap, ◌∙◌}
+use Rattle.std.specs.Prelude.{Some}
 use Rattle.std.proofs.lemmas.Result.{err_from_is_err_and}
 use Rattle.nf_rational.specs.Rational.{ℚ}
 use Rattle.nf_rational.specs.Order.{lt_ℚ}
@@ -30,3 +31,6 @@ returns-clause-list c =
     ∙ sym (after_ok Load (lists.drained passes_Q c.args.capacity c.args.rate c.args.before.now.queue c.args.before.now.time)
     (λ (time : ℚ). lists.drains_at passes_Q (lt_ℚ time c.args.end.now.0) c.args.capacity c.args.rate c.args.before.now c.args.end.now time) c.in_ok-time.time
     (sym (c.in_ok-time.ensures ∙ ap (λ (w : lists.Waits). at_part Load (lists.drained passes_Q c.args.capacity c.args.rate w.queue w.time)) c.before-2.view_is)))
+
+pub returns-then-is_below-clause-pace : goal.returns-then-is_below-clause-pace
+returns-then-is_below-clause-pace c = c.drain_at.ensures.pace (Some c.args.capacity)

@@ -1,10 +1,16 @@
-use Rattle.std.proofs.Common.{List, ◌&&◌, ap, ◌∙◌}
-use Rattle.std.specs.Prelude.{Ok}
+use Rattle.std.proofs.Common.{List, ◌&&◌, sym, ap, subst, ◌∙◌}
+use Rattle.std.specs.Prelude.{Ok, Some}
 use Rattle.std.proofs.lemmas.Result.{err_from_is_err_and}
 use Rattle.nf_rational.specs.Order.{lt_ℚ, le_ℚ}
 use Rattle.nf_frac_def.specs.Passing.{passes_Q}
 use Rattle.nf_rational.specs.Signs.{is_zero, is_positive}
 use Rattle.nf_load_def.specs.Loading as lists
+use Rattle.nf_curve_def.specs.Lines.{checked_slope}
+use Rattle.nf_frac_def.specs.declared.Part.TheVariants.{Load}
+use Rattle.nf_curve.proofs.Exits.{was_ok}
+use Rattle.nf_load.specs.Paces.{IsPaced}
+use Rattle.nf_load.specs.declared.waiting.Over.{Over}
+use Rattle.nf_load.proofs.Pacing.{level_paced, first_true}
 use Rattle.nf_load.proofs.OverPieces.{slope_passes, stays, goes}
 use Rattle.nf_load.proofs.waiting.over_bounded.Goals as goal
 
@@ -32,3 +38,17 @@ returns-clause-list c =
     ∙ goes passes_Q c.args.capacity c.args.before.now c.args.end.now c.in_ok-rate.rate c.in_ok-rate.ensures c.stays_empty.result
     (c.stays_empty.ensures ∙ ap (λ (w : lists.Waits). is_zero w.queue && le_ℚ c.in_ok-rate.rate c.args.capacity) c.before-2.view_is) c.if-stays_empty.false c.drains.result _
     (c.drains.ensures.test ∙ ap (λ (w : lists.Waits). is_positive w.queue && lt_ℚ c.in_ok-rate.rate c.args.capacity) c.before-2.view_is) c.if-drains.false
+
+pub returns-then-stays_empty-clause-pace : goal.returns-then-stays_empty-clause-pace
+returns-then-stays_empty-clause-pace c =
+    subst (λ (o : Over). IsPaced (Some c.args.capacity) c.args.before.now o) (sym c.empty_at.ensures.over)
+    (level_paced (Some c.args.capacity) c.args.before.now c.args.end.now (Some c.in_ok-rate.rate) c.requires.later
+    (was_ok Load (checked_slope passes_Q (c.args.before.now.time, c.args.before.now.amount) c.args.end.now) c.in_ok-rate.rate (sym c.in_ok-rate.ensures))
+    (first_true (is_zero c.args.before.now.queue) (le_ℚ c.in_ok-rate.rate c.args.capacity) c.stays_empty.result
+    (c.stays_empty.ensures ∙ ap (λ (w : lists.Waits). is_zero w.queue && le_ℚ c.in_ok-rate.rate c.args.capacity) c.before-2.view_is) c.if-stays_empty.true))
+
+pub drain-requires-clause-rate : goal.drain-requires-clause-rate
+drain-requires-clause-rate c = was_ok Load (checked_slope passes_Q (c.args.before.now.time, c.args.before.now.amount) c.args.end.now) c.in_ok-rate.rate (sym c.in_ok-rate.ensures)
+
+pub grow-requires-clause-rate : goal.grow-requires-clause-rate
+grow-requires-clause-rate c = was_ok Load (checked_slope passes_Q (c.args.before.now.time, c.args.before.now.amount) c.args.end.now) c.in_ok-rate.rate (sym c.in_ok-rate.ensures)

@@ -1,0 +1,10 @@
+use Rattle.std.proofs.Common.{sym, ap, ◌∙◌, rules}
+use Rattle.nf_frac_def.specs.declared.Part.TheVariants.{Load}
+use Rattle.nf_frac_def.specs.Checked.{at_part}
+use Rattle.nf_load.proofs.waiting.queue_change.Goals as goal
+
+pub returns-2 : goal.returns-2
+returns-2 c = ap (at_part Load) (sym c.in-Ok-at.is ∙ c.difference.ensures)
+
+pub returns : goal.returns
+returns c = search rules
