@@ -9,6 +9,7 @@ ghost use Rattle.nf_linear_laws.specs.Solution.{IsSquare};
 ghost use Rattle.nf_linear.specs.Grids.{values_if, IsTrueWith};
 
 use crate::grid_cells::{GridCells, wipe_row};
+use crate::marks::Marks;
 use crate::row::Row;
 use crate::solution::{Eliminated, solve_rows};
 use nf_frac::{PassedAt, Q};
@@ -100,6 +101,7 @@ fn solve_in_place<const N: usize>(
     ensures not_one { IfOk result (λ found. found ≡ Eliminated.NotOne → values.new ≡ values.old) }
     ensures passed { IfErr result (λ _. values.new ≡ values.old) }
 {
+    let mut columns = [Marks::none(); N];
     let mut entries = [(0, Q::zero()); N];
     let mut taken = [false; N];
     let mut pivots = [0; N];
@@ -107,7 +109,7 @@ fn solve_in_place<const N: usize>(
     let size = rows.len();
     let noted = &mut pivots[..size];
     let front = &mut found[..size];
-    match solve_rows(rows, &mut entries, &mut taken, noted, front)? {
+    match solve_rows(rows, &mut columns, &mut entries, &mut taken, noted, front)? {
         Eliminated::One => {
             values.copy_from_slice(front);
             Ok(Eliminated::One)

@@ -55,6 +55,10 @@ impl<const N: usize> Cells for GridCells<N> {
         self.at(column).is_zero()
     }
 
+    fn next_some(&self, from: usize, _end: usize) -> usize {
+        from
+    }
+
     fn set(&mut self, column: usize, value: Q) {
         if column < self.size as usize {
             self.cells[column] = value;

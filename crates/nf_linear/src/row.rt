@@ -32,7 +32,13 @@ pub trait Cells: Drop {
         requires { column < length (numbers self.now) }
         ensures { result ≡ Signs.is_zero (number_at (numbers self.now) column) };
 
-    // The number of this column becomes this one.
+    // Returns a column from `from` up to `end`. The numbers from `from` on and before that column are 0.
+    fn next_some(&self, from: usize, end: usize) -> usize
+        requires { from ≤ end }
+        ensures later { (from ≤ result) × (result ≤ end) }
+        ensures zero { (i : ℕ) → from ≤ i → i < result → number_at (numbers self.now) i ≡ 0ℚ };
+
+    // Sets the number of a column.
     fn set(&mut self, column: usize, value: Self::Number)
         requires { column < length (numbers self.old) }
         ensures { numbers self.new ≡ set (numbers self.old) column (Self.Number.means value) };
@@ -87,6 +93,16 @@ impl<C: Cells> Row<C> {
         self.cells.is_zero_at(column)
     }
 
+    // Returns a column from `from` up to `end`. The numbers from `from` on and before that column are 0.
+    pub fn next_some(&self, from: usize, end: usize) -> usize
+        requires { from ≤ end }
+        ensures later { (from ≤ result) × (result ≤ end) }
+        ensures zero { (i : ℕ) → from ≤ i → i < result → number_at self.now i ≡ 0ℚ }
+    {
+        self.cells.next_some(from, end)
+    }
+
+    // Sets the number of a column.
     pub fn set(&mut self, column: usize, value: C::Number)
         requires { column < length self.old }
         ensures { self.new ≡ set self.old column (C.Number.means value) }
@@ -121,10 +137,12 @@ impl<C: Cells> Row<C> {
         ensures within { result ≤ length entries.new }
     {
         let mut count = 0;
-        for i in column..right {
-            count = self.push_some(entries, count, i + 1);
+        let mut at = self.next_some(column + 1, right);
+        while at < right {
+            count = self.push_some(entries, count, at);
+            at = self.next_some(at + 1, right);
         }
-        count
+        self.push_some(entries, count, right)
     }
 
     // Each of these entries of another row, times the factor, is taken off.
