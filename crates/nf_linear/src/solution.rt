@@ -113,9 +113,9 @@ fn solve_table<S: Scalar>(
     }
 }
 
-/// Solves a system by elimination (after Gauss and Jordan). Where no operation passes, it gives One with the only solution, and
-/// NotOne exactly where there is none or more than one. Passed comes exactly where an operation passes, with the first one, and
-/// has part Table. The table is spent on each outcome.
+/// Solves a system by elimination (after Gauss and Jordan). If no operation passes, returns `One` with the only solution, or `NotOne`
+/// exactly if there is none or more than one. Returns `Passed` exactly if an operation passes: the first one, with part Table.
+/// Otherwise fails only if an allocation fails. Takes the table on each outcome.
 pub fn solve<S: Scalar>(alloc: Global, table: Table<S>) -> Result<Solved<S>, Halt<S>>
     ensures list { Gives (values_of S.means) S.means result
         (at_part Part.Table (table_list S.passes table)) }

@@ -1,4 +1,4 @@
-// Rows of tables, in memory.
+// Rows of tables.
 ghost use Rattle.std.specs.Prelude.{◌≡◌, replicate, IfOk};
 ghost use Rattle.nf_rational.specs.Operations.{0ℚ};
 ghost use Rattle.nf_rational.specs.Signs as Signs;
@@ -30,7 +30,7 @@ impl<S: Scalar> Model for TableCells<S> {
     ghost invariant = { λ r. AreZeroUnless r.some (map S.means r.cells.items) };
 }
 
-// The value is 0.
+// Returns whether a value is 0.
 fn is_zero<S: Scalar>(value: S) -> bool
     ensures { result ≡ Signs.is_zero (S.means value) }
 {
@@ -38,7 +38,7 @@ fn is_zero<S: Scalar>(value: S) -> bool
 }
 
 impl<S: Scalar> TableCells<S> {
-    // All zero.
+    // Returns a row of zeros.
     pub fn zero(alloc: Global, len: usize) -> Result<TableCells<S>, AllocError>
         ensures { IfOk result (λ cells. cells ≡ replicate len 0ℚ) }
     {
