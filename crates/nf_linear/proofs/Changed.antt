@@ -1,12 +1,10 @@
 -- One number of a row is read, or changed in a row of a table.
-use Rattle.std.proofs.Common.{◌≡◌, ℕ, zero, suc, ◌<◌, Bool, true, false, not, List, [], ◌∷◌, length, set, get_or, map, refl, sym, ap, ◌∙◌, arith}
+use Rattle.std.proofs.Common.{◌≡◌, ℕ, zero, suc, ◌<◌, List, [], ◌∷◌, length, set, get_or, map, refl, sym, ap, ◌∙◌, arith}
 use Rattle.std.proofs.Math.ListN.{length-set, length-map}
 use Rattle.nf_rational.specs.Rational.{ℚ}
 use Rattle.nf_model.specs.Entries.{number_at}
 use Rattle.nf_linear_def.specs.Table.{Row, row_at}
 use Rattle.nf_linear_laws.specs.Solution.{IsSquare}
-use Rattle.nf_rational.specs.Signs.{is_zero}
-use Rattle.nf_linear.specs.Rows.{some_flags}
 use Rattle.nf_linear.proofs.Clearing.{row_read}
 
 -- a value that is read means the number there
@@ -39,17 +37,3 @@ still_square rows now i column x row after square same below is changed j inside
     let count : length (set rows i after) ≡ length rows = length-set rows i after in
     let long : length after ≡ length (row_at rows i) = ap length changed ∙ length-set row column x ∙ ap length (row_read rows i row (omega (arith, ap length same)) is) in
     lengths_kept rows i after j long ∙ square j (omega arith) ∙ ap suc (sym count)
-
--- a number's test for 0 as it is kept beside the numbers
-pub flag_read : (row now : List ℚ) (flags : List Bool) (i : ℕ) (d : Bool) → flags ≡ some_flags row → row ≡ now → i < length now → d ≡ get_or flags i d → not d ≡ is_zero (number_at now i)
-flag_read row now flags i d kept same b read =
-    ap not (read ∙ ap (λ (l : List Bool). get_or l i d) (kept ∙ ap some_flags same) ∙ go now i b) ∙ not_not (is_zero (number_at now i))
-  where
-    go : (xs : List ℚ) (i : ℕ) → i < length xs → get_or (some_flags xs) i d ≡ not (is_zero (number_at xs i))
-    go [] i b = absurd (omega arith)
-    go (x ∷ xs) zero b = refl
-    go (x ∷ xs) (suc i) b = go xs i (omega arith)
-
-    not_not : (t : Bool) → not (not t) ≡ t
-    not_not true = refl
-    not_not false = refl

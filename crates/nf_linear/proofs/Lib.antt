@@ -1,6 +1,9 @@
 pub mod Fronts
 pub mod Taken
 pub mod Filled
+pub mod Bits
+pub mod Covering
+pub mod Skips
 pub mod Sparse
 pub mod Columns
 pub mod Changed

@@ -13,7 +13,7 @@ use Rattle.nf_linear.proofs.Fronts.{take_set, drop_set, take_whole}
 use Rattle.nf_linear.specs.Rows.{some_from, entry_less, clear_row}
 
 -- ---- one place of a list
-drop_one : (xs : List ℚ) (k : ℕ) → k < length xs → drop k xs ≡ number_at xs k ∷ drop (suc k) xs
+pub drop_one : (xs : List ℚ) (k : ℕ) → k < length xs → drop k xs ≡ number_at xs k ∷ drop (suc k) xs
 drop_one [] k b = absurd (omega arith)
 drop_one (x ∷ xs) zero b = refl
 drop_one (x ∷ xs) (suc k) b = drop_one xs k (omega arith)

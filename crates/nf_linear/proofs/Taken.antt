@@ -95,7 +95,7 @@ pub takes_all : (passes : Passing) (factor : ℚ) (others : List (ℕ × ℚ)) (
     → Ok row ≡ at_part Part.Table (fold_checked (entry_less passes factor) before others)
 takes_all passes factor others before row k end h = ap (λ (l : List (ℕ × ℚ)). at_part Part.Table (fold_checked (entry_less passes factor) row l)) (sym (drop_of_length-le others end)) ∙ h.same
 
-next_other : (others : List (ℕ × ℚ)) (k : ℕ) (e : ℕ × ℚ) (column : ℕ) (p : ℚ) → k < length others → e ≡ get_or others k e → (column, p) ≡ e → drop k others ≡ (column, p) ∷ drop (k + 1) others
+pub next_other : (others : List (ℕ × ℚ)) (k : ℕ) (e : ℕ × ℚ) (column : ℕ) (p : ℚ) → k < length others → e ≡ get_or others k e → (column, p) ≡ e → drop k others ≡ (column, p) ∷ drop (k + 1) others
 next_other others k e column p b is seen = drop_more others k e b ∙ ap (λ (w : ℕ × ℚ). w ∷ drop (k + 1) others) (sym is ∙ sym seen)
 
 pub fits_next : (passes : Passing) (factor : ℚ) (others : List (ℕ × ℚ)) (before row : List ℚ) (k : ℕ) (e : ℕ × ℚ) (column : ℕ) (p : ℚ)

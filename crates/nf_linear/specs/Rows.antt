@@ -1,5 +1,5 @@
 -- Steps of elimination by the entries of a pivot row other than 0: each is a column and a number.
-use Rattle.std.specs.Prelude.{ℕ, suc, Bool, true, false, not, ◌||◌, ◌==◌, if◌then◌else◌, List, [], ◌∷◌, map, set, Ok}
+use Rattle.std.specs.Prelude.{ℕ, suc, Bool, true, false, ◌||◌, ◌==◌, if◌then◌else◌, List, [], ◌∷◌, map, set, Ok}
 use Rattle.nf_rational.specs.Rational.{ℚ}
 use Rattle.nf_rational.specs.Operations.{0ℚ}
 use Rattle.nf_frac_def.specs.Passing.{Passing}
@@ -8,10 +8,6 @@ use Rattle.nf_frac_def.specs.declared.Op.TheVariants.{Quotient}
 use Rattle.nf_model.specs.Entries.{number_at}
 use Rattle.nf_rational.specs.Signs.{is_zero}
 use Rattle.nf_linear_def.specs.Table.{Row, less_unless}
-
--- of each number, whether it is other than 0
-abbrev pub some_flags : Row → List Bool
-some_flags row = map (λ x. not (is_zero x)) row
 
 -- entries by what their numbers mean
 abbrev pub meant : {S : Type 0} → (S → ℚ) → List (ℕ × S) → List (ℕ × ℚ)

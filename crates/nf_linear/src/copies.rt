@@ -3,7 +3,7 @@ ghost use Rattle.std.specs.Prelude.{◌≡◌, replicate, IfOk};
 
 use std::alloc::{AllocError, Global};
 
-// This many copies of the value.
+// Returns this many copies of a value. Fails only if an allocation fails.
 pub fn copies<T: Copy>(alloc: Global, value: T, count: usize) -> Result<Vec<T>, AllocError>
     ensures { IfOk result (λ copies. copies.items ≡ replicate count value) }
 {

@@ -9,6 +9,7 @@ ghost use Rattle.nf_linear_laws.specs.Solution.{IsSquare};
 ghost use Rattle.nf_linear.specs.Grids.{values_if, IsTrueWith};
 
 use crate::grid_cells::{GridCells, wipe_row};
+use crate::marks::Marks;
 use crate::row::Row;
 use crate::solution::{Eliminated, solve_rows};
 use nf_frac::{PassedAt, Q};
@@ -33,7 +34,7 @@ impl<const N: usize> Model for Grid<N> {
     ghost invariant = { λ t. (N ≤ 32) × (t.size ≤ N) × IsSquare (take t.size t.rows) };
 }
 
-// The rows become all zero, of this many unknowns.
+// Sets all rows to zero, for this many unknowns.
 fn wipe<const N: usize>(rows: &mut [Row<GridCells<N>>], size: u32)
     requires { size ≤ N }
     ensures { rows.new ≡ replicate (length rows.old) (replicate (size + 1) 0ℚ) }
@@ -43,7 +44,7 @@ fn wipe<const N: usize>(rows: &mut [Row<GridCells<N>>], size: u32)
     }
 }
 
-// A number of a row becomes this one.
+// Sets a number of a row.
 fn set_at<const N: usize>(rows: &mut [Row<GridCells<N>>], row: usize, column: usize, value: Q)
     requires row { row < length rows.old }
     requires column { column < length (row_at rows.old row) }
@@ -85,7 +86,7 @@ impl<const N: usize> Grid<N> {
     }
 }
 
-// The solution of the rows of a grid, each with its right side last; what is left in them is spent.
+// Solves the system of the rows of a grid, each with its right side last. What is left in the rows has no meaning.
 fn solve_in_place<const N: usize>(
     rows: &mut [Row<GridCells<N>>],
     values: &mut [Q],
@@ -100,6 +101,7 @@ fn solve_in_place<const N: usize>(
     ensures not_one { IfOk result (λ found. found ≡ Eliminated.NotOne → values.new ≡ values.old) }
     ensures passed { IfErr result (λ _. values.new ≡ values.old) }
 {
+    let mut columns = [Marks::none(); N];
     let mut entries = [(0, Q::zero()); N];
     let mut taken = [false; N];
     let mut pivots = [0; N];
@@ -107,7 +109,7 @@ fn solve_in_place<const N: usize>(
     let size = rows.len();
     let noted = &mut pivots[..size];
     let front = &mut found[..size];
-    match solve_rows(rows, &mut entries, &mut taken, noted, front)? {
+    match solve_rows(rows, &mut columns, &mut entries, &mut taken, noted, front)? {
         Eliminated::One => {
             values.copy_from_slice(front);
             Ok(Eliminated::One)
@@ -116,10 +118,9 @@ fn solve_in_place<const N: usize>(
     }
 }
 
-/// Solves a system by elimination (after Gauss and Jordan), without memory. Where no operation passes, it gives One exactly where
-/// there is one solution, which `values` then holds, and NotOne where there is none or more than one. Passed comes exactly where an
-/// operation passes, with the first one, and has part Table. Without a solution `values` stays as it was. The grid is all zero
-/// afterwards.
+/// Solves a system by elimination (after Gauss and Jordan). If no operation passes, returns `One` exactly if there is one solution,
+/// which `values` then holds, and `NotOne` if there is none or more than one. Returns an error exactly if an operation passes: the
+/// first one, with part Table. Without a solution `values` does not change. The grid is all zero afterwards. Doesn't allocate.
 pub fn solve_grid<const N: usize>(
     grid: &mut Grid<N>,
     values: &mut [Q],

@@ -27,7 +27,7 @@ impl<const N: usize> Model for GridCells<N> {
 }
 
 impl<const N: usize> GridCells<N> {
-    // They become all zero, of this many unknowns.
+    // Sets all numbers to zero, for this many unknowns.
     fn wipe(&mut self, size: u32)
         requires { size ≤ N }
         ensures { self.new ≡ replicate (size + 1) 0ℚ }
@@ -55,6 +55,10 @@ impl<const N: usize> Cells for GridCells<N> {
         self.at(column).is_zero()
     }
 
+    fn next_some(&self, from: usize, _end: usize) -> usize {
+        from
+    }
+
     fn set(&mut self, column: usize, value: Q) {
         if column < self.size as usize {
             self.cells[column] = value;
@@ -64,8 +68,8 @@ impl<const N: usize> Cells for GridCells<N> {
     }
 }
 
-// Of no unknowns.
 impl<const N: usize> Default for Row<GridCells<N>> {
+    // Returns a row of no unknowns.
     fn default() -> Self {
         Row {
             cells: GridCells {
@@ -77,7 +81,7 @@ impl<const N: usize> Default for Row<GridCells<N>> {
     }
 }
 
-// The row becomes all zero, of this many unknowns.
+// Sets a row to zero, for this many unknowns.
 pub fn wipe_row<const N: usize>(row: &mut Row<GridCells<N>>, size: u32)
     requires { size ≤ N }
     ensures { row.new ≡ replicate (size + 1) 0ℚ }

@@ -5,6 +5,7 @@ mod copies;
 mod elimination;
 mod grid;
 mod grid_cells;
+mod marks;
 mod row;
 mod small_tables;
 mod solution;

@@ -22,17 +22,23 @@ pub trait Cells: Drop {
     // The numbers, in order.
     ghost numbers: { Self → List ℚ };
 
-    // The number of this column.
+    // Returns the number of a column.
     fn at(&self, column: usize) -> Self::Number
         requires { column < length (numbers self.now) }
         ensures { Self.Number.means result ≡ number_at (numbers self.now) column };
 
-    // The number of this column is 0.
+    // Returns whether the number of a column is 0.
     fn is_zero_at(&self, column: usize) -> bool
         requires { column < length (numbers self.now) }
         ensures { result ≡ Signs.is_zero (number_at (numbers self.now) column) };
 
-    // The number of this column becomes this one.
+    // Returns a column from `from` up to `end`. The numbers from `from` on and before that column are 0.
+    fn next_some(&self, from: usize, end: usize) -> usize
+        requires { from ≤ end }
+        ensures later { (from ≤ result) × (result ≤ end) }
+        ensures zero { (i : ℕ) → from ≤ i → i < result → number_at (numbers self.now) i ≡ 0ℚ };
+
+    // Sets the number of a column.
     fn set(&mut self, column: usize, value: Self::Number)
         requires { column < length (numbers self.old) }
         ensures { numbers self.new ≡ set (numbers self.old) column (Self.Number.means value) };
@@ -53,7 +59,7 @@ impl<C: Cells> Model for Row<C> {
     ghost view = { λ r. C.numbers r.cells };
 }
 
-// A value less a factor times another.
+// Returns a value less a factor times another.
 fn less<S: Scalar>(value: S, factor: S, other: S) -> Result<S, PassedAt<S>>
     ensures { seen_at S.means S.means result
         ≡ at_part Part.Table
@@ -65,13 +71,14 @@ fn less<S: Scalar>(value: S, factor: S, other: S) -> Result<S, PassedAt<S>>
 }
 
 impl<C: Cells> Row<C> {
-    // The row of these numbers.
+    // Returns the row of these numbers.
     pub fn of(cells: C) -> Row<C>
         ensures { result ≡ C.numbers cells }
     {
         Row { cells }
     }
 
+    // Returns the number of a column.
     pub fn at(&self, column: usize) -> C::Number
         requires { column < length self.now }
         ensures { C.Number.means result ≡ number_at self.now column }
@@ -79,7 +86,7 @@ impl<C: Cells> Row<C> {
         self.cells.at(column)
     }
 
-    // The number of this column is 0.
+    // Returns whether the number of a column is 0.
     pub fn is_zero_at(&self, column: usize) -> bool
         requires { column < length self.now }
         ensures { result ≡ Signs.is_zero (number_at self.now column) }
@@ -87,6 +94,16 @@ impl<C: Cells> Row<C> {
         self.cells.is_zero_at(column)
     }
 
+    // Returns a column from `from` up to `end`. The numbers from `from` on and before that column are 0.
+    pub fn next_some(&self, from: usize, end: usize) -> usize
+        requires { from ≤ end }
+        ensures later { (from ≤ result) × (result ≤ end) }
+        ensures zero { (i : ℕ) → from ≤ i → i < result → number_at self.now i ≡ 0ℚ }
+    {
+        self.cells.next_some(from, end)
+    }
+
+    // Sets the number of a column.
     pub fn set(&mut self, column: usize, value: C::Number)
         requires { column < length self.old }
         ensures { self.new ≡ set self.old column (C.Number.means value) }
@@ -94,7 +111,7 @@ impl<C: Cells> Row<C> {
         self.cells.set(column, value);
     }
 
-    // One more entry in place of the one there, unless it is 0; how many there are then.
+    // Writes the entry of a column to place `count` of `entries`, unless it is 0. Returns how many entries there are then.
     fn push_some(&self, entries: &mut [(usize, C::Number)], count: usize, column: usize) -> usize
         requires column { column < length self.now }
         requires room { count < length entries.old }
@@ -111,7 +128,7 @@ impl<C: Cells> Row<C> {
         count + 1
     }
 
-    // The entries other than 0 after this column come first, that of the right side included; how many they are.
+    // Writes the entries other than 0 after a column, the right side included, to the front of `entries`. Returns how many they are.
     pub fn later(&self, column: usize, right: usize, entries: &mut [(usize, C::Number)]) -> usize
         requires column { column < right }
         requires right { length self.now ≡ right + 1 }
@@ -121,13 +138,15 @@ impl<C: Cells> Row<C> {
         ensures within { result ≤ length entries.new }
     {
         let mut count = 0;
-        for i in column..right {
-            count = self.push_some(entries, count, i + 1);
+        let mut at = self.next_some(column + 1, right);
+        while at < right {
+            count = self.push_some(entries, count, at);
+            at = self.next_some(at + 1, right);
         }
-        count
+        self.push_some(entries, count, right)
     }
 
-    // Each of these entries of another row, times the factor, is taken off.
+    // Subtracts the factor times each of these entries of another row.
     fn subtract(
         &mut self,
         factor: C::Number,
@@ -148,7 +167,8 @@ impl<C: Cells> Row<C> {
         Ok(())
     }
 
-    // The entry of this column becomes 0, and the later ones lose those of the pivot row, times the quotient of the two.
+    // Clears the entry of a column: subtracts the pivot row times the quotient of the two entries. `own` is the pivot row's entry in
+    // the column, and `later` has its entries after it.
     pub fn clear(
         &mut self,
         column: usize,
@@ -168,7 +188,7 @@ impl<C: Cells> Row<C> {
         self.subtract(factor, later)
     }
 
-    // The right side over the entry of this column.
+    // Returns the right side over the entry of a column.
     pub fn value_of(&self, column: usize, right: usize) -> Result<C::Number, PassedAt<C::Number>>
         requires column { column < right }
         requires right { length self.now ≡ right + 1 }

@@ -10,16 +10,16 @@ use crate::table::Table;
 use nf_frac::{Halt, Q, Small};
 use std::alloc::{AllocError, Global};
 
-// The same numbers with room for wider parts.
+// Returns the same numbers, with room for wider parts.
 fn widened(alloc: Global, numbers: &[Small]) -> Result<Vec<Q>, AllocError>
     ensures { IfOk result (λ wide. wide.items ≡ numbers.now) }
 {
     numbers.iter().map(|number| number.wide()).collect(alloc)
 }
 
-/// Solves a system of small numbers by elimination over small numbers alone. What it finds is what elimination over wide numbers
-/// finds, where no operation passes either. None comes exactly where one of its operations passes 63 bits: over wide numbers it
-/// may not pass, so that the system is to be solved over those. The table is spent on each outcome.
+/// Solves a system of small numbers by elimination over small numbers alone. Returns `None` exactly if an operation exceeds 63 bits;
+/// the caller then solves the system over wide numbers. Otherwise no operation over wide numbers passes, and the result is the one
+/// that they give. Fails only if an allocation fails. Takes the table on each outcome.
 pub fn solve_small(alloc: Global, table: Table<Small>) -> Result<Option<Solved<Q>>, AllocError>
     ensures small { IfOk result
         (λ found. MatchOption found (PassesSmall table)

@@ -10,6 +10,7 @@ ghost use Rattle.nf_linear.specs.Solved.{values_of, IsTrueOf};
 
 use crate::copies::copies;
 use crate::elimination::clear_columns;
+use crate::marks::Marks;
 use crate::row::{Cells, Row};
 use crate::table::Table;
 use crate::table_cells::TableCells;
@@ -34,7 +35,7 @@ pub enum Solved<S> {
     NotOne,
 }
 
-// The value of each unknown, once the columns are cleared.
+// Finds the value of each unknown, once the columns are cleared.
 fn find_values<C: Cells>(
     rows: &[Row<C>],
     pivots: &[usize],
@@ -54,10 +55,11 @@ fn find_values<C: Cells>(
     Ok(())
 }
 
-// The solution of the rows, each with its right side last; what is left in them is spent. The entries of a pivot row have a place each,
-// and no row is taken at first.
+// Solves the system of these rows, each with its right side last. What is left in them has no meaning. `columns` has a set for each
+// column and `entries` room for the entries of a pivot row. No row is taken at first.
 pub fn solve_rows<C: Cells>(
     rows: &mut [Row<C>],
+    columns: &mut [Marks],
     entries: &mut [(usize, C::Number)],
     taken: &mut [bool],
     pivots: &mut [usize],
@@ -69,19 +71,20 @@ pub fn solve_rows<C: Cells>(
     requires count { length pivots.old ≡ length rows.old }
     requires room { length found.old ≡ length rows.old }
     requires taken { AreTaken taken.old [] }
+    requires sets { length rows.old ≤ length columns.old }
     ensures list { seen_at
         (λ one. values_if one (map C.Number.means found.new)) C.Number.means result
         ≡ at_part Part.Table (table_list C.Number.passes rows.old) }
     ensures solution { IfOk result (λ one. IsTrueWith rows.old one (map C.Number.means found.new)) }
 {
-    if !clear_columns(rows, entries, taken, pivots)? {
+    if !clear_columns(rows, columns, entries, taken, pivots)? {
         return Ok(Eliminated::NotOne);
     }
     find_values(rows, pivots, found)?;
     Ok(Eliminated::One)
 }
 
-// The solution of the rows of a table; what is left in them is spent.
+// Solves the system of the rows of a table. What is left in them has no meaning.
 fn solve_table<S: Scalar>(
     alloc: Global,
     rows: &mut [Row<TableCells<S>>],
@@ -92,19 +95,27 @@ fn solve_table<S: Scalar>(
     ensures solution { IfOk result (IsTrueOf S.means rows.old) }
 {
     let size = rows.len();
+    let mut columns = copies(alloc, Marks::none(), size)?;
     let mut entries = copies(alloc, (0, S::zero()), size)?;
     let mut taken = copies(alloc, false, size)?;
     let mut pivots = copies(alloc, 0, size)?;
     let mut values = copies(alloc, S::zero(), size)?;
-    match solve_rows(rows, &mut entries, &mut taken, &mut pivots, &mut values)? {
+    match solve_rows(
+        rows,
+        &mut columns,
+        &mut entries,
+        &mut taken,
+        &mut pivots,
+        &mut values,
+    )? {
         Eliminated::One => Ok(Solved::One(values)),
         Eliminated::NotOne => Ok(Solved::NotOne),
     }
 }
 
-/// Solves a system by elimination (after Gauss and Jordan). Where no operation passes, it gives One with the only solution, and
-/// NotOne exactly where there is none or more than one. Passed comes exactly where an operation passes, with the first one, and
-/// has part Table. The table is spent on each outcome.
+/// Solves a system by elimination (after Gauss and Jordan). If no operation passes, returns `One` with the only solution, or `NotOne`
+/// exactly if there is none or more than one. Returns `Passed` exactly if an operation passes: the first one, with part Table.
+/// Otherwise fails only if an allocation fails. Takes the table on each outcome.
 pub fn solve<S: Scalar>(alloc: Global, table: Table<S>) -> Result<Solved<S>, Halt<S>>
     ensures list { Gives (values_of S.means) S.means result
         (at_part Part.Table (table_list S.passes table)) }

@@ -17,7 +17,7 @@ pub trait System {
     // Whether it can hold a number.
     ghost takes: { ℚ → Bool };
 
-    /// The number of a row for an unknown becomes this one.
+    /// Sets the number of a row for an unknown.
     fn set(&mut self, row: u32, column: u32, value: Q)
         requires row { row < length (rows_of self.old) }
         requires column { column < length (rows_of self.old) }
@@ -25,7 +25,7 @@ pub trait System {
         ensures { rows_of self.new
             ≡ set (rows_of self.old) row (set (row_at (rows_of self.old) row) column value) };
 
-    /// The right side of a row becomes this number.
+    /// Sets the right side of a row.
     fn set_right(&mut self, row: u32, value: Q)
         requires row { row < length (rows_of self.old) }
         requires takes { IsTrue (takes value) }
@@ -52,7 +52,7 @@ impl System for Table<Q> {
     }
 }
 
-// A number that is small, in its small form.
+// Returns a small number in its small form.
 fn narrowed(value: Q) -> Small
     requires { IsTrue (takes_small value) }
     ensures { result ≡ value }

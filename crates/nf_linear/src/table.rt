@@ -65,7 +65,7 @@ impl<S: Scalar> Table<S> {
         changed.set(size, value);
     }
 
-    // The rows, each with its right side last.
+    // Returns the rows, each with its right side last.
     pub(crate) fn into_rows(self) -> Vec<Row<TableCells<S>>>
         ensures rows { result.items ≡ self }
         ensures square { IsSquare result.items }

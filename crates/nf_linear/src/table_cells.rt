@@ -1,9 +1,10 @@
-// Rows of tables, in memory.
+// Rows of tables.
 ghost use Rattle.std.specs.Prelude.{◌≡◌, replicate, IfOk};
 ghost use Rattle.nf_rational.specs.Operations.{0ℚ};
 ghost use Rattle.nf_rational.specs.Signs as Signs;
 
 use crate::copies::copies;
+use crate::marks::Marks;
 use crate::row::Cells;
 use nf_frac::Scalar;
 use std::alloc::{AllocError, Global};
@@ -13,23 +14,23 @@ use std::marker::Model;
 #[derive(Drop)]
 pub struct TableCells<S: Scalar> {
     cells: Vec<S>,
-    // Of each number, whether it is other than 0: most are 0, and this is tested far more often than a number is used.
-    some: Vec<bool>,
+    // The columns of all numbers that are not 0, and perhaps of others.
+    some: Marks,
 }
 
 impl<S: Scalar> Model for TableCells<S> {
-    ghost use Rattle.std.specs.Prelude.{◌≡◌, List, map};
+    ghost use Rattle.std.specs.Prelude.{List, map};
     ghost use Rattle.nf_rational.specs.Rational.{ℚ};
-    ghost use Rattle.nf_linear.specs.Rows.{some_flags};
+    ghost use Rattle.nf_linear.specs.Marks.{AreZeroUnless};
 
     ghost Value = { List ℚ };
 
     ghost view = { λ r. map S.means r.cells.items };
 
-    ghost invariant = { λ r. r.some.items ≡ some_flags (map S.means r.cells.items) };
+    ghost invariant = { λ r. AreZeroUnless r.some (map S.means r.cells.items) };
 }
 
-// The value is 0.
+// Returns whether a value is 0.
 fn is_zero<S: Scalar>(value: S) -> bool
     ensures { result ≡ Signs.is_zero (S.means value) }
 {
@@ -37,12 +38,12 @@ fn is_zero<S: Scalar>(value: S) -> bool
 }
 
 impl<S: Scalar> TableCells<S> {
-    // All zero.
+    // Returns a row of zeros.
     pub fn zero(alloc: Global, len: usize) -> Result<TableCells<S>, AllocError>
         ensures { IfOk result (λ cells. cells ≡ replicate len 0ℚ) }
     {
         let cells = copies(alloc, S::zero(), len)?;
-        let some = copies(alloc, false, len)?;
+        let some = Marks::none();
         Ok(TableCells { cells, some })
     }
 }
@@ -57,11 +58,15 @@ impl<S: Scalar> Cells for TableCells<S> {
     }
 
     fn is_zero_at(&self, column: usize) -> bool {
-        !self.some[column]
+        is_zero(self.cells[column])
+    }
+
+    fn next_some(&self, from: usize, end: usize) -> usize {
+        self.some.next(from, end)
     }
 
     fn set(&mut self, column: usize, value: S) {
         self.cells[column] = value;
-        self.some[column] = !is_zero(value);
+        self.some.put(column);
     }
 }

@@ -9,7 +9,7 @@ use Rattle.nf_linear.proofs.Stages.{first_stage, stage_square, stage_none, stage
 use Rattle.nf_linear.proofs.elimination.clear_columns.Goals as goal
 
 pub loop-column-init : goal.loop-column-init
-loop-column-init g c = (first_stage g.C.Number.Scalar.passes c.args.rows.now c.requires.square, c.requires.taken, refl, refl, refl)
+loop-column-init g c = (first_stage g.C.Number.Scalar.passes c.args.rows.now c.requires.square, c.requires.taken, refl, refl, refl, c.mark_rows.ensures, c.mark_rows.auto.columns)
 
 pub clear_column-requires : goal.clear_column-requires
 clear_column-requires g c =
@@ -21,6 +21,8 @@ clear_column-requires g c =
     let room = c.requires.entries in
     let flags = c.requires.flags in
     let count = c.requires.count in
+    let columns = c.loop-column.invariant.6 in
+    let sets = c.requires.sets in
     record {
       square = stage_square g.C.Number.Scalar.passes c.args.rows.now c.loop-column.rows (take c.loop-column.column c.loop-column.pivots) c.loop-column.column c.loop-column.invariant.0;
       column = omega arith;
@@ -28,6 +30,8 @@ clear_column-requires g c =
       flags = omega arith;
       count = omega arith;
       taken = c.loop-column.invariant.1;
+      sets = omega arith;
+      covers = c.loop-column.invariant.5;
     }
 
 pub loop-column-preserved : goal.loop-column-preserved
@@ -42,6 +46,8 @@ loop-column-preserved g c =
       c.clear_column.auto.entries ∙ c.loop-column.invariant.2,
       c.clear_column.auto.taken ∙ c.loop-column.invariant.3,
       c.clear_column.auto.pivots ∙ c.loop-column.invariant.4,
+      cleared.covers,
+      c.clear_column.auto.columns ∙ c.loop-column.invariant.6,
     )
 
 pub returns-in_err-clear_column-clause-list : goal.returns-in_err-clear_column-clause-list

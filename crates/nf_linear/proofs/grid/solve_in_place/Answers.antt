@@ -23,6 +23,9 @@ solve_rows-requires-clause-square g c = c.requires.square
 pub solve_rows-requires-clause-entries : goal.solve_rows-requires-clause-entries
 solve_rows-requires-clause-entries g c = subst (λ (k : ℕ). length c.args.rows.now ≤ k) (sym (length-replicate g.row.N _)) c.requires.room
 
+pub solve_rows-requires-clause-sets : goal.solve_rows-requires-clause-sets
+solve_rows-requires-clause-sets g c = subst (λ (k : ℕ). length c.args.rows.now ≤ k) (sym (length-replicate g.row.N _)) c.requires.room
+
 pub solve_rows-requires-clause-flags : goal.solve_rows-requires-clause-flags
 solve_rows-requires-clause-flags g c = subst (λ (k : ℕ). length c.args.rows.now ≤ k) (sym (length-replicate g.row.N false)) c.requires.room
 

@@ -7,13 +7,21 @@ use Rattle.nf_linear.specs.Pivots.{AreTaken}
 use Rattle.nf_linear.specs.Grids.{values_if, IsTrueWith}
 use Rattle.nf_linear.proofs.solution.solve_table.Goals as goal
 
-pub returns-in_err-entries-clause-list : goal.returns-in_err-entries-clause-list
-returns-in_err-entries-clause-list g c =
+pub returns-in_err-columns-clause-list : goal.returns-in_err-columns-clause-list
+returns-in_err-columns-clause-list g c =
     let p = err_from_is_err_and c.from_residual.result c.from_residual.ensures.1 in
     rw (p.1, p.2) tt
 
+pub returns-in_err-columns-clause-solution : goal.returns-in_err-columns-clause-solution
+returns-in_err-columns-clause-solution g c = IfOk-from_err c.from_residual.result _ c.from_residual.ensures.0
+
+pub returns-in_err-entries-clause-list : goal.returns-in_err-entries-clause-list
+returns-in_err-entries-clause-list g c =
+    let p = err_from_is_err_and c.from_residual-in_err-entries.result c.from_residual-in_err-entries.ensures.1 in
+    rw (p.1, p.2) tt
+
 pub returns-in_err-entries-clause-solution : goal.returns-in_err-entries-clause-solution
-returns-in_err-entries-clause-solution g c = IfOk-from_err c.from_residual.result _ c.from_residual.ensures.0
+returns-in_err-entries-clause-solution g c = IfOk-from_err c.from_residual-in_err-entries.result _ c.from_residual-in_err-entries.ensures.0
 
 pub returns-in_err-taken-clause-list : goal.returns-in_err-taken-clause-list
 returns-in_err-taken-clause-list g c =
@@ -42,27 +50,32 @@ returns-in_err-values-clause-solution g c = IfOk-from_err c.from_residual-in_err
 pub solve_rows-requires-clause-square : goal.solve_rows-requires-clause-square
 solve_rows-requires-clause-square g c = c.requires
 
+pub solve_rows-requires-clause-sets : goal.solve_rows-requires-clause-sets
+solve_rows-requires-clause-sets g c =
+    let n : length c.deref_mut.result.now ≡ length c.args.rows.now = ap length (c.deref_mut.ensures.value ∙ c.in_ok-columns.ensures) ∙ length-replicate _ _ in
+    omega arith
+
 pub solve_rows-requires-clause-entries : goal.solve_rows-requires-clause-entries
 solve_rows-requires-clause-entries g c =
-    let n : length c.deref_mut.result.now ≡ length c.args.rows.now = ap length (c.deref_mut.ensures.value ∙ c.in_ok-entries.ensures) ∙ length-replicate _ _ in
+    let n : length c.deref_mut-2.result.now ≡ length c.args.rows.now = ap length (c.deref_mut-2.ensures.value ∙ c.in_ok-entries.ensures) ∙ length-replicate _ _ in
     omega arith
 
 pub solve_rows-requires-clause-flags : goal.solve_rows-requires-clause-flags
 solve_rows-requires-clause-flags g c =
-    let n : length c.deref_mut-2.result.now ≡ length c.args.rows.now = ap length (c.deref_mut-2.ensures.value ∙ c.in_ok-taken.ensures) ∙ length-replicate _ _ in
+    let n : length c.deref_mut-3.result.now ≡ length c.args.rows.now = ap length (c.deref_mut-3.ensures.value ∙ c.in_ok-taken.ensures) ∙ length-replicate _ _ in
     omega arith
 
 pub solve_rows-requires-clause-count : goal.solve_rows-requires-clause-count
-solve_rows-requires-clause-count g c = ap length (c.deref_mut-3.ensures.value ∙ c.in_ok-pivots.ensures) ∙ length-replicate _ _
+solve_rows-requires-clause-count g c = ap length (c.deref_mut-4.ensures.value ∙ c.in_ok-pivots.ensures) ∙ length-replicate _ _
 
 pub solve_rows-requires-clause-room : goal.solve_rows-requires-clause-room
-solve_rows-requires-clause-room g c = ap length (c.deref_mut-4.ensures.value ∙ c.in_ok-values.ensures) ∙ length-replicate _ _
+solve_rows-requires-clause-room g c = ap length (c.deref_mut-5.ensures.value ∙ c.in_ok-values.ensures) ∙ length-replicate _ _
 
 pub solve_rows-requires-clause-taken : goal.solve_rows-requires-clause-taken
 solve_rows-requires-clause-taken g c =
     let n = length c.args.rows.now in
     let none : AreTaken (replicate n false) [] = λ i below d. get_or-replicate n i false d (subst (λ (k : ℕ). i < k) (length-replicate n false) below) in
-    subst (λ (flags : List Bool). AreTaken flags []) (sym (c.deref_mut-2.ensures.value ∙ c.in_ok-taken.ensures)) none
+    subst (λ (flags : List Bool). AreTaken flags []) (sym (c.deref_mut-3.ensures.value ∙ c.in_ok-taken.ensures)) none
 
 pub returns-in_err-solve_rows-clause-list : goal.returns-in_err-solve_rows-clause-list
 returns-in_err-solve_rows-clause-list g c =
@@ -74,14 +87,14 @@ returns-in_err-solve_rows-clause-solution g c = IfOk-from_err c.from_residual-in
 
 pub returns-in-One-clause-list : goal.returns-in-One-clause-list
 returns-in-One-clause-list g c =
-    let long = c.solve_rows.auto.found ∙ c.deref_mut-4.ensures.len in
+    let long = c.solve_rows.auto.found ∙ c.deref_mut-5.ensures.len in
     sym c.in_ok-solve_rows.ensures.list
     ∙ ap (λ (one : Eliminated). Ok (values_if one (map g.S.Scalar.means c.solve_rows.new.found))) c.in-One.is
     ∙ ap (λ found. Ok (Some (map g.S.Scalar.means found))) (sym (take_at c.solve_rows.new.found _ c.in_ok-values.values.len long))
 
 pub returns-in-One-clause-solution : goal.returns-in-One-clause-solution
 returns-in-One-clause-solution g c =
-    let long = c.solve_rows.auto.found ∙ c.deref_mut-4.ensures.len in
+    let long = c.solve_rows.auto.found ∙ c.deref_mut-5.ensures.len in
     subst (λ found. IsOnlySolution c.args.rows.now (map g.S.Scalar.means found)) (sym (take_at c.solve_rows.new.found _ c.in_ok-values.values.len long))
     (subst (λ (one : Eliminated). IsTrueWith c.args.rows.now one (map g.S.Scalar.means c.solve_rows.new.found)) c.in-One.is c.in_ok-solve_rows.ensures.solution)
 

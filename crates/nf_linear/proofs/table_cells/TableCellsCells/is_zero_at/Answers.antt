@@ -1,7 +1,13 @@
-use Rattle.std.proofs.Common.{map}
-use Rattle.nf_linear.proofs.Changed.{flag_read}
+use Rattle.std.proofs.Common.{List, ap, ◌∙◌}
+use Rattle.nf_rational.specs.Rational.{ℚ}
+use Rattle.nf_model.specs.Entries.{number_at}
+use Rattle.nf_rational.specs.Signs.{is_zero}
+use Rattle.nf_linear.proofs.Changed.{cell_read, cells_below}
 use Rattle.nf_linear.proofs.table_cells.TableCellsCells.is_zero_at.Goals as goal
 
 pub returns : goal.returns
 returns g c =
-    flag_read (map g.S.Scalar.means c.self.inside.cells.items) c.args.self.now c.self.inside.some.items c.args.column c.index.result.now c.self.invariant c.self.view_is c.requires c.index.ensures
+    c.is_zero.ensures
+    ∙ ap is_zero
+    (cell_read g.S.Scalar.means c.self.inside.cells.items c.args.column c.index.result.now (cells_below g.S.Scalar.means c.self.inside.cells.items c.args.self.now c.args.column c.self.view_is c.requires) c.index.ensures
+    ∙ ap (λ (row : List ℚ). number_at row c.args.column) c.self.view_is)
