@@ -2,7 +2,7 @@
 ghost use Rattle.std.specs.Prelude.{◌≡◌, ◌^◌, ◌<◌, length, IfOk, MatchOption};
 ghost use Rattle.nf_model.specs.Pattern.{Pattern as SeenPattern, IsListed};
 ghost use Rattle.nf_graph.specs.Graph.{AreBelow};
-ghost use Rattle.nf_pattern.specs.Given.{Gives};
+ghost use Rattle.nf_pattern.specs.Given.{Enumerates};
 
 use nf_graph::{Hop, LinkSets, NodeId};
 use nf_pattern::{Pattern, Patterns, base};
@@ -10,7 +10,7 @@ use std::alloc::{AllocError, Global};
 
 // Returns a copy of the next listed pattern, or None if there is none.
 fn copy_next(alloc: Global, patterns: &mut Patterns) -> Result<Option<Pattern>, AllocError>
-    ensures { IfOk result (λ given. Gives patterns.old given patterns.new) }
+    ensures { IfOk result (λ given. Enumerates patterns.old given patterns.new) }
 {
     match patterns.next() {
         Some(pattern) => {

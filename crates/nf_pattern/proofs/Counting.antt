@@ -40,11 +40,11 @@ none_earliest base us n valid more = go (earliest base us n) refl
         let few = changes_few base us q is.0 in
         let c : changes base q ≡ n = is.1 in absurd (omega arith)
 
-pub else_other : (i : ℕ) (base : Pattern) (us : List Bool) (p : Pattern) (o : Option Pattern) → later i base us p ≡ None → earliest base us (suc (changes base p)) ≡ o → next_assignment i base us p ≡ o
-else_other i base us p o none e = ap (λ (x : Option Pattern). or_else x (earliest base us (suc (changes base p)))) none ∙ e
+pub else_other : (i : ℕ) (base : Pattern) (us zs : List Bool) (p : Pattern) (o : Option Pattern) → later i base us zs p ≡ None → earliest base us (suc (changes base p)) ≡ o → next_assignment i base us zs p ≡ o
+else_other i base us zs p o none e = ap (λ (x : Option Pattern). or_else x (earliest base us (suc (changes base p)))) none ∙ e
 
-pub else_first : (i : ℕ) (base : Pattern) (us : List Bool) (p q : Pattern) → later i base us p ≡ Some q → next_assignment i base us p ≡ Some q
-else_first i base us p q e = ap (λ (x : Option Pattern). or_else x (earliest base us (suc (changes base p)))) e
+pub else_first : (i : ℕ) (base : Pattern) (us zs : List Bool) (p q : Pattern) → later i base us zs p ≡ Some q → next_assignment i base us zs p ≡ Some q
+else_first i base us zs p q e = ap (λ (x : Option Pattern). or_else x (earliest base us (suc (changes base p)))) e
 
 pub few_changes : (base states : Pattern) (n : ℕ) → n ≡ changes base states → n ≤ length base
 few_changes base states n is = let f = changes_within base states in omega arith

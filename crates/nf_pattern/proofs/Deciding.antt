@@ -13,13 +13,14 @@ use Rattle.nf_thin_laws.proofs.Listings.{IsBefore-transitive, ordered_by_place}
 use Rattle.nf_graph.proofs.Walks.{IsHop-unique}
 use Rattle.nf_pattern.specs.Forest.{AreJoined, TightBefore, LeadsBack, Closes}
 use Rattle.nf_pattern.specs.Entered.{MayCarry, IsEntered, EntersBy}
-use Rattle.nf_pattern.specs.Successor.{IsAssignment, next_assignment}
+use Rattle.nf_pattern.specs.Successor.{IsAssignment, Spares, next_assignment}
 use Rattle.nf_pattern.specs.Given.{Question, IsQuestion, IsListedBy, IsFrom}
 use Rattle.nf_pattern.proofs.Trails.{Steps, numbers, start_of, end_of, find_step, differ_front, differ_back, trail_append, trail_split, trail_by, shorten}
 use Rattle.nf_pattern.proofs.Forests.{is_forest, no_forest, closing_below}
 use Rattle.nf_pattern.proofs.Barren.{listed_by}
-use Rattle.nf_pattern.proofs.Seeking.{valid, next_assigned, step_fewer, from_next, none_after, all_from_base}
-use Rattle.nf_pattern.proofs.InOrder.{next_is}
+use Rattle.nf_pattern.proofs.Choosing.{assigned_length}
+use Rattle.nf_pattern.proofs.Sparing.{unflagged, none_flagged}
+use Rattle.nf_pattern.proofs.Seeking.{valid, listed_assigned, advances_by, none_advances_by, step_fewer, from_next, none_after, all_from_base}
 use Rattle.nf_pattern.proofs.Ranging.{left_after}
 use Rattle.nf_pattern.specs.Front.{IsListingOf}
 use Rattle.nf_pattern.proofs.Fronts.{stands_cases}
@@ -252,34 +253,39 @@ module _ (question : Question) (is : IsQuestion question) where
     },
   )
 
-  none_rest : (p : Pattern) → IsAssignment base question.unbounded p → next_assignment (length base) base question.unbounded p ≡ None → IsRest p []
+  -- no link is flagged
+  spared : (r : Pattern) → IsListedBy question r → Spares (unflagged base) r
+  spared r listed = none_flagged base r (assigned_length base question.unbounded r (listed_assigned question is r listed))
+
+  none_rest : (p : Pattern) → IsAssignment base question.unbounded p → next_assignment (length base) base question.unbounded (unflagged base) p ≡ None → IsRest p []
   none_rest p assigned e = record {
     listed = λ r here. absurd (none-some r here.1);
     later = λ r here. absurd (none-some r here.1);
-    whole = λ r listed later. absurd (none_after question is p assigned (length base) (omega arith) e r listed later);
+    whole = λ r listed later. absurd (none_after question is p assigned (length base) (omega arith) (none_advances_by question is (unflagged base) spared (length base) p e) r listed later);
     ordered = λ i j x y less at_x at_y. absurd (none-some x at_x);
   }
 
-  more_rest : (p q : Pattern) (rest : List Pattern) → IsAssignment base question.unbounded p → next_assignment (length base) base question.unbounded p ≡ Some q → IsListingFrom q rest → IsRest p rest
+  more_rest : (p q : Pattern) (rest : List Pattern) → IsAssignment base question.unbounded p → next_assignment (length base) base question.unbounded (unflagged base) p ≡ Some q → IsListingFrom q rest → IsRest p rest
   more_rest p q rest assigned e is_listing =
-      let step = next_is (length base) base question.unbounded (valid question is) p q assigned e in
+      let step = advances_by question is (unflagged base) spared (length base) p q assigned e in
       record {
         listed = is_listing.listed;
-        later = λ r here. ⊎_elim (λ (same : r ≡ q). subst (λ (x : Pattern). IsBefore base p x) (sym same) step.1) (λ (w : IsBefore base q r). IsBefore-transitive base p q r step.1 w) (is_listing.from r here);
-        whole = λ r listed later. is_listing.whole r listed (from_next question is p assigned (length base) (omega arith) q e r listed later);
+        later = λ r here. ⊎_elim (λ (same : r ≡ q). subst (λ (x : Pattern). IsBefore base p x) (sym same) step.later) (λ (w : IsBefore base q r). IsBefore-transitive base p q r step.later w) (is_listing.from r here);
+        whole = λ r listed later. is_listing.whole r listed (from_next question is p assigned (length base) (omega arith) q step r listed later);
         ordered = is_listing.ordered;
       }
 
   list_from : (fuel : ℕ) (p : Pattern) → IsAssignment base question.unbounded p → left_after base p < fuel → (listing : List Pattern) × IsListingFrom p listing
   list_from zero p assigned left = absurd (omega arith)
-  list_from (suc fuel) p assigned left = go (next_assignment (length base) base question.unbounded p) refl (λ q h l. list_from fuel q h l)
+  list_from (suc fuel) p assigned left = go (next_assignment (length base) base question.unbounded (unflagged base) p) refl (λ q h l. list_from fuel q h l)
     where
-      go : (o : Option Pattern) → next_assignment (length base) base question.unbounded p ≡ o
+      go : (o : Option Pattern) → next_assignment (length base) base question.unbounded (unflagged base) p ≡ o
           → ((q : Pattern) → IsAssignment base question.unbounded q → left_after base q < fuel → (listing : List Pattern) × IsListingFrom q listing) → (listing : List Pattern) × IsListingFrom p listing
       go None e rec = with_first p [] (none_rest p assigned e) (decide_listed p assigned)
       go (Some q) e rec =
-          let fewer = step_fewer question is (length base) p q assigned e in
-          let rest = rec q (next_assigned question is (length base) p q assigned e) (omega arith) in
+          let step = advances_by question is (unflagged base) spared (length base) p q assigned e in
+          let fewer = step_fewer question is (length base) p q assigned step in
+          let rest = rec q step.assigned (omega arith) in
           with_first p rest.0 (more_rest p q rest.0 assigned e rest.1) (decide_listed p assigned)
 
   pub has_listing : (listing : List Pattern) × IsListingOf question listing

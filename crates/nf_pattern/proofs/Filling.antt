@@ -163,13 +163,13 @@ rest_filled base us n states i left more none filled = filled.said ∙ (ap (λ (
     ∙ ap (prefixed (take i states)) (earliest_same (drop i base) (drop i us) filled.valid))
 
 -- A link with its base state has no later state without a change.
-pub none_raised : (b : Option State) (u : Bool) (base : Pattern) (us : List Bool) (a : Option State) → change b a ≡ 0 → raised b u base us a 0 ≡ None
-none_raised b u base us a same = go (first_good (higher b a 0 (free base)) (choices b u)) refl
+pub none_raised : (b : Option State) (u z : Bool) (base : Pattern) (us : List Bool) (a : Option State) → change b a ≡ 0 → raised b u z base us a 0 ≡ None
+none_raised b u z base us a same = go (first_good (higher b z a 0 (free base)) (choices b u)) refl
   where
-    go : (o : Option (Option State)) → first_good (higher b a 0 (free base)) (choices b u) ≡ o → raised b u base us a 0 ≡ None
+    go : (o : Option (Option State)) → first_good (higher b z a 0 (free base)) (choices b u) ≡ o → raised b u z base us a 0 ≡ None
     go None e = ap (λ (o : Option (Option State)). with_rest o (λ s. earliest base us (0 - change b s))) e
     go (Some s) e =
-        let good = good_some (higher b a 0 (free base)) (choices b u) s e in
-        let high = higher_out b a s 0 (free base) good.1 in
+        let good = good_some (higher b z a 0 (free base)) (choices b u) s e in
+        let high = higher_out b z a s 0 (free base) good.1 in
         let fit = fits_out b s 0 (free base) high.1 in
         let l = high.0 in let here = unchanged b s fit.0 in let there = unchanged b a (omega arith) in absurd (omega arith)

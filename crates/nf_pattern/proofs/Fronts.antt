@@ -4,7 +4,7 @@ use Rattle.std.proofs.lemmas.Option.{none-some, same_Some, slice_get_within}
 use Rattle.nf_model.specs.Pattern.{Pattern, IsBefore}
 use Rattle.nf_thin_laws.proofs.Listings.{IsBefore-asymmetric, IsBefore-transitive, ordered_by_place}
 use Rattle.nf_thin_laws.proofs.Sorted.{StandsIn, InOrder}
-use Rattle.nf_pattern.specs.Given.{Question, IsListedBy, Given, AtStart, UpTo, IsNext, NoneLeft, Gives, next_place}
+use Rattle.nf_pattern.specs.Given.{Question, IsListedBy, Given, AtStart, UpTo, IsNext, NoneLeft, Enumerates, next_place}
 use Rattle.nf_pattern.specs.Front.{IsListingOf, AreGiven, GivenAreFronts}
 use Rattle.nf_pattern.proofs.Each.{entry_pushed}
 use Rattle.nf_pattern.proofs.Ranging.{before_or}
@@ -118,7 +118,7 @@ module _ (given : Given) (front : List Pattern) (are : AreGiven given front) whe
       place = ap next_place are.place ∙ (one_more (length front) (2 ^ 64 - 1) ∙ ap (λ (n : ℕ). min n (2 ^ 64 - 1)) (let l = length-append front (p ∷ []) in omega arith));
     }
 
-  pub given_more : (p : Pattern) (then : Given) → Gives given (Some p) then → AreGiven then (front ++ p ∷ [])
+  pub given_more : (p : Pattern) (then : Given) → Enumerates given (Some p) then → AreGiven then (front ++ p ∷ [])
   given_more p then gives = subst (λ (x : Given). AreGiven x (front ++ p ∷ [])) (sym gives.1) (given_one p gives.0)
 
   -- ---- all of them

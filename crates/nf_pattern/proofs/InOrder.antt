@@ -4,7 +4,7 @@ use Rattle.std.specs.Prelude.{Option, Some, None, if◌then◌else◌}
 use Rattle.nf_graph.proofs.Walks.{same_from_test}
 use Rattle.nf_model.specs.declared.State.{State}
 use Rattle.nf_model.specs.Pattern.{Pattern, rank, changes, IsEarlier, IsBefore}
-use Rattle.nf_pattern.specs.Successor.{IsAssignment, change, earliest, later, next_assignment}
+use Rattle.nf_pattern.specs.Successor.{IsAssignment, Spares, change, earliest, later, next_assignment}
 use Rattle.nf_pattern.proofs.Successors.{no_change, changes_first, changes_few, earliest_is, earliest_first, earliest_exists, else_given, else_none}
 use Rattle.nf_pattern.proofs.Later.{later_is, later_none, later_next}
 
@@ -31,41 +31,41 @@ base_first base r (inl less) = let z = no_changes base in omega arith
 base_first base r (inr k) = none_earlier base r (k.0 ∙ no_changes base) k.1
 
 -- ---- the next one
-module _ (i : ℕ) (base : Pattern) (us : List Bool) (valid : IsAssignment base us base) (p : Pattern) where
-  pub next_is : (q : Pattern) → IsAssignment base us p → next_assignment i base us p ≡ Some q → IsAssignment base us q × IsBefore base p q
+module _ (i : ℕ) (base : Pattern) (us zs : List Bool) (valid : IsAssignment base us base) (p : Pattern) where
+  pub next_is : (q : Pattern) → IsAssignment base us p → next_assignment i base us zs p ≡ Some q → IsAssignment base us q × IsBefore base p q
   next_is q h e = ⊎_elim
-      (λ (w : later i base us p ≡ Some q). let x = later_is i base us p q valid h w in (x.0, inr (sym x.1, x.2)))
-      (λ (w : (later i base us p ≡ None) × (earliest base us (suc (changes base p)) ≡ Some q)).
+      (λ (w : later i base us zs p ≡ Some q). let x = later_is i base us zs p q valid h w in (x.0, inr (sym x.1, x.2)))
+      (λ (w : (later i base us zs p ≡ None) × (earliest base us (suc (changes base p)) ≡ Some q)).
       let x = earliest_is base us (suc (changes base p)) q valid w.1 in (x.0, inl (let c : changes base q ≡ suc (changes base p) = x.1 in omega arith)))
-      (else_given (later i base us p) (earliest base us (suc (changes base p))) q e)
+      (else_given (later i base us zs p) (earliest base us (suc (changes base p))) q e)
 
-  pub next_none : (r : Pattern) → next_assignment i base us p ≡ None → IsAssignment base us r → IsBefore base p r → take i r ≡ take i p
-  next_none r e h (inl less) =
+  pub next_none : (r : Pattern) → next_assignment i base us zs p ≡ None → IsAssignment base us r → Spares zs r → IsBefore base p r → take i r ≡ take i p
+  next_none r e h sp (inl less) =
       let few = changes_few base us r h in
-      absurd (earliest_exists base us (suc (changes base p)) valid (omega arith) (else_none (later i base us p) (earliest base us (suc (changes base p))) e).1)
-  next_none r e h (inr k) = later_none i base us p r valid (else_none (later i base us p) (earliest base us (suc (changes base p))) e).0 h (sym k.0) k.1
+      absurd (earliest_exists base us (suc (changes base p)) valid (omega arith) (else_none (later i base us zs p) (earliest base us (suc (changes base p))) e).1)
+  next_none r e h sp (inr k) = later_none i base us zs p r valid (else_none (later i base us zs p) (earliest base us (suc (changes base p))) e).0 h sp (sym k.0) k.1
 
-  between_later : (q r : Pattern) → IsAssignment base us p → later i base us p ≡ Some q → IsAssignment base us r → IsBefore base p r → IsBefore base r q → take i r ≡ take i p
-  between_later q r a e h before after = go (later_is i base us p q valid a e).1 before after
+  between_later : (q r : Pattern) → IsAssignment base us p → later i base us zs p ≡ Some q → IsAssignment base us r → Spares zs r → IsBefore base p r → IsBefore base r q → take i r ≡ take i p
+  between_later q r a e h sp before after = go (later_is i base us zs p q valid a e).1 before after
     where
       go : changes base q ≡ changes base p → IsBefore base p r → IsBefore base r q → take i r ≡ take i p
       go c (inl less) (inl more) = absurd (omega arith)
       go c (inl less) (inr l) = let f = l.0 in absurd (omega arith)
       go c (inr k) (inl more) = let f = k.0 in absurd (omega arith)
-      go c (inr k) (inr l) = later_next i base us p q r valid e h (sym k.0) k.1 l.1
+      go c (inr k) (inr l) = later_next i base us zs p q r valid e h sp (sym k.0) k.1 l.1
 
-  between_more : (q r : Pattern) → later i base us p ≡ None → earliest base us (suc (changes base p)) ≡ Some q → IsAssignment base us r → IsBefore base p r → IsBefore base r q
+  between_more : (q r : Pattern) → later i base us zs p ≡ None → earliest base us (suc (changes base p)) ≡ Some q → IsAssignment base us r → Spares zs r → IsBefore base p r → IsBefore base r q
       → take i r ≡ take i p
-  between_more q r none e h before after = go (earliest_is base us (suc (changes base p)) q valid e).1 before after
+  between_more q r none e h sp before after = go (earliest_is base us (suc (changes base p)) q valid e).1 before after
     where
       go : changes base q ≡ suc (changes base p) → IsBefore base p r → IsBefore base r q → take i r ≡ take i p
       go c (inl less) (inl more) = absurd (omega arith)
       go c (inl less) (inr l) = absurd (earliest_first base us (suc (changes base p)) q r e h (l.0 ∙ c) l.1)
-      go c (inr k) after = later_none i base us p r valid none h (sym k.0) k.1
+      go c (inr k) after = later_none i base us zs p r valid none h sp (sym k.0) k.1
 
-  -- All assignments between them have the same states at the first links.
-  pub next_least : (q r : Pattern) → IsAssignment base us p → next_assignment i base us p ≡ Some q → IsAssignment base us r → IsBefore base p r → IsBefore base r q → take i r ≡ take i p
-  next_least q r a e h before after = ⊎_elim
-      (λ (w : later i base us p ≡ Some q). between_later q r a w h before after)
-      (λ (w : (later i base us p ≡ None) × (earliest base us (suc (changes base p)) ≡ Some q)). between_more q r w.0 w.1 h before after)
-      (else_given (later i base us p) (earliest base us (suc (changes base p))) q e)
+  -- All assignments between them in which no flagged link is Zero have the same states at the first links.
+  pub next_least : (q r : Pattern) → IsAssignment base us p → next_assignment i base us zs p ≡ Some q → IsAssignment base us r → Spares zs r → IsBefore base p r → IsBefore base r q → take i r ≡ take i p
+  next_least q r a e h sp before after = ⊎_elim
+      (λ (w : later i base us zs p ≡ Some q). between_later q r a w h sp before after)
+      (λ (w : (later i base us zs p ≡ None) × (earliest base us (suc (changes base p)) ≡ Some q)). between_more q r w.0 w.1 h sp before after)
+      (else_given (later i base us zs p) (earliest base us (suc (changes base p))) q e)

@@ -15,6 +15,7 @@ pub mod Wall
 pub mod Following
 pub mod Entries
 pub mod Choosing
+pub mod Sparing
 pub mod Barren
 pub mod Ranging
 pub mod Seeking

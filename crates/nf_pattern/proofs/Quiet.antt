@@ -87,9 +87,9 @@ free_few (None ∷ base) = let w = free_few base in omega arith
 free_few (Some b ∷ base) = let w = free_few base in omega arith
 
 -- No link of the unchanged suffix can be raised with as many changes.
-pub raised_up_to : (base : Pattern) (us : List Bool) (states after : Pattern) (quiet : Quiet) (same : ℕ) (found : Option Raised) → quiet.link ≤ same → length states ≡ length base → IsQuiet base quiet states
-    → MatchOption found ((later quiet.link base us states ≡ None) × (after ≡ states)) (λ raised. (later quiet.link base us states ≡ Some after) × IsSameBefore quiet.link raised.link states after × IsQuiet base raised.quiet after)
-    → MatchOption found ((later same base us states ≡ None) × (after ≡ states)) (λ raised. (later same base us states ≡ Some after) × IsSameBefore same raised.link states after × IsQuiet base raised.quiet after)
-raised_up_to base us states after quiet same None few count is h = (later_up_to base us states quiet.link same few count is.unchanged ∙ h.0, h.1)
-raised_up_to base us states after quiet same (Some raised) few count is h =
-    (later_up_to base us states quiet.link same few count is.unchanged ∙ h.0, (let l = h.1.0 in omega arith, h.1.1), h.2)
+pub raised_up_to : (base : Pattern) (us zs : List Bool) (states after : Pattern) (quiet : Quiet) (same : ℕ) (found : Option Raised) → quiet.link ≤ same → length states ≡ length base → IsQuiet base quiet states
+    → MatchOption found ((later quiet.link base us zs states ≡ None) × (after ≡ states)) (λ raised. (later quiet.link base us zs states ≡ Some after) × IsSameBefore quiet.link raised.link states after × IsQuiet base raised.quiet after)
+    → MatchOption found ((later same base us zs states ≡ None) × (after ≡ states)) (λ raised. (later same base us zs states ≡ Some after) × IsSameBefore same raised.link states after × IsQuiet base raised.quiet after)
+raised_up_to base us zs states after quiet same None few count is h = (later_up_to base us zs states quiet.link same few count is.unchanged ∙ h.0, h.1)
+raised_up_to base us zs states after quiet same (Some raised) few count is h =
+    (later_up_to base us zs states quiet.link same few count is.unchanged ∙ h.0, (let l = h.1.0 in omega arith, h.1.1), h.2)

@@ -3,7 +3,8 @@ use Rattle.std.proofs.Common.{◌≡◌, ℕ, ◌<◌, ◌≤◌, Bool, List, le
 use Rattle.std.specs.Prelude.{MatchBool, true, false}
 use Rattle.nf_model.specs.Pattern.{Pattern, IsBefore}
 use Rattle.nf_thin_laws.proofs.Listings.{IsBefore-asymmetric, IsBefore-transitive}
-use Rattle.nf_pattern.specs.Successor.{IsAssignment, next_assignment}
+use Rattle.nf_pattern.specs.Successor.{IsAssignment, Spares, next_assignment}
+use Rattle.nf_pattern.specs.Advancing.{Advances, NoneAdvances}
 use Rattle.nf_pattern.specs.Given.{Question, IsQuestion, IsListedBy, IsBarren, IsFrom, IsFirstFrom, NoneFrom, Last, AtStart, UpTo, IsNext, NoneLeft, Given, next_place}
 use Rattle.nf_pattern.specs.declared.question.Stand.{Stand}
 use Rattle.nf_pattern.specs.declared.question.Stand.TheVariants.{Start, Listed, End}
@@ -11,7 +12,9 @@ use Rattle.nf_pattern.specs.declared.assignments.Quiet.{Quiet}
 use Rattle.nf_pattern.specs.declared.trail.Trail.{Trail}
 use Rattle.nf_pattern.specs.Trail.{IsTrailOf}
 use Rattle.nf_pattern.specs.Stands.{IsStanding, last_of}
+use Rattle.nf_pattern.specs.Sole.{AreSpared}
 use Rattle.nf_pattern.proofs.Choosing.{assigned_length, assignment_of}
+use Rattle.nf_pattern.proofs.Sparing.{spared_by}
 use Rattle.nf_pattern.proofs.Successors.{changes_few}
 use Rattle.nf_pattern.proofs.InOrder.{base_first, next_is, next_none, next_least}
 use Rattle.nf_pattern.proofs.Quiet.{quiet_end}
@@ -77,22 +80,35 @@ module _ (question : Question) (is : IsQuestion question) where
           (λ (after : IsBefore base p r). barren r listed (same after)) w)
           (before_or base r p (same_length p r sought.assigned (listed_assigned r listed)))
 
-      pub sought_more : (q : Pattern) → next_assignment n base us p ≡ Some q → IsSought question start q
-      sought_more q e =
-          let step = next_is n base us valid p q sought.assigned e in
-          record {
-            assigned = step.0;
-            after = inr (⊎_elim (λ (same : p ≡ start). subst (λ (x : Pattern). IsBefore base x q) same step.1) (λ (w : IsBefore base start p). IsBefore-transitive base start p q w step.1) sought.after);
-            first = λ r listed from before. later r listed from (λ after. next_least n base us valid p q r sought.assigned e (listed_assigned r listed) after before);
-          }
+      pub sought_more : (q : Pattern) → Advances question n p q → IsSought question start q
+      sought_more q step = record {
+        assigned = step.assigned;
+        after = inr (⊎_elim (λ (same : p ≡ start). subst (λ (x : Pattern). IsBefore base x q) same step.later) (λ (w : IsBefore base start p). IsBefore-transitive base start p q w step.later) sought.after);
+        first = λ r listed from before. later r listed from (λ after. step.between r listed after before);
+      }
 
-      pub sought_none : next_assignment n base us p ≡ None → NoneFrom question start
-      sought_none e r listed from = later r listed from (λ after. next_none n base us valid p r e (listed_assigned r listed) after)
+      pub sought_none : NoneAdvances question n p → NoneFrom question start
+      sought_none none r listed from = later r listed from (λ after. none r listed after)
 
-  pub step_fewer : (n : ℕ) (p q : Pattern) → IsAssignment base us p → next_assignment n base us p ≡ Some q → left_after base q < left_after base p
-  step_fewer n p q h e =
-      let step = next_is n base us valid p q h e in
-      fewer_left base p q (sym (same_length p q h step.0)) (changes_few base us q step.0) step.1
+  pub step_fewer : (n : ℕ) (p q : Pattern) → IsAssignment base us p → Advances question n p q → left_after base q < left_after base p
+  step_fewer n p q h step = fewer_left base p q (sym (same_length p q h step.assigned)) (changes_few base us q step.assigned) step.later
+
+  -- ---- by the next assignment with no flagged link raised to Zero
+  pub spares_all : (sole : List Bool) → AreSpared question sole → (r : Pattern) → IsListedBy question r → Spares sole r
+  spares_all sole are r listed = spared_by sole r (are.count ∙ sym (assigned_length base us r (listed_assigned r listed))) (λ e has zero. are.never r listed e has zero)
+
+  module _ (zs : List Bool) (spares : (r : Pattern) → IsListedBy question r → Spares zs r) (n : ℕ) (p : Pattern) where
+    pub advances_by : (q : Pattern) → IsAssignment base us p → next_assignment n base us zs p ≡ Some q → Advances question n p q
+    advances_by q h e =
+        let step = next_is n base us zs valid p q h e in
+        record {
+          assigned = step.0;
+          later = step.1;
+          between = λ r listed after before. next_least n base us zs valid p q r h e (listed_assigned r listed) (spares r listed) after before;
+        }
+
+    pub none_advances_by : next_assignment n base us zs p ≡ None → NoneAdvances question n p
+    none_advances_by e r listed after = next_none n base us zs valid p r e (listed_assigned r listed) (spares r listed) after
 
   -- ---- after the enumerated patterns
   pub all_from_base : (r : Pattern) → IsListedBy question r → IsFrom base base r
@@ -113,28 +129,24 @@ module _ (question : Question) (is : IsQuestion question) where
         let a = assigned_length base us r k in let b = assigned_length base us l h in
         sym (take_all n r (omega arith)) ∙ (same ∙ take_all n l (omega arith))
 
-    pub none_after : next_assignment n base us l ≡ None → NoneLeft question (UpTo l)
-    none_after e r listed later =
-        let k = listed_assigned r listed in
-        itself l r (same_all r k (next_none n base us valid l r e k later)) later
+    pub none_after : NoneAdvances question n l → NoneLeft question (UpTo l)
+    none_after none r listed later = itself l r (same_all r (listed_assigned r listed) (none r listed later)) later
 
-    module _ (q : Pattern) (e : next_assignment n base us l ≡ Some q) where
+    module _ (q : Pattern) (step : Advances question n l q) where
       pub from_next : (r : Pattern) → IsListedBy question r → IsBefore base l r → IsFrom base q r
       from_next r listed later =
           let k = listed_assigned r listed in
           ⊎_elim
-          (λ (before : IsBefore base r q). absurd (itself l r (same_all r k (next_least n base us valid l q r h e k later before)) later))
+          (λ (before : IsBefore base r q). absurd (itself l r (same_all r k (step.between r listed later before)) later))
           (λ (w : (r ≡ q) ⊎ IsBefore base q r). w)
-          (before_or base r q (same_length q r (next_is n base us valid l q h e).0 k))
+          (before_or base r q (same_length q r step.assigned k))
 
       pub next_after : (p : Pattern) → IsFirstFrom question q p → IsNext question (UpTo l) p
-      next_after p f =
-          let step = next_is n base us valid l q h e in
-          record {
-            listed = f.listed;
-            later = ⊎_elim (λ (same : p ≡ q). subst (λ (x : Pattern). IsBefore base l x) (sym same) step.1) (λ (w : IsBefore base q p). IsBefore-transitive base l q p step.1 w) f.after;
-            least = λ r listed later before. f.first r listed (from_next r listed later) before;
-          }
+      next_after p f = record {
+        listed = f.listed;
+        later = ⊎_elim (λ (same : p ≡ q). subst (λ (x : Pattern). IsBefore base l x) (sym same) step.later) (λ (w : IsBefore base q p). IsBefore-transitive base l q p step.later w) f.after;
+        least = λ r listed later before. f.first r listed (from_next r listed later) before;
+      }
 
       pub none_left_after : NoneFrom question q → NoneLeft question (UpTo l)
       none_left_after none r listed later = none r listed (from_next r listed later)
@@ -144,13 +156,10 @@ module _ (question : Question) (is : IsQuestion question) where
   match_start start same p true f = next_at_start p (subst (λ (x : Pattern). IsFirstFrom question x p) same f)
   match_start start same p false none = none_at_start (subst (λ (x : Pattern). NoneFrom question x) same none)
 
-  pub next_assigned : (n : ℕ) (l q : Pattern) → IsAssignment base us l → next_assignment n base us l ≡ Some q → IsAssignment base us q
-  next_assigned n l q h e = (next_is n base us valid l q h e).0
-
-  pub match_after : (l q p : Pattern) (n : ℕ) (found : Bool) → IsAssignment base us l → length base ≤ n → next_assignment n base us l ≡ Some q → MatchBool found (IsFirstFrom question q p) (NoneFrom question q)
+  pub match_after : (l q p : Pattern) (n : ℕ) (found : Bool) → IsAssignment base us l → length base ≤ n → Advances question n l q → MatchBool found (IsFirstFrom question q p) (NoneFrom question q)
       → MatchBool found (IsNext question (UpTo l) p) (NoneLeft question (UpTo l))
-  match_after l q p n true h whole e f = next_after l h n whole q e p f
-  match_after l q p n false h whole e none = none_left_after l h n whole q e none
+  match_after l q p n true h whole step f = next_after l h n whole q step p f
+  match_after l q p n false h whole step none = none_left_after l h n whole q step none
 
 -- ---- where a listing begins
 pub standing_start : (question seen : Question) (current : Pattern) (trail : Trail) (quiet : Quiet) → question ≡ seen → IsQuestion seen → current ≡ seen.base → IsTrailOf question question.base trail

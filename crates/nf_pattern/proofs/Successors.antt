@@ -7,7 +7,7 @@ use Rattle.nf_graph.proofs.Walks.{same_from_test, apart_from_test}
 use Rattle.nf_model.specs.declared.State.{State}
 use Rattle.nf_model.specs.declared.State.TheVariants.{Tight, Full, Zero}
 use Rattle.nf_model.specs.Pattern.{Pattern, rank, changes, IsEarlier}
-use Rattle.nf_pattern.specs.Successor.{choices, IsIn, IsAssignment, free, change, fits, first_good, before_all, with_rest, earliest, or_else}
+use Rattle.nf_pattern.specs.Successor.{choices, IsIn, IsAssignment, free, change, fits, first_good, before_all, with_rest, earliest, or_else, may_raise}
 use Rattle.std.proofs.lemmas.Bool.{and_parts}
 
 -- ---- choices
@@ -254,11 +254,17 @@ pub before_none : (a : Option State) (o : Option Pattern) → before_all a o ≡
 before_none a None e = refl
 before_none a (Some states) e = absurd (cc)
 
-abbrev pub higher : Option State → Option State → ℕ → ℕ → Option State → Bool
-higher b a n more s = nat_lt (rank a) (rank s) && fits b n more s
+-- A state to which the link may be raised, that is later and fits.
+abbrev pub higher : Option State → Bool → Option State → ℕ → ℕ → Option State → Bool
+higher b z a n more s = may_raise z s && (nat_lt (rank a) (rank s) && fits b n more s)
 
-pub higher_in : (b a s : Option State) (n more : ℕ) → rank a < rank s → fits b n more s ≡ true → higher b a n more s ≡ true
-higher_in b a s n more h k = grind arith
+pub higher_in : (b : Option State) (z : Bool) (a s : Option State) (n more : ℕ) → may_raise z s ≡ true → rank a < rank s → fits b n more s ≡ true → higher b z a n more s ≡ true
+higher_in b z a s n more may h k = ap (λ (t : Bool). t && (nat_lt (rank a) (rank s) && fits b n more s)) may ∙ later_in h k
+  where
+    later_in : rank a < rank s → fits b n more s ≡ true → (nat_lt (rank a) (rank s) && fits b n more s) ≡ true
+    later_in h k = grind arith
 
-pub higher_out : (b a s : Option State) (n more : ℕ) → higher b a n more s ≡ true → (rank a < rank s) × (fits b n more s ≡ true)
-higher_out b a s n more e = let t = and_parts (nat_lt (rank a) (rank s)) (fits b n more s) e in (let l = t.0 in grind arith, t.1)
+pub higher_out : (b : Option State) (z : Bool) (a s : Option State) (n more : ℕ) → higher b z a n more s ≡ true → (rank a < rank s) × (fits b n more s ≡ true)
+higher_out b z a s n more e =
+    let all = and_parts (may_raise z s) (nat_lt (rank a) (rank s) && fits b n more s) e in
+    let t = and_parts (nat_lt (rank a) (rank s)) (fits b n more s) all.1 in (let l = t.0 in grind arith, t.1)

@@ -2,7 +2,7 @@
 use Rattle.std.specs.Prelude.{◌≡◌, ℕ, ◌-◌, ◌^◌, ◌<◌, min, List, [], ◌∷◌, ◌++◌, length, Some, None, slice_get}
 use Rattle.nf_model.specs.Pattern.{Pattern, IsBefore}
 use Rattle.nf_thin_def.specs.Listing.{IsListing}
-use Rattle.nf_pattern.specs.Given.{Question, IsQuestion, IsListedBy, Given, AtStart, IsLater, Gives}
+use Rattle.nf_pattern.specs.Given.{Question, IsQuestion, IsListedBy, Given, AtStart, IsLater, Enumerates}
 
 abbrev pub IsListingOf : Question → List Pattern → Type 0
 IsListingOf question listing = IsListing question.nodes question.source question.hops question.sets question.unbounded question.base listing
@@ -27,8 +27,8 @@ pub record AreGiven (given : Given) (front : List Pattern) : Type 0 where
 -- left, they are the listing.
 pub record GivenAreFronts : Type 0 where
   pub start : (question : Question) → AreGiven (record { question = question; last = AtStart; place = 0 }) []
-  pub more : (given after : Given) (front : List Pattern) (p : Pattern) → AreGiven given front → Gives given (Some p) after
+  pub more : (given after : Given) (front : List Pattern) (p : Pattern) → AreGiven given front → Enumerates given (Some p) after
       → AreGiven after (front ++ p ∷ [])
-  pub end : (given after : Given) (front : List Pattern) → AreGiven given front → Gives given None after → IsListingOf given.question front
+  pub end : (given after : Given) (front : List Pattern) → AreGiven given front → Enumerates given None after → IsListingOf given.question front
   pub front : (given : Given) (front listing : List Pattern) → AreGiven given front → IsListingOf given.question listing
       → (i : ℕ) (p : Pattern) → slice_get front i ≡ Some p → slice_get listing i ≡ Some p

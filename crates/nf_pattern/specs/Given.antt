@@ -80,10 +80,10 @@ abbrev pub next_place : ℕ → ℕ
 next_place place = min (place + 1) (2 ^ 64 - 1)
 
 -- One more pattern is enumerated, or none exactly if none is left.
-abbrev pub Gives : Given → Option Pattern → Given → Type 0
-Gives given None after = NoneLeft given.question given.last
+abbrev pub Enumerates : Given → Option Pattern → Given → Type 0
+Enumerates given None after = NoneLeft given.question given.last
     × (after ≡ record { question = given.question; last = AtEnd; place = given.place })
-Gives given (Some p) after = IsNext given.question given.last p
+Enumerates given (Some p) after = IsNext given.question given.last p
     × (after ≡ record { question = given.question; last = UpTo p; place = next_place given.place })
 
 -- ---- codes of these values

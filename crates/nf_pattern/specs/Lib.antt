@@ -7,7 +7,9 @@ pub mod Given
 pub mod Trail
 pub mod Stands
 pub mod Front
-pub mod Giving
+pub mod Enumerating
 pub mod Firm
 pub mod Stated
 pub mod Ordered
+pub mod Advancing
+pub mod Sole

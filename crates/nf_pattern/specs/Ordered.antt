@@ -5,9 +5,10 @@ use Rattle.nf_pattern.specs.Successor.{IsAssignment}
 use Rattle.nf_pattern.specs.Stated.{AreStated}
 use Rattle.nf_pattern.specs.declared.assignments.Order.{Order}
 
--- The base is an assignment of states to itself, each of its links has a flag, and the index is that of the base.
+-- The base is an assignment of states to itself, each of its links has a flag of each kind, and the index is that of the base.
 pub record IsOrdered (order : Order) : Type 0 where
   pub unbounded : length order.unbounded.now ≡ length order.base.now
+  pub sole : length order.sole.now ≡ length order.base.now
   pub fewer : length order.base.now < 2 ^ 32
   pub valid : IsAssignment order.base.now order.unbounded.now order.base.now
   pub stated : AreStated order.base.now order.stated.now

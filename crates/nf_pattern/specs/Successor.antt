@@ -58,21 +58,34 @@ abbrev pub or_else : Option Pattern → Option Pattern → Option Pattern
 or_else None other = other
 or_else (Some states) other = Some states
 
--- The earliest assignment with n changes whose first link has a later state than a.
-abbrev pub raised : Option State → Bool → Pattern → List Bool → Option State → ℕ → Option Pattern
-raised b u base unbounded a n =
-    with_rest (first_good (λ s. nat_lt (rank a) (rank s) && fits b n (free base) s) (choices b u))
+-- A flagged link is not raised to Zero.
+abbrev pub may_raise : Bool → Option State → Bool
+may_raise sole None = true
+may_raise sole (Some Tight) = true
+may_raise sole (Some Full) = true
+may_raise sole (Some Zero) = if sole then false else true
+
+-- The flags are as many as the states, and no flagged link is Zero.
+abbrev pub Spares : List Bool → Pattern → Type 0
+Spares [] [] = Unit {0}
+Spares (z ∷ sole) (s ∷ states) = (may_raise z s ≡ true) × Spares sole states
+Spares sole states = ⊥
+
+-- The earliest assignment with n changes whose first link has a later state than a, to which it may be raised.
+abbrev pub raised : Option State → Bool → Bool → Pattern → List Bool → Option State → ℕ → Option Pattern
+raised b u z base unbounded a n =
+    with_rest (first_good (λ s. may_raise z s && (nat_lt (rank a) (rank s) && fits b n (free base) s)) (choices b u))
     (λ s. earliest base unbounded (n - change b s))
 
 -- The same at link e of a list: the new states from link e on, with n changes there.
-abbrev pub raised_at : Pattern → List Bool → Pattern → ℕ → ℕ → Option Pattern
-raised_at base unbounded states e n = raised (get_or base e None) (get_or unbounded e false) (drop (suc e) base) (drop (suc e) unbounded)
-    (get_or states e None) n
+abbrev pub raised_at : Pattern → List Bool → List Bool → Pattern → ℕ → ℕ → Option Pattern
+raised_at base unbounded sole states e n = raised (get_or base e None) (get_or unbounded e false) (get_or sole e false)
+    (drop (suc e) base) (drop (suc e) unbounded) (get_or states e None) n
 
 -- Link e of the states is raised, and the links before it keep theirs.
-pub record RaisesAt (base : Pattern) (unbounded : List Bool) (states : Pattern) (e n : ℕ) (after : Pattern) : Type 0 where
+pub record RaisesAt (base : Pattern) (unbounded sole : List Bool) (states : Pattern) (e n : ℕ) (after : Pattern) : Type 0 where
   pub rest : Pattern
-  pub is_raised : raised_at base unbounded states e n ≡ Some rest
+  pub is_raised : raised_at base unbounded sole states e n ≡ Some rest
   pub stays : after ≡ take e states ++ rest
 
 -- The first e links have the same states in both, where e is 0 or less than `same`.
@@ -85,12 +98,13 @@ pub record IsQuiet (base : Pattern) (quiet : Quiet) (states : Pattern) : Type 0 
   pub unchanged : changes (drop quiet.link base) (drop quiet.link states) ≡ 0
   pub free_is : quiet.free ≡ free (drop quiet.link base)
 
--- The next assignment with equally many changes that differs at one of the first i links.
-abbrev pub later : ℕ → Pattern → List Bool → Pattern → Option Pattern
-later (suc i) (b ∷ base) (u ∷ unbounded) (a ∷ states) =
-    or_else (before_all a (later i base unbounded states)) (raised b u base unbounded a (changes (b ∷ base) (a ∷ states)))
-later i base unbounded states = None
+-- The next assignment with equally many changes that differs at one of the first i links, with no flagged link raised to Zero.
+abbrev pub later : ℕ → Pattern → List Bool → List Bool → Pattern → Option Pattern
+later (suc i) (b ∷ base) (u ∷ unbounded) (z ∷ sole) (a ∷ states) =
+    or_else (before_all a (later i base unbounded sole states)) (raised b u z base unbounded a (changes (b ∷ base) (a ∷ states)))
+later i base unbounded sole states = None
 
--- The next assignment with equally many changes that differs at one of the first i links, or else the earliest with one change more.
-abbrev pub next_assignment : ℕ → Pattern → List Bool → Pattern → Option Pattern
-next_assignment i base unbounded states = or_else (later i base unbounded states) (earliest base unbounded (suc (changes base states)))
+-- The next such assignment with equally many changes, or else the earliest with one change more.
+abbrev pub next_assignment : ℕ → Pattern → List Bool → List Bool → Pattern → Option Pattern
+next_assignment i base unbounded sole states =
+    or_else (later i base unbounded sole states) (earliest base unbounded (suc (changes base states)))

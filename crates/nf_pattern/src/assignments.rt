@@ -1,7 +1,7 @@
 // Assignments of states to links, ordered by the number of links that differ from a base, and then link by link.
-ghost use Rattle.std.specs.Prelude.{◌≡◌, ◌^◌, ◌<◌, ◌≤◌, ◌++◌, suc, length, take, drop, Some, None, MatchOption};
+ghost use Rattle.std.specs.Prelude.{◌≡◌, ◌^◌, ◌<◌, ◌≤◌, ◌++◌, length, take, drop, Some};
 ghost use Rattle.nf_model.specs.Pattern.{changes as changes_of};
-ghost use Rattle.nf_pattern.specs.Successor.{IsAssignment, free, earliest, raised_at, RaisesAt, IsQuiet};
+ghost use Rattle.nf_pattern.specs.Successor.{IsAssignment, free, earliest, IsQuiet};
 
 use crate::choice::{change, first_choice, next_choice};
 use crate::stated::StatedLinks;
@@ -73,49 +73,6 @@ fn fill(
     }
 }
 
-// Gives `link` its next state for which exactly `changes` links from `link` on can differ from the base. Sets the links after it to the
-// earliest such states, and returns the unchanged suffix. Returns `None`, and changes nothing, if there is no such state. `more` of the
-// links after `link` may differ from the base.
-fn raise_at(
-    states: &mut [Option<State>],
-    base: &[Option<State>],
-    unbounded: &[bool],
-    link: usize,
-    changes: u32,
-    more: u32,
-) -> Option<Quiet>
-    requires link { link < length base.now }
-    requires states { length states.old ≡ length base.now }
-    requires unbounded { length unbounded.now ≡ length base.now }
-    requires valid { IsAssignment base.now unbounded.now base.now }
-    requires free { more ≡ free (drop (suc link) base.now) }
-    ensures { MatchOption result ((raised_at base.now unbounded.now states.old link changes ≡ None)
-        × (states.new ≡ states.old))
-        (λ quiet. RaisesAt base.now unbounded.now states.old link changes states.new
-        × IsQuiet base.now quiet states.new) }
-{
-    let first = base[link];
-    match next_choice(first, unbounded[link], states[link], changes, more) {
-        None => None,
-        Some(state) => {
-            states[link] = state;
-            let left = changes - change(first, state);
-            let after = link + 1;
-            let quiet = fill(
-                &mut states[after..],
-                &base[after..],
-                &unbounded[after..],
-                left,
-                more,
-            );
-            Some(Quiet {
-                link: after + quiet.link,
-                free: quiet.free,
-            })
-        }
-    }
-}
-
 // Returns how many links differ from the base.
 fn count_changes(base: &[Option<State>], states: &[Option<State>]) -> u32
     requires states { length states.now ≡ length base.now }
@@ -144,19 +101,69 @@ fn count_free(base: &[Option<State>]) -> u32
 }
 
 // A borrowed view of what the order of assignments depends on: the base, with a flag for each link that is unbounded, and the index of the
-// links that have a state in the base.
+// links that have a state in the base. No link flagged in `sole` is raised to Zero.
 #[derive(Clone, Copy)]
 pub(crate) struct Order<'a> {
     pub(crate) base: &'a [Option<State>],
     pub(crate) unbounded: &'a [bool],
+    pub(crate) sole: &'a [bool],
     pub(crate) stated: &'a StatedLinks,
 }
 
 impl<'a> Order<'a> {
-    ghost use Rattle.std.specs.Prelude.{◌≡◌, drop, Some, None, MatchOption};
+    ghost use Rattle.std.specs.Prelude.{◌≡◌, ◌<◌, suc, length, drop, Some, None, MatchOption};
     ghost use Rattle.nf_model.specs.Pattern.{changes as changes_of};
-    ghost use Rattle.nf_pattern.specs.Successor.{free, later, next_assignment, IsSameBefore, IsQuiet};
-    ghost use Rattle.nf_pattern.specs.Ordered.{MayRaise};
+    ghost use Rattle.nf_pattern.specs.Successor.{free, raised_at, RaisesAt, later, next_assignment, IsSameBefore, IsQuiet};
+    ghost use Rattle.nf_pattern.specs.Ordered.{IsOrdered, MayRaise};
+
+    // Gives `link` its next state to which it may be raised, such that exactly `changes` links from `link` on can differ from the base. Sets the
+    // links after it to the earliest such states, and returns the unchanged suffix. Returns `None`, and changes nothing, if there is no such
+    // state. `more` of the links after `link` may differ from the base.
+    fn raise_at(
+        &self,
+        states: &mut [Option<State>],
+        link: usize,
+        changes: u32,
+        more: u32,
+    ) -> Option<Quiet>
+        requires link { link < length self.now.base.now }
+        requires states { length states.old ≡ length self.now.base.now }
+        requires order { IsOrdered self.now }
+        requires free { more ≡ free (drop (suc link) self.now.base.now) }
+        ensures { MatchOption result ((raised_at self.now.base.now self.now.unbounded.now
+            self.now.sole.now states.old link changes ≡ None) × (states.new ≡ states.old))
+            (λ quiet. RaisesAt self.now.base.now self.now.unbounded.now self.now.sole.now
+            states.old link changes states.new × IsQuiet self.now.base.now quiet states.new) }
+    {
+        let first = self.base[link];
+        let unbounded = self.unbounded[link];
+        match next_choice(
+            first,
+            unbounded,
+            self.sole[link],
+            states[link],
+            changes,
+            more,
+        ) {
+            None => None,
+            Some(state) => {
+                states[link] = state;
+                let left = changes - change(first, state);
+                let after = link + 1;
+                let quiet = fill(
+                    &mut states[after..],
+                    &self.base[after..],
+                    &self.unbounded[after..],
+                    left,
+                    more,
+                );
+                Some(Quiet {
+                    link: after + quiet.link,
+                    free: quiet.free,
+                })
+            }
+        }
+    }
 
     // Sets `states` to the next assignment with equally many changes that differs at one of the first `same` links. Returns `None`, and
     // changes nothing, if there is none. From `same` on, `changes` links differ from the base and `more` may differ.
@@ -172,9 +179,9 @@ impl<'a> Order<'a> {
             ≡ changes_of (drop same self.now.base.now) (drop same states.old) }
         requires free { more ≡ free (drop same self.now.base.now) }
         ensures { MatchOption result ((later same self.now.base.now self.now.unbounded.now
-            states.old ≡ None) × (states.new ≡ states.old))
-            (λ raised.
-            (later same self.now.base.now self.now.unbounded.now states.old ≡ Some states.new)
+            self.now.sole.now states.old ≡ None) × (states.new ≡ states.old))
+            (λ raised. (later same self.now.base.now self.now.unbounded.now self.now.sole.now
+            states.old ≡ Some states.new)
             × IsSameBefore same raised.link states.old states.new
             × IsQuiet self.now.base.now raised.quiet states.new) }
     {
@@ -184,7 +191,7 @@ impl<'a> Order<'a> {
         while i > 0 {
             i = self.stated.up_to(i - 1);
             changes += change(self.base[i], states[i]);
-            if let Some(quiet) = raise_at(states, self.base, self.unbounded, i, changes, more) {
+            if let Some(quiet) = self.raise_at(states, i, changes, more) {
                 return Some(Raised { link: i, quiet });
             }
             more += change(None, self.base[i]);
@@ -198,9 +205,9 @@ impl<'a> Order<'a> {
         requires may { MayRaise self.now same states.old }
         requires quiet { IsQuiet self.now.base.now quiet states.old }
         ensures { MatchOption result ((later same self.now.base.now self.now.unbounded.now
-            states.old ≡ None) × (states.new ≡ states.old))
-            (λ raised.
-            (later same self.now.base.now self.now.unbounded.now states.old ≡ Some states.new)
+            self.now.sole.now states.old ≡ None) × (states.new ≡ states.old))
+            (λ raised. (later same self.now.base.now self.now.unbounded.now self.now.sole.now
+            states.old ≡ Some states.new)
             × IsSameBefore same raised.link states.old states.new
             × IsQuiet self.now.base.now raised.quiet states.new) }
     {
@@ -224,10 +231,10 @@ impl<'a> Order<'a> {
         requires may { MayRaise self.now same states.old }
         requires quiet { IsQuiet self.now.base.now quiet states.old }
         ensures { MatchOption result
-            ((next_assignment same self.now.base.now self.now.unbounded.now states.old ≡ None)
-            × (states.new ≡ states.old))
-            (λ raised. (next_assignment same self.now.base.now self.now.unbounded.now states.old
-            ≡ Some states.new)
+            ((next_assignment same self.now.base.now self.now.unbounded.now self.now.sole.now
+            states.old ≡ None) × (states.new ≡ states.old))
+            (λ raised. (next_assignment same self.now.base.now self.now.unbounded.now
+            self.now.sole.now states.old ≡ Some states.new)
             × IsSameBefore same raised.link states.old states.new
             × IsQuiet self.now.base.now raised.quiet states.new) }
     {

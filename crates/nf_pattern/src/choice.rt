@@ -1,7 +1,7 @@
 // The choice of one link's state.
 ghost use Rattle.std.specs.Prelude.{◌≡◌, ◌≤◌, ◌&&◌, nat_lt};
 ghost use Rattle.nf_model.specs.Pattern.{rank as rank_of};
-ghost use Rattle.nf_pattern.specs.Successor.{change as change_of, fits as is_fit, choices, first_good};
+ghost use Rattle.nf_pattern.specs.Successor.{change as change_of, fits as is_fit, choices, first_good, may_raise};
 
 use nf_model::State;
 
@@ -74,16 +74,17 @@ fn fits_after(
     rank(now) < rank(state) && fits(base, changes, more, state)
 }
 
-// Returns the link's first choice that comes after its present state and fits.
+// Returns the link's first choice that comes after its present state, is not barred and fits. Zero is barred if `sole`.
 pub(crate) fn next_choice(
     base: Option<State>,
     unbounded: bool,
+    sole: bool,
     now: Option<State>,
     changes: u32,
     more: u32,
 ) -> Option<Option<State>>
-    ensures { result ≡ first_good (λ s. nat_lt (rank_of now) (rank_of s)
-        && is_fit base changes more s) (choices base unbounded) }
+    ensures { result ≡ first_good (λ s. may_raise sole s && (nat_lt (rank_of now) (rank_of s)
+        && is_fit base changes more s)) (choices base unbounded) }
 {
     if base.is_none() {
         return if fits_after(base, now, changes, more, None) {
@@ -98,7 +99,7 @@ pub(crate) fn next_choice(
     if !unbounded && fits_after(base, now, changes, more, Some(State::Full)) {
         return Some(Some(State::Full));
     }
-    if fits_after(base, now, changes, more, Some(State::Zero)) {
+    if !sole && fits_after(base, now, changes, more, Some(State::Zero)) {
         return Some(Some(State::Zero));
     }
     None

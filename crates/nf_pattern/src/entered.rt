@@ -110,7 +110,7 @@ fn can_carry(base: &[Option<State>], resetting: &[bool], link: usize) -> bool
 }
 
 // Sets `ends` at the link's head to `link + 1` if the link is resetting or has a state in the base.
-fn note_end(
+pub(crate) fn note_end(
     hops: &[Hop],
     base: &[Option<State>],
     resetting: &[bool],
@@ -153,7 +153,7 @@ pub(crate) fn ends(
 }
 
 // Returns whether the node is not the source and no link can enter it.
-fn is_lost_at(ends: &[usize], source: NodeId, node: usize) -> bool
+pub(crate) fn is_lost_at(ends: &[usize], source: NodeId, node: usize) -> bool
     requires node { node < length ends.now }
     requires fewer { length ends.now < 2 ^ 32 }
     ensures { MatchBool result ((node ≢ source) × (slice_get ends.now node ≡ Some 0))

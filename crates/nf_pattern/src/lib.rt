@@ -12,6 +12,7 @@ mod laws;
 mod pattern;
 mod patterns;
 mod question;
+mod sole;
 mod stated;
 mod trail;
 mod walking;

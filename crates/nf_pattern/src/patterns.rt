@@ -39,8 +39,8 @@ impl Patterns {
     ghost use Rattle.std.specs.Borrow.{sem};
     ghost use Rattle.nf_model.specs.Pattern.{Pattern as SeenPattern, IsPattern};
     ghost use Rattle.nf_graph.specs.Graph.{AreBelow};
-    ghost use Rattle.nf_pattern.specs.Given.{AtStart, Gives};
-    ghost use Rattle.nf_pattern.specs.Giving.{GivesNext};
+    ghost use Rattle.nf_pattern.specs.Given.{AtStart, Enumerates};
+    ghost use Rattle.nf_pattern.specs.Enumerating.{EnumeratesNext};
 
     /// Returns an enumeration that begins before the first listed pattern. Fails if an allocation fails. The base must have a state for
     /// exactly the active links that are not resetting, and Full for no unbounded link. `sets` and `unbounded` must have one flag for each
@@ -98,7 +98,7 @@ impl Patterns {
     // Advances to the next listed pattern. Returns whether there is one.
     fn step(&mut self) -> bool
         ensures { MatchBool result ((pattern : SeenPattern)
-            × Gives self.old (Some pattern) self.new) (Gives self.old None self.new) }
+            × Enumerates self.old (Some pattern) self.new) (Enumerates self.old None self.new) }
     {
         let current = &mut self.current;
         if self.question.find(
@@ -117,7 +117,7 @@ impl Patterns {
 
     /// Returns the least listed pattern after those returned before, or `None` exactly if there is none. Does not allocate.
     pub fn next(&mut self) -> Option<&Pattern>
-        ensures* { sem 𝓛 (GivesNext self.entry (option_copied result)) }
+        ensures* { sem 𝓛 (EnumeratesNext self.entry (option_copied result)) }
     {
         if self.step() {
             Some(&self.current)

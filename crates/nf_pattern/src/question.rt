@@ -3,6 +3,7 @@ ghost use Rattle.std.specs.Prelude.{◌≡◌, ◌^◌, ◌<◌, length, IfOk};
 
 use crate::assignments::{Order, Quiet};
 use crate::pattern::Pattern;
+use crate::sole::sole_links;
 use crate::stated::StatedLinks;
 use crate::trail::Trail;
 use nf_graph::{Hop, LinkId, LinkSets, NodeId};
@@ -10,7 +11,8 @@ use nf_model::State;
 use std::alloc::{AllocError, Global};
 use std::marker::Model;
 
-// What a listing depends on. The base has a state for exactly the links that need one, and `stated` indexes these links.
+// What a listing depends on. The base has a state for exactly the links that need one, and `stated` indexes these links. No listed pattern
+// has a link flagged in `sole` Zero.
 #[derive(Drop)]
 pub(crate) struct Question {
     nodes: u32,
@@ -21,6 +23,7 @@ pub(crate) struct Question {
     unbounded: Vec<bool>,
     base: Pattern,
     stated: StatedLinks,
+    sole: Vec<bool>,
 }
 
 // The nodes of a listing: how many there are, and which of them is the source.
@@ -41,6 +44,7 @@ pub(crate) enum Stand {
 impl Model for Question {
     ghost use Rattle.nf_pattern.specs.Given.{Question as SeenQuestion, IsQuestion, coded_question};
     ghost use Rattle.nf_pattern.specs.Stated.{AreStated};
+    ghost use Rattle.nf_pattern.specs.Sole.{AreSpared};
 
     ghost Value = { SeenQuestion };
 
@@ -63,7 +67,15 @@ impl Model for Question {
       unbounded = q.unbounded.items;
       base = q.base;
     })
-        × AreStated q.base q.stated };
+        × AreStated q.base q.stated
+        × AreSpared (record {
+          nodes = q.nodes;
+          source = q.source;
+          hops = q.hops.items;
+          sets = record { active = q.active.items; resetting = q.resetting.items };
+          unbounded = q.unbounded.items;
+          base = q.base;
+        }) q.sole.items };
 }
 
 // Returns the flags of the active links and those of the resetting links. Fails if an allocation fails.
@@ -94,7 +106,8 @@ impl Question {
     ghost use Rattle.std.specs.Prelude.{◌≡◌, ◌≤◌, length, take, IfOk, MatchBool, MatchOption, Some, None};
     ghost use Rattle.nf_model.specs.Pattern.{Pattern as SeenPattern};
     ghost use Rattle.nf_pattern.specs.Trail.{IsTrailOf};
-    ghost use Rattle.nf_pattern.specs.Successor.{IsAssignment, IsSameBefore, IsQuiet, next_assignment};
+    ghost use Rattle.nf_pattern.specs.Successor.{IsAssignment, IsSameBefore, IsQuiet};
+    ghost use Rattle.nf_pattern.specs.Advancing.{Advances, NoneAdvances};
     ghost use Rattle.nf_pattern.specs.Given.{IsQuestion, IsListedBy, IsBarren, IsFirstFrom, NoneFrom, IsNext, NoneLeft, AtStart, UpTo};
     ghost use Rattle.nf_pattern.specs.declared.question.Stand.TheVariants.{Start};
     ghost use Rattle.nf_pattern.specs.Stands.{last_of, IsPlaced};
@@ -130,6 +143,14 @@ impl Question {
         let unbounded = unbounded.to_vec(alloc)?;
         let base = base.copy(alloc)?;
         let stated = StatedLinks::new(alloc, base.states())?;
+        let sole = sole_links(
+            alloc,
+            nodes.count,
+            nodes.source,
+            &hops,
+            base.states(),
+            &flags.1,
+        )?;
         Ok(Question {
             nodes: nodes.count,
             source: nodes.source,
@@ -139,6 +160,7 @@ impl Question {
             unbounded,
             base,
             stated,
+            sole,
         })
     }
 
@@ -182,24 +204,23 @@ impl Question {
         Some(trail.depth() + 1)
     }
 
-    // Sets `states` to the next assignment with equally many changes that differs at one of the first `same` links. If there is none, sets
-    // them to the earliest assignment with one change more. Returns how many first links keep their states, or `None` if there is neither.
-    // Updates the unchanged suffix `quiet`.
+    // Sets `states` to a later assignment, such that all listed patterns between the two agree with the first one at the first `same` links.
+    // Returns how many first links keep their states. Returns `None`, and changes nothing, if all later listed patterns agree with this
+    // assignment there. Updates the unchanged suffix `quiet`.
     fn advance(&self, states: &mut [Option<State>], same: usize, quiet: &mut Quiet) -> Option<usize>
         requires assigned { IsAssignment self.now.base self.now.unbounded states.old }
         requires same { same ≤ length self.now.base }
         requires quiet { IsQuiet self.now.base quiet.old states.old }
         ensures quiet { IsQuiet self.now.base quiet.new states.new }
         ensures found { MatchOption result
-            ((next_assignment same self.now.base self.now.unbounded states.old ≡ None)
-            × (states.new ≡ states.old))
-            (λ link.
-            (next_assignment same self.now.base self.now.unbounded states.old ≡ Some states.new)
+            (NoneAdvances self.now same states.old × (states.new ≡ states.old))
+            (λ link. Advances self.now same states.old states.new
             × IsSameBefore same link states.old states.new) }
     {
         let order = Order {
             base: self.base.states(),
             unbounded: &self.unbounded,
+            sole: &self.sole,
             stated: &self.stated,
         };
         let raised = order.advance(states, same, *quiet)?;

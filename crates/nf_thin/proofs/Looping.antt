@@ -7,7 +7,7 @@ use Rattle.nf_model.specs.Network.{Network, IsNetwork}
 use Rattle.nf_model.specs.ThinFlow.{Sets}
 use Rattle.nf_model.specs.Pattern.{Pattern, IsListedIn}
 use Rattle.nf_thin_def.specs.Search.{Answers, IsSearch}
-use Rattle.nf_pattern.specs.Given.{Question, Given, IsListedBy, IsNext, NoneLeft, Gives}
+use Rattle.nf_pattern.specs.Given.{Question, Given, IsListedBy, IsNext, NoneLeft, Enumerates}
 use Rattle.nf_thin_equation_laws.specs.Equations.{IsPatternIn}
 use Rattle.nf_pattern.proofs.Deciding.{has_listing}
 use Rattle.nf_thin.specs.declared.thin.Thin.{Thin}
@@ -55,7 +55,7 @@ module _ (passes : Passing) (net : Network) (sets : Sets) (rate : ℚ) (first : 
   )
 
   module _ (given : Given) (vain : Vain) (so : InLoop passes net sets rate q budget given vain) where
-    module _ (pattern : Pattern) (after : Given) (gives : Gives given (Some pattern) after) where
+    module _ (pattern : Pattern) (after : Given) (gives : Enumerates given (Some pattern) after) where
       next : IsNext q given.last pattern
       next = subst (λ (x : Question). IsNext x given.last pattern) so.0 gives.0
 
@@ -82,7 +82,7 @@ module _ (passes : Passing) (net : Network) (sets : Sets) (rate : ℚ) (first : 
             (vainly_more passes net sets rate list q l given.last vain (so.2 list l) pattern next now t.1),
       )
 
-    pub loop_ends : (after : Given) → Gives given None after → (fault : SearchFault) → fault ≡ fault_of vain.passed → Finds (Err fault)
+    pub loop_ends : (after : Given) → Enumerates given None after → (fault : SearchFault) → fault ≡ fault_of vain.passed → Finds (Err fault)
     loop_ends after gives fault same = subst (λ (f : SearchFault). Finds (Err f)) (sym same)
         (done (Err (fault_of vain.passed)) (search_ends passes net sets rate listing q is given.last vain (so.2 listing is)
         (subst (λ (x : Question). NoneLeft x given.last) so.0 gives.0) budget so.1))

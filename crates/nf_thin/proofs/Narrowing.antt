@@ -13,7 +13,7 @@ use Rattle.nf_thin_laws.specs.Forcing.{filled, IsForcing}
 use Rattle.nf_thin_laws.specs.NarrowLaws.{Narrows, NoneFilledBefore}
 use Rattle.nf_thin_laws.proofs.Forced.{left_count, filled_listed}
 use Rattle.nf_thin_laws.proofs.Narrowed.{order_put, no_earlier_place}
-use Rattle.nf_pattern.specs.Given.{Question, IsListedBy, Given, Last, AtStart, UpTo, IsLater, IsNext, Gives}
+use Rattle.nf_pattern.specs.Given.{Question, IsListedBy, Given, Last, AtStart, UpTo, IsLater, IsNext, Enumerates}
 use Rattle.nf_thin_narrow.specs.Asking.{question_left, StandsWithin, GivenUpTo, StandsAt}
 use Rattle.nf_thin_narrow.proofs.Places.{given_next}
 use Rattle.nf_thin.specs.declared.thin.Thin.{Thin}
@@ -44,7 +44,7 @@ abbrev pub KeepsUp : Network → Sets → Pattern → Pattern → Last → Pace 
 KeepsUp net sets base forced last pace = (all : Given) → walk_of pace ≡ Some all → IsWhole net sets base forced last all
 
 module _ (passes : Passing) (net : Network) (sets : Sets) (rate : ℚ) (base forced : Pattern) (sets_are : AreSetsOf net sets) (forcing : IsForcing sets (unbounded net) forced)
-    (given : Given) (same : given.question ≡ question_left forced (question_of net sets base)) (p : Pattern) (after : Given) (gives : Gives given (Some p) after) where
+    (given : Given) (same : given.question ≡ question_left forced (question_of net sets base)) (p : Pattern) (after : Given) (gives : Enumerates given (Some p) after) where
   next : IsNext (question_left forced (question_of net sets base)) given.last p
   next = subst (λ (q : Question). IsNext q given.last p) same gives.0
 

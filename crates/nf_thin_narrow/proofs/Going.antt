@@ -4,7 +4,7 @@ use Rattle.std.specs.Prelude.{Some, None}
 use Rattle.nf_model.specs.Pattern.{Pattern}
 use Rattle.nf_thin_def.specs.Listing.{HasPlace}
 use Rattle.nf_pattern.specs.Front.{IsListingOf}
-use Rattle.nf_pattern.specs.Given.{Question, IsQuestion, IsListedBy, Given, Last, AtStart, UpTo, IsLater, IsNext, NoneLeft, Gives}
+use Rattle.nf_pattern.specs.Given.{Question, IsQuestion, IsListedBy, Given, Last, AtStart, UpTo, IsLater, IsNext, NoneLeft, Enumerates}
 use Rattle.nf_pattern.proofs.Deciding.{has_listing}
 use Rattle.nf_thin_narrow.specs.Asking.{GivenUpTo, GoesThrough, IsBehind, StandsAt}
 use Rattle.nf_thin_narrow.proofs.Places.{later_place}
@@ -19,7 +19,7 @@ ahead q given pattern behind listing place is at =
     later_place q listing is given.place given.last (behind.through.counted listing is) pattern behind.later place at
 
 module _ (q : Question) (given after : Given) (through : GoesThrough q given) (pattern : Pattern) (is_ahead : IsAhead q given pattern) where
-  module _ (p : Pattern) (gives : Gives given (Some p) after) (room : given.place < 2 ^ 64 - 1) where
+  module _ (p : Pattern) (gives : Enumerates given (Some p) after) (room : given.place < 2 ^ 64 - 1) where
     next : IsNext q given.last p
     next = subst (λ (x : Question). IsNext x given.last p) through.same gives.0
 
@@ -47,7 +47,7 @@ module _ (q : Question) (given after : Given) (through : GoesThrough q given) (p
           (let h = not_here q listing is place pattern at given.place given.last (through.counted listing is) p next other (is_ahead listing place is at) in let e = one_more in omega arith);
     }
 
-  module _ (gives : Gives given None after) where
+  module _ (gives : Enumerates given None after) where
     pub no_more : (listing : List Pattern) (place : ℕ) → IsListingOf q listing → HasPlace listing place pattern → ⊥
     no_more listing place is at =
         let all = behind_all q listing is place pattern at given.place given.last (through.counted listing is) (subst (λ (x : Question). NoneLeft x given.last) through.same gives.0) in

@@ -4,7 +4,7 @@ use Rattle.nf_model.specs.Network.{Network, IsNetwork}
 use Rattle.nf_model.specs.ThinFlow.{Sets}
 use Rattle.nf_model.specs.Pattern.{Pattern, IsListedIn}
 use Rattle.std.specs.Prelude.{Option, Some, None, IfSome}
-use Rattle.nf_pattern.specs.Given.{Question, Given, IsListedBy, Gives}
+use Rattle.nf_pattern.specs.Given.{Question, Given, IsListedBy, Enumerates}
 use Rattle.nf_thin_equation_laws.specs.Equations.{IsPatternIn}
 use Rattle.nf_thin_rank.specs.Questions.{AreSetsOf, AsksOf, question_of}
 
@@ -19,6 +19,6 @@ listed_in net sets q pattern good sets_are asked listed = record {
 
 -- The first enumerated pattern is listed.
 pub first_asked : (net : Network) (sets : Sets) (given after : Given) → AsksOf net sets given
-    → (found : Option Pattern) → Gives given found after → IfSome found (λ (first : Pattern). IsListedIn net sets first)
+    → (found : Option Pattern) → Enumerates given found after → IfSome found (λ (first : Pattern). IsListedIn net sets first)
 first_asked net sets given after asks (Some first) gives = subst (λ (q : Question). IsListedBy q first) asks.asked gives.0.listed
 first_asked net sets given after asks None gives = tt

@@ -2,7 +2,7 @@
 ghost use Rattle.std.specs.Prelude.{◌<◌, List, Bool, length, IfOk, IfSome};
 ghost use Rattle.nf_model.specs.ThinFlow.{Sets};
 ghost use Rattle.nf_model.specs.Pattern.{IsPattern};
-ghost use Rattle.nf_pattern.specs.Given.{Gives};
+ghost use Rattle.nf_pattern.specs.Given.{Enumerates};
 ghost use Rattle.nf_thin_rank.specs.Posing.{IsPosed, IsListedFor, IsPatternFor};
 
 use crate::listings::listing;
@@ -15,7 +15,7 @@ use std::alloc::{AllocError, Global};
 
 // Returns a copy of the next listed pattern, or `None` if there is none. Fails if an allocation fails.
 fn copy_next(alloc: Global, patterns: &mut Patterns) -> Result<Option<Pattern>, AllocError>
-    ensures { IfOk result (λ given. Gives patterns.old given patterns.new) }
+    ensures { IfOk result (λ given. Enumerates patterns.old given patterns.new) }
 {
     match patterns.next() {
         Some(pattern) => {

@@ -1,10 +1,10 @@
 use Rattle.std.proofs.Common.{sym, subst}
 use Rattle.std.specs.Prelude.{option_copied, Some}
 use Rattle.nf_model.specs.Pattern.{Pattern}
-use Rattle.nf_pattern.specs.Given.{Gives}
+use Rattle.nf_pattern.specs.Given.{Enumerates}
 use Rattle.library_callers.proofs.pattern.copy_next.Goals as goal
 
 pub returns-in_ok-pattern-in-Some : goal.returns-in_ok-pattern-in-Some
 returns-in_ok-pattern-in-Some c =
-    subst (λ (p : Pattern). Gives c.args.patterns.now (Some p) c.next.follows.lender-at-none) (sym c.in_ok-pattern-in-Some.ensures)
-    (subst (λ r. Gives c.args.patterns.now (option_copied r) c.next.follows.lender-at-none) c.in-Some.is c.next.follows.holds-at-none)
+    subst (λ (p : Pattern). Enumerates c.args.patterns.now (Some p) c.next.follows.lender-at-none) (sym c.in_ok-pattern-in-Some.ensures)
+    (subst (λ r. Enumerates c.args.patterns.now (option_copied r) c.next.follows.lender-at-none) c.in-Some.is c.next.follows.holds-at-none)

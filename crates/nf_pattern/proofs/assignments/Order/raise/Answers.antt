@@ -3,7 +3,7 @@ use Rattle.nf_pattern.proofs.Quiet.{changes_to_quiet, free_to_quiet, free_few, r
 use Rattle.nf_pattern.proofs.assignments.Order.raise.Goals as goal
 
 pub returns-then-quiet-same : goal.returns-then-quiet-same
-returns-then-quiet-same c = raised_up_to c.args.self.now.base.now c.args.self.now.unbounded.now c.args.states.now c.raise_from.new.states c.args.quiet c.args.same c.raise_from.result c.if-quiet-same.true
+returns-then-quiet-same c = raised_up_to c.args.self.now.base.now c.args.self.now.unbounded.now c.args.self.now.sole.now c.args.states.now c.raise_from.new.states c.args.quiet c.args.same c.raise_from.result c.if-quiet-same.true
     c.requires.may.count c.requires.quiet c.raise_from.ensures
 
 pub raise_from-requires-else-quiet-same-clause-counted : goal.raise_from-requires-else-quiet-same-clause-counted

@@ -2,7 +2,7 @@ use Rattle.std.proofs.Common.{length, subst, sym, arith}
 use Rattle.nf_model.specs.Pattern.{Pattern}
 use Rattle.nf_pattern.specs.Successor.{IsAssignment}
 use Rattle.nf_pattern.proofs.Choosing.{assigned_length}
-use Rattle.nf_pattern.proofs.Seeking.{none_after, next_assigned, match_after}
+use Rattle.nf_pattern.proofs.Seeking.{none_after, match_after}
 use Rattle.nf_pattern.specs.Trail.{IsTrailOf}
 use Rattle.nf_pattern.proofs.question.Question.after.Goals as goal
 
@@ -32,7 +32,7 @@ pub seek-requires : goal.seek-requires
 seek-requires c = record {
   placed = record {
     is_question = c.requires.placed.is_question;
-    assigned = next_assigned c.args.self.now c.requires.placed.is_question (length c.args.states.now) c.args.states.now c.advance.new.states c.requires.placed.assigned c.in-Some.ensures.found.0;
+    assigned = c.in-Some.ensures.found.0.assigned;
     on_trail = c.retreat.ensures c.args.states.now c.advance.new.states c.requires.placed.on_trail c.requires.placed.assigned c.in-Some.ensures.found.1.1;
     is_quiet = c.in-Some.ensures.quiet;
   };
