@@ -1,25 +1,11 @@
 -- The value that is computed, and a curve that is cut.
-use Rattle.std.proofs.Common.{◌≡◌, ℕ, Some, List, [], ◌∷◌, ◌++◌, ⊎_elim, Bool, true, false, refl, sym, ap, subst, ◌∙◌}
-use Rattle.std.specs.Prelude.{Ok, if◌then◌else◌, slice_get}
-use Rattle.nf_rational.specs.Rational.{ℚ}
-use Rattle.nf_rational.specs.Operations.{0ℚ, ◌+ℚ◌, ◌-ℚ◌, ◌*ℚ◌}
-use Rattle.nf_rational.specs.Order.{◌≤ℚ◌, ◌<ℚ◌, lt_ℚ}
-use Rattle.nf_rational_laws.proofs.Polynomial.{reading_of}
-use Rattle.nf_rational_laws.proofs.Linear.{eq, linear_eq}
-use Rattle.nf_rational_laws.proofs.Order.{≤ℚ_of_lt, ≤ℚ_antisymm}
-use Rattle.nf_rational_laws.proofs.Tests.{lt_ℚ_cases}
-use Rattle.nf_frac_def.specs.Passing.{Passing}
-use Rattle.nf_model.specs.Curve.{Point, value, slope, TimesRise, IsCurve}
-use Rattle.nf_model_laws.specs.Affine.{IsAffine}
-use Rattle.nf_model_laws.proofs.Curves.{value-before, value-after, value-first, value-line}
-use Rattle.nf_rational.specs.Signs.{is_same}
-use Rattle.nf_curve_def.specs.Lines.{checked_line}
+use Rattle.std.proofs.Common.{◌≡◌, ℕ, Some, List, [], ◌∷◌, ◌++◌, ⊎_elim, Bool, true, false, refl, sym, ap, subst, ◌∙◌, Ok, if◌then◌else◌, slice_get}
+use Rattle.nf_curve_laws.proofs.Common.{ℚ, 0ℚ, ◌+ℚ◌, ◌-ℚ◌, ◌*ℚ◌, ◌≤ℚ◌, ◌<ℚ◌, lt_ℚ, reading_of, eq, linear_eq, ≤ℚ_of_lt, ≤ℚ_antisymm, lt_ℚ_cases, Passing, Point}
+use Rattle.nf_curve_laws.proofs.Common.{value, slope, TimesRise, IsCurve, IsAffine, value-before, value-after, value-first, value-line, is_same, checked_line}
+use Rattle.nf_curve_laws.proofs.Common.{IsCutOf, ≤ℚ_refl, ≤ℚ_trans, same_Ok}
 use Rattle.nf_curve_def.specs.Values.{points_before, value_from, checked_value, checked_cut}
-use Rattle.nf_curve_def.specs.Meanings.{IsCutOf}
 use Rattle.nf_curve_laws.proofs.Operations.{then_ok, is_same_cases, checked_line-is}
 use Rattle.nf_curve_laws.proofs.Following.{FollowsFrom, ends, goes, LiesOn, follows-each, follows-rises, value-follows}
-use Rattle.nf_rational_laws.proofs.Chains.{≤ℚ_refl, ≤ℚ_trans}
-use Rattle.nf_rational_laws.proofs.Results.{same_Ok}
 
 module _ (passes : Passing) where
   -- the two tests of a piece

@@ -1,21 +1,11 @@
 -- An equilibrium up to a departure is one up to each earlier departure. A link that receives flow just after a departure, in the flow up to
 -- the earlier departure, does so in the flow up to the later one: labels and inflows never fall.
 use Rattle.std.proofs.Common.{ℕ, ◌<◌, List, [], ◌∷◌, ⊎_elim, subst}
-use Rattle.std.proofs.lemmas.Option.{slice_get_within}
-use Rattle.nf_rational.specs.Rational.{ℚ}
-use Rattle.nf_rational.specs.Operations.{0ℚ}
-use Rattle.nf_rational.specs.Order.{◌≤ℚ◌, ◌<ℚ◌}
-use Rattle.nf_rational_laws.proofs.Order.{≤ℚ_of_lt, lt_or_le_ℚ}
-use Rattle.nf_model.specs.Curve.{Within}
-use Rattle.nf_model.specs.Network.{Link, Network, IsNetwork, IsLink}
+use Rattle.nf_forever_laws.proofs.Common.{slice_get_within, ℚ, 0ℚ, ◌≤ℚ◌, ◌<ℚ◌, ≤ℚ_of_lt, lt_or_le_ℚ, Within, Link, Network, IsNetwork, IsLink, Flow}
+use Rattle.nf_forever_laws.proofs.Common.{Equilibrium, TakesFlow, inflow, label, IsPositive-link, up_to, ≤ℚ_refl, ≤ℚ_trans, <_≤_trans, nn_above_sum}
 use Rattle.nf_model.specs.Earliest.{Arrives, IsEarliest}
-use Rattle.nf_model.specs.Equilibrium.{Flow, Equilibrium, TakesFlow, inflow, label}
 use Rattle.nf_model_laws.proofs.Queues.{IsExit-after}
-use Rattle.nf_model_laws.proofs.Earliest.{IsPositive-link}
-use Rattle.nf_forever_def.specs.Extended.{up_to}
 use Rattle.nf_check_laws.proofs.Rising.{label-rises}
-use Rattle.nf_rational_laws.proofs.Chains.{≤ℚ_refl, ≤ℚ_trans, <_≤_trans}
-use Rattle.nf_rational_laws.proofs.Facts.{nn_above_sum}
 
 module _ (net : Network) (flow : Flow) (until : ℚ) (good : IsNetwork net) (eq : Equilibrium net flow) (from_0 : 0ℚ ≤ℚ until) (earlier : until ≤ℚ flow.reached) where
   within : (departure : ℚ) → Within 0ℚ until departure → Within 0ℚ flow.reached departure

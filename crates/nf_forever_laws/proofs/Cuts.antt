@@ -1,26 +1,17 @@
 -- The net flow out of a cut, against the capacities of the links that leave it.
 use Rattle.std.proofs.Common.{◌≡◌, ◌≢◌, ℕ, zero, suc, ◌<◌, List, [], ◌∷◌, ⊎_elim, Bool, true, false, if◌then◌else◌, eqb, Option, Some, None, slice_get, sym, ap, subst, refl, ◌∙◌}
 use Rattle.std.proofs.lemmas.Bool.Decides.{eqb_tells}
-use Rattle.std.proofs.lemmas.Option.{none-some, same_Some}
-use Rattle.nf_rational.specs.Rational.{ℚ}
-use Rattle.nf_rational.specs.Operations.{0ℚ, 1ℚ, ◌+ℚ◌, ◌*ℚ◌}
-use Rattle.nf_rational.specs.Order.{◌≤ℚ◌, ◌<ℚ◌}
-use Rattle.nf_rational_laws.proofs.Polynomial.{reading_of}
-use Rattle.nf_rational_laws.proofs.Order.{≤ℚ_of_lt, nn_plus, ps_plus}
+use Rattle.nf_forever_laws.proofs.Common.{none-some, same_Some, ℚ, 0ℚ, 1ℚ, ◌+ℚ◌, ◌*ℚ◌, ◌≤ℚ◌, ◌<ℚ◌, reading_of, ≤ℚ_of_lt, nn_plus, ps_plus, ≤ℚ_refl, le, eq}
+use Rattle.nf_forever_laws.proofs.Common.{eq_times, linear_le, linear_eq, Link, Piece, Network, IsNetwork, IsLink, hops, IsPositive-link, not_both}
+use Rattle.nf_forever_laws.proofs.Common.{times_first_zero, times_second_zero, first_and_zero, Cut, LeadsOut, IsStaticCut, outward_capacity, capacity_sum}
+use Rattle.nf_forever_laws.proofs.Common.{cut_capacity, IsLeastCapacity}
 use Rattle.nf_rational_laws.proofs.Signs.{nn_plus_ps}
-use Rattle.nf_rational_laws.proofs.Chains.{≤ℚ_refl}
-use Rattle.nf_rational_laws.proofs.Linear.{le, eq, eq_times, linear_le, linear_eq}
 use Rattle.nf_model.specs.Walk.{IsWalk}
-use Rattle.nf_model.specs.Network.{Link, Piece, Network, IsNetwork, IsLink, hops}
 use Rattle.nf_model_laws.specs.Capacity.{IsPositive}
 use Rattle.nf_model_laws.specs.MemberLaws.{one_link}
 use Rattle.nf_model_laws.proofs.Networks.{IsWalk-starts, StartsWith}
-use Rattle.nf_model_laws.proofs.Earliest.{IsPositive-link}
 use Rattle.nf_model_laws.proofs.Potential.{sum_to-same, sum_to-only, only_at, only_at-here, only_at-else, carried, carried-is, fall, out_less_in}
 use Rattle.nf_thin_laws.proofs.Cuts.{EndsBelow-net}
-use Rattle.nf_rational_laws.proofs.Results.{not_both}
-use Rattle.nf_rational_laws.proofs.Facts.{times_first_zero, times_second_zero, first_and_zero}
-use Rattle.nf_forever_laws.specs.Cuts.{Cut, LeadsOut, IsStaticCut, outward_capacity, capacity_sum, cut_capacity, IsLeastCapacity}
 
 -- ---- the outward capacity of a link
 pub outward_capacity-not_negative : (tail head : Bool) (capacity : Option ℚ) → IsPositive capacity → 0ℚ ≤ℚ outward_capacity tail head capacity

@@ -1,19 +1,9 @@
 -- The slopes of a phase that never ends keep the sets of its labels.
 use Rattle.std.proofs.Common.{◌≡◌, ℕ, List, [], ◌∷◌, ⊎_elim, sym, subst}
-use Rattle.nf_rational.specs.Rational.{ℚ}
-use Rattle.nf_rational.specs.Operations.{0ℚ, 1ℚ, ◌+ℚ◌, ◌-ℚ◌, ◌*ℚ◌, ◌/ℚ◌}
-use Rattle.nf_rational.specs.Order.{◌≤ℚ◌, ◌<ℚ◌}
-use Rattle.nf_rational_laws.proofs.Polynomial.{reading_of}
-use Rattle.nf_rational_laws.proofs.Order.{lt_or_le_ℚ}
-use Rattle.nf_rational_laws.proofs.Chains.{≤ℚ_refl}
-use Rattle.nf_rational_laws.proofs.Linear.{le, lt, eq, linear_le, linear_lt, linear_false}
-use Rattle.nf_model.specs.Entries.{number_at, Has}
-use Rattle.nf_model.specs.Network.{Link, Network, IsLink, hop_of, hops}
-use Rattle.nf_model.specs.ThinFlow.{slack, slacks_of, sets_at}
-use Rattle.nf_model.specs.Phases.{IsUnending}
+use Rattle.nf_forever_laws.proofs.Common.{ℚ, 0ℚ, 1ℚ, ◌+ℚ◌, ◌-ℚ◌, ◌*ℚ◌, ◌/ℚ◌, ◌≤ℚ◌, ◌<ℚ◌, reading_of, lt_or_le_ℚ, ≤ℚ_refl, le, lt, eq, linear_le, linear_lt}
+use Rattle.nf_forever_laws.proofs.Common.{linear_false, number_at, Has, Link, Network, IsLink, hop_of, hops, slack, slacks_of, sets_at, IsUnending, KeepsSets}
 use Rattle.nf_model_laws.proofs.Affine.{nn-quotient, quotient-times}
 use Rattle.nf_model_laws.proofs.Slacks.{slack_at, active_of_slack, slack_of_resetting}
-use Rattle.nf_forever_laws.specs.Growth.{KeepsSets}
 
 -- A slope above 0 reaches each amount of at least 0 after some time.
 reach : (amount slope : ℚ) → 0ℚ ≤ℚ amount → 0ℚ <ℚ slope → (while : ℚ) × (0ℚ ≤ℚ while) × (while *ℚ slope ≡ amount)

@@ -1,15 +1,8 @@
 -- The lists of a flow extended by a tail, entry by entry.
-use Rattle.std.proofs.Common.{◌≡◌, ℕ, zero, suc, List, [], ◌∷◌, ◌++◌, length, ap, refl, ◌∙◌, arith}
-use Rattle.std.specs.Prelude.{Some, slice_get}
-use Rattle.std.proofs.lemmas.Option.{none-some, same_Some}
-use Rattle.nf_rational.specs.Rational.{ℚ}
-use Rattle.nf_model.specs.Entries.{number_at}
-use Rattle.nf_model.specs.Curve.{Point}
-use Rattle.nf_model.specs.Network.{Link, hop_of}
-use Rattle.nf_model.specs.ThinFlow.{slack}
-use Rattle.nf_model.specs.Equilibrium.{Trace}
+use Rattle.std.proofs.Common.{◌≡◌, ℕ, zero, suc, List, [], ◌∷◌, ◌++◌, length, ap, refl, ◌∙◌, arith, Some, slice_get}
+use Rattle.nf_forever_laws.proofs.Common.{none-some, same_Some, ℚ, number_at, Point, Link, hop_of, slack, Trace, value_after, labels_then, queue_then, with_end}
+use Rattle.nf_forever_laws.proofs.Common.{trace_with_end, labels_with_end, traces_with_end, queues_with_end}
 use Rattle.nf_rational.specs.Signs.{is_positive}
-use Rattle.nf_forever_def.specs.Extended.{value_after, labels_then, queue_then, with_end, trace_with_end, labels_with_end, traces_with_end, queues_with_end}
 
 pub labels_then_at : (w : ℚ) (slopes : List ℚ) (curves : List (List Point)) (v : ℕ) (r : ℚ) (ps : List Point) → slice_get slopes v ≡ Some r → slice_get curves v ≡ Some ps
     → slice_get (labels_then w slopes curves) v ≡ Some (value_after ps w r)

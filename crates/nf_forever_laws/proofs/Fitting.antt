@@ -1,24 +1,12 @@
 -- Slopes that a static flow fits on each link grow by the cuts. The flow out of any cut, with the nodes of slopes above that of the sink, is at most
 -- the slope of the sink times the capacity of the cut. If that slope is above 1, it is equal to that for the cut of the slower nodes.
 use Rattle.std.proofs.Common.{◌≡◌, ◌≢◌, ℕ, ◌<◌, List, [], ◌∷◌, ◌⊎◌, inl, inr, ⊎_elim, Bool, true, false, if◌then◌else◌, Option, Some, None, sym, ap, subst, refl, ◌∙◌}
-use Rattle.std.proofs.lemmas.Option.{none-some}
-use Rattle.nf_rational.specs.Rational.{ℚ}
-use Rattle.nf_rational.specs.Operations.{0ℚ, 1ℚ, ◌-ℚ◌, ◌*ℚ◌}
-use Rattle.nf_rational.specs.Order.{◌≤ℚ◌, ◌<ℚ◌, lt_ℚ}
-use Rattle.nf_rational_laws.proofs.Polynomial.{reading_of}
-use Rattle.nf_rational_laws.proofs.Order.{≤ℚ_of_lt, ≤ℚ_antisymm, not_both_ℚ, nn_times}
-use Rattle.nf_rational_laws.proofs.Chains.{≤ℚ_trans, ≤_<_trans, <_≤_trans}
-use Rattle.nf_rational_laws.proofs.Tests.{less_of_test, test_of_less, not_less_of_test, not_less_itself}
-use Rattle.nf_rational_laws.proofs.Linear.{le, le_times, eq_times, linear_le}
-use Rattle.nf_rational_laws.proofs.Results.{not_both, true_or_false}
-use Rattle.nf_rational_laws.proofs.Facts.{nn_of_one}
-use Rattle.nf_model.specs.Entries.{number_at}
-use Rattle.nf_model.specs.Network.{Link, Network, IsNetwork, IsLink}
-use Rattle.nf_model_laws.proofs.Earliest.{IsPositive-link}
+use Rattle.nf_forever_laws.proofs.Common.{none-some, ℚ, 0ℚ, 1ℚ, ◌-ℚ◌, ◌*ℚ◌, ◌≤ℚ◌, ◌<ℚ◌, lt_ℚ, reading_of, ≤ℚ_of_lt, ≤ℚ_antisymm, not_both_ℚ, nn_times, ≤ℚ_trans}
+use Rattle.nf_forever_laws.proofs.Common.{≤_<_trans, <_≤_trans, less_of_test, test_of_less, not_less_of_test, not_less_itself, le, le_times, eq_times}
+use Rattle.nf_forever_laws.proofs.Common.{linear_le, not_both, true_or_false, nn_of_one, number_at, Link, Network, IsNetwork, IsLink, IsPositive-link, Cut}
+use Rattle.nf_forever_laws.proofs.Common.{LeadsOut, IsStaticCut, cut_capacity, slower_than_sink, GrowsByCuts}
 use Rattle.nf_model_laws.proofs.Potential.{fall, out_less_in}
 use Rattle.nf_complete_laws.specs.Oversupply.{Fits}
-use Rattle.nf_forever_laws.specs.Cuts.{Cut, LeadsOut, IsStaticCut, cut_capacity}
-use Rattle.nf_forever_laws.specs.Growth.{slower_than_sink, GrowsByCuts}
 use Rattle.nf_forever_laws.proofs.Cuts.{outward_capacity-not_negative, outward_capacity-is, outward_capacity-inside, outward_capacity-outside, outward, one_if, one_in, carried_out, carried-below, carried-above}
 
 -- A static flow of value `rate` from source to sink that fits the slopes on each link. The slope of the source is 1, and none is less.

@@ -1,24 +1,15 @@
 -- A thin flow whose slopes keep its sets fits its slopes on each link. So its slopes grow by the cuts.
 use Rattle.std.proofs.Common.{◌≡◌, ◌≢◌, ℕ, ◌<◌, List, ◌⊎◌, inl, inr, ⊎_elim, Bool, true, false, Option, Some, None, sym, ap, subst, refl, ◌∙◌}
-use Rattle.std.proofs.lemmas.Option.{none-some, same_Some}
-use Rattle.nf_rational.specs.Rational.{ℚ}
-use Rattle.nf_rational.specs.Operations.{0ℚ, 1ℚ, ◌*ℚ◌, ◌/ℚ◌}
-use Rattle.nf_rational.specs.Order.{◌≤ℚ◌, ◌<ℚ◌}
-use Rattle.nf_rational_laws.proofs.Order.{≤ℚ_of_same, ≤ℚ_of_lt, lt_or_le_ℚ, not_both_ℚ, nn_times}
-use Rattle.nf_rational_laws.proofs.Chains.{≤ℚ_trans, ≤_<_trans}
+use Rattle.nf_forever_laws.proofs.Common.{none-some, same_Some, ℚ, 0ℚ, 1ℚ, ◌*ℚ◌, ◌/ℚ◌, ◌≤ℚ◌, ◌<ℚ◌, ≤ℚ_of_same, ≤ℚ_of_lt, lt_or_le_ℚ, not_both_ℚ, nn_times}
+use Rattle.nf_forever_laws.proofs.Common.{≤ℚ_trans, ≤_<_trans, number_at, Has, Link, Network, IsNetwork, IsLink, Sets, exit_slope, exit_slope_at, Enters}
+use Rattle.nf_forever_laws.proofs.Common.{IsThinFlow, IsPositive-link, none_first, KeepsSets, GrowsByCuts}
 use Rattle.nf_rational_laws.proofs.Extremes.{max_left}
-use Rattle.nf_model.specs.Entries.{number_at, Has}
-use Rattle.nf_model.specs.Network.{Link, Network, IsNetwork, IsLink}
-use Rattle.nf_model.specs.ThinFlow.{Sets, exit_slope, exit_slope_at, Enters, IsThinFlow}
 use Rattle.nf_model_laws.specs.Capacity.{IsPositive}
-use Rattle.nf_model_laws.proofs.Earliest.{IsPositive-link}
 use Rattle.nf_thin_laws.specs.ActiveLinks.{HoldNoCycle}
 use Rattle.nf_thin_laws.proofs.Flags.{flag, flag-cases}
 use Rattle.nf_thin_laws.proofs.LinkLaws.{BoundedLaw, LinkLaw}
-use Rattle.nf_thin_laws.proofs.ActiveLinks.{none_first}
 use Rattle.nf_thin_laws.proofs.Slopes.{link_law}
 use Rattle.nf_complete_laws.specs.Oversupply.{Fits}
-use Rattle.nf_forever_laws.specs.Growth.{KeepsSets, GrowsByCuts}
 use Rattle.nf_forever_laws.proofs.Fitting.{capacity_or_none, GrowsByCuts-fit}
 
 -- ---- a link that is not resetting: x is its flow, and s and t are the slopes of its tail and its head

@@ -1,28 +1,12 @@
 -- The label of a node in the flow that is extended by a tail.
 use Rattle.std.proofs.Common.{◌≡◌, ℕ, ◌<◌, List, [], ◌∷◌, ◌++◌, length, Bool, true, false, if◌then◌else◌, Option, Some, ⊎_elim, sym, ap, subst, ◌∙◌, arith}
 use Rattle.std.specs.Prelude.{slice_get, unwrap_or}
-use Rattle.std.proofs.lemmas.Option.{slice_get_within}
-use Rattle.nf_rational.specs.Rational.{ℚ}
-use Rattle.nf_rational.specs.Operations.{0ℚ, ◌+ℚ◌, ◌-ℚ◌, ◌*ℚ◌}
-use Rattle.nf_rational.specs.Order.{◌≤ℚ◌, ◌<ℚ◌, lt_ℚ}
-use Rattle.nf_rational_laws.proofs.Polynomial.{reading_of}
-use Rattle.nf_rational_laws.proofs.Order.{≤ℚ_antisymm}
-use Rattle.nf_rational_laws.proofs.Chains.{≤ℚ_refl}
-use Rattle.nf_rational_laws.proofs.Tests.{lt_ℚ_cases}
-use Rattle.nf_rational_laws.proofs.Linear.{linear_eq}
-use Rattle.nf_model.specs.Entries.{number_at}
-use Rattle.nf_model.specs.Curve.{Point, value}
-use Rattle.nf_model.specs.Network.{Network}
-use Rattle.nf_model.specs.Equilibrium.{Flow, points_at, label}
+use Rattle.nf_forever_laws.proofs.Common.{slice_get_within, ℚ, 0ℚ, ◌+ℚ◌, ◌-ℚ◌, ◌*ℚ◌, ◌≤ℚ◌, ◌<ℚ◌, lt_ℚ, reading_of, ≤ℚ_antisymm, ≤ℚ_refl, lt_ℚ_cases, linear_eq}
+use Rattle.nf_forever_laws.proofs.Common.{number_at, Point, value, Network, Flow, points_at, label, LastPoint, GoesOnTo, ends_at, GoesOnTo-appended, number_is}
+use Rattle.nf_forever_laws.proofs.Common.{points_is, Tail, value_after, labels_then, extended, up_to, flow_until, entry}
 use Rattle.nf_model_laws.proofs.Curves.{EndsAt-value}
-use Rattle.nf_phase_laws.specs.CurveSteps.{LastPoint, GoesOnTo}
-use Rattle.nf_phase_laws.proofs.CurveSteps.{ends_at, GoesOnTo-appended}
-use Rattle.nf_phase_laws.proofs.WellRun.{number_is, points_is}
-use Rattle.nf_phase_def.specs.ToEnd.{Tail}
-use Rattle.nf_forever_def.specs.Extended.{value_after, labels_then, extended, up_to, flow_until}
 use Rattle.nf_forever_laws.proofs.Entries.{labels_then_at, labels_with_end_at}
 use Rattle.nf_forever_laws.proofs.Steps.{last_point-is}
-use Rattle.nf_rational_laws.proofs.Entries.{entry}
 
 still : (x y a b s : ℚ) → x ≡ y → a ≡ b → x ≡ y +ℚ (a -ℚ b) *ℚ s
 still x y a b s e f = e ∙ none y a b s f

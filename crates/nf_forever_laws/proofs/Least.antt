@@ -1,17 +1,10 @@
 -- The slope of the sink by the least capacity of a static cut.
 use Rattle.std.proofs.Common.{◌≡◌, List, [], ◌∷◌, ⊎_elim, sym, subst, refl, ◌∙◌}
-use Rattle.nf_rational.specs.Rational.{ℚ}
-use Rattle.nf_rational.specs.Operations.{0ℚ, 1ℚ, ◌-ℚ◌, ◌*ℚ◌, ◌/ℚ◌}
-use Rattle.nf_rational.specs.Order.{◌≤ℚ◌, ◌<ℚ◌, max_ℚ}
-use Rattle.nf_rational_laws.proofs.Polynomial.{reading_of}
-use Rattle.nf_rational_laws.proofs.Order.{≤ℚ_of_lt, ≤ℚ_antisymm, lt_or_le_ℚ}
+use Rattle.nf_forever_laws.proofs.Common.{ℚ, 0ℚ, 1ℚ, ◌-ℚ◌, ◌*ℚ◌, ◌/ℚ◌, ◌≤ℚ◌, ◌<ℚ◌, max_ℚ, reading_of, ≤ℚ_of_lt, ≤ℚ_antisymm, lt_or_le_ℚ, le, lt, eq, le_times}
+use Rattle.nf_forever_laws.proofs.Common.{eq_times, linear_le, linear_lt, linear_eq, linear_false, number_at, Network, IsNetwork, Cut, IsStaticCut}
+use Rattle.nf_forever_laws.proofs.Common.{cut_capacity, IsLeastCapacity, slower_than_sink, GrowsByCuts, GrowsByLeastCut}
 use Rattle.nf_rational_laws.proofs.Extremes.{max_is_left, max_is_right}
-use Rattle.nf_rational_laws.proofs.Linear.{le, lt, eq, le_times, eq_times, linear_le, linear_lt, linear_eq, linear_false}
-use Rattle.nf_model.specs.Entries.{number_at}
-use Rattle.nf_model.specs.Network.{Network, IsNetwork}
 use Rattle.nf_model_laws.proofs.Affine.{quotient-times, ps-times_gap, le_from_times, same_from_times}
-use Rattle.nf_forever_laws.specs.Cuts.{Cut, IsStaticCut, cut_capacity, IsLeastCapacity}
-use Rattle.nf_forever_laws.specs.Growth.{slower_than_sink, GrowsByCuts, GrowsByLeastCut}
 use Rattle.nf_forever_laws.proofs.Cuts.{cut_capacity-positive}
 
 -- Arithmetic: r is the supply rate, s is the slope of the sink, and c and d are capacities of cuts.

@@ -1,15 +1,8 @@
 -- A network that has static cuts has one of the least capacity: by induction over the nodes, each node is tried inside and outside.
 use Rattle.std.proofs.Common.{◌≡◌, ◌≢◌, ℕ, zero, suc, ◌<◌, ◌≤◌, List, [], ◌∷◌, ◌⊎◌, inl, inr, ⊎_elim, Bool, true, false, if◌then◌else◌, eqb, Some, None, slice_get, sym, ap, subst, refl, ◌∙◌, arith}
 use Rattle.std.proofs.lemmas.Bool.Decides.{eqb_tells}
-use Rattle.std.proofs.lemmas.Option.{none-some, same_Some}
-use Rattle.nf_rational.specs.Rational.{ℚ}
-use Rattle.nf_rational.specs.Operations.{◌+ℚ◌}
-use Rattle.nf_rational.specs.Order.{◌≤ℚ◌, ◌<ℚ◌}
-use Rattle.nf_rational_laws.proofs.Order.{≤ℚ_of_same, ≤ℚ_of_lt, lt_or_le_ℚ}
-use Rattle.nf_rational_laws.proofs.Chains.{≤ℚ_trans}
-use Rattle.nf_model.specs.Network.{Link, Network, IsNetwork}
-use Rattle.nf_rational_laws.proofs.Results.{not_both, true_or_false}
-use Rattle.nf_forever_laws.specs.Cuts.{Cut, LeadsOut, IsStaticCut, outward_capacity, capacity_sum, cut_capacity, IsLeastCapacity}
+use Rattle.nf_forever_laws.proofs.Common.{none-some, same_Some, ℚ, ◌+ℚ◌, ◌≤ℚ◌, ◌<ℚ◌, ≤ℚ_of_same, ≤ℚ_of_lt, lt_or_le_ℚ, ≤ℚ_trans, Link, Network, IsNetwork}
+use Rattle.nf_forever_laws.proofs.Common.{not_both, true_or_false, Cut, LeadsOut, IsStaticCut, outward_capacity, capacity_sum, cut_capacity, IsLeastCapacity}
 use Rattle.nf_forever_laws.proofs.Fitting.{capacity_or_none}
 
 -- ---- it is decidable whether a set is a static cut

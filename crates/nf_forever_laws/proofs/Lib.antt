@@ -1,3 +1,4 @@
+mod Common
 pub mod Before
 pub mod Entries
 pub mod Steps

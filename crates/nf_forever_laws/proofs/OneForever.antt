@@ -1,27 +1,16 @@
 -- A run without a horizon has a unique end. Its phases have positive length.
-use Rattle.std.proofs.Common.{◌≡◌, ℕ, List, [], ◌∷◌, length, sym, ap, subst, refl, ◌∙◌, arith}
-use Rattle.std.specs.Prelude.{Option, Some, None, Ok}
-use Rattle.nf_rational.specs.Rational.{ℚ}
-use Rattle.nf_rational.specs.Operations.{0ℚ, ◌+ℚ◌}
-use Rattle.nf_rational.specs.Order.{◌<ℚ◌}
-use Rattle.nf_rational_laws.proofs.Polynomial.{reading_of}
-use Rattle.nf_rational_laws.proofs.Linear.{lt, eq, linear_lt}
-use Rattle.nf_frac_def.specs.Passing.{Passing}
+use Rattle.std.proofs.Common.{◌≡◌, ℕ, List, [], ◌∷◌, length, sym, ap, subst, refl, ◌∙◌, arith, Option, Some, None, Ok}
+use Rattle.nf_forever_laws.proofs.Common.{ℚ, 0ℚ, ◌+ℚ◌, ◌<ℚ◌, reading_of, lt, eq, linear_lt, Passing, Checked, checked, Network, ArePieces, Pattern, Cause}
+use Rattle.nf_forever_laws.proofs.Common.{Standing, Tail, End, Stops, NeverEnds, RunsForever, at_phases, fails, never_ends, goes, IsForeverRun, Forever}
+use Rattle.nf_forever_laws.proofs.Common.{forever_of, IsForever}
 use Rattle.nf_frac_def.proofs.Binding.{bind_ok}
-use Rattle.nf_frac_def.specs.Checked.{Checked, checked}
 use Rattle.nf_frac_def.specs.declared.Op.TheVariants.{Sum}
-use Rattle.nf_model.specs.Network.{Network, ArePieces}
-use Rattle.nf_model.specs.Pattern.{Pattern}
-use Rattle.nf_net_def.specs.declared.Cause.{Cause}
 use Rattle.nf_thin_def.specs.Extend.{extend_list}
-use Rattle.nf_thin_def.specs.PhaseRun.{Standing}
 use Rattle.nf_thin_laws.proofs.OneRun.{one_start, goes_knows, start_knows}
 use Rattle.nf_curve_laws.proofs.Operations.{checked-is}
 use Rattle.nf_phase_laws.proofs.Length.{IsExtension-some}
 use Rattle.nf_phase_laws.proofs.Extension.{extension_is}
-use Rattle.nf_phase_def.specs.ToEnd.{Tail}
 use Rattle.nf_phase_def.specs.ToEnd.{end_after, end_list}
-use Rattle.nf_forever_def.specs.ForeverRun.{End, Stops, NeverEnds, RunsForever, at_phases, fails, never_ends, goes, IsForeverRun, Forever, forever_of, IsForever}
 use Rattle.nf_forever_laws.proofs.Outcomes.{Moves, Ends, Fault, one_outcome, fails-comes, goes-comes, ends-comes}
 
 -- ---- the end of a phase is later than its beginning

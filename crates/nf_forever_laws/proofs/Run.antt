@@ -1,31 +1,16 @@
 -- Runs without a horizon.
-use Rattle.std.proofs.Common.{◌≡◌, ℕ, List, Bool, true, false, if◌then◌else◌, ⊎_elim, sym, subst, refl}
-use Rattle.std.specs.Prelude.{Option, Some, None, Result, Ok, Err}
-use Rattle.nf_rational.specs.Rational.{ℚ}
-use Rattle.nf_rational.specs.Operations.{0ℚ}
-use Rattle.nf_rational.specs.Order.{◌≤ℚ◌, ◌<ℚ◌, lt_ℚ}
-use Rattle.nf_rational_laws.proofs.Tests.{lt_ℚ_cases}
-use Rattle.nf_frac_def.specs.Passing.{Passing}
-use Rattle.nf_frac_def.specs.Checked.{checked, ◌>>=◌}
+use Rattle.std.proofs.Common.{◌≡◌, ℕ, List, Bool, true, false, if◌then◌else◌, ⊎_elim, sym, subst, refl, Option, Some, None, Result, Ok, Err}
+use Rattle.nf_forever_laws.proofs.Common.{ℚ, 0ℚ, ◌≤ℚ◌, ◌<ℚ◌, lt_ℚ, lt_ℚ_cases, Passing, checked, ◌>>=◌, Network, IsNetwork, hops, rate_at, slacks_of, sets_at}
+use Rattle.nf_forever_laws.proofs.Common.{IsThinFlow, Pattern, IsUnending, Equilibrium, Standing, Bounds, flow_of, AreSets-sets_at, same_Ok, WellRun}
+use Rattle.nf_forever_laws.proofs.Common.{WellRun-start, Tail, End, NeverEnds, RunsForever, at_phases, fails, never_ends, goes, IsForeverRun, extended, up_to}
+use Rattle.nf_forever_laws.proofs.Common.{flow_until}
 use Rattle.nf_frac_def.specs.declared.Op.TheVariants.{Sum}
 use Rattle.nf_frac_def.specs.declared.Passed.{Passed}
-use Rattle.nf_model.specs.Network.{Network, IsNetwork, hops, rate_at}
-use Rattle.nf_model.specs.ThinFlow.{slacks_of, sets_at, IsThinFlow}
-use Rattle.nf_model.specs.Pattern.{Pattern}
-use Rattle.nf_model.specs.Phases.{IsUnending}
-use Rattle.nf_model.specs.Equilibrium.{Equilibrium}
 use Rattle.nf_thin_def.specs.Extend.{extend_list}
-use Rattle.nf_thin_def.specs.PhaseRun.{Standing, Bounds, flow_of}
 use Rattle.nf_thin_laws.proofs.Accepted.{IsThinFlow-accepted}
-use Rattle.nf_thin_laws.proofs.ActiveLinks.{AreSets-sets_at}
-use Rattle.nf_rational_laws.proofs.Results.{same_Ok}
 use Rattle.nf_phase_laws.proofs.Extension.{unending_is}
-use Rattle.nf_phase_laws.proofs.WellRun.{WellRun, WellRun-start}
 use Rattle.nf_phase_laws.proofs.Run.{HasShape-well, HasSlopes-well, Equilibrium-well, WellRun-goes}
-use Rattle.nf_phase_def.specs.ToEnd.{Tail}
 use Rattle.nf_phase_def.specs.ToEnd.{end_after, end_list, GoesForever}
-use Rattle.nf_forever_def.specs.ForeverRun.{End, NeverEnds, RunsForever, at_phases, fails, never_ends, goes, IsForeverRun}
-use Rattle.nf_forever_def.specs.Extended.{extended, up_to, flow_until}
 use Rattle.nf_forever_laws.proofs.Before.{Equilibrium-before}
 use Rattle.nf_forever_laws.proofs.Tails.{Equilibrium-extended}
 

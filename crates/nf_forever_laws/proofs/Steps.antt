@@ -1,21 +1,12 @@
 -- A curve with one more point.
-use Rattle.std.proofs.Common.{◌≡◌, List, [], ◌∷◌, ◌++◌, Bool, true, false, sym, ap, subst, refl, ◌∙◌}
-use Rattle.std.specs.Prelude.{Option, None}
+use Rattle.std.proofs.Common.{◌≡◌, List, [], ◌∷◌, ◌++◌, Bool, true, false, sym, ap, subst, refl, ◌∙◌, Option, None}
 use Rattle.std.specs.Option.{option_map_or}
-use Rattle.nf_rational.specs.Rational.{ℚ}
-use Rattle.nf_rational.specs.Operations.{0ℚ, ◌+ℚ◌, ◌*ℚ◌}
-use Rattle.nf_rational.specs.Order.{◌<ℚ◌}
-use Rattle.nf_rational_laws.proofs.Order.{≤ℚ_of_same, not_both_ℚ}
-use Rattle.nf_model.specs.Curve.{Point, slope, AreSlopes}
-use Rattle.nf_model.specs.Equilibrium.{Trace}
+use Rattle.nf_forever_laws.proofs.Common.{ℚ, 0ℚ, ◌+ℚ◌, ◌*ℚ◌, ◌<ℚ◌, ≤ℚ_of_same, not_both_ℚ, Point, slope, AreSlopes, Trace, LastPoint, GoesOnTo}
+use Rattle.nf_forever_laws.proofs.Common.{GoesOnTo-appended, last_point, with_end, trace_with_end, last-append}
 use Rattle.nf_rational.specs.Signs.{is_positive}
-use Rattle.nf_phase_laws.specs.CurveSteps.{LastPoint, GoesOnTo}
-use Rattle.nf_phase_laws.proofs.CurveSteps.{GoesOnTo-appended}
 use Rattle.nf_phase_laws.proofs.StepValues.{positive_of, none_of}
 use Rattle.nf_phase_laws.proofs.Traces.{later_by, same_point, TraceStep}
 use Rattle.nf_phase_laws.proofs.Points.{AreSlopes-appended}
-use Rattle.nf_forever_def.specs.Extended.{last_point, with_end, trace_with_end}
-use Rattle.nf_rational_laws.proofs.Entries.{last-append}
 
 pub last_point-is : (points : List Point) (last : Point) → LastPoint points last → last_point points ≡ last
 last_point-is points last l = ap last_point l.same ∙ ap (λ (o : Option Point). option_map_or (λ (p : Point). p) o (0ℚ, 0ℚ)) (last-append None l.front last)

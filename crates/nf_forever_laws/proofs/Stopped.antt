@@ -1,24 +1,13 @@
 -- If a run without a horizon stopped because no pattern was left, there is no thin flow where it stopped.
-use Rattle.std.proofs.Common.{◌≡◌, ℕ, suc, List, refl, sym, ap, subst, ◌∙◌}
-use Rattle.std.specs.Prelude.{Some}
-use Rattle.std.proofs.lemmas.Option.{none-some, same_Some}
-use Rattle.nf_rational.specs.Rational.{ℚ}
-use Rattle.nf_frac_def.specs.Passing.{Passing}
-use Rattle.nf_model.specs.Network.{Network, IsNetwork, rate_at}
-use Rattle.nf_model.specs.ThinFlow.{sets_at, IsThinFlow}
-use Rattle.nf_model.specs.Pattern.{Pattern}
-use Rattle.nf_model.specs.Equilibrium.{Flow}
+use Rattle.std.proofs.Common.{◌≡◌, ℕ, suc, List, refl, sym, ap, subst, ◌∙◌, Some}
+use Rattle.nf_forever_laws.proofs.Common.{none-some, same_Some, ℚ, Passing, Network, IsNetwork, rate_at, sets_at, IsThinFlow, Pattern, Flow, Cause, Standing}
+use Rattle.nf_forever_laws.proofs.Common.{cause_of_search, flow_of, WellRun, Tail, SeeksOn, FailsOn, at_slack, at_search, at_extend, at_lists, End, Stops}
+use Rattle.nf_forever_laws.proofs.Common.{NeverEnds, RunsForever, at_phases, fails, never_ends, goes, Forever, forever_of, IsForever}
 use Rattle.nf_model_laws.proofs.Supply.{rate_from-not_negative}
-use Rattle.nf_net_def.specs.declared.Cause.{Cause}
 use Rattle.nf_thin_def.specs.Search.{SearchAnswer, Found, OverBudget, PassesAt, NoPattern}
-use Rattle.nf_thin_def.specs.PhaseRun.{Standing, cause_of_search, flow_of}
-use Rattle.nf_phase_laws.proofs.WellRun.{WellRun}
 use Rattle.nf_complete_def.specs.Reached.{labels_reached, StopsForNoThinFlow}
 use Rattle.nf_complete_laws.proofs.Settled.{none-search}
 use Rattle.nf_complete_laws.proofs.Stopped.{AreGoodSets-well, labels_are, Wants, over_other, passed_other, phases_other}
-use Rattle.nf_phase_def.specs.ToEnd.{Tail}
-use Rattle.nf_phase_def.specs.ToEnd.{SeeksOn, FailsOn, at_slack, at_search, at_extend, at_lists}
-use Rattle.nf_forever_def.specs.ForeverRun.{End, Stops, NeverEnds, RunsForever, at_phases, fails, never_ends, goes, Forever, forever_of, IsForever}
 use Rattle.nf_forever_laws.proofs.Run.{well_forever}
 
 module _ (passes : Passing) (net : Network) (good : IsNetwork net) (phases patterns : ℕ) (flows slopes : List ℚ) where

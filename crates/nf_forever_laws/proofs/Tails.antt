@@ -1,37 +1,20 @@
 -- A flow of phases extended by a tail is a flow of phases, with one more that lasts up to the departure considered.
-use Rattle.std.proofs.Common.{◌≡◌, ℕ, ◌<◌, List, [], ◌∷◌, ◌++◌, length, inr, sym, ap, subst, refl, ◌∙◌, arith}
-use Rattle.std.specs.Prelude.{Option, Some, None, slice_get, unwrap_or}
-use Rattle.std.proofs.lemmas.Option.{same_Some, slice_get_within}
+use Rattle.std.proofs.Common.{◌≡◌, ℕ, ◌<◌, List, [], ◌∷◌, ◌++◌, length, inr, sym, ap, subst, refl, ◌∙◌, arith, Option, Some, None, slice_get, unwrap_or}
+use Rattle.nf_forever_laws.proofs.Common.{same_Some, slice_get_within, ℚ, 0ℚ, ◌+ℚ◌, ◌-ℚ◌, ◌*ℚ◌, ◌<ℚ◌, reading_of, linear_eq, number_at, Point, AreSlopes, Link}
+use Rattle.nf_forever_laws.proofs.Common.{Network, IsNetwork, IsLink, hop_of, hops, rate_at, slack, slacks_of, sets_at, IsThinFlow, moved, IsUnending, IsPhase}
+use Rattle.nf_forever_laws.proofs.Common.{Trace, Flow, points_of, points_at, HasShape, HasSlopes, Equilibrium, LastPoint, GoesOnTo, at, CurvesGoOn, ends_at}
+use Rattle.nf_forever_laws.proofs.Common.{GoesOnTo-appended, number_is, points_is, Tail, last_point, value_after, labels_then, queue_then, traces_with_end}
+use Rattle.nf_forever_laws.proofs.Common.{extended, ≤ℚ_refl, slice_get-image, entry, back_and_forth, same_slacks, later_by, less_ps}
 use Rattle.std.proofs.lemmas.List.{length-map}
-use Rattle.nf_rational.specs.Rational.{ℚ}
-use Rattle.nf_rational.specs.Operations.{0ℚ, ◌+ℚ◌, ◌-ℚ◌, ◌*ℚ◌}
-use Rattle.nf_rational.specs.Order.{◌<ℚ◌}
-use Rattle.nf_rational_laws.proofs.Polynomial.{reading_of}
-use Rattle.nf_rational_laws.proofs.Linear.{linear_eq}
-use Rattle.nf_model.specs.Entries.{number_at}
-use Rattle.nf_model.specs.Curve.{Point, AreSlopes}
-use Rattle.nf_model.specs.Network.{Link, Network, IsNetwork, IsLink, hop_of, hops, rate_at}
-use Rattle.nf_model.specs.ThinFlow.{slack, slacks_of, sets_at, IsThinFlow}
-use Rattle.nf_model.specs.Phases.{moved, IsUnending, IsPhase}
-use Rattle.nf_model.specs.Equilibrium.{Trace, Flow, points_of, points_at, HasShape, HasSlopes, Equilibrium}
 use Rattle.nf_model_laws.proofs.Curves.{EndsAt-value}
 use Rattle.nf_phase_laws.specs.Invariant.{link_slack, queue_by_slack}
-use Rattle.nf_phase_laws.specs.CurveSteps.{LastPoint, GoesOnTo, at, CurvesGoOn}
 use Rattle.nf_phase_laws.specs.DescriptionCurves.{DescriptionCurvesGoOn}
 use Rattle.nf_phase_laws.specs.CurveRun.{Curves, curves_of}
 use Rattle.nf_phase_laws.proofs.Holds.{link_within}
-use Rattle.nf_phase_laws.proofs.CurveSteps.{ends_at, GoesOnTo-appended}
 use Rattle.nf_phase_laws.proofs.CurveRun.{Grown, Grown-after, Equilibrium-grown}
-use Rattle.nf_phase_laws.proofs.WellRun.{number_is, points_is}
 use Rattle.nf_phase_laws.proofs.Traces.{same_point, TraceStep}
-use Rattle.nf_phase_def.specs.ToEnd.{Tail}
-use Rattle.nf_forever_def.specs.Extended.{last_point, value_after, labels_then, queue_then, traces_with_end, extended}
 use Rattle.nf_forever_laws.proofs.Entries.{labels_then_at, labels_with_end_at, labels_with_end-length, labels_then-length, trace_new, queue_new, traces_at, traces-length, queues_at, queues-length}
 use Rattle.nf_forever_laws.proofs.Steps.{last_point-is, TraceStep-last, CurveStep, CurveStep-last}
-use Rattle.nf_rational_laws.proofs.Chains.{≤ℚ_refl}
-use Rattle.nf_rational_laws.proofs.Entries.{slice_get-image, entry}
-use Rattle.nf_rational_laws.proofs.Facts.{back_and_forth, same_slacks, later_by}
-use Rattle.nf_rational_laws.proofs.Order.{less_ps}
 
 queue_same : (capacity : Option ℚ) (s : ℚ) → queue_then capacity s ≡ queue_by_slack capacity s
 queue_same None s = refl

@@ -1,31 +1,16 @@
 -- The cumulative amount of pieces, as a curve: at every time up to the last it is the amount that they supply.
-use Rattle.std.proofs.Common.{◌≡◌, List, [], ◌∷◌, ◌++◌, ⊎_elim, Bool, true, false, refl, sym, ap, subst, ◌∙◌}
-use Rattle.std.specs.Prelude.{Ok}
-use Rattle.nf_rational.specs.Rational.{ℚ}
-use Rattle.nf_rational.specs.Operations.{0ℚ, ◌+ℚ◌, ◌-ℚ◌, ◌*ℚ◌}
-use Rattle.nf_rational.specs.Order.{◌≤ℚ◌, ◌<ℚ◌, lt_ℚ, min_ℚ, max_ℚ}
-use Rattle.nf_rational_laws.proofs.Polynomial.{reading_of}
-use Rattle.nf_rational_laws.proofs.Linear.{le, lt, eq, eq_times, linear_lt, linear_eq}
-use Rattle.nf_rational_laws.proofs.Order.{≤ℚ_of_lt, ≤ℚ_of_same, ≤ℚ_antisymm, lt_or_le_ℚ, not_both_ℚ, less_nn}
+use Rattle.std.proofs.Common.{◌≡◌, List, [], ◌∷◌, ◌++◌, ⊎_elim, Bool, true, false, refl, sym, ap, subst, ◌∙◌, Ok}
+use Rattle.nf_load_laws.proofs.Common.{ℚ, 0ℚ, ◌+ℚ◌, ◌-ℚ◌, ◌*ℚ◌, ◌≤ℚ◌, ◌<ℚ◌, lt_ℚ, min_ℚ, max_ℚ, reading_of, le, lt, eq, eq_times, linear_lt, linear_eq}
+use Rattle.nf_load_laws.proofs.Common.{≤ℚ_of_lt, ≤ℚ_of_same, ≤ℚ_antisymm, lt_or_le_ℚ, not_both_ℚ, less_nn, Passing, Checked, checked, ◌>>=◌, Sum, Difference}
+use Rattle.nf_load_laws.proofs.Common.{Product, Point, IsCurve, NeverFalls, IsAffine, NeverFalls-value, is_same, IsCumulative, then_ok, is_same_cases}
+use Rattle.nf_load_laws.proofs.Common.{checked-is, FollowsFrom, ends, goes, follows-point, value-follows_past, ≤ℚ_refl, ≤ℚ_trans, same_Ok}
 use Rattle.nf_rational_laws.proofs.Tests.{lt_ℚ_cases, max0_of}
-use Rattle.nf_frac_def.specs.Passing.{Passing}
-use Rattle.nf_frac_def.specs.Checked.{Checked, checked, ◌>>=◌}
-use Rattle.nf_frac_def.specs.declared.Op.TheVariants.{Sum, Difference, Product}
-use Rattle.nf_model.specs.Curve.{Point, IsCurve, NeverFalls}
 use Rattle.nf_model.specs.Network.{Piece, ArePieces, time_in, supplied}
-use Rattle.nf_model_laws.specs.Affine.{IsAffine}
 use Rattle.nf_model_laws.specs.CurveLaws.{ValuesRise}
-use Rattle.nf_model_laws.proofs.Curves.{NeverFalls-value}
 use Rattle.nf_model_laws.proofs.Supply.{StartsRise, StartsRise-pieces, NextFrom, supplied-none, supplied-rises, supplied-begins, StartsRise-rest}
-use Rattle.nf_rational.specs.Signs.{is_same}
 use Rattle.nf_load_def.specs.Cumulative.{end_of, point_after_0, point_if_after_0, with_piece, cumulative_from, checked_cumulative}
-use Rattle.nf_load_def.specs.Meanings.{IsCumulative}
-use Rattle.nf_curve_laws.proofs.Operations.{then_ok, is_same_cases, checked-is}
-use Rattle.nf_curve_laws.proofs.Following.{FollowsFrom, ends, goes, follows-point, value-follows_past}
 use Rattle.nf_curve_laws.proofs.Values.{follows-curve, follows-values}
-use Rattle.nf_rational_laws.proofs.Chains.{≤ℚ_refl, ≤ℚ_trans}
 use Rattle.nf_rational_laws.proofs.Extremes.{min_is_left, min_is_right, min_left, min_keeps}
-use Rattle.nf_rational_laws.proofs.Results.{same_Ok}
 use Rattle.nf_rational_laws.proofs.Facts.{zero_plus}
 
 -- ---- points after time 0

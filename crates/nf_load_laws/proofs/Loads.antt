@@ -1,20 +1,11 @@
 -- The links of a network, each loaded by its pieces.
-use Rattle.std.proofs.Common.{◌≡◌, ℕ, suc, List, [], ◌∷◌, length, Some, refl, subst, arith}
-use Rattle.std.specs.Prelude.{Ok, slice_get, zip}
-use Rattle.nf_rational.specs.Rational.{ℚ}
-use Rattle.nf_rational.specs.Operations.{0ℚ}
-use Rattle.nf_rational.specs.Order.{◌≤ℚ◌, ◌<ℚ◌}
-use Rattle.nf_frac_def.specs.Passing.{Passing}
-use Rattle.nf_frac_def.specs.Checked.{each}
+use Rattle.std.proofs.Common.{◌≡◌, ℕ, suc, List, [], ◌∷◌, length, Some, refl, subst, arith, Ok, slice_get, zip}
+use Rattle.nf_load_laws.proofs.Common.{ℚ, 0ℚ, ◌≤ℚ◌, ◌<ℚ◌, Passing, each, Loaded, IsLinkLoaded, AreLoaded, then_ok, same_Ok}
 use Rattle.nf_model.specs.Network.{Link, Piece, ArePieces}
 use Rattle.nf_load_def.specs.Cumulative.{checked_cumulative}
-use Rattle.nf_load_def.specs.Loading.{Loaded}
 use Rattle.nf_load_def.specs.Loads.{load_link_list, load_list}
-use Rattle.nf_load_def.specs.Meanings.{IsLinkLoaded, AreLoaded}
-use Rattle.nf_curve_laws.proofs.Operations.{then_ok}
 use Rattle.nf_load_laws.proofs.Cumulative.{checked_cumulative-is}
 use Rattle.nf_load_laws.proofs.Loading.{checked_loading-is}
-use Rattle.nf_rational_laws.proofs.Results.{same_Ok}
 
 module _ (passes : Passing) (last : ℚ) (from_0 : 0ℚ ≤ℚ last) where
   link_loaded : (link : Link) (pieces : List Piece) (loaded : Loaded) → 0ℚ ≤ℚ link.transit → ((rate : ℚ) → link.capacity ≡ Some rate → 0ℚ <ℚ rate) → ArePieces pieces

@@ -1,29 +1,18 @@
 -- Any equilibrium satisfies the invariant of phases up to the departure that it reached.
 use Rattle.std.proofs.Common.{◌≡◌, ℕ, [], ◌∷◌, ⊎_elim, Option, Some, None, sym, ap, subst, refl, ◌∙◌}
-use Rattle.nf_rational.specs.Rational.{ℚ}
-use Rattle.nf_rational.specs.Operations.{0ℚ, ◌+ℚ◌, ◌-ℚ◌, ◌*ℚ◌, ◌/ℚ◌}
-use Rattle.nf_rational.specs.Order.{◌≤ℚ◌, ◌<ℚ◌, max_ℚ}
-use Rattle.nf_rational_laws.proofs.Polynomial.{reading_of}
-use Rattle.nf_rational_laws.proofs.Order.{≤ℚ_of_lt, ≤ℚ_antisymm, lt_or_le_ℚ, not_both_ℚ, less_nn}
-use Rattle.nf_rational_laws.proofs.Linear.{le, lt, eq, eq_times, linear_le, linear_lt, linear_eq}
-use Rattle.nf_model.specs.Curve.{Within}
-use Rattle.nf_model.specs.Network.{Link, Network, IsNetwork, IsLink, sum_in, sum_out, supply}
-use Rattle.nf_model.specs.Queue.{IsQueue, IsExit, IsOutflow, waiting}
-use Rattle.nf_model.specs.Equilibrium.{Flow, label, inflow, outflow, queue, points_at, Balances, Equilibrium}
+use Rattle.nf_phase_equilibrium_laws.proofs.Common.{ℚ, 0ℚ, ◌+ℚ◌, ◌-ℚ◌, ◌*ℚ◌, ◌/ℚ◌, ◌≤ℚ◌, ◌<ℚ◌, max_ℚ, reading_of, ≤ℚ_of_lt, ≤ℚ_antisymm, lt_or_le_ℚ, not_both_ℚ}
+use Rattle.nf_phase_equilibrium_laws.proofs.Common.{less_nn, le, lt, eq, eq_times, linear_le, linear_lt, linear_eq, Within, Link, Network, IsNetwork, IsLink}
+use Rattle.nf_phase_equilibrium_laws.proofs.Common.{sum_in, sum_out, supply, IsQueue, IsExit, IsOutflow, waiting, Flow, label, inflow, outflow, queue}
+use Rattle.nf_phase_equilibrium_laws.proofs.Common.{points_at, Balances, Equilibrium, nn-quotient, quotient-times, same_from_times, value-takes_between}
+use Rattle.nf_phase_equilibrium_laws.proofs.Common.{IsQueue-none, IsQueue-nn, IsQueue-unique, IsQueue-from_IsOutflow, IsOutflow-unique, IsExit-after}
+use Rattle.nf_phase_equilibrium_laws.proofs.Common.{IsPositive-link, sum_in-same, sum_out-same, link_slack, queue_by_slack, sent, HoldsUpTo, max0_none, max0_of}
+use Rattle.nf_phase_equilibrium_laws.proofs.Common.{≤ℚ_refl, ≤ℚ_trans, in_time, times_second_zero}
 use Rattle.nf_model_laws.specs.Capacity.{IsPositive}
-use Rattle.nf_model_laws.proofs.Affine.{nn-quotient, quotient-times, same_from_times}
-use Rattle.nf_model_laws.proofs.Curves.{value-takes_between}
-use Rattle.nf_model_laws.proofs.Queues.{IsQueue-none, IsQueue-nn, IsQueue-unique, IsQueue-from_IsOutflow, IsOutflow-unique, IsExit-after}
-use Rattle.nf_model_laws.proofs.Earliest.{IsPositive-link}
-use Rattle.nf_model_laws.proofs.Sums.{sum_in-same, sum_out-same}
-use Rattle.nf_phase_laws.specs.Invariant.{link_slack, queue_by_slack, sent, HoldsUpTo}
 use Rattle.nf_phase_laws.specs.Description.{DescribesLinks}
-use Rattle.nf_rational_laws.proofs.Tests.{max0_none, max0_of}
 use Rattle.nf_phase_laws.proofs.Holds.{sent-is, queue_early, outflow_early}
 use Rattle.nf_phase_equilibrium_laws.proofs.Served.{outflow-entered, outflow-waits}
 use Rattle.nf_phase_equilibrium_laws.proofs.Printed.{rises-link, starts-link, first, labels-at, source-at, label-nn, label-order, up_to_now, not_undercut, comes_out-at, none-before}
-use Rattle.nf_rational_laws.proofs.Chains.{≤ℚ_refl, ≤ℚ_trans}
-use Rattle.nf_rational_laws.proofs.Facts.{in_time, times_second_zero}
+use Rattle.nf_rational_laws.proofs.Signs.{zero_from_same}
 
 -- ---- over plain numbers: a and b the labels at the tail and the head, r the transit time, x the exit, q the queue, c the capacity
 no_slack : (a b r x : ℚ) → x ≡ a +ℚ r +ℚ 0ℚ → b ≤ℚ x → b -ℚ (a +ℚ r) ≤ℚ 0ℚ
@@ -43,9 +32,6 @@ no_wait c w q e f = linear_eq (c ∷ w ∷ q ∷ []) (eq e ∷ eq f ∷ []) (sea
 
 back_again : (b r : ℚ) → b ≡ (b -ℚ r) +ℚ r
 back_again b r = linear_eq (b ∷ r ∷ []) [] (search reading_of) tt tt
-
-all_but_none : (f g : ℚ) → f ≡ g → f -ℚ g ≡ 0ℚ
-all_but_none f g e = linear_eq (f ∷ g ∷ []) (eq e ∷ []) (search reading_of) tt tt
 
 less_none : (s t : ℚ) → s +ℚ 0ℚ ≡ t +ℚ 0ℚ → s ≡ t
 less_none s t e = linear_eq (s ∷ t ∷ []) (eq e ∷ []) (search reading_of) tt tt
@@ -145,7 +131,7 @@ module _ (net : Network) (flow : Flow) (good : IsNetwork net) (is : Equilibrium 
   idle_queue-is e link departure p w low h =
       let same : F e (l link.head departure -ℚ link.transit) ≡ F e (l link.tail departure) =
       idle-is e link departure (l link.head departure -ℚ link.transit) p w low h (≤ℚ_refl _) (in_time (l link.tail departure) (l link.head departure) link.transit low) in
-      subst (λ (y : ℚ). IsQueue link.capacity (F e) (l link.head departure -ℚ link.transit) y) (all_but_none _ _ same)
+      subst (λ (y : ℚ). IsQueue link.capacity (F e) (l link.head departure -ℚ link.transit) y) (zero_from_same _ _ (sym same))
       (IsQueue-from_IsOutflow link.transit link.capacity (F e) (l link.head departure -ℚ link.transit) (l link.head departure) (F e (l link.tail departure))
       (back_again (l link.head departure) link.transit) h (comes_out-at net flow good is e link departure p w))
 

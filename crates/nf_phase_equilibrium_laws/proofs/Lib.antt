@@ -1,3 +1,4 @@
+mod Common
 pub mod Served
 pub mod Totals
 pub mod Sent

@@ -3,35 +3,22 @@
 use Rattle.std.proofs.Common.{◌≡◌, ◌≢◌, ℕ, ◌<◌, List, [], ◌∷◌, ◌⊎◌, inl, inr, ⊎_elim, true, false, eqb, Bool, Option, Some, None, slice_get, sym, ap, subst, refl, ◌∙◌}
 use Rattle.std.specs.Prelude.{if◌then◌else◌}
 use Rattle.std.proofs.lemmas.Bool.Decides.{eqb_tells}
-use Rattle.std.proofs.lemmas.Option.{slice_get_within}
-use Rattle.nf_rational.specs.Rational.{ℚ}
-use Rattle.nf_rational.specs.Operations.{0ℚ, ◌+ℚ◌, ◌-ℚ◌}
-use Rattle.nf_rational.specs.Order.{◌≤ℚ◌, ◌<ℚ◌, min_ℚ}
-use Rattle.nf_rational_laws.proofs.Polynomial.{reading_of}
-use Rattle.nf_rational_laws.proofs.Order.{≤ℚ_of_same, ≤ℚ_antisymm, lt_or_le_ℚ, not_both_ℚ}
-use Rattle.nf_rational_laws.proofs.Tests.{min_ℚ_cases}
-use Rattle.nf_rational_laws.proofs.Linear.{le, lt, eq, linear_le, linear_lt}
-use Rattle.nf_model.specs.Curve.{Within, NeverFalls}
+use Rattle.nf_phase_equilibrium_laws.proofs.Common.{slice_get_within, ℚ, 0ℚ, ◌+ℚ◌, ◌-ℚ◌, ◌≤ℚ◌, ◌<ℚ◌, min_ℚ, reading_of, ≤ℚ_of_same, ≤ℚ_antisymm, lt_or_le_ℚ}
+use Rattle.nf_phase_equilibrium_laws.proofs.Common.{not_both_ℚ, min_ℚ_cases, le, lt, eq, linear_le, linear_lt, Within, NeverFalls, Link, Network, IsNetwork}
+use Rattle.nf_phase_equilibrium_laws.proofs.Common.{IsLink, hops, sum_in, supply, IsExit, IsOutflow, Flow, label, inflow, outflow, Balances, Equilibrium}
+use Rattle.nf_phase_equilibrium_laws.proofs.Common.{IsExit-after, IsPositive-link, AreLabels-report, IsEarliest-forward, only_at, only_at-here, only_at-else}
+use Rattle.nf_phase_equilibrium_laws.proofs.Common.{sum_out-each, sum_out-same, sum_in-some, ≤ℚ_refl, ≤ℚ_trans, first_of_sum}
 use Rattle.nf_model.specs.Walk.{IsWalk, transit_sum}
-use Rattle.nf_model.specs.Network.{Link, Network, IsNetwork, IsLink, hops, sum_in, supply}
-use Rattle.nf_model.specs.Queue.{IsExit, IsOutflow}
-use Rattle.nf_model.specs.Equilibrium.{Flow, label, inflow, outflow, Balances, Equilibrium}
 use Rattle.nf_model_laws.specs.EarliestLaws.{AreLabels}
 use Rattle.nf_model_laws.proofs.Exists.{HasExit-curve}
-use Rattle.nf_model_laws.proofs.Queues.{IsExit-after}
-use Rattle.nf_model_laws.proofs.Earliest.{IsPositive-link, AreLabels-report, IsEarliest-forward}
 use Rattle.nf_model_laws.proofs.Networks.{IsWalk-link, transit_of-is}
-use Rattle.nf_model_laws.proofs.Potential.{only_at, only_at-here, only_at-else}
-use Rattle.nf_model_laws.proofs.Sums.{sum_out-each, sum_out-same, sum_in-some}
 use Rattle.nf_model_laws.proofs.Supply.{supplied-begins}
 use Rattle.nf_model_laws.proofs.Ways.{way_back}
 use Rattle.nf_check_laws.proofs.Rising.{label-rises}
 use Rattle.nf_phase_equilibrium_laws.proofs.Served.{amount-nn, outflow-entered}
 use Rattle.nf_phase_equilibrium_laws.proofs.Sent.{BalancedAt, into, into-is, out-balances, out-is_into, comes_out}
 use Rattle.nf_phase_equilibrium_laws.proofs.Repeating.{Repeats, none_by_repeating}
-use Rattle.nf_rational_laws.proofs.Chains.{≤ℚ_refl, ≤ℚ_trans}
 use Rattle.nf_rational_laws.proofs.Extremes.{min_left, min_right, min_is_left, min_keeps}
-use Rattle.nf_rational_laws.proofs.Facts.{first_of_sum}
 
 -- The head of a link.
 abbrev pub head_or : Option Link → ℕ

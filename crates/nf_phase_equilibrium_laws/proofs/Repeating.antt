@@ -1,17 +1,9 @@
 -- A curve that never falls and begins with 0. If each value up to a last time is at most the value some time before, the curve is 0 up to
 -- then.
 use Rattle.std.proofs.Common.{◌≡◌, List, [], ◌∷◌, ◌⊎◌, ⊎_elim, sym, ap, subst, refl, ◌∙◌}
-use Rattle.nf_rational.specs.Rational.{ℚ}
-use Rattle.nf_rational.specs.Operations.{0ℚ, ◌+ℚ◌, ◌-ℚ◌, ◌*ℚ◌}
-use Rattle.nf_rational.specs.Order.{◌≤ℚ◌, ◌<ℚ◌, min_ℚ}
-use Rattle.nf_rational_laws.proofs.Polynomial.{reading_of}
-use Rattle.nf_rational_laws.proofs.Order.{≤ℚ_of_lt, ≤ℚ_of_same, ≤ℚ_antisymm, lt_or_le_ℚ}
-use Rattle.nf_rational_laws.proofs.Tests.{min_ℚ_cases}
-use Rattle.nf_rational_laws.proofs.Linear.{le, lt, eq, eq_times, linear_le, linear_lt, linear_eq}
-use Rattle.nf_model.specs.Curve.{Within, NeverFalls, value, slope, TimesRise, IsCurve}
-use Rattle.nf_model_laws.proofs.Affine.{same_from_times}
-use Rattle.nf_model_laws.proofs.Curves.{value-first, value-line, value-after}
-use Rattle.nf_rational_laws.proofs.Chains.{≤ℚ_refl, ≤ℚ_trans}
+use Rattle.nf_phase_equilibrium_laws.proofs.Common.{ℚ, 0ℚ, ◌+ℚ◌, ◌-ℚ◌, ◌*ℚ◌, ◌≤ℚ◌, ◌<ℚ◌, min_ℚ, reading_of, ≤ℚ_of_lt, ≤ℚ_of_same, ≤ℚ_antisymm, lt_or_le_ℚ}
+use Rattle.nf_phase_equilibrium_laws.proofs.Common.{min_ℚ_cases, le, lt, eq, eq_times, linear_le, linear_lt, linear_eq, Within, NeverFalls, value, slope}
+use Rattle.nf_phase_equilibrium_laws.proofs.Common.{TimesRise, IsCurve, same_from_times, value-first, value-line, value-after, ≤ℚ_refl, ≤ℚ_trans}
 
 -- Up to the last time each value is 0, or at most the value some time before.
 abbrev pub Repeats : (ℚ → ℚ) → ℚ → ℚ → Type 0

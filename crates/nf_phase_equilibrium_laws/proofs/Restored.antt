@@ -2,29 +2,21 @@
 use Rattle.std.proofs.Common.{◌≡◌, ℕ, zero, suc, ◌<◌, List, [], ◌∷◌, ◌++◌, length, Option, Some, None, slice_get, unwrap_or, map, sym, ap, subst, refl, ◌∙◌, arith}
 use Rattle.std.specs.Prelude.{Result, Ok}
 use Rattle.std.specs.Option.{option_map_or}
-use Rattle.std.proofs.lemmas.Option.{slice_get_within, same_Some}
+use Rattle.nf_phase_equilibrium_laws.proofs.Common.{slice_get_within, same_Some, ℚ, 0ℚ, ◌≤ℚ◌, ≤ℚ_refl, Point, value, IsCurve, Link, Network, IsNetwork, IsLink}
+use Rattle.nf_phase_equilibrium_laws.proofs.Common.{Trace, Flow, points_at, points_of, label, Equilibrium, EndsAt-value, LabelsAre}
 use Rattle.std.proofs.lemmas.List.{length-map}
-use Rattle.nf_rational.specs.Rational.{ℚ}
-use Rattle.nf_rational.specs.Operations.{0ℚ}
-use Rattle.nf_rational.specs.Order.{◌≤ℚ◌}
-use Rattle.nf_rational_laws.proofs.Chains.{≤ℚ_refl}
 use Rattle.nf_rational_laws.proofs.Results.{same_Ok}
 use Rattle.nf_rational_laws.proofs.Entries.{entry, last-append, slice_get-image}
 use Rattle.nf_frac_def.specs.Passing.{Passing}
 use Rattle.nf_frac_def.specs.Checked.{each}
 use Rattle.nf_frac_def.proofs.Each.{each_length}
-use Rattle.nf_model.specs.Curve.{Point, value, IsCurve}
-use Rattle.nf_model.specs.Network.{Link, Network, IsNetwork, IsLink}
 use Rattle.nf_model.specs.Pattern.{Pattern}
-use Rattle.nf_model.specs.Equilibrium.{Trace, Flow, points_at, points_of, label, Equilibrium}
-use Rattle.nf_model_laws.proofs.Curves.{EndsAt-value}
 use Rattle.nf_thin_def.specs.ReportCurves.{GrowingCurve, LinkCurves}
 use Rattle.nf_thin_def.specs.PhaseRun.{Standing, flow_of}
 use Rattle.nf_thin_def.specs.Ends.{end_of}
 use Rattle.nf_curve_def.specs.Lines.{checked_slope}
 use Rattle.nf_curve_laws.proofs.Operations.{then_ok, checked_slope-is}
 use Rattle.nf_phase_def.specs.Restoring.{value_at_end, link_curves_of, standing_of, last_slope, growing, EndsAtItsLabels}
-use Rattle.nf_phase_laws.specs.Invariant.{LabelsAre}
 use Rattle.nf_phase_laws.specs.CurveSteps.{LastPoint}
 use Rattle.nf_phase_laws.specs.CurveRun.{curves_of}
 use Rattle.nf_phase_laws.proofs.CurveRun.{Grown}

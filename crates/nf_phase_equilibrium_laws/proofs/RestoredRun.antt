@@ -1,15 +1,10 @@
 -- A run restored from an equilibrium in short form that ends at its labels.
-use Rattle.std.proofs.Common.{◌≡◌, ℕ, ◌<◌, List, [], ◌∷◌, length, sym, ap, subst, refl, ◌∙◌, arith}
-use Rattle.std.specs.Prelude.{Option, Some, None, slice_get, Ok}
-use Rattle.std.proofs.lemmas.Option.{slice_get_within}
-use Rattle.nf_rational.specs.Rational.{ℚ}
+use Rattle.std.proofs.Common.{◌≡◌, ℕ, ◌<◌, List, [], ◌∷◌, length, sym, ap, subst, refl, ◌∙◌, arith, Option, Some, None, slice_get, Ok}
+use Rattle.nf_phase_equilibrium_laws.proofs.Common.{slice_get_within, ℚ, Point, IsCurve, IsShort, Network, IsNetwork, Flow, points_at, points_of, Equilibrium}
 use Rattle.nf_rational_laws.proofs.Results.{same_Ok}
 use Rattle.nf_frac_def.specs.Passing.{Passing}
 use Rattle.nf_frac_def.specs.Checked.{Checked, each}
-use Rattle.nf_model.specs.Curve.{Point, IsCurve, IsShort}
-use Rattle.nf_model.specs.Network.{Network, IsNetwork}
 use Rattle.nf_model.specs.Pattern.{Pattern}
-use Rattle.nf_model.specs.Equilibrium.{Flow, points_at, points_of, Equilibrium}
 use Rattle.nf_thin_def.specs.ReportCurves.{GrowingCurve, LinkCurves}
 use Rattle.nf_thin_def.specs.PhaseRun.{Standing, IsShortFlow, flow_of}
 use Rattle.nf_curve_def.specs.Lines.{checked_slope}

@@ -1,19 +1,11 @@
 -- The amount that has left a link by a time. It never falls. It is at most the amount that had entered by a time with a later exit, and
 -- less if something waited at that time.
 use Rattle.std.proofs.Common.{◌≡◌, [], ◌∷◌, ⊎_elim, Option, Some, None, sym, subst, refl}
-use Rattle.nf_rational.specs.Rational.{ℚ}
-use Rattle.nf_rational.specs.Operations.{0ℚ, ◌+ℚ◌, ◌-ℚ◌, ◌*ℚ◌, ◌/ℚ◌}
-use Rattle.nf_rational.specs.Order.{◌≤ℚ◌, ◌<ℚ◌}
-use Rattle.nf_rational_laws.proofs.Polynomial.{reading_of}
-use Rattle.nf_rational_laws.proofs.Order.{≤ℚ_of_lt, ≤ℚ_of_same, lt_or_le_ℚ, less_nn}
-use Rattle.nf_rational_laws.proofs.Linear.{le, lt, eq, le_times, eq_times, linear_le, linear_lt}
-use Rattle.nf_model.specs.Curve.{IsGreatest, IsLeast, NeverFalls}
-use Rattle.nf_model.specs.Queue.{IsQueue, IsExit, IsOutflow}
+use Rattle.nf_phase_equilibrium_laws.proofs.Common.{ℚ, 0ℚ, ◌+ℚ◌, ◌-ℚ◌, ◌*ℚ◌, ◌/ℚ◌, ◌≤ℚ◌, ◌<ℚ◌, reading_of, ≤ℚ_of_lt, ≤ℚ_of_same, lt_or_le_ℚ, less_nn, le, lt}
+use Rattle.nf_phase_equilibrium_laws.proofs.Common.{eq, le_times, eq_times, linear_le, linear_lt, IsGreatest, IsLeast, NeverFalls, IsQueue, IsExit, IsOutflow}
+use Rattle.nf_phase_equilibrium_laws.proofs.Common.{ps-times_gap, quotient-times, ≤ℚ_refl, ≤ℚ_trans, less_le}
 use Rattle.nf_model_laws.specs.Capacity.{IsPositive}
-use Rattle.nf_model_laws.proofs.Affine.{ps-times_gap, quotient-times}
 use Rattle.nf_model_laws.proofs.Exits.{IsOutflow-at_exit}
-use Rattle.nf_rational_laws.proofs.Chains.{≤ℚ_refl, ≤ℚ_trans}
-use Rattle.nf_rational_laws.proofs.Facts.{less_le}
 
 -- ---- over plain numbers: f entered by the time u, at least 0, and c the capacity
 nn_later : (f c z r u y : ℚ) → 0ℚ ≤ℚ f → 0ℚ <ℚ c → u ≤ℚ z -ℚ r → f +ℚ c *ℚ (z -ℚ r -ℚ u) ≡ y → 0ℚ ≤ℚ y

@@ -1,7 +1,8 @@
 -- Curves in short form extended by a point: the recorded slope is that of the last two points.
 use Rattle.std.proofs.Common.{◌≡◌, ℕ, suc, List, [], ◌∷◌, ◌++◌, length, Bool, true, false, sym, ap, subst, refl, ◌∙◌, append_assoc, length-append, arith}
+use Rattle.nf_model_laws.proofs.Curves.{IsCurve-rises}
 use Rattle.nf_phase_laws.proofs.Common.{◌-◌, ◌+◌, Option, Some, None, take, last_or, option_map_or, same_Some, ℚ, 0ℚ, ◌-ℚ◌, ◌*ℚ◌, ◌<ℚ◌, reading_of, less_ps, eq}
-use Rattle.nf_phase_laws.proofs.Common.{linear_eq, Point, slope, TimesRise, IsCurve, AreSlopes, same_from_times, slope-times, TimesRise-rest, keeps_slope}
+use Rattle.nf_phase_laws.proofs.Common.{linear_eq, Point, slope, AreSlopes, same_from_times, slope-times, TimesRise-rest, keeps_slope}
 use Rattle.nf_phase_laws.proofs.Common.{with_point, with_rate, LastPoint, GoesOnTo, last-append, false≢true}
 use Rattle.nf_thin_def.specs.Ends.{end_of}
 use Rattle.nf_phase_laws.proofs.CurveSteps.{GoesOnTo-appended, GoesOnTo-replaced}
@@ -70,10 +71,6 @@ reached points last r l s =
       slope_is = ap (slope s.before) (sym same) ∙ s.slope_is;
     }
 
-TimesRise-curve : (points : List Point) → IsCurve points → TimesRise points
-TimesRise-curve [] c = absurd c
-TimesRise-curve (p ∷ rest) c = c.1
-
 pub taken : (front : List Point) (before last new : Point) → take (length (front ++ before ∷ last ∷ []) - 1) (front ++ before ∷ last ∷ []) ++ new ∷ [] ≡ front ++ before ∷ new ∷ []
 taken front before last new =
     ap (λ (ps : List Point). take (length ps - 1) ps ++ new ∷ []) (sym (append_assoc front (before ∷ []) (last ∷ [])))
@@ -97,7 +94,7 @@ module _ (points : List Point) (last new : Point) (r : ℚ) (l : LastPoint point
     last_before = subst (λ (ps : List Point). LastPoint ps last) same l
 
     earlier : before.0 <ℚ last.0
-    earlier = (TimesRise-rest front before (last ∷ []) (TimesRise-curve _ last_before.curve)).0
+    earlier = (TimesRise-rest front before (last ∷ []) (IsCurve-rises _ last_before.curve)).0
 
     joined : before.0 <ℚ new.0 → slope before new ≡ r
     joined k = slope-joined before last new r earlier h k s e
@@ -106,7 +103,7 @@ module _ (points : List Point) (last new : Point) (r : ℚ) (l : LastPoint point
     goes = GoesOnTo-replaced front before last new last_before h (s ∙ sym e)
 
     later : before.0 <ℚ new.0
-    later = (TimesRise-rest front before (new ∷ []) (TimesRise-curve _ goes.ends.curve)).0
+    later = (TimesRise-rest front before (new ∷ []) (IsCurve-rises _ goes.ends.curve)).0
 
     went_same : Went points (take (length points - 1) points ++ new ∷ []) last new r
     went_same = subst (λ (ps : List Point). Went ps (take (length ps - 1) ps ++ new ∷ []) last new r) (sym same)

@@ -1,28 +1,17 @@
 -- Each line after the head leads to a parser state whose lines are those read so far.
 use Rattle.std.proofs.Common.{◌≡◌, ◌⊎◌, inl, inr, ⊎_elim, ℕ, zero, suc, ◌<◌, ◌≤◌, ◌==◌, Bool, true, false, not, ◌||◌, nat_lt, List, [], ◌∷◌, ◌++◌, length, flat_map, set, Option, Some, None, Result, Ok, Err, refl, sym, ap, subst, ◌∙◌, codes, arith, append_assoc, append-nil}
-use Rattle.std.proofs.lemmas.List.{length-set}
-use Rattle.std.specs.List.{AllByRecursion}
-use Rattle.std.proofs.lemmas.Bool.{ltb-false, or_parts, not-false}
-use Rattle.nf_rational.specs.Rational.{ℚ}
-use Rattle.nf_model.specs.declared.State.{State}
-use Rattle.nf_model.specs.declared.State.TheVariants.{Tight, Full, Zero}
-use Rattle.nf_model.specs.Network.{Link, IsLink}
-use Rattle.nf_model.specs.Pattern.{Pattern, HasState}
-use Rattle.nf_net_def.specs.Names.{Name, has_name, place_of, name_at}
-use Rattle.nf_net_def.specs.Named.{Named}
-use Rattle.nf_net_def.specs.Report.{state_word, state_line}
-use Rattle.nf_net_laws.proofs.NameFacts.{place_below, name_at-place}
-use Rattle.nf_report_def.specs.declared.ReportRule.{ReportRule}
-use Rattle.nf_report_def.specs.declared.ReportRule.TheVariants.{P3, P5, P6, P7, P9, P13, P14}
-use Rattle.nf_report_def.specs.ReportCauses.{or_rule}
+use Rattle.nf_report_laws.proofs.Common.{length-set, AllByRecursion, ltb-false, or_parts, not-false, ℚ, State, Tight, Full, Zero, Link, IsLink, Pattern}
+use Rattle.nf_report_laws.proofs.Common.{HasState, Name, has_name, place_of, name_at, Named, state_word, state_line, place_below, name_at-place, ReportRule, P3}
+use Rattle.nf_report_laws.proofs.Common.{P5, P6, P7, P9, P13, P14, or_rule, Kind, OfLabel, OfNever, OfInflow, OfOutflow, OfQueue, CurveKey, key_word}
+use Rattle.nf_report_laws.proofs.Common.{curve_keys, Stage, InBody, AtEnd, ReportDraft, begins_with, with_current, has_all, state_in, state_of_link}
+use Rattle.nf_report_laws.proofs.Common.{capacity_of, capacity_at, end_line, LineKind, OfCurve, OfState, OfEnd, never_kinds, line_kind, line_of_kind, body_line}
+use Rattle.nf_report_laws.proofs.Common.{nothing_more, staged_line, report_line, same_Ok}
 use Rattle.nf_report_def.specs.ReportLines as lines
-use Rattle.nf_report_def.specs.ReportLines.{Kind, OfLabel, OfNever, OfInflow, OfOutflow, OfQueue, CurveKey, key_word, curve_keys, Stage, InBody, AtEnd, ReportDraft, begins_with, with_current, has_all, state_in, state_of_link, capacity_of, capacity_at, end_line, LineKind, OfCurve, OfState, OfEnd, never_kinds, line_kind, line_of_kind, body_line, nothing_more, staged_line, report_line}
 use Rattle.nf_report_laws.proofs.Outcomes.{both_ok, no_err, where_true, where_false, or_ok, named_is}
 use Rattle.nf_report_laws.proofs.ReportShape.{curve_lines, IsRead, state_lines_of, end_lines}
 use Rattle.nf_report_laws.proofs.ReportSteps.{next_of, Reads}
 use Rattle.nf_report_laws.proofs.CurvesBack.{keys_of}
 use Rattle.nf_report_laws.proofs.CurvesKept.{all_closed, AreKept, LineKept, curve_kept}
-use Rattle.nf_rational_laws.proofs.Results.{same_Ok}
 
 -- ---- states
 -- none from a place on

@@ -1,11 +1,8 @@
 -- A property that each line of an accepted side file preserves is preserved by all lines.
 use Rattle.std.proofs.Common.{◌≡◌, ℕ, List, [], ◌∷◌, Bool, true, false, Option, Some, None, Result, Ok, Err, refl, subst}
-use Rattle.nf_frac_def.specs.Checked.{◌>>=◌}
-use Rattle.nf_text_def.specs.Words.{ReadLine, read_lines, content_lines}
+use Rattle.nf_report_laws.proofs.Common.{◌>>=◌, ReadLine, read_lines, content_lines, is_head, first_rule, unless_rule, same_Ok}
 use Rattle.nf_text_def.specs.Faults.{LineFault, first_fault}
-use Rattle.nf_side_def.specs.Lines.{is_head, first_rule, unless_rule}
 use Rattle.nf_side_def.specs.Frame.{Broken, Frame, in_line, add_lines, draft_of, broken_bytes, by_bytes, file_in}
-use Rattle.nf_rational_laws.proofs.Results.{same_Ok}
 use Rattle.nf_report_laws.proofs.Outcomes.{no_err, Both, both_ok, where_true}
 
 -- ---- a rule that isn't broken

@@ -1,21 +1,9 @@
 -- The parser state after the four lines of the head.
 use Rattle.std.proofs.Common.{◌≡◌, ◌↔◌, ℕ, Bool, true, false, not, ◌||◌, List, [], ◌∷◌, Option, Some, None, is_none, Ok, refl, sym, ap, subst, ◌∙◌, codes, bytes_eq}
-use Rattle.nf_rational.specs.Rational.{ℚ}
-use Rattle.nf_rational.specs.Operations.{0ℚ}
-use Rattle.nf_rational.specs.Order.{◌≤ℚ◌, lt_ℚ}
-use Rattle.nf_rational_laws.proofs.Tests.{not_less_of_test}
-use Rattle.nf_frac_words.specs.Digits.{digits_of}
-use Rattle.nf_frac_words.specs.Printed.{printed}
-use Rattle.nf_net_def.specs.declared.Cause.{Cause}
-use Rattle.nf_net_def.specs.Causes.{cause_words}
-use Rattle.nf_net_def.specs.Named.{Named}
-use Rattle.nf_net_def.specs.WellNamed.{IsFraction}
-use Rattle.nf_net_laws.proofs.NameFacts.{same_names}
-use Rattle.nf_rational.specs.Signs.{is_same}
-use Rattle.nf_report_def.specs.declared.ReportRule.TheVariants.{P4, P5, P6, P8, P10}
-use Rattle.nf_report_def.specs.ReportCauses.{printed_number, cause_in}
-use Rattle.nf_report_def.specs.ReportLines.{AtVersion, AtHorizon, AtReached, AtCause, InBody, AtEnd, ReportDraft, empty_report, are_alike, is_version, behind, number_alone, horizon_line, reached_line, cause_line}
-use Rattle.nf_report_laws.specs.Readable.{IsReadableCause}
+use Rattle.nf_report_laws.proofs.Common.{ℚ, 0ℚ, ◌≤ℚ◌, lt_ℚ, not_less_of_test, digits_of, printed, Cause, cause_words, Named, IsFraction, same_names, is_same}
+use Rattle.nf_report_laws.proofs.Common.{P4, P5, P6, P8, P10, printed_number, cause_in, AtVersion, AtHorizon, AtReached, AtCause, InBody, AtEnd, ReportDraft}
+use Rattle.nf_report_laws.proofs.Common.{empty_report, are_alike, is_version, behind, number_alone, horizon_line, reached_line, cause_line, IsReadableCause}
+use Rattle.nf_report_laws.proofs.Common.{and_parts, or_parts, same_Ok, test_of_same, same_of_test}
 use Rattle.nf_report_laws.proofs.Outcomes.{both_ok, no_err, where_true, where_false, or_ok}
 use Rattle.nf_report_laws.proofs.NumbersBack.{number_is}
 use Rattle.nf_report_laws.proofs.CausesBack.{cause_is}
@@ -23,9 +11,6 @@ use Rattle.nf_report_laws.proofs.ReportShape.{head_lines}
 use Rattle.nf_report_laws.proofs.ReportSteps.{next_of, Reads}
 use Rattle.nf_report_laws.proofs.ReportBack.{after_head}
 use Rattle.nf_report_laws.proofs.BodyKept.{in_stage}
-use Rattle.std.proofs.lemmas.Bool.{and_parts, or_parts}
-use Rattle.nf_rational_laws.proofs.Results.{same_Ok}
-use Rattle.nf_rational_laws.proofs.SignTests.{test_of_same, same_of_test}
 
 -- ---- the words of each line
 version_is : (n : Named) (words : List (List ℕ)) → is_version n words ≡ true → words ≡ codes "report" ∷ digits_of n.version ∷ []

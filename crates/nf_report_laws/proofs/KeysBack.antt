@@ -1,20 +1,11 @@
 -- The curves of a flow have the keys of the network, no two neighbours of which are the same.
 use Rattle.std.proofs.Common.{◌≡◌, ℕ, ◌==◌, Bool, true, false, List, [], ◌∷◌, ◌++◌, length, map, flat_map, Option, Some, None, refl, sym, ap, subst, ◌∙◌, arith, bytes_eq, append_assoc}
 use Rattle.std.specs.List.{AllByRecursion, IsDistinct}
-use Rattle.std.proofs.lemmas.Bool.{eqb-true}
-use Rattle.std.proofs.lemmas.List.{map-append}
-use Rattle.nf_model.specs.Curve.{Point}
-use Rattle.nf_model.specs.Equilibrium.{Trace, Flow}
-use Rattle.nf_net_def.specs.Names.{Name, with_names, without}
-use Rattle.nf_net_def.specs.Named.{Named, ends}
-use Rattle.nf_net_def.specs.WellNamed.{IsNamed}
-use Rattle.nf_net_laws.proofs.NameFacts.{bytes_eq-self}
-use Rattle.nf_report_def.specs.ReportLines.{Kind, OfLabel, OfNever, OfInflow, OfOutflow, OfQueue, CurveKey, key_of, curve_keys, ReadCurve}
+use Rattle.nf_report_laws.proofs.Common.{eqb-true, map-append, Point, Trace, Flow, Name, with_names, without, Named, ends, IsNamed, bytes_eq-self, Kind}
+use Rattle.nf_report_laws.proofs.Common.{OfLabel, OfNever, OfInflow, OfOutflow, OfQueue, CurveKey, key_of, curve_keys, ReadCurve, every_append, not_both}
 use Rattle.nf_net_laws.proofs.LinkFacts.{distinct_left}
-use Rattle.nf_net_laws.proofs.AcceptedNamed.{every_append}
 use Rattle.nf_report_laws.proofs.ReportShape.{IsReadPoints, IsReadTrace, IsRead, label_curves, never_curves, link_curves, curves_from, AreRead}
 use Rattle.nf_report_laws.proofs.CurvesBack.{IsAllowed, Differ, Adjacent, keys_of}
-use Rattle.nf_rational_laws.proofs.Results.{not_both}
 
 -- ---- keys
 label_keys : (names : List Name) (labels : List (List Point)) → length labels ≡ length names → keys_of (label_curves names labels) ≡ map (key_of OfLabel) names

@@ -1,19 +1,11 @@
 -- The pieces that are read from a loads file.
 use Rattle.std.proofs.Common.{◌≡◌, ℕ, zero, suc, List, [], ◌∷◌, ◌++◌, length, map, set, None, slice_get, unwrap_or, Ok, refl, ap, subst, ◌∙◌}
-use Rattle.std.proofs.lemmas.List.{length-set}
-use Rattle.std.specs.List.{AllByRecursion}
-use Rattle.nf_frac_def.specs.Checked.{◌>>=◌}
-use Rattle.nf_text_def.specs.Words.{read_lines, content_lines}
-use Rattle.nf_model.specs.Network.{Piece, ArePieces}
-use Rattle.nf_net_def.specs.Names.{Name}
-use Rattle.nf_net_def.specs.Named.{Named}
-use Rattle.nf_side_def.specs.Lines.{unless_rule}
+use Rattle.nf_report_laws.proofs.Common.{length-set, AllByRecursion, ◌>>=◌, read_lines, content_lines, Piece, ArePieces, Name, Named, unless_rule, same_Ok}
 use Rattle.nf_report_def.specs.declared.LoadRule.TheVariants.{L4, L9, L10, L11, L12}
 use Rattle.nf_report_def.specs.LoadsFile.{LoadEntry, Rate, End, LoadsDraft, most_lines_of_a_link, pieces_at, load_entry, load_rule_of, load_after, add_load, if_ended, loads_frame, loads_in}
 use Rattle.nf_report_laws.proofs.FrameKept.{no_rule, draft_kept, file_is}
 use Rattle.nf_report_laws.proofs.Outcomes.{both_ok, where_true, where_false}
 use Rattle.nf_report_laws.proofs.PiecesKept.{GoOn, go_on_pieces, piece_kept}
-use Rattle.nf_rational_laws.proofs.Results.{same_Ok}
 
 -- ---- of each link
 all_set : {X : Type 0} (P : X → Type 0) (xs : List X) (i : ℕ) (x : X) → AllByRecursion P xs → P x → AllByRecursion P (set xs i x)

@@ -2,27 +2,18 @@
 use Rattle.std.proofs.Common.{◌≡◌, ℕ, Bool, true, false, if◌then◌else◌, List, Option, Some, None, Result, Ok, Err, refl, sym, ap, subst, ◌∙◌, bytes_eq, codes}
 use Rattle.std.specs.Result.{result_ok}
 use Rattle.std.proofs.lemmas.Option.{same_Some}
-use Rattle.nf_rational.specs.Rational.{ℚ}
-use Rattle.nf_frac_def.specs.Checked.{◌>>=◌}
+use Rattle.nf_report_laws.proofs.Common.{ℚ, ◌>>=◌, printed, count_word, IsFraction, same_names, bytes_eq-self, P8, or_rule, if_printed, printed_number}
+use Rattle.nf_report_laws.proofs.Common.{some_place, place_in, point_numbers, some_rate, rate_word, Point, IsCount, IsCountOrNone, IsFractionPoint}
+use Rattle.nf_report_laws.proofs.Common.{IsFractionOrNone, same_Ok}
 use Rattle.nf_frac_words.specs.declared.NumberFault.{NumberFault}
 use Rattle.nf_frac_words.specs.Digits.{digits_of, count_of}
 use Rattle.nf_frac_words.specs.Numbers.{number_of, parts_of}
-use Rattle.nf_frac_words.specs.Printed.{printed}
 use Rattle.nf_frac_words.proofs.Counts.{digits_from_count, count_from_digits}
 use Rattle.nf_frac_words.proofs.ReadBack.{number_read}
-use Rattle.nf_net_def.specs.Causes.{count_word}
 use Rattle.nf_net_def.specs.Numbers.{greatest}
-use Rattle.nf_net_def.specs.WellNamed.{IsFraction}
-use Rattle.nf_net_laws.proofs.NameFacts.{same_names, bytes_eq-self}
 use Rattle.nf_net_laws.proofs.LinesBack.{within}
 use Rattle.nf_net_laws.proofs.NumbersKept.{number_kept}
-use Rattle.nf_report_def.specs.declared.ReportRule.TheVariants.{P8}
-use Rattle.nf_report_def.specs.ReportCauses.{or_rule, if_printed, printed_number, some_place, place_in}
-use Rattle.nf_report_def.specs.ReportLines.{point_numbers, some_rate, rate_word}
-use Rattle.nf_model.specs.Curve.{Point}
-use Rattle.nf_report_laws.specs.Readable.{IsCount, IsCountOrNone, IsFractionPoint, IsFractionOrNone}
 use Rattle.nf_report_laws.proofs.Outcomes.{both_ok, or_ok}
-use Rattle.nf_rational_laws.proofs.Results.{same_Ok}
 
 -- ---- numbers
 pub number_back : (q : ℚ) → IsFraction q → printed_number (printed q) ≡ Some q

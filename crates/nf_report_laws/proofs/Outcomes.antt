@@ -1,12 +1,7 @@
 -- Consequences of a successful test or step, and conditions for success.
 use Rattle.std.proofs.Common.{◌≡◌, ℕ, List, [], ◌∷◌, Bool, true, false, if◌then◌else◌, Option, Some, None, Result, Ok, Err, refl, ap, ◌∙◌, bytes_eq}
-use Rattle.std.specs.List.{AllByRecursion}
-use Rattle.nf_frac_def.specs.Checked.{◌>>=◌}
+use Rattle.nf_report_laws.proofs.Common.{AllByRecursion, ◌>>=◌, same_names, ReportRule, or_rule, first_named, same_Ok}
 use Rattle.nf_frac_def.proofs.Binding.{bind_ok}
-use Rattle.nf_net_laws.proofs.NameFacts.{same_names}
-use Rattle.nf_report_def.specs.declared.ReportRule.{ReportRule}
-use Rattle.nf_report_def.specs.ReportCauses.{or_rule, first_named}
-use Rattle.nf_rational_laws.proofs.Results.{same_Ok}
 
 pub no_err : {A E : Type 0} (broken : E) (y : A) → Err broken ≡ Ok y → ⊥
 no_err broken y e = absurd (cc)

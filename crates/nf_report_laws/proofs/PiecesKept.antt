@@ -1,15 +1,8 @@
 -- Pieces that lines give one by one, each behind those before it by the rules of a piece.
 use Rattle.std.proofs.Common.{◌≡◌, ℕ, zero, suc, List, [], ◌∷◌, ◌++◌, length, Bool, false, ◌||◌, nat_le, Option, Some, None, subst}
-use Rattle.std.specs.List.{last_or}
-use Rattle.std.proofs.lemmas.Bool.{or_parts}
+use Rattle.nf_report_laws.proofs.Common.{last_or, or_parts, ℚ, 0ℚ, ◌≤ℚ◌, ◌<ℚ◌, lt_of_test, Piece, IsPiece, ArePieces, piece_rule}
 use Rattle.std.proofs.lemmas.Option.{none-some, same_Some}
-use Rattle.nf_rational.specs.Rational.{ℚ}
-use Rattle.nf_rational.specs.Operations.{0ℚ}
-use Rattle.nf_rational.specs.Order.{◌≤ℚ◌, ◌<ℚ◌}
-use Rattle.nf_rational_laws.proofs.Tests.{lt_of_test}
-use Rattle.nf_model.specs.Network.{Piece, IsPiece, ArePieces}
 use Rattle.nf_net_def.specs.NetLines.{is_negative, is_not_after}
-use Rattle.nf_side_def.specs.Lines.{piece_rule}
 use Rattle.nf_report_laws.proofs.FrameKept.{rules_out}
 use Rattle.nf_net_laws.proofs.DraftKept.{from_not_negative}
 

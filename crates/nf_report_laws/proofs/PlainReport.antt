@@ -1,29 +1,17 @@
 -- The lines of a report are made of plain words, and are short.
 use Rattle.std.proofs.Common.{◌≡◌, ℕ, ◌*◌, ◌^◌, ◌<◌, ◌≤◌, true, List, [], ◌∷◌, length, flat_map, refl, arith, codes, Option, Some, None, lit<}
-use Rattle.std.specs.List.{AllByRecursion, join_with_byte}
-use Rattle.nf_rational.specs.Rational.{ℚ}
+use Rattle.nf_report_laws.proofs.Common.{AllByRecursion, join_with_byte, ℚ, State, Tight, Full, Zero, Point, Pattern, digits_of, Cause, part_word, op_word}
+use Rattle.nf_report_laws.proofs.Common.{count_word, cause_words, Name, is_name, IsFraction, point_lines, trace_lines, state_word, every_append, Kind, OfLabel}
+use Rattle.nf_report_laws.proofs.Common.{OfNever, OfInflow, OfOutflow, OfQueue, ReadCurve, IsCount, IsCountOrNone, AreFractionPoints, IsReadableCause}
 use Rattle.nf_frac_def.specs.declared.Op.{Op}
 use Rattle.nf_frac_def.specs.declared.Op.TheVariants.{Sum, Difference, Product, Quotient}
 use Rattle.nf_frac_def.specs.declared.Part.{Part}
 use Rattle.nf_frac_def.specs.declared.Part.TheVariants.{Slack, Table, Verdict, Extend, Advance, Curve, Load, Check, Quick}
-use Rattle.nf_model.specs.declared.State.{State}
-use Rattle.nf_model.specs.declared.State.TheVariants.{Tight, Full, Zero}
-use Rattle.nf_model.specs.Curve.{Point}
-use Rattle.nf_model.specs.Pattern.{Pattern}
-use Rattle.nf_frac_words.specs.Digits.{digits_of}
 use Rattle.nf_frac_words.proofs.Digits.{some_digits}
 use Rattle.nf_frac_words.proofs.Bytes.{digits_of_bytes}
-use Rattle.nf_net_def.specs.declared.Cause.{Cause}
 use Rattle.nf_net_def.specs.declared.Cause.TheVariants.{Phases, Patterns, Passed, NoPattern}
-use Rattle.nf_net_def.specs.Causes.{part_word, op_word, count_word, cause_words}
-use Rattle.nf_net_def.specs.Names.{Name, is_name}
-use Rattle.nf_net_def.specs.WellNamed.{IsFraction}
-use Rattle.nf_net_def.specs.Report.{point_lines, trace_lines, state_word}
 use Rattle.nf_net_laws.proofs.ShortWords.{length_digits, number_bytes, IsShortWord, short_name, short_number, short_key, length_join, plain_words}
 use Rattle.nf_net_laws.specs.LineLaws.{AreWords, AreShort}
-use Rattle.nf_net_laws.proofs.AcceptedNamed.{every_append}
-use Rattle.nf_report_def.specs.ReportLines.{Kind, OfLabel, OfNever, OfInflow, OfOutflow, OfQueue, ReadCurve}
-use Rattle.nf_report_laws.specs.Readable.{IsCount, IsCountOrNone, AreFractionPoints, IsReadableCause}
 use Rattle.nf_report_laws.proofs.ReportShape.{lines_of_kind, curve_lines, IsOfKind, IsRead, state_lines_of, end_lines, head_lines}
 
 -- ---- words

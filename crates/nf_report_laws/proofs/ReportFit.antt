@@ -1,12 +1,7 @@
 -- A well formed report with readable numbers, curve by curve; and back.
 use Rattle.std.proofs.Common.{◌≡◌, ℕ, zero, suc, ◌<◌, List, [], ◌∷◌, length, Option, Some, refl, sym, ap, subst, ◌∙◌, arith}
-use Rattle.std.specs.List.{AllByRecursion}
-use Rattle.nf_model.specs.Curve.{Point, IsCurve}
-use Rattle.nf_model.specs.Equilibrium.{Trace, points_at, points_of}
-use Rattle.nf_net_def.specs.Named.{Named}
-use Rattle.nf_net_def.specs.WellNamed.{IsNamed}
-use Rattle.nf_net_def.specs.Report.{Report, HaveRates, IsWellFormed}
-use Rattle.nf_report_laws.specs.Readable.{AreFractionPoints, IsFractionTrace, IsReadable}
+use Rattle.nf_report_laws.proofs.Common.{AllByRecursion, Point, IsCurve, Trace, points_at, points_of, Named, IsNamed, Report, HaveRates, IsWellFormed}
+use Rattle.nf_report_laws.proofs.Common.{AreFractionPoints, IsFractionTrace, IsReadable}
 use Rattle.nf_report_laws.proofs.ReportShape.{IsReadPoints, IsReadTrace}
 use Rattle.nf_report_laws.proofs.ReportBack.{IsFit}
 

@@ -1,22 +1,12 @@
 -- A text that is read as a report is the text of that report, which is well formed and readable.
 use Rattle.std.proofs.Common.{◌≡◌, inl, ℕ, zero, suc, List, [], ◌∷◌, ◌++◌, length, map, flat_map, replicate, Option, Some, None, Result, Ok, refl, sym, ap, subst, ◌∙◌}
-use Rattle.nf_rational.specs.Rational.{ℚ}
-use Rattle.nf_rational.specs.Operations.{0ℚ}
-use Rattle.nf_rational.specs.Order.{◌≤ℚ◌}
+use Rattle.nf_report_laws.proofs.Common.{ℚ, 0ℚ, ◌≤ℚ◌, line_of_words, read_line, read_lines, State, Full, HasState, cause_words, Named, IsFraction, IsNamed}
+use Rattle.nf_report_laws.proofs.Common.{Report, IsWellFormed, report_text, OfLabel, OfInflow, OfOutflow, OfQueue, Stage, AtVersion, AtHorizon, AtReached}
+use Rattle.nf_report_laws.proofs.Common.{AtCause, InBody, AtEnd, ReportDraft, empty_report, IsReadable, same_Ok}
 use Rattle.nf_text_def.specs.Lines.{TextLine, lines}
-use Rattle.nf_text_def.specs.Words.{line_of_words, read_line, read_lines}
 use Rattle.nf_text_def.specs.Faults.{LineFault, first_fault}
 use Rattle.nf_net_laws.proofs.Wholes.{text_whole}
-use Rattle.nf_model.specs.declared.State.{State}
-use Rattle.nf_model.specs.declared.State.TheVariants.{Full}
-use Rattle.nf_model.specs.Pattern.{HasState}
-use Rattle.nf_net_def.specs.Causes.{cause_words}
-use Rattle.nf_net_def.specs.Named.{Named}
-use Rattle.nf_net_def.specs.WellNamed.{IsFraction, IsNamed}
-use Rattle.nf_net_def.specs.Report.{Report, IsWellFormed, report_text}
-use Rattle.nf_report_def.specs.ReportLines.{OfLabel, OfInflow, OfOutflow, OfQueue, Stage, AtVersion, AtHorizon, AtReached, AtCause, InBody, AtEnd, ReportDraft, empty_report}
 use Rattle.nf_report_def.specs.ReportFile.{ReportBroken, as_report_rule, points_read, traces_read, report_lines_from, report_draft, report_of_draft, if_at_end, report_by_bytes, report_in}
-use Rattle.nf_report_laws.specs.Readable.{IsReadable}
 use Rattle.nf_report_laws.proofs.Outcomes.{both_ok, no_err}
 use Rattle.nf_report_laws.proofs.ReportShape.{curve_lines, curves_from, state_lines_of, end_lines, head_lines, lines_by_curves, gives_flow}
 use Rattle.nf_report_laws.proofs.ReportSteps.{next_of, words_of, lines_are_read, words_text}
@@ -25,7 +15,6 @@ use Rattle.nf_report_laws.proofs.ReportFit.{well_formed, readable}
 use Rattle.nf_report_laws.proofs.BodyKept.{Blank, blank_lines, IsKept, Finished, body_kept}
 use Rattle.nf_report_laws.proofs.HeadKept.{HeadIs, head_is}
 use Rattle.nf_report_laws.proofs.Splits.{AreOfFlow, are_of_flow}
-use Rattle.nf_rational_laws.proofs.Results.{same_Ok}
 
 -- ---- the parts of a reading
 by_bytes : (fault : Option LineFault) (read : Result Report ReportBroken) (report : Report) → report_by_bytes fault read ≡ Ok report → read ≡ Ok report

@@ -1,21 +1,10 @@
 -- The curves of a flow in the order of a report, and the lines of a report by these.
 use Rattle.std.proofs.Common.{◌≡◌, ℕ, zero, suc, ◌+◌, Bool, false, cond, List, [], ◌∷◌, ◌++◌, length, map, filter, flat_map, None, slice_get, unwrap_or, refl, sym, ap, ◌∙◌, codes, bytes_eq, arith, append_assoc, append-nil}
-use Rattle.std.specs.List.{AllByRecursion, range_with_len}
+use Rattle.nf_report_laws.proofs.Common.{AllByRecursion, range_with_len, ℚ, Point, IsCurve, Trace, Flow, points_at, Pattern, digits_of, printed, Name, name_at}
+use Rattle.nf_report_laws.proofs.Common.{Named, cause_words, IsFraction, Report, point_lines, trace_lines, trace_at, state_line, report_lines, Kind, OfLabel}
+use Rattle.nf_report_laws.proofs.Common.{OfNever, OfInflow, OfOutflow, OfQueue, key_word, key_of, ReadCurve, curves_of, points_read, traces_read}
+use Rattle.nf_report_laws.proofs.Common.{AreFractionPoints}
 use Rattle.std.proofs.lemmas.Grind.{flat_map-append}
-use Rattle.nf_rational.specs.Rational.{ℚ}
-use Rattle.nf_model.specs.Curve.{Point, IsCurve}
-use Rattle.nf_model.specs.Equilibrium.{Trace, Flow, points_at}
-use Rattle.nf_model.specs.Pattern.{Pattern}
-use Rattle.nf_frac_words.specs.Digits.{digits_of}
-use Rattle.nf_frac_words.specs.Printed.{printed}
-use Rattle.nf_net_def.specs.Names.{Name, name_at}
-use Rattle.nf_net_def.specs.Named.{Named}
-use Rattle.nf_net_def.specs.Causes.{cause_words}
-use Rattle.nf_net_def.specs.WellNamed.{IsFraction}
-use Rattle.nf_net_def.specs.Report.{Report, point_lines, trace_lines, trace_at, state_line, report_lines}
-use Rattle.nf_report_def.specs.ReportLines.{Kind, OfLabel, OfNever, OfInflow, OfOutflow, OfQueue, key_word, key_of, ReadCurve}
-use Rattle.nf_report_def.specs.ReportFile.{curves_of, points_read, traces_read}
-use Rattle.nf_report_laws.specs.Readable.{AreFractionPoints}
 use Rattle.std.proofs.lemmas.List.Elements.{filter-append}
 
 -- ---- a curve that was read, and its lines

@@ -1,12 +1,7 @@
 -- Curves with the keys of a network are the curves of a flow.
 use Rattle.std.proofs.Common.{◌≡◌, suc, List, [], ◌∷◌, ◌++◌, length, map, refl, sym, ap, subst, ◌∙◌, append_assoc}
-use Rattle.std.specs.List.{AllByRecursion}
-use Rattle.nf_rational.specs.Rational.{ℚ}
-use Rattle.nf_model.specs.Curve.{Point}
-use Rattle.nf_model.specs.Equilibrium.{Trace, Flow}
-use Rattle.nf_net_def.specs.Names.{Name}
-use Rattle.nf_net_def.specs.Named.{Named}
-use Rattle.nf_report_def.specs.ReportLines.{Kind, OfLabel, OfNever, OfInflow, OfOutflow, OfQueue, CurveKey, key_of, curve_keys, ReadCurve}
+use Rattle.nf_report_laws.proofs.Common.{AllByRecursion, ℚ, Point, Trace, Flow, Name, Named, Kind, OfLabel, OfNever, OfInflow, OfOutflow, OfQueue, CurveKey}
+use Rattle.nf_report_laws.proofs.Common.{key_of, curve_keys, ReadCurve}
 use Rattle.nf_report_laws.proofs.ReportShape.{IsReadPoints, IsReadTrace, IsOfKind, IsRead, plain_curve, trace_curve, label_curves, never_curves, link_curves, curves_from, AreRead}
 use Rattle.nf_report_laws.proofs.CurvesBack.{keys_of}
 use Rattle.nf_report_laws.proofs.KeysBack.{link_keys}

@@ -1,20 +1,8 @@
 -- The lines of the states are read as the pattern that they are printed of.
 use Rattle.std.proofs.Common.{◌≡◌, ℕ, suc, ◌+◌, ◌<◌, ◌≤◌, true, not, ◌||◌, nat_lt, if◌then◌else◌, List, [], ◌∷◌, ◌++◌, length, replicate, set, Option, Some, None, slice_get, Ok, Err, refl, sym, ap, subst, ◌∙◌, codes, bytes_eq, arith, append_assoc, length-append}
-use Rattle.std.specs.List.{IsDistinct}
-use Rattle.std.proofs.lemmas.Bool.{le-ltb}
-use Rattle.nf_rational.specs.Rational.{ℚ}
-use Rattle.nf_frac_def.specs.Checked.{◌>>=◌}
-use Rattle.nf_model.specs.declared.State.{State}
-use Rattle.nf_model.specs.declared.State.TheVariants.{Tight, Full, Zero}
-use Rattle.nf_model.specs.Pattern.{Pattern, HasState}
-use Rattle.nf_net_def.specs.Names.{Name, has_name, place_of, name_at}
-use Rattle.nf_net_def.specs.declared.Cause.{Cause}
-use Rattle.nf_net_def.specs.Named.{Named}
-use Rattle.nf_net_def.specs.Report.{state_word}
-use Rattle.nf_net_laws.proofs.NameFacts.{has_at, place_at}
-use Rattle.nf_report_def.specs.declared.ReportRule.TheVariants.{P7, P9}
-use Rattle.nf_report_def.specs.ReportCauses.{or_rule}
-use Rattle.nf_report_def.specs.ReportLines.{OfLabel, OfNever, OfInflow, OfOutflow, OfQueue, InBody, ReadCurve, ReportDraft, with_current, state_in, state_of_link, capacity_at, report_line}
+use Rattle.nf_report_laws.proofs.Common.{IsDistinct, le-ltb, ℚ, ◌>>=◌, State, Tight, Full, Zero, Pattern, HasState, Name, has_name, place_of, name_at, Cause}
+use Rattle.nf_report_laws.proofs.Common.{Named, state_word, has_at, place_at, P7, P9, or_rule, OfLabel, OfNever, OfInflow, OfOutflow, OfQueue, InBody}
+use Rattle.nf_report_laws.proofs.Common.{ReadCurve, ReportDraft, with_current, state_in, state_of_link, capacity_at, report_line}
 use Rattle.nf_report_laws.proofs.ReportShape.{state_lines_of}
 use Rattle.nf_report_laws.proofs.ReportSteps.{next_of, Reads}
 use Rattle.nf_report_laws.proofs.CurvesBack.{IsBehind}

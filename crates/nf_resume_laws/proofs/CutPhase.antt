@@ -1,28 +1,14 @@
 -- A run is mid-phase after a phase that ended before its extension length, and not after one that ended at it. The remainder of an
 -- interrupted phase is as long as the phase minus its completed part.
 use Rattle.std.proofs.Common.{◌≡◌, ◌≢◌, ℕ, ◌<◌, List, [], ◌∷◌, length, ⊎_elim, Option, Some, None, slice_get, sym, ap, subst, refl, ◌∙◌, arith}
-use Rattle.std.proofs.lemmas.Option.{slice_get_within}
-use Rattle.std.proofs.lemmas.List.{length-map}
-use Rattle.nf_rational.specs.Rational.{ℚ}
-use Rattle.nf_rational.specs.Operations.{0ℚ, ◌+ℚ◌, ◌-ℚ◌, ◌*ℚ◌}
-use Rattle.nf_rational.specs.Order.{◌≤ℚ◌, ◌<ℚ◌}
-use Rattle.nf_rational_laws.proofs.Polynomial.{reading_of}
-use Rattle.nf_rational_laws.proofs.Order.{≤ℚ_of_lt, ≤ℚ_of_same, ≤ℚ_antisymm, lt_or_le_ℚ, not_both_ℚ}
-use Rattle.nf_rational_laws.proofs.Linear.{le, lt, eq, le_times, linear_le, linear_lt, linear_eq, linear_false}
+use Rattle.nf_resume_laws.proofs.Common.{slice_get_within, length-map, ℚ, 0ℚ, ◌+ℚ◌, ◌-ℚ◌, ◌*ℚ◌, ◌≤ℚ◌, ◌<ℚ◌, reading_of, ≤ℚ_of_lt, ≤ℚ_of_same, ≤ℚ_antisymm}
+use Rattle.nf_resume_laws.proofs.Common.{lt_or_le_ℚ, not_both_ℚ, le, lt, eq, le_times, linear_le, linear_lt, linear_eq, linear_false, number_at, Within, Link}
+use Rattle.nf_resume_laws.proofs.Common.{Network, IsNetwork, IsLink, hops, hop_of, unbounded, slack, slacks_of, sets_at, Pattern, HasState, NeedsState}
+use Rattle.nf_resume_laws.proofs.Common.{IsPattern, Lasts, IsExtension, moved, slack_after, Standing, entry, IsOpen, ≤ℚ_refl, ≤ℚ_trans, back_and_forth}
+use Rattle.nf_resume_laws.proofs.Common.{below_between, above_between}
 use Rattle.nf_model.specs.declared.State.{State}
-use Rattle.nf_model.specs.Entries.{number_at}
-use Rattle.nf_model.specs.Curve.{Within}
-use Rattle.nf_model.specs.Network.{Link, Network, IsNetwork, IsLink, hops, hop_of, unbounded}
-use Rattle.nf_model.specs.ThinFlow.{slack, slacks_of, sets_at}
-use Rattle.nf_model.specs.Pattern.{Pattern, HasState, NeedsState, IsPattern}
-use Rattle.nf_model.specs.Phases.{Lasts, IsExtension, moved, slack_after}
 use Rattle.nf_model_laws.proofs.Slacks.{slack_at, slack_after-moved, active_of_slack, slack_of_resetting}
-use Rattle.nf_thin_def.specs.PhaseRun.{Standing}
 use Rattle.nf_phase_laws.proofs.Length.{Lasts-some}
-use Rattle.nf_rational_laws.proofs.Entries.{entry}
-use Rattle.nf_phase_def.specs.Open.{IsOpen}
-use Rattle.nf_rational_laws.proofs.Chains.{≤ℚ_refl, ≤ℚ_trans}
-use Rattle.nf_rational_laws.proofs.Facts.{back_and_forth, below_between, above_between}
 
 -- ---- over plain numbers: a slack s that changes at c, d and w lengths
 on_line : (s c d w z : ℚ) → z ≡ s +ℚ d *ℚ c → s +ℚ (d +ℚ w) *ℚ c ≡ z +ℚ w *ℚ c

@@ -1,3 +1,4 @@
+mod Common
 pub mod Same
 pub mod CutShort
 pub mod CutFlow

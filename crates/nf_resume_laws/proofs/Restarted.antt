@@ -1,32 +1,20 @@
 -- The cut flow of an equilibrium is an equilibrium with the same values, and a run can continue it.
-use Rattle.std.proofs.Common.{◌≡◌, ℕ, ◌<◌, List, ⊎_elim, sym, ap, subst, ◌∙◌}
-use Rattle.std.proofs.lemmas.List.{length-map}
-use Rattle.nf_rational.specs.Rational.{ℚ}
-use Rattle.nf_rational.specs.Operations.{0ℚ}
-use Rattle.nf_rational.specs.Order.{◌≤ℚ◌, ◌<ℚ◌}
-use Rattle.nf_rational_laws.proofs.Order.{≤ℚ_of_lt, ≤ℚ_of_same, lt_or_le_ℚ}
-use Rattle.nf_frac_def.specs.Passing.{Passing}
-use Rattle.std.specs.Prelude.{Ok}
-use Rattle.nf_model.specs.Curve.{Point, Within, value, NeverFalls}
-use Rattle.nf_model.specs.Network.{Link, Network, IsNetwork, IsLink}
-use Rattle.nf_model.specs.Equilibrium.{Flow, Trace, label, inflow, outflow, queue, HasShape, Equilibrium}
+use Rattle.std.proofs.Common.{◌≡◌, ℕ, ◌<◌, List, ⊎_elim, sym, ap, subst, ◌∙◌, Ok}
+use Rattle.nf_resume_laws.proofs.Common.{length-map, ℚ, 0ℚ, ◌≤ℚ◌, ◌<ℚ◌, ≤ℚ_of_lt, ≤ℚ_of_same, lt_or_le_ℚ, Passing, Point, Within, value, NeverFalls, Link}
+use Rattle.nf_resume_laws.proofs.Common.{Network, IsNetwork, IsLink, Flow, Trace, label, inflow, outflow, queue, HasShape, Equilibrium, HoldsUpTo, IsShortFlow}
+use Rattle.nf_resume_laws.proofs.Common.{EndsAtItsLabels, cut_flow, ≤ℚ_refl, ≤ℚ_trans}
 use Rattle.nf_model_laws.specs.EarliestLaws.{InflowsRise}
-use Rattle.nf_phase_laws.specs.Invariant.{HoldsUpTo}
 use Rattle.nf_phase_laws.specs.Description.{DescribesLinks}
 use Rattle.nf_phase_laws.proofs.Holds.{link_within, IsNashFlow-from_HoldsUpTo}
 use Rattle.nf_phase_laws.proofs.Description.{IsOutflow-described, IsQueue-described}
 use Rattle.nf_phase_laws.proofs.Points.{end-append}
-use Rattle.nf_thin_def.specs.PhaseRun.{IsShortFlow}
 use Rattle.nf_thin_def.specs.Ends.{end_of}
-use Rattle.nf_phase_def.specs.Restoring.{EndsAtItsLabels}
-use Rattle.nf_resume_def.specs.Resuming.{cut_flow}
 use Rattle.nf_resume_def.specs.Meanings.{GoesOnFrom}
 use Rattle.nf_phase_equilibrium_laws.proofs.Printed.{label-nn, rises-link}
 use Rattle.nf_phase_equilibrium_laws.proofs.Invariant.{HoldsUpTo-equilibrium, DescribesLinks-equilibrium}
 use Rattle.nf_resume_laws.proofs.Same.{AgreeUpTo, HoldsUpTo-same, DescribesLinks-same}
 use Rattle.nf_resume_laws.proofs.CutShort.{IsShortCut}
 use Rattle.nf_resume_laws.proofs.CutFlow.{IsCutFlow, cut_flow-is}
-use Rattle.nf_rational_laws.proofs.Chains.{≤ℚ_refl, ≤ℚ_trans}
 
 -- A cut curve never falls if the curve never falls.
 rises-cut : (points short : List Point) (last : ℚ) → 0ℚ ≤ℚ last → IsShortCut points last short → NeverFalls (value points) → NeverFalls (value short)

@@ -1,25 +1,16 @@
 -- A run that continues a restored state stays an equilibrium, and changes no value up to where it began.
-use Rattle.std.proofs.Common.{◌≡◌, ℕ, ◌<◌, List, Option, ⊎_elim, sym, ap, subst, refl, ◌∙◌}
-use Rattle.std.specs.Prelude.{Result, Ok, Err}
-use Rattle.nf_rational.specs.Rational.{ℚ}
-use Rattle.nf_rational.specs.Operations.{0ℚ}
-use Rattle.nf_rational.specs.Order.{◌≤ℚ◌, ◌<ℚ◌}
-use Rattle.nf_rational_laws.proofs.Order.{≤ℚ_of_lt, ≤ℚ_antisymm, lt_or_le_ℚ}
-use Rattle.nf_frac_def.specs.Passing.{Passing}
+use Rattle.std.proofs.Common.{◌≡◌, ℕ, ◌<◌, List, Option, ⊎_elim, sym, ap, subst, refl, ◌∙◌, Result, Ok, Err}
+use Rattle.nf_resume_laws.proofs.Common.{ℚ, 0ℚ, ◌≤ℚ◌, ◌<ℚ◌, ≤ℚ_of_lt, ≤ℚ_antisymm, lt_or_le_ℚ, Passing, number_at, Point, Within, value, Network, IsNetwork}
+use Rattle.nf_resume_laws.proofs.Common.{Flow, label, Equilibrium, Standing, Bounds, Goes, flow_of, standing_after, then_ok, EndsAtItsLabels, Steps, continues}
+use Rattle.nf_resume_laws.proofs.Common.{begins, RunsOn, at_horizon, at_phases, fails, steps, ≤ℚ_refl, ≤ℚ_trans}
 use Rattle.nf_frac_def.specs.Checked.{Checked, at_part, ◌>>=◌}
 use Rattle.nf_frac_def.specs.declared.Part.TheVariants.{Curve}
 use Rattle.nf_frac_def.specs.declared.PassedAt.{PassedAt}
-use Rattle.nf_model.specs.Entries.{number_at}
-use Rattle.nf_model.specs.Curve.{Point, Within, value}
-use Rattle.nf_model.specs.Network.{Network, IsNetwork}
-use Rattle.nf_model.specs.Equilibrium.{Flow, label, Equilibrium}
 use Rattle.nf_net_def.specs.declared.Cause.{Cause}
 use Rattle.nf_net_def.specs.Report.{Report}
-use Rattle.nf_thin_def.specs.PhaseRun.{Standing, Bounds, Goes, flow_of, standing_after}
 use Rattle.nf_check_def.specs.declared.Answer.{Answer}
 use Rattle.nf_check_def.specs.declared.Answer.TheVariants.{Yes, No}
 use Rattle.nf_check_def.specs.CheckList.{check_list}
-use Rattle.nf_curve_laws.proofs.Operations.{then_ok}
 use Rattle.nf_phase_laws.specs.CurveSteps.{at, CurvesGoOn}
 use Rattle.nf_phase_laws.specs.DescriptionCurves.{DescriptionCurvesGoOn}
 use Rattle.nf_phase_laws.specs.CurveRun.{curves_of}
@@ -28,14 +19,11 @@ use Rattle.nf_phase_laws.proofs.WellRun.{WellRun}
 use Rattle.nf_phase_laws.proofs.RunsOn.{WellRun-step}
 use Rattle.nf_phase_laws.proofs.Goes.{curves_go, description_goes}
 use Rattle.nf_phase_laws.proofs.Run.{parts_of, IsPhase-goes, Equilibrium-well}
-use Rattle.nf_phase_def.specs.Restoring.{EndsAtItsLabels}
-use Rattle.nf_phase_def.specs.Open.{Steps, continues, begins, RunsOn, at_horizon, at_phases, fails, steps}
 use Rattle.nf_resume_def.specs.Resuming.{Restart, Stands, cut_flow, restart_list, after_check, resume_list}
 use Rattle.nf_resume_def.specs.Meanings.{GoesOnFrom, IsResumedReport}
 use Rattle.nf_resume_laws.proofs.CutFlow.{IsCutFlow, cut_flow-is}
 use Rattle.nf_resume_laws.proofs.Restarted.{Equilibrium-cut, GoesOnFrom-cut, EndsAtItsLabels-cut}
 use Rattle.nf_phase_equilibrium_laws.proofs.RestoredRun.{well_from, flow_from}
-use Rattle.nf_rational_laws.proofs.Chains.{≤ℚ_refl, ≤ℚ_trans}
 
 -- ---- one phase
 module _ (passes : Passing) (net : Network) (good : IsNetwork net) (bounds : Bounds) where

@@ -1,30 +1,14 @@
 -- Consequences of loading by route. All that a route sends arrives. By the arrival of a departure, all that departed by then has arrived.
 -- The routes over a link share its outflow.
 use Rattle.std.proofs.Common.{◌≡◌, ℕ, zero, suc, ◌+◌, ◌<◌, ◌≤◌, List, [], ◌∷◌, length, ⊎_elim, Bool, true, false, eqb, Option, Some, None, slice_get, unwrap_or, get_or, refl, sym, ap, subst, ◌∙◌, arith}
-use Rattle.std.specs.Prelude.{if◌then◌else◌}
-use Rattle.std.proofs.lemmas.Bool.{eqb-true}
-use Rattle.std.proofs.lemmas.Option.{slice_get_within, slice_get_cases, same_Some, slice_get_past}
-use Rattle.nf_rational.specs.Rational.{ℚ}
-use Rattle.nf_rational.specs.Operations.{0ℚ, ◌+ℚ◌}
-use Rattle.nf_rational.specs.Order.{◌≤ℚ◌, ◌<ℚ◌}
-use Rattle.nf_rational_laws.proofs.Polynomial.{reading_of}
-use Rattle.nf_rational_laws.proofs.Order.{≤ℚ_of_lt, ≤ℚ_antisymm, lt_or_le_ℚ}
-use Rattle.nf_rational_laws.proofs.Linear.{eq, linear_eq}
-use Rattle.nf_model.specs.Curve.{Within, NeverFalls, value}
-use Rattle.nf_model.specs.Entries.{number_at}
-use Rattle.nf_model.specs.Walk.{IsWalk}
-use Rattle.nf_model.specs.Network.{Link, Network, IsNetwork, IsLink, hops, supplied}
-use Rattle.nf_model.specs.Queue.{IsExit, IsOutflow}
-use Rattle.nf_model_laws.proofs.Curves.{value-takes_between}
-use Rattle.nf_model_laws.proofs.Earliest.{IsPositive-link}
-use Rattle.nf_model_laws.proofs.Exits.{IsOutflow-at_exit, IsExit-at_0}
+use Rattle.nf_routes_laws.proofs.Common.{if◌then◌else◌, eqb-true, slice_get_within, slice_get_cases, same_Some, slice_get_past, ℚ, 0ℚ, ◌+ℚ◌, ◌≤ℚ◌, ◌<ℚ◌}
+use Rattle.nf_routes_laws.proofs.Common.{reading_of, ≤ℚ_of_lt, ≤ℚ_antisymm, lt_or_le_ℚ, eq, linear_eq, Within, NeverFalls, value, number_at, IsWalk, Link}
+use Rattle.nf_routes_laws.proofs.Common.{Network, IsNetwork, IsLink, hops, supplied, IsExit, IsOutflow, value-takes_between, IsPositive-link, IsOutflow-at_exit}
+use Rattle.nf_routes_laws.proofs.Common.{IsExit-at_0, IsExit-after, IsExit-monotone, IsOutflow-early, Route, AreRoutes, Routed, link_loaded, exit_by, stages_at}
+use Rattle.nf_routes_laws.proofs.Common.{arrival_at, travel_at, sent_by, sent_along, sent_by_routes, inflow_by, exits_along, IsRouted, RoutesArrive, ≤ℚ_refl}
+use Rattle.nf_routes_laws.proofs.Common.{≤ℚ_trans}
 use Rattle.nf_model_laws.proofs.Networks.{link_at}
-use Rattle.nf_model_laws.proofs.Queues.{IsExit-after, IsExit-monotone, IsOutflow-early}
 use Rattle.nf_model_laws.proofs.Sums.{if_same, if_order}
-use Rattle.nf_routes_def.specs.Routes.{Route, AreRoutes}
-use Rattle.nf_routes_def.specs.RoutesList.{Routed}
-use Rattle.nf_routes_def.specs.Meanings.{link_loaded, exit_by, stages_at, arrival_at, travel_at, sent_by, sent_along, sent_by_routes, inflow_by, exits_along, IsRouted, RoutesArrive}
-use Rattle.nf_rational_laws.proofs.Chains.{≤ℚ_refl, ≤ℚ_trans}
 use Rattle.nf_rational_laws.proofs.Facts.{sum_le, same_sums, both_are_zero, first_of_sum}
 
 -- ---- sums over routes and positions

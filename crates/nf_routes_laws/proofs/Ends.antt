@@ -1,38 +1,22 @@
 -- The ends of the curves of a loading by route. The exit of a link ends at the link's end.
-use Rattle.std.proofs.Common.{◌≡◌, List, [], ◌∷◌, ◌++◌, ◌⊎◌, inl, inr, ⊎_elim, Bool, true, false, Option, refl, sym, subst, ◌∙◌}
-use Rattle.std.specs.Prelude.{Ok, if◌then◌else◌}
-use Rattle.nf_rational.specs.Rational.{ℚ}
-use Rattle.nf_rational.specs.Operations.{0ℚ}
-use Rattle.nf_rational.specs.Order.{◌≤ℚ◌, ◌<ℚ◌, lt_ℚ}
-use Rattle.nf_rational_laws.proofs.Order.{≤ℚ_of_lt, ≤ℚ_of_same}
+use Rattle.std.proofs.Common.{◌≡◌, List, [], ◌∷◌, ◌++◌, ◌⊎◌, inl, inr, ⊎_elim, Bool, true, false, Option, refl, sym, subst, ◌∙◌, Ok, if◌then◌else◌}
+use Rattle.nf_routes_laws.proofs.Common.{ℚ, 0ℚ, ◌≤ℚ◌, ◌<ℚ◌, lt_ℚ, ≤ℚ_of_lt, ≤ℚ_of_same, Passing, each, Point, value, TimesRise, IsCurve, NeverFalls, Piece}
+use Rattle.nf_routes_laws.proofs.Common.{IsPositive, value-after, is_zero, is_same, then_ok, times-up_to, checked_short-end, Loaded, checked_loading}
+use Rattle.nf_routes_laws.proofs.Common.{last_value, NoneBeyond, CanShare, ≤ℚ_refl, ≤ℚ_trans, same_Ok}
 use Rattle.nf_rational_laws.proofs.Tests.{lt_ℚ_cases}
-use Rattle.nf_frac_def.specs.Passing.{Passing}
-use Rattle.nf_frac_def.specs.Checked.{each}
-use Rattle.nf_model.specs.Curve.{Point, value, TimesRise, IsCurve, NeverFalls}
-use Rattle.nf_model.specs.Network.{Piece}
-use Rattle.nf_model_laws.specs.Capacity.{IsPositive}
-use Rattle.nf_model_laws.proofs.Curves.{value-after}
-use Rattle.nf_rational.specs.Signs.{is_zero, is_same}
 use Rattle.nf_curve_def.specs.Lines.{Sides}
 use Rattle.nf_curve_def.specs.Times.{times_of, both_times}
 use Rattle.nf_curve_def.specs.Short.{turning, short_points, checked_slopes, checked_short}
 use Rattle.nf_curve_def.specs.Sums.{sides_at}
-use Rattle.nf_curve_laws.proofs.Operations.{then_ok}
 use Rattle.nf_curve_laws.proofs.Following.{end_time, EndsAtTime, follows-end}
 use Rattle.nf_curve_laws.proofs.Pieces.{AreSides, sides_at-is}
-use Rattle.nf_curve_laws.proofs.Short.{times-up_to, checked_short-end}
 use Rattle.nf_curve_laws.proofs.Times.{IsOne}
 use Rattle.nf_load_def.specs.Cumulative.{end_of, point_after_0, point_if_after_0, with_piece, cumulative_from, checked_cumulative}
-use Rattle.nf_load_def.specs.Loading.{Loaded, checked_loading}
 use Rattle.nf_load_laws.proofs.Cumulative.{cumulative_more, cumulative_done}
 use Rattle.nf_load_laws.proofs.Functions.{exit_at}
 use Rattle.nf_load_laws.proofs.Loading.{ExitPoints, exit_points}
-use Rattle.nf_check_def.specs.Curves.{last_value}
 use Rattle.nf_routes_def.specs.RoutesList.{next_from, next_entry}
-use Rattle.nf_routes_laws.specs.Laws.{NoneBeyond, CanShare}
 use Rattle.nf_routes_laws.proofs.Next.{both_times-either}
-use Rattle.nf_rational_laws.proofs.Chains.{≤ℚ_refl, ≤ℚ_trans}
-use Rattle.nf_rational_laws.proofs.Results.{same_Ok}
 
 -- no point is later
 abbrev pub UpTo : List Point → ℚ → Type 0

@@ -1,25 +1,12 @@
 -- The amount that a route sends into a link, as a curve up to a time: into its first link, and into the next.
-use Rattle.std.proofs.Common.{◌≡◌, List, ◌⊎◌, inl, inr, ⊎_elim, refl, sym, ap, subst, ◌∙◌}
-use Rattle.std.specs.Prelude.{Ok}
-use Rattle.nf_rational.specs.Rational.{ℚ}
-use Rattle.nf_rational.specs.Operations.{0ℚ}
-use Rattle.nf_rational.specs.Order.{◌≤ℚ◌, ◌<ℚ◌}
-use Rattle.nf_rational_laws.proofs.Order.{≤ℚ_of_lt, ≤ℚ_of_same, ≤ℚ_antisymm, lt_or_le_ℚ}
-use Rattle.nf_frac_def.specs.Passing.{Passing}
-use Rattle.nf_model.specs.Curve.{Point, Within, NeverFalls, value, IsCurve, IsShort}
-use Rattle.nf_model.specs.Network.{Piece, ArePieces, supplied}
-use Rattle.nf_curve_def.specs.Short.{checked_short}
-use Rattle.nf_curve_def.specs.Meanings.{IsShortOf}
-use Rattle.nf_curve_laws.proofs.Short.{checked_short-is}
-use Rattle.nf_load_def.specs.Cumulative.{checked_cumulative}
+use Rattle.std.proofs.Common.{◌≡◌, List, ◌⊎◌, inl, inr, ⊎_elim, refl, sym, ap, subst, ◌∙◌, Ok}
+use Rattle.nf_routes_laws.proofs.Common.{ℚ, 0ℚ, ◌≤ℚ◌, ◌<ℚ◌, ≤ℚ_of_lt, ≤ℚ_of_same, ≤ℚ_antisymm, lt_or_le_ℚ, Passing, Point, Within, NeverFalls, value, IsCurve}
+use Rattle.nf_routes_laws.proofs.Common.{IsShort, Piece, ArePieces, supplied, checked_short, IsShortOf, checked_short-is, checked_cumulative, next_entry}
+use Rattle.nf_routes_laws.proofs.Common.{CanShare, IsSentOn, ≤ℚ_refl, ≤ℚ_trans, value-takes_between}
 use Rattle.nf_load_def.specs.Meanings.{IsCumulative}
 use Rattle.nf_load_laws.proofs.Cumulative.{checked_cumulative-is}
-use Rattle.nf_routes_def.specs.RoutesList.{next_entry}
-use Rattle.nf_routes_laws.specs.Laws.{CanShare, IsSentOn}
 use Rattle.nf_routes_laws.proofs.Next.{next_entry-is}
 use Rattle.nf_routes_laws.proofs.Ends.{UpTo, upto-longer, short-upto, cumulative-upto, next-upto}
-use Rattle.nf_rational_laws.proofs.Chains.{≤ℚ_refl, ≤ℚ_trans}
-use Rattle.nf_model_laws.proofs.Curves.{value-takes_between}
 
 -- a curve in short form up to a time, of an amount that is 0 at time 0 and never falls
 pub record IsEntry (points : List Point) (last : ℚ) : Type 0 where

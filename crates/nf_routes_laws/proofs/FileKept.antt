@@ -1,47 +1,35 @@
 -- The routes of lines that break no rule. They do not exceed the limit, have different names, and are walks from source to sink with
 -- pieces.
-use Rattle.std.proofs.Common.{◌≡◌, ◌≢◌, ℕ, zero, suc, ◌<◌, ◌≤◌, ⊎_elim, true, false, not, ◌&&◌, eqb, nat_le, List, [], ◌∷◌, ◌++◌, length, set, get_or, Option, Some, None, All, slice_get, Ok, refl, sym, ap, subst, ◌∙◌, arith, bytes_eq}
+use Rattle.std.proofs.Common.{◌≡◌, ℕ, zero, suc, ◌<◌, ◌≤◌, true, false, not, ◌&&◌, nat_le, List, [], ◌∷◌, ◌++◌, length, set, get_or, Option, Some, None, All, slice_get, Ok, refl, sym, ap, subst, ◌∙◌, arith, bytes_eq}
 use Rattle.std.specs.List.{list_all, IsDistinct}
-use Rattle.std.proofs.lemmas.Bool.{and_parts, leb-false, and_from, not-false}
-use Rattle.std.proofs.lemmas.Bool.Decides.{eqb_tells}
-use Rattle.std.proofs.lemmas.List.{length-append, length-set, map-append}
+use Rattle.nf_routes_laws.proofs.Common.{and_parts, leb-false, and_from, not-false, eqb-true, length-append, length-set, map-append, none-some, same_Some}
+use Rattle.nf_routes_laws.proofs.Common.{slice_get-get_or, slice_get_within, ◌>>=◌, IsWalk, Piece, Link, Network, ArePieces, hop_of, hops, Name, is_name}
+use Rattle.nf_routes_laws.proofs.Common.{has_name, AreNames, slice_get-image, same_Ok, not_both, unless_rule, G4, G10, G11, G12, G13, G14, G15, Route, AreWalks}
+use Rattle.nf_routes_laws.proofs.Common.{AreRoutes}
 use Rattle.std.proofs.lemmas.List.Folds.{list_all-append}
 use Rattle.std.proofs.lemmas.List.Elements.{All-nil, All-push, All-set, All-get_or, All-map, All-weaker}
-use Rattle.std.proofs.lemmas.Option.{none-some, same_Some, slice_get-get_or, slice_get_within}
-use Rattle.nf_frac_def.specs.Checked.{◌>>=◌}
 use Rattle.nf_text_def.specs.Words.{ReadLine}
-use Rattle.nf_model.specs.Walk.{IsWalk}
-use Rattle.nf_model.specs.Network.{Piece, Link, Network, ArePieces, hop_of, hops}
-use Rattle.nf_net_def.specs.Names.{Name, is_name, has_name, AreNames}
 use Rattle.nf_net_def.specs.Named.{Named}
 use Rattle.nf_net_laws.proofs.NameFacts.{with_name_new}
 use Rattle.nf_net_laws.proofs.DraftKept.{distinct_with_names}
-use Rattle.nf_rational_laws.proofs.Entries.{slice_get-image}
-use Rattle.nf_rational_laws.proofs.Results.{same_Ok, not_both}
-use Rattle.nf_side_def.specs.Lines.{unless_rule}
 use Rattle.nf_side_def.specs.Frame.{draft_of}
 use Rattle.nf_report_laws.proofs.FrameKept.{rules_out, no_rule, draft_kept}
 use Rattle.nf_report_laws.proofs.Outcomes.{both_ok, where_false}
 use Rattle.nf_report_laws.proofs.PiecesKept.{GoOn, go_on_pieces, piece_kept}
-use Rattle.nf_routes_def.specs.declared.RoutesRule.TheVariants.{G4, G10, G11, G12, G13, G14, G15}
-use Rattle.nf_routes_def.specs.Routes.{Route, AreWalks, AreRoutes}
 use Rattle.nf_routes_def.specs.RoutesFile.{NamedRoute, RoutesEntry, RouteLine, RateLine, End, RoutesDraft, route_names, routes_of, pieces_of, with_piece, longer, is_walk, tail_is, head_of, rule_behind, routes_entry, routes_rule_of, routes_after, add_route_line, routes_frame}
 use Rattle.nf_routes_def.specs.Kept.{AreInForm, AreSound}
 use Rattle.nf_routes_laws.proofs.FileEntries.{IsNew, Entered, entered}
 
 -- ---- walks
-same_node : (v w : ℕ) → eqb v w ≡ true → v ≡ w
-same_node v w e = ⊎_elim (λ (k : (eqb v w ≡ true) × (v ≡ w)). k.1) (λ (k : (eqb v w ≡ false) × (v ≢ w)). absurd (not_both (eqb v w) e k.0)) (eqb_tells v w)
-
 walk_of : (net : Network) (links : List ℕ) (v w : ℕ) → is_walk net.links links v w ≡ true → IsWalk (hops net) links v w
-walk_of net [] v w k = same_node v w k
+walk_of net [] v w k = eqb-true v w k
 walk_of net (e ∷ rest) v w k =
     by (slice_get net.links e) refl (and_parts (tail_is (slice_get net.links e) v) (is_walk net.links rest (head_of (slice_get net.links e)) w) k) (λ u. walk_of net rest u w)
   where
     by : (o : Option Link) → slice_get net.links e ≡ o → (tail_is o v ≡ true) × (is_walk net.links rest (head_of o) w ≡ true) → ((u : ℕ) → is_walk net.links rest u w ≡ true → IsWalk (hops net) rest u w)
         → IsWalk (hops net) (e ∷ rest) v w
     by None there p later = absurd (not_both false p.0 refl)
-    by (Some link) there p later = (hop_of link, slice_get-image hop_of net.links e link there, same_node link.tail v p.0, later link.head p.1)
+    by (Some link) there p later = (hop_of link, slice_get-image hop_of net.links e link there, eqb-true link.tail v p.0, later link.head p.1)
 
 -- ---- names
 names_more : (names : List Name) (name : Name) → AreNames names → is_name name ≡ true → has_name names name ≡ false → AreNames (names ++ name ∷ [])

@@ -1,22 +1,15 @@
 -- The reading of a routes file. G17 is broken exactly by a circle, and the loading order decides it.
 use Rattle.std.proofs.Common.{◌≡◌, ◌≢◌, ℕ, Bool, true, false, not, ◌||◌, nat_le, List, [], ◌∷◌, length, Option, Some, None, Result, Ok, Err, inl, inr, refl, sym, ap, subst, ◌∙◌, codes}
-use Rattle.std.specs.Prelude.{if◌then◌else◌}
-use Rattle.std.specs.List.{last_or}
-use Rattle.nf_frac_def.specs.Checked.{◌>>=◌}
+use Rattle.nf_routes_laws.proofs.Common.{if◌then◌else◌, last_or, ◌>>=◌, Network, has_name, same_Ok, is_head, unless_rule, G3, G4, G10, G11, G12, G13, G14, G15}
+use Rattle.nf_routes_laws.proofs.Common.{G16, G17, HoldCircle}
 use Rattle.nf_text_def.specs.Words.{ReadLine, read_lines, content_lines}
 use Rattle.nf_text_def.specs.Faults.{LineFault, NotAscii, LongLine, first_fault}
-use Rattle.nf_model.specs.Network.{Network}
-use Rattle.nf_net_def.specs.Names.{has_name}
 use Rattle.nf_net_def.specs.NetLines.{is_negative, is_not_after}
 use Rattle.nf_net_def.specs.Named.{Named}
-use Rattle.nf_rational_laws.proofs.Results.{same_Ok}
-use Rattle.nf_side_def.specs.Lines.{is_head, unless_rule}
 use Rattle.nf_side_def.specs.Frame.{in_line, add_lines, draft_of, by_bytes}
 use Rattle.nf_report_laws.proofs.FrameKept.{file_is}
 use Rattle.nf_report_laws.proofs.Outcomes.{where_true}
 use Rattle.nf_routes_def.specs.declared.RoutesRule.{RoutesRule}
-use Rattle.nf_routes_def.specs.declared.RoutesRule.TheVariants.{G3, G4, G10, G11, G12, G13, G14, G15, G16, G17}
-use Rattle.nf_routes_def.specs.Routes.{HoldCircle}
 use Rattle.nf_routes_def.specs.RoutesFile.{RoutesBroken, NamedRoute, RoutesEntry, RouteLine, RateLine, End, RoutesDraft, route_names, routes_of, pieces_at, is_walk, routes_entry, routes_rule_of, routes_after, add_route_line, routes_ended, routes_frame, routes_of_lines, HoldsCircleIn, circle_broken, ReadsRoutes, is_ordered, unless_circle, routes_in}
 use Rattle.nf_routes_def.specs.Kept.{AreKept, AreSound}
 use Rattle.nf_routes_laws.proofs.Ordering.{none-circle, circle-found}

@@ -1,25 +1,12 @@
 -- The inflow of a link as the operation sequence adds it: the sum of the routes' entries at every time. Each route enters the link at most
 -- at one position.
 use Rattle.std.proofs.Common.{◌≡◌, ◌≢◌, ℕ, zero, suc, List, [], ◌∷◌, length, ⊎_elim, Bool, true, false, eqb, Some, slice_get, refl, sym, ap, subst, ◌∙◌, arith}
-use Rattle.std.specs.Prelude.{Ok, if◌then◌else◌}
-use Rattle.std.proofs.lemmas.Bool.Decides.{eqb_tells}
-use Rattle.std.proofs.lemmas.Option.{same_Some}
-use Rattle.nf_rational.specs.Rational.{ℚ}
-use Rattle.nf_rational.specs.Operations.{0ℚ, ◌+ℚ◌}
-use Rattle.nf_rational.specs.Order.{◌≤ℚ◌}
-use Rattle.nf_rational_laws.proofs.Polynomial.{reading_of}
-use Rattle.nf_rational_laws.proofs.Linear.{eq, linear_eq}
-use Rattle.nf_frac_def.specs.Passing.{Passing}
-use Rattle.nf_model.specs.Curve.{Point, value, IsCurve}
-use Rattle.nf_curve_def.specs.Meanings.{IsSumOf}
-use Rattle.nf_curve_laws.proofs.Operations.{then_ok}
+use Rattle.nf_rational_laws.proofs.Facts.{plus_zero, second_is_zero}
+use Rattle.nf_routes_laws.proofs.Common.{Ok, if◌then◌else◌, eqb_tells, same_Some, ℚ, 0ℚ, ◌+ℚ◌, ◌≤ℚ◌, reading_of, eq, linear_eq, Passing, Point, value, IsCurve}
+use Rattle.nf_routes_laws.proofs.Common.{IsSumOf, then_ok, Route, goes_over, last_entry, add_if, sum_from, sent_along, sent_by_routes, same_Ok, not_both}
 use Rattle.nf_curve_laws.proofs.Sums.{checked_sum-is}
-use Rattle.nf_routes_def.specs.Routes.{Route}
-use Rattle.nf_routes_def.specs.RoutesList.{goes_over, last_entry, add_if, sum_from}
-use Rattle.nf_routes_def.specs.Meanings.{sent_along, sent_by_routes}
 use Rattle.nf_routes_laws.proofs.Arriving.{along-none}
 use Rattle.nf_routes_laws.proofs.Stages.{over-at, over-place}
-use Rattle.nf_rational_laws.proofs.Results.{same_Ok, not_both}
 
 -- ---- a sum with one term
 with_first : (b : Bool) (x s : ℚ) → b ≡ true → s ≡ 0ℚ → (if b then x +ℚ s else s) ≡ x
@@ -63,9 +50,6 @@ pub record IsSumWith (total : List Point) (added : ℚ → ℚ) (sum : List Poin
   pub curve : IsCurve sum
   pub values : (t : ℚ) → 0ℚ ≤ℚ t → value sum t ≡ value total t +ℚ added t
 
-plus_none : (x y : ℚ) → y ≡ 0ℚ → x ≡ x +ℚ y
-plus_none x y e = linear_eq (x ∷ y ∷ []) (eq e ∷ []) (search reading_of) tt tt
-
 two_sums : (s n t a b : ℚ) → s ≡ n +ℚ b → n ≡ t +ℚ a → s ≡ t +ℚ (a +ℚ b)
 two_sums s n t a b e f = linear_eq (s ∷ n ∷ t ∷ a ∷ b ∷ []) (eq e ∷ eq f ∷ []) (search reading_of) tt tt
 
@@ -77,12 +61,12 @@ module _ (passes : Passing) (e : ℕ) where
       let s : IsSumOf total entry sum = checked_sum-is passes total entry c y.0 sum h in
       record { curve = s.curve; values = λ t k. s.values t k ∙ ap (λ (z : ℚ). value total t +ℚ z) (y.1 t k) }
   add-is false total entry sum added c goes past h =
-      subst (λ (l : List Point). IsSumWith total added l) (same_Ok _ _ h) (record { curve = c; values = λ t k. plus_none (value total t) (added t) (past refl t) })
+      subst (λ (l : List Point). IsSumWith total added l) (same_Ok _ _ h) (record { curve = c; values = λ t k. sym (second_is_zero (value total t) (added t) (past refl t)) })
 
   pub sum-is : (total : List Point) (routes : List Route) (entries : List (List (List Point))) (entered : ℕ → ℕ → ℚ → ℚ) (inflow : List Point) → IsCurve total → Enters e routes entries entered
       → sum_from passes e total routes entries ≡ Ok inflow → IsSumWith total (λ t. sent_by_routes (λ r place. entered r place t) e routes) inflow
   sum-is total [] entries entered inflow c w h =
-      subst (λ (l : List Point). IsSumWith total (λ t. 0ℚ) l) (same_Ok _ _ h) (record { curve = c; values = λ t k. plus_none (value total t) 0ℚ refl })
+      subst (λ (l : List Point). IsSumWith total (λ t. 0ℚ) l) (same_Ok _ _ h) (record { curve = c; values = λ t k. plus_zero (value total t) })
   sum-is total (x ∷ routes) [] entered inflow c w h = absurd (none (w.count))
     where
       none : 0 ≡ length (x ∷ routes) → ⊥

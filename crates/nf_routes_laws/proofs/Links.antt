@@ -1,27 +1,12 @@
 -- A loaded link: the entries into it and the amounts sent on, its queue, exit and outflow by the law of the point queue, and its end.
 use Rattle.std.proofs.Common.{◌≡◌, ℕ, zero, suc, List, [], ◌∷◌, ◌++◌, inl, inr, ⊎_elim, Some, slice_get, refl, sym, ap, subst, ◌∙◌, append_assoc, arith}
-use Rattle.std.proofs.lemmas.Option.{slice_get_within}
-use Rattle.std.proofs.lemmas.List.{append-nil}
-use Rattle.nf_rational.specs.Rational.{ℚ}
-use Rattle.nf_rational.specs.Operations.{0ℚ}
-use Rattle.nf_rational.specs.Order.{◌≤ℚ◌}
-use Rattle.nf_frac_def.specs.Passing.{Passing}
-use Rattle.nf_model.specs.Curve.{Point, Within, NeverFalls, value, IsCurve}
-use Rattle.nf_model.specs.Entries.{number_at}
-use Rattle.nf_model.specs.Network.{Link, Network, IsNetwork, IsLink}
-use Rattle.nf_model.specs.Queue.{IsExit}
-use Rattle.nf_model_laws.specs.Capacity.{IsPositive}
-use Rattle.nf_model_laws.proofs.Earliest.{IsPositive-link}
-use Rattle.nf_model_laws.proofs.Exits.{IsExit-at_0}
-use Rattle.nf_model_laws.proofs.Queues.{IsExit-after, IsExit-monotone, IsExit-same}
+use Rattle.nf_routes_laws.proofs.Common.{slice_get_within, append-nil, ℚ, 0ℚ, ◌≤ℚ◌, Passing, Point, Within, NeverFalls, value, IsCurve, number_at, Link}
+use Rattle.nf_routes_laws.proofs.Common.{Network, IsNetwork, IsLink, IsExit, IsPositive, IsPositive-link, IsExit-at_0, IsExit-after, IsExit-monotone}
+use Rattle.nf_routes_laws.proofs.Common.{IsExit-same, last_value, Route, AreRoutes, PrecedesOnRoute, SoFar, Routed, link_loaded, exit_by, entry_at, sent_by}
+use Rattle.nf_routes_laws.proofs.Common.{sent_by_routes, inflow_by, IsEnd, CanShare, IsSentOn, ≤ℚ_refl, ≤ℚ_trans, entry}
 use Rattle.nf_curve_laws.proofs.Following.{EndsAtTime}
 use Rattle.nf_load_def.specs.Meanings.{IsLoaded}
 use Rattle.nf_load_laws.proofs.Loading.{checked_loading-is}
-use Rattle.nf_check_def.specs.Curves.{last_value}
-use Rattle.nf_routes_def.specs.Routes.{Route, AreRoutes, PrecedesOnRoute}
-use Rattle.nf_routes_def.specs.RoutesList.{SoFar, Routed}
-use Rattle.nf_routes_def.specs.Meanings.{link_loaded, exit_by, entry_at, sent_by, sent_by_routes, inflow_by, IsEnd}
-use Rattle.nf_routes_laws.specs.Laws.{CanShare, IsSentOn}
 use Rattle.nf_routes_laws.proofs.Arriving.{routes-le, routes-none}
 use Rattle.nf_routes_laws.proofs.Ordering.{In, in-either, placed}
 use Rattle.nf_routes_laws.proofs.Sharing.{shares-equal}
@@ -29,8 +14,6 @@ use Rattle.nf_routes_laws.proofs.Ends.{UpTo, upto-none, ends-upto, last-at_end, 
 use Rattle.nf_routes_laws.proofs.Entries.{IsEntry, entry-longer, rises-same, IsFirst, first-is, shared, next-is}
 use Rattle.nf_routes_laws.proofs.Inflow.{Enters, IsSumWith, sum-is}
 use Rattle.nf_routes_laws.proofs.Unrolled.{many, order, routed, LinkStep}
-use Rattle.nf_rational_laws.proofs.Chains.{≤ℚ_refl, ≤ℚ_trans}
-use Rattle.nf_rational_laws.proofs.Entries.{entry}
 use Rattle.nf_rational_laws.proofs.Facts.{without_zero, first_of_sum}
 
 -- ---- a link that is loaded, of routes that are

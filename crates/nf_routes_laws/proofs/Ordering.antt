@@ -1,15 +1,10 @@
 -- The loading order takes each link exactly if no links form a circle. If it omits links, there is a circle.
 use Rattle.std.proofs.Common.{◌≡◌, ◌≢◌, ℕ, zero, suc, ◌+◌, ◌<◌, ◌≤◌, List, [], ◌∷◌, ◌++◌, length, ◌⊎◌, inl, inr, ⊎_elim, Bool, true, false, not, ◌&&◌, ◌||◌, eqb, Option, Some, None, slice_get, refl, sym, ap, subst, ◌∙◌, arith}
-use Rattle.std.specs.Prelude.{if◌then◌else◌}
+use Rattle.nf_routes_laws.proofs.Common.{if◌then◌else◌, eqb_tells, Network, slice_get_within, same_Some, and_parts, not-true, append-nil, true_or_false}
+use Rattle.nf_routes_laws.proofs.Common.{not_both}
 use Rattle.std.specs.List.{IsDistinct, list_any, list_all, range_with_len}
 use Rattle.std.proofs.lemmas.Map.Steps.{length-le_from_distinct_below}
-use Rattle.std.proofs.lemmas.Bool.Decides.{eqb_tells}
-use Rattle.nf_model.specs.Network.{Network}
 use Rattle.nf_model_laws.proofs.Ways.{distinct_more}
-use Rattle.std.proofs.lemmas.Option.{slice_get_within, same_Some}
-use Rattle.std.proofs.lemmas.Bool.{and_parts, not-true}
-use Rattle.std.proofs.lemmas.List.{append-nil}
-use Rattle.nf_rational_laws.proofs.Results.{true_or_false, not_both}
 use Rattle.nf_routes_def.specs.Routes.{Route, AreRoutes, pairs_of, all_pairs, PrecedesOnRoute, LeadsOverRoutes, HoldCircle, is_taken, is_free, first_free, with_next, order_from, loading_order, takes_all}
 use Rattle.nf_routes_laws.proofs.Arriving.{walk-links}
 

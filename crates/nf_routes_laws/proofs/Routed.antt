@@ -1,28 +1,13 @@
 -- The operation sequence of loading by route gives the loading by route.
 use Rattle.std.proofs.Common.{◌≡◌, ℕ, zero, suc, ◌+◌, ◌<◌, List, [], ◌∷◌, length, ◌⊎◌, ⊎_elim, Option, Some, None, slice_get, unwrap_or, sym, ap, subst, ◌∙◌, arith}
-use Rattle.std.specs.Prelude.{Ok, map}
-use Rattle.std.specs.List.{range_with_len}
-use Rattle.std.proofs.lemmas.List.{length-map}
-use Rattle.std.proofs.lemmas.Option.{slice_get_within}
-use Rattle.nf_rational.specs.Rational.{ℚ}
-use Rattle.nf_rational.specs.Operations.{0ℚ, ◌+ℚ◌}
-use Rattle.nf_rational.specs.Order.{◌≤ℚ◌}
-use Rattle.nf_frac_def.specs.Passing.{Passing}
-use Rattle.nf_frac_def.specs.Checked.{each}
+use Rattle.nf_routes_laws.proofs.Common.{Ok, map, range_with_len, length-map, slice_get_within, ℚ, 0ℚ, ◌+ℚ◌, ◌≤ℚ◌, Passing, each, Point, Within, value}
+use Rattle.nf_routes_laws.proofs.Common.{number_at, IsWalk, Link, Network, IsNetwork, IsLink, hops, IsQueue, IsExit, IsOutflow, IsPositive-link, IsExit-after}
+use Rattle.nf_routes_laws.proofs.Common.{IsOutflow-unique, IsQueue-same, IsExit-same, IsOutflow-same, departures, link_loaded, exit_by, stages_at, entry_at}
+use Rattle.nf_routes_laws.proofs.Common.{travel_at, sent_by, sent_by_routes, inflow_by, exits_along, IsRouted, then_ok, ≤ℚ_refl, ≤ℚ_trans, entry, same_Ok}
 use Rattle.nf_frac_def.proofs.Each.{each_length, each_at}
-use Rattle.nf_model.specs.Curve.{Point, Within, value}
-use Rattle.nf_model.specs.Entries.{number_at}
-use Rattle.nf_model.specs.Walk.{IsWalk}
-use Rattle.nf_model.specs.Network.{Link, Network, IsNetwork, IsLink, hops}
-use Rattle.nf_model.specs.Queue.{IsQueue, IsExit, IsOutflow}
-use Rattle.nf_model_laws.proofs.Earliest.{IsPositive-link}
 use Rattle.nf_model_laws.proofs.Networks.{IsLink-unique}
-use Rattle.nf_model_laws.proofs.Queues.{IsExit-after, IsOutflow-unique, IsQueue-same, IsExit-same, IsOutflow-same}
-use Rattle.nf_check_def.specs.Curves.{departures}
 use Rattle.nf_routes_def.specs.Routes.{Route, AreRoutes, HoldCircle, is_taken, loading_order, takes_all}
 use Rattle.nf_routes_def.specs.RoutesList.{SoFar, Routed, loaded_or, end_or, but_last, last_entry, load_all, exit_of, travel_on, routes_list}
-use Rattle.nf_routes_def.specs.Meanings.{link_loaded, exit_by, stages_at, entry_at, travel_at, sent_by, sent_by_routes, inflow_by, exits_along, IsRouted}
-use Rattle.nf_curve_laws.proofs.Operations.{then_ok}
 use Rattle.nf_routes_laws.proofs.Arriving.{walk-links, arrive}
 use Rattle.nf_routes_laws.proofs.Ordering.{In, all-at, in-range, taken-in, takes_all-straight}
 use Rattle.nf_routes_laws.proofs.Entries.{IsEntry, IsFirst}
@@ -31,10 +16,7 @@ use Rattle.nf_routes_laws.proofs.Stages.{length-but_last, exit_of-is}
 use Rattle.nf_routes_laws.proofs.Steps.{stage}
 use Rattle.nf_routes_laws.proofs.Travels.{AreDepartures, departures-are, Passable, IsTravel, travel-is}
 use Rattle.nf_routes_laws.proofs.Unrolled.{order, routed, RouteStands, Unrolled, stages-are, unrolled}
-use Rattle.nf_rational_laws.proofs.Chains.{≤ℚ_refl, ≤ℚ_trans}
-use Rattle.nf_rational_laws.proofs.Entries.{entry}
 use Rattle.nf_rational_laws.proofs.Naturals.{compared}
-use Rattle.nf_rational_laws.proofs.Results.{same_Ok}
 
 -- ---- the order takes each link
 all-ordered : (passes : Passing) (net : Network) (routes : List Route) (horizon : ℚ) → AreRoutes net routes → (HoldCircle routes → ⊥) → (e : ℕ) → e < length net.links → In e (order passes net routes horizon)

@@ -1,23 +1,8 @@
 -- First in, first out by route: where two exits of a link are equal, no route has sent anything between their entries.
-use Rattle.std.proofs.Common.{◌≡◌, ℕ, zero, suc, List, [], ◌∷◌, Bool, true, false, eqb, Option, Some, slice_get, refl, ap, subst, ◌∙◌}
-use Rattle.std.specs.Prelude.{if◌then◌else◌}
-use Rattle.std.proofs.lemmas.Bool.{eqb-true, eq-eqb}
-use Rattle.std.proofs.lemmas.Option.{same_Some}
-use Rattle.nf_rational.specs.Rational.{ℚ}
-use Rattle.nf_rational.specs.Operations.{0ℚ, ◌+ℚ◌}
-use Rattle.nf_rational.specs.Order.{◌≤ℚ◌}
-use Rattle.nf_rational_laws.proofs.Polynomial.{reading_of}
-use Rattle.nf_rational_laws.proofs.Order.{≤ℚ_antisymm}
-use Rattle.nf_rational_laws.proofs.Linear.{le, linear_le}
-use Rattle.nf_model.specs.Curve.{NeverFalls}
-use Rattle.nf_model.specs.Queue.{IsExit}
-use Rattle.nf_model_laws.specs.Capacity.{IsPositive}
-use Rattle.nf_model_laws.proofs.Exits.{IsOutflow-at_exit}
-use Rattle.nf_model_laws.proofs.Queues.{IsOutflow-unique}
-use Rattle.nf_routes_def.specs.Routes.{Route}
-use Rattle.nf_routes_def.specs.Meanings.{sent_along, sent_by_routes}
+use Rattle.std.proofs.Common.{◌≡◌, ℕ, zero, suc, List, [], ◌∷◌, Bool, true, false, eqb, Option, Some, slice_get, refl, ap, subst, ◌∙◌, if◌then◌else◌}
+use Rattle.nf_routes_laws.proofs.Common.{eqb-true, eq-eqb, same_Some, ℚ, 0ℚ, ◌+ℚ◌, ◌≤ℚ◌, reading_of, ≤ℚ_antisymm, le, linear_le, NeverFalls, IsExit, IsPositive}
+use Rattle.nf_routes_laws.proofs.Common.{IsOutflow-at_exit, IsOutflow-unique, Route, sent_along, sent_by_routes, ≤ℚ_refl, ≤ℚ_trans}
 use Rattle.nf_routes_laws.proofs.Arriving.{along-le, routes-le}
-use Rattle.nf_rational_laws.proofs.Chains.{≤ℚ_refl, ≤ℚ_trans}
 use Rattle.nf_model_laws.proofs.Potential.{first_le, rest_le}
 
 -- ---- two sums that are equal, of which no term of the one exceeds that of the other

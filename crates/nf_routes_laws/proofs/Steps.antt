@@ -1,22 +1,10 @@
 -- The links of a route that are taken, and the change of a route's entries by the step of a link.
 use Rattle.std.proofs.Common.{◌≡◌, ℕ, zero, suc, ◌<◌, ◌≤◌, List, [], ◌∷◌, ◌++◌, length, ◌⊎◌, inl, inr, ⊎_elim, Bool, true, false, Some, slice_get, refl, sym, ap, subst, ◌∙◌, arith}
-use Rattle.std.specs.Prelude.{Ok}
-use Rattle.std.proofs.lemmas.Option.{same_Some, slice_get_within}
-use Rattle.std.proofs.lemmas.List.{append-nil}
-use Rattle.nf_rational.specs.Rational.{ℚ}
-use Rattle.nf_frac_def.specs.Passing.{Passing}
-use Rattle.nf_model.specs.Curve.{Point}
-use Rattle.nf_model.specs.Network.{Piece}
-use Rattle.nf_curve_def.specs.Short.{checked_short}
-use Rattle.nf_load_def.specs.Cumulative.{checked_cumulative}
-use Rattle.nf_routes_def.specs.Routes.{Route, PrecedesOnRoute}
-use Rattle.nf_routes_def.specs.RoutesList.{begins_with, goes_over, last_entry, next_entry, begin_if, next_if}
-use Rattle.nf_curve_laws.proofs.Operations.{then_ok}
+use Rattle.nf_routes_laws.proofs.Common.{Ok, same_Some, slice_get_within, append-nil, ℚ, Passing, Point, Piece, checked_short, checked_cumulative, Route}
+use Rattle.nf_routes_laws.proofs.Common.{PrecedesOnRoute, begins_with, goes_over, last_entry, next_entry, begin_if, next_if, then_ok, entry, same_Ok, not_both}
 use Rattle.nf_routes_laws.proofs.Ordering.{In, in-front, in-back, in-either}
 use Rattle.nf_routes_laws.proofs.Stages.{nothing_before, over-at, begins-at, begins-place}
-use Rattle.nf_rational_laws.proofs.Entries.{entry}
 use Rattle.nf_rational_laws.proofs.Naturals.{compared, before_or_at}
-use Rattle.nf_rational_laws.proofs.Results.{same_Ok, not_both}
 
 -- exactly the first n of these links are in the prefix of the order
 pub record Stands (front links : List ℕ) (n : ℕ) : Type 0 where

@@ -1,26 +1,11 @@
 -- The travel along a route: the composition of its links' exits at each departure up to the horizon.
-use Rattle.std.proofs.Common.{◌≡◌, ◌≢◌, ℕ, List, [], ◌∷◌, ⊎_elim, Bool, true, false, Option, refl, sym, ap, subst, ◌∙◌}
-use Rattle.std.specs.Prelude.{Ok, if◌then◌else◌}
-use Rattle.nf_rational.specs.Rational.{ℚ}
-use Rattle.nf_rational.specs.Operations.{0ℚ, 1ℚ, ◌+ℚ◌, ◌-ℚ◌, ◌*ℚ◌}
-use Rattle.nf_rational.specs.Order.{◌≤ℚ◌, ◌<ℚ◌}
-use Rattle.nf_rational_laws.proofs.Polynomial.{reading_of}
-use Rattle.nf_rational_laws.proofs.Linear.{eq, linear_eq}
-use Rattle.nf_rational_laws.proofs.Order.{≤ℚ_antisymm, lt_or_le_ℚ}
-use Rattle.nf_frac_def.specs.Passing.{Passing}
-use Rattle.nf_model.specs.Curve.{Point, Within, value, slope, IsCurve, IsShort}
+use Rattle.std.proofs.Common.{◌≡◌, ◌≢◌, ℕ, List, [], ◌∷◌, ⊎_elim, Bool, true, false, Option, refl, sym, ap, subst, ◌∙◌, Ok, if◌then◌else◌}
+use Rattle.nf_routes_laws.proofs.Common.{ℚ, 0ℚ, 1ℚ, ◌+ℚ◌, ◌-ℚ◌, ◌*ℚ◌, ◌≤ℚ◌, ◌<ℚ◌, reading_of, eq, linear_eq, ≤ℚ_antisymm, lt_or_le_ℚ, Passing, Point, Within}
+use Rattle.nf_routes_laws.proofs.Common.{value, slope, IsCurve, IsShort, value-line, slope-times, is_zero, IsComposedOf, IsShortOf, then_ok, is_same_cases}
+use Rattle.nf_routes_laws.proofs.Common.{checked_short-is, departures, LoadedLink, Routed, exit_of, travel_on, link_loaded, exit_by, exits_along, ≤ℚ_refl}
 use Rattle.nf_model_laws.proofs.Affine.{same_from_times}
-use Rattle.nf_model_laws.proofs.Curves.{value-line, slope-times}
-use Rattle.nf_rational.specs.Signs.{is_zero}
 use Rattle.nf_curve_def.specs.Composed.{checked_composed}
-use Rattle.nf_curve_def.specs.Meanings.{IsComposedOf, IsShortOf}
 use Rattle.nf_curve_laws.proofs.Composed.{checked_composed-is}
-use Rattle.nf_curve_laws.proofs.Operations.{then_ok, is_same_cases}
-use Rattle.nf_curve_laws.proofs.Short.{checked_short-is}
-use Rattle.nf_check_def.specs.Curves.{departures}
-use Rattle.nf_routes_def.specs.RoutesList.{LoadedLink, Routed, exit_of, travel_on}
-use Rattle.nf_routes_def.specs.Meanings.{link_loaded, exit_by, exits_along}
-use Rattle.nf_rational_laws.proofs.Chains.{≤ℚ_refl}
 
 -- ---- the departures themselves
 strictly : (x : ℚ) → 0ℚ ≤ℚ x → x ≢ 0ℚ → 0ℚ <ℚ x

@@ -1,31 +1,16 @@
 -- The steps of the links in the loading order, read off the result.
 use Rattle.std.proofs.Common.{◌≡◌, ◌≢◌, ℕ, zero, suc, ◌<◌, List, [], ◌∷◌, ◌++◌, length, ◌⊎◌, inl, inr, ⊎_elim, Bool, true, false, eqb, Option, Some, None, slice_get, unwrap_or, set, length-set, refl, sym, ap, subst, ◌∙◌, append_assoc, arith}
-use Rattle.std.specs.Prelude.{Ok, map, if◌then◌else◌}
-use Rattle.std.specs.List.{range_with_len}
-use Rattle.std.proofs.lemmas.Bool.Decides.{eqb_tells}
-use Rattle.std.proofs.lemmas.List.{length-map, append-nil}
-use Rattle.std.proofs.lemmas.Option.{same_Some, slice_get_within}
-use Rattle.nf_rational.specs.Rational.{ℚ}
-use Rattle.nf_rational.specs.Operations.{0ℚ}
-use Rattle.nf_rational.specs.Order.{◌≤ℚ◌, ◌<ℚ◌, max_ℚ}
-use Rattle.nf_rational_laws.proofs.Order.{≤ℚ_of_lt, ≤ℚ_of_same}
+use Rattle.nf_routes_laws.proofs.Common.{Ok, map, if◌then◌else◌, range_with_len, eqb_tells, length-map, append-nil, same_Some, slice_get_within, ℚ, 0ℚ, ◌≤ℚ◌}
+use Rattle.nf_routes_laws.proofs.Common.{◌<ℚ◌, max_ℚ, ≤ℚ_of_lt, ≤ℚ_of_same, Passing, Point, number_at, Link, Network, IsLink, Loaded, checked_loading}
+use Rattle.nf_routes_laws.proofs.Common.{last_value, Route, all_pairs, PrecedesOnRoute, first_free, with_next, order_from, LoadedLink, SoFar, Routed, exit_end, end_by}
+use Rattle.nf_routes_laws.proofs.Common.{begins_with, goes_over, last_entry, but_last, begin_if, begin_all, sum_from, next_if, next_all, next_entry, load_here}
+use Rattle.nf_routes_laws.proofs.Common.{load_all, end_or, loaded_or, link_loaded, stages_at, arrival_at, entry_at, then_ok, ≤ℚ_refl, ≤ℚ_trans, entry}
+use Rattle.nf_routes_laws.proofs.Common.{slice_get-image, same_Ok, not_both}
 use Rattle.nf_rational_laws.proofs.Tests.{max_ℚ_cases}
-use Rattle.nf_frac_def.specs.Passing.{Passing}
-use Rattle.nf_model.specs.Curve.{Point}
-use Rattle.nf_model.specs.Entries.{number_at}
-use Rattle.nf_model.specs.Network.{Link, Network, IsLink}
-use Rattle.nf_load_def.specs.Loading.{Loaded, checked_loading}
-use Rattle.nf_check_def.specs.Curves.{last_value}
-use Rattle.nf_routes_def.specs.Routes.{Route, all_pairs, PrecedesOnRoute, first_free, with_next, order_from}
-use Rattle.nf_routes_def.specs.RoutesList.{LoadedLink, SoFar, Routed, exit_end, end_by, begins_with, goes_over, last_entry, but_last, begin_if, begin_all, sum_from, next_if, next_all, next_entry, load_here, load_all, end_or, loaded_or}
-use Rattle.nf_routes_def.specs.Meanings.{link_loaded, stages_at, arrival_at, entry_at}
-use Rattle.nf_curve_laws.proofs.Operations.{then_ok}
+use Rattle.nf_rational_laws.proofs.Entries.{set_same}
 use Rattle.nf_routes_laws.proofs.Ordering.{In, in-front, in-back, range-below, free-some, before-pair, before-of, placed}
-use Rattle.nf_routes_laws.proofs.Stages.{get-next, set-same, set-other, get-last, at-stage, exit_end-is, begun-count, begun-at, next-count, next-at, over-at, over-place}
+use Rattle.nf_routes_laws.proofs.Stages.{get-next, set-other, get-last, at-stage, exit_end-is, begun-count, begun-at, next-count, next-at, over-at, over-place}
 use Rattle.nf_routes_laws.proofs.Steps.{Stands, stage, stands-none, place-is, stands-over, stands-past, IsEntryOf, Over, over-is, past-is}
-use Rattle.nf_rational_laws.proofs.Chains.{≤ℚ_refl, ≤ℚ_trans}
-use Rattle.nf_rational_laws.proofs.Entries.{entry, slice_get-image}
-use Rattle.nf_rational_laws.proofs.Results.{same_Ok, not_both}
 use Rattle.nf_net_laws.proofs.WalkFacts.{slice_get-left}
 
 -- ---- the links of the order are links
@@ -287,7 +272,7 @@ module _ (passes : Passing) (net : Network) (routes : List Route) (horizon : ℚ
       below = let b = slice_get_within net.links e link is_link in let c = standing.link_count in omega arith
 
       final_here : slice_get final.links e ≡ Some (Some (record { end = end_by horizon (all_pairs routes) s.links e; loaded = d.loaded }))
-      final_here = grows.links e (in-back e front (e ∷ []) (inl refl)) ∙ ap (λ (l : List (Option LoadedLink)). slice_get l e) d.links_are ∙ set-same s.links e _ below
+      final_here = grows.links e (in-back e front (e ∷ []) (inl refl)) ∙ ap (λ (l : List (Option LoadedLink)). slice_get l e) d.links_are ∙ set_same s.links e _ below
 
       before_same : (f : ℕ) → In f front → slice_get final.links f ≡ slice_get s.links f
       before_same f w = grows.links f (in-front f front (e ∷ []) w) ∙ ap (λ (l : List (Option LoadedLink)). slice_get l f) d.links_are ∙ set-other s.links e f _ (λ k. new (subst (λ (x : ℕ). In x front) (sym k) w))

@@ -1,26 +1,13 @@
 -- A least supply has no excess at any node. So it is a graded flow, for bounded capacities.
 use Rattle.std.proofs.Common.{◌≡◌, ◌≢◌, ℕ, ◌<◌, if◌then◌else◌, [], ◌∷◌, inl, ⊎_elim, Bool, true, false, eqb, Option, sym, ap, subst, refl, ◌∙◌}
 use Rattle.std.proofs.lemmas.Bool.Decides.{eqb_tells}
-use Rattle.nf_rational.specs.Rational.{ℚ}
-use Rattle.nf_rational.specs.Operations.{0ℚ, 1ℚ, ◌+ℚ◌, ◌-ℚ◌, ◌*ℚ◌}
-use Rattle.nf_rational.specs.Order.{◌≤ℚ◌, ◌<ℚ◌}
-use Rattle.nf_rational_laws.proofs.Polynomial.{reading_of}
-use Rattle.nf_rational_laws.proofs.Order.{≤ℚ_of_same, ≤ℚ_of_lt, ≤ℚ_antisymm, lt_or_le_ℚ, not_both_ℚ, nn_times}
-use Rattle.nf_rational_laws.proofs.Chains.{≤ℚ_refl, ≤ℚ_trans}
-use Rattle.nf_rational_laws.proofs.Linear.{le, lt, eq, eq_times, linear_le, linear_lt, linear_eq}
-use Rattle.nf_rational_laws.proofs.Facts.{nn_after_less, nn_less_part, less_some_le, nn_of_one}
-use Rattle.nf_model.specs.Network.{Link, Network, IsLink, IsNetwork, sum_in, sum_out}
-use Rattle.nf_model_laws.specs.Capacity.{IsPositive}
-use Rattle.nf_model_laws.proofs.Sums.{HasIn}
-use Rattle.nf_model_laws.proofs.Potential.{sum_to, only_at, only_at-here, only_at-else, out_less_in}
+use Rattle.nf_settling_graded_laws.proofs.Common.{ℚ, 0ℚ, 1ℚ, ◌+ℚ◌, ◌-ℚ◌, ◌*ℚ◌, ◌≤ℚ◌, ◌<ℚ◌, reading_of, ≤ℚ_of_same, ≤ℚ_of_lt, ≤ℚ_antisymm, lt_or_le_ℚ}
+use Rattle.nf_settling_graded_laws.proofs.Common.{not_both_ℚ, nn_times, ≤ℚ_refl, ≤ℚ_trans, le, lt, eq, eq_times, linear_le, linear_lt, linear_eq, nn_after_less}
+use Rattle.nf_settling_graded_laws.proofs.Common.{nn_less_part, less_some_le, nn_of_one, Link, Network, IsLink, IsNetwork, sum_in, sum_out, IsPositive, HasIn}
+use Rattle.nf_settling_graded_laws.proofs.Common.{sum_to, only_at, only_at-here, only_at-else, out_less_in, Fits, demand, same_node, some_below, fits_used}
+use Rattle.nf_settling_graded_laws.proofs.Common.{spare, HasSpare, spare_or_not, spare_of_enough, pushed, in-pushed, spare-else, spare-head, spare-tail}
 use Rattle.nf_model_laws.proofs.Totals.{all_zero, two_cancel}
 use Rattle.nf_thin_laws.proofs.Cuts.{EndsBelow-net}
-use Rattle.nf_complete_laws.specs.Oversupply.{Fits, demand}
-use Rattle.nf_complete_laws.proofs.Bare.{same_node}
-use Rattle.nf_complete_laws.proofs.ExistsDeciding.{some_below}
-use Rattle.nf_complete_laws.proofs.Fitting.{fits_used}
-use Rattle.nf_complete_laws.proofs.Spare.{spare, HasSpare, spare_or_not, spare_of_enough}
-use Rattle.nf_complete_laws.proofs.Pushing.{pushed, in-pushed, spare-else, spare-head, spare-tail}
 use Rattle.nf_complete_laws.proofs.Growing.{IsPart, part_of}
 use Rattle.nf_complete_laws.proofs.Lowering.{sum_to-lt}
 use Rattle.nf_complete_laws.proofs.Balanced.{no_spare}

@@ -3,24 +3,13 @@
 use Rattle.std.proofs.Common.{◌≡◌, ◌≢◌, ℕ, ◌<◌, if◌then◌else◌, List, [], ◌∷◌, inl, inr, ⊎_elim, Bool, true, false, eqb, Option, Some, None, slice_get, sym, ap, subst, refl, ◌∙◌}
 use Rattle.std.proofs.lemmas.Bool.Decides.{eqb_tells}
 use Rattle.std.proofs.lemmas.Option.{same_Some}
-use Rattle.nf_rational.specs.Rational.{ℚ}
-use Rattle.nf_rational.specs.Operations.{0ℚ, 1ℚ, ◌+ℚ◌, ◌-ℚ◌, ◌*ℚ◌, ◌/ℚ◌}
-use Rattle.nf_rational.specs.Order.{◌≤ℚ◌, ◌<ℚ◌}
-use Rattle.nf_rational_laws.proofs.Polynomial.{reading_of}
-use Rattle.nf_rational_laws.proofs.Order.{≤ℚ_of_same, ≤ℚ_of_lt, nn_times, nn_plus}
-use Rattle.nf_rational_laws.proofs.Chains.{≤ℚ_refl, ≤ℚ_trans}
-use Rattle.nf_rational_laws.proofs.Linear.{le, eq, le_times, linear_le}
+use Rattle.nf_settling_graded_laws.proofs.Common.{ℚ, 0ℚ, 1ℚ, ◌+ℚ◌, ◌-ℚ◌, ◌*ℚ◌, ◌/ℚ◌, ◌≤ℚ◌, ◌<ℚ◌, reading_of, ≤ℚ_of_same, ≤ℚ_of_lt, nn_times, nn_plus, ≤ℚ_refl}
+use Rattle.nf_settling_graded_laws.proofs.Common.{≤ℚ_trans, le, eq, le_times, linear_le, Link, Network, IsLink, IsNetwork, hops, sum_in, sum_out, only_at}
+use Rattle.nf_settling_graded_laws.proofs.Common.{only_at-here, only_at-else, sum_in-none, sum_out-none, sum_in-order, sum_out-same, Fits, demand, Decided}
+use Rattle.nf_settling_graded_laws.proofs.Common.{same_node, spare, pushed, pushed-cases, spare-else, spare-head, spare-tail}
 use Rattle.nf_model.specs.Walk.{IsWalk}
-use Rattle.nf_model.specs.Network.{Link, Network, IsLink, IsNetwork, hops, sum_in, sum_out}
 use Rattle.nf_model_laws.proofs.Affine.{nn-quotient, quotient-times}
 use Rattle.nf_model_laws.proofs.Networks.{IsWalk-starts, StartsWith}
-use Rattle.nf_model_laws.proofs.Potential.{only_at, only_at-here, only_at-else}
-use Rattle.nf_model_laws.proofs.Sums.{sum_in-none, sum_out-none, sum_in-order, sum_out-same}
-use Rattle.nf_complete_laws.specs.Oversupply.{Fits, demand}
-use Rattle.nf_complete_laws.proofs.Deciding.{Decided}
-use Rattle.nf_complete_laws.proofs.Bare.{same_node}
-use Rattle.nf_complete_laws.proofs.Spare.{spare}
-use Rattle.nf_complete_laws.proofs.Pushing.{pushed, pushed-cases, spare-else, spare-head, spare-tail}
 use Rattle.nf_settling_laws.specs.Excess.{link_sum}
 use Rattle.nf_settling_laws.proofs.Terms.{link_sum-one, link_sum-not_negative}
 use Rattle.nf_settling_graded_laws.proofs.Supplies.{IsOpen, open_or_not, IsSupply}

@@ -2,19 +2,11 @@
 -- higher level: no flow leaves the nodes above a level, and at most the rate enters them.
 use Rattle.std.proofs.Common.{◌≡◌, ℕ, if◌then◌else◌, [], ◌∷◌, inl, ⊎_elim, Bool, true, false, Option, Some, None, unwrap_or, sym, ap, subst, refl, ◌∙◌}
 use Rattle.std.proofs.lemmas.Option.{none-some, same_Some}
-use Rattle.nf_rational.specs.Rational.{ℚ}
-use Rattle.nf_rational.specs.Operations.{0ℚ, 1ℚ, ◌+ℚ◌, ◌-ℚ◌, ◌*ℚ◌}
-use Rattle.nf_rational.specs.Order.{◌≤ℚ◌, ◌<ℚ◌, lt_ℚ}
-use Rattle.nf_rational_laws.proofs.Polynomial.{reading_of}
-use Rattle.nf_rational_laws.proofs.Order.{≤ℚ_of_lt, ≤ℚ_of_same, ≤ℚ_antisymm, lt_or_le_ℚ, not_both_ℚ, <ℚ_irrefl, nn_times, less_nn}
-use Rattle.nf_rational_laws.proofs.Chains.{≤ℚ_refl, ≤ℚ_trans}
+use Rattle.nf_settling_graded_laws.proofs.Common.{ℚ, 0ℚ, 1ℚ, ◌+ℚ◌, ◌-ℚ◌, ◌*ℚ◌, ◌≤ℚ◌, ◌<ℚ◌, lt_ℚ, reading_of, ≤ℚ_of_lt, ≤ℚ_of_same, ≤ℚ_antisymm, lt_or_le_ℚ}
+use Rattle.nf_settling_graded_laws.proofs.Common.{not_both_ℚ, <ℚ_irrefl, nn_times, less_nn, ≤ℚ_refl, ≤ℚ_trans, le, le_times, eq_times, linear_le, linear_lt}
+use Rattle.nf_settling_graded_laws.proofs.Common.{Link, Network, IsLink, IsNetwork, IsPositive, Fits, fits_used}
 use Rattle.nf_rational_laws.proofs.Tests.{lt_ℚ_cases}
-use Rattle.nf_rational_laws.proofs.Linear.{le, le_times, eq_times, linear_le, linear_lt}
-use Rattle.nf_model.specs.Network.{Link, Network, IsLink, IsNetwork}
-use Rattle.nf_model_laws.specs.Capacity.{IsPositive}
 use Rattle.nf_model_laws.proofs.Earliest.{IsPositive-link}
-use Rattle.nf_complete_laws.specs.Oversupply.{Fits}
-use Rattle.nf_complete_laws.proofs.Fitting.{fits_used}
 use Rattle.nf_settling_laws.proofs.Terms.{link_sum-one, rise}
 use Rattle.nf_settling_laws.proofs.Carried.{value_carried}
 use Rattle.nf_settling_graded_laws.specs.Grading.{IsGraded, GradedFlowExists}

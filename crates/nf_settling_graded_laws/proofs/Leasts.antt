@@ -1,19 +1,10 @@
 -- Systems of linear inequalities describe supplies. So one supply has the least sum of levels, and among those the least sum of inflows. The proof
 -- is that of `nf_complete_laws/Assigned`, for supplies.
 use Rattle.std.proofs.Common.{◌≡◌, ◌≢◌, ℕ, ◌<◌, Option, sym, subst}
-use Rattle.nf_rational.specs.Rational.{ℚ}
-use Rattle.nf_rational.specs.Operations.{0ℚ, 1ℚ, ◌+ℚ◌, ◌-ℚ◌}
-use Rattle.nf_rational.specs.Order.{◌≤ℚ◌}
-use Rattle.nf_rational_laws.proofs.Facts.{nn_of_one}
-use Rattle.nf_model.specs.Network.{Link, Network, IsNetwork, IsLink, sum_in, sum_out}
-use Rattle.nf_model_laws.specs.Capacity.{IsPositive}
-use Rattle.nf_model_laws.proofs.Potential.{sum_to, sum_to-nn}
+use Rattle.nf_settling_graded_laws.proofs.Common.{ℚ, 0ℚ, 1ℚ, ◌+ℚ◌, ◌-ℚ◌, ◌≤ℚ◌, nn_of_one, Link, Network, IsNetwork, IsLink, sum_in, sum_out, IsPositive, sum_to}
+use Rattle.nf_settling_graded_laws.proofs.Common.{sum_to-nn, demand, same_node, not_so, sum_in-not_negative}
 use Rattle.nf_linear_laws.specs.Systems.{form_value}
 use Rattle.nf_linear_laws.proofs.Choices.{MeetsOne, LeastOfTwo, least_of_two}
-use Rattle.nf_complete_laws.specs.Oversupply.{demand}
-use Rattle.nf_complete_laws.proofs.Bare.{same_node}
-use Rattle.nf_complete_laws.proofs.ExistsDeciding.{not_so}
-use Rattle.nf_complete_laws.proofs.LinkSums.{sum_in-not_negative}
 use Rattle.nf_complete_laws.proofs.Affine.{Affine, Affine-value, Affine-form, Affine-floor, Affine-constant, Affine-plus, Affine-sum_to, Affine-sum_in, Affine-sum_out}
 use Rattle.nf_complete_laws.proofs.Described.{Described, Described-as, Described-both, Described-when, Described-le, Described-same, Described-to, Described-links, EachLink}
 use Rattle.nf_complete_laws.proofs.Assigned.{slopes_of, flows_of, joined, slopes_of-joined, flows_of-joined, slope, flow, FitsAt, fits_described}

@@ -1,3 +1,4 @@
+mod Common
 pub mod Supplies
 pub mod Lifting
 pub mod Lowers

@@ -1,19 +1,10 @@
 -- Pushes begin with a supply whose nodes with excess have levels above 1. They end with one whose nodes with excess are closed. The proof is that
 -- of `nf_complete_laws/Growing`, for supplies.
 use Rattle.std.proofs.Common.{◌≡◌, ◌≢◌, ℕ, zero, suc, ◌<◌, ◌≤◌, ◌⊎◌, inl, inr, ⊎_elim, Option, sym, ap, subst, ◌∙◌, arith}
-use Rattle.nf_rational.specs.Rational.{ℚ}
-use Rattle.nf_rational.specs.Operations.{0ℚ, 1ℚ, ◌+ℚ◌, ◌-ℚ◌}
-use Rattle.nf_rational.specs.Order.{◌≤ℚ◌, ◌<ℚ◌}
-use Rattle.nf_rational_laws.proofs.Order.{≤ℚ_of_lt, ≤ℚ_of_same, not_both_ℚ}
-use Rattle.nf_rational_laws.proofs.Facts.{nn_less_part, less_some_le}
-use Rattle.nf_model.specs.Network.{Link, Network, IsLink, IsNetwork}
-use Rattle.nf_model_laws.specs.Capacity.{IsPositive}
-use Rattle.nf_complete_laws.proofs.Deciding.{Decided, both, same_or_not, NoLink}
-use Rattle.nf_complete_laws.proofs.Bare.{same_node}
-use Rattle.nf_complete_laws.proofs.ExistsDeciding.{not_so, less_or_not, SomeLink, some_link}
-use Rattle.nf_complete_laws.proofs.Fitting.{IsAtMost, HasRoom, room_or_not}
-use Rattle.nf_complete_laws.proofs.Spare.{spare, HasSpare, spare_or_not, spare_of_enough}
-use Rattle.nf_complete_laws.proofs.Pushing.{pushed, spare-else, spare-head, spare-tail}
+use Rattle.nf_settling_graded_laws.proofs.Common.{ℚ, 0ℚ, 1ℚ, ◌+ℚ◌, ◌-ℚ◌, ◌≤ℚ◌, ◌<ℚ◌, ≤ℚ_of_lt, ≤ℚ_of_same, not_both_ℚ, nn_less_part, less_some_le, Link}
+use Rattle.nf_settling_graded_laws.proofs.Common.{Network, IsLink, IsNetwork, IsPositive, Decided, both, same_or_not, NoLink, same_node, not_so, less_or_not}
+use Rattle.nf_settling_graded_laws.proofs.Common.{SomeLink, some_link, IsAtMost, HasRoom, room_or_not, spare, HasSpare, spare_or_not, spare_of_enough, pushed}
+use Rattle.nf_settling_graded_laws.proofs.Common.{spare-else, spare-head, spare-tail}
 use Rattle.nf_complete_laws.proofs.Counting.{lack, lack-le, lack-lt, count_to, count_to-lt}
 use Rattle.nf_complete_laws.proofs.Growing.{IsPart, part_of, part_of_room, left_over, gained, more_flow, plus_less, less_less}
 use Rattle.nf_settling_graded_laws.proofs.Supplies.{IsOpen, open_or_not, IsSupply, IsSupply-pushed}

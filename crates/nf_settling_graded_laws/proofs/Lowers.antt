@@ -1,23 +1,12 @@
 -- If the nodes with excess are closed, the levels of all of them can be lowered. The result is a supply with a smaller sum of levels. The proof is
 -- that of `nf_complete_laws/Lowering`, for supplies.
 use Rattle.std.proofs.Common.{◌≡◌, ◌≢◌, ℕ, ◌<◌, [], ◌∷◌, ◌⊎◌, inl, inr, ⊎_elim, Option, Some, None, slice_get, unwrap_or, sym, ap, subst, refl, ◌∙◌}
-use Rattle.nf_rational.specs.Rational.{ℚ}
-use Rattle.nf_rational.specs.Operations.{0ℚ, 1ℚ, ◌+ℚ◌, ◌-ℚ◌, ◌*ℚ◌}
-use Rattle.nf_rational.specs.Order.{◌≤ℚ◌, ◌<ℚ◌}
-use Rattle.nf_rational_laws.proofs.Polynomial.{reading_of}
-use Rattle.nf_rational_laws.proofs.Order.{≤ℚ_of_lt, lt_or_le_ℚ, not_both_ℚ, less_ps}
-use Rattle.nf_rational_laws.proofs.Chains.{≤ℚ_refl}
-use Rattle.nf_rational_laws.proofs.Linear.{le, lt, eq, linear_le, linear_lt}
-use Rattle.nf_rational_laws.proofs.Facts.{nn_of_one}
-use Rattle.nf_model.specs.Network.{Link, Network, IsLink, IsNetwork, sum_in, sum_out}
-use Rattle.nf_model_laws.specs.Capacity.{IsPositive}
-use Rattle.nf_model_laws.proofs.Sums.{sum_in-same, sum_in-line, sum_in-order, sum_out-order}
-use Rattle.nf_model_laws.proofs.Potential.{sum_to}
-use Rattle.nf_complete_laws.specs.Oversupply.{Fits, demand}
+use Rattle.nf_settling_graded_laws.proofs.Common.{ℚ, 0ℚ, 1ℚ, ◌+ℚ◌, ◌-ℚ◌, ◌*ℚ◌, ◌≤ℚ◌, ◌<ℚ◌, reading_of, ≤ℚ_of_lt, lt_or_le_ℚ, not_both_ℚ, less_ps, ≤ℚ_refl, le}
+use Rattle.nf_settling_graded_laws.proofs.Common.{lt, eq, linear_le, linear_lt, nn_of_one, Link, Network, IsLink, IsNetwork, sum_in, sum_out, IsPositive}
+use Rattle.nf_settling_graded_laws.proofs.Common.{sum_in-same, sum_in-line, sum_in-order, sum_out-order, sum_to, Fits, demand, sum_in-not_negative, IsAtMost}
+use Rattle.nf_settling_graded_laws.proofs.Common.{IsFilled, HasRoom, filled_or_room, capped, capped-le, capped-same, capped-none, capped-near, Fits-capped}
+use Rattle.nf_settling_graded_laws.proofs.Common.{fits_used, ordered-low, spare, HasSpare, spare_or_not}
 use Rattle.nf_complete_laws.proofs.Small.{Small, Small-map, Small-both, Small-when, Small-at_most, Small-apart, Small-times, Small-to, Small-links}
-use Rattle.nf_complete_laws.proofs.LinkSums.{sum_in-not_negative}
-use Rattle.nf_complete_laws.proofs.Fitting.{IsAtMost, IsFilled, HasRoom, filled_or_room, capped, capped-le, capped-same, capped-none, capped-near, Fits-capped, fits_used, ordered-low}
-use Rattle.nf_complete_laws.proofs.Spare.{spare, HasSpare, spare_or_not}
 use Rattle.nf_complete_laws.proofs.Lowering.{sum_to-lt, low_by, low_by-cases, low_by-le, low_by-near, low_by-is, low_by-not, unwrapped-not_negative, enough_by_rest, enough_by_same}
 use Rattle.nf_settling_graded_laws.proofs.Supplies.{IsOpen, IsSupply, flow_most}
 use Rattle.nf_settling_graded_laws.proofs.Lifting.{IsClosed}

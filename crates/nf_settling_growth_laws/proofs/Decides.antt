@@ -1,37 +1,21 @@
 -- The label of the sink leaves the line of its growth only while the store falls, and by at most a constant times that. The store is bounded
 -- from above at the last start of a piece, and from below at every departure.
 use Rattle.std.proofs.Common.{◌≡◌, ℕ, suc, ◌<◌, List, [], ◌∷◌, ⊎_elim, sym, subst, refl}
-use Rattle.nf_rational.specs.Rational.{ℚ}
-use Rattle.nf_rational.specs.Operations.{0ℚ, 1ℚ, ◌+ℚ◌, ◌-ℚ◌, ◌*ℚ◌, ◌/ℚ◌}
-use Rattle.nf_rational.specs.Order.{◌≤ℚ◌, ◌<ℚ◌, max_ℚ}
-use Rattle.nf_rational_laws.proofs.Polynomial.{reading_of}
-use Rattle.nf_rational_laws.proofs.Order.{≤ℚ_of_lt, lt_or_le_ℚ, less_nn, <ℚ_irrefl}
-use Rattle.nf_rational_laws.proofs.Chains.{≤ℚ_refl, ≤ℚ_trans}
-use Rattle.nf_rational_laws.proofs.Extremes.{max_left, max_right, max_keeps}
-use Rattle.nf_rational_laws.proofs.Linear.{le, lt, eq, le_times, eq_times, linear_le, linear_lt}
-use Rattle.nf_rational_laws.proofs.Facts.{nn_of_one}
-use Rattle.nf_model.specs.Entries.{number_at}
-use Rattle.nf_model.specs.Network.{Piece, Network, IsNetwork, IsPiece}
-use Rattle.nf_model.specs.ThinFlow.{Sets, sets_at, IsThinFlow}
-use Rattle.nf_model.specs.Equilibrium.{Flow, label, inflow, Equilibrium}
-use Rattle.nf_model_laws.proofs.Affine.{quotient-times}
+use Rattle.nf_settling_growth_laws.proofs.Common.{ℚ, 0ℚ, 1ℚ, ◌+ℚ◌, ◌-ℚ◌, ◌*ℚ◌, ◌/ℚ◌, ◌≤ℚ◌, ◌<ℚ◌, max_ℚ, reading_of, ≤ℚ_of_lt, lt_or_le_ℚ, less_nn, <ℚ_irrefl}
+use Rattle.nf_settling_growth_laws.proofs.Common.{≤ℚ_refl, ≤ℚ_trans, max_left, max_right, max_keeps, le, lt, eq, le_times, eq_times, linear_le, linear_lt}
+use Rattle.nf_settling_growth_laws.proofs.Common.{nn_of_one, number_at, Piece, Network, IsNetwork, IsPiece, Sets, sets_at, IsThinFlow, Flow, label, inflow}
+use Rattle.nf_settling_growth_laws.proofs.Common.{Equilibrium, quotient-times, Cut, IsStaticCut, cut_capacity, last_rate, IsLastSupply, CutsAreWide, Settles}
+use Rattle.nf_settling_growth_laws.proofs.Common.{link_sum, capacity_or_0, last_start, last_start-not_negative, IsLastSupply-from, last_rate-not_negative}
+use Rattle.nf_settling_growth_laws.proofs.Common.{label_bound, label_bound-not_negative, label-bounded, IsGraded, GrowsAt, GradedFlowDecides}
 use Rattle.nf_phase_laws.proofs.Holds.{label_not_negative}
 use Rattle.nf_phase_equilibrium_laws.proofs.Invariant.{HoldsUpTo-equilibrium}
 use Rattle.nf_complete_laws.proofs.Deciding.{same_or_not}
-use Rattle.nf_forever_laws.specs.Cuts.{Cut, IsStaticCut, cut_capacity}
-use Rattle.nf_forever_laws.specs.TailGrowth.{last_rate}
 use Rattle.nf_forever_laws.proofs.Cuts.{cut_capacity-positive}
-use Rattle.nf_settling_laws.specs.Settling.{IsLastSupply, CutsAreWide, Settles}
-use Rattle.nf_settling_laws.specs.Excess.{link_sum}
-use Rattle.nf_settling_laws.proofs.Filling.{capacity_or_0}
 use Rattle.nf_settling_laws.proofs.Rates.{AreLabelSets, HoldsForAll, bound_of_all}
 use Rattle.nf_settling_laws.proofs.Steep.{bound_of_rate}
 use Rattle.nf_settling_laws.proofs.Along.{labels_at, active_count, resetting_count, AreLabelSets-at}
-use Rattle.nf_settling_laws.proofs.Starts.{last_start, last_start-not_negative, IsLastSupply-from, last_rate-not_negative, label_bound, label_bound-not_negative, label-bounded}
 use Rattle.nf_settling_laws.proofs.Settles.{equilibria-settle}
 use Rattle.nf_settling_laws.proofs.Intervals.{IsInterval, over_intervals}
-use Rattle.nf_settling_graded_laws.specs.Grading.{IsGraded}
-use Rattle.nf_settling_growth_laws.specs.Growth.{GrowsAt, GradedFlowDecides}
 use Rattle.nf_settling_growth_laws.proofs.Store.{store, drift, drift-le, drift-lt}
 use Rattle.nf_settling_growth_laws.proofs.Reserve.{in_transit, store-low, store-high, store-step}
 use Rattle.nf_settling_growth_laws.proofs.Growing.{IsGrowth-level, level-cut, level-one}

@@ -1,20 +1,12 @@
 -- The levels of a graded flow grow by the cuts. So the level of the sink is the growth of the network.
 use Rattle.std.proofs.Common.{◌≡◌, ℕ, ◌<◌, List, ⊎_elim, sym, subst, ◌∙◌}
-use Rattle.nf_rational.specs.Rational.{ℚ}
-use Rattle.nf_rational.specs.Operations.{1ℚ, ◌*ℚ◌, ◌/ℚ◌}
-use Rattle.nf_rational.specs.Order.{◌≤ℚ◌, ◌<ℚ◌, max_ℚ}
-use Rattle.nf_rational_laws.proofs.Order.{≤ℚ_antisymm, lt_or_le_ℚ}
-use Rattle.nf_model.specs.Entries.{number_at}
-use Rattle.nf_model.specs.Network.{Network, IsNetwork}
+use Rattle.nf_settling_growth_laws.proofs.Common.{ℚ, 1ℚ, ◌*ℚ◌, ◌/ℚ◌, ◌≤ℚ◌, ◌<ℚ◌, max_ℚ, ≤ℚ_antisymm, lt_or_le_ℚ, number_at, Network, IsNetwork, Cut}
+use Rattle.nf_settling_growth_laws.proofs.Common.{IsStaticCut, cut_capacity, IsLeastCapacity, last_rate, IsGraded, IsGrowth}
 use Rattle.nf_complete_laws.specs.Oversupply.{Fits}
 use Rattle.nf_complete_laws.proofs.Numbers.{numbers, number_at-numbers}
-use Rattle.nf_forever_laws.specs.Cuts.{Cut, IsStaticCut, cut_capacity, IsLeastCapacity}
 use Rattle.nf_forever_laws.specs.Growth.{slower_than_sink, GrowsByCuts}
-use Rattle.nf_forever_laws.specs.TailGrowth.{last_rate}
 use Rattle.nf_forever_laws.proofs.Fitting.{FitsSlopes, GrowsByCuts-fit}
 use Rattle.nf_forever_laws.proofs.Least.{GrowsByLeastCut-cuts}
-use Rattle.nf_settling_graded_laws.specs.Grading.{IsGraded}
-use Rattle.nf_settling_growth_laws.specs.Growth.{IsGrowth}
 
 module _ (net : Network) (good : IsNetwork net) (rate : ℚ) (flows levels : ℕ → ℚ) (graded : IsGraded net rate flows levels) where
   abbrev pub listed : List ℚ

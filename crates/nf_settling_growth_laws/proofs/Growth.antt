@@ -1,27 +1,13 @@
 -- The theorems on the growth, from graded flows.
-use Rattle.std.proofs.Common.{◌≡◌, [], ◌∷◌, ⊎_elim, sym, subst, ◌∙◌}
-use Rattle.std.specs.Prelude.{◌↔◌}
-use Rattle.nf_rational.specs.Rational.{ℚ}
-use Rattle.nf_rational.specs.Operations.{0ℚ, 1ℚ, ◌*ℚ◌, ◌/ℚ◌}
-use Rattle.nf_rational.specs.Order.{◌≤ℚ◌, ◌<ℚ◌}
-use Rattle.nf_rational_laws.proofs.Polynomial.{reading_of}
-use Rattle.nf_rational_laws.proofs.Order.{≤ℚ_of_lt, ≤ℚ_antisymm, lt_or_le_ℚ}
-use Rattle.nf_rational_laws.proofs.Chains.{≤ℚ_trans}
-use Rattle.nf_rational_laws.proofs.Extremes.{max_right, max_is_left}
-use Rattle.nf_rational_laws.proofs.Linear.{le, eq, le_times, linear_le}
-use Rattle.nf_model.specs.Entries.{number_at}
-use Rattle.nf_model.specs.Network.{Network, IsNetwork}
-use Rattle.nf_model.specs.Equilibrium.{Flow}
-use Rattle.nf_model_laws.proofs.Affine.{quotient-times, le_from_times}
-use Rattle.nf_forever_laws.specs.Cuts.{Cut, IsStaticCut, IsLeastCapacity}
+use Rattle.std.proofs.Common.{◌≡◌, [], ◌∷◌, ⊎_elim, sym, subst, ◌∙◌, ◌↔◌}
+use Rattle.nf_settling_growth_laws.proofs.Common.{ℚ, 0ℚ, 1ℚ, ◌*ℚ◌, ◌/ℚ◌, ◌≤ℚ◌, ◌<ℚ◌, reading_of, ≤ℚ_of_lt, ≤ℚ_antisymm, lt_or_le_ℚ, ≤ℚ_trans, max_right}
+use Rattle.nf_settling_growth_laws.proofs.Common.{max_is_left, le, eq, le_times, linear_le, number_at, Network, IsNetwork, Flow, quotient-times, le_from_times}
+use Rattle.nf_settling_growth_laws.proofs.Common.{Cut, IsStaticCut, IsLeastCapacity, last_rate, TailGrows, CutsAreWide, last_rate-not_negative, IsGrowth}
+use Rattle.nf_settling_growth_laws.proofs.Common.{BottleneckDecides, OneLinkGrows, GrowthIsByCuts, TailHasGrowth}
 use Rattle.nf_phase_def.specs.ToEnd.{Tail}
 use Rattle.nf_forever_laws.specs.Growth.{slower_than_sink}
-use Rattle.nf_forever_laws.specs.TailGrowth.{last_rate, TailGrows}
 use Rattle.nf_forever_laws.proofs.Cuts.{IsLeastCapacity-one_link, no_cut-one_link, cut_capacity-positive}
 use Rattle.nf_forever_laws.proofs.LeastCut.{least_exists}
-use Rattle.nf_settling_laws.specs.Settling.{CutsAreWide}
-use Rattle.nf_settling_laws.proofs.Starts.{last_rate-not_negative}
-use Rattle.nf_settling_growth_laws.specs.Growth.{IsGrowth, BottleneckDecides, OneLinkGrows, GrowthIsByCuts, TailHasGrowth}
 use Rattle.nf_settling_growth_laws.proofs.Growing.{IsGrowth-level}
 use Rattle.nf_settling_growth_laws.proofs.Decides.{grows-at}
 use Rattle.nf_settling_graded_laws.proofs.Exists.{graded_flow-exists}

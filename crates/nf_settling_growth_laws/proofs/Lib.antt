@@ -1,3 +1,4 @@
+mod Common
 pub mod Raised
 pub mod Store
 pub mod Reserve

@@ -1,16 +1,9 @@
 -- One link of a thin flow, compared with the levels p and q of its ends. Its slopes are s = p y and t = q z. Some amount bears the flow along the
 -- numbers y and z. Its rise is at least the change of the queue, less the part of the link in the rise of the levels.
 use Rattle.std.proofs.Common.{◌≡◌, [], ◌∷◌, inl, inr, ⊎_elim, Bool, true, false, if◌then◌else◌, sym, ap, subst, refl, ◌∙◌}
-use Rattle.nf_rational.specs.Rational.{ℚ}
-use Rattle.nf_rational.specs.Operations.{0ℚ, 1ℚ, ◌+ℚ◌, ◌-ℚ◌, ◌*ℚ◌}
-use Rattle.nf_rational.specs.Order.{◌≤ℚ◌, ◌<ℚ◌, lt_ℚ, max_ℚ}
-use Rattle.nf_rational_laws.proofs.Polynomial.{reading_of}
-use Rattle.nf_rational_laws.proofs.Order.{≤ℚ_of_lt, ≤ℚ_of_same, ≤ℚ_antisymm, lt_or_le_ℚ, nn_times}
-use Rattle.nf_rational_laws.proofs.Tests.{test_of_less, test_of_not_less}
-use Rattle.nf_rational_laws.proofs.Extremes.{max_left, max_right}
-use Rattle.nf_rational_laws.proofs.Linear.{le, eq, le_times, eq_times, linear_le}
-use Rattle.nf_model_laws.proofs.Affine.{le_from_times}
-use Rattle.nf_settling_laws.proofs.Filling.{Kind}
+use Rattle.nf_settling_growth_laws.proofs.Common.{ℚ, 0ℚ, 1ℚ, ◌+ℚ◌, ◌-ℚ◌, ◌*ℚ◌, ◌≤ℚ◌, ◌<ℚ◌, lt_ℚ, max_ℚ, reading_of, ≤ℚ_of_lt, ≤ℚ_of_same, ≤ℚ_antisymm}
+use Rattle.nf_settling_growth_laws.proofs.Common.{lt_or_le_ℚ, nn_times, test_of_less, test_of_not_less, max_left, max_right, le, eq, le_times, eq_times}
+use Rattle.nf_settling_growth_laws.proofs.Common.{linear_le, le_from_times, Kind}
 use Rattle.nf_settling_laws.proofs.Levels.{Bears}
 
 -- n is the filled amount, x the flow and c the capacity.

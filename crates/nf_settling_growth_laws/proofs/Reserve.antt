@@ -1,30 +1,18 @@
 -- Bounds of the store, and its change over a time in which the labels are lines.
 use Rattle.std.proofs.Common.{◌≡◌, ℕ, ◌<◌, List, [], ◌∷◌, ⊎_elim, Option, Some, None, sym, ap, subst, refl, ◌∙◌}
 use Rattle.std.proofs.lemmas.Option.{none-some, same_Some}
-use Rattle.nf_rational.specs.Rational.{ℚ}
-use Rattle.nf_rational.specs.Operations.{0ℚ, 1ℚ, ◌+ℚ◌, ◌-ℚ◌, ◌*ℚ◌}
-use Rattle.nf_rational.specs.Order.{◌≤ℚ◌, ◌<ℚ◌, max_ℚ}
-use Rattle.nf_rational_laws.proofs.Polynomial.{reading_of}
-use Rattle.nf_rational_laws.proofs.Order.{≤ℚ_of_lt, ≤ℚ_of_same, ≤ℚ_antisymm, lt_or_le_ℚ, not_both_ℚ, nn_times, less_nn}
-use Rattle.nf_rational_laws.proofs.Chains.{≤ℚ_trans}
-use Rattle.nf_rational_laws.proofs.Tests.{max0_of, max0_none}
-use Rattle.nf_rational_laws.proofs.Extremes.{max_left, max_right, max_keeps}
-use Rattle.nf_rational_laws.proofs.Linear.{le, eq, le_times, eq_times, linear_le, linear_eq}
+use Rattle.nf_settling_growth_laws.proofs.Common.{ℚ, 0ℚ, 1ℚ, ◌+ℚ◌, ◌-ℚ◌, ◌*ℚ◌, ◌≤ℚ◌, ◌<ℚ◌, max_ℚ, reading_of, ≤ℚ_of_lt, ≤ℚ_of_same, ≤ℚ_antisymm, lt_or_le_ℚ}
+use Rattle.nf_settling_growth_laws.proofs.Common.{not_both_ℚ, nn_times, less_nn, ≤ℚ_trans, max0_of, max0_none, max_left, max_right, max_keeps, le, eq, le_times}
+use Rattle.nf_settling_growth_laws.proofs.Common.{eq_times, linear_le, linear_eq, gap_np, number_at, Link, Network, IsNetwork, IsLink, Sets, link_sum}
+use Rattle.nf_settling_growth_laws.proofs.Common.{capacity_or_0, filled, IsGraded}
 use Rattle.nf_rational_laws.proofs.Field.{zero-*ℚ}
-use Rattle.nf_rational_laws.proofs.Facts.{gap_np}
-use Rattle.nf_model.specs.Entries.{number_at}
-use Rattle.nf_model.specs.Network.{Link, Network, IsNetwork, IsLink}
-use Rattle.nf_model.specs.ThinFlow.{Sets}
 use Rattle.nf_model_laws.specs.Capacity.{IsPositive}
 use Rattle.nf_model_laws.proofs.Earliest.{IsPositive-link}
 use Rattle.nf_phase_laws.specs.Invariant.{queue_by_slack}
 use Rattle.nf_complete_laws.specs.Oversupply.{Fits}
-use Rattle.nf_settling_laws.specs.Excess.{link_sum}
 use Rattle.nf_settling_laws.proofs.Terms.{link_sum-le, link_sum-line, link_sum-not_negative, rise}
 use Rattle.nf_settling_laws.proofs.Carried.{value_carried}
-use Rattle.nf_settling_laws.proofs.Filling.{capacity_or_0, filled}
 use Rattle.nf_settling_laws.proofs.Bounded.{waits}
-use Rattle.nf_settling_graded_laws.specs.Grading.{IsGraded}
 use Rattle.nf_settling_growth_laws.proofs.Raised.{steepness}
 use Rattle.nf_settling_growth_laws.proofs.Store.{over, steep, taken, store, drift, capacity_nn, over-is, over-line, over-nn}
 

@@ -3,30 +3,20 @@
 -- That is never above 0, and below 0 unless the slope of the sink is its level.
 use Rattle.std.proofs.Common.{◌≡◌, ℕ, ◌<◌, ◌≤◌, List, [], ◌∷◌, ⊎_elim, Bool, true, false, Option, Some, None, sym, ap, subst, refl, ◌∙◌}
 use Rattle.std.proofs.lemmas.Bool.{cases_lt}
-use Rattle.nf_rational.specs.Rational.{ℚ}
-use Rattle.nf_rational.specs.Operations.{0ℚ, 1ℚ, ◌+ℚ◌, ◌-ℚ◌, ◌*ℚ◌, ◌/ℚ◌}
-use Rattle.nf_rational.specs.Order.{◌≤ℚ◌, ◌<ℚ◌}
-use Rattle.nf_rational_laws.proofs.Polynomial.{reading_of}
-use Rattle.nf_rational_laws.proofs.Order.{≤ℚ_of_lt, ≤ℚ_of_same, not_both_ℚ, nn_times}
-use Rattle.nf_rational_laws.proofs.Chains.{≤ℚ_refl, ≤ℚ_trans}
-use Rattle.nf_rational_laws.proofs.Linear.{le, lt, eq, eq_times, linear_le, linear_lt, linear_eq}
-use Rattle.nf_model.specs.Entries.{number_at, Has}
-use Rattle.nf_model.specs.Network.{Link, Network, IsNetwork, IsLink}
-use Rattle.nf_model.specs.ThinFlow.{Sets, IsThinFlow}
+use Rattle.nf_settling_growth_laws.proofs.Common.{ℚ, 0ℚ, 1ℚ, ◌+ℚ◌, ◌-ℚ◌, ◌*ℚ◌, ◌/ℚ◌, ◌≤ℚ◌, ◌<ℚ◌, reading_of, ≤ℚ_of_lt, ≤ℚ_of_same, not_both_ℚ, nn_times}
+use Rattle.nf_settling_growth_laws.proofs.Common.{≤ℚ_refl, ≤ℚ_trans, le, lt, eq, eq_times, linear_le, linear_lt, linear_eq, number_at, Has, Link, Network}
+use Rattle.nf_settling_growth_laws.proofs.Common.{IsNetwork, IsLink, Sets, IsThinFlow, nn-quotient, quotient-times, same_from_times, link_sum, capacity_or_0}
+use Rattle.nf_settling_growth_laws.proofs.Common.{filled_amount, filled, law_at, kind_at, carried_up, IsGraded}
 use Rattle.nf_model_laws.specs.Capacity.{IsPositive}
-use Rattle.nf_model_laws.proofs.Affine.{nn-quotient, quotient-times, same_from_times}
 use Rattle.nf_model_laws.proofs.Earliest.{IsPositive-link}
 use Rattle.nf_thin_laws.specs.ActiveLinks.{AreSets, HoldNoCycle}
 use Rattle.nf_thin_laws.proofs.Flags.{flag, flag-cases}
 use Rattle.nf_complete_laws.proofs.Numbers.{numbers, length-numbers, number_at-numbers, number_at-past}
 use Rattle.nf_forever_laws.proofs.Growth.{most_of}
-use Rattle.nf_settling_laws.specs.Excess.{link_sum}
 use Rattle.nf_settling_laws.proofs.Terms.{link_sum-le, link_sum-line, rise}
 use Rattle.nf_settling_laws.proofs.Levels.{IsBorne}
 use Rattle.nf_settling_laws.proofs.Heaped.{heaped-le, heaped-lt}
-use Rattle.nf_settling_laws.proofs.Filling.{capacity_or_0, filled_amount, filled, law_at, kind_at, carried_up}
 use Rattle.nf_settling_laws.proofs.Bounded.{waits}
-use Rattle.nf_settling_graded_laws.specs.Grading.{IsGraded}
 use Rattle.nf_settling_growth_laws.proofs.Raised.{raised, steepness, Raises, raises}
 
 -- A number at a node over the level of the node.

@@ -1,25 +1,11 @@
 -- From one departure to the next, the distance of the sink's label from its line changes by at most what the store falls, times a constant.
 -- So all its changes together are bounded.
 use Rattle.std.proofs.Common.{◌≡◌, ℕ, List, [], ◌∷◌, ⊎_elim}
-use Rattle.nf_rational.specs.Rational.{ℚ}
-use Rattle.nf_rational.specs.Operations.{0ℚ, 1ℚ, ◌+ℚ◌, ◌-ℚ◌, ◌*ℚ◌}
-use Rattle.nf_rational.specs.Order.{◌≤ℚ◌, ◌<ℚ◌, max_ℚ}
-use Rattle.nf_rational_laws.proofs.Polynomial.{reading_of}
-use Rattle.nf_rational_laws.proofs.Order.{≤ℚ_of_lt, lt_or_le_ℚ, less_nn, nn_times}
-use Rattle.nf_rational_laws.proofs.Chains.{≤ℚ_trans}
-use Rattle.nf_rational_laws.proofs.Extremes.{max_left, max_keeps}
-use Rattle.nf_rational_laws.proofs.Tests.{max0_of, max0_none}
-use Rattle.nf_rational_laws.proofs.Linear.{le, eq, le_times, eq_times, linear_le, linear_eq}
-use Rattle.nf_rational_laws.proofs.Facts.{nn_plus_one, gap_np, times_le}
-use Rattle.nf_model.specs.Entries.{number_at}
-use Rattle.nf_model.specs.Network.{Network, IsNetwork}
-use Rattle.nf_model.specs.Equilibrium.{Flow, label, Equilibrium}
-use Rattle.nf_forever_laws.specs.TailGrowth.{last_rate}
-use Rattle.nf_settling_laws.specs.Settling.{IsLastSupply}
-use Rattle.nf_settling_laws.proofs.Starts.{last_start, last_rate-not_negative}
+use Rattle.nf_settling_growth_laws.proofs.Common.{ℚ, 0ℚ, 1ℚ, ◌+ℚ◌, ◌-ℚ◌, ◌*ℚ◌, ◌≤ℚ◌, ◌<ℚ◌, max_ℚ, reading_of, ≤ℚ_of_lt, lt_or_le_ℚ, less_nn, nn_times, ≤ℚ_trans}
+use Rattle.nf_settling_growth_laws.proofs.Common.{max_left, max_keeps, max0_of, max0_none, le, eq, le_times, eq_times, linear_le, linear_eq, nn_plus_one}
+use Rattle.nf_settling_growth_laws.proofs.Common.{gap_np, times_le, number_at, Network, IsNetwork, Flow, label, Equilibrium, last_rate, IsLastSupply}
+use Rattle.nf_settling_growth_laws.proofs.Common.{last_start, last_rate-not_negative, IsGraded, sway, AreInOrder, SwaysAtMost, BottleneckSteadies}
 use Rattle.nf_settling_laws.proofs.Intervals.{IsInterval, over_intervals}
-use Rattle.nf_settling_graded_laws.specs.Grading.{IsGraded}
-use Rattle.nf_settling_growth_laws.specs.Growth.{sway, AreInOrder, SwaysAtMost, BottleneckSteadies}
 use Rattle.nf_settling_growth_laws.proofs.Reserve.{in_transit}
 use Rattle.nf_settling_growth_laws.proofs.Growing.{IsGrowth-level}
 use Rattle.nf_settling_graded_laws.proofs.Exists.{graded_flow-exists}

@@ -6,8 +6,8 @@ use Rattle.std.proofs.lemmas.List.FromFn.{length-range_with_len}
 use Rattle.nf_rational.specs.Rational.{ℚ}
 use Rattle.nf_rational.specs.Operations.{0ℚ, 1ℚ, neg_ℚ, ◌+ℚ◌, ◌-ℚ◌, ◌*ℚ◌}
 use Rattle.nf_rational_laws.proofs.Polynomial.{reading_of}
-use Rattle.nf_rational_laws.proofs.Linear.{eq, linear_eq}
-use Rattle.nf_rational_laws.proofs.Facts.{first_and_zero}
+use Rattle.nf_rational_laws.proofs.Linear.{linear_eq}
+use Rattle.nf_rational_laws.proofs.Facts.{first_and_zero, first_is_zero}
 use Rattle.nf_rational_laws.proofs.Field.{one-*ℚ}
 use Rattle.nf_model.specs.declared.State.TheVariants.{Tight, Zero}
 use Rattle.nf_model.specs.Entries.{number_at}
@@ -17,9 +17,6 @@ use Rattle.nf_thin_def.specs.Equations.{Unknown, SlopeOf, FlowOn, active_from, u
 use Rattle.nf_thin_laws.specs.ActiveLinks.{AreSets}
 use Rattle.nf_thin_equation_laws.proofs.Dots.{dot, dot-append, dot-zero, dot-less, dot-map, only, range-only, active-only, node-dot}
 use Rattle.nf_thin_equation_laws.proofs.Packed.{front-length, rest-length}
-
-second_only : (a b c : ℚ) → a ≡ 0ℚ → b ≡ c → a +ℚ b ≡ c
-second_only a b c e h = linear_eq (a ∷ b ∷ c ∷ []) (eq e ∷ eq h ∷ []) (search reading_of) tt tt
 
 both_once : (x y : ℚ) → 1ℚ *ℚ x -ℚ 1ℚ *ℚ y ≡ x -ℚ y
 both_once x y = linear_eq (x ∷ y ∷ []) [] (search reading_of) tt tt
@@ -79,8 +76,8 @@ module _ (net : Network) (sets : Sets) where
     source_total = in_parts (source_factor net.source) ∙ first_and_zero _ _ _ (slope_alone net.source 1ℚ good.source ∙ one-*ℚ (number_at slopes net.source)) no_flows
 
     pub node_total : (v : ℕ) → total (node_factor net v) ≡ surplus net flows v
-    node_total v = in_parts (node_factor net v) ∙ second_only _ _ _ no_slopes
-        (node-dot net.links sets.active 0 (λ e. node_factor net v (FlowOn e)) (drop net.nodes xs) v sets_are.count flows-length (λ i e same. ap (λ (j : ℕ). node_factor net v (FlowOn j)) (let s : e ≡ i = omega arith in s)))
+    node_total v = in_parts (node_factor net v) ∙ first_is_zero _ _ no_slopes
+        ∙ node-dot net.links sets.active 0 (λ e. node_factor net v (FlowOn e)) (drop net.nodes xs) v sets_are.count flows-length (λ i e same. ap (λ (j : ℕ). node_factor net v (FlowOn j)) (let s : e ≡ i = omega arith in s))
 
     module _ (e : ℕ) (link : Link) (is_link : IsLink net e link) where
       head_in : link.head < net.nodes
@@ -99,4 +96,4 @@ module _ (net : Network) (sets : Sets) where
           ∙ ap (λ (s : ℚ). neg_ℚ (unwrap_or link.capacity 0ℚ) *ℚ number_at slopes link.head +ℚ s) (flow_alone e 1ℚ ∙ one-*ℚ (number_at flows e))
 
       pub zero_total : total (link_factor e link (Some Zero)) ≡ number_at flows e
-      zero_total = in_parts (link_factor e link (Some Zero)) ∙ second_only _ _ _ no_slopes (flow_alone e 1ℚ ∙ one-*ℚ (number_at flows e))
+      zero_total = in_parts (link_factor e link (Some Zero)) ∙ first_is_zero _ _ no_slopes ∙ flow_alone e 1ℚ ∙ one-*ℚ (number_at flows e)

@@ -7,7 +7,7 @@ use Rattle.std.proofs.lemmas.Bool.Decides.{eqb_tells}
 use Rattle.std.proofs.lemmas.List.{length-map, length-append}
 use Rattle.std.proofs.lemmas.Option.{slice_get-map, slice_get_within}
 use Rattle.nf_rational.specs.Rational.{ℚ}
-use Rattle.nf_rational.specs.Operations.{0ℚ, 1ℚ, neg_ℚ, ◌+ℚ◌, ◌-ℚ◌, ◌*ℚ◌}
+use Rattle.nf_rational.specs.Operations.{0ℚ, 1ℚ, neg_ℚ, ◌+ℚ◌, ◌*ℚ◌}
 use Rattle.nf_rational_laws.proofs.Polynomial.{reading_of}
 use Rattle.nf_rational_laws.proofs.Linear.{eq, linear_eq}
 use Rattle.nf_frac_def.specs.Passing.{Passing}
@@ -30,11 +30,9 @@ use Rattle.nf_thin_equation_laws.proofs.Rows.{Each, each_at, each_of, each-appen
 use Rattle.nf_thin_equation_laws.proofs.Equations.{flow_count, unknowns-length, total, source_total, node_total, tight_total, fills_total, zero_total}
 use Rattle.nf_rational_laws.proofs.Field.{same_from-less}
 use Rattle.nf_rational_laws.proofs.Entries.{entry}
+use Rattle.nf_rational_laws.proofs.Signs.{zero_from_same}
 
 -- ---- equations of rationals
-
-no_step : (h t : ℚ) → h ≡ t → h -ℚ t ≡ 0ℚ
-no_step h t e = linear_eq (h ∷ t ∷ []) (eq e ∷ []) (search reading_of) tt tt
 
 filled : (c h f : ℚ) → neg_ℚ c *ℚ h +ℚ f ≡ 0ℚ → f ≡ c *ℚ h
 filled c h f e = linear_eq (c ∷ h ∷ f ∷ []) (eq e ∷ []) (search reading_of) tt tt
@@ -219,7 +217,7 @@ module _ (net : Network) (sets : Sets) (rate : ℚ) (pattern : Pattern) (p : IsP
 
       module _ (e : ℕ) (link : Link) (is_link : IsLink net e link) (active : Has sets.active e) where
         row_of : (state : Option State) → slice_get pattern e ≡ Some state → sum (link_factor e link state) ≡ 0ℚ
-        row_of (Some Tight) at = tight_total net sets good sets_are xs count e link is_link ∙ no_step _ _ (s.links e link (Some Tight) is_link at)
+        row_of (Some Tight) at = tight_total net sets good sets_are xs count e link is_link ∙ zero_from_same _ _ (sym (s.links e link (Some Tight) is_link at))
         row_of (Some Full) at = fills_total net sets good sets_are xs count e link is_link ∙ fills_link link.capacity (number_at flows e) (number_at slopes link.head) (s.links e link (Some Full) is_link at)
         row_of (Some Zero) at = zero_total net sets good sets_are xs count e link is_link ∙ s.links e link (Some Zero) is_link at
         row_of None at = fills_total net sets good sets_are xs count e link is_link ∙ fills_link link.capacity (number_at flows e) (number_at slopes link.head)

@@ -1,5 +1,4 @@
-use Rattle.nf_model.specs.ThinFlow.{sets_at}
-use Rattle.nf_thin_laws.proofs.ActiveLinks.{HoldNoCycle-sets_at}
+use Rattle.nf_forever_laws.proofs.Common.{sets_at, HoldNoCycle-sets_at}
 use Rattle.nf_forever_laws.proofs.Endless.{KeepsSets-unending}
 use Rattle.nf_forever_laws.proofs.Growth.{GrowsByCuts-thin}
 use Rattle.nf_forever_laws.proofs.endless_phase_grows_by_cuts.Goals as goal

@@ -1,9 +1,8 @@
 use Rattle.std.proofs.Common.{sym, ap, ◌∙◌}
-use Rattle.nf_report_def.specs.ReportFile.{report_in}
+use Rattle.nf_report_laws.proofs.Common.{report_in, same_Ok}
 use Rattle.nf_report_laws.proofs.ReportBack.{report_back}
 use Rattle.nf_report_laws.proofs.ReportFit.{fit}
 use Rattle.nf_report_laws.proofs.texts_differ.Goals as goal
-use Rattle.nf_rational_laws.proofs.Results.{same_Ok}
 
 pub returns : goal.returns
 returns c = λ n one other named h r k s e.
