@@ -1,4 +1,3 @@
 pub mod Flags
 pub mod Changing
 pub mod Capacities
-pub mod Numbered

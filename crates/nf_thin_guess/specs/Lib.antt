@@ -1,3 +1,2 @@
 pub mod Guessing
-pub mod Numbers
 pub mod Values

@@ -97,7 +97,7 @@ fn repaired(
             sets,
             values: &values,
         };
-        if !repairs.repair(alloc, extent, pattern)? {
+        if !repairs.repair(extent, pattern) {
             return Ok(Some(values));
         }
         if rounds.come_back(alloc, net, pattern)? {

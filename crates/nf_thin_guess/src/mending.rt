@@ -9,7 +9,7 @@ use crate::repairs::{change, set_state};
 use nf_frac::Q;
 use nf_graph::{LinkId, LinkSets, NodeId};
 use nf_model::State;
-use nf_net::Network;
+use nf_net::{MOST_NODES, Network};
 use nf_pattern::Pattern;
 use nf_thin_one::may_carry;
 use std::alloc::{AllocError, Global};
@@ -23,12 +23,7 @@ fn loose_state(capacity: Option<Q>) -> State {
 }
 
 // Adds a Tight link to the forest. If it closes a cycle there, changes it to Full, or to Zero if it is unbounded.
-fn keep_or_loosen(
-    net: &Network,
-    link: LinkId,
-    forest: &mut Forest,
-    pattern: &mut Pattern,
-) -> Result<(), AllocError>
+fn keep_or_loosen(net: &Network, link: LinkId, forest: &mut Forest, pattern: &mut Pattern)
     requires pattern { (sets : Sets) × IsPatternIn net.now.net sets pattern.old }
     requires link { link < length net.now.net.links }
     ensures { (sets : Sets) → IsPatternIn net.now.net sets pattern.old
@@ -36,27 +31,26 @@ fn keep_or_loosen(
 {
     match pattern.state(link) {
         Some(State::Tight) => {}
-        _ => return Ok(()),
+        _ => return,
     }
     let here = net.link(link);
-    if forest.grow(here.tail, here.head)? {
-        return Ok(());
+    if forest.grow(here.tail, here.head) {
+        return;
     }
     set_state(net, pattern, link, loose_state(here.capacity));
-    Ok(())
 }
 
 // Changes each Tight link that closes a cycle with earlier ones. Returns the forest of those that stay.
-fn cut_cycles(alloc: Global, net: &Network, pattern: &mut Pattern) -> Result<Forest, AllocError>
+fn cut_cycles(net: &Network, pattern: &mut Pattern) -> Forest
     requires { (sets : Sets) × IsPatternIn net.now.net sets pattern.old }
     ensures { (sets : Sets) → IsPatternIn net.now.net sets pattern.old
         → IsPatternIn net.now.net sets pattern.new }
 {
-    let mut forest = Forest::new(alloc, net.node_count())?;
+    let mut forest = Forest::new();
     for e in 0..net.link_count() {
-        keep_or_loosen(net, LinkId(e), &mut forest, pattern)?;
+        keep_or_loosen(net, LinkId(e), &mut forest, pattern);
     }
-    Ok(forest)
+    forest
 }
 
 // Sets the flag of a node, if it has one.
@@ -71,45 +65,35 @@ fn is_noted(flags: &[bool], node: NodeId) -> bool {
     node.index() < flags.len() && flags[node.index()]
 }
 
-// Returns a flag for each node: whether it is the source, or a link that may carry flow enters it. Fails if an allocation fails.
-fn entered_nodes(
-    alloc: Global,
-    net: &Network,
-    sets: &LinkSets,
-    pattern: &Pattern,
-) -> Result<Vec<bool>, AllocError>
+// Returns a flag for each node: whether it is the source, or a link that may carry flow enters it.
+fn entered_nodes(net: &Network, sets: &LinkSets, pattern: &Pattern) -> [bool; MOST_NODES]
     requires { IsPatternIn net.now.net sets.now pattern.now }
 {
-    let mut entered = vec![in alloc; false; net.node_count() as usize]?;
+    let mut entered = [false; MOST_NODES];
     note(&mut entered, net.source());
     for e in 0..net.link_count() {
         if may_carry(sets, pattern, LinkId(e)) {
             note(&mut entered, net.link(LinkId(e)).head);
         }
     }
-    Ok(entered)
+    entered
 }
 
 // Changes a link with a state so that it enters its head: to Tight, or to Full if it would close a cycle. Returns whether it did.
-fn enter_by(
-    net: &Network,
-    link: LinkId,
-    forest: &mut Forest,
-    pattern: &mut Pattern,
-) -> Result<bool, AllocError>
+fn enter_by(net: &Network, link: LinkId, forest: &mut Forest, pattern: &mut Pattern) -> bool
     requires pattern { (sets : Sets) × IsPatternIn net.now.net sets pattern.old }
     requires link { link < length net.now.net.links }
     ensures { (sets : Sets) → IsPatternIn net.now.net sets pattern.old
         → IsPatternIn net.now.net sets pattern.new }
 {
     if pattern.state(link).is_none() {
-        return Ok(false);
+        return false;
     }
     let here = net.link(link);
-    if forest.grow(here.tail, here.head)? {
-        return Ok(change(net, pattern, link, State::Tight));
+    if forest.grow(here.tail, here.head) {
+        return change(net, pattern, link, State::Tight);
     }
-    Ok(change(net, pattern, link, State::Full))
+    change(net, pattern, link, State::Full)
 }
 
 // Changes a link so that it enters its head, if the head is not entered and the link has a state.
@@ -119,7 +103,7 @@ fn enter_head(
     entered: &mut [bool],
     forest: &mut Forest,
     pattern: &mut Pattern,
-) -> Result<(), AllocError>
+)
     requires pattern { (sets : Sets) × IsPatternIn net.now.net sets pattern.old }
     requires link { link < length net.now.net.links }
     ensures { (sets : Sets) → IsPatternIn net.now.net sets pattern.old
@@ -127,29 +111,22 @@ fn enter_head(
 {
     let head = net.link(link).head;
     if is_noted(entered, head) {
-        return Ok(());
+        return;
     }
-    if enter_by(net, link, forest, pattern)? {
+    if enter_by(net, link, forest, pattern) {
         note(entered, head);
     }
-    Ok(())
 }
 
 // Changes a link into each node that is not entered, if it has one with a state.
-fn enter_nodes(
-    net: &Network,
-    entered: &mut [bool],
-    forest: &mut Forest,
-    pattern: &mut Pattern,
-) -> Result<(), AllocError>
+fn enter_nodes(net: &Network, entered: &mut [bool], forest: &mut Forest, pattern: &mut Pattern)
     requires { (sets : Sets) × IsPatternIn net.now.net sets pattern.old }
     ensures { (sets : Sets) → IsPatternIn net.now.net sets pattern.old
         → IsPatternIn net.now.net sets pattern.new }
 {
     for e in 0..net.link_count() {
-        enter_head(net, LinkId(e), entered, forest, pattern)?;
+        enter_head(net, LinkId(e), entered, forest, pattern);
     }
-    Ok(())
 }
 
 /// Returns a pattern near a base that is mostly listed: links whose change ends a cycle of Tight links, or enters a node, are changed.
@@ -164,8 +141,8 @@ pub fn mended(
     ensures { IfOk result (λ near. IsPatternIn net.now.net sets.now near) }
 {
     let mut near = base.copy(alloc)?;
-    let mut forest = cut_cycles(alloc, net, &mut near)?;
-    let mut entered = entered_nodes(alloc, net, sets, &near)?;
-    enter_nodes(net, &mut entered, &mut forest, &mut near)?;
+    let mut forest = cut_cycles(net, &mut near);
+    let mut entered = entered_nodes(net, sets, &near);
+    enter_nodes(net, &mut entered, &mut forest, &mut near);
     Ok(near)
 }

@@ -3,14 +3,12 @@ ghost use Rattle.std.specs.Prelude.{◌≡◌, ℕ, ◌<◌, length, Some, IsSom
 ghost use Rattle.nf_model.specs.declared.State.TheVariants.{Full};
 ghost use Rattle.nf_model.specs.Network.{Link as SeenLink, Network as SeenNetwork, IsLink};
 ghost use Rattle.nf_thin_equation_laws.specs.Equations.{IsPatternIn};
-ghost use Rattle.nf_thin_guess.specs.Numbers.{HasNumber, AreNumberedTo};
 
 use crate::forest::Forest;
 use nf_graph::{LinkId, LinkSets, NodeId};
 use nf_model::State;
-use nf_net::Network;
+use nf_net::{MOST_NODES, Network};
 use nf_pattern::Pattern;
-use std::alloc::{AllocError, Global};
 
 /// Returns the state of an active link, where a resetting link counts as Full. Returns `None` if the link is not active. Only a link with a
 /// capacity counts as Full.
@@ -30,85 +28,62 @@ pub(crate) fn state_in(sets: &LinkSets, pattern: &Pattern, link: LinkId) -> Opti
     }
 }
 
-/// Returns the forest of the Tight links, or `None` if they close a cycle. Fails if an allocation fails.
-pub fn tight_forest(
-    alloc: Global,
-    net: &Network,
-    sets: &LinkSets,
-    pattern: &Pattern,
-) -> Result<Option<Forest>, AllocError>
+/// Returns the forest of the Tight links, or `None` if they close a cycle.
+pub fn tight_forest(net: &Network, sets: &LinkSets, pattern: &Pattern) -> Option<Forest>
     requires { IsPatternIn net.now.net sets.now pattern.now }
 {
-    let mut forest = Forest::new(alloc, net.node_count())?;
+    let mut forest = Forest::new();
     for e in 0..net.link_count() {
         if let Some(State::Tight) = state_in(sets, pattern, LinkId(e)) {
             let here = net.link(LinkId(e));
-            if !forest.grow(here.tail, here.head)? {
-                return Ok(None);
+            if !forest.grow(here.tail, here.head) {
+                return None;
             }
         }
     }
-    Ok(Some(forest))
+    Some(forest)
 }
 
-// Returns whether the node has a number.
-fn has_number(numbers: &[Option<u32>], node: NodeId) -> bool
-    requires { node < length numbers.now }
-    ensures { MatchBool result (HasNumber numbers.now node) (HasNumber numbers.now node → ⊥) }
-{
-    numbers[node.index()].is_some()
-}
-
-// Gives a number to a node and all nodes joined with it, if the node has no number. Returns whether it does.
-fn number_part(forest: &Forest, node: NodeId, number: u32, numbers: &mut [Option<u32>]) -> bool
-    requires { node < length numbers.old }
-    ensures kept { (v : ℕ) → HasNumber numbers.old v → HasNumber numbers.new v }
-    ensures node { HasNumber numbers.new node }
-{
-    if has_number(numbers, node) {
-        return false;
-    }
-    forest.give_number(node, number, numbers);
-    true
-}
-
-// Numbers the components: that of the source with 0, and the others in node order. Returns how many there are.
-fn number_parts(net: &Network, forest: &Forest, numbers: &mut [Option<u32>]) -> u32
-    requires { length numbers.old ≡ net.now.net.nodes }
-    ensures { AreNumberedTo net.now.net.nodes numbers.new }
-{
-    forest.give_number(net.source(), 0, numbers);
-    let mut count: u32 = 1;
-    for v in 0..net.node_count() {
-        if number_part(forest, NodeId(v), count, numbers) {
-            count = count.saturating_add(1);
-        }
-    }
-    count
-}
-
-/// The Tight components: each node's component number, and the number of components. The component of the source has number 0, and the
-/// others follow in node order.
-#[derive(Drop)]
+/// The Tight components: each node's component number, and the number of components. The component of the source, which is node 0, has
+/// number 0, and the others follow in node order.
+#[derive(Clone, Copy)]
 pub(crate) struct Parts {
-    numbers: Vec<Option<u32>>,
+    numbers: [u32; MOST_NODES],
     pub(crate) count: u32,
 }
 
 impl Parts {
-    /// Returns the components that the links of a forest join. Fails if an allocation fails.
-    pub(crate) fn new(alloc: Global, net: &Network, forest: &Forest) -> Result<Parts, AllocError>
-        ensures { IfOk result (λ parts. AreNumberedTo net.now.net.nodes parts.numbers.items) }
-    {
-        let mut numbers = vec![in alloc; None; net.node_count() as usize]?;
-        let count = number_parts(net, forest, &mut numbers);
-        Ok(Parts { numbers, count })
+    /// Returns the components that the links of a forest join.
+    pub(crate) fn new(net: &Network, forest: &Forest) -> Parts {
+        let mut parts = Parts {
+            numbers: [0; MOST_NODES],
+            count: 0,
+        };
+        for v in 0..net.node_count() {
+            parts.add(NodeId(v), NodeId(forest.label(NodeId(v)) as u32));
+        }
+        parts
     }
 
-    /// Returns the number of a node's component.
-    pub(crate) fn number(&self, node: NodeId) -> u32
-        requires { HasNumber self.now.numbers.items node }
-    {
-        self.numbers[node.index()].unwrap()
+    // Gives a node the number of the first node of its component, or the next number if it is the first one.
+    fn add(&mut self, node: NodeId, first: NodeId) {
+        if node.index() >= MOST_NODES {
+            return;
+        }
+        if node == first {
+            self.numbers[node.index()] = self.count;
+            self.count = self.count.saturating_add(1);
+        } else {
+            self.numbers[node.index()] = self.number(first);
+        }
+    }
+
+    /// Returns the number of a node's component, or 0 beyond the greatest number of nodes.
+    pub(crate) fn number(&self, node: NodeId) -> u32 {
+        if node.index() < MOST_NODES {
+            self.numbers[node.index()]
+        } else {
+            0
+        }
     }
 }

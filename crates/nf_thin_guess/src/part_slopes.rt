@@ -2,7 +2,6 @@
 // its outflow less its inflow is known. No contract depends on these slopes, since a guess is judged like any other pattern.
 ghost use Rattle.std.specs.Prelude.{◌≡◌, ◌<◌, ◌≤◌, length, IfOk, IfSome};
 ghost use Rattle.nf_thin_equation_laws.specs.Equations.{IsPatternIn};
-ghost use Rattle.nf_thin_guess.specs.Numbers.{AreNumberedTo};
 
 use crate::node_parts::{Parts, state_in, tight_forest};
 use crate::numbers::{add_at, number_or_zero, take_off_at};
@@ -34,8 +33,7 @@ fn full_links(
     pattern: &Pattern,
     parts: &Parts,
 ) -> Result<Vec<FullLink>, AllocError>
-    requires pattern { IsPatternIn net.now.net sets.now pattern.now }
-    requires parts { AreNumberedTo net.now.net.nodes parts.now.numbers.items }
+    requires { IsPatternIn net.now.net sets.now pattern.now }
 {
     let mut links = Vec::new(alloc);
     for e in 0..net.link_count() {
@@ -250,7 +248,6 @@ fn slopes_of_nodes(
     parts: &Parts,
     others: &[Q],
 ) -> Result<Vec<Q>, AllocError>
-    requires { AreNumberedTo nodes parts.now.numbers.items }
     ensures { IfOk result (λ slopes. length slopes.items ≡ nodes) }
 {
     let mut slopes = Vec::with_capacity(alloc, nodes as usize)?;
@@ -270,8 +267,7 @@ fn slopes_from(
     pattern: &Pattern,
     parts: &Parts,
 ) -> Result<Option<Vec<Q>>, Halt<Q>>
-    requires pattern { IsPatternIn net.now.net sets.now pattern.now }
-    requires parts { AreNumberedTo net.now.net.nodes parts.now.numbers.items }
+    requires { IsPatternIn net.now.net sets.now pattern.now }
     ensures { IfOk result
         (λ found. IfSome found (λ slopes. length slopes.items ≡ net.now.net.nodes)) }
 {
@@ -297,9 +293,9 @@ pub(crate) fn part_slopes(
     ensures { IfOk result
         (λ found. IfSome found (λ slopes. length slopes.items ≡ net.now.net.nodes)) }
 {
-    let Some(forest) = tight_forest(alloc, net, sets, pattern)? else {
+    let Some(forest) = tight_forest(net, sets, pattern) else {
         return Ok(None);
     };
-    let parts = Parts::new(alloc, net, &forest)?;
+    let parts = Parts::new(net, &forest);
     slopes_from(alloc, net, sets, rate, pattern, &parts)
 }

@@ -15,7 +15,6 @@ use nf_model::State;
 use nf_net::Network;
 use nf_pattern::Pattern;
 use nf_thin_one::{full_flow, may_carry};
-use std::alloc::{AllocError, Global};
 
 // Returns whether a flow exceeds the flow that fills a link of this capacity at this slope of its head.
 fn overfills(capacity: Option<Q>, flow: Q, head_slope: Q) -> bool {
@@ -159,12 +158,7 @@ impl<'a> Repairs<'a> {
 
     // Makes a Full link with a smaller slope at its head, or a Zero link with a greater one, Tight. Changes nothing if the link would close
     // a cycle with other Tight links. Returns whether the state changes.
-    fn tighten_link(
-        &self,
-        link: LinkId,
-        forest: &mut Forest,
-        pattern: &mut Pattern,
-    ) -> Result<bool, AllocError>
+    fn tighten_link(&self, link: LinkId, forest: &mut Forest, pattern: &mut Pattern) -> bool
         requires pattern { IsPatternIn self.now.net.now.net self.now.sets.now pattern.old }
         requires link { link < length self.now.net.now.net.links }
         ensures { IsPatternIn self.now.net.now.net self.now.sets.now pattern.new }
@@ -173,75 +167,68 @@ impl<'a> Repairs<'a> {
         let tail_slope = self.values.slope(here.tail);
         let head_slope = self.values.slope(here.head);
         if !breaks(pattern.state(link), tail_slope, head_slope) {
-            return Ok(false);
+            return false;
         }
-        if !forest.grow(here.tail, here.head)? {
-            return Ok(false);
+        if !forest.grow(here.tail, here.head) {
+            return false;
         }
-        let changes = change(self.net, pattern, link, State::Tight);
-        Ok(changes)
+        change(self.net, pattern, link, State::Tight)
     }
 
     // Repairs all Full and Zero links that violate their inequalities, in link order. Returns whether a state changes.
-    fn tighten(&self, alloc: Global, pattern: &mut Pattern) -> Result<bool, AllocError>
+    fn tighten(&self, pattern: &mut Pattern) -> bool
         requires { IsPatternIn self.now.net.now.net self.now.sets.now pattern.old }
         ensures { IsPatternIn self.now.net.now.net self.now.sets.now pattern.new }
     {
-        let Some(mut forest) = tight_forest(alloc, self.net, self.sets, pattern)? else {
-            return Ok(false);
+        let Some(mut forest) = tight_forest(self.net, self.sets, pattern) else {
+            return false;
         };
         let mut changes = false;
         for e in 0..self.net.link_count() {
-            if self.tighten_link(LinkId(e), &mut forest, pattern)? {
+            if self.tighten_link(LinkId(e), &mut forest, pattern) {
                 changes = true;
             }
         }
-        Ok(changes)
+        changes
     }
 
-    // Repairs once each link that violates its inequality. Returns whether a state changes. Fails if an allocation fails.
-    fn repair_each(&self, alloc: Global, pattern: &mut Pattern) -> Result<bool, AllocError>
+    // Repairs once each link that violates its inequality. Returns whether a state changes.
+    fn repair_each(&self, pattern: &mut Pattern) -> bool
         requires { IsPatternIn self.now.net.now.net self.now.sets.now pattern.old }
         ensures { IsPatternIn self.now.net.now.net self.now.sets.now pattern.new }
     {
         let loosened = self.loosen(pattern);
-        let tightened = self.tighten(alloc, pattern)?;
-        Ok(loosened || tightened)
+        let tightened = self.tighten(pattern);
+        loosened || tightened
     }
-    // Repairs the first link that violates its inequality and changes its state. Returns whether there is one. Fails if an allocation
-    // fails.
-    fn repair_first(&self, alloc: Global, pattern: &mut Pattern) -> Result<bool, AllocError>
+
+    // Repairs the first link that violates its inequality and changes its state. Returns whether there is one.
+    fn repair_first(&self, pattern: &mut Pattern) -> bool
         requires { IsPatternIn self.now.net.now.net self.now.sets.now pattern.old }
         ensures { IsPatternIn self.now.net.now.net self.now.sets.now pattern.new }
     {
-        let Some(mut forest) = tight_forest(alloc, self.net, self.sets, pattern)? else {
-            return Ok(false);
+        let Some(mut forest) = tight_forest(self.net, self.sets, pattern) else {
+            return false;
         };
         for e in 0..self.net.link_count() {
             if self.loosen_link(LinkId(e), pattern) {
-                return Ok(true);
+                return true;
             }
-            if self.tighten_link(LinkId(e), &mut forest, pattern)? {
-                return Ok(true);
+            if self.tighten_link(LinkId(e), &mut forest, pattern) {
+                return true;
             }
         }
-        Ok(false)
+        false
     }
 
-    /// Repairs once each link that violates its inequality, or the first one. Returns whether a state changes. Fails if an allocation
-    /// fails.
-    pub(crate) fn repair(
-        &self,
-        alloc: Global,
-        extent: Extent,
-        pattern: &mut Pattern,
-    ) -> Result<bool, AllocError>
+    /// Repairs once each link that violates its inequality, or the first one. Returns whether a state changes.
+    pub(crate) fn repair(&self, extent: Extent, pattern: &mut Pattern) -> bool
         requires { IsPatternIn self.now.net.now.net self.now.sets.now pattern.old }
         ensures { IsPatternIn self.now.net.now.net self.now.sets.now pattern.new }
     {
         match extent {
-            Extent::Each => self.repair_each(alloc, pattern),
-            Extent::First => self.repair_first(alloc, pattern),
+            Extent::Each => self.repair_each(pattern),
+            Extent::First => self.repair_first(pattern),
         }
     }
 }

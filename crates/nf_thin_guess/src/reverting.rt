@@ -75,42 +75,35 @@ impl<'a> Reverting<'a> {
     }
 
     // Makes a link Tight if that is its first state, suits its slopes, and closes no cycle with other Tight links.
-    fn revert_tight(
-        &self,
-        link: LinkId,
-        forest: &mut Forest,
-        pattern: &mut Pattern,
-    ) -> Result<(), AllocError>
+    fn revert_tight(&self, link: LinkId, forest: &mut Forest, pattern: &mut Pattern)
         requires pattern { IsPatternIn self.now.net.now.net self.now.sets.now pattern.old }
         requires link { link < length self.now.net.now.net.links }
         ensures { IsPatternIn self.now.net.now.net self.now.sets.now pattern.new }
     {
         match self.first.state(link) {
             Some(State::Tight) => {}
-            _ => return Ok(()),
+            _ => return,
         }
         if !self.suits(link, State::Tight) {
-            return Ok(());
+            return;
         }
         let here = self.net.link(link);
-        if forest.grow(here.tail, here.head)? {
+        if forest.grow(here.tail, here.head) {
             set_state(self.net, pattern, link, State::Tight);
         }
-        Ok(())
     }
 
     // Runs `revert_tight` for all links, with the forest of the links that are Tight already.
-    fn revert_all_tight(&self, alloc: Global, pattern: &mut Pattern) -> Result<(), AllocError>
+    fn revert_all_tight(&self, pattern: &mut Pattern)
         requires { IsPatternIn self.now.net.now.net self.now.sets.now pattern.old }
         ensures { IsPatternIn self.now.net.now.net self.now.sets.now pattern.new }
     {
-        let Some(mut forest) = tight_forest(alloc, self.net, self.sets, pattern)? else {
-            return Ok(());
+        let Some(mut forest) = tight_forest(self.net, self.sets, pattern) else {
+            return;
         };
         for e in 0..self.net.link_count() {
-            self.revert_tight(LinkId(e), &mut forest, pattern)?;
+            self.revert_tight(LinkId(e), &mut forest, pattern);
         }
-        Ok(())
     }
 
     // Returns whether these values violate no link's inequality, so that no repair changes the pattern.
@@ -129,8 +122,7 @@ impl<'a> Reverting<'a> {
             sets: self.sets,
             values,
         };
-        let changes = repairs.repair(alloc, Extent::Each, &mut repaired)?;
-        Ok(!changes)
+        Ok(!repairs.repair(Extent::Each, &mut repaired))
     }
 
     // Returns whether the pattern leads to each node and its values violate no link's inequality.
@@ -159,7 +151,7 @@ impl<'a> Reverting<'a> {
         ensures { IsPatternIn self.now.net.now.net self.now.sets.now nearer.new }
     {
         self.revert_all_apart(nearer);
-        self.revert_all_tight(alloc, nearer)?;
+        self.revert_all_tight(nearer);
         if is_one_pattern(self.net, nearer, pattern) {
             return Ok(false);
         }

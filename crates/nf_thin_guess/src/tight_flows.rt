@@ -13,65 +13,42 @@ use crate::values::Values;
 use nf_frac::{Halt, Part, Q, at};
 use nf_graph::{LinkId, LinkSets, NodeId};
 use nf_model::State;
-use nf_net::{Link, Network};
+use nf_net::{Link, MOST_NODES, Network};
 use nf_pattern::Pattern;
-use std::alloc::{AllocError, Global};
+use std::alloc::Global;
 
-// A Tight link whose flow is undetermined, with its ends.
-#[derive(Clone, Copy)]
-struct OpenLink {
-    id: LinkId,
-    tail: NodeId,
-    head: NodeId,
-}
-
-impl OpenLink {
-    // Returns the link's flow if `leaving` leaves one end on the link, and the other end.
-    fn flow_from(self, end: NodeId, leaving: Q) -> Result<(Q, NodeId), Halt<Q>> {
-        if self.tail == end {
-            return Ok((leaving, self.head));
-        }
-        let flow = at!(Part::Table, Q::zero().difference(leaving));
-        Ok((flow, self.tail))
-    }
-}
-
-// The undetermined flows. `missing` has for each node the outflow less the inflow that its undetermined links must carry. `degrees` has the
-// number of undetermined links at each node.
+// The undetermined flows, those of Tight links. `missing` has for each node the outflow less the inflow that its undetermined links must
+// carry. `degrees` has the number of undetermined links at each node, and `links` the exclusive or of their numbers. Once a node has one
+// such link, this is its number. `count` is the number of undetermined links in all.
 #[derive(Drop)]
 struct OpenFlows {
     sink: NodeId,
     missing: Vec<Q>,
-    degrees: Vec<u32>,
-    open: Vec<OpenLink>,
+    degrees: [u32; MOST_NODES],
+    links: [u32; MOST_NODES],
+    count: u32,
 }
 
-// Increases a count by one.
-fn count_up(counts: &mut [u32], place: usize) {
-    if place < counts.len() {
-        counts[place] = counts[place].saturating_add(1);
+// Returns a link's flow if `leaving` leaves one end on the link, and the other end.
+fn flow_from(link: Link, end: NodeId, leaving: Q) -> Result<(Q, NodeId), Halt<Q>> {
+    if link.tail == end {
+        return Ok((leaving, link.head));
     }
-}
-
-// Decreases a count by one.
-fn count_down(counts: &mut [u32], place: usize) {
-    if place < counts.len() {
-        counts[place] = counts[place].saturating_sub(1);
-    }
+    let flow = at!(Part::Table, Q::zero().difference(leaving));
+    Ok((flow, link.tail))
 }
 
 impl OpenFlows {
     // Returns the undetermined flows before any link carries flow or is undetermined.
     fn new(alloc: Global, net: &Network, rate: Q) -> Result<OpenFlows, Halt<Q>> {
-        let nodes = net.node_count() as usize;
-        let mut missing = vec![in alloc; Q::zero(); nodes]?;
+        let mut missing = vec![in alloc; Q::zero(); net.node_count() as usize]?;
         add_at(&mut missing, net.source().index(), rate)?;
-        let degrees = vec![in alloc; 0; nodes]?;
         Ok(OpenFlows {
             sink: net.sink(),
             missing,
-            degrees,
-            open: Vec::with_capacity(alloc, nodes)?,
+            degrees: [0; MOST_NODES],
+            links: [0; MOST_NODES],
+            count: 0,
         })
     }
 
@@ -84,53 +61,90 @@ impl OpenFlows {
         add_at(&mut self.missing, head.index(), flow)
     }
 
-    // Adds an undetermined link.
-    fn open(&mut self, link: OpenLink) -> Result<(), Halt<Q>> {
-        count_up(&mut self.degrees, link.tail.index());
-        count_up(&mut self.degrees, link.head.index());
-        self.open.push(link)?;
-        Ok(())
-    }
-
-    // Returns whether a node other than the sink has exactly one undetermined link.
-    fn is_leaf(&self, node: NodeId) -> bool {
-        node != self.sink && node.index() < self.degrees.len() && self.degrees[node.index()] == 1
-    }
-
-    // Removes the first undetermined link at a node, and returns it.
-    fn take_open(&mut self, node: NodeId) -> Option<OpenLink> {
-        for i in 0..self.open.len() {
-            let link = self.open[i];
-            if link.tail == node || link.head == node {
-                let _ = self.open.swap_remove(i);
-                return Some(link);
-            }
+    // Adds an undetermined link at a node.
+    fn open_at(&mut self, node: NodeId, link: LinkId) {
+        if node.index() < MOST_NODES {
+            self.degrees[node.index()] = self.degrees[node.index()].saturating_add(1);
+            self.links[node.index()] ^= link.0;
         }
-        None
+    }
+
+    // Removes an undetermined link at a node.
+    fn close_at(&mut self, node: NodeId, link: LinkId) {
+        if node.index() < MOST_NODES {
+            self.degrees[node.index()] = self.degrees[node.index()].saturating_sub(1);
+            self.links[node.index()] ^= link.0;
+        }
+    }
+
+    // Adds an undetermined link.
+    fn open(&mut self, id: LinkId, link: Link) {
+        self.open_at(link.tail, id);
+        self.open_at(link.head, id);
+        self.count = self.count.saturating_add(1);
     }
 
     // Records the flow of a link that was undetermined.
-    fn close(&mut self, link: OpenLink, flow: Q) -> Result<(), Halt<Q>> {
+    fn close(&mut self, id: LinkId, link: Link, flow: Q) -> Result<(), Halt<Q>> {
         self.carry(link.tail, link.head, flow)?;
-        count_down(&mut self.degrees, link.tail.index());
-        count_down(&mut self.degrees, link.head.index());
+        self.close_at(link.tail, id);
+        self.close_at(link.head, id);
+        self.count = self.count.saturating_sub(1);
         Ok(())
     }
 
-    // Determines the flow of a leaf's link by what is missing there. Returns the link's other end if that becomes a leaf.
-    fn close_leaf(&mut self, leaf: NodeId, flows: &mut [Q]) -> Result<Option<NodeId>, Halt<Q>> {
-        let Some(link) = self.take_open(leaf) else {
-            return Ok(None);
-        };
-        let missing = number_or_zero(&self.missing, leaf.index());
-        let (flow, other) = link.flow_from(leaf, missing)?;
-        set_at(flows, link.id.index(), flow);
-        self.close(link, flow)?;
-        Ok(if self.is_leaf(other) {
-            Some(other)
+    // Returns the only undetermined link at a node. Returns `None` if the node has none or several, or is the sink, which has no equation.
+    fn last_at(&self, net: &Network, node: NodeId) -> Option<LinkId>
+        ensures { IfSome result (λ link. link < length net.now.net.links) }
+    {
+        if node == self.sink || node.index() >= MOST_NODES || self.degrees[node.index()] != 1 {
+            return None;
+        }
+        let link = self.links[node.index()];
+        if link < net.link_count() {
+            Some(LinkId(link))
         } else {
             None
-        })
+        }
+    }
+
+    // Determines the flow of the last link at a node by what is missing there. Returns the link's other end.
+    fn close_last(
+        &mut self,
+        net: &Network,
+        id: LinkId,
+        node: NodeId,
+        flows: &mut [Q],
+    ) -> Result<NodeId, Halt<Q>>
+        requires { id < length net.now.net.links }
+    {
+        let link = net.link(id);
+        let missing = number_or_zero(&self.missing, node.index());
+        let (flow, other) = flow_from(link, node, missing)?;
+        set_at(flows, id.index(), flow);
+        self.close(id, link, flow)?;
+        Ok(other)
+    }
+
+    // Determines flows from a node on, while the node that is reached has one undetermined link.
+    fn close_from(&mut self, net: &Network, start: NodeId, flows: &mut [Q]) -> Result<(), Halt<Q>> {
+        let mut node = start;
+        for _ in 0..net.node_count() {
+            let Some(link) = self.last_at(net, node) else {
+                return Ok(());
+            };
+            node = self.close_last(net, link, node, flows)?;
+        }
+        Ok(())
+    }
+
+    // Determines the flows from the leaves inward.
+    fn close_all(&mut self, net: &Network, flows: &mut [Q]) -> Result<(), Halt<Q>> {
+        let nodes = net.node_count();
+        for v in 0..nodes {
+            self.close_from(net, NodeId(nodes - 1 - v), flows)?;
+        }
+        Ok(())
     }
 }
 
@@ -160,11 +174,7 @@ fn flow_of(
     let here = net.link(link);
     match state {
         State::Tight => {
-            undetermined.open(OpenLink {
-                id: link,
-                tail: here.tail,
-                head: here.head,
-            })?;
+            undetermined.open(link, here);
             Ok(Q::zero())
         }
         State::Zero => Ok(Q::zero()),
@@ -194,40 +204,6 @@ fn put_flows(
     Ok(())
 }
 
-// Returns the nodes that are leaves at the start. Fails if an allocation fails.
-fn leaves(
-    alloc: Global,
-    net: &Network,
-    undetermined: &OpenFlows,
-) -> Result<Vec<NodeId>, AllocError> {
-    let mut leaves = Vec::new(alloc);
-    for v in 0..net.node_count() {
-        if undetermined.is_leaf(NodeId(v)) {
-            leaves.push(NodeId(v))?;
-        }
-    }
-    Ok(leaves)
-}
-
-// Determines the undetermined flows from the leaves inward. A node becomes a leaf at most once.
-fn close_leaves(
-    alloc: Global,
-    net: &Network,
-    flows: &mut [Q],
-    undetermined: &mut OpenFlows,
-) -> Result<(), Halt<Q>> {
-    let mut leaves = leaves(alloc, net, undetermined)?;
-    for _ in 0..net.node_count() {
-        let Some(leaf) = leaves.pop() else {
-            return Ok(());
-        };
-        if let Some(next) = undetermined.close_leaf(leaf, flows)? {
-            leaves.push(next)?;
-        }
-    }
-    Ok(())
-}
-
 /// Returns these slopes with the flows of the links. Returns `None` if Tight links close a cycle.
 pub(crate) fn with_flows(
     alloc: Global,
@@ -244,8 +220,8 @@ pub(crate) fn with_flows(
     let mut flows = vec![in alloc; Q::zero(); net.link_count() as usize]?;
     let mut undetermined = OpenFlows::new(alloc, net, rate)?;
     put_flows(net, sets, pattern, &slopes, &mut flows, &mut undetermined)?;
-    close_leaves(alloc, net, &mut flows, &mut undetermined)?;
-    if undetermined.open.is_empty() {
+    undetermined.close_all(net, &mut flows)?;
+    if undetermined.count == 0 {
         Ok(Some(Values { slopes, flows }))
     } else {
         Ok(None)

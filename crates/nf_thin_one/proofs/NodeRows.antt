@@ -13,7 +13,7 @@ use Rattle.nf_linear_def.specs.Table.{Row, row_at}
 use Rattle.nf_thin_def.specs.Equations.{unknowns, one_if, leaves_less_enters, node_row, equations}
 use Rattle.nf_thin_equation_laws.proofs.Equations.{unknowns-length}
 use Rattle.nf_thin_one.specs.Filling.{ChangesRow, IsFilledTo, IsRowOf, SetsAt, AddsFlow}
-use Rattle.nf_thin_one.proofs.Cells.{blank_row, set_zero, set_changes}
+use Rattle.nf_thin_one.proofs.Cells.{blank_row, set_zero}
 use Rattle.nf_thin_one.proofs.LinkEntries.{no_step, unit_leaves, unit_enters, unit_neither}
 use Rattle.nf_thin_one.proofs.ActivePlaces.{active_before, none_before, one_more_before, none_more_before, all_before, before_within}
 use Rattle.nf_thin_one.proofs.EquationRows.{node_at, as_many_rows}
@@ -24,10 +24,10 @@ node_inside v w n same b = omega arith
 
 -- ---- which row is whose
 module _ (sink : ℕ) where
-  pub row_before : (v : ℕ) → v < sink → IsRowOf sink v (v + 1)
+  row_before : (v : ℕ) → v < sink → IsRowOf sink v (v + 1)
   row_before v b = record { apart = λ s. absurd (omega arith); before_sink = λ l. refl; past_sink = λ l. absurd (omega arith) }
 
-  pub row_past : (v : ℕ) → sink < v → IsRowOf sink v v
+  row_past : (v : ℕ) → sink < v → IsRowOf sink v v
   row_past v b = record { apart = λ s. absurd (omega arith); before_sink = λ l. absurd (omega arith); past_sink = λ l. refl }
 
   row_by : (v i : ℕ) → IsRowOf sink v i → ((v < sink) × (i ≡ v + 1)) ⊎ ((sink < v) × (i ≡ v))
@@ -38,16 +38,7 @@ module _ (sink : ℕ) where
       by_order (inr (inl b)) = inl (b, r.before_sink b)
       by_order (inr (inr b)) = inr (b, r.past_sink b)
 
-  -- a node has one row, and a row one node
-  same_row : (v i j : ℕ) → IsRowOf sink v i → IsRowOf sink v j → i ≡ j
-  same_row v i j p q = go (row_by v i p) (row_by v j q)
-    where
-      go : ((v < sink) × (i ≡ v + 1)) ⊎ ((sink < v) × (i ≡ v)) → ((v < sink) × (j ≡ v + 1)) ⊎ ((sink < v) × (j ≡ v)) → i ≡ j
-      go (inl a) (inl b) = a.1 ∙ sym b.1
-      go (inl a) (inr b) = let l = a.0 in let m = b.0 in absurd (omega arith)
-      go (inr a) (inl b) = let l = a.0 in let m = b.0 in absurd (omega arith)
-      go (inr a) (inr b) = a.1 ∙ sym b.1
-
+  -- a row is that of one node
   same_node : (v w i : ℕ) → IsRowOf sink v i → IsRowOf sink w i → v ≡ w
   same_node v w i p q = go (row_by v i p) (row_by w i q)
     where
@@ -64,7 +55,7 @@ module _ (sink : ℕ) where
       go (inl a) = let l = a.1 in omega arith
       go (inr a) = let k = a.0 in let l = a.1 in omega arith
 
-  pub row_inside : (n v i : ℕ) → sink < n → v < n → IsRowOf sink v i → i < n
+  row_inside : (n v i : ℕ) → sink < n → v < n → IsRowOf sink v i → i < n
   row_inside n v i s b p = go (row_by v i p)
     where
       go : ((v < sink) × (i ≡ v + 1)) ⊎ ((sink < v) × (i ≡ v)) → i < n
@@ -88,21 +79,7 @@ module _ (sink : ℕ) where
       go (inl l) = (suc j, b, row_past (suc j) l)
       go (inr l) = (j, omega arith, subst (λ (i : ℕ). IsRowOf sink j i) (let s : j + 1 ≡ suc j = omega arith in s) (row_before j (omega arith)))
 
--- ---- one number, and the two of a link
-module _ (sink v column : ℕ) (number : ℚ) where
-  pub set_at : (row : ℕ) (old new : List Row) → IsRowOf sink v row → row < length old → new ≡ set old row (set (row_at old row) column number)
-      → SetsAt sink v column number old new
-  set_at row old new r inside e =
-      let c : ChangesRow old new row (set (row_at old row) column number) = set_changes old new row (set (row_at old row) column number) inside e in
-      record {
-        here = λ i q. subst (λ (k : ℕ). row_at new k ≡ set (row_at old k) column number) (same_row sink v row i r q) c.here;
-        others = λ i n. c.others i (λ s. n (subst (λ (k : ℕ). IsRowOf sink v k) (sym s) r));
-        count = c.count;
-      }
-
-  pub not_set : (old : List Row) → v ≡ sink → SetsAt sink v column number old old
-  not_set old same = record { here = λ i r. absurd (r.apart same); others = λ i n. refl; count = refl }
-
+-- ---- the two numbers of a link
 module _ (sink column : ℕ) (link : Link) (old : List Row) where
   pub flow_added : (once twice : List Row) (x y : ℚ) → not (eqb link.tail link.head) ≡ true → x ≡ 1ℚ → y ≡ neg_ℚ 1ℚ
       → SetsAt sink link.tail column x old once → SetsAt sink link.head column y once twice → AddsFlow sink column link old twice
@@ -114,7 +91,8 @@ module _ (sink column : ℕ) (link : Link) (old : List Row) where
           no : true ≡ false → ⊥
           no e = cc
 
-          by_test : ((eqb link.tail link.head ≡ true) × (link.tail ≡ link.head)) ⊎ ((eqb link.tail link.head ≡ false) × (link.tail ≢ link.head)) → link.tail ≢ link.head
+          by_test : ((eqb link.tail link.head ≡ true) × (link.tail ≡ link.head)) ⊎ ((eqb link.tail link.head ≡ false) × (link.tail ≢ link.head))
+              → link.tail ≢ link.head
           by_test (inl s) = absurd (no (sym told ∙ ap not s.0))
           by_test (inr n) = n.1
 
@@ -126,7 +104,8 @@ module _ (sink column : ℕ) (link : Link) (old : List Row) where
               → row_at twice i ≡ set (row_at old i) column (leaves_less_enters (Some link) v)
           by_ends (inl t) (inl h) = absurd (apart (t.1 ∙ sym h.1))
           by_ends (inl t) (inr h) = b.others i (λ q. h.1 (same_node sink link.head v i q r))
-              ∙ (a.here i (subst (λ (w : ℕ). IsRowOf sink w i) (sym t.1) r) ∙ ap (set (row_at old i) column) (one ∙ unit_leaves (eqb link.tail v) (eqb link.head v) t.0 h.0))
+              ∙ (a.here i (subst (λ (w : ℕ). IsRowOf sink w i) (sym t.1) r)
+              ∙ ap (set (row_at old i) column) (one ∙ unit_leaves (eqb link.tail v) (eqb link.head v) t.0 h.0))
           by_ends (inr t) (inl h) = b.here i (subst (λ (w : ℕ). IsRowOf sink w i) (sym h.1) r)
               ∙ (ap (λ (row : Row). set row column y) (a.others i (λ q. t.1 (same_node sink link.tail v i q r)))
               ∙ ap (set (row_at old i) column) (minus ∙ unit_enters (eqb link.tail v) (eqb link.head v) t.0 h.0))
@@ -144,7 +123,8 @@ module _ (sink column : ℕ) (link : Link) (old : List Row) where
       same : link.tail ≡ link.head
       same = by_test (eqb_tells link.tail link.head)
         where
-          by_test : ((eqb link.tail link.head ≡ true) × (link.tail ≡ link.head)) ⊎ ((eqb link.tail link.head ≡ false) × (link.tail ≢ link.head)) → link.tail ≡ link.head
+          by_test : ((eqb link.tail link.head ≡ true) × (link.tail ≡ link.head)) ⊎ ((eqb link.tail link.head ≡ false) × (link.tail ≢ link.head))
+              → link.tail ≡ link.head
           by_test (inl s) = s.1
           by_test (inr n) = absurd (no (sym told ∙ ap not n.0))
             where
@@ -186,8 +166,8 @@ module _ (net : Network) (sets : Sets) where
       column_inside active =
           let a = before_within sets.active 0 e active in let u = unknowns-length net sets in let c = h.count in let n = h.next in let s = size in omega arith
 
-      pub flow_more : (new : List Row) (link : Link) → Has sets.active e → IsLink net e link → link.tail < net.nodes → link.head < net.nodes → AddsFlow net.sink column link now new
-          → HasFlowsTo old new (e + 1) (column + 1)
+      pub flow_more : (new : List Row) (link : Link) → Has sets.active e → IsLink net e link → link.tail < net.nodes → link.head < net.nodes
+          → AddsFlow net.sink column link now new → HasFlowsTo old new (e + 1) (column + 1)
       flow_more new link active is_link tail head a = record {
         nodes = at;
         others = λ i n. a.others i (n link.tail tail) (n link.head head) ∙ h.others i n;
@@ -199,8 +179,10 @@ module _ (net : Network) (sets : Sets) where
           at v i b r =
               let f : HasFactorsTo net sets v (row_at now i) e = h.nodes v i b r in
               subst (λ (row : Row). HasFactorsTo net sets v row (e + 1))
-              (ap (λ (j : ℕ). set (row_at now i) j (leaves_less_enters (Some link) v)) (sym h.next) ∙ sym (a.nodes v i r (f.rest column (let n = h.next in omega arith))))
-              (factors_more net sets v (row_at now i) e (leaves_less_enters (Some link) v) active (ap (λ (o : Option Link). leaves_less_enters o v) (sym is_link)) f)
+              (ap (λ (j : ℕ). set (row_at now i) j (leaves_less_enters (Some link) v)) (sym h.next)
+              ∙ sym (a.nodes v i r (f.rest column (let n = h.next in omega arith))))
+              (factors_more net sets v (row_at now i) e (leaves_less_enters (Some link) v) active
+              (ap (λ (o : Option Link). leaves_less_enters o v) (sym is_link)) f)
 
       pub flow_same : slice_get sets.active e ≡ Some false → HasFlowsTo old now (e + 1) column
       flow_same idle = record {
@@ -231,7 +213,8 @@ module _ (net : Network) (sets : Sets) where
             no_right : number_at (row_at now i) (length (unknowns net sets)) ≡ 0ℚ
             no_right = factors.rest (length (unknowns net sets)) (let a = all_before sets.active 0 e all in let u = unknowns-length net sets in omega arith)
 
-            by_source : ((eqb v net.source ≡ true) × (v ≡ net.source)) ⊎ ((eqb v net.source ≡ false) × (v ≢ net.source)) → row_at new i ≡ node_row net sets rate v
+            by_source : ((eqb v net.source ≡ true) × (v ≡ net.source)) ⊎ ((eqb v net.source ≡ false) × (v ≢ net.source))
+                → row_at new i ≡ node_row net sets rate v
             by_source (inl s) =
                 let c : ChangesRow now new i (set (row_at now i) (length now) rate) = supplied i (subst (λ (w : ℕ). IsRowOf net.sink w i) s.1 r) in
                 c.here ∙ (ap (λ (j : ℕ). set (row_at now i) j rate) wide
@@ -253,7 +236,8 @@ module _ (net : Network) (sets : Sets) where
             before (suc j) b = node_row_at (node_of net.sink net.nodes (suc j) b (omega arith))
               where
                 node_row_at : (v : ℕ) × (v < net.nodes) × IsRowOf net.sink v (suc j) → row_at new (suc j) ≡ row_at (equations net sets rate pattern) (suc j)
-                node_row_at (v, inside, r) = node_here v (suc j) inside r ∙ sym (node_at net sets rate pattern v (suc j) inside r.apart r.before_sink r.past_sink)
+                node_row_at (v, inside, r) =
+                    node_here v (suc j) inside r ∙ sym (node_at net sets rate pattern v (suc j) inside r.apart r.before_sink r.past_sink)
 
             after : (k : ℕ) → net.nodes ≤ k → k < length new → row_at new k ≡ blank_row (length (equations net sets rate pattern))
             after k low b =
@@ -261,7 +245,8 @@ module _ (net : Network) (sets : Sets) where
                 let c = changed.count in
                 let d = h.count in
                 changed.others k (λ s. absurd (omega arith))
-                ∙ (h.others k (λ v inside r. (let m = row_inside net.sink net.nodes v k sink inside r in absurd (omega arith))) ∙ f.after k (omega arith) (omega arith))
+                ∙ (h.others k (λ v inside r. (let m = row_inside net.sink net.nodes v k sink inside r in absurd (omega arith)))
+                ∙ f.after k (omega arith) (omega arith))
 
         pub size_kept : length new ≡ length old
         size_kept = changed.count ∙ h.count

@@ -6,11 +6,8 @@ loop-e-init c = λ sets is. is
 pub keep_or_loosen-requires-clause-pattern : goal.keep_or_loosen-requires-clause-pattern
 keep_or_loosen-requires-clause-pattern c = (c.requires.0, c.loop-e.invariant c.requires.0 c.requires.1)
 
-pub returns-in_err-keep_or_loosen : goal.returns-in_err-keep_or_loosen
-returns-in_err-keep_or_loosen c = λ sets is. c.in_err-keep_or_loosen.ensures sets (c.loop-e.invariant sets is)
-
 pub loop-e-preserved : goal.loop-e-preserved
-loop-e-preserved c = λ sets is. c.in_ok-keep_or_loosen.ensures sets (c.loop-e.invariant sets is)
+loop-e-preserved c = λ sets is. c.keep_or_loosen.ensures sets (c.loop-e.invariant sets is)
 
 pub returns : goal.returns
 returns c = c.loop-e.invariant

@@ -7,8 +7,8 @@ change-requires-clause-states c = c.requires.pattern.1.pattern_is.count ∙ c.re
 pub change-requires-2-clause-states : goal.change-requires-2-clause-states
 change-requires-2-clause-states c = c.requires.pattern.1.pattern_is.count ∙ c.requires.pattern.1.sets_are.count
 
-pub returns-then-branch : goal.returns-then-branch
-returns-then-branch c = c.change.ensures
+pub returns-then-grow : goal.returns-then-grow
+returns-then-grow c = c.change.ensures
 
 pub returns : goal.returns
 returns c = c.change-2.ensures

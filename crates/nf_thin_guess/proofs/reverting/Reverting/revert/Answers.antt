@@ -5,4 +5,4 @@ pub is_one_pattern-requires-clause-other : goal.is_one_pattern-requires-clause-o
 is_one_pattern-requires-clause-other c = c.requires.pattern.pattern_is.count ∙ c.requires.pattern.sets_are.count
 
 pub is_one_pattern-requires-clause-one : goal.is_one_pattern-requires-clause-one
-is_one_pattern-requires-clause-one c = c.in_ok-revert_all_tight.ensures.pattern_is.count ∙ c.requires.pattern.sets_are.count
+is_one_pattern-requires-clause-one c = c.revert_all_tight.ensures.pattern_is.count ∙ c.requires.pattern.sets_are.count

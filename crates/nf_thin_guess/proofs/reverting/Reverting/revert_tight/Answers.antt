@@ -7,5 +7,5 @@ set_state-requires-clause-link c = c.requires.link
 pub set_state-requires-clause-states : goal.set_state-requires-clause-states
 set_state-requires-clause-states c = c.requires.pattern.pattern_is.count ∙ c.requires.pattern.sets_are.count
 
-pub returns-then-branch : goal.returns-then-branch
-returns-then-branch c = c.set_state.ensures c.args.self.now.sets.now c.requires.pattern
+pub returns-then-grow : goal.returns-then-grow
+returns-then-grow c = c.set_state.ensures c.args.self.now.sets.now c.requires.pattern
