@@ -3,7 +3,7 @@ use Rattle.std.proofs.Common.{◌≡◌, ◌≢◌, ℕ, ◌*◌, ◌≤◌, Boo
 use Rattle.std.specs.Prelude.{Ok, Err}
 use Rattle.nf_rational.specs.Gcd.{gcd}
 use Rattle.nf_rational.specs.Rational.{ℚ, ratio}
-use Rattle.nf_rational.specs.Operations.{whole, 0ℚ, ◌+ℚ◌, ◌-ℚ◌, ◌*ℚ◌, neg_ℚ, inv_ℚ}
+use Rattle.nf_rational.specs.Operations.{whole, 0ℚ, 1ℚ, ◌+ℚ◌, ◌-ℚ◌, ◌*ℚ◌, neg_ℚ, inv_ℚ}
 use Rattle.nf_rational.specs.Order.{◌<ℚ◌}
 use Rattle.nf_rational_laws.proofs.Polynomial.{reading_of, combine, using, done, reading}
 use Rattle.nf_rational_laws.proofs.IntegerRing.{ints_ring}
@@ -47,13 +47,16 @@ difference_again x y s e =
     let fits : SumFits (bound_of 127) s (neg_ℚ x) = subst (λ (q : ℚ). SumFits (bound_of 127) q (neg_ℚ x)) (sym is) (taken_off (bound_of 127) x y (fitted x y s e)) in
     sym (difference_done (bound_of 127) s x y (fits, as_sum x y s is))
 
--- the product over its second part
-quotient_again : (rate length amount : ℚ) → is_wide (bound_of 127) rate ≡ false → length ≢ 0ℚ → checked passes_Q Product rate length ≡ Ok amount
-    → checked passes_Q Quotient amount length ≡ Ok rate
-quotient_again rate length amount narrow apart e =
-    let is : rate ≡ amount *ℚ inv_ℚ length = /ℚ-unique amount length rate apart (sym (checked-is passes_Q Product rate length amount e)) ∙ /ℚ_is amount length in
+-- a product over its second part
+pub quotient_known : (rate length amount : ℚ) → is_wide (bound_of 127) rate ≡ false → length ≢ 0ℚ → amount ≡ rate *ℚ length → checked passes_Q Quotient amount length ≡ Ok rate
+quotient_known rate length amount narrow apart e =
+    let is : rate ≡ amount *ℚ inv_ℚ length = /ℚ-unique amount length rate apart (sym e) ∙ /ℚ_is amount length in
     sym (quotient_done (bound_of 127) amount length rate
     (subst (λ (q : ℚ). IsWithin (bound_of 127) q) is (narrow_out (bound_of 127) rate narrow), is))
+
+quotient_again : (rate length amount : ℚ) → is_wide (bound_of 127) rate ≡ false → length ≢ 0ℚ → checked passes_Q Product rate length ≡ Ok amount
+    → checked passes_Q Quotient amount length ≡ Ok rate
+quotient_again rate length amount narrow apart e = quotient_known rate length amount narrow apart (checked-is passes_Q Product rate length amount e)
 
 -- ---- the slope of a line
 pub line_slope : (start before end after rate length rise : ℚ) → is_wide (bound_of 127) rate ≡ false → start <ℚ end → checked passes_Q Difference end start ≡ Ok length
@@ -105,6 +108,10 @@ module _ (limit : ℕ) (time : ℚ) (within : IsWithin limit time) where
       (subst (λ (m : ℕ). m ≤ limit) (sym den_is) within.small_den) none
       (subst (λ (m : ℕ). m ≤ limit) (sym (abs-mul time.num 1 ∙ times_one (nat_abs time.num))) within.small)
       (subst (λ (z : ℤ). nat_abs z ≤ limit) (sym (only_second 0ℚ.num time.num (pos time.den) zero_num)) within.small)
+
+pub one_narrow : is_wide (bound_of 127) 1ℚ ≡ false
+unfolding whole ratio gcd
+one_narrow = refl
 
 pub zero_within : IsWithin (bound_of 127) 0ℚ
 zero_within = record {

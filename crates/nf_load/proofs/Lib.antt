@@ -12,3 +12,5 @@ pub mod KnownRates
 pub mod RatesInTurn
 pub mod Alongs
 pub mod Pacing
+pub mod Leaves
+pub mod Outflows

@@ -1,6 +1,7 @@
 -- The slopes of amount and queue over a piece of the inflow, and no operation of them passes.
 use Rattle.std.proofs.Common.{◌≡◌, inl, inr, Bool, true, false, ◌&&◌, List, [], ◌∷◌, ◌++◌, map, refl, sym, ap, subst, ◌∙◌, append_assoc}
 use Rattle.std.specs.Prelude.{Option, Some, None, option_map, IfSome, Ok, Err}
+use Rattle.std.proofs.lemmas.Bool.{true≢false}
 use Rattle.nf_rational.specs.Rational.{ℚ}
 use Rattle.nf_rational.specs.Operations.{0ℚ, ◌-ℚ◌}
 use Rattle.nf_rational.specs.Order.{◌<ℚ◌}
@@ -64,6 +65,10 @@ level_paced capacity before end (Some rate) later known empty =
 pub first_true : (a b c : Bool) → c ≡ (a && b) → c ≡ true → a ≡ true
 first_true true b c e f = refl
 first_true false b c e f = sym e ∙ f
+
+pub second_true : (a b c : Bool) → c ≡ (a && b) → c ≡ true → b ≡ true
+second_true true b c e f = sym e ∙ f
+second_true false b c e f = absurd (true≢false (sym f ∙ e))
 
 -- ---- a queue that changes at the rate less the capacity
 pub grown_paced : (capacity rate change : ℚ) (before : lists.Waits) (end : Point) (queue : ℚ) → is_wide (bound_of 127) change ≡ false → before.time <ℚ end.0 → checked_slope passes_Q (before.time, before.amount) end ≡ Ok rate

@@ -6,3 +6,4 @@ pub mod Kept
 pub mod Rates
 pub mod Slopes
 pub mod Paces
+pub mod Leaving

@@ -1,5 +1,5 @@
 // Queue, outflow and exit curves of a link.
-ghost use Rattle.std.specs.Prelude.{◌≡◌, map, option_map, IfOk};
+ghost use Rattle.std.specs.Prelude.{◌≡◌, map, option_map, slice_get, IfOk};
 ghost use Rattle.nf_rational.specs.Operations.{0ℚ};
 ghost use Rattle.nf_rational.specs.Order.{◌≤ℚ◌};
 ghost use Rattle.nf_frac_def.specs.declared.Part.TheVariants.{Load};
@@ -10,12 +10,13 @@ ghost use Rattle.nf_curve_def.specs.Values.{checked_cut};
 ghost use Rattle.nf_curve_def.specs.Short.{checked_short};
 ghost use Rattle.nf_load_def.specs.Loading as lists;
 ghost use Rattle.nf_load_def.specs.Loading.{queue_point, exit_point};
-ghost use Rattle.nf_load.specs.Slopes.{AreSlopes};
+ghost use Rattle.nf_load.specs.Leaving.{AreLeaving, exit_slope_of, outflow_slope_of};
+ghost use Rattle.nf_load.specs.Slopes.{AreSlopes, flat};
 ghost use Rattle.nf_load.specs.Paces.{change_of};
 
 use crate::shortening::short_points;
 use crate::waiting::Moments;
-use crate::waits::{Exit, Pace, Waits};
+use crate::waits::{Exit, Leaving, Pace, Waits};
 use nf_curve::{Curve, Point};
 use nf_frac::{Halt, Part, Q};
 use std::alloc::{AllocError, Global};
@@ -56,30 +57,53 @@ fn exit_points(alloc: Global, all: &[Exit]) -> Result<Vec<Point>, AllocError>
         .collect(alloc)
 }
 
-// Returns the points of the outflow. The first is (0, 0). Each exit that differs from the one before adds a point.
-fn outflow_points(alloc: Global, all: &[Exit]) -> Result<Vec<Point>, AllocError>
-    ensures { IfOk result (λ points. points.items ≡ lists.outflow_points all.now) }
-{
-    let mut points = Vec::with_capacity(alloc, all.len() + 1)?;
-    let mut last = Q::zero();
-    points.push((last, Q::zero()))?;
-    for one in all {
-        if !last.is_same(one.exit) {
-            points.push((one.exit, one.waits.amount))?;
-            last = one.exit;
-        }
-    }
-    Ok(points)
+// Points, and the slopes between them that are known.
+#[derive(Drop)]
+struct KnownPoints {
+    points: Vec<Point>,
+    slopes: Vec<Option<Q>>,
 }
 
-// Returns the curve of the points, in short form.
-fn short_curve(alloc: Global, points: Vec<Point>) -> Result<Curve, Halt<Q>>
-    requires { IsCurve points.items }
-    ensures { Gives (λ c. c.points) (λ q. q) result
-        (at_part Load (checked_short passes_Q points.items)) }
+// Returns the slope of the outflow from the moment of this number on, if it is known.
+fn outflow_slope(leaving: &[Option<Leaving>], index: usize) -> Option<Q>
+    ensures { result ≡ option_map outflow_slope_of (flat (slice_get leaving.now index)) }
 {
-    let curve = Curve::of_points(points);
-    Curve::short(alloc, &curve, Part::Load)
+    if index >= leaving.len() {
+        return None;
+    }
+    match &leaving[index] {
+        Some(slopes) => Some(slopes.outflow),
+        None => None,
+    }
+}
+
+// Returns the points of the outflow, with the slopes that are known. The first is (0, 0). Each exit that differs from the one before adds a
+// point.
+fn outflow_points(
+    alloc: Global,
+    all: &[Exit],
+    leaving: &[Option<Leaving>],
+) -> Result<KnownPoints, AllocError>
+    requires { AreLeaving all.now leaving.now }
+    ensures points { IfOk result (λ outflow. outflow.points.items ≡ lists.outflow_points all.now) }
+    ensures slopes { IfOk result (λ outflow. AreSlopes outflow.points.items outflow.slopes.items) }
+{
+    let mut points = Vec::with_capacity(alloc, all.len() + 1)?;
+    let mut slopes = Vec::with_capacity(alloc, all.len())?;
+    let mut last = Q::zero();
+    let mut known = None;
+    points.push((last, Q::zero()))?;
+    for (index, one) in all.iter().enumerate() {
+        if last.is_same(one.exit) {
+            known = None;
+        } else {
+            points.push((one.exit, one.waits.amount))?;
+            slopes.push(known)?;
+            last = one.exit;
+            known = outflow_slope(leaving, index);
+        }
+    }
+    Ok(KnownPoints { points, slopes })
 }
 
 // Returns the curve of the points, in short form. `slopes` are known slopes of its first pieces.
@@ -106,24 +130,75 @@ pub(crate) fn queue_curve(alloc: Global, moments: &Moments) -> Result<Curve, Hal
     known_short(alloc, &points, &slopes)
 }
 
+// Returns the slope of the exits, if it is known.
+fn exit_slope(leaving: &Option<Leaving>) -> Option<Q>
+    ensures { result ≡ option_map exit_slope_of leaving.now }
+{
+    match leaving {
+        Some(slopes) => Some(slopes.exit),
+        None => None,
+    }
+}
+
+// Returns the slopes of the exits that are known.
+fn exit_slopes(alloc: Global, leaving: &[Option<Leaving>]) -> Result<Vec<Option<Q>>, AllocError>
+    ensures { IfOk result (λ slopes. slopes.items ≡ map (option_map exit_slope_of) leaving.now) }
+{
+    leaving
+        .iter()
+        .map(|slopes| exit_slope(slopes))
+        .collect(alloc)
+}
+
 /// Returns the exit by the time of entry, in short form.
-pub(crate) fn exit_curve(alloc: Global, all: &[Exit]) -> Result<Curve, Halt<Q>>
-    requires { IsCurve (map exit_point all.now) }
+pub(crate) fn exit_curve(
+    alloc: Global,
+    all: &[Exit],
+    leaving: &[Option<Leaving>],
+) -> Result<Curve, Halt<Q>>
+    requires curve { IsCurve (map exit_point all.now) }
+    requires leaving { AreLeaving all.now leaving.now }
     ensures { Gives (λ c. c.points) (λ q. q) result
         (at_part Load (checked_short passes_Q (map exit_point all.now))) }
 {
     let points = exit_points(alloc, all)?;
-    short_curve(alloc, points)
+    let slopes = exit_slopes(alloc, leaving)?;
+    known_short(alloc, &points, &slopes)
+}
+
+/// The outflow by time, and the slopes of its first pieces that are known.
+#[derive(Drop)]
+pub(crate) struct Outflow {
+    pub curve: Curve,
+    pub slopes: Vec<Option<Q>>,
 }
 
 /// Returns the outflow by time, cut at the time `end`.
-pub(crate) fn outflow_until(alloc: Global, all: &[Exit], end: Q) -> Result<Curve, Halt<Q>>
+pub(crate) fn outflow_until(
+    alloc: Global,
+    all: &[Exit],
+    leaving: &[Option<Leaving>],
+    end: Q,
+) -> Result<Outflow, Halt<Q>>
     requires curve { IsCurve (lists.outflow_points all.now) }
+    requires leaving { AreLeaving all.now leaving.now }
     requires end { 0ℚ ≤ℚ end }
-    ensures { Gives (λ c. c.points) (λ q. q) result
+    ensures list { Gives (λ outflow. outflow.curve.points) (λ q. q) result
         (at_part Load (checked_cut passes_Q (lists.outflow_points all.now) end)) }
+    ensures slopes { IfOk result (λ outflow. AreSlopes outflow.curve.points outflow.slopes.items) }
 {
-    let points = outflow_points(alloc, all)?;
-    let curve = Curve::of_points(points);
-    curve.cut(alloc, end, Part::Load)
+    let KnownPoints { points, mut slopes } = outflow_points(alloc, all, leaving)?;
+    let whole = Curve::of_points(points);
+    let curve = whole.cut(alloc, end, Part::Load)?;
+    slopes.truncate(curve.len().saturating_sub(2));
+    Ok(Outflow { curve, slopes })
+}
+
+/// Returns the outflow in short form.
+pub(crate) fn outflow_curve(alloc: Global, outflow: &Outflow) -> Result<Curve, Halt<Q>>
+    requires { AreSlopes outflow.now.curve.points outflow.now.slopes.items }
+    ensures { Gives (λ c. c.points) (λ q. q) result
+        (at_part Load (checked_short passes_Q outflow.now.curve.points)) }
+{
+    known_short(alloc, outflow.curve.as_points(), &outflow.slopes)
 }

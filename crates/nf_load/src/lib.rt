@@ -8,6 +8,7 @@ mod curves;
 mod draft;
 mod entry;
 mod exiting;
+mod leaving;
 mod loading;
 mod loads;
 mod reading;

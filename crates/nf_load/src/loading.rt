@@ -1,25 +1,28 @@
 // Loading of a link with its inflow.
-ghost use Rattle.std.specs.Prelude.{◌≡◌, Option, IfOk};
+ghost use Rattle.std.specs.Prelude.{◌≡◌, Option, IfOk, Ok};
 ghost use Rattle.nf_rational.specs.Rational.{ℚ};
 ghost use Rattle.nf_rational.specs.Operations.{0ℚ};
 ghost use Rattle.nf_rational.specs.Order.{◌≤ℚ◌};
 ghost use Rattle.nf_frac_def.specs.declared.Part.TheVariants.{Load};
 ghost use Rattle.nf_frac_def.specs.Passing.{passes_Q};
 ghost use Rattle.nf_frac_def.specs.declared.Op.TheVariants.{Sum};
-ghost use Rattle.nf_frac_def.specs.Checked.{checked, at_part, Gives};
+ghost use Rattle.nf_frac_def.specs.Checked.{checked, at_part, each, Gives};
 ghost use Rattle.nf_model.specs.Curve.{NeverFalls, value};
 ghost use Rattle.nf_model_laws.specs.Capacity.{IsPositive};
-ghost use Rattle.nf_load_def.specs.Loading.{checked_loading};
+ghost use Rattle.nf_load_def.specs.Loading.{exit_of, checked_loading};
 ghost use Rattle.nf_load_def.specs.Meanings.{IsLoaded};
 ghost use Rattle.nf_load.specs.Loadings.{loaded_of};
+ghost use Rattle.nf_load.specs.Leaving.{AreLeaving};
 ghost use Rattle.nf_load.specs.Paces.{ArePaces};
 ghost use Rattle.nf_load.specs.Rates.{AreRates};
+ghost use Rattle.nf_load.specs.Slopes.{AreSlopes};
 ghost use Rattle.nf_load.specs.InSteps.{AreCurves, LeadsToCurves, in_short_form, until_transit, behind_cut};
 
-use crate::curves::{exit_curve, outflow_until, queue_curve};
+use crate::curves::{Outflow, exit_curve, outflow_curve, outflow_until, queue_curve};
 use crate::exiting::all_exits;
+use crate::leaving::all_leaving;
 use crate::waiting::{Moments, all_waits};
-use crate::waits::Exit;
+use crate::waits::{Exit, Leaving};
 use nf_curve::{Curve, Trace, ends_at};
 use nf_frac::{Halt, Part, PassedAt, Q, at};
 use std::alloc::Global;
@@ -48,17 +51,20 @@ fn short_curves(
     alloc: Global,
     moments: &Moments,
     all: &[Exit],
-    whole_outflow: &Curve,
+    leaving: &[Option<Leaving>],
+    whole_outflow: &Outflow,
 ) -> Result<Loaded, Halt<Q>>
     requires curves { AreCurves moments.now.waits.items all.now }
     requires paces { (capacity : Option ℚ) × ArePaces capacity moments.now.waits.items moments.now.paces.items }
+    requires leaving { AreLeaving all.now leaving.now }
+    requires outflow { AreSlopes whole_outflow.now.curve.points whole_outflow.now.slopes.items }
     ensures { Gives loaded_of (λ q. q) result
         (at_part Load
-        (in_short_form passes_Q moments.now.waits.items all.now whole_outflow.now.points)) }
+        (in_short_form passes_Q moments.now.waits.items all.now whole_outflow.now.curve.points)) }
 {
     let queue = queue_curve(alloc, moments)?;
-    let outflow = Curve::short(alloc, whole_outflow, Part::Load)?;
-    let exit = exit_curve(alloc, all)?;
+    let outflow = outflow_curve(alloc, whole_outflow)?;
+    let exit = exit_curve(alloc, all, leaving)?;
     Ok(Loaded {
         queue,
         outflow,
@@ -70,20 +76,24 @@ fn short_curves(
 fn curves_until(
     alloc: Global,
     transit: Q,
+    capacity: &Option<Q>,
     moments: &Moments,
     all: &[Exit],
     until: Q,
 ) -> Result<Loaded, Halt<Q>>
     requires transit { 0ℚ ≤ℚ transit }
+    requires capacity { IsPositive capacity.now }
     requires curves { AreCurves moments.now.waits.items all.now }
-    requires paces { (capacity : Option ℚ) × ArePaces capacity moments.now.waits.items moments.now.paces.items }
+    requires paces { ArePaces capacity.now moments.now.waits.items moments.now.paces.items }
+    requires exits { each (exit_of passes_Q capacity.now transit) moments.now.waits.items ≡ Ok all.now }
     requires until { 0ℚ ≤ℚ until }
     ensures { Gives loaded_of (λ q. q) result
         (at_part Load (until_transit passes_Q transit moments.now.waits.items all.now until)) }
 {
     let end = after_transit(until, transit)?;
-    let whole_outflow = outflow_until(alloc, all, end)?;
-    short_curves(alloc, moments, all, &whole_outflow)
+    let leaving = all_leaving(alloc, capacity, &moments.paces, all)?;
+    let whole_outflow = outflow_until(alloc, all, &leaving, end)?;
+    short_curves(alloc, moments, all, &leaving, &whole_outflow)
 }
 
 // Loads a link with an inflow that is cut at the time `until`. `rates` are known rates of its first pieces.
@@ -105,7 +115,7 @@ fn load_cut(
 {
     let moments = all_waits(alloc, &capacity, cut, rates)?;
     let exits = all_exits(alloc, &capacity, transit, &moments.waits)?;
-    curves_until(alloc, transit, &moments, &exits, until)
+    curves_until(alloc, transit, &capacity, &moments, &exits, until)
 }
 
 /// Loads a link by the law of the point queue (Koch and Skutella 2011). Returns queue and exit by time up to `until`, and the outflow up to

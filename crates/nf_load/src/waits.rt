@@ -30,6 +30,13 @@ pub(crate) struct Pace {
     pub change: Q,
 }
 
+/// The slopes of exit and outflow from one moment to the next.
+#[derive(Clone, Copy)]
+pub(crate) struct Leaving {
+    pub exit: Q,
+    pub outflow: Q,
+}
+
 /// A moment, with the exit of flow that enters then.
 #[derive(Clone, Copy)]
 pub(crate) struct Exit {

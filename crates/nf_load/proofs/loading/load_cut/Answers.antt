@@ -5,7 +5,7 @@ use Rattle.nf_frac_def.specs.declared.Part.TheVariants.{Load}
 use Rattle.nf_frac_def.specs.Passing.{passes_Q}
 use Rattle.nf_frac_def.specs.Checked.{at_part, each}
 use Rattle.nf_load_def.specs.Loading.{Waits, exit_of, all_waits}
-use Rattle.nf_curve.proofs.Exits.{stops_on}
+use Rattle.nf_curve.proofs.Exits.{stops_on, was_ok}
 use Rattle.nf_load.specs.InSteps.{behind_cut}
 use Rattle.nf_load.proofs.LoadingSteps.{waits_stop, exits_stop, exits_go, are_curves}
 use Rattle.nf_load.proofs.loading.load_cut.Goals as goal
@@ -37,5 +37,8 @@ returns c =
     let e = exits_go passes_Q Load c.args.transit c.args.capacity c.args.cut.now.points c.args.until c.in_ok-moments.moments.waits.items c.in_ok-moments.ensures.list c.in_ok-exits.exits.items all_are in
     rw e (rw (c.deref-2.ensures.value) at c.curves_until.ensures)
 
-pub curves_until-requires-clause-paces : goal.curves_until-requires-clause-paces
-curves_until-requires-clause-paces c = (c.args.capacity, c.in_ok-moments.ensures.paces)
+pub curves_until-requires-clause-exits : goal.curves_until-requires-clause-exits
+curves_until-requires-clause-exits c =
+    let all_are : at_part Load (each (exit_of passes_Q c.args.capacity c.args.transit) c.in_ok-moments.moments.waits.items) ≡ Ok c.in_ok-exits.exits.items =
+    ap (λ (l : List Waits). at_part Load (each (exit_of passes_Q c.args.capacity c.args.transit) l)) (sym c.deref.ensures.value) ∙ c.in_ok-exits.ensures in
+    rw c.deref-2.ensures.value (was_ok Load (each (exit_of passes_Q c.args.capacity c.args.transit) c.in_ok-moments.moments.waits.items) c.in_ok-exits.exits.items all_are)
