@@ -46,7 +46,7 @@ pub fn slacks(alloc: Global, hops: &[Hop], labels: &[Q]) -> Result<Vec<Q>, Halt<
         (at_part Slack (slack_list passes_Q hops.now labels.now)) }
     ensures slacks { IfOk result (λ slacks. slacks.items ≡ slacks_of hops.now labels.now) }
 {
-    let mut slacks = Vec::new(alloc);
+    let mut slacks = Vec::with_capacity(alloc, hops.len())?;
     for hop in hops {
         let next = slack(labels, hop)?;
         slacks.push(next)?;

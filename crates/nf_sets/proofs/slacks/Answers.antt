@@ -15,12 +15,12 @@ use Rattle.nf_sets.proofs.slacks.Goals as goal
 pub returns-in_err-next-clause-list : goal.returns-in_err-next-clause-list
 unfolding slack_list
 returns-in_err-next-clause-list c =
-    let p = err_from_is_err_and c.from_residual.result c.from_residual.ensures.1 in
+    let p = err_from_is_err_and c.from_residual-in_err-next.result c.from_residual-in_err-next.ensures.1 in
     rw (p.1, p.2) (passed_in Slack (slack_of passes_Q c.args.labels.now) c.args.hops.now c.loop-hop.slacks.items c.loop-hop.hop-index c.hop-item.result c.in_err-next.field-0.0
     (omega arith) c.hop-item.is c.loop-hop.invariant c.in_err-next.ensures)
 
 pub returns-in_err-next-clause-slacks : goal.returns-in_err-next-clause-slacks
-returns-in_err-next-clause-slacks c = IfOk-from_err c.from_residual.result _ c.from_residual.ensures.0
+returns-in_err-next-clause-slacks c = IfOk-from_err c.from_residual-in_err-next.result _ c.from_residual-in_err-next.ensures.0
 
 pub returns-clause-list : goal.returns-clause-list
 unfolding slack_list
