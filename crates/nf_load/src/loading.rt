@@ -55,7 +55,8 @@ fn short_curves(
     whole_outflow: &Outflow,
 ) -> Result<Loaded, Halt<Q>>
     requires curves { AreCurves moments.now.waits.items all.now }
-    requires paces { (capacity : Option ℚ) × ArePaces capacity moments.now.waits.items moments.now.paces.items }
+    requires paces { (capacity : Option ℚ)
+        × ArePaces capacity moments.now.waits.items moments.now.paces.items }
     requires leaving { AreLeaving all.now leaving.now }
     requires outflow { AreSlopes whole_outflow.now.curve.points whole_outflow.now.slopes.items }
     ensures { Gives loaded_of (λ q. q) result
@@ -85,7 +86,8 @@ fn curves_until(
     requires capacity { IsPositive capacity.now }
     requires curves { AreCurves moments.now.waits.items all.now }
     requires paces { ArePaces capacity.now moments.now.waits.items moments.now.paces.items }
-    requires exits { each (exit_of passes_Q capacity.now transit) moments.now.waits.items ≡ Ok all.now }
+    requires exits { each (exit_of passes_Q capacity.now transit) moments.now.waits.items
+        ≡ Ok all.now }
     requires until { 0ℚ ≤ℚ until }
     ensures { Gives loaded_of (λ q. q) result
         (at_part Load (until_transit passes_Q transit moments.now.waits.items all.now until)) }
