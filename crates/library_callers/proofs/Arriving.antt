@@ -12,7 +12,7 @@ use Rattle.nf_net_def.specs.declared.Cause.{Cause}
 use Rattle.nf_net_def.specs.Report.{Report}
 use Rattle.nf_frac_def.specs.Passing.{passes_Q}
 use Rattle.nf_thin_def.specs.PhaseRun.{Bounds, IsRunReport}
-use Rattle.nf_phase.specs.Solution.{IsSolution}
+use Rattle.nf_phase.specs.Solution.{IsRunSolution}
 use Rattle.nf_routes_def.specs.Routes.{Route}
 use Rattle.nf_routes_def.specs.RoutesList.{Routed}
 use Rattle.nf_routes_def.specs.Meanings.{IsRouted, RoutesArrive, travel_at, exits_along}
@@ -20,7 +20,7 @@ use Rattle.library_callers.specs.Arrivals.{ArrivesAt, StopsBefore}
 use Rattle.library_callers.specs.RouteArrivals.{AllArrivedBy}
 
 -- a run that isn't stopped has reached its horizon
-pub arrives : (net : Network) (bounds : Bounds) (phases : ℕ) (report : Report) (time : ℚ) → IsSolution net bounds phases report → report.stop ≡ None
+pub arrives : (net : Network) (bounds : Bounds) (phases : ℕ) (report : Report) (time : ℚ) → IsRunSolution net bounds phases report → report.stop ≡ None
     → time ≡ label report.flow net.sink report.horizon → ArrivesAt net report.horizon time
 arrives net bounds phases report time is none there =
     record { flow = report.flow; equilibrium = is.equilibrium; reached = is.well_formed.stop.0 none; arrival = there }
@@ -31,7 +31,7 @@ stopped_by : (net : Network) (bounds : Bounds) (report : Report) (stop : Option 
 stopped_by net bounds report (Some cause) is same e = record { report = report; run = is; cause = cause; stops = same }
 stopped_by net bounds report None is same e = absurd (cc)
 
-pub stops : (net : Network) (bounds : Bounds) (phases : ℕ) (report : Report) → IsSolution net bounds phases report → is_some report.stop ≡ true → StopsBefore net bounds
+pub stops : (net : Network) (bounds : Bounds) (phases : ℕ) (report : Report) → IsRunSolution net bounds phases report → is_some report.stop ≡ true → StopsBefore net bounds
 stops net bounds phases report is some = stopped_by net bounds report report.stop is.run refl some
 
 -- the last departure along a route is the last one to arrive

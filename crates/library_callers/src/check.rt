@@ -19,7 +19,7 @@ fn is_yes(answer: Answer) -> bool
 }
 
 /// Returns whether a flow is an equilibrium (a Nash flow over time) up to the departure that it reached. Refuses if an operation exceeds
-/// its bound, or if memory can't be allocated.
+/// its bound, or if an allocation fails.
 pub fn is_equilibrium(alloc: Global, net: &Network, flow: &Flow) -> Result<bool, Halt<Q>>
     requires { IsGivenFlow net.now.net flow.now }
     ensures { IfOk result (λ yes. MatchBool yes (Equilibrium net.now.net (flow_of flow.now))

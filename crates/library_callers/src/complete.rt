@@ -14,7 +14,7 @@ use nf_net::Network;
 use std::alloc::Global;
 
 /// Returns the settled thin flow of these flows and slopes, or None exactly if they are no thin flow. The settled one has the same slopes
-/// and a listed pattern. Refuses if an operation exceeds its bound, or if memory can't be allocated.
+/// and a listed pattern. Refuses if an operation exceeds its bound, or if an allocation fails.
 pub fn settle_if_thin(
     alloc: Global,
     net: &Network,

@@ -20,9 +20,9 @@ fn is_level(net: &Network, tail: &Tail) -> bool
     slope.is_at_most(Q::one())
 }
 
-/// Returns whether each static cut has at least the capacity of the last supply rate. Travel times in an equilibrium then stay constant
-/// in the end, and otherwise grow without end. Returns None if the budgets end the run, or an operation exceeds its bound. Refuses only if
-/// memory can't be allocated.
+/// Returns whether each static cut has at least the capacity of the last supply rate. Travel times in an equilibrium then stay constant in
+/// the end, and otherwise grow without end. Returns None if the budgets end the run, or an operation exceeds its bound. Fails if an
+/// allocation fails.
 pub fn carries_supply(
     alloc: Global,
     net: &Network,

@@ -5,7 +5,7 @@ ghost use Rattle.nf_gen.specs.Ladder.{most_rungs};
 use nf_gen::{generated, ladder_is_named};
 use std::alloc::{AllocError, Global};
 
-/// Returns the numbers of nodes and links of a generated network with 1 to 30 rungs. Fails only if an allocation fails.
+/// Returns the numbers of nodes and links of a generated network with 1 to 30 rungs. Fails if an allocation fails.
 pub fn ladder_size(alloc: Global, number: u64, rungs: u32) -> Result<(u32, u32), AllocError>
     requires some { 1 ≤ rungs }
     requires few { rungs ≤ most_rungs }

@@ -22,7 +22,7 @@ fn copy_next(alloc: Global, patterns: &mut Patterns) -> Result<Option<Pattern>, 
 }
 
 /// Returns a listed pattern, or None exactly if no pattern is listed. The sets and `unbounded` must have one flag for each link, and there
-/// must be fewer than 2^32 links. Fails only if an allocation fails.
+/// must be fewer than 2^32 links. Fails if an allocation fails.
 pub fn first_listed(
     alloc: Global,
     nodes: u32,

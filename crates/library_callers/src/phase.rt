@@ -25,7 +25,7 @@ fn sink_label(net: &Network, flow: &Flow, departure: Q) -> Result<Q, PassedAt<Q>
 }
 
 /// Returns when a driver who leaves the source at `departure`, a time of at least 0, arrives at the sink in an equilibrium. Returns None
-/// exactly if the run stops before this departure. Refuses if an operation exceeds its bound, or if memory can't be allocated.
+/// exactly if the run stops before this departure. Refuses if an operation exceeds its bound, or if an allocation fails.
 pub fn arrival_after(
     alloc: Global,
     net: &Network,

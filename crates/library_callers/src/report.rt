@@ -4,7 +4,7 @@ ghost use Rattle.nf_edge.specs.Taken.{with_more, TookFront};
 ghost use Rattle.nf_text_def.specs.Faults.{longest_text};
 ghost use Rattle.nf_net_def.specs.Report.{IsWellFormed, report_text};
 ghost use Rattle.nf_report_def.specs.ReportFile.{report_in};
-ghost use Rattle.nf_report_read.specs.Files.{report_of, IfBroken};
+ghost use Rattle.nf_report_read.specs.Files.{seen_report, IfBroken};
 
 use nf_edge::Sink;
 use nf_net::Network;
@@ -13,10 +13,10 @@ use std::alloc::Global;
 
 // Writes a report. Returns whether the sink took its whole text.
 fn write_whole<O: Sink>(net: &Network, report: &Report, out: &mut O) -> bool
-    requires { IsWellFormed net.now.net (report_of report.now) }
+    requires { IsWellFormed net.now.net (seen_report report.now) }
     ensures { MatchBool result
-        (O.took out.new ≡ with_more (O.took out.old) (report_text net.now (report_of report.now)))
-        (TookFront (O.took out.old) (O.took out.new) (report_text net.now (report_of report.now))) }
+        (O.took out.new ≡ with_more (O.took out.old) (report_text net.now (seen_report report.now)))
+        (TookFront (O.took out.old) (O.took out.new) (report_text net.now (seen_report report.now))) }
 {
     let stopped = report.stopped.as_ref();
     write_report(
@@ -31,7 +31,7 @@ fn write_whole<O: Sink>(net: &Network, report: &Report, out: &mut O) -> bool
 }
 
 /// Writes a text to a sink, byte for byte, if the text is a report of the network. Returns whether the sink took all of it. Refuses with
-/// the first rule that the text breaks, or if memory can't be allocated. The sink is then untouched. The text has at most 67,108,864 bytes.
+/// the first rule that the text breaks, or if an allocation fails. The sink is then untouched. The text has at most 67,108,864 bytes.
 pub fn pass_on<O: Sink>(
     alloc: Global,
     net: &Network,

@@ -5,7 +5,7 @@ ghost use Rattle.nf_rational.specs.Operations.{0ℚ};
 ghost use Rattle.nf_model.specs.Curve.{Within};
 ghost use Rattle.nf_model.specs.Equilibrium.{Equilibrium, label};
 ghost use Rattle.nf_net_def.specs.Report.{IsWellFormed};
-ghost use Rattle.nf_report_read.specs.Files.{report_of};
+ghost use Rattle.nf_report_read.specs.Files.{seen_report};
 ghost use Rattle.nf_phase.specs.Solution.{report_in};
 
 use nf_frac::Q;
@@ -17,7 +17,7 @@ use std::alloc::Global;
 
 // Returns the report of a solution.
 fn report_to(horizon: Q, solution: Solution) -> Report
-    ensures { report_of result ≡ report_in horizon solution }
+    ensures { seen_report result ≡ report_in horizon solution }
 {
     let Solution {
         flow,
@@ -42,12 +42,12 @@ pub fn continued(
     horizon: Q,
     budgets: Budgets,
 ) -> Result<Report, ResumeFault>
-    requires { IsWellFormed net.now.net (report_of report.now) }
-    ensures formed { IfOk result (λ r. IsWellFormed net.now.net (report_of r)) }
-    ensures equilibrium { IfOk result (λ r. Equilibrium net.now.net (report_of r).flow) }
+    requires { IsWellFormed net.now.net (seen_report report.now) }
+    ensures formed { IfOk result (λ r. IsWellFormed net.now.net (seen_report r)) }
+    ensures equilibrium { IfOk result (λ r. Equilibrium net.now.net (seen_report r).flow) }
     ensures arrivals { IfOk result (λ r. (v : ℕ) (departure : ℚ) → v < net.now.net.nodes
-        → Within 0ℚ (report_of report.now).flow.reached departure
-        → label (report_of r).flow v departure ≡ label (report_of report.now).flow v departure) }
+        → Within 0ℚ (seen_report report.now).flow.reached departure
+        → label (seen_report r).flow v departure ≡ label (seen_report report.now).flow v departure) }
 {
     match resume(alloc, net, report, horizon, budgets) {
         Ok(solution) => Ok(report_to(horizon, solution)),

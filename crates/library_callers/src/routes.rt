@@ -26,7 +26,7 @@ fn travel(routed: &Routed, route: u32, departure: Q) -> Result<Q, PassedAt<Q>>
 }
 
 /// Returns a time by which all that departs along a route up to the horizon, a time of at least 0, has arrived. Refuses if an operation
-/// exceeds its bound, or if memory can't be allocated.
+/// exceeds its bound, or if an allocation fails.
 pub fn all_arrived_by(
     alloc: Global,
     net: &Network,

@@ -2,7 +2,7 @@
 ghost use Rattle.std.specs.Prelude.{◌≡◌, ◌≤◌, ◌==◌, None, not, length, count_by, IfOk, IfErr, OnOk};
 ghost use Rattle.nf_text_def.specs.Words.{content_lines, read_lines};
 ghost use Rattle.nf_text_def.specs.Faults.{first_fault, longest_text};
-ghost use Rattle.nf_text.specs.Reading.{Tells};
+ghost use Rattle.nf_text.specs.Reading.{MatchesFault};
 
 use nf_text::{Line, TextFault, lines};
 use std::alloc::Global;
@@ -20,7 +20,7 @@ pub fn content_count(alloc: Global, text: &[u8]) -> Result<usize, TextFault>
     requires { length text.now ≤ longest_text }
     ensures count { IfOk result (λ count. count ≡ length (content_lines (read_lines text.now))) }
     ensures fine { OnOk result (first_fault text.now ≡ None) }
-    ensures fault { IfErr result (λ fault. Tells fault (first_fault text.now)) }
+    ensures fault { IfErr result (λ fault. MatchesFault fault (first_fault text.now)) }
 {
     let read = lines(alloc, text)?;
     Ok(with_words(&read))

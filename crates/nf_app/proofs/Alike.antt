@@ -17,7 +17,7 @@ use Rattle.nf_unique_laws.proofs.Exits.{SameInAll-equilibrium}
 use Rattle.nf_app_words.specs.Requests.{Request, Solve, SolveForever, Show, Load, Check, Quick, Gen, Settle, Resume, Routes}
 use Rattle.nf_app_answers.specs.declared.arrival.Arrival.{Arrival}
 use Rattle.nf_app_answers.specs.Answers.{ProgramAnswer, Quickest, TooManyWalks, Passes, Unbounded}
-use Rattle.nf_app.specs.Arrivals.{arrival_of, ArrivesIn, IsArrival}
+use Rattle.nf_app.specs.Arrivals.{arrival_of, ArrivesIn, IsArrivalOf}
 use Rattle.nf_app.specs.Results.{IsResultOf}
 use Rattle.nf_app.specs.Runs.{Run}
 use Rattle.nf_app.specs.Uniqueness.{SameArrival, IsSameArrival, AnswerIsSameInAll}
@@ -38,7 +38,7 @@ module _ (net : Network) (good : IsNetwork net) (amount departs : ℚ) (least : 
       described : Within 0ℚ arrives.report.flow.reached departs
       described = (least.0, subst (λ (t : ℚ). departs ≤ℚ t) (sym reached) (≤ℚ_refl departs))
 
-same_arrival : (net : Network) (amount : ℚ) (departs : Option ℚ) (arrival : Arrival) → IsNetwork net → IsDeparture net amount departs → IsArrival net departs arrival → SameArrival net amount arrival
+same_arrival : (net : Network) (amount : ℚ) (departs : Option ℚ) (arrival : Arrival) → IsNetwork net → IsDeparture net amount departs → IsArrivalOf net departs arrival → SameArrival net amount arrival
 same_arrival net amount None arrival good least never = subst (SameArrival net amount) (sym never) tt
 same_arrival net amount (Some departs) arrival good least arrives = same_at net good amount departs least arrival arrives arrives.report.stop refl
 

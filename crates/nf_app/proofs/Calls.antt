@@ -13,7 +13,7 @@ use Rattle.nf_app_answers.specs.declared.refusal.Refusal.{Refusal}
 use Rattle.nf_app_answers.specs.declared.status.Status.{Status}
 use Rattle.nf_app_answers.specs.Answers.{ProgramAnswer, NoMemory, status_of, out_text, err_text}
 use Rattle.nf_app_answers.specs.Refusals.{answer_of}
-use Rattle.nf_app_files.specs.Files.{Wanted, Visit, Fits, FetchedNone, FetchedAll, FetchedTo}
+use Rattle.nf_app_files.specs.Files.{Wanted, Visit, FitsLimit, FetchedNone, FetchedAll, FetchedTo}
 use Rattle.nf_app_files.specs.Fetching.{IsLastText, NetworkReads, AreRead}
 use Rattle.nf_app_files.specs.Sinks.{Took, TookAll, TookText}
 use Rattle.nf_app_files.specs.Shown.{IsShown}
@@ -95,7 +95,7 @@ module _ (words : List (List ℕ)) (shelf : Visit) (request : Request) (asks : r
 module _ (words : List (List ℕ)) (shelf : Visit) (request : Request) (asks : request_of words ≡ Some request) (no_files : files_of request ≡ [])
     (n : Named) (made : generated_by request ≡ Some n) (untouched : FetchedNone shelf) where
   fetched_nothing : FetchedAll shelf []
-  fetched_nothing = record { asked = untouched ∙ sym (append-nil shelf.asked_before); fit = All-nil (Fits shelf); taken = tt }
+  fetched_nothing = record { asked = untouched ∙ sym (append-nil shelf.asked_before); fit = All-nil (FitsLimit shelf); taken = tt }
 
   generated_read : HasNetwork (record { words = words; shelf = shelf }) request (Ok n)
   generated_read = record {

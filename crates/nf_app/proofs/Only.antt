@@ -9,7 +9,7 @@ use Rattle.nf_net_def.specs.Named.{Named}
 use Rattle.nf_net_def.specs.NetLines.{Broken}
 use Rattle.nf_app_answers.specs.declared.status.Status.{Status}
 use Rattle.nf_app_answers.specs.Answers.{ProgramAnswer, Solved, SolvedForever, Shown, Loaded, Checked, Quickest, TooManyWalks, Generated, Settled, Distributed, NoMemory, NoRequest, ShelfFailed, ShelfTooLong, Malformed, MalformedLoads, MalformedFlows, MalformedRoutes, MalformedReport, Passes, Unbounded, NotThin, Earlier}
-use Rattle.nf_app_files.specs.Files.{Wanted, Visit, Fits, FetchedAll, FetchedTo, HasTooMany}
+use Rattle.nf_app_files.specs.Files.{Wanted, Visit, FitsLimit, FetchedAll, FetchedTo, HasTooMany}
 use Rattle.nf_app_files.specs.Sinks.{Took}
 use Rattle.nf_app_files.specs.Shown.{IsShown, IsShownWhole}
 use Rattle.nf_app_words.specs.Requests.{Request, request_of}
@@ -51,7 +51,7 @@ module _ (shelf : Visit) where
   second_of_all P (file ∷ []) h = tt
   second_of_all P (file ∷ other ∷ files) h = All-head P other files (All-tail P file (other ∷ files) h)
 
-  fits_at : (wanted : Option Wanted) → IfSome wanted (Fits shelf) → TextFits wanted (text_at wanted)
+  fits_at : (wanted : Option Wanted) → IfSome wanted (FitsLimit shelf) → TextFits wanted (text_at wanted)
   fits_at None fits = tt
   fits_at (Some file) fits = fits
 
@@ -71,8 +71,8 @@ module _ (call : Call) (request : Request) (asks : request_of call.words ≡ Som
 
   fit : FetchedAll call.shelf (files_of request) → BothFit request texts
   fit fetched = record {
-    network = fits_at call.shelf (first_of request) (first_of_all call.shelf (Fits call.shelf) (files_of request) fetched.fit);
-    second = fits_at call.shelf (other_of request) (second_of_all call.shelf (Fits call.shelf) (files_of request) fetched.fit);
+    network = fits_at call.shelf (first_of request) (first_of_all call.shelf (FitsLimit call.shelf) (files_of request) fetched.fit);
+    second = fits_at call.shelf (other_of request) (second_of_all call.shelf (FitsLimit call.shelf) (files_of request) fetched.fit);
   }
 
   -- a file that is longer than it may be

@@ -22,7 +22,7 @@ use Rattle.nf_thin_def.specs.Ends.{end_of}
 use Rattle.nf_thin_def.specs.ReportCurves.{GrowingCurve}
 use Rattle.nf_thin_def.specs.PhaseRun.{Bounds, Standing, report_of}
 use Rattle.nf_thin_laws.proofs.Ending.{run_ends}
-use Rattle.nf_phase.specs.Solution.{bounds_of, IsSolution}
+use Rattle.nf_phase.specs.Solution.{bounds_of, IsRunSolution}
 use Rattle.nf_app_answers.specs.declared.arrival.Arrival.{Arrival}
 use Rattle.nf_quick_def.specs.Quick.{Quick as QuickFlow}
 use Rattle.nf_quick_def.specs.Answers.{IsQuickFlow}
@@ -39,7 +39,7 @@ use Rattle.nf_app.specs.Requests.{usual_budgets}
 use Rattle.nf_app_answers.specs.Answers.{Quickest, TooManyWalks, Passes, Unbounded}
 use Rattle.nf_app.specs.Results.{IsResultOf}
 use Rattle.nf_app.specs.Lists.{flow_list, departs_list}
-use Rattle.nf_app.specs.Arrivals.{arrival_of, ArrivesIn, IsArrival}
+use Rattle.nf_app.specs.Arrivals.{arrival_of, ArrivesIn, IsArrivalOf}
 
 -- ---- the last point of a curve
 last_end : {A : Type 0} (d : Option A) (front : List A) (p : A) → last_or d (front ++ p ∷ []) ≡ Some p
@@ -84,7 +84,7 @@ at_sink flow v sink p e h = subst (λ (u : ℕ). slice_get (points_at (shown_flo
 
 -- ---- the arrival in a run
 -- the sink's label curve ends at the departure reached
-module _ (net : Network) (good : IsNetwork net) (bounds : Bounds) (report : Report) (phases : ℕ) (solution : IsSolution net bounds phases report) (sink : net.sink < net.nodes) where
+module _ (net : Network) (good : IsNetwork net) (bounds : Bounds) (report : Report) (phases : ℕ) (solution : IsRunSolution net bounds phases report) (sink : net.sink < net.nodes) where
   abbrev last : Standing
   last = solution.run.last
 
@@ -108,7 +108,7 @@ module _ (net : Network) (good : IsNetwork net) (bounds : Bounds) (report : Repo
   pub last_is_label : (p : Point) → slice_get (points_at report.flow.labels net.sink) (length (points_at report.flow.labels net.sink) - 1) ≡ Some p → label report.flow net.sink report.flow.reached ≡ p.1
   last_is_label p is = value_at_end (points_at report.flow.labels net.sink) p report.flow.reached (solution.well_formed.shape.labels.each net.sink sink) is ends
 
-module _ (net : Network) (good : IsNetwork net) (departs : ℚ) (report : Report) (phases : ℕ) (solution : IsSolution net (bounds_of departs usual_budgets) phases report) where
+module _ (net : Network) (good : IsNetwork net) (departs : ℚ) (report : Report) (phases : ℕ) (solution : IsRunSolution net (bounds_of departs usual_budgets) phases report) where
   -- the run is stopped
   pub stopped_arrives : (cause : Cause ℚ) → report.stop ≡ Some cause → ArrivesIn net departs (Arrival.Stopped cause)
   stopped_arrives cause e = record {
@@ -142,7 +142,7 @@ module _ (net : Network) (good : IsNetwork net) (departs : ℚ) (report : Report
         }
 
 -- so the arrival is no earlier than the time of the quickest flow
-no_earlier-is : (net : Network) (amount : ℚ) (quick : QuickFlow) (departs : Option ℚ) (arrival : Arrival) → IsQuickFlow net amount quick → IsDeparture net amount departs → IsArrival net departs arrival
+no_earlier-is : (net : Network) (amount : ℚ) (quick : QuickFlow) (departs : Option ℚ) (arrival : Arrival) → IsQuickFlow net amount quick → IsDeparture net amount departs → IsArrivalOf net departs arrival
     → (time : ℚ) → arrival ≡ Arrival.At time → quick.time ≤ℚ time
 no_earlier-is net amount quick None arrival flow least never time same = absurd (cc)
 no_earlier-is net amount quick (Some departs) arrival flow least arrives time same = arrives.no_quicker time amount quick.time same least.1 flow.quickest
@@ -164,7 +164,7 @@ module _ (n : Named) (file text : List ℕ) (amount : ℚ) (augments : ℕ) wher
     departure_passes at e = inr (inr (inl (at, refl, record { no_way = h.0; passes = inr (quick, h.1, sym e) })))
 
     pub quickest_given : IsQuickFlow n.net amount quick → ComesOfPushes n.net amount augments quick → (departs : Option ℚ) → Ok departs ≡ departs_list n.net amount → IsDeparture n.net amount departs
-        → (arrival : Arrival) → IsArrival n.net departs arrival → IsResultOf n text (Quick file amount augments) (Quickest n quick arrival)
+        → (arrival : Arrival) → IsArrivalOf n.net departs arrival → IsResultOf n text (Quick file amount augments) (Quickest n quick arrival)
     quickest_given flow pushes departs e least arrival arrives = inl (record {
       quick = quick;
       arrival = arrival;

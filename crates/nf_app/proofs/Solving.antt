@@ -15,7 +15,7 @@ use Rattle.nf_app.specs.Requests.{bounds_to}
 use Rattle.nf_app.specs.FullAnswers.{SolveAnswer}
 use Rattle.nf_app.specs.Runs.{Call, Run, Ran}
 use Rattle.nf_app.specs.Completeness.{ToldRequest}
-use Rattle.nf_app.specs.Solves.{AsksToSolve, HasAnswered, IsSolved, SolvesTold}
+use Rattle.nf_app.specs.Solves.{AsksToSolve, HasAnswered, IsSolvedRun, SolvesTold}
 use Rattle.nf_app.proofs.ToldRequests.{Answers, told_answers}
 
 -- a run has status 0 only without a stop
@@ -51,7 +51,7 @@ module _ (run : Run) (n : Named) (bounds : Bounds) (answer : ProgramAnswer) (sho
   ok_if : g.report.flow.reached ≡ bounds.horizon → run.status ≡ Status.Ok
   ok_if e = status_is ∙ ap status_of_stop (g.well_formed.stop.1 (e ∙ sym horizon_is))
 
-  solved : IsSolved run n bounds
+  solved : IsSolvedRun run n bounds
   solved = record {
     report = g.report;
     took = subst (λ (text : List ℕ). TookAll run.out text) (ap out_text g.is) shown.took.all;
@@ -66,13 +66,13 @@ module _ (run : Run) (n : Named) (bounds : Bounds) (answer : ProgramAnswer) (sho
 
 module _ (run : Run) (asked : AsksToSolve run.call) (has : HasAnswered run.status) where
   by_answer : (answer : ProgramAnswer) → IsShownWhole answer run.out run.err run.status → Answers run.call (told_solve run.call asked) answer
-      → IsSolved run asked.net (bounds_to asked.horizon asked.phases asked.patterns)
+      → IsSolvedRun run asked.net (bounds_to asked.horizon asked.phases asked.patterns)
   unfolding told_solve
   by_answer answer shown (inl none) = absurd (has.not_memory (shown.status_is ∙ ap status_of none))
   by_answer answer shown (inr (inl h)) = absurd (has.not_shelf (shown.status_is ∙ h.0))
   by_answer answer shown (inr (inr h)) = solved run asked.net (bounds_to asked.horizon asked.phases asked.patterns) answer shown h.1
 
-  by_shown : (ran : Ran run) → IsShown ran.answer run.out run.err run.status → IsSolved run asked.net (bounds_to asked.horizon asked.phases asked.patterns)
+  by_shown : (ran : Ran run) → IsShown ran.answer run.out run.err run.status → IsSolvedRun run asked.net (bounds_to asked.horizon asked.phases asked.patterns)
   by_shown ran (inl h) = by_answer ran.answer h (told_answers run.call (told_solve run.call asked) ran.answer ran.comes)
   by_shown ran (inr h) = absurd (has.not_output h.status_is)
 

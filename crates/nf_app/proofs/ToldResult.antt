@@ -19,11 +19,11 @@ use Rattle.nf_app_answers.specs.declared.arrival.Arrival.{Arrival}
 use Rattle.nf_app_answers.specs.Answers.{ProgramAnswer, Loaded, Checked, Generated, Distributed}
 use Rattle.nf_app.specs.Requests.{bounds_to}
 use Rattle.nf_app.specs.Lists.{flow_list, departs_list}
-use Rattle.nf_app.specs.Arrivals.{IsArrival}
+use Rattle.nf_app.specs.Arrivals.{IsArrivalOf}
 use Rattle.nf_app.specs.Results.{IsResultOf}
 use Rattle.nf_app.proofs.Gives.{Arrives, DepartsGive, FlowGives, SettleGives, RestGives, ResumeGives, or_passes, load_answer, check_answer, routes_answer, Gives}
 
-arrives_so : (net : Network) (departs : Option ℚ) (arrival : Arrival) → IsArrival net departs arrival → Arrives net departs arrival
+arrives_so : (net : Network) (departs : Option ℚ) (arrival : Arrival) → IsArrivalOf net departs arrival → Arrives net departs arrival
 arrives_so net None arrival is = is
 arrives_so net (Some departs) arrival is = (is.report, is.solution.run, is.arrival_is)
 

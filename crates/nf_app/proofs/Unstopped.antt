@@ -18,7 +18,7 @@ use Rattle.nf_app_answers.specs.Answers.{ProgramAnswer, Solved, SolvedForever, S
 use Rattle.nf_app_files.specs.Shown.{IsShown}
 use Rattle.nf_app_words.specs.Requests.{Request, Solve, SolveForever, Show, Load, Check, Quick, Gen, Settle, Resume, Routes}
 use Rattle.nf_app.specs.Requests.{usual_budgets, bounds_to}
-use Rattle.nf_app.specs.Arrivals.{arrival_of, IsArrival}
+use Rattle.nf_app.specs.Arrivals.{arrival_of, IsArrivalOf}
 use Rattle.nf_app.specs.Results.{IsResultOf}
 use Rattle.nf_app.specs.Runs.{Call, Run, IsRefusedCall, MayAnswer, Ran}
 use Rattle.nf_app.specs.Stops.{stop_of_arrival, stop_in, AlwaysHasPattern}
@@ -45,7 +45,7 @@ arrival_stop : (stop : Option (Cause ℚ)) (time : ℚ) → stop_of_arrival (arr
 arrival_stop None time = refl
 arrival_stop (Some cause) time = refl
 
-arrival_never : (net : Network) (departs : Option ℚ) (arrival : Arrival) → IsNetwork net → IsArrival net departs arrival → NeverNoPattern (stop_of_arrival arrival)
+arrival_never : (net : Network) (departs : Option ℚ) (arrival : Arrival) → IsNetwork net → IsArrivalOf net departs arrival → NeverNoPattern (stop_of_arrival arrival)
 arrival_never net None arrival good is = none_never (stop_of_arrival arrival) (ap stop_of_arrival is)
 arrival_never net (Some departs) arrival good is = subst NeverNoPattern (sym (ap stop_of_arrival is.arrival_is ∙ arrival_stop is.report.stop _))
     (never_report passes_Q net (bounds_of departs usual_budgets) is.report good is.solution.run)

@@ -8,7 +8,7 @@ use Rattle.nf_model.specs.Equilibrium.{inflow, label}
 use Rattle.nf_model.specs.Quickest as times
 use Rattle.nf_net_def.specs.declared.Cause.{Cause}
 use Rattle.nf_net_def.specs.Report.{Report}
-use Rattle.nf_phase.specs.Solution.{bounds_of, IsSolution}
+use Rattle.nf_phase.specs.Solution.{bounds_of, IsRunSolution}
 use Rattle.nf_app_answers.specs.declared.arrival.Arrival.{Arrival}
 use Rattle.nf_app.specs.Requests.{usual_budgets}
 
@@ -23,13 +23,13 @@ arrival_of (Some cause) time = Arrival.Stopped cause
 pub record ArrivesIn (net : Network) (departs : ℚ) (arrival : Arrival) : Type 0 where
   pub report : Report
   pub phases : ℕ
-  pub solution : IsSolution net (bounds_of departs usual_budgets) phases report
+  pub solution : IsRunSolution net (bounds_of departs usual_budgets) phases report
   pub arrival_is : arrival ≡ arrival_of report.stop (label report.flow net.sink departs)
   pub earliest : (time : ℚ) → arrival ≡ Arrival.At time → IsEarliest net (inflow report.flow) net.sink departs time
   pub no_quicker : (time amount least : ℚ) → arrival ≡ Arrival.At time → amount ≤ℚ supply net departs → times.IsQuickest net amount least
       → least ≤ℚ time
 
 -- the arrival of the given departure; `Never` if there is none
-abbrev pub IsArrival : Network → Option ℚ → Arrival → Type 0
-IsArrival net None arrival = arrival ≡ Arrival.Never
-IsArrival net (Some departs) arrival = ArrivesIn net departs arrival
+abbrev pub IsArrivalOf : Network → Option ℚ → Arrival → Type 0
+IsArrivalOf net None arrival = arrival ≡ Arrival.Never
+IsArrivalOf net (Some departs) arrival = ArrivesIn net departs arrival

@@ -31,7 +31,7 @@ pub record WroteReport (shelf : Visit) (file text : List ℕ) : Type 0 where
   pub took : TookAll run.out text
 
 -- a file whose bytes are known, and are these, within its limit
-pub record Tells (shelf : Visit) (name : List ℕ) (limit : ℕ) : Type 0 where
+pub record HasKnownBytes (shelf : Visit) (name : List ℕ) (limit : ℕ) : Type 0 where
   pub text : List ℕ
   pub told : shelf.told name ≡ Some text
   pub within : length text ≤ limit
@@ -41,8 +41,8 @@ pub record ChecksSolved (call : Call) : Type 0 where
   pub file : List ℕ
   pub report_name : List ℕ
   pub asks : Asks call (Check file report_name)
-  pub network : Tells call.shelf file input_limit
-  pub report : Tells call.shelf report_name report_limit
+  pub network : HasKnownBytes call.shelf file input_limit
+  pub report : HasKnownBytes call.shelf report_name report_limit
   pub solved : WroteReport call.shelf file report.text
 
 -- the answer is `yes`, unless an operation exceeds the bound or an allocation fails
@@ -61,8 +61,8 @@ pub record ResumesSolved (call : Call) : Type 0 where
   pub phases : ℕ
   pub patterns : ℕ
   pub asks : Asks call (Resume file report_name horizon phases patterns)
-  pub network : Tells call.shelf file input_limit
-  pub report : Tells call.shelf report_name report_limit
+  pub network : HasKnownBytes call.shelf file input_limit
+  pub report : HasKnownBytes call.shelf report_name report_limit
   pub net : Named
   pub reads : Reads network.text (Ok net)
   pub first : WroteReport call.shelf file report.text

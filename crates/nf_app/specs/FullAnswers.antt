@@ -28,7 +28,7 @@ use Rattle.nf_quick_def.specs.InOrder.{ComesOfPushes}
 use Rattle.nf_quick_def.specs.Departures.{IsDeparture}
 use Rattle.nf_quick.specs.Answered.{HasNoWay}
 use Rattle.nf_phase_def.specs.Restoring.{EndsAtItsLabels}
-use Rattle.nf_phase.specs.Solution.{EndsAll, IsSolution}
+use Rattle.nf_phase.specs.Solution.{EndsAll, IsRunSolution}
 use Rattle.nf_complete_def.specs.FlowsFile.{GivenFlows, flows_in}
 use Rattle.nf_forever_def.specs.ForeverRun.{Forever, IsForever}
 use Rattle.nf_forever_def.specs.Extended.{flow_until}
@@ -41,7 +41,7 @@ use Rattle.nf_app_answers.specs.declared.arrival.Arrival.{Arrival}
 use Rattle.nf_app_answers.specs.Answers.{ProgramAnswer, Solved, SolvedForever, Shown, Loaded, Checked, Quickest, Generated, Settled, Distributed}
 use Rattle.nf_app.specs.Lists.{loading_list, flow_list, departs_list, by_route_list}
 use Rattle.nf_app.specs.Reports.{IsReportText}
-use Rattle.nf_app.specs.Arrivals.{IsArrival}
+use Rattle.nf_app.specs.Arrivals.{IsArrivalOf}
 use Rattle.nf_app.specs.Settling.{AreSettled}
 
 -- `solve`: the report of the phase run. Its flow is an equilibrium up to the departure reached. The curves are in short form, and end at
@@ -128,7 +128,7 @@ pub record QuickAnswer (n : Named) (amount : ℚ) (augments : ℕ) (answer : Pro
   pub pushes : ComesOfPushes n.net amount augments quick
   pub departs : Option ℚ
   pub least : IsDeparture n.net amount departs
-  pub arrives : IsArrival n.net departs arrival
+  pub arrives : IsArrivalOf n.net departs arrival
   pub no_earlier : (time : ℚ) → arrival ≡ Arrival.At time → quick.time ≤ℚ time
   pub computed : flow_list n.net amount augments ≡ Ok (FoundQuick quick)
   pub departs_computed : departs_list n.net amount ≡ Ok departs
@@ -138,7 +138,7 @@ pub record GenAnswer (number rungs : ℕ) (n : Named) (bounds : Bounds) (answer 
   pub report : Report
   pub made : ℕ
   pub is : answer ≡ Generated number rungs n made report
-  pub solution : IsSolution n.net bounds made report
+  pub solution : IsRunSolution n.net bounds made report
 
 -- `show`: the network's canonical text, which reads as the same network.
 pub record ShowAnswer (n : Named) (answer : ProgramAnswer) : Type 0 where

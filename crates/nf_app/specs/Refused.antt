@@ -26,8 +26,8 @@ use Rattle.nf_app.specs.Reports.{IsReportText, IsNoReportText}
 use Rattle.nf_app.specs.Settling.{AreNotThin, PassesFirst}
 
 -- the answer has this form, with a value of which this holds
-abbrev pub Says : {A : Type 0} → (A → ProgramAnswer) → (A → Type 0) → ProgramAnswer → Type 0
-Says {A} form Holds answer = (a : A) × (answer ≡ form a) × Holds a
+abbrev pub AnswersAs : {A : Type 0} → (A → ProgramAnswer) → (A → Type 0) → ProgramAnswer → Type 0
+AnswersAs {A} form Holds answer = (a : A) × (answer ≡ form a) × Holds a
 
 -- ---- an operation exceeds the bound
 pub record LoadPasses (n : Named) (text : List ℕ) (horizon : ℚ) (at : PassedAt ℚ) : Type 0 where
@@ -92,36 +92,36 @@ pub record IsNoStart (n : Named) (text : List ℕ) (horizon : ℚ) (verdict : Ve
   pub refused : IsRefusedReport passes_Q n.net old verdict
 
 -- the horizon is before the departure that the report's flow has reached
-pub record IsBefore (n : Named) (text : List ℕ) (horizon : ℚ) : Type 0 where
+pub record IsTooEarly (n : Named) (text : List ℕ) (horizon : ℚ) : Type 0 where
   pub old : Report
   pub read : IsReportText n text old
   pub earlier : horizon <ℚ old.flow.reached
 
 -- ---- the commands
 abbrev pub LoadRefused : Named → List ℕ → ℚ → ProgramAnswer → Type 0
-LoadRefused n text horizon answer = Says MalformedLoads (λ broken. loads_in n text ≡ Err broken) answer
-    ⊎ Says Passes (LoadPasses n text horizon) answer
+LoadRefused n text horizon answer = AnswersAs MalformedLoads (λ broken. loads_in n text ≡ Err broken) answer
+    ⊎ AnswersAs Passes (LoadPasses n text horizon) answer
 
 abbrev pub CheckRefused : Named → List ℕ → ProgramAnswer → Type 0
-CheckRefused n text answer = Says MalformedReport (IsNoReportText n text) answer ⊎ Says Passes (CheckPasses n text) answer
+CheckRefused n text answer = AnswersAs MalformedReport (IsNoReportText n text) answer ⊎ AnswersAs Passes (CheckPasses n text) answer
 
 -- the last rule of routes files is broken exactly where the routes hold a circle
 abbrev pub RoutesRefused : Named → List ℕ → ℚ → ProgramAnswer → Type 0
-RoutesRefused n text horizon answer = Says MalformedRoutes (λ broken. ReadsRoutes n text (Err broken)) answer
-    ⊎ Says Passes (RoutesPasses n text horizon) answer
+RoutesRefused n text horizon answer = AnswersAs MalformedRoutes (λ broken. ReadsRoutes n text (Err broken)) answer
+    ⊎ AnswersAs Passes (RoutesPasses n text horizon) answer
 
 abbrev pub QuickRefused : Named → ℚ → ℕ → ProgramAnswer → Type 0
-QuickRefused n amount augments answer = Says (TooManyWalks n augments) (IsOverBudget n.net amount augments) answer
-    ⊎ Says Passes (PassesQuick n.net amount augments) answer
+QuickRefused n amount augments answer = AnswersAs (TooManyWalks n augments) (IsOverBudget n.net amount augments) answer
+    ⊎ AnswersAs Passes (PassesQuick n.net amount augments) answer
     ⊎ ((answer ≡ Unbounded) × IsUnbounded n.net amount)
 
 abbrev pub SettleRefused : Named → List ℕ → ProgramAnswer → Type 0
-SettleRefused n text answer = Says MalformedFlows (λ broken. flows_in n text ≡ Err broken) answer
-    ⊎ Says Passes (SettlePasses n text) answer
+SettleRefused n text answer = AnswersAs MalformedFlows (λ broken. flows_in n text ≡ Err broken) answer
+    ⊎ AnswersAs Passes (SettlePasses n text) answer
     ⊎ ((answer ≡ NotThin) × IsNotThin n text)
 
 abbrev pub ResumeRefused : Named → List ℕ → ℚ → ProgramAnswer → Type 0
-ResumeRefused n text horizon answer = Says MalformedReport (IsNoReportText n text) answer
-    ⊎ Says Passes (ResumePasses n text horizon) answer
-    ⊎ ((answer ≡ Earlier) × IsBefore n text horizon)
-    ⊎ Says (Checked n) (IsNoStart n text horizon) answer
+ResumeRefused n text horizon answer = AnswersAs MalformedReport (IsNoReportText n text) answer
+    ⊎ AnswersAs Passes (ResumePasses n text horizon) answer
+    ⊎ ((answer ≡ Earlier) × IsTooEarly n text horizon)
+    ⊎ AnswersAs (Checked n) (IsNoStart n text horizon) answer

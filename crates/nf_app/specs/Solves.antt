@@ -37,7 +37,7 @@ pub record HasAnswered (status : Status) : Type 0 where
 
 -- The output took the text of one report, to this horizon. Its flow is an equilibrium up to the departure reached. The status is Ok exactly
 -- if that is the horizon; otherwise it is that of the cause that stopped the phase run.
-pub record IsSolved (run : Run) (n : Named) (bounds : Bounds) : Type 0 where
+pub record IsSolvedRun (run : Run) (n : Named) (bounds : Bounds) : Type 0 where
   pub report : Report
   pub took : TookAll run.out (report_text n report)
   pub one : ReadsBack n report
@@ -50,4 +50,4 @@ pub record IsSolved (run : Run) (n : Named) (bounds : Bounds) : Type 0 where
 
 abbrev pub SolvesTold : Run → Type 0
 SolvesTold run = (asked : AsksToSolve run.call) → HasAnswered run.status
-    → IsSolved run asked.net (bounds_to asked.horizon asked.phases asked.patterns)
+    → IsSolvedRun run asked.net (bounds_to asked.horizon asked.phases asked.patterns)

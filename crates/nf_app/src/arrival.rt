@@ -5,7 +5,7 @@ ghost use Rattle.nf_rational.specs.Order.{◌≤ℚ◌};
 ghost use Rattle.nf_model.specs.Equilibrium.{points_at};
 ghost use Rattle.nf_curve.specs.Flows.{flow_of};
 ghost use Rattle.nf_app.specs.Requests.{usual_budgets};
-ghost use Rattle.nf_app.specs.Arrivals.{IsArrival, ArrivesIn};
+ghost use Rattle.nf_app.specs.Arrivals.{IsArrivalOf, ArrivesIn};
 
 use nf_app_answers::Arrival;
 use nf_app_words::{USUAL_PATTERNS, USUAL_PHASES};
@@ -66,7 +66,7 @@ pub(crate) fn find_arrival(
     departs: Option<Q>,
 ) -> Result<Arrival, AllocError>
     requires { IfSome departs (λ time. 0ℚ ≤ℚ time) }
-    ensures { IfOk result (IsArrival net.now.net departs) }
+    ensures { IfOk result (IsArrivalOf net.now.net departs) }
 {
     match departs {
         None => Ok(Arrival::Never),

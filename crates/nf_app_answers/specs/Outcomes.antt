@@ -12,7 +12,7 @@ use Rattle.nf_complete_def.specs.SettleText.{settled_text}
 use Rattle.nf_forever_def.specs.ForeverText.{HasForm, forever_text}
 use Rattle.nf_routes_def.specs.RoutesFile.{routes_of}
 use Rattle.nf_routes_def.specs.RoutesText.{routed_text}
-use Rattle.nf_routes.specs.Carried.{with_entries, carried_of}
+use Rattle.nf_routes.specs.Carried.{with_kept_entries, carried_of}
 use Rattle.nf_forever.specs.Seen.{forever_in}
 use Rattle.nf_app_answers.specs.declared.outcome.Computed.{Computed}
 use Rattle.nf_app_answers.specs.declared.outcome.Outcome.{Outcome}
@@ -61,7 +61,7 @@ text_with net (Computed.Quickest quick arrival text) = quick_text net quick arri
 text_with net (Computed.TooManyWalks augments walks text) = text.items
 text_with net (Computed.Generated ladder horizon s arrival) = gen_text ladder.number ladder.rungs net s.phases (report_in horizon s)
 text_with net (Computed.Settled settled) = settled_text net settled.pattern settled.flows.items
-text_with net (Computed.Distributed routes horizon routed) = routed_text net routes horizon (with_entries [] routed)
+text_with net (Computed.Distributed routes horizon routed) = routed_text net routes horizon (with_kept_entries [] routed)
 
 -- why the run of the result stopped, if it did
 abbrev pub stop_of : Computed → Option (Cause ℚ)

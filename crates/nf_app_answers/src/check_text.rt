@@ -12,7 +12,7 @@ use nf_frac::{Q, TextBuf};
 use nf_net::Network;
 use nf_report::write_line;
 
-fn rule_text(rule: CheckRule) -> &'static [u8]
+fn check_rule_text(rule: CheckRule) -> &'static [u8]
     ensures { result.now ≡ check_rule_word rule }
 {
     match rule {
@@ -78,7 +78,7 @@ fn write_broken_rule<O: Sink>(
     let right = number_text(sides.2);
     write_no(
         out,
-        rule_text(rule),
+        check_rule_text(rule),
         subject_text(net, subject),
         time.text(),
         left.text(),

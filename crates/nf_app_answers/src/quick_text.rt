@@ -9,22 +9,23 @@ ghost use Rattle.nf_report_pages.specs.Written.{after_words};
 ghost use Rattle.nf_app_answers.specs.QuickText.{walk_line, cut_line, flow_text, arrival_text};
 
 use crate::arrival::Arrival;
-use crate::words::{link_word, put_bytes, put_number, put_word};
+use crate::words::{link_word, put_number};
 use nf_edge::{Sink, SinkFault};
 use nf_frac::{Q, TextBuf};
 use nf_net::{LinkId, Network, NodeId};
 use nf_quick::{Quick, Rated};
 use nf_report::{write_line, write_stop};
+use nf_text::{push_bytes, push_word};
 use std::alloc::{AllocError, Global};
 
 // Appends a line: the word, and a number.
-fn put_line(text: &mut Vec<u8>, key: &[u8], number: Q) -> Result<(), AllocError>
+fn put_number_line(text: &mut Vec<u8>, key: &[u8], number: Q) -> Result<(), AllocError>
     ensures { OnOk result
         (text.new.items ≡ text.old.items ++ line_of_words (key.now ∷ printed number ∷ [])) }
 {
-    put_bytes(text, key)?;
+    push_bytes(text, key)?;
     put_number(text, number)?;
-    put_bytes(text, b"\n")?;
+    push_bytes(text, b"\n")?;
     Ok(())
 }
 
@@ -34,7 +35,7 @@ fn put_links(text: &mut Vec<u8>, net: &Network, links: &[LinkId]) -> Result<(), 
         ≡ text.old.items ++ after_words (map (name_at net.now.link_names) links.now)) }
 {
     for link in links {
-        put_word(text, link_word(net, *link))?;
+        push_word(text, link_word(net, *link))?;
     }
     Ok(())
 }
@@ -44,10 +45,10 @@ fn put_walk(text: &mut Vec<u8>, net: &Network, walk: &Rated) -> Result<(), Alloc
     ensures { OnOk result
         (text.new.items ≡ text.old.items ++ walk_line net.now.link_names walk.now) }
 {
-    put_bytes(text, b"walk")?;
+    push_bytes(text, b"walk")?;
     put_number(text, walk.rate)?;
     put_links(text, net, &walk.links)?;
-    put_bytes(text, b"\n")?;
+    push_bytes(text, b"\n")?;
     Ok(())
 }
 
@@ -68,10 +69,10 @@ fn put_time(text: &mut Vec<u8>, net: &Network, node: NodeId, time: Q) -> Result<
     ensures { OnOk result
         (text.new.items ≡ text.old.items ++ cut_line net.now.node_names (node, time)) }
 {
-    put_bytes(text, b"cut")?;
-    put_word(text, net.node_name(node).as_bytes())?;
+    push_bytes(text, b"cut")?;
+    push_word(text, net.node_name(node).as_bytes())?;
     put_number(text, time)?;
-    put_bytes(text, b"\n")?;
+    push_bytes(text, b"\n")?;
     Ok(())
 }
 
@@ -88,16 +89,16 @@ fn put_cut(text: &mut Vec<u8>, net: &Network, cut: &[Q]) -> Result<(), AllocErro
 }
 
 /// Returns the text of a quickest flow: its time, its walks with their rates, its cut and the cut's value. The cut has a time for each
-/// node, and the value is an amount. Refuses only if an allocation fails.
+/// node, and the value is an amount. Fails if an allocation fails.
 pub fn flow_text(alloc: Global, net: &Network, quick: &Quick) -> Result<Vec<u8>, AllocError>
     requires { length quick.now.cut ≡ net.now.net.nodes }
     ensures { IfOk result (λ text. text.items ≡ flow_text net.now quick.now) }
 {
     let mut text = Vec::new(alloc);
-    put_line(&mut text, b"quick", quick.time)?;
+    put_number_line(&mut text, b"quick", quick.time)?;
     put_walks(&mut text, net, &quick.walks)?;
     put_cut(&mut text, net, &quick.cut)?;
-    put_line(&mut text, b"value", quick.value)?;
+    put_number_line(&mut text, b"value", quick.value)?;
     Ok(text)
 }
 

@@ -4,7 +4,7 @@ ghost use Rattle.nf_net_def.specs.Report.{for_each, point_lines};
 ghost use Rattle.nf_edge.specs.Writing.{state_of, Wrote};
 ghost use Rattle.nf_report_pages.specs.Written.{WroteLines};
 ghost use Rattle.nf_routes_def.specs.RoutesText.{route_lines, routed_text};
-ghost use Rattle.nf_routes.specs.Carried.{with_entries};
+ghost use Rattle.nf_routes.specs.Carried.{with_kept_entries};
 
 use crate::load_text::{write_head, write_links};
 use nf_curve::Curve;
@@ -34,7 +34,7 @@ fn write_routes<O: Sink>(out: &mut O, routes: &Routes, routed: &Carried) -> Resu
     requires arrivals { length routed.now.arrivals.items ≡ length routes.now }
     requires travels { length routed.now.travels.items ≡ length routes.now }
     ensures { WroteLines (state_of O.Sink out.old) (state_of O.Sink out.new) (for_each
-        (length routes.now) (route_lines routes.now (with_entries [] routed.now))) result }
+        (length routes.now) (route_lines routes.now (with_kept_entries [] routed.now))) result }
 {
     for route in 0..routes.count() {
         let name = routes.name(route).as_bytes();
@@ -60,7 +60,7 @@ pub fn write_routed<O: Sink>(
     requires arrivals { length routed.now.arrivals.items ≡ length routes.now }
     requires travels { length routed.now.travels.items ≡ length routes.now }
     ensures { Wrote (state_of O.Sink out.old) (state_of O.Sink out.new)
-        (routed_text net.now routes.now horizon (with_entries [] routed.now)) result }
+        (routed_text net.now routes.now horizon (with_kept_entries [] routed.now)) result }
 {
     write_head(out, b"routed", horizon)?;
     write_links(out, net, &routed.links)?;

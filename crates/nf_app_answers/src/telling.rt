@@ -33,7 +33,7 @@ nfot resume NET REPORT --horizon Q [--phases N] [--patterns N]
 nfot routes NET ROUTES --horizon Q
 ";
 
-fn rule_text(rule: NetRule) -> &'static [u8]
+fn network_rule_text(rule: NetRule) -> &'static [u8]
     ensures { result.now ≡ rule_word rule }
 {
     match rule {
@@ -198,7 +198,7 @@ pub fn write_refusal<E: Sink>(err: &mut E, refusal: &Refusal) -> Result<(), Sink
         Refusal::ShelfFailed => write_text(err, b"nfot: shelf failed\n"),
         Refusal::ShelfTooLong => write_text(err, b"nfot: shelf too long\n"),
         Refusal::Malformed { rule, line } => {
-            write_broken(err, b"network", *line, rule_text(*rule))
+            write_broken(err, b"network", *line, network_rule_text(*rule))
         }
         Refusal::MalformedLoads { rule, line } => {
             write_broken(err, b"loads", *line, load_rule_text(*rule))

@@ -3,10 +3,11 @@ ghost use Rattle.std.specs.Prelude.{◌≡◌, [], ◌∷◌, ◌++◌, flat_map
 ghost use Rattle.nf_report_pages.specs.Written.{after_words};
 ghost use Rattle.nf_app_answers.specs.QuickText.{step_word, augment_line, augments_text};
 
-use crate::words::{link_word, put_bytes, put_number};
+use crate::words::{link_word, put_number};
 use nf_net::Network;
 use nf_quick::Augment;
 use nf_residual::{Step, Walk};
+use nf_text::push_bytes;
 use std::alloc::{AllocError, Global};
 
 // Appends a space, and a step: its direction, `+` or `-`, and the name of its link.
@@ -15,11 +16,11 @@ fn put_step(text: &mut Vec<u8>, net: &Network, step: Step) -> Result<(), AllocEr
         (text.new.items ≡ text.old.items ++ after_words (step_word net.now.link_names step ∷ [])) }
 {
     if step.forward {
-        put_bytes(text, b" +")?;
+        push_bytes(text, b" +")?;
     } else {
-        put_bytes(text, b" -")?;
+        push_bytes(text, b" -")?;
     }
-    put_bytes(text, link_word(net, step.link))
+    push_bytes(text, link_word(net, step.link))
 }
 
 // Appends steps, with a space before each.
@@ -46,10 +47,10 @@ fn put_augment(text: &mut Vec<u8>, net: &Network, augment: &Augment) -> Result<(
     ensures { OnOk result
         (text.new.items ≡ text.old.items ++ augment_line net.now.link_names augment.now) }
 {
-    put_bytes(text, b"augment")?;
+    push_bytes(text, b"augment")?;
     put_number(text, augment.amount)?;
     put_walk(text, net, &augment.walk)?;
-    put_bytes(text, b"\n")?;
+    push_bytes(text, b"\n")?;
     Ok(())
 }
 
@@ -64,7 +65,7 @@ fn put_augments(text: &mut Vec<u8>, net: &Network, walks: &[Augment]) -> Result<
     Ok(())
 }
 
-/// Returns the text of the pushed walks with their amounts. Refuses only if an allocation fails.
+/// Returns the text of the pushed walks with their amounts. Fails if an allocation fails.
 pub fn augments_text(alloc: Global, net: &Network, walks: &[Augment]) -> Result<Vec<u8>, AllocError>
     ensures { IfOk result (λ text. text.items ≡ augments_text net.now walks.now) }
 {

@@ -5,24 +5,8 @@ ghost use Rattle.nf_net_def.specs.Names.{name_at};
 
 use nf_frac::{Q, TextBuf};
 use nf_net::{LinkId, Network, NodeId};
+use nf_text::push_word;
 use std::alloc::AllocError;
-
-/// Appends bytes.
-pub(crate) fn put_bytes(text: &mut Vec<u8>, bytes: &[u8]) -> Result<(), AllocError>
-    ensures { OnOk result (text.new.items ≡ text.old.items ++ bytes.now) }
-{
-    text.extend_from_slice(bytes)?;
-    Ok(())
-}
-
-/// Appends a space and a word.
-pub(crate) fn put_word(text: &mut Vec<u8>, word: &[u8]) -> Result<(), AllocError>
-    ensures { OnOk result (text.new.items ≡ text.old.items ++ 32 ∷ word.now) }
-{
-    put_bytes(text, b" ")?;
-    put_bytes(text, word)?;
-    Ok(())
-}
 
 /// Appends a space and a number.
 pub(crate) fn put_number(text: &mut Vec<u8>, number: Q) -> Result<(), AllocError>
@@ -30,7 +14,7 @@ pub(crate) fn put_number(text: &mut Vec<u8>, number: Q) -> Result<(), AllocError
 {
     let mut word = TextBuf::new();
     number.write(&mut word);
-    put_word(text, word.text())
+    push_word(text, word.text())
 }
 
 /// Returns the name of a link, or no bytes if no link has the number.

@@ -9,7 +9,7 @@ use Rattle.nf_edge.specs.Faults.{Rose}
 use Rattle.nf_edge.specs.declared.FetchFault.{FetchFault}
 use Rattle.nf_edge.specs.declared.FetchFault.TheVariants.{Failed as ShelfFails, TooLong, Memory}
 use Rattle.nf_app_answers.specs.declared.refusal.Refusal.{Refusal}
-use Rattle.nf_app_files.specs.Files.{Wanted, Visit, names_of, Fits, FetchedNone, FetchedAll, FetchedTo}
+use Rattle.nf_app_files.specs.Files.{Wanted, Visit, names_of, FitsLimit, FetchedNone, FetchedAll, FetchedTo}
 use Rattle.nf_app_answers.specs.Refusals.{refusal_of_fetch}
 use Rattle.nf_app_files.specs.Fetching.{IsTextOf, IsLastText, AreMissing, AreFetched}
 
@@ -40,7 +40,7 @@ module _ (shelf : Visit) (file : Wanted) where
   IsAsked = shelf.asked_now ≡ shelf.asked_before ++ file.name ∷ []
 
   one_reached : IsAsked → FetchedTo shelf (file ∷ []) file
-  one_reached asked = record { first = []; behind = []; files_are = refl; asked = asked; fit = All-nil (Fits shelf) }
+  one_reached asked = record { first = []; behind = []; files_are = refl; asked = asked; fit = All-nil (FitsLimit shelf) }
 
   -- the file isn't given, for some fault
   pub one_missing : {T : Type 0} (fault : FetchFault) → (IsErrOf {T = T} (Err fault) ShelfFails → Rose shelf.faults_before shelf.faults_now)
@@ -120,11 +120,11 @@ module _ (one other : Visit) (f g : Wanted) (follows : Follows one other) (first
   asked_more : (names : List (List ℕ)) → other.asked_now ≡ other.asked_before ++ names → both.asked_now ≡ both.asked_before ++ f.name ∷ names
   asked_more names e = e ∙ ap (λ (l : List (List ℕ)). l ++ names) (follows.asked ∙ first.asked) ∙ append_assoc one.asked_before (f.name ∷ []) names
 
-  fits : (file : Wanted) → Fits other file → Fits both file
+  fits : (file : Wanted) → FitsLimit other file → FitsLimit both file
   fits file h = subst (λ (o : Option (List ℕ)). IfSome o (λ text. length text ≤ file.limit)) (follows.told file.name) h
 
-  first_fits : Fits both f
-  first_fits = All-head (Fits one) f [] first.fit
+  first_fits : FitsLimit both f
+  first_fits = All-head (FitsLimit one) f [] first.fit
 
   reached_more : (last : Wanted) → FetchedTo other (g ∷ []) last → FetchedTo both (f ∷ g ∷ []) last
   reached_more last h = record {
@@ -132,7 +132,7 @@ module _ (one other : Visit) (f g : Wanted) (follows : Follows one other) (first
     behind = h.behind;
     files_are = ap (λ (l : List Wanted). f ∷ l) h.files_are;
     asked = asked_more (names_of (h.first ++ last ∷ [])) h.asked;
-    fit = All-cons (Fits both) f h.first first_fits (λ k d within. fits _ (h.fit k d within));
+    fit = All-cons (FitsLimit both) f h.first first_fits (λ k d within. fits _ (h.fit k d within));
   }
 
   pub second_missing : (refusal : Refusal) → AreMissing other (g ∷ []) refusal → AreMissing both (f ∷ g ∷ []) refusal
@@ -140,7 +140,7 @@ module _ (one other : Visit) (f g : Wanted) (follows : Follows one other) (first
       (λ k. (k.0, reached_more k.0 k.1, (k.2.0, rose k.2.1))) too_long refusal h
     where
       for_memory : AreMissing other (g ∷ []) Refusal.NoMemory → AreMissing both (f ∷ g ∷ []) Refusal.NoMemory
-      for_memory (inl none) = inr (f, record { first = []; behind = g ∷ []; files_are = refl; asked = none ∙ follows.asked ∙ first.asked; fit = All-nil (Fits both) })
+      for_memory (inl none) = inr (f, record { first = []; behind = g ∷ []; files_are = refl; asked = none ∙ follows.asked ∙ first.asked; fit = All-nil (FitsLimit both) })
       for_memory (inr k) = inr (k.0, reached_more k.0 k.1)
 
       either : {P : Type 0} → (Rose other.faults_before other.faults_now ⊎ P) → (Rose both.faults_before both.faults_now ⊎ P)
@@ -166,7 +166,7 @@ module _ (one other : Visit) (f g : Wanted) (follows : Follows one other) (first
   both_fetched text more is h = (
     record {
       asked = asked_more (g.name ∷ []) h.0.asked;
-      fit = All-cons (Fits both) f (g ∷ []) first_fits (All-cons (Fits both) g [] (fits g (All-head (Fits other) g [] h.0.fit)) (All-nil (Fits both)));
+      fit = All-cons (FitsLimit both) f (g ∷ []) first_fits (All-cons (FitsLimit both) g [] (fits g (All-head (FitsLimit other) g [] h.0.fit)) (All-nil (FitsLimit both)));
       taken = h.0.taken;
     },
     (text_of text is, last_text more h.1),

@@ -48,8 +48,8 @@ visit shelf before now = record {
 }
 
 -- where the shelf tells the bytes of a file, there are at most as many as it may have
-abbrev pub Fits : Visit → Wanted → Type 0
-Fits shelf file = IfSome (shelf.told file.name) (λ text. length text ≤ file.limit)
+abbrev pub FitsLimit : Visit → Wanted → Type 0
+FitsLimit shelf file = IfSome (shelf.told file.name) (λ text. length text ≤ file.limit)
 
 -- no file was fetched
 abbrev pub FetchedNone : Visit → Type 0
@@ -58,7 +58,7 @@ FetchedNone shelf = shelf.asked_now ≡ shelf.asked_before
 -- the files were fetched, each once and in order, and no other; none has too many bytes
 pub record FetchedAll (shelf : Visit) (files : List Wanted) : Type 0 where
   pub asked : shelf.asked_now ≡ shelf.asked_before ++ names_of files
-  pub fit : All (Fits shelf) files
+  pub fit : All (FitsLimit shelf) files
   pub taken : IfSome (last_or None files) (λ last. shelf.taken ≤ last.limit)
 
 -- the files up to this one were fetched, each once and in order, and no other; none before it has too many bytes
@@ -67,7 +67,7 @@ pub record FetchedTo (shelf : Visit) (files : List Wanted) (last : Wanted) : Typ
   pub behind : List Wanted
   pub files_are : files ≡ first ++ last ∷ behind
   pub asked : shelf.asked_now ≡ shelf.asked_before ++ names_of (first ++ last ∷ [])
-  pub fit : All (Fits shelf) first
+  pub fit : All (FitsLimit shelf) first
 
 -- the shelf failed at this file
 abbrev pub Failed : Visit → Wanted → Type 0

@@ -15,7 +15,7 @@ use Rattle.nf_app_words.specs.declared.request.Request as code
 use Rattle.nf_app_words.specs.CommandLine.{word_in, matches_on, file_in}
 use Rattle.nf_app_words.specs.Numbers.{to_not_negative, not_negative_of, not_negative_in, count_of, usual_or_count_in, most_phases, most_patterns, most_augments, most_rungs, most_number}
 use Rattle.nf_app_words.specs.Commands.{commands, first_task}
-use Rattle.nf_app_words.specs.Requests.{Request, Show, IsWithin, CanBeAsked, solve_request, forever_request, load_request, check_request, quick_request, gen_request, settle_request, resume_request, routes_request, horizon_in, phases_in, patterns_in, amount_in, augments_in, number_in, rungs_in, asked, request_in, request_of}
+use Rattle.nf_app_words.specs.Requests.{Request, Show, IsCountWithin, CanBeAsked, solve_request, forever_request, load_request, check_request, quick_request, gen_request, settle_request, resume_request, routes_request, horizon_in, phases_in, patterns_in, amount_in, augments_in, number_in, rungs_in, asked, request_in, request_of}
 use Rattle.nf_app_words.specs.RequestViews.{requested}
 use Rattle.nf_app_words.proofs.Counts.{count_within}
 
@@ -45,8 +45,8 @@ at_least_0 (Err fault) = tt
 not_negative : (name : Text) (rows : List Row) → IfSome (not_negative_in name rows) (λ q. 0ℚ ≤ℚ q)
 not_negative name rows = given (λ q. 0ℚ ≤ℚ q) not_negative_of (λ word. at_least_0 (number_of (bound_of 127) word)) (word_in name rows)
 
-budget : (usual most : ℕ) → IsWithin most usual → (name : Text) (rows : List Row) → IfSome (usual_or_count_in usual most name rows) (IsWithin most)
-budget usual most fine name rows = given_or (IsWithin most) (count_of 1 most) (count_within 1 most) usual fine (word_in name rows)
+budget : (usual most : ℕ) → IsCountWithin most usual → (name : Text) (rows : List Row) → IfSome (usual_or_count_in usual most name rows) (IsCountWithin most)
+budget usual most fine name rows = given_or (IsCountWithin most) (count_of 1 most) (count_within 1 most) usual fine (word_in name rows)
 
 horizon : (rows : List Row) → IfSome (horizon_in rows) (λ q. 0ℚ ≤ℚ q)
 unfolding horizon_in
@@ -56,15 +56,15 @@ amount : (rows : List Row) → IfSome (amount_in rows) (λ q. 0ℚ ≤ℚ q)
 unfolding amount_in
 amount rows = not_negative (codes "amount") rows
 
-phases : (rows : List Row) → IfSome (phases_in rows) (IsWithin most_phases)
+phases : (rows : List Row) → IfSome (phases_in rows) (IsCountWithin most_phases)
 unfolding phases_in
 phases rows = budget 10000 most_phases (lit≤ tt, lit≤ tt) (codes "phases") rows
 
-patterns : (rows : List Row) → IfSome (patterns_in rows) (IsWithin most_patterns)
+patterns : (rows : List Row) → IfSome (patterns_in rows) (IsCountWithin most_patterns)
 unfolding patterns_in
 patterns rows = budget 100000 most_patterns (lit≤ tt, lit≤ tt) (codes "patterns") rows
 
-augments : (rows : List Row) → IfSome (augments_in rows) (IsWithin most_augments)
+augments : (rows : List Row) → IfSome (augments_in rows) (IsCountWithin most_augments)
 unfolding augments_in
 augments rows = budget 10000 most_augments (lit≤ tt, lit≤ tt) (codes "augments") rows
 
@@ -72,12 +72,12 @@ number : (rows : List Row) → IfSome (number_in rows) (λ n. (0 ≤ n) × (n �
 unfolding number_in
 number rows = given (λ n. (0 ≤ n) × (n ≤ most_number)) (count_of 0 most_number) (count_within 0 most_number) (word_in (codes "number") rows)
 
-rungs : (rows : List Row) → IfSome (rungs_in rows) (IsWithin most_rungs)
+rungs : (rows : List Row) → IfSome (rungs_in rows) (IsCountWithin most_rungs)
 unfolding rungs_in
-rungs rows = given (IsWithin most_rungs) (count_of 1 most_rungs) (count_within 1 most_rungs) (word_in (codes "rungs") rows)
+rungs rows = given (IsCountWithin most_rungs) (count_of 1 most_rungs) (count_within 1 most_rungs) (word_in (codes "rungs") rows)
 
 -- ---- each command
-solve_can : (file : Option Text) (h : Option ℚ) (p q : Option ℕ) → IfSome h (λ x. 0ℚ ≤ℚ x) → IfSome p (IsWithin most_phases) → IfSome q (IsWithin most_patterns)
+solve_can : (file : Option Text) (h : Option ℚ) (p q : Option ℕ) → IfSome h (λ x. 0ℚ ≤ℚ x) → IfSome p (IsCountWithin most_phases) → IfSome q (IsCountWithin most_patterns)
     → IfSome (solve_request file h p q) CanBeAsked
 solve_can None h p q a b c = tt
 solve_can (Some file) None p q a b c = tt
@@ -85,7 +85,7 @@ solve_can (Some file) (Some h) None q a b c = tt
 solve_can (Some file) (Some h) (Some p) None a b c = tt
 solve_can (Some file) (Some h) (Some p) (Some q) a b c = (a, b, c)
 
-forever_can : (file : Option Text) (p q : Option ℕ) → IfSome p (IsWithin most_phases) → IfSome q (IsWithin most_patterns) → IfSome (forever_request file p q) CanBeAsked
+forever_can : (file : Option Text) (p q : Option ℕ) → IfSome p (IsCountWithin most_phases) → IfSome q (IsCountWithin most_patterns) → IfSome (forever_request file p q) CanBeAsked
 forever_can None p q a b = tt
 forever_can (Some file) None q a b = tt
 forever_can (Some file) (Some p) None a b = tt
@@ -106,14 +106,14 @@ check_can None report = tt
 check_can (Some file) None = tt
 check_can (Some file) (Some report) = tt
 
-quick_can : (file : Option Text) (q : Option ℚ) (n : Option ℕ) → IfSome q (λ x. 0ℚ ≤ℚ x) → IfSome n (IsWithin most_augments) → IfSome (quick_request file q n) CanBeAsked
+quick_can : (file : Option Text) (q : Option ℚ) (n : Option ℕ) → IfSome q (λ x. 0ℚ ≤ℚ x) → IfSome n (IsCountWithin most_augments) → IfSome (quick_request file q n) CanBeAsked
 quick_can None q n a b = tt
 quick_can (Some file) None n a b = tt
 quick_can (Some file) (Some q) None a b = tt
 quick_can (Some file) (Some q) (Some n) a b = (a, b)
 
-gen_can : (n r : Option ℕ) (h : Option ℚ) (p q : Option ℕ) → IfSome n (λ m. (0 ≤ m) × (m ≤ most_number)) → IfSome r (IsWithin most_rungs) → IfSome h (λ x. 0ℚ ≤ℚ x)
-    → IfSome p (IsWithin most_phases) → IfSome q (IsWithin most_patterns) → IfSome (gen_request n r h p q) CanBeAsked
+gen_can : (n r : Option ℕ) (h : Option ℚ) (p q : Option ℕ) → IfSome n (λ m. (0 ≤ m) × (m ≤ most_number)) → IfSome r (IsCountWithin most_rungs) → IfSome h (λ x. 0ℚ ≤ℚ x)
+    → IfSome p (IsCountWithin most_phases) → IfSome q (IsCountWithin most_patterns) → IfSome (gen_request n r h p q) CanBeAsked
 gen_can None r h p q a b c d e = tt
 gen_can (Some n) None h p q a b c d e = tt
 gen_can (Some n) (Some r) None p q a b c d e = tt
@@ -126,7 +126,7 @@ settle_can None flows = tt
 settle_can (Some file) None = tt
 settle_can (Some file) (Some flows) = tt
 
-resume_can : (file report : Option Text) (h : Option ℚ) (p q : Option ℕ) → IfSome h (λ x. 0ℚ ≤ℚ x) → IfSome p (IsWithin most_phases) → IfSome q (IsWithin most_patterns)
+resume_can : (file report : Option Text) (h : Option ℚ) (p q : Option ℕ) → IfSome h (λ x. 0ℚ ≤ℚ x) → IfSome p (IsCountWithin most_phases) → IfSome q (IsCountWithin most_patterns)
     → IfSome (resume_request file report h p q) CanBeAsked
 resume_can None report h p q a b c = tt
 resume_can (Some file) None h p q a b c = tt

@@ -11,7 +11,7 @@ use Rattle.nf_app_words.specs.declared.commands.Need.TheVariants.{Required, Furt
 use Rattle.nf_app_words.specs.CommandLine.{options, word_in, files_in}
 
 -- A row of the table of commands: name, action, number of files, and the options and flags with their needs.
-pub record Line : Type 0 where
+pub record CommandRow : Type 0 where
   pub name : Text
   pub task : Task
   pub files : ℕ
@@ -22,7 +22,7 @@ abbrev pub budgets : List (Text × Need)
 budgets = (codes "phases", Further) ∷ (codes "patterns", Further) ∷ []
 
 -- The table of commands. `solve` takes either a horizon or the flag `--forever`.
-unfoldable pub commands : List Line
+unfoldable pub commands : List CommandRow
 commands =
     record { name = codes "solve"; task = Solve; files = 1; options = (codes "horizon", Required) ∷ budgets }
     ∷ record { name = codes "solve"; task = SolveForever; files = 1; options = (codes "forever", Required) ∷ budgets }
@@ -64,7 +64,7 @@ abbrev pub are_met : List (Text × Need) → List Row → List Text → Bool
 are_met wanted rows names = list_all (λ name. is_met (need_of wanted name) (is_there name rows)) names
 
 -- The number of files agrees, each required option is given, and no option is given that the command does not have.
-unfoldable pub fits : Line → List Row → Bool
+unfoldable pub fits : CommandRow → List Row → Bool
 fits line rows =
     length (files_in rows) == line.files
     && are_met line.options rows options
@@ -75,5 +75,5 @@ unfoldable pub is_named : Text → List Row → Bool
 is_named name rows = option_map_or (λ word. bytes_eq word name) (word_in (codes "command") rows) false
 
 -- the action of the first row that the words name and fit
-abbrev pub first_task : List Row → List Line → Option Task
+abbrev pub first_task : List Row → List CommandRow → Option Task
 first_task rows table = option_map (λ line. line.task) (find (λ line. is_named line.name rows && fits line rows) table)

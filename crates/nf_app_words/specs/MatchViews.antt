@@ -8,7 +8,7 @@ use Rattle.clap.specs.declared.builder.command.Command.{Command}
 use Rattle.clap.specs.declared.parser.matches.ArgMatches.{ArgMatches}
 use Rattle.nf_app_words.specs.declared.commands.Line as code
 use Rattle.nf_app_words.specs.declared.commands.Need.{Need}
-use Rattle.nf_app_words.specs.Commands.{Line}
+use Rattle.nf_app_words.specs.Commands.{CommandRow}
 
 -- the command as the parser reads it
 unfoldable pub app_in : Command → App
@@ -23,7 +23,7 @@ abbrev pub wanted_of : Bor Text × Need → Text × Need
 wanted_of option = (option.0.now, option.1)
 
 -- a line of the table of commands
-abbrev pub line_of : code.Line → Line
+abbrev pub line_of : code.Line → CommandRow
 line_of line = record { name = line.name.now; task = line.task; files = line.files; options = map wanted_of line.options.now }
 
 -- the text of a reference

@@ -25,20 +25,20 @@ pub data Request : Type 0 where
   Routes : (file routes : Text) (horizon : ℚ) → Request
 
 -- A horizon and an amount are at least 0. Phases, patterns, pushed walks and rungs are at least 1 and at most their limit.
-abbrev pub IsWithin : ℕ → ℕ → Type 0
-IsWithin most count = (1 ≤ count) × (count ≤ most)
+abbrev pub IsCountWithin : ℕ → ℕ → Type 0
+IsCountWithin most count = (1 ≤ count) × (count ≤ most)
 
 abbrev pub CanBeAsked : Request → Type 0
-CanBeAsked (Solve file horizon phases patterns) = (0ℚ ≤ℚ horizon) × IsWithin most_phases phases × IsWithin most_patterns patterns
-CanBeAsked (SolveForever file phases patterns) = IsWithin most_phases phases × IsWithin most_patterns patterns
+CanBeAsked (Solve file horizon phases patterns) = (0ℚ ≤ℚ horizon) × IsCountWithin most_phases phases × IsCountWithin most_patterns patterns
+CanBeAsked (SolveForever file phases patterns) = IsCountWithin most_phases phases × IsCountWithin most_patterns patterns
 CanBeAsked (Show file) = Unit {0}
 CanBeAsked (Load file loads horizon) = 0ℚ ≤ℚ horizon
 CanBeAsked (Check file report) = Unit {0}
-CanBeAsked (Quick file amount augments) = (0ℚ ≤ℚ amount) × IsWithin most_augments augments
+CanBeAsked (Quick file amount augments) = (0ℚ ≤ℚ amount) × IsCountWithin most_augments augments
 CanBeAsked (Gen number rungs horizon phases patterns) =
-    (number ≤ most_number) × IsWithin most_rungs rungs × (0ℚ ≤ℚ horizon) × IsWithin most_phases phases × IsWithin most_patterns patterns
+    (number ≤ most_number) × IsCountWithin most_rungs rungs × (0ℚ ≤ℚ horizon) × IsCountWithin most_phases phases × IsCountWithin most_patterns patterns
 CanBeAsked (Settle file flows) = Unit {0}
-CanBeAsked (Resume file report horizon phases patterns) = (0ℚ ≤ℚ horizon) × IsWithin most_phases phases × IsWithin most_patterns patterns
+CanBeAsked (Resume file report horizon phases patterns) = (0ℚ ≤ℚ horizon) × IsCountWithin most_phases phases × IsCountWithin most_patterns patterns
 CanBeAsked (Routes file routes horizon) = 0ℚ ≤ℚ horizon
 
 -- ---- the request of the files and numbers, if all are there

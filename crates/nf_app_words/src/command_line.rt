@@ -71,8 +71,7 @@ fn command_line<'w>(alloc: Global) -> Result<Command<'w>, AllocError>
     with_files(alloc, command)
 }
 
-/// Returns clap's matches of the words, or `None` if clap rejects them. The first word is the program's name. Refuses only if an allocation
-/// fails.
+/// Returns clap's matches of the words, or `None` if clap rejects them. The first word is the program's name. Fails if an allocation fails.
 pub fn match_words<'w>(
     alloc: Global,
     words: &'w [String],

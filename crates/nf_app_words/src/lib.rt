@@ -20,8 +20,8 @@ pub use request::Request;
 use request::request_of;
 use std::alloc::{AllocError, Global};
 
-/// Returns the request of the words, or `None` if they are not a request. The first word is the program's name. Refuses only if an
-/// allocation fails.
+/// Returns the request of the words, or `None` if they are not a request. The first word is the program's name. Fails if an allocation
+/// fails.
 pub fn read_request(alloc: Global, words: &[String]) -> Result<Option<Request>, AllocError>
     ensures value { IfOk result
         (λ request. request_of (texts words.now) ≡ option_map requested request) }

@@ -23,13 +23,13 @@ use Rattle.nf_complete_laws.specs.SettleLaws.{AreGoodSets}
 use Rattle.nf_complete_laws.proofs.Cancelled.{IsThinFlow-cancelled, interior-before, Ended, one-ended}
 use Rattle.nf_complete_laws.proofs.OneCycle.{weaker}
 use Rattle.nf_complete_laws.proofs.Settled.{settles-end, IsListedIn-settled, IsSolution-settled}
-use Rattle.nf_complete_cycles.specs.Cycles.{IsFirstCycle, Closes}
+use Rattle.nf_complete_cycles.specs.Cycles.{IsFirstCycle, ClosesFirst}
 use Rattle.nf_complete_cycles.proofs.Cycling.{forest-weaker}
 use Rattle.nf_complete_conditions.specs.InteriorFlags.{interior_flags}
 use Rattle.nf_complete_conditions.proofs.Interiors.{set_count, fewer_set, flags_are}
 use Rattle.nf_complete_conditions.proofs.Telling.{value_of}
 use Rattle.nf_complete.specs.NextCycles.{AreForestBelow, ClosesNext}
-use Rattle.nf_complete.specs.Settling.{IsThinWithFulls, ComesTo}
+use Rattle.nf_complete.specs.Settling.{IsThinWithFulls, GivesOneOf}
 
 -- ---- the first cycle of the flagged links is the next cycle, if the flags are those of interior links
 module _ (net : Network) (sets : Sets) (slopes flows : List ℚ) (flags : List Bool) (are : (e : ℕ) → Has flags e ↔ IsInterior net sets slopes flows e) where
@@ -55,7 +55,7 @@ module _ (net : Network) (sets : Sets) (slopes flows : List ℚ) (flags : List B
   pub forest_of : IsForest (hops net) (Has flags) → IsForest (hops net) (IsInterior net sets slopes flows)
   forest_of f = forest-weaker (hops net) (Has flags) (IsInterior net sets slopes flows) (λ e i. (are e).1 i) f
 
-  pub closes_of : (last : ℕ) (steps : List (ℕ × Bool)) → Closes (hops net) flags last steps → ClosesNext net sets slopes flows last steps
+  pub closes_of : (last : ℕ) (steps : List (ℕ × Bool)) → ClosesFirst (hops net) flags last steps → ClosesNext net sets slopes flows last steps
   closes_of last steps c = record {
     is_next = next_of steps c.is_first;
     before = forest-weaker (hops net) (λ e. (e < last) × Has flags e) (λ e. (e < last) × IsInterior net sets slopes flows e) (λ e w. (w.0, (are e).1 w.1)) c.before;
@@ -71,7 +71,7 @@ module _ (passes : Passing) (net : Network) (sets : Sets) (slopes : List ℚ) (f
   interior_known known f = known_of net sets slopes flows (interior_flags sets fulls flows) (flags_are passes net sets slopes fulls fulls_ok flows count) known f
 
   pub interior_found : {X : Type 0} (last_of : X → ℕ) (steps_of : X → List (ℕ × Bool)) (found : Option X)
-      → MatchOption found (IsForest (hops net) (Has (interior_flags sets fulls flows))) (λ x. Closes (hops net) (interior_flags sets fulls flows) (last_of x) (steps_of x))
+      → MatchOption found (IsForest (hops net) (Has (interior_flags sets fulls flows))) (λ x. ClosesFirst (hops net) (interior_flags sets fulls flows) (last_of x) (steps_of x))
       → MatchOption found (IsForest (hops net) (IsInterior net sets slopes flows)) (λ x. ClosesNext net sets slopes flows (last_of x) (steps_of x))
   interior_found last_of steps_of (Some x) h = closes_of net sets slopes flows (interior_flags sets fulls flows) (flags_are passes net sets slopes fulls fulls_ok flows count) (last_of x) (steps_of x) h
   interior_found last_of steps_of None h = forest_of net sets slopes flows (interior_flags sets fulls flows) (flags_are passes net sets slopes fulls fulls_ok flows count) h
@@ -82,7 +82,7 @@ passed_of (Ok x) p e = absurd (cc)
 passed_of {A = A} (Err q) p e = (q, refl, sym (same_Err {A = A} (placed Verdict q) p e))
 
 pub halts_of : {A X : Type 0} (Comes : Checked (List ℚ) → Type 0) (flows_of : X → List ℚ) (list : Checked A) (halt : Halt ℚ) → ((q : Passed ℚ) → list ≡ Err q → Comes (Err q))
-    → Stops (λ q. q) halt (at_part Verdict list) → ComesTo Comes flows_of (Err halt)
+    → Stops (λ q. q) halt (at_part Verdict list) → GivesOneOf Comes flows_of (Err halt)
 halts_of Comes flows_of list (Halt.Passed p) f said = let q = passed_of list (seen_passed_at (λ (x : ℚ). x) p) said in (q.0, f q.0 q.1, q.2)
 halts_of Comes flows_of list Halt.Memory f said = tt
 
@@ -159,7 +159,7 @@ module _ (passes : Passing) (net : Network) (sets : Sets) (slopes flows : List �
   settles_stop q e = stops q e
 
   pub settles_on : {X : Type 0} (flows_of : X → List ℚ) (fulls : List (Option ℚ)) → fulls_list passes net sets slopes ≡ Ok fulls → (halt : Halt ℚ)
-      → ComesTo (Cancels passes net sets slopes fulls flows) flows_of (Err halt) → {Y : Type 0} (others_of : Y → List ℚ) → ComesTo (Settles passes net sets slopes flows) others_of (Err halt)
+      → GivesOneOf (Cancels passes net sets slopes fulls flows) flows_of (Err halt) → {Y : Type 0} (others_of : Y → List ℚ) → GivesOneOf (Settles passes net sets slopes flows) others_of (Err halt)
   settles_on flows_of fulls ok (Halt.Passed p) c others_of = (c.0, settles fulls (Err c.0) ok c.1, c.2)
   settles_on flows_of fulls ok Halt.Memory c others_of = tt
 

@@ -25,11 +25,11 @@ Passes passes net sets rate flows slopes (Ok answer) = IsOk (thin_list passes ne
 Passes passes net sets rate flows slopes (Err at) = at_part Verdict (thin_list passes net sets rate flows slopes) ≡ Err at
 
 -- the result is one that the relation allows: flows, or the first operation that passes; nothing is said if an allocation fails
-abbrev pub ComesTo : {X : Type 0} → (Checked (List ℚ) → Type 0) → (X → List ℚ) → Result X (Halt ℚ) → Type 0
-ComesTo Comes flows_of (Ok x) = Comes (Ok (flows_of x))
-ComesTo Comes flows_of (Err (Halt.Passed at)) = (p : Passed ℚ) × Comes (Err p) × (at ≡ placed Verdict p)
-ComesTo Comes flows_of (Err Halt.Memory) = Unit {0}
+abbrev pub GivesOneOf : {X : Type 0} → (Checked (List ℚ) → Type 0) → (X → List ℚ) → Result X (Halt ℚ) → Type 0
+GivesOneOf Comes flows_of (Ok x) = Comes (Ok (flows_of x))
+GivesOneOf Comes flows_of (Err (Halt.Passed at)) = (p : Passed ℚ) × Comes (Err p) × (at ≡ placed Verdict p)
+GivesOneOf Comes flows_of (Err Halt.Memory) = Unit {0}
 
 -- the flows are settled to the result's flows, or its error is the first operation that passes
 abbrev pub SettlesTo : Passing → Network → Sets → List ℚ → List ℚ → Result Settled (Halt ℚ) → Type 0
-SettlesTo passes net sets slopes flows result = ComesTo (Settles passes net sets slopes flows) (λ settled. settled.flows.items) result
+SettlesTo passes net sets slopes flows result = GivesOneOf (Settles passes net sets slopes flows) (λ settled. settled.flows.items) result

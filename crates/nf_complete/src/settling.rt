@@ -11,10 +11,10 @@ ghost use Rattle.nf_model.specs.Pattern.{IsForest, IsListedIn, IsSolution};
 ghost use Rattle.nf_complete_def.specs.Cancelling.{Cancels};
 ghost use Rattle.nf_complete_def.specs.SettledPattern.{IsSettledPattern};
 ghost use Rattle.nf_complete_laws.specs.SettleLaws.{AreGoodSets};
-ghost use Rattle.nf_complete_cycles.specs.Cycles.{Closes};
+ghost use Rattle.nf_complete_cycles.specs.Cycles.{ClosesFirst};
 ghost use Rattle.nf_complete_conditions.specs.InteriorFlags.{interior_flags};
 ghost use Rattle.nf_complete.specs.FitSets.{AreFitSets};
-ghost use Rattle.nf_complete.specs.Settling.{IsThinWithFulls, ComesTo, SettlesTo};
+ghost use Rattle.nf_complete.specs.Settling.{IsThinWithFulls, GivesOneOf, SettlesTo};
 
 use crate::settled::Settled;
 use nf_complete_conditions::{fulls, interior, settled_pattern};
@@ -40,7 +40,7 @@ fn next_cycle(
         (λ e. (e < known) × Has (interior_flags sets.now fulls.now flows.now) e) }
     ensures { IfOk result (λ found. MatchOption found
         (IsForest (hops_of net.now.net) (Has (interior_flags sets.now fulls.now flows.now)))
-        (λ cycle. Closes (hops_of net.now.net)
+        (λ cycle. ClosesFirst (hops_of net.now.net)
         (interior_flags sets.now fulls.now flows.now) cycle.last cycle.steps.items)) }
 {
     let interior = interior(alloc, sets, fulls, flows, net.link_count())?;
@@ -61,7 +61,7 @@ fn cancelled(
     requires fewer { length fulls.now < 2 ^ 32 }
     ensures { (slopes : List ℚ)
         → IsThinWithFulls passes_Q net.now.net sets.now slopes fulls.now flows.now
-        → ComesTo (Cancels passes_Q net.now.net sets.now slopes fulls.now flows.now)
+        → GivesOneOf (Cancels passes_Q net.now.net sets.now slopes fulls.now flows.now)
         (λ new. new.items) result }
 {
     let mut new = flows.to_vec(alloc)?;
@@ -81,9 +81,9 @@ fn cancelled(
 /// They must be a thin flow of these sets (`is_thin` tests it). The active links must hold no cycle, and no resetting link may be
 /// unbounded.
 ///
-/// The operations are those of `Settles` (nf_complete_def/specs/Cancelling.antt). First the flow that fills each link is computed. Then
-/// for each cycle the room of each link and its new flow are computed. Returns `Passed` exactly at the first of them that passes, with the
-/// part Verdict. Otherwise fails only if an allocation fails.
+/// The operations are those of `Settles` (nf_complete_def/specs/Cancelling.antt). First the flow that fills each link is computed. Then for
+/// each cycle the room of each link and its new flow are computed. Returns `Passed` exactly at the first of them that passes, with the part
+/// Verdict. Otherwise fails if an allocation fails.
 pub fn settle(
     alloc: Global,
     net: &Network,

@@ -19,7 +19,7 @@ use Rattle.nf_model.specs.ThinFlow.{Sets}
 use Rattle.nf_rational_laws.proofs.Results.{same_Ok}
 use Rattle.nf_frac_def.proofs.Exact.{checked-is}
 use Rattle.nf_complete_def.specs.ThinList.{Sums, sum_more, in_more, out_more, with_rate, sums_at}
-use Rattle.nf_complete_conditions.specs.NodeSums.{end_by, more_at}
+use Rattle.nf_complete_conditions.specs.NodeSums.{node_by, more_at}
 use Rattle.nf_complete_conditions.specs.declared.node_sums.End.{End}
 use Rattle.nf_complete_conditions.specs.declared.node_sums.End.TheVariants.{Head, Tail}
 use Rattle.nf_complete_conditions.specs.Testing.{AnswersWhether, same_test}
@@ -90,7 +90,7 @@ module _ (passes : Passing) (net : Network) (sets : Sets) (rate : ℚ) (flows : 
   -- ---- a link more, by its end
   pub more_told : (r : Result ℚ (PassedAt ℚ)) (end : End) (v : ℕ) (so_far : ℚ) (e : ℕ) (at : Bool)
       → r ≡ at_part Verdict (sum_more passes net sets rate flows (unwrap_or (slice_get sets.active e) false && at) so_far e)
-      → ((here : Link) → IsLink net e here → at ≡ eqb (end_by end here) v) → (here : Link) → IsLink net e here → r ≡ at_part Verdict (more_at passes net sets rate flows end v so_far (e, here))
+      → ((here : Link) → IsLink net e here → at ≡ eqb (node_by end here) v) → (here : Link) → IsLink net e here → r ≡ at_part Verdict (more_at passes net sets rate flows end v so_far (e, here))
   more_told r Head v so_far e at said is here p = said ∙ ap (λ (b : Bool). at_part Verdict (sum_more passes net sets rate flows (unwrap_or (slice_get sets.active e) false && b) so_far e)) (is here p)
   more_told r Tail v so_far e at said is here p = said ∙ ap (λ (b : Bool). at_part Verdict (sum_more passes net sets rate flows (unwrap_or (slice_get sets.active e) false && b) so_far e)) (is here p)
 

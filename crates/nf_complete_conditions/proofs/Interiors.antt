@@ -19,7 +19,7 @@ use Rattle.nf_thin_laws.proofs.Flags.{flag, flag-cases}
 use Rattle.nf_complete_def.specs.Interior.{IsInterior}
 use Rattle.nf_complete_def.specs.Cancelling.{fulls_list}
 use Rattle.nf_complete_conditions.specs.ThinParts.{filling}
-use Rattle.nf_complete_conditions.specs.InteriorFlags.{between, interior_test, interior_flags}
+use Rattle.nf_complete_conditions.specs.InteriorFlags.{is_inside, interior_test, interior_flags}
 use Rattle.nf_complete_conditions.proofs.Deciding.{Decides-less}
 use Rattle.nf_complete_conditions.proofs.Filling.{fulls_at}
 use Rattle.nf_complete_conditions.proofs.Telling.{range_at}
@@ -36,7 +36,7 @@ Decides-flag flags e = ⊎_elim
 abbrev IsBetween : Option ℚ → ℚ → Type 0
 IsBetween full x = (0ℚ <ℚ x) × ((most : ℚ) → full ≡ Some most → x <ℚ most)
 
-Decides-between : (full : Option ℚ) (x : ℚ) → Decides (between full x) (IsBetween full x)
+Decides-between : (full : Option ℚ) (x : ℚ) → Decides (is_inside full x) (IsBetween full x)
 Decides-between None x = Decides-like (lt_ℚ 0ℚ x) (λ (h : 0ℚ <ℚ x). (h, λ most e. absurd (none-some most e))) (λ (w : IsBetween None x). w.0) (Decides-less 0ℚ x)
 Decides-between (Some full) x = Decides-like (lt_ℚ 0ℚ x && lt_ℚ x full)
     (λ (w : (0ℚ <ℚ x) × (x <ℚ full)). (w.0, λ most e. subst (λ (z : ℚ). x <ℚ z) (same_Some full most e) w.1))
@@ -89,8 +89,8 @@ module _ (passes : Passing) (net : Network) (sets : Sets) (slopes : List ℚ) (f
   Asked e = Has sets.active e × ((Has sets.resetting e → ⊥) × IsBetween (unwrap_or (slice_get fulls e) None) (number_at flows e))
 
   Decides-asked : (e : ℕ) → Decides (interior_test sets fulls flows e) (Asked e)
-  Decides-asked e = Decides-and (flag sets.active e) (not (flag sets.resetting e) && between (unwrap_or (slice_get fulls e) None) (number_at flows e)) (Decides-flag sets.active e)
-      (Decides-and (not (flag sets.resetting e)) (between (unwrap_or (slice_get fulls e) None) (number_at flows e)) (Decides-not (flag sets.resetting e) (Decides-flag sets.resetting e))
+  Decides-asked e = Decides-and (flag sets.active e) (not (flag sets.resetting e) && is_inside (unwrap_or (slice_get fulls e) None) (number_at flows e)) (Decides-flag sets.active e)
+      (Decides-and (not (flag sets.resetting e)) (is_inside (unwrap_or (slice_get fulls e) None) (number_at flows e)) (Decides-not (flag sets.resetting e) (Decides-flag sets.resetting e))
       (Decides-between (unwrap_or (slice_get fulls e) None) (number_at flows e)))
 
   asked_interior : (e : ℕ) (link : Link) → IsLink net e link → Asked e → IsInterior net sets slopes flows e

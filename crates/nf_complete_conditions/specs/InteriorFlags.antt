@@ -8,15 +8,15 @@ use Rattle.nf_model.specs.Entries.{number_at}
 use Rattle.nf_model.specs.ThinFlow.{Sets}
 
 -- the flow is above 0 and below the flow that fills the link
-abbrev pub between : Option ℚ → ℚ → Bool
-between None flow = lt_ℚ 0ℚ flow
-between (Some full) flow = lt_ℚ 0ℚ flow && lt_ℚ flow full
+abbrev pub is_inside : Option ℚ → ℚ → Bool
+is_inside None flow = lt_ℚ 0ℚ flow
+is_inside (Some full) flow = lt_ℚ 0ℚ flow && lt_ℚ flow full
 
 -- the link is active, not resetting, and neither empty nor full
 abbrev pub interior_test : Sets → List (Option ℚ) → List ℚ → ℕ → Bool
 interior_test sets fulls flows e =
     unwrap_or (slice_get sets.active e) false
-    && (not (unwrap_or (slice_get sets.resetting e) false) && between (unwrap_or (slice_get fulls e) None) (number_at flows e))
+    && (not (unwrap_or (slice_get sets.resetting e) false) && is_inside (unwrap_or (slice_get fulls e) None) (number_at flows e))
 
 -- for each link, whether it is interior
 abbrev pub interior_flags : Sets → List (Option ℚ) → List ℚ → List Bool

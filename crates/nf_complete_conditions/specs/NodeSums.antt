@@ -10,9 +10,9 @@ use Rattle.nf_complete_conditions.specs.declared.node_sums.End.{End}
 use Rattle.nf_complete_conditions.specs.declared.node_sums.End.TheVariants.{Head, Tail}
 
 -- the node at an end of a link
-abbrev pub end_by : End → Link → ℕ
-end_by Head link = link.head
-end_by Tail link = link.tail
+abbrev pub node_by : End → Link → ℕ
+node_by Head link = link.head
+node_by Tail link = link.tail
 
 -- one link more in the sum of those with this end at a node
 abbrev pub more_at : Passing → Network → Sets → ℚ → List ℚ → End → ℕ → ℚ → ℕ × Link → Checked ℚ

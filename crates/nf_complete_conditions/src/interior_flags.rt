@@ -1,6 +1,6 @@
 // Interior links.
 ghost use Rattle.std.specs.Prelude.{◌≡◌, ◌<◌, length, IfOk};
-ghost use Rattle.nf_complete_conditions.specs.InteriorFlags.{between as between_by, interior_test, interior_flags};
+ghost use Rattle.nf_complete_conditions.specs.InteriorFlags.{is_inside as between_by, interior_test, interior_flags};
 
 use nf_frac::Q;
 use nf_graph::{LinkId, LinkSets};

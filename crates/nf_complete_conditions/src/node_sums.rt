@@ -9,7 +9,7 @@ ghost use Rattle.nf_frac_def.specs.Checked.{at_part, each, fold_checked};
 ghost use Rattle.nf_model.specs.Network.{Network as SeenNetwork, Link as SeenLink, IsLink};
 ghost use Rattle.nf_model.specs.ThinFlow.{Sets};
 ghost use Rattle.nf_complete_def.specs.ThinList.{is_active, sum_more, with_rate as with_rate_by, sums_at};
-ghost use Rattle.nf_complete_conditions.specs.NodeSums.{end_by, more_at};
+ghost use Rattle.nf_complete_conditions.specs.NodeSums.{node_by, more_at};
 ghost use Rattle.nf_complete_conditions.specs.Testing.{AnswersWhether};
 ghost use Rattle.nf_complete_conditions.specs.ThinParts.{IsBalanced};
 
@@ -51,7 +51,7 @@ enum End {
 fn is_at(net: &Network, link: LinkId, end: End, node: NodeId) -> bool
     requires { link < length net.now.net.links }
     ensures { (here : SeenLink) → IsLink net.now.net link here
-        → result ≡ (end_by end here == node) }
+        → result ≡ (node_by end here == node) }
 {
     let here = net.link(link);
     match end {

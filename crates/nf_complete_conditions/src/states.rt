@@ -170,8 +170,7 @@ fn state_at(
 }
 
 /// Returns the pattern of settled flows. A link that needs a state is Zero if it carries no flow, Full if its flow fills it, and otherwise
-/// Tight. The first active link with equal slopes at its ends into a node without inflow is also Tight. Refuses only if an allocation
-/// fails.
+/// Tight. The first active link with equal slopes at its ends into a node without inflow is also Tight. Fails if an allocation fails.
 pub fn settled_pattern(
     alloc: Global,
     net: &Network,

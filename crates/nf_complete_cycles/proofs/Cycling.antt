@@ -14,7 +14,7 @@ use Rattle.nf_complete_def.specs.Interior.{links_of, turn_of}
 use Rattle.nf_complete_laws.proofs.ForestMore.{forest-more}
 use Rattle.nf_complete_laws.proofs.OneCycle.{weaker}
 use Rattle.nf_complete_cycles.specs.Trees.{IsWay, AreApart}
-use Rattle.nf_complete_cycles.specs.Cycles.{IsClosed, IsFirstCycle, round_onto, lower, lowest_from}
+use Rattle.nf_complete_cycles.specs.Cycles.{IsClosedTrail, IsFirstCycle, round_onto, lower_step, lowest_from}
 use Rattle.nf_model_laws.proofs.Contained.{contains_none, contains_cases, contains_more, contains_first}
 use Rattle.nf_complete_cycles.proofs.Rounding.{round-trail, round-contains, contains-round, round-differ, round-turn, turn-same, turn-other}
 
@@ -158,7 +158,7 @@ module _ (hops : List Hop) (chosen : List Bool) (e : ℕ) (before : List Bool) (
   split [] = ((e, true), [], refl)
   split (s ∷ steps) = (s, steps ++ (e, true) ∷ [], refl)
 
-  pub closed-way : (hop : Hop) (back : List (ℕ × Bool)) → IsHop hops e hop → Has chosen e → IsWay hops before hop.tail hop.head back → IsClosed hops chosen (back ++ (e, true) ∷ [])
+  pub closed-way : (hop : Hop) (back : List (ℕ × Bool)) → IsHop hops e hop → Has chosen e → IsWay hops before hop.tail hop.head back → IsClosedTrail hops chosen (back ++ (e, true) ∷ [])
   closed-way hop back p c way =
       let s = split back in
       record {
@@ -203,7 +203,7 @@ lowest-of [] best result h = (kept (sym (same_Some best result h)), (at result b
   where
     at : (r b : ℕ × Bool) → b ≡ r → r.0 ≤ b.0
     at r b q = let k : b.0 ≡ r.0 = ap (λ (p : ℕ × Bool). p.0) q in omega arith
-lowest-of (s ∷ steps) best result h = by (nat_le best.0 s.0) refl (lowest-of steps (lower (Some best) s) result h)
+lowest-of (s ∷ steps) best result h = by (nat_le best.0 s.0) refl (lowest-of steps (lower_step (Some best) s) result h)
   where
     old : best.0 ≤ s.0 → LowestOf steps best result → LowestOf (s ∷ steps) best result
     old l r = (go r.0, (r.1.0, λ e c. ⊎_elim (λ (q : s.0 ≡ e). let m = r.1.0 in omega arith) (λ (q : Contains (links_of steps) e). r.1.1 e q) (contains_cases s.0 (links_of steps) e c)))
@@ -239,14 +239,14 @@ lowest-is s steps best h =
     go (found t k) = turn-other s.0 s.1 steps best.0 (λ q. absurd (omega arith)) ∙ t
 
 -- ---- reversed if the lowest link is used backward
-pub first-forward : (hops : List Hop) (chosen : List Bool) (steps : List (ℕ × Bool)) (e : ℕ) → IsClosed hops chosen steps → IsLowest steps (e, true) → IsFirstCycle hops chosen steps
+pub first-forward : (hops : List Hop) (chosen : List Bool) (steps : List (ℕ × Bool)) (e : ℕ) → IsClosedTrail hops chosen steps → IsLowest steps (e, true) → IsFirstCycle hops chosen steps
 first-forward hops chosen steps e c l = record { closed = c; lowest = e; grows = l.turn; least = l.least }
 
 round-split : (steps : List (ℕ × Bool)) (e : ℕ) → Contains (links_of steps) e → (first : ℕ × Bool) × (rest : List (ℕ × Bool)) × (steps ≡ first ∷ rest)
 round-split [] e (j, h, q) = absurd (omega arith)
 round-split (s ∷ steps) e c = (s, steps, refl)
 
-pub first-backward : (hops : List Hop) (chosen : List Bool) (steps : List (ℕ × Bool)) (e : ℕ) → IsClosed hops chosen steps → IsLowest steps (e, false) → IsFirstCycle hops chosen (round_onto [] steps)
+pub first-backward : (hops : List Hop) (chosen : List Bool) (steps : List (ℕ × Bool)) (e : ℕ) → IsClosedTrail hops chosen steps → IsLowest steps (e, false) → IsFirstCycle hops chosen (round_onto [] steps)
 first-backward hops chosen steps e c l =
     let s = round-split (round_onto [] steps) c.last (contains-round steps [] c.last c.closes) in
     record {
@@ -273,18 +273,18 @@ first-backward hops chosen steps e c l =
 -- ---- as it is computed
 lowest_some : (steps : List (ℕ × Bool)) (best : ℕ × Bool) → lowest_from (Some best) steps ≡ None → ⊥
 lowest_some [] best h = none-some best (sym h)
-lowest_some (s ∷ steps) best h = lowest_some steps (lower (Some best) s) h
+lowest_some (s ∷ steps) best h = lowest_some steps (lower_step (Some best) s) h
 
-pub lowest-none : (hops : List Hop) (chosen : List Bool) (steps : List (ℕ × Bool)) → IsClosed hops chosen steps → lowest_from None steps ≡ None → ⊥
+pub lowest-none : (hops : List Hop) (chosen : List Bool) (steps : List (ℕ × Bool)) → IsClosedTrail hops chosen steps → lowest_from None steps ≡ None → ⊥
 lowest-none hops chosen steps c h = lowest_some c.rest c.first (ap (lowest_from None) (sym c.steps_are) ∙ h)
 
-pub lowest-closed : (hops : List Hop) (chosen : List Bool) (steps : List (ℕ × Bool)) (best : ℕ × Bool) → IsClosed hops chosen steps → lowest_from None steps ≡ Some best → IsLowest steps best
+pub lowest-closed : (hops : List Hop) (chosen : List Bool) (steps : List (ℕ × Bool)) (best : ℕ × Bool) → IsClosedTrail hops chosen steps → lowest_from None steps ≡ Some best → IsLowest steps best
 lowest-closed hops chosen steps best c h = subst (λ (l : List (ℕ × Bool)). IsLowest l best) (sym c.steps_are) (lowest-is c.first c.rest best (ap (lowest_from None) (sym c.steps_are) ∙ h))
 
-pub kept-forward : (hops : List Hop) (chosen : List Bool) (steps : List (ℕ × Bool)) (best : ℕ × Bool) → IsClosed hops chosen steps → lowest_from None steps ≡ Some best → best.1 ≡ true → IsFirstCycle hops chosen steps
+pub kept-forward : (hops : List Hop) (chosen : List Bool) (steps : List (ℕ × Bool)) (best : ℕ × Bool) → IsClosedTrail hops chosen steps → lowest_from None steps ≡ Some best → best.1 ≡ true → IsFirstCycle hops chosen steps
 kept-forward hops chosen steps (e, b) c h q = first-forward hops chosen steps e c (subst (λ (t : Bool). IsLowest steps (e, t)) q (lowest-closed hops chosen steps (e, b) c h))
 
-pub turned-forward : (hops : List Hop) (chosen : List Bool) (steps : List (ℕ × Bool)) (best : ℕ × Bool) → IsClosed hops chosen steps → lowest_from None steps ≡ Some best → best.1 ≡ false → IsFirstCycle hops chosen (round_onto [] steps)
+pub turned-forward : (hops : List Hop) (chosen : List Bool) (steps : List (ℕ × Bool)) (best : ℕ × Bool) → IsClosedTrail hops chosen steps → lowest_from None steps ≡ Some best → best.1 ≡ false → IsFirstCycle hops chosen (round_onto [] steps)
 turned-forward hops chosen steps (e, b) c h q = first-backward hops chosen steps e c (subst (λ (t : Bool). IsLowest steps (e, t)) q (lowest-closed hops chosen steps (e, b) c h))
 
 pub if-ok : {A E : Type 0} (r : Result A E) (P Q : A → Type 0) → ((x : A) → P x → Q x) → IfOk r P → IfOk r Q

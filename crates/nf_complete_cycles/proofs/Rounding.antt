@@ -5,7 +5,7 @@ use Rattle.std.proofs.lemmas.Bool.Decides.{eqb_tells}
 use Rattle.nf_model.specs.Walk.{Hop}
 use Rattle.nf_model.specs.Pattern.{IsTrail, AllDiffer}
 use Rattle.nf_complete_def.specs.Interior.{links_of, turn_of}
-use Rattle.nf_complete_cycles.specs.Cycles.{round_onto, lower, lowest_from}
+use Rattle.nf_complete_cycles.specs.Cycles.{round_onto, lower_step, lowest_from}
 use Rattle.nf_model_laws.proofs.Contained.{contains_cases, contains_more, contains_first}
 
 -- one step more is turned
@@ -16,7 +16,7 @@ round_more steps done next i step turned h is t n so =
     ap (λ (l : List (ℕ × Bool)). round_onto l (drop (i + 1) steps)) (n ∙ ap (λ (s : ℕ × Bool). s ∷ done) t) ∙ (sym (ap (round_onto done) first) ∙ so)
 
 -- and one step more is compared
-pub lowest_more : (steps : List (ℕ × Bool)) (best : Option (ℕ × Bool)) (i : ℕ) (step low : ℕ × Bool) → i < length steps → step ≡ get_or steps i step → low ≡ lower best step
+pub lowest_more : (steps : List (ℕ × Bool)) (best : Option (ℕ × Bool)) (i : ℕ) (step low : ℕ × Bool) → i < length steps → step ≡ get_or steps i step → low ≡ lower_step best step
     → lowest_from best (drop i steps) ≡ lowest_from None steps → lowest_from (Some low) (drop (i + 1) steps) ≡ lowest_from None steps
 lowest_more steps best i step low h is l so =
     let first : drop i steps ≡ step ∷ drop (i + 1) steps = rw (add-one, drop-cons steps i step) (ap (λ (s : ℕ × Bool). s ∷ drop (suc i) steps) (sym is)) in

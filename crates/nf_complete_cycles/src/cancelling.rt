@@ -153,7 +153,7 @@ fn amount(room: Option<Q>) -> Q
 
 /// Cancels a cycle: returns the flows after its forward links grow and its backward links shrink by one amount. The amount is the greatest
 /// for which each flow stays between 0 and the flow that fills its link, or 0 if no link limits it. Returns `Passed` exactly at the first
-/// operation that passes, with part Verdict. Otherwise refuses only if an allocation fails.
+/// operation that passes, with part Verdict. Otherwise fails if an allocation fails.
 #[tactic(auto, unfolding(nf_complete_def::specs::Cancelling::cancel_list))]
 pub fn cancel(
     alloc: Global,

@@ -5,7 +5,7 @@ ghost use Rattle.nf_model.specs.Entries.{Has};
 ghost use Rattle.nf_model.specs.Walk.{Hop as SeenHop};
 ghost use Rattle.nf_model.specs.Pattern.{IsForest};
 ghost use Rattle.nf_graph.specs.Graph.{AreBelow};
-ghost use Rattle.nf_complete_cycles.specs.Cycles.{IsClosed, IsFirstCycle, Closes, round_onto, lower as lower_of, lowest_from};
+ghost use Rattle.nf_complete_cycles.specs.Cycles.{IsClosedTrail, IsFirstCycle, ClosesFirst, round_onto, lower_step as lower_of, lowest_from};
 
 use crate::step::Step;
 use crate::way::way;
@@ -62,7 +62,7 @@ fn rounded(alloc: Global, steps: &[Step]) -> Result<Vec<Step>, AllocError>
 
 // Returns the closed steps, reversed if they use their lowest link backward.
 fn with_lowest_forward(alloc: Global, steps: Vec<Step>) -> Result<Vec<Step>, AllocError>
-    ensures { (hops : List SeenHop) (chosen : List Bool) → IsClosed hops chosen steps.items
+    ensures { (hops : List SeenHop) (chosen : List Bool) → IsClosedTrail hops chosen steps.items
         → IfOk result (λ all. IsFirstCycle hops chosen all.items) }
 {
     if let Some(least) = lowest(&steps) {
@@ -94,7 +94,7 @@ pub fn first_cycle(
     requires fewer { length hops.now < 2 ^ 32 }
     requires known { IsForest hops.now (λ e. (e < known) × Has chosen.now e) }
     ensures { IfOk result (λ found. MatchOption found (IsForest hops.now (Has chosen.now))
-        (λ cycle. Closes hops.now chosen.now cycle.last cycle.steps.items)) }
+        (λ cycle. ClosesFirst hops.now chosen.now cycle.last cycle.steps.items)) }
 {
     let mut before = vec![in alloc; false; hops.len()]?;
     for (e, hop) in hops.iter().enumerate() {

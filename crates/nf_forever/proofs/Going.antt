@@ -8,7 +8,7 @@ use Rattle.nf_net_def.specs.declared.Cause.{Cause}
 use Rattle.nf_thin_def.specs.PhaseRun.{Standing, IsStart}
 use Rattle.nf_phase.specs.ThinFlow.{ThinFlow}
 use Rattle.nf_phase.specs.declared.fault.StepFault.{StepFault}
-use Rattle.nf_phase.specs.Stepping.{Reaches, starts, IsCauseOn, tail_of}
+use Rattle.nf_phase.specs.Stepping.{Reaches, starts, IsCauseOn, tail_by}
 use Rattle.nf_phase.proofs.Stopping.{stands_stop}
 use Rattle.nf_phase_def.specs.ToEnd.{GoesToEnd, GoesForever, FailsOn}
 use Rattle.nf_forever_def.specs.ForeverRun.{End, Stops, NeverEnds, RunsForever, at_phases, fails, never_ends, goes, IsForeverRun}
@@ -41,9 +41,9 @@ module _ (passes : Passing) (net : Network) (phases patterns : ℕ) (first : Sta
 
     -- If no thin flow is returned, a phase was added.
     pub gone_further : count < phases → (answer : Option ThinFlow) → answer ≡ None → (t : Standing) → Reaches passes net t
-        → MatchOption answer (GoesToEnd passes net patterns s t) (λ thin. GoesForever passes net patterns s thin.pattern (tail_of thin)) → GoneOn passes net phases patterns first (count + 1) t
+        → MatchOption answer (GoesToEnd passes net patterns s t) (λ thin. GoesForever passes net patterns s thin.pattern (tail_by thin)) → GoneOn passes net phases patterns first (count + 1) t
     gone_further may answer is t reaches g =
-        further may t reaches (subst (λ (o : Option ThinFlow). MatchOption o (GoesToEnd passes net patterns s t) (λ thin. GoesForever passes net patterns s thin.pattern (tail_of thin))) is g)
+        further may t reaches (subst (λ (o : Option ThinFlow). MatchOption o (GoesToEnd passes net patterns s t) (λ thin. GoesForever passes net patterns s thin.pattern (tail_by thin))) is g)
 
     -- ---- the end of the run
     pub ends_at_phases : count ≡ phases → (made : ℕ) → made ≡ s.made → IsForeverRun passes net phases patterns s (Stops (Cause.Phases made))
@@ -51,13 +51,13 @@ module _ (passes : Passing) (net : Network) (phases patterns : ℕ) (first : Sta
 
     -- The returned thin flow, if no phase is added.
     pub ends_never : count < phases → (answer : Option ThinFlow) (thin : ThinFlow) → answer ≡ Some thin → (after : Standing)
-        → MatchOption answer (GoesToEnd passes net patterns s after) (λ thin. GoesForever passes net patterns s thin.pattern (tail_of thin)) → (IsSome answer → after ≡ s)
-        → IsForeverRun passes net phases patterns after (NeverEnds thin.pattern (tail_of thin))
+        → MatchOption answer (GoesToEnd passes net patterns s after) (λ thin. GoesForever passes net patterns s thin.pattern (tail_by thin)) → (IsSome answer → after ≡ s)
+        → IsForeverRun passes net phases patterns after (NeverEnds thin.pattern (tail_by thin))
     ends_never may answer thin is after g stays =
-        let goes_forever = subst (λ (o : Option ThinFlow). MatchOption o (GoesToEnd passes net patterns s after) (λ thin. GoesForever passes net patterns s thin.pattern (tail_of thin))) is g in
+        let goes_forever = subst (λ (o : Option ThinFlow). MatchOption o (GoesToEnd passes net patterns s after) (λ thin. GoesForever passes net patterns s thin.pattern (tail_by thin))) is g in
         let same : after ≡ s = subst (λ (o : Option ThinFlow). IsSome o → after ≡ s) is stays refl in
-        subst (λ (t : Standing). IsForeverRun passes net phases patterns t (NeverEnds thin.pattern (tail_of thin))) (sym same)
-        (run_of (NeverEnds thin.pattern (tail_of thin)) (never_ends (may_go may) goes_forever))
+        subst (λ (t : Standing). IsForeverRun passes net phases patterns t (NeverEnds thin.pattern (tail_by thin))) (sym same)
+        (run_of (NeverEnds thin.pattern (tail_by thin)) (never_ends (may_go may) goes_forever))
 
     ends_by : count < phases → (cause : Cause ℚ) → FailsOn passes net patterns s cause → IsForeverRun passes net phases patterns s (Stops cause)
     ends_by may cause f = run_of (Stops cause) (fails (may_go may) f)

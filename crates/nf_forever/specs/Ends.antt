@@ -2,14 +2,14 @@
 use Rattle.std.specs.Prelude.{◌≡◌, ℕ, Some}
 use Rattle.nf_phase.specs.declared.fault.StepFault.{StepFault}
 use Rattle.nf_phase.specs.Solution.{cause_of}
-use Rattle.nf_phase.specs.Stepping.{tail_of}
+use Rattle.nf_phase.specs.Stepping.{tail_by}
 use Rattle.nf_forever_def.specs.ForeverRun.{End, Stops, NeverEnds}
 use Rattle.nf_forever.specs.declared.solving.End.{End as Told}
 use Rattle.nf_forever.specs.declared.solving.End.TheVariants as told
 
 abbrev pub end_in : Told → End
 end_in (told.Stops stop) = Stops stop
-end_in (told.NeverEnds thin) = NeverEnds thin.pattern (tail_of thin)
+end_in (told.NeverEnds thin) = NeverEnds thin.pattern (tail_by thin)
 
 -- The run ends by the stop at phase number `phase`, which is not computed.
 abbrev pub IsStopBy : ℕ → StepFault → End → Type 0

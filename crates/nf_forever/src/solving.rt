@@ -7,7 +7,7 @@ ghost use Rattle.nf_frac_def.specs.Passing.{passes_Q};
 ghost use Rattle.nf_model.specs.Equilibrium.{Equilibrium};
 ghost use Rattle.nf_thin_def.specs.PhaseRun.{IsStart};
 ghost use Rattle.nf_curve.specs.Flows.{flow_of};
-ghost use Rattle.nf_phase.specs.Stepping.{tail_of};
+ghost use Rattle.nf_phase.specs.Stepping.{tail_by};
 ghost use Rattle.nf_forever_def.specs.ForeverRun.{Stops, NeverEnds, IsForeverRun, forever_of, IsForever};
 ghost use Rattle.nf_forever_def.specs.Extended.{flow_until};
 ghost use Rattle.nf_forever_def.specs.ForeverText.{HasForm};
@@ -28,7 +28,7 @@ enum End {
     NeverEnds(ThinFlow),
 }
 
-// Returns the end of a run whose phase number `phase` is not computed. Refuses only if memory can't be allocated.
+// Returns the end of a run whose phase number `phase` is not computed. Fails if an allocation fails.
 fn stopped_by(phase: u64, fault: StepFault) -> Result<End, AllocError>
     ensures { IfOk result (λ end. IsStopBy phase fault (end_in end)) }
 {
@@ -72,7 +72,7 @@ fn stopped(alloc: Global, run: &Run, stop: Stop) -> Result<Forever, AllocError>
 // Returns the result of a run whose next phase never ends.
 fn endless(alloc: Global, run: &Run, thin: ThinFlow) -> Result<Forever, AllocError>
     ensures { IfOk result
-        (λ f. forever_in f ≡ forever_of run.now (NeverEnds thin.pattern (tail_of thin))) }
+        (λ f. forever_in f ≡ forever_of run.now (NeverEnds thin.pattern (tail_by thin))) }
 {
     let flow = run.flow(alloc)?;
     let phases = run.phases();

@@ -19,7 +19,7 @@ use Rattle.nf_rational_laws.proofs.Ratio.{Is-same, Is-times, Is-whole, Is-ratio}
 use Rattle.nf_rational_laws.proofs.Quotient.{/ℚ-unique, abs_positive}
 use Rattle.nf_frac_def.specs.Passing.{bound_of}
 use Rattle.nf_frac.specs.Parts.{greatest, InForm, IsWithin, IsMade, signed}
-use Rattle.nf_frac.specs.Short.{IsShort}
+use Rattle.nf_frac.specs.Short.{AreShortParts}
 use Rattle.nf_frac.proofs.Bits.{cast_plain}
 use Rattle.nf_frac.proofs.Form.{ratio_within}
 
@@ -66,7 +66,7 @@ module _ (k : ℕ) (few : k < 2) where
   pub natural_within : IsWithin 1 (ratio (to_z w128 k) 1)
   natural_within = subst (λ (z : ℤ). IsWithin 1 (ratio z 1)) (sym natural_cast) (ratio_within 1 (pos k) 1 (omega arith) (omega arith) (omega arith))
 
-pub short_natural : (k : ℕ) → k < 2 → IsShort (pos k) 1
+pub short_natural : (k : ℕ) → k < 2 → AreShortParts (pos k) 1
 short_natural k few = record { positive = omega arith; small = omega arith; small_den = omega arith; lowest = lowest_one k }
 
 pub short_natural_value : (k : ℕ) → ratio (pos k) 1 ≡ whole (pos k)

@@ -13,7 +13,7 @@ use Rattle.nf_rational.specs.Gcd.{gcd, IsGcd-gcd}
 use Rattle.nf_rational.specs.Rational.{ℚ, ratio, abs_quot}
 use Rattle.nf_rational.proofs.Lowest.{parts_ratio}
 use Rattle.nf_frac.specs.Parts.{greatest, IsWithin}
-use Rattle.nf_frac.specs.Short.{short, IsShort, short_back}
+use Rattle.nf_frac.specs.Short.{short, AreShortParts, short_back}
 use Rattle.nf_frac.proofs.Bits.{bits_of, fits_128, plain, short_product}
 use Rattle.nf_frac.proofs.Form.{Parts}
 
@@ -43,16 +43,16 @@ plain_narrowed z h = ap bits_64 (plain z (within_wide z h)) ∙ plain_64 z h
 pub narrowed_fits : (z : ℤ) → nat_abs z ≤ short → SFits w64 (bits_of z)
 narrowed_fits z h = subst (SFits w64) (sym (plain z (within_wide z h))) (fits_64 z h)
 
-pub short_parts : {x : ℚ} {n : ℤ} {d : ℕ} → IsShort n d → ratio n d ≡ x → Parts x n d
+pub short_parts : {x : ℚ} {n : ℤ} {d : ℕ} → AreShortParts n d → ratio n d ≡ x → Parts x n d
 short_parts {x} {n} {d} h e = record {
   num = ap (λ (z : ℚ). z.num) (sym e) ∙ (short_back n d h).0;
   den = ap (λ (z : ℚ). z.den) (sym e) ∙ (short_back n d h).1;
 }
 
-pub short_num : {x : ℚ} {n : ℤ} {d : ℕ} → IsShort n d → ratio n d ≡ x → bits_64 n ≡ x.num
+pub short_num : {x : ℚ} {n : ℤ} {d : ℕ} → AreShortParts n d → ratio n d ≡ x → bits_64 n ≡ x.num
 short_num {x} {n} {d} h e = plain_64 n h.small ∙ sym (short_parts h e).num
 
-pub own_short : {x : ℚ} {n : ℤ} {d : ℕ} → IsShort n d → ratio n d ≡ x → IsWithin short x
+pub own_short : {x : ℚ} {n : ℤ} {d : ℕ} → AreShortParts n d → ratio n d ≡ x → IsWithin short x
 own_short {x} {n} {d} h e = record {
   small = subst (λ (z : ℤ). nat_abs z ≤ short) (sym (short_parts h e).num) h.small;
   small_den = subst (λ (k : ℕ). k ≤ short) (sym (short_parts h e).den) h.small_den;
@@ -66,16 +66,16 @@ called_short x n d e h f k = record { small = subst (λ (z : ℤ). nat_abs z ≤
 own_plain : (q : ℚ) (n : ℤ) → n ≡ q.num → nat_abs q.num ≤ short → bits_64 n ≡ q.num
 own_plain q n e h = plain_64 n (subst (λ (z : ℤ). nat_abs z ≤ short) (sym e) h) ∙ e
 
-pub short_form : (q : ℚ) (n : ℤ) (d : ℕ) → n ≡ q.num → d ≡ q.den → IsWithin short q → IsShort (bits_64 n) d
+pub short_form : (q : ℚ) (n : ℤ) (d : ℕ) → n ≡ q.num → d ≡ q.den → IsWithin short q → AreShortParts (bits_64 n) d
 short_form q n d e f h =
-    subst (λ (z : ℤ). IsShort z d) (sym (own_plain q n e h.small))
-    (subst (λ (k : ℕ). IsShort q.num k) (sym f) (record { positive = q.positive; small = h.small; small_den = h.small_den; lowest = q.reduced }))
+    subst (λ (z : ℤ). AreShortParts z d) (sym (own_plain q n e h.small))
+    (subst (λ (k : ℕ). AreShortParts q.num k) (sym f) (record { positive = q.positive; small = h.small; small_den = h.small_den; lowest = q.reduced }))
 
 pub short_value : (q : ℚ) (n : ℤ) (d : ℕ) → n ≡ q.num → d ≡ q.den → IsWithin short q → ratio (bits_64 n) d ≡ q
 short_value q n d e f h = ap₂ ratio (own_plain q n e h.small) f ∙ parts_ratio q
 
 -- the stored fraction with these parts
-pub stored : (n : ℤ) (d : ℕ) → IsShort n d → IsWithin short (ratio (bits_64 n) d)
+pub stored : (n : ℤ) (d : ℕ) → AreShortParts n d → IsWithin short (ratio (bits_64 n) d)
 stored n d h = subst (λ (z : ℤ). IsWithin short (ratio z d)) (sym (plain_64 n h.small)) (own_short h refl)
 
 -- ---- greatest common divisors without a division

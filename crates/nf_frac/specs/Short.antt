@@ -11,13 +11,13 @@ abbrev pub short : ℕ
 short = SHORT
 
 -- the parts of a small number, in lowest terms
-pub record IsShort (n : ℤ) (d : ℕ) : Type 0 where
+pub record AreShortParts (n : ℤ) (d : ℕ) : Type 0 where
   pub positive : 0 < d
   pub small : nat_abs n ≤ short
   pub small_den : d ≤ short
   pub lowest : gcd (nat_abs n) d ≡ 1
 
-pub short_back : (n : ℤ) (d : ℕ) → IsShort n d → ((ratio n d).num ≡ n) × ((ratio n d).den ≡ d)
+pub short_back : (n : ℤ) (d : ℕ) → AreShortParts n d → ((ratio n d).num ≡ n) × ((ratio n d).den ≡ d)
 short_back n d h = (num-ratio n d h.positive h.lowest, den-ratio n d h.positive h.lowest)
 
 -- the pair has the values x and y, both are small, and the bound is the widest

@@ -12,7 +12,7 @@ use crate::small::Small;
 use nf_frac_def::{Op, Passed};
 
 impl<const BITS: u32> Frac<BITS> {
-    // Both values as small numbers, if they are small and the bound is the widest. No operation on them exceeds this bound.
+    // Returns both values as small numbers, if they are small and the bound is the widest. No operation on them exceeds this bound.
     fn small_pair(self, right: Frac<BITS>) -> Option<(Small, Small)>
         ensures { IfSome result (λ pair. AreSmall (bound_of BITS) self.entry right.entry pair) }
     {

@@ -5,7 +5,7 @@ ghost use Rattle.nf_rational.specs.Rational.{ratio};
 ghost use Rattle.nf_rational.specs.Operations.{0ℚ, neg_ℚ, inv_ℚ};
 ghost use Rattle.nf_rational.specs.Order.{cmp_ℚ};
 ghost use Rattle.nf_frac.specs.Parts.{greatest, IsWithin};
-ghost use Rattle.nf_frac.specs.Short.{short, IsShort};
+ghost use Rattle.nf_frac.specs.Short.{short, AreShortParts};
 ghost use Rattle.nf_frac.specs.Order.{same_ℚ};
 
 use crate::lowest::Lowest;
@@ -25,7 +25,7 @@ pub struct Small {
 
 impl Model for Small {
     ghost use Rattle.nf_rational.specs.Rational.{ℚ, ratio, coded_ℚ};
-    ghost use Rattle.nf_frac.specs.Short.{IsShort, short_back};
+    ghost use Rattle.nf_frac.specs.Short.{AreShortParts, short_back};
 
     ghost Value = { ℚ };
 
@@ -33,7 +33,7 @@ impl Model for Small {
 
     ghost view = { λ f. ratio f.num f.den };
 
-    ghost invariant = { λ f. IsShort f.num f.den };
+    ghost invariant = { λ f. AreShortParts f.num f.den };
 
     ghost inverse = { λ q. record { num = q.num; den = q.den } };
 
@@ -58,7 +58,7 @@ impl Lowest {
 impl Small {
     // Returns the fraction with these parts.
     pub(crate) fn of(num: i64, den: u64) -> Small
-        requires { IsShort num den }
+        requires { AreShortParts num den }
         ensures value { result ≡ ratio num den }
         ensures small { IsWithin short result }
     {

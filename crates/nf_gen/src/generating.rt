@@ -40,7 +40,7 @@ fn ladder_text(alloc: Global, number: u64, rungs: u64) -> Result<Vec<u8>, AllocE
     Ok(out)
 }
 
-/// Returns the ladder of this number with 1 to 30 rungs. Fails only if an allocation fails.
+/// Returns the ladder of this number with 1 to 30 rungs. Fails if an allocation fails.
 pub fn generated(alloc: Global, number: u64, rungs: u32) -> Result<Network, AllocError>
     requires some { 1 ≤ rungs }
     requires few { rungs ≤ most_rungs }

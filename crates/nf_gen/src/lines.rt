@@ -17,7 +17,7 @@ fn push_count(out: &mut Vec<u8>, count: u64) -> Result<(), AllocError>
     Ok(())
 }
 
-/// Appends the line of a link. Fails only if an allocation fails.
+/// Appends the line of a link. Fails if an allocation fails.
 pub fn push_link_line(
     out: &mut Vec<u8>,
     name: &[u8],
@@ -40,7 +40,7 @@ pub fn push_link_line(
     Ok(())
 }
 
-/// Appends the line of an inflow piece. Fails only if an allocation fails.
+/// Appends the line of an inflow piece. Fails if an allocation fails.
 pub fn push_piece_line(out: &mut Vec<u8>, start: u64, rate: u64) -> Result<(), AllocError>
     ensures { OnOk result (out.new.items
         ≡ out.old.items ++ line_of_words (codes "inflow" ∷ digits_of start ∷ digits_of rate ∷ [])) }

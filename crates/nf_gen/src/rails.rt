@@ -139,7 +139,7 @@ fn push_last(
     Ok(())
 }
 
-/// Appends the lines of all links. Fails only if an allocation fails.
+/// Appends the lines of all links. Fails if an allocation fails.
 pub fn push_links(
     alloc: Global,
     out: &mut Vec<u8>,

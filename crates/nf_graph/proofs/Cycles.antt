@@ -4,7 +4,7 @@ use Rattle.std.proofs.Math.ListN.{length-set}
 use Rattle.nf_model.specs.Entries.{Has}
 use Rattle.nf_model.specs.Walk.{Hop, IsHop, IsWalk}
 use Rattle.nf_graph.specs.Graph.{AreBelow}
-use Rattle.nf_graph.specs.Order.{Enters, Turns, IsChosenCycle}
+use Rattle.nf_graph.specs.Order.{EntersFromUnplaced, Turns, IsChosenCycle}
 use Rattle.nf_graph.proofs.Flags.{Has-replicate, Has-set_cases, Has-within}
 use Rattle.nf_graph.proofs.Walks.{IsHop-unique, IsWalk-take, take-at, take_some}
 
@@ -44,7 +44,7 @@ pub insert-first : (walk : List ℕ) (e : ℕ) → insert walk 0 e ≡ e ∷ wal
 insert-first walk e = refl
 
 pub back_more : (hops : List Hop) (chosen placed : List Bool) (start : ℕ) (visited : List Bool) (walk : List ℕ) (node e tail i : ℕ) (hop : Hop) → AreBelow (length placed) hops
-    → IsBack hops chosen placed start visited walk node → Enters hops chosen placed e node → IsHop hops e hop → tail ≡ hop.tail → i ≡ node
+    → IsBack hops chosen placed start visited walk node → EntersFromUnplaced hops chosen placed e node → IsHop hops e hop → tail ≡ hop.tail → i ≡ node
     → IsBack hops chosen placed start (set visited i true) (e ∷ walk) tail
 back_more hops chosen placed start visited walk node e tail i hop below b enters p t n =
     let same : enters.hop ≡ hop = IsHop-unique hops e enters.hop hop enters.is_hop p in

@@ -4,15 +4,15 @@ use Rattle.std.specs.Option.{is_some}
 use Rattle.std.proofs.lemmas.Option.{slice_get-get_or, slice_get_read, same_Some}
 use Rattle.std.proofs.lemmas.Bool.{true≢false}
 use Rattle.nf_rational.specs.Rational.{ℚ}
-use Rattle.nf_graph.specs.Distances.{HasSum, IsOpen}
+use Rattle.nf_graph.specs.Distances.{HasSum, IsUnsettled}
 
 pub HasSum-unique : (sums : List (Option ℚ)) (v : ℕ) (a b : ℚ) → HasSum sums v a → HasSum sums v b → a ≡ b
 HasSum-unique sums v a b h k = cc
 
-pub HasSum-not_open : (sums : List (Option ℚ)) (v : ℕ) (a : ℚ) → HasSum sums v a → IsOpen sums v → ⊥
+pub HasSum-not_open : (sums : List (Option ℚ)) (v : ℕ) (a : ℚ) → HasSum sums v a → IsUnsettled sums v → ⊥
 HasSum-not_open sums v a h k = cc
 
-pub entry_cases : (sums : List (Option ℚ)) (v : ℕ) → v < length sums → ((sum : ℚ) × HasSum sums v sum) ⊎ IsOpen sums v
+pub entry_cases : (sums : List (Option ℚ)) (v : ℕ) → v < length sums → ((sum : ℚ) × HasSum sums v sum) ⊎ IsUnsettled sums v
 entry_cases [] v h = absurd (omega arith)
 entry_cases (Some sum ∷ sums) zero h = inl (sum, refl)
 entry_cases (None ∷ sums) zero h = inr refl
@@ -40,7 +40,7 @@ set_apart (p ∷ xs) (suc v) (suc w) y x n h = set_apart xs v w y x (λ e. n (ap
 
 -- ---- sums
 -- a settled node stays so where another one is settled
-pub set_other : (sums : List (Option ℚ)) (v w : ℕ) (o : Option ℚ) (sum : ℚ) → IsOpen sums v → HasSum sums w sum → HasSum (set sums v o) w sum
+pub set_other : (sums : List (Option ℚ)) (v w : ℕ) (o : Option ℚ) (sum : ℚ) → IsUnsettled sums v → HasSum sums w sum → HasSum (set sums v o) w sum
 set_other sums v w o sum h k = set_apart sums v w o (Some sum) (λ e. HasSum-not_open sums v sum (subst (λ (n : ℕ). HasSum sums n sum) e k) h) k
 
 -- how many nodes are not settled
@@ -49,7 +49,7 @@ unsettled [] = 0
 unsettled (Some sum ∷ sums) = unsettled sums
 unsettled (None ∷ sums) = suc (unsettled sums)
 
-pub fewer_unsettled : (sums : List (Option ℚ)) (v : ℕ) (sum : ℚ) → IsOpen sums v → unsettled (set sums v (Some sum)) < unsettled sums
+pub fewer_unsettled : (sums : List (Option ℚ)) (v : ℕ) (sum : ℚ) → IsUnsettled sums v → unsettled (set sums v (Some sum)) < unsettled sums
 fewer_unsettled [] v sum h = absurd (cc)
 fewer_unsettled (Some s ∷ sums) zero sum h = absurd (cc)
 fewer_unsettled (None ∷ sums) zero sum h = omega arith
@@ -68,6 +68,6 @@ entry_read sums i v d x e n h = slice_get-get_or sums v d h ∙ ap (λ (o : Opti
 pub entry_by_place : (sums : List (Option ℚ)) (i v : ℕ) (x : Option ℚ) → x ≡ get_or sums i x → i ≡ v → v < length sums → slice_get sums v ≡ Some x
 entry_by_place sums i v x e n h = slice_get_read sums (length sums) v x refl h (e ∙ ap (λ (k : ℕ). get_or sums k x) n)
 
-pub open_by_test : (sums : List (Option ℚ)) (i v : ℕ) (x : Option ℚ) → is_some x ≡ false → x ≡ get_or sums i x → i ≡ v → v < length sums → IsOpen sums v
+pub open_by_test : (sums : List (Option ℚ)) (i v : ℕ) (x : Option ℚ) → is_some x ≡ false → x ≡ get_or sums i x → i ≡ v → v < length sums → IsUnsettled sums v
 open_by_test sums i v None t e n h = entry_by_place sums i v None e n h
 open_by_test sums i v (Some q) t e n h = absurd (true≢false t)

@@ -18,7 +18,7 @@ use Rattle.nf_model.specs.Walk.{Hop, IsHop}
 use Rattle.nf_graph.specs.declared.distance.Step.{Step}
 use Rattle.nf_graph.specs.declared.distance.DistanceFault.{DistanceFault}
 use Rattle.nf_graph.specs.declared.distance.DistanceFault.TheVariants.{Passed, Memory}
-use Rattle.nf_graph.specs.Distances.{HasSum, IsOpen, Offers, SumPasses, AreOffers, AnyLink, LinksBefore, PassesAlong, StopsAt}
+use Rattle.nf_graph.specs.Distances.{HasSum, IsUnsettled, Offers, SumPasses, AreOffers, AnyLink, LinksBefore, PassesAlong, StopsAt}
 use Rattle.nf_graph.specs.Steps.{ForPassed, lesser_offer, IsOffered, PassesFrom, IsStepTo, IsNearer, IsNearestBefore, IsNearest}
 use Rattle.nf_graph.proofs.Walks.{IsHop-unique, IsHop-read}
 use Rattle.nf_graph.proofs.Entries.{HasSum-unique, entry_cases, set_same, set_cases, set_apart, set_other, replicate_open}
@@ -132,7 +132,7 @@ module _ (hops : List Hop) (sums : List (Option ℚ)) (e : ℕ) (hop : Hop) (p :
   offers_next b = ⊎_elim
       (λ (w : (eqb hop.tail step.node ≡ true) × (hop.tail ≡ step.node)). ⊎_elim
       (λ (x : (known : ℚ) × HasSum before hop.head known). passed_on (Some x.0) w.1 x.1)
-      (λ (x : IsOpen before hop.head). passed_on None w.1 x)
+      (λ (x : IsUnsettled before hop.head). passed_on None w.1 x)
       (entry_cases before hop.head b))
       (λ (w : (eqb hop.tail step.node ≡ false) × (hop.tail ≢ step.node)). passed_by w.1)
       (eqb_tells hop.tail step.node)
@@ -147,7 +147,7 @@ offers_none hops nodes = record {
 }
 
 -- a node that is settled offers nothing yet
-pub offers_settled : (hops : List Hop) (sums offers : List (Option ℚ)) (v : ℕ) (sum : ℚ) → IsOpen sums v → AreOffers hops sums AnyLink offers
+pub offers_settled : (hops : List Hop) (sums offers : List (Option ℚ)) (v : ℕ) (sum : ℚ) → IsUnsettled sums v → AreOffers hops sums AnyLink offers
     → AreOffers hops (set sums v (Some sum)) (LinksBefore v 0) offers
 offers_settled hops sums offers v sum o h = record {
   count = h.count ∙ sym (length-set sums v (Some sum));
@@ -161,10 +161,10 @@ offers_settled hops sums offers v sum o h = record {
     none : (e : ℕ) (hop : Hop) → LinksBefore v 0 e hop → hop.tail ≡ v → ⊥
     none e hop c t = let l : e < 0 = c t in omega arith
 
-    was_open : (w : ℕ) → IsOpen (set sums v (Some sum)) w → IsOpen sums w
+    was_open : (w : ℕ) → IsUnsettled (set sums v (Some sum)) w → IsUnsettled sums w
     was_open w u = ⊎_elim
         (λ (e : (w ≡ v) × (None ≡ Some sum)). let f : None ≡ Some sum = e.1 in absurd (cc))
-        (λ (e : IsOpen sums w). e)
+        (λ (e : IsUnsettled sums w). e)
         (set_cases sums v w (Some sum) None u)
 
     was_settled : (w : ℕ) (q : ℚ) → HasSum (set sums v (Some sum)) w q → (w ≡ v → ⊥) → HasSum sums w q
@@ -182,7 +182,7 @@ offers_all hops sums offers v count l h = record {
 }
 
 -- an open node with what it was offered
-pub step_found : (sums offers : List (Option ℚ)) (v : ℕ) (sum : ℚ) → IsOpen sums v → HasSum offers v sum → IsStepTo sums offers v (Some (record { node = v; sum = sum }))
+pub step_found : (sums offers : List (Option ℚ)) (v : ℕ) (sum : ℚ) → IsUnsettled sums v → HasSum offers v sum → IsStepTo sums offers v (Some (record { node = v; sum = sum }))
 step_found sums offers v sum o h = record {
   given = λ step q.
       let same : record { node = v; sum = sum } ≡ step = same_Some (record { node = v; sum = sum }) step q in
@@ -192,8 +192,8 @@ step_found sums offers v sum o h = record {
 
 -- ---- the least offer
 module _ (sums offers : List (Option ℚ)) (count : ℕ) where
-  given_nearer : (best offered nearer : Option Step) → IsNearer best offered nearer → ((step : Step) → best ≡ Some step → IsOpen sums step.node × HasSum offers step.node step.sum)
-      → ((step : Step) → offered ≡ Some step → IsOpen sums step.node × HasSum offers step.node step.sum) → (step : Step) → nearer ≡ Some step → IsOpen sums step.node × HasSum offers step.node step.sum
+  given_nearer : (best offered nearer : Option Step) → IsNearer best offered nearer → ((step : Step) → best ≡ Some step → IsUnsettled sums step.node × HasSum offers step.node step.sum)
+      → ((step : Step) → offered ≡ Some step → IsUnsettled sums step.node × HasSum offers step.node step.sum) → (step : Step) → nearer ≡ Some step → IsUnsettled sums step.node × HasSum offers step.node step.sum
   given_nearer None offered nearer n g h step q = h step (sym n ∙ q)
   given_nearer (Some best) None nearer n g h step q = g step (sym n ∙ q)
   given_nearer (Some best) (Some offered) nearer n g h step q = ⊎_elim
@@ -224,19 +224,19 @@ module _ (sums offers : List (Option ℚ)) (count : ℕ) where
   pub nearest_more : (best offered nearer : Option Step) → IsNearestBefore sums offers count best → IsStepTo sums offers count offered → IsNearer best offered nearer
       → IsNearestBefore sums offers (count + 1) nearer
   nearest_more best offered nearer b o n = record {
-    given = given_nearer best offered nearer n b.given (λ step q. let g : (step.node ≡ count) × IsOpen sums step.node × HasSum offers step.node step.sum = at_count step q in (g.1, g.2));
+    given = given_nearer best offered nearer n b.given (λ step q. let g : (step.node ≡ count) × IsUnsettled sums step.node × HasSum offers step.node step.sum = at_count step q in (g.1, g.2));
     least = λ v sum u g h. ⊎_elim
         (λ (w : (eqb v count ≡ true) × (v ≡ count)).
-        let s : (step : Step) × (offered ≡ Some step) × (step.sum ≡ sum) = o.every sum (subst (IsOpen sums) w.1 u) (subst (λ (k : ℕ). HasSum offers k sum) w.1 g) in
+        let s : (step : Step) × (offered ≡ Some step) × (step.sum ≡ sum) = o.every sum (subst (IsUnsettled sums) w.1 u) (subst (λ (k : ℕ). HasSum offers k sum) w.1 g) in
         nearer_than_offered best offered nearer sum n (s.0, s.1, ≤ℚ_of_same _ _ s.2))
         (λ (w : (eqb v count ≡ false) × (v ≢ count)). nearer_than_best best offered nearer sum n (b.least v sum u g (let apart : v ≢ count = w.1 in omega arith)))
         (eqb_tells v count);
   }
     where
-      at_count : (step : Step) → offered ≡ Some step → (step.node ≡ count) × IsOpen sums step.node × HasSum offers step.node step.sum
+      at_count : (step : Step) → offered ≡ Some step → (step.node ≡ count) × IsUnsettled sums step.node × HasSum offers step.node step.sum
       at_count step q =
-          let g : (step.node ≡ count) × IsOpen sums count × HasSum offers count step.sum = o.given step q in
-          (g.0, subst (IsOpen sums) (sym g.0) g.1, subst (λ (k : ℕ). HasSum offers k step.sum) (sym g.0) g.2)
+          let g : (step.node ≡ count) × IsUnsettled sums count × HasSum offers count step.sum = o.given step q in
+          (g.0, subst (IsUnsettled sums) (sym g.0) g.1, subst (λ (k : ℕ). HasSum offers k step.sum) (sym g.0) g.2)
 
 pub nearest_all : (sums offers : List (Option ℚ)) (count : ℕ) (best : Option Step) → length sums ≤ count → IsNearestBefore sums offers count best → IsNearest sums offers best
 nearest_all sums offers count best h b = record {
@@ -296,7 +296,7 @@ module _ (hops : List Hop) (step : Step) (e : ℕ) (hop : Hop) where
 -- ---- what the least offer says
 module _ (hops : List Hop) (sums offers : List (Option ℚ)) (best : Option Step) (h : AreOffers hops sums AnyLink offers) (n : IsNearest sums offers best) where
   pub nearest_offers : (step : Step) → best ≡ Some step → Offers hops sums step.node step.sum
-  nearest_offers step e = let g : IsOpen sums step.node × HasSum offers step.node step.sum = n.given step e in h.given step.node step.sum g.0 g.1
+  nearest_offers step e = let g : IsUnsettled sums step.node × HasSum offers step.node step.sum = n.given step e in h.given step.node step.sum g.0 g.1
 
   least_of : (v : ℕ) (more : ℚ) → Offers hops sums v more → (step : Step) × (best ≡ Some step) × (step.sum ≤ℚ more)
   least_of v more x =

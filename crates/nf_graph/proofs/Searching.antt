@@ -4,21 +4,21 @@ use Rattle.std.proofs.Math.ListN.{length-set}
 use Rattle.std.proofs.lemmas.Option.{slice_get_within}
 use Rattle.std.proofs.lemmas.Bool.Decides.{eqb_tells}
 use Rattle.nf_model.specs.Walk.{Hop}
-use Rattle.nf_graph.specs.Order.{Enters, NoneEnters, AreSearched}
+use Rattle.nf_graph.specs.Order.{EntersFromUnplaced, NoneEnters, AreSearched}
 use Rattle.nf_graph.proofs.Flags.{Has-set_other}
 use Rattle.nf_graph.proofs.Entries.{set_cases}
 
 module _ (hops : List Hop) (chosen placed : List Bool) where
-  pub none_more : (v e : ℕ) → NoneEnters hops chosen placed v e → (Enters hops chosen placed e v → ⊥) → NoneEnters hops chosen placed v (e + 1)
+  pub none_more : (v e : ℕ) → NoneEnters hops chosen placed v e → (EntersFromUnplaced hops chosen placed e v → ⊥) → NoneEnters hops chosen placed v (e + 1)
   none_more v e h n k l x = ⊎_elim
-      (λ (w : (eqb k e ≡ true) × (k ≡ e)). n (subst (λ (j : ℕ). Enters hops chosen placed j v) w.1 x))
+      (λ (w : (eqb k e ≡ true) × (k ≡ e)). n (subst (λ (j : ℕ). EntersFromUnplaced hops chosen placed j v) w.1 x))
       (λ (w : (eqb k e ≡ false) × (k ≢ e)). h k (let apart : k ≢ e = w.1 in omega arith) x)
       (eqb_tells k e)
 
   pub none_within : (v count : ℕ) → length hops ≤ count → NoneEnters hops chosen placed v count → NoneEnters hops chosen placed v (length hops)
   none_within v count l h e b = h e (omega arith)
 
-  pub none_enters : (v : ℕ) → NoneEnters hops chosen placed v (length hops) → (e : ℕ) → Enters hops chosen placed e v → ⊥
+  pub none_enters : (v : ℕ) → NoneEnters hops chosen placed v (length hops) → (e : ℕ) → EntersFromUnplaced hops chosen placed e v → ⊥
   none_enters v h e x = h e (slice_get_within hops e x.hop x.is_hop) x
 
   pub searched_first : (nodes : ℕ) (searched : List ℕ) → searched ≡ replicate nodes 0 → length searched ≡ length placed → AreSearched hops chosen placed searched

@@ -11,7 +11,7 @@ use Rattle.nf_rational_laws.proofs.Linear.{le, eq, linear_le, linear_eq}
 use Rattle.nf_model.specs.Walk.{Hop, IsHop, IsWalk, transit_of, transit_sum, IsLeastTransit}
 use Rattle.nf_graph.specs.Graph.{AreBelow}
 use Rattle.nf_graph.specs.declared.distance.Step.{Step}
-use Rattle.nf_graph.specs.Distances.{NoneNegative, AreDistances, PassesAt, StopsAt, HasSum, IsOpen, Offers, AreOffers, AnyLink, AllFit, SumPasses}
+use Rattle.nf_graph.specs.Distances.{NoNegativeTransit, AreDistances, PassesAt, StopsAt, HasSum, IsUnsettled, Offers, AreOffers, AnyLink, AllFit, SumPasses}
 use Rattle.nf_graph.specs.Steps.{IsNearest}
 use Rattle.nf_graph.proofs.Entries.{HasSum-not_open, entry_cases, set_same, set_cases, set_other, unsettled, fewer_unsettled, replicate_open}
 use Rattle.nf_graph.proofs.Offering.{nearest_offers, nearest_least, nearest_none}
@@ -21,10 +21,10 @@ use Rattle.nf_model_laws.proofs.Networks.{IsWalk-append, transit_of-hop}
 none_nn : 0ℚ ≤ℚ 0ℚ
 none_nn = ≤ℚ_of_same 0ℚ 0ℚ refl
 
-transit_of-nn : (hops : List Hop) (e : ℕ) (hop : Hop) → NoneNegative hops → IsHop hops e hop → 0ℚ ≤ℚ transit_of hops e
+transit_of-nn : (hops : List Hop) (e : ℕ) (hop : Hop) → NoNegativeTransit hops → IsHop hops e hop → 0ℚ ≤ℚ transit_of hops e
 transit_of-nn hops e hop n p = subst (λ (t : ℚ). 0ℚ ≤ℚ t) (sym (transit_of-hop hops e hop p)) (n e hop p)
 
-pub transit_sum-nn : (hops : List Hop) (walk : List ℕ) (v w : ℕ) → NoneNegative hops → IsWalk hops walk v w → 0ℚ ≤ℚ transit_sum hops walk
+pub transit_sum-nn : (hops : List Hop) (walk : List ℕ) (v w : ℕ) → NoNegativeTransit hops → IsWalk hops walk v w → 0ℚ ≤ℚ transit_sum hops walk
 transit_sum-nn hops [] v w n h = none_nn
 transit_sum-nn hops (e ∷ walk) v w n h = nn_plus _ _ (transit_of-nn hops e h.0 n h.1) (transit_sum-nn hops walk h.0.head w n h.3)
 
@@ -69,8 +69,8 @@ next_part s d e t w h k = linear_le (s ∷ d ∷ e ∷ t ∷ w ∷ []) (le h ∷
 at_zero : (s d t : ℚ) → s ≤ℚ d +ℚ t → d ≡ 0ℚ → s ≤ℚ t
 at_zero s d t h e = linear_le (s ∷ d ∷ t ∷ []) (le h ∷ eq e ∷ []) (search reading_of depth 12) tt
 
-module _ (nodes : ℕ) (hops : List Hop) (from : ℕ) (sums : List (Option ℚ)) (below : AreBelow nodes hops) (good : NoneNegative hops) (settled : AreSettled nodes hops from sums) where
-  entry : (v : ℕ) → v < nodes → ((sum : ℚ) × HasSum sums v sum) ⊎ IsOpen sums v
+module _ (nodes : ℕ) (hops : List Hop) (from : ℕ) (sums : List (Option ℚ)) (below : AreBelow nodes hops) (good : NoNegativeTransit hops) (settled : AreSettled nodes hops from sums) where
+  entry : (v : ℕ) → v < nodes → ((sum : ℚ) × HasSum sums v sum) ⊎ IsUnsettled sums v
   entry v h = entry_cases sums v (subst (λ (n : ℕ). v < n) (sym settled.count) h)
 
   -- the sum of a settled node and a link from it is no less than the sum at its head
@@ -80,18 +80,18 @@ module _ (nodes : ℕ) (hops : List Hop) (from : ℕ) (sums : List (Option ℚ))
       subst (λ (c : ℚ). b ≤ℚ c) (transit_sum-append hops tail.taken.0 e ∙ ap (λ (c : ℚ). c +ℚ transit_of hops e) tail.taken.2)
       ((settled.least hop.head b t).bound (tail.taken.0 ++ e ∷ []) (IsWalk-append hops tail.taken.0 from e hop tail.taken.1 p))
 
-  offer_of : (e : ℕ) (hop : Hop) (a : ℚ) → IsHop hops e hop → HasSum sums hop.tail a → IsOpen sums hop.head → Offers hops sums hop.head (a +ℚ transit_of hops e)
+  offer_of : (e : ℕ) (hop : Hop) (a : ℚ) → IsHop hops e hop → HasSum sums hop.tail a → IsUnsettled sums hop.head → Offers hops sums hop.head (a +ℚ transit_of hops e)
   offer_of e hop a p s o = record { number = e; hop = hop; is_hop = p; before = a; tail = s; head = refl; not_settled = o; is_sum = ap (λ (t : ℚ). a +ℚ t) (transit_of-hop hops e hop p) }
 
   -- a walk from a settled node to one that is not leaves the settled nodes along some link
-  leaves_at : (walk : List ℕ) (u w : ℕ) (least a : ℚ) → ((v : ℕ) (more : ℚ) → Offers hops sums v more → least ≤ℚ more) → HasSum sums u a → IsOpen sums w → IsWalk hops walk u w
+  leaves_at : (walk : List ℕ) (u w : ℕ) (least a : ℚ) → ((v : ℕ) (more : ℚ) → Offers hops sums v more → least ≤ℚ more) → HasSum sums u a → IsUnsettled sums w → IsWalk hops walk u w
       → least ≤ℚ a +ℚ transit_sum hops walk
   leaves_at [] u w least a m s o h = absurd (HasSum-not_open sums w a (subst (λ (n : ℕ). HasSum sums n a) h s) o)
   leaves_at (e ∷ walk) u w least a m s o h =
       let tail : HasSum sums h.0.tail a = subst (λ (n : ℕ). HasSum sums n a) (sym h.2) s in
       ⊎_elim
       (λ (x : (sum : ℚ) × HasSum sums h.0.head sum). next_part _ _ _ _ _ (leaves_at walk h.0.head w least x.0 m x.1 o h.3) (along_hop e h.0 a x.0 h.1 tail x.1))
-      (λ (x : IsOpen sums h.0.head). first_part _ _ _ _ (m h.0.head (a +ℚ transit_of hops e) (offer_of e h.0 a h.1 tail x)) (transit_sum-nn hops walk h.0.head w good h.3))
+      (λ (x : IsUnsettled sums h.0.head). first_part _ _ _ _ (m h.0.head (a +ℚ transit_of hops e) (offer_of e h.0 a h.1 tail x)) (transit_sum-nn hops walk h.0.head w good h.3))
       (entry h.0.head (below.heads e h.0 h.1))
 
   -- the least offer is the least transit sum of its node
@@ -128,7 +128,7 @@ module _ (nodes : ℕ) (hops : List Hop) (from : ℕ) (sums : List (Option ℚ))
       let tail : HasSum sums h.0.tail a = subst (λ (n : ℕ). HasSum sums n a) (sym h.2) s in
       ⊎_elim
       (λ (x : (sum : ℚ) × HasSum sums h.0.head sum). stays walk h.0.head w x.0 m x.1 h.3)
-      (λ (x : IsOpen sums h.0.head). absurd (m h.0.head (a +ℚ transit_of hops e) (offer_of e h.0 a h.1 tail x)))
+      (λ (x : IsUnsettled sums h.0.head). absurd (m h.0.head (a +ℚ transit_of hops e) (offer_of e h.0 a h.1 tail x)))
       (entry h.0.head (below.heads e h.0 h.1))
 
   settled_all : ((v : ℕ) (more : ℚ) → Offers hops sums v more → ⊥) → AreDistances nodes hops from sums
@@ -163,7 +163,7 @@ module _ (nodes : ℕ) (hops : List Hop) (from : ℕ) (sums : List (Option ℚ))
     none_passes e = all_fit (nearest_none hops sums offers best made near e) (λ k hop before p t. made.fits k hop before p t tt)
 
 -- the node to begin with is settled, and no other
-pub settled_first : (nodes : ℕ) (hops : List Hop) (from : ℕ) (sums : List (Option ℚ)) (start : ℚ) → NoneNegative hops → sums ≡ set (replicate nodes None) from (Some start) → from < nodes → start ≡ 0ℚ
+pub settled_first : (nodes : ℕ) (hops : List Hop) (from : ℕ) (sums : List (Option ℚ)) (start : ℚ) → NoNegativeTransit hops → sums ≡ set (replicate nodes None) from (Some start) → from < nodes → start ≡ 0ℚ
     → AreSettled nodes hops from sums
 settled_first nodes hops from sums start good e h z = subst (AreSettled nodes hops from) (sym (e ∙ ap (λ (q : ℚ). set (replicate nodes None) from (Some q)) z)) (record {
   count = length-set (replicate nodes None) from (Some 0ℚ) ∙ length-replicate nodes None;

@@ -8,8 +8,8 @@ use Rattle.nf_frac_def.specs.Passing.{passes_Q}
 use Rattle.nf_model.specs.Walk.{Hop, IsHop, IsWalk, IsLeastTransit}
 
 -- no transit time is negative
-abbrev pub NoneNegative : List Hop → Type 0
-NoneNegative hops = (e : ℕ) (hop : Hop) → IsHop hops e hop → 0ℚ ≤ℚ hop.transit
+abbrev pub NoNegativeTransit : List Hop → Type 0
+NoNegativeTransit hops = (e : ℕ) (hop : Hop) → IsHop hops e hop → 0ℚ ≤ℚ hop.transit
 
 -- Each node has one entry: its least transit sum from the node `from`, or None exactly if no walk leads there.
 pub record AreDistances (nodes : ℕ) (hops : List Hop) (from : ℕ) (sums : List (Option ℚ)) : Type 0 where
@@ -35,8 +35,8 @@ pub record PassesAt (hops : List Hop) (from e : ℕ) (left right : ℚ) : Type 0
 abbrev pub HasSum : List (Option ℚ) → ℕ → ℚ → Type 0
 HasSum sums v sum = slice_get sums v ≡ Some (Some sum)
 
-abbrev pub IsOpen : List (Option ℚ) → ℕ → Type 0
-IsOpen sums v = slice_get sums v ≡ Some None
+abbrev pub IsUnsettled : List (Option ℚ) → ℕ → Type 0
+IsUnsettled sums v = slice_get sums v ≡ Some None
 
 -- a link leads from a settled node to the unsettled node v, and `sum` is the transit sum along it
 pub record Offers (hops : List Hop) (sums : List (Option ℚ)) (v : ℕ) (sum : ℚ) : Type 0 where
@@ -46,13 +46,13 @@ pub record Offers (hops : List Hop) (sums : List (Option ℚ)) (v : ℕ) (sum : 
   pub before : ℚ
   pub tail : HasSum sums hop.tail before
   pub head : hop.head ≡ v
-  pub not_settled : IsOpen sums v
+  pub not_settled : IsUnsettled sums v
   pub is_sum : sum ≡ before +ℚ hop.transit
 
 -- the offers made to open nodes along the links that Counted allows: each node has the least one, and no sum along these links passes
 pub record AreOffers (hops : List Hop) (sums : List (Option ℚ)) (Counted : ℕ → Hop → Type 0) (offers : List (Option ℚ)) : Type 0 where
   pub count : length offers ≡ length sums
-  pub given : (v : ℕ) (sum : ℚ) → IsOpen sums v → HasSum offers v sum → Offers hops sums v sum
+  pub given : (v : ℕ) (sum : ℚ) → IsUnsettled sums v → HasSum offers v sum → Offers hops sums v sum
   pub least : (v : ℕ) (sum : ℚ) (o : Offers hops sums v sum) → Counted o.number o.hop → (best : ℚ) × HasSum offers v best × (best ≤ℚ sum)
   pub fits : (e : ℕ) (hop : Hop) (before : ℚ) → IsHop hops e hop → HasSum sums hop.tail before → Counted e hop
       → SumPasses before hop.transit → ⊥

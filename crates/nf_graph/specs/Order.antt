@@ -17,7 +17,7 @@ pub record IsOrder (nodes : ℕ) (hops : List Hop) (chosen : List Bool) (order :
   pub later : (e i j : ℕ) (hop : Hop) → IsHop hops e hop → Has chosen e → IsAt order i hop.tail → IsAt order j hop.head → i < j
 
 -- the walk is closed and has at least one hop; each hop is allowed
-pub record IsCycle (hops : List Hop) (Allowed : ℕ → Type 0) (walk : List ℕ) : Type 0 where
+pub record IsWalkCycle (hops : List Hop) (Allowed : ℕ → Type 0) (walk : List ℕ) : Type 0 where
   pub node : ℕ
   pub some : 0 < length walk
   pub closed : IsWalk hops walk node node
@@ -25,16 +25,16 @@ pub record IsCycle (hops : List Hop) (Allowed : ℕ → Type 0) (walk : List ℕ
 
 -- a cycle along chosen links
 abbrev pub IsChosenCycle : List Hop → List Bool → List ℕ → Type 0
-IsChosenCycle hops chosen walk = IsCycle hops (Has chosen) walk
+IsChosenCycle hops chosen walk = IsWalkCycle hops (Has chosen) walk
 
 -- a cycle along links of transit time 0
 abbrev pub IsZeroCycle : List Hop → List ℕ → Type 0
-IsZeroCycle hops walk = IsCycle hops (λ e. transit_of hops e ≡ 0ℚ) walk
+IsZeroCycle hops walk = IsWalkCycle hops (λ e. transit_of hops e ≡ 0ℚ) walk
 
 -- ---- states of the search
 
 -- a chosen link leads into node v from a node that is not placed yet
-pub record Enters (hops : List Hop) (chosen placed : List Bool) (e v : ℕ) : Type 0 where
+pub record EntersFromUnplaced (hops : List Hop) (chosen placed : List Bool) (e v : ℕ) : Type 0 where
   pub hop : Hop
   pub is_hop : IsHop hops e hop
   pub chosen_too : Has chosen e
@@ -43,11 +43,11 @@ pub record Enters (hops : List Hop) (chosen placed : List Bool) (e v : ℕ) : Ty
 
 -- none of the links before number `count` enters node v
 abbrev pub NoneEnters : List Hop → List Bool → List Bool → ℕ → ℕ → Type 0
-NoneEnters hops chosen placed v count = (e : ℕ) → e < count → Enters hops chosen placed e v → ⊥
+NoneEnters hops chosen placed v count = (e : ℕ) → e < count → EntersFromUnplaced hops chosen placed e v → ⊥
 
 -- link e enters node v, and none before it does
 pub record IsFirstEntering (hops : List Hop) (chosen placed : List Bool) (v e : ℕ) : Type 0 where
-  pub enters : Enters hops chosen placed e v
+  pub enters : EntersFromUnplaced hops chosen placed e v
   pub first : NoneEnters hops chosen placed v e
 
 -- each node has a number, and none of the links before it enters the node
@@ -59,11 +59,11 @@ pub record AreSearched (hops : List Hop) (chosen placed : List Bool) (searched :
 pub record IsReady (hops : List Hop) (chosen placed : List Bool) (v : ℕ) : Type 0 where
   pub below : v < length placed
   pub free : Has placed v → ⊥
-  pub none : (e : ℕ) → Enters hops chosen placed e v → ⊥
+  pub none : (e : ℕ) → EntersFromUnplaced hops chosen placed e v → ⊥
 
 -- no node may be placed next: each unplaced node is entered by a chosen link from an unplaced node
 abbrev pub IsStuck : List Hop → List Bool → List Bool → Type 0
-IsStuck hops chosen placed = (v : ℕ) → v < length placed → (Has placed v → ⊥) → (e : ℕ) × Enters hops chosen placed e v
+IsStuck hops chosen placed = (v : ℕ) → v < length placed → (Has placed v → ⊥) → (e : ℕ) × EntersFromUnplaced hops chosen placed e v
 
 -- a link of the walk leads to node v; `count` is the number of links up to and including it
 pub record Turns (hops : List Hop) (walk : List ℕ) (v count : ℕ) : Type 0 where

@@ -7,7 +7,7 @@ use Rattle.nf_model.specs.Walk.{Hop, IsHop}
 use Rattle.nf_graph.specs.declared.distance.DistanceFault.{DistanceFault}
 use Rattle.nf_graph.specs.declared.distance.DistanceFault.TheVariants.{Passed, Memory}
 use Rattle.nf_graph.specs.declared.distance.Step.{Step}
-use Rattle.nf_graph.specs.Distances.{HasSum, IsOpen, SumPasses}
+use Rattle.nf_graph.specs.Distances.{HasSum, IsUnsettled, SumPasses}
 
 -- if an operation passed, P holds of the link and the operands
 abbrev pub ForPassed : (ℕ → ℚ → ℚ → Type 0) → DistanceFault → Type 0
@@ -37,8 +37,8 @@ pub record PassesFrom (hops : List Hop) (step : Step) (e : ℕ) (left right : �
 
 -- the open node v with what it was offered, if it was offered a sum
 pub record IsStepTo (sums offers : List (Option ℚ)) (v : ℕ) (offered : Option Step) : Type 0 where
-  pub given : (step : Step) → offered ≡ Some step → (step.node ≡ v) × IsOpen sums v × HasSum offers v step.sum
-  pub every : (sum : ℚ) → IsOpen sums v → HasSum offers v sum → (step : Step) × (offered ≡ Some step) × (step.sum ≡ sum)
+  pub given : (step : Step) → offered ≡ Some step → (step.node ≡ v) × IsUnsettled sums v × HasSum offers v step.sum
+  pub every : (sum : ℚ) → IsUnsettled sums v → HasSum offers v sum → (step : Step) × (offered ≡ Some step) × (step.sum ≡ sum)
 
 -- the offer with the lesser sum
 abbrev pub IsNearer : Option Step → Option Step → Option Step → Type 0
@@ -49,10 +49,10 @@ IsNearer (Some best) (Some offered) nearer =
 
 -- `best` is the least offer made to the open nodes before number `count`
 pub record IsNearestBefore (sums offers : List (Option ℚ)) (count : ℕ) (best : Option Step) : Type 0 where
-  pub given : (step : Step) → best ≡ Some step → IsOpen sums step.node × HasSum offers step.node step.sum
-  pub least : (v : ℕ) (sum : ℚ) → IsOpen sums v → HasSum offers v sum → v < count → (step : Step) × (best ≡ Some step) × (step.sum ≤ℚ sum)
+  pub given : (step : Step) → best ≡ Some step → IsUnsettled sums step.node × HasSum offers step.node step.sum
+  pub least : (v : ℕ) (sum : ℚ) → IsUnsettled sums v → HasSum offers v sum → v < count → (step : Step) × (best ≡ Some step) × (step.sum ≤ℚ sum)
 
 -- `best` is the least offer made to the open nodes
 pub record IsNearest (sums offers : List (Option ℚ)) (best : Option Step) : Type 0 where
-  pub given : (step : Step) → best ≡ Some step → IsOpen sums step.node × HasSum offers step.node step.sum
-  pub least : (v : ℕ) (sum : ℚ) → IsOpen sums v → HasSum offers v sum → (step : Step) × (best ≡ Some step) × (step.sum ≤ℚ sum)
+  pub given : (step : Step) → best ≡ Some step → IsUnsettled sums step.node × HasSum offers step.node step.sum
+  pub least : (v : ℕ) (sum : ℚ) → IsUnsettled sums v → HasSum offers v sum → (step : Step) × (best ≡ Some step) × (step.sum ≤ℚ sum)

@@ -2,7 +2,7 @@
 ghost use Rattle.std.specs.Prelude.{◌≡◌, ◌^◌, ◌<◌, ℕ, Option, length, slice_get, slice_set, IfOk, IfErr, OnOk, Some};
 ghost use Rattle.nf_rational.specs.Rational.{ℚ};
 ghost use Rattle.nf_graph.specs.Graph.{AreBelow};
-ghost use Rattle.nf_graph.specs.Distances.{NoneNegative, AreDistances, PassesAt, IsOpen, AreOffers, AnyLink, IsSumAlong, PassesAlong, StopsAt};
+ghost use Rattle.nf_graph.specs.Distances.{NoNegativeTransit, AreDistances, PassesAt, IsUnsettled, AreOffers, AnyLink, IsSumAlong, PassesAlong, StopsAt};
 ghost use Rattle.nf_graph.specs.Steps.{ForPassed, lesser_offer, IsOffered, PassesFrom, IsStepTo, IsNearer, IsNearest};
 
 use crate::ids::{Hop, LinkId, NodeId};
@@ -107,7 +107,7 @@ fn settle(
 ) -> Result<(), DistanceFault>
     requires ends { AreBelow (length sums.old) hops.now }
     requires fewer { length hops.now < 2 ^ 32 }
-    requires unsettled { IsOpen sums.old step.now.node }
+    requires unsettled { IsUnsettled sums.old step.now.node }
     requires offers { AreOffers hops.now sums.old AnyLink offers.old }
     ensures sums { sums.new ≡ slice_set sums.old step.now.node (Some step.now.sum) }
     ensures offers { IfOk result (λ _. AreOffers hops.now sums.new AnyLink offers.new) }
@@ -173,7 +173,7 @@ pub fn distances(
     requires ends { AreBelow nodes hops.now }
     requires fewer { length hops.now < 2 ^ 32 }
     requires from { from < nodes }
-    requires transits { NoneNegative hops.now }
+    requires transits { NoNegativeTransit hops.now }
     ensures sums { IfOk result (λ sums. AreDistances nodes hops.now from sums.items) }
     ensures fits { OnOk result
         ((link : ℕ) (left right : ℚ) → PassesAt hops.now from link left right → ⊥) }

@@ -4,7 +4,7 @@ ghost use Rattle.nf_rational.specs.Operations.{0ℚ};
 ghost use Rattle.nf_frac.specs.Order.{same_ℚ};
 ghost use Rattle.nf_model.specs.Entries.{Has};
 ghost use Rattle.nf_graph.specs.Graph.{AreBelow};
-ghost use Rattle.nf_graph.specs.Order.{IsOrder, IsChosenCycle, IsZeroCycle, Enters, NoneEnters, IsFirstEntering, AreSearched, IsReady, IsStuck, Turns};
+ghost use Rattle.nf_graph.specs.Order.{IsOrder, IsChosenCycle, IsZeroCycle, EntersFromUnplaced, NoneEnters, IsFirstEntering, AreSearched, IsReady, IsStuck, Turns};
 ghost use Rattle.nf_graph.specs.Found.{IsFound};
 
 use crate::ids::{Hop, LinkId, NodeId};
@@ -63,7 +63,7 @@ fn is_ready(
     requires below { node < length placed.now }
     requires searched { NoneEnters hops.now chosen.now placed.now node searched.old }
     ensures ready { MatchBool result (IsReady hops.now chosen.now placed.now node)
-        ((Has placed.now node → ⊥) → (e : ℕ) × Enters hops.now chosen.now placed.now e node) }
+        ((Has placed.now node → ⊥) → (e : ℕ) × EntersFromUnplaced hops.now chosen.now placed.now e node) }
     ensures searched { NoneEnters hops.now chosen.now placed.now node searched.new }
 {
     if placed[node.index()] {
@@ -148,8 +148,8 @@ fn entering_link(hops: &[Hop], chosen: &[bool], placed: &[bool], node: NodeId) -
     requires ends { AreBelow (length placed.now) hops.now }
     requires count { length chosen.now ≡ length hops.now }
     requires fewer { length hops.now < 2 ^ 32 }
-    requires some { (e : ℕ) × Enters hops.now chosen.now placed.now e node }
-    ensures { Enters hops.now chosen.now placed.now result node }
+    requires some { (e : ℕ) × EntersFromUnplaced hops.now chosen.now placed.now e node }
+    ensures { EntersFromUnplaced hops.now chosen.now placed.now result node }
 {
     match entering_from(hops, chosen, placed, node, 0) {
         Some(link) => link,

@@ -14,7 +14,7 @@ pub struct LinkSets {
 impl Model for LinkSets {
     ghost use Rattle.nf_model.specs.ThinFlow.{Sets};
     ghost use Rattle.nf_model.specs.Codes.{coded_sets};
-    ghost use Rattle.nf_graph.specs.Sets.{AreSets};
+    ghost use Rattle.nf_graph.specs.Sets.{AreLinkSets};
 
     ghost Value = { Sets };
 
@@ -23,17 +23,17 @@ impl Model for LinkSets {
     ghost view = { λ s. record { active = s.active.items; resetting = s.resetting.items } };
 
     ghost invariant = { λ s.
-        AreSets (record { active = s.active.items; resetting = s.resetting.items }) };
+        AreLinkSets (record { active = s.active.items; resetting = s.resetting.items }) };
 }
 
 impl LinkSets {
     ghost use Rattle.std.specs.Prelude.{◌≡◌, ◌<◌, length, slice_get, IfOk};
-    ghost use Rattle.nf_graph.specs.Sets.{AreSets};
+    ghost use Rattle.nf_graph.specs.Sets.{AreLinkSets};
 
     /// Makes the sets of these flags, two for each link. Both lists must be equally long, and each resetting link active. Fails if an
     /// allocation fails.
     pub fn new(alloc: Global, active: &[bool], resetting: &[bool]) -> Result<LinkSets, AllocError>
-        requires { AreSets (record { active = active.now; resetting = resetting.now }) }
+        requires { AreLinkSets (record { active = active.now; resetting = resetting.now }) }
         ensures { IfOk result
             (λ sets. sets ≡ record { active = active.now; resetting = resetting.now }) }
     {
@@ -46,7 +46,7 @@ impl LinkSets {
     pub fn active(&self, link: LinkId) -> bool
         requires { link < length self.now.active }
         ensures flag { slice_get self.now.active link ≡ Some result }
-        ensures sets { AreSets self.now }
+        ensures sets { AreLinkSets self.now }
     {
         self.active[link.index()]
     }
@@ -55,7 +55,7 @@ impl LinkSets {
     pub fn resetting(&self, link: LinkId) -> bool
         requires { link < length self.now.active }
         ensures flag { slice_get self.now.resetting link ≡ Some result }
-        ensures sets { AreSets self.now }
+        ensures sets { AreLinkSets self.now }
     {
         self.resetting[link.index()]
     }

@@ -17,7 +17,7 @@ use Rattle.nf_net.specs.declared.building.SortedLinks.{SortedLinks}
 use Rattle.nf_net.specs.declared.building.SortedNodes.{SortedNodes}
 use Rattle.nf_net.specs.declared.building.Tables.{Tables}
 use Rattle.nf_net.specs.declared.building.Parts.{Parts}
-use Rattle.nf_net.specs.Building.{AreSorted, AreNodesOf, AreTablesOf, net_of, ArePartsOf}
+use Rattle.nf_net.specs.Building.{AreDivided, AreNodesOf, AreTablesOf, net_of, ArePartsOf}
 use Rattle.nf_net.specs.Kept.{with_parts}
 use Rattle.nf_net_file.specs.Contents.{IsRead}
 use Rattle.nf_net_file.specs.Closing.{HasEnds, BreaksNone, flag_at, tail_flags, AreFlags}
@@ -62,7 +62,7 @@ module _ (draft : Draft) (flags : List Bool) (read : IsRead draft) (has : HasEnd
   abbrev net_with : List Name → List NamedLink → List NamedLink → Named
   net_with nodes active idle = with_parts draft.version nodes (names_of active) (map (numbered nodes) active) draft.pieces (without nodes (with_names [] (ends idle))) idle
 
-  module _ (links : SortedLinks) (nodes : SortedNodes) (sorted : AreSorted draft flags links) (of : AreNodesOf draft links nodes) where
+  module _ (links : SortedLinks) (nodes : SortedNodes) (sorted : AreDivided draft flags links) (of : AreNodesOf draft links nodes) where
     nodes_are : nodes.active ≡ nodes_with links.active.items
     nodes_are = of.active ∙ ap (λ (l : List Name). with_names l (ends links.active.items)) (put_two (source_name draft) (sink_name draft) two_ends)
 

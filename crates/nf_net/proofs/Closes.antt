@@ -4,7 +4,7 @@ use Rattle.nf_text_def.specs.Words.{ReadLine, read_lines, content_lines}
 use Rattle.nf_text_def.specs.Faults.{LineFault, NotAscii, LongLine, first_fault}
 use Rattle.nf_text.specs.declared.TextFault.{TextFault}
 use Rattle.nf_text.specs.declared.fault.FileFault.{FileFault}
-use Rattle.nf_text.specs.Reading.{Tells}
+use Rattle.nf_text.specs.Reading.{MatchesFault}
 use Rattle.nf_text.specs.Faults.{fault_of_text}
 use Rattle.nf_net_def.specs.declared.NetRule.{NetRule}
 use Rattle.nf_net_def.specs.declared.NetRule.TheVariants.{N1, N2}
@@ -15,14 +15,14 @@ use Rattle.nf_net_file.specs.Contents.{IfBroken}
 use Rattle.nf_net_file.proofs.ContentLines.{broken_more}
 
 -- a line with a fault
-pub text_refused : (text : List ℕ) (fault : TextFault) (answer : FileFault NetRule) → answer ≡ fault_of_text N1 N2 fault → Tells fault (first_fault text)
+pub text_refused : (text : List ℕ) (fault : TextFault) (answer : FileFault NetRule) → answer ≡ fault_of_text N1 N2 fault → MatchesFault fault (first_fault text)
     → IfBroken answer (λ broken. Reads text (Err broken))
 text_refused text fault answer e tells = subst (λ (f : FileFault NetRule). IfBroken f (λ broken. Reads text (Err broken))) (sym e) (at fault tells)
   where
     found : (fault : LineFault) (broken : Broken) → first_fault text ≡ Some fault → as_rule fault ≡ broken → Reads text (Err broken)
     found fault broken e same = subst (λ (o : Option LineFault). by_bytes o (draft_from (content_lines (read_lines text))) (Err broken)) (sym e) (ap (λ (b : Broken). Err b) (sym same))
 
-    at : (fault : TextFault) → Tells fault (first_fault text) → IfBroken (fault_of_text N1 N2 fault) (λ broken. Reads text (Err broken))
+    at : (fault : TextFault) → MatchesFault fault (first_fault text) → IfBroken (fault_of_text N1 N2 fault) (λ broken. Reads text (Err broken))
     at (TextFault.NotAscii line) e = found (NotAscii line) _ e refl
     at (TextFault.LongLine line) e = found (LongLine line) _ e refl
     at TextFault.Memory e = tt

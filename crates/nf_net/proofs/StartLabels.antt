@@ -13,7 +13,7 @@ use Rattle.std.specs.Prelude.{Result, Ok, Err, IfOk, Vec}
 use Rattle.std.specs.declared.alloc.AllocError.{AllocError}
 use Rattle.std.specs.declared.alloc.Global.{Global}
 use Rattle.nf_graph.specs.Graph.{AreBelow}
-use Rattle.nf_graph.specs.Distances.{NoneNegative, AreDistances}
+use Rattle.nf_graph.specs.Distances.{NoNegativeTransit, AreDistances}
 use Rattle.nf_net_def.specs.Named.{Named}
 use Rattle.nf_net_def.specs.WellNamed.{IsNamed}
 use Rattle.nf_net_laws.proofs.WalkFacts.{CameFrom, came_from}
@@ -34,8 +34,8 @@ module _ (n : Named) (h : IsNamed n) (kept : List Hop) (are : kept ≡ hops n.ne
   pub net_below : AreBelow n.net.nodes kept
   net_below = subst (λ (hs : List Hop). AreBelow n.net.nodes hs) (sym are) (record { tails = tails; heads = heads })
 
-  pub net_transits : NoneNegative kept
-  net_transits = subst NoneNegative (sym are) transits
+  pub net_transits : NoNegativeTransit kept
+  net_transits = subst NoNegativeTransit (sym are) transits
 
   pub net_hops : length kept ≡ length n.net.links
   net_hops = ap length are ∙ length-map n.net.links hop_of

@@ -8,11 +8,11 @@ use Rattle.nf_net.specs.declared.building.SortedLinks.{SortedLinks}
 use Rattle.nf_net.specs.declared.building.SortedNodes.{SortedNodes}
 use Rattle.nf_net.specs.declared.building.Tables.{Tables}
 use Rattle.nf_net.specs.declared.building.Parts.{Parts}
-use Rattle.nf_net.specs.Kept.{with_parts, IsKept}
+use Rattle.nf_net.specs.Kept.{with_parts, IsOfFile}
 use Rattle.nf_net_file.specs.Closing.{tail_flags}
 
 -- the lists hold the links of a draft, divided by the flags of their tails
-pub record AreSorted (draft : Draft) (flags : List Bool) (links : SortedLinks) : Type 0 where
+pub record AreDivided (draft : Draft) (flags : List Bool) (links : SortedLinks) : Type 0 where
   pub active : links.active.items ≡ marked (tail_flags draft.nodes flags draft.links) draft.links
   pub idle : links.idle.items ≡ marked (map not (tail_flags draft.nodes flags draft.links)) draft.links
 
@@ -34,5 +34,5 @@ net_of draft parts = with_parts draft.version parts.tables.node_names.items part
 
 -- the draft stands for the network with these parts
 pub record ArePartsOf (draft : Draft) (parts : Parts) : Type 0 where
-  pub kept : IsKept (net_of draft parts) parts.tables.hops.items
+  pub kept : IsOfFile (net_of draft parts) parts.tables.hops.items
   pub stands : StandsFor draft (net_of draft parts)

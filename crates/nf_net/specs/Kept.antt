@@ -18,6 +18,6 @@ with_parts version node_names link_names links pieces idle_nodes idle_links = re
 }
 
 -- the network is that of an accepted file, and the stored hops are its links without capacities
-pub record IsKept (n : Named) (kept : List Hop) : Type 0 where
+pub record IsOfFile (n : Named) (kept : List Hop) : Type 0 where
   pub named : IsNamed n
   pub hops : kept ≡ map hop_of n.net.links

@@ -11,7 +11,7 @@ use nf_frac::{Passed, Q};
 use nf_net_file::Piece;
 
 // Returns the lesser of the next start and the time.
-fn end_of(later: &[Piece], time: Q) -> Q
+fn end_before(later: &[Piece], time: Q) -> Q
     ensures { result ≡ end_before later.now time }
 {
     match later {
@@ -35,7 +35,7 @@ fn amount_of(pieces: &[Piece], time: Q) -> Result<Q, Passed<Q>>
     let mut so_far = Q::zero();
     for (index, piece) in pieces.iter().enumerate() {
         if piece.start.is_below(time) {
-            let end = end_of(&pieces[index + 1..], time);
+            let end = end_before(&pieces[index + 1..], time);
             so_far = with_amount(so_far, piece, end)?;
         }
     }

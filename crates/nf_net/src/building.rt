@@ -6,7 +6,7 @@ ghost use Rattle.nf_net_def.specs.NetClosing.{marked, StandsFor};
 ghost use Rattle.nf_net_file.specs.Drafts.{seen_draft};
 ghost use Rattle.nf_net_file.specs.Contents.{IsRead};
 ghost use Rattle.nf_net_file.specs.Closing.{HasEnds, BreaksNone, AreFlags, flag_at, tail_flags};
-ghost use Rattle.nf_net.specs.Building.{AreSorted, AreNodesOf, AreTablesOf, ArePartsOf};
+ghost use Rattle.nf_net.specs.Building.{AreDivided, AreNodesOf, AreTablesOf, ArePartsOf};
 ghost use Rattle.nf_net_def.specs.Limits.{most_nodes};
 
 use crate::network::Network;
@@ -189,7 +189,7 @@ struct SortedLinks {
 // Divides the links of a draft by the flags of its nodes.
 fn sorted_links(alloc: Global, draft: &Draft, flags: &[bool]) -> Result<SortedLinks, AllocError>
     requires { length draft.now.nodes ≤ length flags.now }
-    ensures { IfOk result (λ links. AreSorted (seen_draft draft.now) flags.now links) }
+    ensures { IfOk result (λ links. AreDivided (seen_draft draft.now) flags.now links) }
 {
     let active = active_of(alloc, &draft.nodes, flags, &draft.links)?;
     let idle = idle_of(alloc, &draft.nodes, flags, &draft.links)?;
@@ -253,7 +253,7 @@ pub struct Parts {
     tables: Tables,
 }
 
-/// Returns the parts of the network that the draft stands for. The draft must break no rule. Fails only if an allocation fails.
+/// Returns the parts of the network that the draft stands for. The draft must break no rule. Fails if an allocation fails.
 pub fn parts_of(alloc: Global, draft: &Draft, flags: &[bool]) -> Result<Parts, AllocError>
     requires read { IsRead (seen_draft draft.now) }
     requires ends { HasEnds (seen_draft draft.now) }

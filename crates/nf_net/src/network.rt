@@ -29,7 +29,7 @@ pub struct Network {
 
 impl Model for Network {
     ghost use Rattle.nf_net_def.specs.Named.{Named, coded_named};
-    ghost use Rattle.nf_net.specs.Kept.{with_parts, IsKept};
+    ghost use Rattle.nf_net.specs.Kept.{with_parts, IsOfFile};
 
     ghost Value = { Named };
 
@@ -38,7 +38,7 @@ impl Model for Network {
     ghost view = { λ a. with_parts a.version a.node_names.items a.link_names.items a.links.items a.pieces.items a.idle_nodes.items
         a.idle_links.items };
 
-    ghost invariant = { λ a. IsKept
+    ghost invariant = { λ a. IsOfFile
         (with_parts a.version a.node_names.items a.link_names.items a.links.items a.pieces.items
         a.idle_nodes.items a.idle_links.items)
         a.hops.items };

@@ -168,7 +168,7 @@ fn whole_text(alloc: Global, net: &Network) -> Result<Vec<u8>, AllocError>
 }
 
 /// Returns the canonical text of a network. Its lines are the version, the source, the sink, the links in order, the idle links in order,
-/// the pieces in order, and `end`. Parsing the text returns the same network, with the same names. Fails only if an allocation fails.
+/// the pieces in order, and `end`. Parsing the text returns the same network, with the same names. Fails if an allocation fails.
 pub fn text(alloc: Global, net: &Network) -> Result<Vec<u8>, AllocError>
     ensures canonical { IfOk result (λ text. text.items ≡ canonical net.now) }
     ensures reads_back { IfOk result (λ text. Reads text.items (Ok net.now)) }

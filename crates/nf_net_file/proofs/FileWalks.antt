@@ -17,7 +17,7 @@ use Rattle.nf_model.specs.Walk.{Hop, IsHop, IsWalk, transit_of}
 use Rattle.nf_model.specs.Network.{hop_of}
 use Rattle.nf_graph.specs.Graph.{AreBelow}
 use Rattle.nf_graph.specs.Order.{IsZeroCycle}
-use Rattle.nf_graph.specs.Distances.{NoneNegative, PassesAt}
+use Rattle.nf_graph.specs.Distances.{NoNegativeTransit, PassesAt}
 use Rattle.nf_net_def.specs.Names.{Name, has_name, place_of}
 use Rattle.nf_net_def.specs.Numbers.{greatest}
 use Rattle.nf_net_def.specs.Named.{NamedLink, numbered, ends}
@@ -64,8 +64,8 @@ module _ (draft : Draft) (hops : List Hop) (read : IsRead draft) (are : hops ≡
   pub below_of : AreBelow (length draft.nodes) hops
   below_of = subst (λ (hs : List Hop). AreBelow (length draft.nodes) hs) (sym are) (hops_below draft (good_of draft read))
 
-  pub transits_of : NoneNegative hops
-  transits_of = subst NoneNegative (sym are) (file_transits draft (good_of draft read))
+  pub transits_of : NoNegativeTransit hops
+  transits_of = subst NoNegativeTransit (sym are) (file_transits draft (good_of draft read))
 
   pub few_hops : length hops ≤ 200
   few_hops = omega (arith, ap length are, length-map draft.links (λ (l : NamedLink). hop_of (numbered draft.nodes l)), (good_of draft read).few_links)

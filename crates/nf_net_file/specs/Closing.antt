@@ -22,8 +22,8 @@ pub record HasEnds (draft : Draft) : Type 0 where
 abbrev pub BreaksNone : Draft → Type 0
 BreaksNone draft = AllByRecursion (λ rule. ¬ Breaks draft rule) closing_rules
 
-abbrev pub BreaksFirst : Draft → NetRule → Type 0
-BreaksFirst draft rule = IsFirst (Breaks draft) closing_rules rule
+abbrev pub BreaksFirstAtEnd : Draft → NetRule → Type 0
+BreaksFirstAtEnd draft rule = IsFirst (Breaks draft) closing_rules rule
 
 -- the flag of a node
 abbrev pub flag_at : List Bool → ℕ → Bool

@@ -7,7 +7,7 @@ ghost use Rattle.nf_net_def.specs.Named.{numbered, hops_among};
 ghost use Rattle.nf_net_def.specs.NetClosing.{draft_hops, LeavesUnreached, HasZeroCycle, HasPassingSum};
 ghost use Rattle.nf_net_file.specs.Drafts.{seen_draft};
 ghost use Rattle.nf_net_file.specs.Contents.{IsRead};
-ghost use Rattle.nf_net_file.specs.Closing.{HasEnds, BreaksNone, BreaksFirst, flag_at, some_unreached, AreFlags, HasFraction};
+ghost use Rattle.nf_net_file.specs.Closing.{HasEnds, BreaksNone, BreaksFirstAtEnd, flag_at, some_unreached, AreFlags, HasFraction};
 ghost use Rattle.nf_net_def.specs.Limits.{most_nodes};
 
 use crate::draft::Draft;
@@ -18,6 +18,7 @@ use nf_graph::{DistanceFault, Hop, NodeId, distances, reached, zero_cycle};
 use nf_net_def::NetRule;
 use std::alloc::{AllocError, Global};
 
+// Returns a link without its capacity, by the places of its ends among these names.
 fn hop_between(nodes: &Names, link: &NamedLink) -> Hop
     requires { length nodes.now ≤ most_nodes }
     ensures { result ≡ hop_of (numbered nodes.now link.now) }
@@ -31,7 +32,7 @@ fn hop_between(nodes: &Names, link: &NamedLink) -> Hop
     }
 }
 
-/// The links without capacities, by the places of their ends among these names. It is refused where memory is wanting.
+/// Returns the links without capacities, by the places of their ends among these names. Fails if an allocation fails.
 pub fn hops_of(alloc: Global, nodes: &Names, links: &[NamedLink]) -> Result<Vec<Hop>, AllocError>
     requires { length nodes.now ≤ most_nodes }
     ensures { IfOk result (λ hops. hops.items ≡ hops_among nodes.now links.now) }
@@ -43,7 +44,7 @@ pub fn hops_of(alloc: Global, nodes: &Names, links: &[NamedLink]) -> Result<Vec<
     Ok(hops)
 }
 
-/// The place of a name that is given.
+/// Returns the place of a name, which must be given, or the number of names if it is not among them.
 pub fn place_in(nodes: &Names, name: &Option<Name>) -> NodeId
     requires given { is_some name.now ≡ true }
     requires few { length nodes.now ≤ most_nodes }
@@ -55,11 +56,11 @@ pub fn place_in(nodes: &Names, name: &Option<Name>) -> NodeId
     }
 }
 
-/// The first of N17 to N19 that is broken.
+/// Returns the first of N17 to N19 that the file breaks, if any.
 #[tactic(auto, using(crate::proofs::FirstRule::first_ended, crate::proofs::FirstRule::first_named, crate::proofs::FirstRule::first_apart))]
 pub fn names_rule(draft: &Draft) -> Option<NetRule>
     ensures { MatchOption result (HasEnds (seen_draft draft.now))
-        (λ rule. BreaksFirst (seen_draft draft.now) rule) }
+        (λ rule. BreaksFirstAtEnd (seen_draft draft.now) rule) }
 {
     if !draft.ended {
         return Some(NetRule::N17);
@@ -102,7 +103,7 @@ fn leaves_unreached(version: u32, flags: &[bool], sink: NodeId) -> bool
     }
 }
 
-/// Whether least transit sums were refused for a sum that passes, and not for want of memory.
+/// Returns true if a fault of least transit sums is a passing sum. Fails if the fault is an allocation failure.
 pub fn is_passing(fault: DistanceFault) -> Result<bool, AllocError>
     ensures { IfOk result (λ passing. (passing ≡ true) × HasFraction fault) }
 {
@@ -119,7 +120,7 @@ pub fn is_passing(fault: DistanceFault) -> Result<bool, AllocError>
     }
 }
 
-// Whether some least transit sum and the transit of a link behind it have a sum that passes.
+// Returns whether some least transit sum and the transit of a link after it have a sum that passes. Fails if an allocation fails.
 fn has_passing_sum(alloc: Global, draft: &Draft, hops: &[Hop]) -> Result<bool, AllocError>
     requires read { IsRead (seen_draft draft.now) }
     requires ends { HasEnds (seen_draft draft.now) }
@@ -135,7 +136,7 @@ fn has_passing_sum(alloc: Global, draft: &Draft, hops: &[Hop]) -> Result<bool, A
     is_passing(fault)
 }
 
-// Whether some links of zero transit form a cycle.
+// Returns whether some links of zero transit form a cycle. Fails if an allocation fails.
 fn has_zero_cycle(alloc: Global, draft: &Draft, hops: &[Hop]) -> Result<bool, AllocError>
     requires read { IsRead (seen_draft draft.now) }
     requires hops { hops.now ≡ draft_hops (seen_draft draft.now) }
@@ -147,7 +148,7 @@ fn has_zero_cycle(alloc: Global, draft: &Draft, hops: &[Hop]) -> Result<bool, Al
     Ok(there)
 }
 
-// Whether a node, or from version 2 on the sink, isn't reached.
+// Returns whether no walk from the source reaches some node, or from version 2 on the sink.
 fn leaves_nodes(draft: &Draft, flags: &[bool]) -> bool
     requires read { IsRead (seen_draft draft.now) }
     requires ends { HasEnds (seen_draft draft.now) }
@@ -159,7 +160,7 @@ fn leaves_nodes(draft: &Draft, flags: &[bool]) -> bool
     leaves_unreached(draft.version, flags, sink)
 }
 
-/// The flags of the nodes: whether a walk from the source reaches them. It is refused where memory is wanting.
+/// Returns a flag for each node: whether a walk from the source reaches it. Fails if an allocation fails.
 pub fn flags_of(alloc: Global, draft: &Draft, hops: &[Hop]) -> Result<Vec<bool>, AllocError>
     requires read { IsRead (seen_draft draft.now) }
     requires ends { HasEnds (seen_draft draft.now) }
@@ -170,7 +171,7 @@ pub fn flags_of(alloc: Global, draft: &Draft, hops: &[Hop]) -> Result<Vec<bool>,
     reached(alloc, draft.nodes.len() as u32, hops, source)
 }
 
-/// The first of N20 to N22 that is broken, where N17 to N19 aren't. It is refused where memory is wanting.
+/// Returns the first of N20 to N22 that the file breaks, if any. N17 to N19 must hold. Fails if an allocation fails.
 pub fn walk_rule(
     alloc: Global,
     draft: &Draft,
@@ -182,7 +183,7 @@ pub fn walk_rule(
     requires hops { hops.now ≡ draft_hops (seen_draft draft.now) }
     requires flags { AreFlags (seen_draft draft.now) flags.now }
     ensures { IfOk result (λ rule. MatchOption rule (BreaksNone (seen_draft draft.now))
-        (λ rule. BreaksFirst (seen_draft draft.now) rule)) }
+        (λ rule. BreaksFirstAtEnd (seen_draft draft.now) rule)) }
 {
     if leaves_nodes(draft, flags) {
         return Ok(Some(NetRule::N20));

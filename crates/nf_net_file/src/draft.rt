@@ -21,8 +21,8 @@ use nf_net_def::NetRule;
 use nf_text::{LineFault, ReadLine};
 use std::alloc::{AllocError, Global};
 
-/// What the lines so far say: the source and the sink, the nodes that they name, in the order of first appearance, the links,
-/// the pieces, and whether there was an `end` line.
+/// What the lines so far say: source, sink, nodes in the order of first appearance, links, pieces, and whether there was an
+/// `end` line.
 #[derive(Drop)]
 pub struct Draft {
     pub version: u32,
@@ -34,7 +34,7 @@ pub struct Draft {
     pub ended: bool,
 }
 
-// How many names more there are with a name that is known, or isn't.
+// Returns how many names a name adds: none if it is known, and otherwise one.
 fn count_new(known: bool) -> usize
     ensures { result ≡ one_unless known }
 {
@@ -47,7 +47,7 @@ fn is_known(nodes: &Names, name: &Name, other: &Name) -> bool
     nodes.has(name) || name == other
 }
 
-// How many of two names are new.
+// Returns how many of two names are new.
 #[tactic(auto, using(crate::proofs::NodeCounts::length_with_two))]
 fn new_names(nodes: &Names, first: &Name, second: &Name) -> usize
     ensures count { length (with_names nodes.now (first.now ∷ second.now ∷ []))
@@ -57,7 +57,7 @@ fn new_names(nodes: &Names, first: &Name, second: &Name) -> usize
     count_new(nodes.has(first)) + count_new(is_known(nodes, second, first))
 }
 
-// With this name there are more than 64 nodes.
+// Returns whether there are more than 64 nodes with this name.
 #[tactic(auto, using(crate::proofs::NodeCounts::length_with_one))]
 fn is_too_many(nodes: &Names, name: &Name) -> bool
     ensures { result ≡ nat_lt most_nodes (length (with_name nodes.now name.now)) }
@@ -66,7 +66,7 @@ fn is_too_many(nodes: &Names, name: &Name) -> bool
     nodes.len() > MOST_NODES - more
 }
 
-// With these names there are more than 64 nodes.
+// Returns whether there are more than 64 nodes with these names.
 fn are_too_many(nodes: &Names, first: &Name, second: &Name) -> bool
     ensures { result
         ≡ nat_lt most_nodes (length (with_names nodes.now (first.now ∷ second.now ∷ []))) }
@@ -75,7 +75,7 @@ fn are_too_many(nodes: &Names, first: &Name, second: &Name) -> bool
     nodes.len() > MOST_NODES - more
 }
 
-// Whether a link has this name.
+// Returns whether a link has this name.
 fn has_link(links: &[NamedLink], name: &Name) -> bool
     ensures { result ≡ has_name (names_of links.now) name.now }
 {
@@ -87,7 +87,7 @@ fn has_link(links: &[NamedLink], name: &Name) -> bool
     false
 }
 
-// A capacity that is a number isn't above 0.
+// Returns whether a capacity is a number that is not above 0.
 fn is_empty_capacity(capacity: Option<Q>) -> bool
     ensures { result ≡ is_no_capacity capacity }
 {
@@ -97,7 +97,7 @@ fn is_empty_capacity(capacity: Option<Q>) -> bool
     }
 }
 
-// A start isn't above that of the piece before.
+// Returns whether a start is not after that of the last piece.
 fn is_too_early(pieces: &[Piece], start: Q) -> bool
     ensures { result ≡ is_not_after start (last_or None pieces.now) }
 {
@@ -109,7 +109,7 @@ fn is_too_early(pieces: &[Piece], start: Q) -> bool
 }
 
 impl Draft {
-    // What no lines say, in a file of this version.
+    // Returns the parser state before the first line, for a file of this version.
     pub(crate) fn new(alloc: Global, version: u32) -> Draft
         ensures { seen_draft result ≡ empty_draft version }
     {
@@ -176,7 +176,7 @@ impl Draft {
         None
     }
 
-    // The first of N9 to N16 that the line breaks because of the lines before it.
+    // Returns the first of N9 to N16 that the line breaks after the lines before it.
     fn rule(&self, entry: &Entry) -> Option<NetRule>
         ensures { result ≡ broken_rule (seen_draft self.now) (seen_entry entry.now) }
     {
@@ -218,7 +218,7 @@ impl Draft {
         Ok(())
     }
 
-    // Adds what a line says, or answers the first of N4 to N16 that it breaks.
+    // Adds what a line says. Refuses with the first of N4 to N16 that the line breaks, or if an allocation fails.
     pub(crate) fn add_line(&mut self, line: &ReadLine) -> Result<(), LineFault<NetRule>>
         ensures { MatchResult result
             (λ _. add_line (seen_draft self.old) line.now.words ≡ Ok (seen_draft self.new))

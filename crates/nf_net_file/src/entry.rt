@@ -24,7 +24,7 @@ pub enum Entry {
     End,
 }
 
-// A word that is to be a name.
+// Returns the name that a word is. Refuses with N7 if the word is no name.
 fn read_name(word: &[u8]) -> Result<Name, NetRule>
     ensures { MatchResult result (λ name. (name ≡ word.now) × (is_name word.now ≡ true))
         (λ rule. (rule ≡ N7) × (is_name word.now ≡ false)) }
@@ -35,7 +35,7 @@ fn read_name(word: &[u8]) -> Result<Name, NetRule>
     }
 }
 
-// The number that a word writes: version 2 has decimals too.
+// Returns the number that a word writes, if it is one. From version 2 on, decimals are numbers too.
 fn read_number(version: u32, word: &[u8]) -> Option<Q>
     ensures { result ≡ number_in version word.now }
 {
@@ -46,7 +46,7 @@ fn read_number(version: u32, word: &[u8]) -> Option<Q>
     }
 }
 
-// The capacity that a word writes: in version 2 an unbounded link has the word `inf`.
+// Returns the capacity that a word writes, if it is one. From version 2 on, `inf` writes that of an unbounded link.
 fn read_capacity(version: u32, word: &[u8]) -> Option<Option<Q>>
     ensures { result ≡ capacity_in version word.now }
 {
@@ -59,7 +59,7 @@ fn read_capacity(version: u32, word: &[u8]) -> Option<Option<Q>>
     }
 }
 
-// `source NODE`, `sink NODE`
+// Reads `source NODE` or `sink NODE`.
 #[tactic(auto, using(crate::proofs::LineWords::node_count_wrong, crate::proofs::LineWords::node_is, crate::proofs::LineWords::node_bad))]
 fn read_node(line: &ReadLine) -> Result<Name, NetRule>
     requires { 0 < length line.now.words }
@@ -74,7 +74,7 @@ fn read_node(line: &ReadLine) -> Result<Name, NetRule>
     read_name(line.at(1))
 }
 
-// `link NAME TAIL HEAD TRANSIT CAPACITY`
+// Reads `link NAME TAIL HEAD TRANSIT CAPACITY`.
 #[tactic(auto, using(crate::proofs::LineWords::link_count_wrong, crate::proofs::LineWords::link_is, crate::proofs::LineWords::link_bad_name, crate::proofs::LineWords::link_bad_tail, crate::proofs::LineWords::link_bad_head))]
 fn read_link(version: u32, line: &ReadLine) -> Result<NamedLink, NetRule>
     requires { 0 < length line.now.words }
@@ -101,7 +101,7 @@ fn read_link(version: u32, line: &ReadLine) -> Result<NamedLink, NetRule>
     })
 }
 
-// `inflow START RATE`
+// Reads `inflow START RATE`.
 #[tactic(auto, using(crate::proofs::LineWords::inflow_count_wrong, crate::proofs::LineWords::inflow_count_right))]
 fn read_inflow(version: u32, line: &ReadLine) -> Result<Piece, NetRule>
     requires { 0 < length line.now.words }
@@ -120,7 +120,7 @@ fn read_inflow(version: u32, line: &ReadLine) -> Result<Piece, NetRule>
     Ok(Piece { start, rate })
 }
 
-// `end`
+// Reads `end`.
 #[tactic(auto, using(crate::proofs::LineWords::end_count_wrong, crate::proofs::LineWords::end_count_right))]
 fn read_end(line: &ReadLine) -> Result<(), NetRule>
     requires { 0 < length line.now.words }
@@ -132,7 +132,7 @@ fn read_end(line: &ReadLine) -> Result<(), NetRule>
     Ok(())
 }
 
-/// What the words of a line say in a file of this version, or the first of N5 to N8 that they break.
+/// Returns what a line says in a file of this version. Refuses with the first of N5 to N8 that the line breaks.
 pub fn read_entry(version: u32, line: &ReadLine) -> Result<Entry, NetRule>
     ensures { entry_of version line.now.words ≡ said_by seen_entry result }
 {

@@ -1,5 +1,5 @@
-//! What the lines of a network file say: names, links and pieces of the supply by one line, a draft by one line after the other, and the
-//! first rule that a line or the file as a whole breaks. Times, amounts and rates are exact fractions.
+//! Reads network files: single lines, then all lines in order into a parser state, then the file as a whole. Each step gives the first
+//! rule that is broken. Times, amounts and rates are exact fractions.
 #![tactic(auto)]
 
 mod closing;

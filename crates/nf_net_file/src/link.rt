@@ -71,7 +71,7 @@ impl Model for NamedLink {
 }
 
 impl NamedLink {
-    /// The same link once more.
+    /// Returns a copy of the link.
     pub fn copy(&self) -> NamedLink
         ensures { result ≡ self.now }
     {

@@ -51,7 +51,7 @@ pub fn is_name(word: &[u8]) -> bool
 }
 
 impl Name {
-    /// The name that a word is, if it is one.
+    /// Returns the name that a word is, if it is one.
     #[tactic(auto, using(crate::proofs::NameText::name_fits))]
     pub fn read(word: &[u8]) -> Option<Name>
         ensures { SomeIff result (names.is_name word.now ≡ true) word.now }
@@ -65,7 +65,7 @@ impl Name {
         Some(Name { bytes, len })
     }
 
-    /// The same name once more.
+    /// Returns a copy of the name.
     pub fn copy(&self) -> Name
         ensures { result ≡ self.now }
     {
@@ -75,7 +75,7 @@ impl Name {
         }
     }
 
-    /// Its bytes.
+    /// Returns the bytes of the name.
     pub fn bytes(&self) -> &[u8]
         ensures value { result.now ≡ self.now }
         ensures name { names.is_name result.now ≡ true }
@@ -83,7 +83,7 @@ impl Name {
         &self.bytes[..self.len]
     }
 
-    /// Its text.
+    /// Returns the text of the name.
     pub fn text(&self) -> &str
         ensures { result.now ≡ self.now }
     {

@@ -8,7 +8,7 @@ use indexmap::IndexSet;
 use std::alloc::{AllocError, Global};
 use std::marker::Model;
 
-/// Names, each once, in the order in which they were put.
+/// Names, each once, in the order in which they were added.
 #[derive(Drop)]
 pub struct Names {
     table: IndexSet<Name>,
@@ -23,7 +23,7 @@ impl Model for Names {
 }
 
 impl Names {
-    /// No names yet.
+    /// Returns the empty table.
     pub fn new(alloc: Global) -> Names
         ensures { result ≡ [] }
     {
@@ -32,21 +32,21 @@ impl Names {
         }
     }
 
-    /// How many there are.
+    /// Returns the number of names.
     pub fn len(&self) -> usize
         ensures { result ≡ length self.now }
     {
         self.table.len()
     }
 
-    /// The names in their order.
+    /// Returns the names in their order.
     pub fn as_slice(&self) -> &[Name]
         ensures { result.now ≡ self.now }
     {
         self.table.as_slice()
     }
 
-    // The place of a name, if it is there.
+    // Returns the place of a name, if the table has it.
     fn place(&self, name: &Name) -> Option<usize>
         ensures place { result ≡ position (bytes_eq name.now) self.now }
         ensures there { is_some result ≡ has_name self.now name.now }
@@ -54,7 +54,7 @@ impl Names {
         self.table.get_index_of(name)
     }
 
-    /// The place of a name, or how many there are where it isn't there.
+    /// Returns the place of a name, or the number of names if the table does not have it.
     #[tactic(auto, using(nf_text::proofs::Positions::unwrap_or_position, nf_text::proofs::Positions::position_or_len_within))]
     pub fn place_or_len(&self, name: &Name) -> usize
         ensures place { result ≡ place_of self.now name.now }
@@ -63,14 +63,14 @@ impl Names {
         self.place(name).unwrap_or(self.len())
     }
 
-    /// Whether a name is there.
+    /// Returns whether the table has a name.
     pub fn has(&self, name: &Name) -> bool
         ensures { result ≡ has_name self.now name.now }
     {
         self.table.contains(name)
     }
 
-    /// Puts a name behind the others, if it isn't there. It is refused where memory is wanting, and the names stay as they were.
+    /// Appends a name, if the table does not have it. If an allocation fails, the table is unchanged.
     pub fn put(&mut self, name: Name) -> Result<(), AllocError>
         ensures ok { OnOk result (self.new ≡ with_name self.old name) }
         ensures err { OnErr result (self.new ≡ self.old) }

@@ -6,7 +6,7 @@ ghost use Rattle.nf_model.specs.Network.{rate_from, first_start};
 use crate::link::Piece;
 use nf_frac::Q;
 
-/// The rate of the last of the pieces that starts at or before the time, 0 where none does.
+/// Returns the rate of the last piece that starts at or before the time, or 0 if none does.
 pub fn rate_of(pieces: &[Piece], time: Q) -> Q
     ensures { result ≡ rate_from 0ℚ pieces.now time }
 {
@@ -20,7 +20,7 @@ pub fn rate_of(pieces: &[Piece], time: Q) -> Q
     rate
 }
 
-/// The first start of a piece after the time; None exactly where there is none.
+/// Returns the first start of a piece after the time. Returns None exactly if there is none.
 pub fn start_after(pieces: &[Piece], time: Q) -> Option<Q>
     ensures { result ≡ first_start pieces.now time }
 {

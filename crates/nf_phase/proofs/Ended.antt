@@ -21,7 +21,7 @@ use Rattle.nf_phase_laws.proofs.Sequence.{sequence_ends}
 use Rattle.nf_phase_laws.proofs.ShortRun.{run_keeps}
 use Rattle.nf_curve.specs.Flows.{flow_of as flow_in}
 use Rattle.nf_phase.specs.declared.solution.Solution.{Solution}
-use Rattle.nf_phase.specs.Solution.{IsSolution, IsFinished, report_in}
+use Rattle.nf_phase.specs.Solution.{IsRunSolution, IsFinished, report_in}
 use Rattle.nf_phase_def.specs.Restoring.{EndsAtItsLabels}
 use Rattle.nf_phase.specs.Stepping.{Reaches}
 use Rattle.nf_phase.proofs.Reached.{Stands, Stands-reached}
@@ -102,7 +102,7 @@ module _ (net : Network) (good : IsNetwork net) (bounds : Bounds) where
       later_made : (t : Standing) (made : ℕ) → t.made ≡ suc made → t.made ≡ 0 → ⊥
       later_made t made e z = absurd (omega arith)
 
-  solution_of : (first : Standing) → IsStart net first → (phases : ℕ) (report : Report) → IsFinished net bounds first phases report → IsSolution net bounds phases report
+  solution_of : (first : Standing) → IsStart net first → (phases : ℕ) (report : Report) → IsFinished net bounds first phases report → IsRunSolution net bounds phases report
   solution_of first start phases report f =
       let run : IsPhaseRun passes_Q net bounds f.last f.stop = record { first = first; start = start; runs = runs_begun passes_Q first f.last f.stop (closed-at_start net first good start) f.runs } in
       record {
@@ -117,6 +117,6 @@ module _ (net : Network) (good : IsNetwork net) (bounds : Bounds) where
       }
 
   pub solved : (first : Standing) → IsStart net first → {E : Type 0} (result : Result Solution E) → IfOk result (λ s. IsFinished net bounds first s.phases (report_in bounds.horizon s))
-      → IfOk result (λ s. IsSolution net bounds s.phases (report_in bounds.horizon s))
+      → IfOk result (λ s. IsRunSolution net bounds s.phases (report_in bounds.horizon s))
   solved first start (Ok s) f = solution_of first start s.phases (report_in bounds.horizon s) f
   solved first start (Err x) f = tt

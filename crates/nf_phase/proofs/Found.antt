@@ -34,7 +34,7 @@ use Rattle.nf_phase.specs.declared.fault.StepFault.{StepFault}
 use Rattle.nf_thin.specs.Searching.{Searches}
 use Rattle.nf_frac_def.proofs.AtPart.{part_ok}
 use Rattle.nf_phase.specs.Faults.{of_halt, of_search}
-use Rattle.nf_phase.specs.Stepping.{StandsFor}
+use Rattle.nf_phase.specs.Stepping.{IsFaultOf}
 use Rattle.nf_phase.specs.Finding.{FindsNone, at_slack, at_search, ListsPass, at_lists}
 
 -- ---- an operation of a part exceeds its bound
@@ -59,7 +59,7 @@ by_fault (Ok x) e P h p = tt
 by_fault (Err x) e P h p = subst P (sym h) p
 
 -- Causes of one kind are causes of another.
-pub stands_as : (C D : Cause ℚ → Type 0) (phase : ℕ) (fault : StepFault) → ((cause : Cause ℚ) → C cause → D cause) → StandsFor C phase fault → StandsFor D phase fault
+pub stands_as : (C D : Cause ℚ → Type 0) (phase : ℕ) (fault : StepFault) → ((cause : Cause ℚ) → C cause → D cause) → IsFaultOf C phase fault → IsFaultOf D phase fault
 stands_as C D phase (StepFault.Search (SearchFault.Budget tried)) f h = f _ h
 stands_as C D phase (StepFault.Search (SearchFault.Passed place at)) f h = f _ h
 stands_as C D phase (StepFault.Search SearchFault.NoPattern) f h = f _ h
@@ -70,7 +70,7 @@ stands_as C D phase StepFault.Memory f h = tt
 -- ---- the search
 module _ (passes : Passing) (net : Network) (patterns : ℕ) (s : Standing) where
   abbrev Unfound : StepFault → Type 0
-  Unfound = StandsFor (FindsNone passes net patterns s) (suc s.made)
+  Unfound = IsFaultOf (FindsNone passes net patterns s) (suc s.made)
 
   -- ---- the slack list
   slack_cause : (halt : Halt ℚ) → Stops {A = List ℚ} (λ q. q) halt (at_part Slack (slack_list passes (hops net) s.labels)) → Unfound (of_halt halt)
@@ -126,7 +126,7 @@ module _ (passes : Passing) (net : Network) (patterns : ℕ) (s : Standing) wher
 -- ---- the lists of extend, advance and curve
 module _ (passes : Passing) (net : Network) (horizon : ℚ) (s : Standing) (pattern : Pattern) (flows slopes : List ℚ) where
   abbrev Stopped : StepFault → Type 0
-  Stopped = StandsFor (ListsPass passes net horizon s pattern flows slopes) (suc s.made)
+  Stopped = IsFaultOf (ListsPass passes net horizon s pattern flows slopes) (suc s.made)
 
   abbrev extend : Result (Option ℚ) (PassedAt ℚ)
   extend = at_part Extend (extend_list passes net (slacks_of (hops net) s.labels) slopes s.time)

@@ -17,7 +17,7 @@ use Rattle.nf_curve_laws.proofs.Operations.{same_of, same_test}
 use Rattle.nf_rational_laws.proofs.Naturals.{before_or_at}
 use Rattle.nf_rational_laws.proofs.Entries.{entry}
 use Rattle.nf_phase_def.specs.Open.{IsOpen, Continues}
-use Rattle.nf_phase.specs.OpenRuns.{none_starts, ApartAt, AreApart}
+use Rattle.nf_phase.specs.OpenRuns.{none_starts, ApartAt, HaveStateOrSlack}
 
 -- ---- no piece starts at a time
 starts_apart : (b : Bool) (rest : Bool) → (if b then false else rest) ≡ true → (b ≡ false) × (rest ≡ true)
@@ -65,7 +65,7 @@ apart_more slacks last i below here k h = by (before_or_at k i h)
     by (inl b) = below k b
     by (inr e) = subst (ApartAt slacks last) (sym e) here
 
-pub apart_all : (slacks : List ℚ) (last : Pattern) (n : ℕ) → length last ≡ n → ((k : ℕ) → k < n → ApartAt slacks last k) → AreApart slacks last
+pub apart_all : (slacks : List ℚ) (last : Pattern) (n : ℕ) → length last ≡ n → ((k : ℕ) → k < n → ApartAt slacks last k) → HaveStateOrSlack slacks last
 apart_all slacks last n count below e at = below e (subst (λ (m : ℕ). e < m) count (slice_get_within last e None at)) at
 
 -- ---- both
@@ -73,7 +73,7 @@ module _ (net : Network) (s : Standing) (slacks : List ℚ) (is : slacks ≡ sla
   same_slack : (e : ℕ) (link : Link) → IsLink net e link → number_at slacks e ≡ slack s.labels (hop_of link)
   same_slack e link p = ap (λ (l : List ℚ). number_at l e) is ∙ slack_at net s.labels e link p
 
-  opened : (starts : Bool) → starts ≡ none_starts net.pieces s.time → starts ≡ true → AreApart slacks s.last → IsOpen net s
+  opened : (starts : Bool) → starts ≡ none_starts net.pieces s.time → starts ≡ true → HaveStateOrSlack slacks s.last → IsOpen net s
   opened starts e t apart = record {
     no_start = starts_none net.pieces s.time (sym e ∙ t);
     apart = λ k link p none zero. apart k none (same_slack k link p ∙ zero);
@@ -82,13 +82,13 @@ module _ (net : Network) (s : Standing) (slacks : List ℚ) (is : slacks ≡ sla
   pub not_started : (starts : Bool) → starts ≡ none_starts net.pieces s.time → starts ≡ false → IsOpen net s → ⊥
   not_started starts e f o = starts_some net.pieces s.time (sym e ∙ f) o.no_start
 
-  not_apart : length s.last ≡ length net.links → (AreApart slacks s.last → ⊥) → IsOpen net s → ⊥
+  not_apart : length s.last ≡ length net.links → (HaveStateOrSlack slacks s.last → ⊥) → IsOpen net s → ⊥
   not_apart count other o = other (λ k none same. (let l = link_there k none in o.apart k l.0 l.1 none (sym (same_slack k l.0 l.1) ∙ same)))
     where
       link_there : (k : ℕ) → slice_get s.last k ≡ Some None → (link : Link) × IsLink net k link
       link_there k none = entry net.links k (subst (λ (m : ℕ). k < m) count (slice_get_within s.last k None none))
 
-  pub open_if : length s.last ≡ length net.links → (starts : Bool) → starts ≡ none_starts net.pieces s.time → starts ≡ true → (apart : Bool) → MatchBool apart (AreApart slacks s.last) (AreApart slacks s.last → ⊥)
+  pub open_if : length s.last ≡ length net.links → (starts : Bool) → starts ≡ none_starts net.pieces s.time → starts ≡ true → (apart : Bool) → MatchBool apart (HaveStateOrSlack slacks s.last) (HaveStateOrSlack slacks s.last → ⊥)
       → MatchBool apart (IsOpen net s) (IsOpen net s → ⊥)
   open_if count starts e t true a = opened starts e t a
   open_if count starts e t false a = not_apart count a

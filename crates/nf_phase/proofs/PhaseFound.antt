@@ -28,7 +28,7 @@ use Rattle.nf_phase.specs.declared.fault.StepFault.{StepFault}
 use Rattle.nf_phase.specs.declared.finding.PhaseStart.{PhaseStart}
 use Rattle.nf_phase.specs.declared.phase.Phase.{Phase}
 use Rattle.nf_phase.specs.Faults.{of_halt}
-use Rattle.nf_phase.specs.Stepping.{Reaches, StandsFor}
+use Rattle.nf_phase.specs.Stepping.{Reaches, IsFaultOf}
 use Rattle.nf_phase.specs.Finding.{step_in, IsFound, ListsPass, LeadsOn}
 use Rattle.nf_phase.proofs.Reached.{Stands, Stands-reached, active_count}
 use Rattle.nf_phase.proofs.Found.{by_fault, seeks_here, seeks_below, extend_cause, advance_cause, curve_cause, lists_made, phase_length}
@@ -60,7 +60,7 @@ module _ (passes : Passing) (net : Network) (good : IsNetwork net) (horizon : �
   stands = Stands-reached passes net good s reaches
 
   abbrev Stopped : StepFault → Type 0
-  Stopped = StandsFor (ListsPass passes net horizon s found.thin.pattern found.thin.flows.items thin_slopes) (suc s.made)
+  Stopped = IsFaultOf (ListsPass passes net horizon s found.thin.pattern found.thin.flows.items thin_slopes) (suc s.made)
 
   pub pattern_count : length found.thin.pattern ≡ length net.links
   pattern_count =

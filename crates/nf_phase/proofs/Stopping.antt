@@ -6,10 +6,10 @@ use Rattle.nf_rational.specs.Rational.{ℚ}
 use Rattle.nf_net_def.specs.declared.Cause.{Cause}
 use Rattle.nf_thin.specs.declared.fault.SearchFault.TheVariants as SearchFault
 use Rattle.nf_phase.specs.declared.fault.StepFault.{StepFault}
-use Rattle.nf_phase.specs.Stepping.{StandsFor}
+use Rattle.nf_phase.specs.Stepping.{IsFaultOf}
 use Rattle.nf_phase.specs.Solution.{cause_of}
 
-pub stands_stop : (Causes : Cause ℚ → Type 0) (phase : ℕ) (fault : StepFault) → StandsFor Causes phase fault → (cause : Cause ℚ) → cause_of phase fault ≡ Some cause → Causes cause
+pub stands_stop : (Causes : Cause ℚ → Type 0) (phase : ℕ) (fault : StepFault) → IsFaultOf Causes phase fault → (cause : Cause ℚ) → cause_of phase fault ≡ Some cause → Causes cause
 stands_stop Causes phase (StepFault.Search (SearchFault.Budget tried)) h cause e = subst Causes (same_Some _ cause e) h
 stands_stop Causes phase (StepFault.Search (SearchFault.Passed place at)) h cause e = subst Causes (same_Some _ cause e) h
 stands_stop Causes phase (StepFault.Search SearchFault.NoPattern) h cause e = subst Causes (same_Some _ cause e) h

@@ -17,14 +17,14 @@ use Rattle.nf_thin.specs.declared.thin.ThinFlow.{ThinFlow}
 use Rattle.nf_phase.specs.declared.fault.StepFault.{StepFault}
 use Rattle.nf_phase.specs.declared.finding.PhaseStart.{PhaseStart}
 use Rattle.nf_phase.specs.declared.phase.Phase.{Phase}
-use Rattle.nf_phase.specs.Stepping.{StandsFor, IsCauseOn, tail_of}
+use Rattle.nf_phase.specs.Stepping.{IsFaultOf, IsCauseOn, tail_by}
 use Rattle.nf_phase.specs.Finding.{after_phase, IsFound, FindsNone, ListsPass, LeadsOn}
 use Rattle.nf_phase.proofs.Stepped.{made_goes}
 use Rattle.nf_phase.proofs.Found.{part_err, by_fault, stands_as, none_on, extend_on, lists_on}
 
 -- ---- the cause for which there is no thin flow
 pub found_none_on : (passes : Passing) (net : Network) (patterns : ℕ) (s : Standing) {A : Type 0} (result : Result A StepFault) (fault : StepFault) → IsErrAnd result (λ f. f ≡ fault)
-    → StandsFor (FindsNone passes net patterns s) (suc s.made) fault → IfErr result (IsCauseOn passes net patterns s)
+    → IsFaultOf (FindsNone passes net patterns s) (suc s.made) fault → IfErr result (IsCauseOn passes net patterns s)
 found_none_on passes net patterns s result fault e h =
     by_fault result fault (IsCauseOn passes net patterns s) e (stands_as (FindsNone passes net patterns s) (FailsOn passes net patterns s) (suc s.made) fault (none_on passes net patterns s) h)
 
@@ -46,7 +46,7 @@ module _ (passes : Passing) (net : Network) (patterns : ℕ) (s : Standing) (fou
       (extend_on passes net patterns s is.seeks.0 found.thin.pattern found.thin.flows.items found.thin.slopes.items is.seeks.1 p.0 (ends_is ∙ p.1)))
 
   -- The phase can have any length.
-  pub goes_forever : Ok None ≡ at_part Extend (end_list passes net slacks slopes time) → GoesForever passes net patterns s found.thin.pattern (tail_of found.thin)
+  pub goes_forever : Ok None ≡ at_part Extend (end_list passes net slacks slopes time) → GoesForever passes net patterns s found.thin.pattern (tail_by found.thin)
   goes_forever h = record { place = is.seeks.0; finds = is.seeks.1; no_end = ends_is ∙ part_ok Extend (end_list passes net slacks slopes time) None h }
 
   -- This is the end of the phase.
@@ -55,7 +55,7 @@ module _ (passes : Passing) (net : Network) (patterns : ℕ) (s : Standing) (fou
     end_is = ends_is ∙ part_ok Extend (end_list passes net slacks slopes time) (Some end) ended
 
     pub lists_pass : {A : Type 0} (result : Result A StepFault) (fault : StepFault) → IsErrAnd result (λ f. f ≡ fault)
-        → StandsFor (ListsPass passes net end s found.thin.pattern found.thin.flows.items found.thin.slopes.items) (suc s.made) fault → IfErr result (IsCauseOn passes net patterns s)
+        → IsFaultOf (ListsPass passes net end s found.thin.pattern found.thin.flows.items found.thin.slopes.items) (suc s.made) fault → IfErr result (IsCauseOn passes net patterns s)
     lists_pass result fault e h =
         by_fault result fault (IsCauseOn passes net patterns s) e
         (stands_as (ListsPass passes net end s found.thin.pattern found.thin.flows.items found.thin.slopes.items) (FailsOn passes net patterns s) (suc s.made) fault

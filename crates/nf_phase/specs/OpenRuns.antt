@@ -20,8 +20,8 @@ none_starts (piece ∷ pieces) time = if is_same piece.start time then false els
 abbrev pub ApartAt : List ℚ → Pattern → ℕ → Type 0
 ApartAt slacks last e = slice_get last e ≡ Some None → number_at slacks e ≢ 0ℚ
 
-abbrev pub AreApart : List ℚ → Pattern → Type 0
-AreApart slacks last = (e : ℕ) → ApartAt slacks last e
+abbrev pub HaveStateOrSlack : List ℚ → Pattern → Type 0
+HaveStateOrSlack slacks last = (e : ℕ) → ApartAt slacks last e
 
 -- The run state after a phase. If the phase is the remainder of an interrupted one, the last pattern stays.
 abbrev pub after_rest : Bool → Network → Standing → Phase → Standing

@@ -46,7 +46,7 @@ EndsAll net horizon last = (phases : List (ℚ × List ℚ)) → IsPhaseSequence
 -- The report describes a flow that is an equilibrium up to the departure reached. It is the report of the phase run, so it reaches the
 -- horizon or has the cause that stopped the run. The run has `phases` phases, and its labels are the last values of the label curves. The
 -- curves are in short form, and end at the departure reached or at the labels there.
-pub record IsSolution (net : Network) (bounds : Bounds) (phases : ℕ) (report : Report) : Type 0 where
+pub record IsRunSolution (net : Network) (bounds : Bounds) (phases : ℕ) (report : Report) : Type 0 where
   pub well_formed : IsWellFormed net report
   pub equilibrium : Equilibrium net report.flow
   pub run : IsRunReport passes_Q net bounds report

@@ -38,24 +38,24 @@ pub record IsRunState (passes : Passing) (net : Network) (s : Standing) : Type 0
 
 -- The fault at phase number `phase` represents one of these causes. An allocation failure implies nothing, and is never the payload of
 -- `Search`.
-abbrev pub StandsFor : (Cause ℚ → Type 0) → ℕ → StepFault → Type 0
-StandsFor Causes phase (StepFault.Search (SearchFault.Budget tried)) = Causes (Cause.Patterns phase tried)
-StandsFor Causes phase (StepFault.Search (SearchFault.Passed place at)) = Causes (Cause.Passed phase (Some place) at)
-StandsFor Causes phase (StepFault.Search SearchFault.NoPattern) = Causes (Cause.NoPattern phase)
-StandsFor Causes phase (StepFault.Search SearchFault.Memory) = ⊥
-StandsFor Causes phase (StepFault.Passed at) = Causes (Cause.Passed phase None at)
-StandsFor Causes phase StepFault.Memory = Unit {0}
+abbrev pub IsFaultOf : (Cause ℚ → Type 0) → ℕ → StepFault → Type 0
+IsFaultOf Causes phase (StepFault.Search (SearchFault.Budget tried)) = Causes (Cause.Patterns phase tried)
+IsFaultOf Causes phase (StepFault.Search (SearchFault.Passed place at)) = Causes (Cause.Passed phase (Some place) at)
+IsFaultOf Causes phase (StepFault.Search SearchFault.NoPattern) = Causes (Cause.NoPattern phase)
+IsFaultOf Causes phase (StepFault.Search SearchFault.Memory) = ⊥
+IsFaultOf Causes phase (StepFault.Passed at) = Causes (Cause.Passed phase None at)
+IsFaultOf Causes phase StepFault.Memory = Unit {0}
 
 -- Why the next phase is not computed, to a horizon or with unlimited length.
 abbrev pub IsCause : Passing → Network → ℚ → ℕ → Standing → StepFault → Type 0
-IsCause passes net horizon patterns s = StandsFor (Fails passes net horizon patterns s) (suc s.made)
+IsCause passes net horizon patterns s = IsFaultOf (Fails passes net horizon patterns s) (suc s.made)
 
 abbrev pub IsCauseOn : Passing → Network → ℕ → Standing → StepFault → Type 0
-IsCauseOn passes net patterns s = StandsFor (FailsOn passes net patterns s) (suc s.made)
+IsCauseOn passes net patterns s = IsFaultOf (FailsOn passes net patterns s) (suc s.made)
 
 -- The slopes and flows of a thin flow by which the run continues forever.
-abbrev pub tail_of : ThinFlow → Tail
-tail_of thin = record { slopes = thin.slopes.items; flows = thin.flows.items }
+abbrev pub tail_by : ThinFlow → Tail
+tail_by thin = record { slopes = thin.slopes.items; flows = thin.flows.items }
 
 -- One phase leads from the old departure and labels to the new ones, and to no others.
 pub record LeadsOnlyTo (net : Network) (horizon : ℚ) (old new : ℚ × List ℚ) : Type 0 where

@@ -24,7 +24,7 @@ fn departure_in(net: &Network, labels: &[Q]) -> Q
 }
 
 impl Run {
-    // Extends the run by a phase. Refuses only if memory can't be allocated; the run is then unchanged.
+    // Extends the run by a phase. Fails if an allocation fails; the run is then unchanged.
     pub(crate) fn extend_by(&mut self, net: &Network, phase: Phase) -> Result<(), AllocError>
         requires reaches { Reaches passes_Q net.now.net self.old }
         requires named { IsNamed net.now }
@@ -52,8 +52,8 @@ impl Run {
         Ok(())
     }
 
-    // Extends the run by the next phase. The last pattern stays if the phase is the remainder of an interrupted one. Refuses only if
-    // memory can't be allocated; the run is then unchanged.
+    // Extends the run by the next phase. The last pattern stays if the phase is the remainder of an interrupted one. Fails if an allocation
+    // fails; the run is then unchanged.
     pub(crate) fn extend_by_next(
         &mut self,
         alloc: Global,

@@ -14,7 +14,7 @@ pub enum StepFault {
     Search(SearchFault),
     /// An operation of the phase outside the search exceeds its bound.
     Passed(PassedAt<Q>),
-    /// Memory can't be allocated.
+    /// An allocation failed.
     Memory,
 }
 

@@ -8,7 +8,7 @@ ghost use Rattle.nf_net_def.specs.WellNamed.{IsNamed};
 ghost use Rattle.nf_thin_def.specs.PhaseRun.{IsSearchHere};
 ghost use Rattle.nf_thin_def.specs.Slack.{slack_list};
 ghost use Rattle.nf_thin.specs.Finding.{Finds};
-ghost use Rattle.nf_phase.specs.Stepping.{Reaches, StandsFor};
+ghost use Rattle.nf_phase.specs.Stepping.{Reaches, IsFaultOf};
 ghost use Rattle.nf_phase.specs.Finding.{IsFound, FindsNone};
 
 use crate::fault::StepFault;
@@ -30,8 +30,7 @@ pub(crate) struct PhaseStart {
 }
 
 impl Run {
-    // Returns the slacks of the links, times. Refuses if an operation exceeds its bound, with the first one, or if memory can't be
-    // allocated.
+    // Returns the slacks of the links, times. Refuses if an operation exceeds its bound, with the first one, or if an allocation fails.
     fn slacks(&self, alloc: Global, net: &Network) -> Result<Vec<Q>, StepFault>
         requires reaches { Reaches passes_Q net.now.net self.now }
         ensures named { IsNamed net.now }
@@ -42,7 +41,7 @@ impl Run {
             ≡ Ok (slacks_of (hops_of net.now.net) self.now.labels)) }
         ensures cause { (patterns : ℕ)
             → IfErr result
-            (StandsFor (FindsNone passes_Q net.now.net patterns self.now) (suc self.now.made)) }
+            (IsFaultOf (FindsNone passes_Q net.now.net patterns self.now) (suc self.now.made)) }
     {
         let slacks = slacks(alloc, net.hops(), &self.labels)?;
         Ok(slacks)
@@ -76,7 +75,7 @@ impl Run {
         ensures named { IsNamed net.now }
         ensures found { IfOk result (IsFound passes_Q net.now.net patterns self.now) }
         ensures cause { IfErr result
-            (StandsFor (FindsNone passes_Q net.now.net patterns self.now) (suc self.now.made)) }
+            (IsFaultOf (FindsNone passes_Q net.now.net patterns self.now) (suc self.now.made)) }
     {
         let slacks = self.slacks(alloc, net)?;
         let sets = sets(alloc, &slacks)?;

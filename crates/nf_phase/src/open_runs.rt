@@ -5,7 +5,7 @@ ghost use Rattle.nf_model.specs.Network.{hops as hops_of};
 ghost use Rattle.nf_model.specs.ThinFlow.{slacks_of};
 ghost use Rattle.nf_net_def.specs.WellNamed.{IsNamed};
 ghost use Rattle.nf_phase_def.specs.Open.{IsOpen, Continues};
-ghost use Rattle.nf_phase.specs.OpenRuns.{none_starts as none_starts_by, ApartAt, AreApart};
+ghost use Rattle.nf_phase.specs.OpenRuns.{none_starts as none_starts_by, ApartAt, HaveStateOrSlack};
 ghost use Rattle.nf_phase.specs.Stepping.{Reaches};
 
 use crate::run::Run;
@@ -43,7 +43,7 @@ fn is_apart(slacks: &[Q], last: &Pattern, link: LinkId) -> bool
 fn are_apart(net: &Network, slacks: &[Q], last: &Pattern) -> bool
     requires slacks { length slacks.now ≡ length net.now.net.links }
     requires last { length last.now ≡ length net.now.net.links }
-    ensures { MatchBool result (AreApart slacks.now last.now) (AreApart slacks.now last.now → ⊥) }
+    ensures { MatchBool result (HaveStateOrSlack slacks.now last.now) (HaveStateOrSlack slacks.now last.now → ⊥) }
 {
     for e in 0..net.link_count() {
         if !is_apart(slacks, last, LinkId(e)) {

@@ -8,7 +8,7 @@ ghost use Rattle.nf_model.specs.Phases.{IsPhaseLength};
 ghost use Rattle.nf_net_def.specs.WellNamed.{IsNamed};
 ghost use Rattle.nf_thin_def.specs.PhaseRun.{phase_lists};
 ghost use Rattle.nf_phase_def.specs.Open.{Continues};
-ghost use Rattle.nf_phase.specs.Stepping.{Reaches, StandsFor, IsCause};
+ghost use Rattle.nf_phase.specs.Stepping.{Reaches, IsFaultOf, IsCause};
 ghost use Rattle.nf_phase.specs.Finding.{IsFound, ListsPass, LeadsOn};
 
 use crate::fault::StepFault;
@@ -58,7 +58,7 @@ impl Run {
         ensures length { IfOk result (λ parts. IsPhaseLength net.now.net
             (slacks_of (hops_of net.now.net) self.now.labels) found.now.thin.slopes.items
             self.now.time horizon parts.0.length) }
-        ensures cause { IfErr result (StandsFor
+        ensures cause { IfErr result (IsFaultOf
             (ListsPass passes_Q net.now.net horizon self.now found.now.thin.pattern
             found.now.thin.flows.items found.now.thin.slopes.items)
             (suc self.now.made)) }
@@ -87,7 +87,7 @@ impl Run {
         Ok((end, steps))
     }
 
-    // Returns the phase by a thin flow. Refuses at the first operation that exceeds its bound, or if memory can't be allocated.
+    // Returns the phase by a thin flow. Refuses at the first operation that exceeds its bound, or if an allocation fails.
     pub(crate) fn phase_by(
         &self,
         alloc: Global,
@@ -103,7 +103,7 @@ impl Run {
             → IfOk result (LeadsOn passes_Q net.now.net horizon patterns self.now) }
         ensures thin { IfOk result (λ phase. phase.thin ≡ found.thin) }
         ensures cause { IfErr result
-            (StandsFor (ListsPass passes_Q net.now.net horizon self.now found.thin.pattern
+            (IsFaultOf (ListsPass passes_Q net.now.net horizon self.now found.thin.pattern
             found.thin.flows.items found.thin.slopes.items)
             (suc self.now.made)) }
     {

@@ -35,7 +35,7 @@ impl Run {
     /// at its labels at the departure reached. `last` has for each link its state or none, and never Full for an unbounded link. The labels
     /// of the run are those of the flow at the departure reached, and its curves end at them. The run stores the slopes of the last pieces
     /// of labels and queues. Refuses with Passed, of the part Curve, at the first operation that exceeds its bound, node by node and then
-    /// link by link. Refuses with Memory only if memory can't be allocated.
+    /// link by link. Fails with `Memory` if an allocation fails.
     pub fn restore(alloc: Global, net: &Network, flow: Flow, last: Pattern) -> Result<Run, Halt<Q>>
         requires equilibrium { Equilibrium net.now.net (flow_in flow) }
         requires ends { EndsAtItsLabels net.now.net (flow_in flow) }

@@ -7,7 +7,7 @@ ghost use Rattle.nf_phase_def.specs.Open.{Continues, Steps};
 ghost use Rattle.nf_phase_def.specs.ToEnd.{GoesToEnd, GoesForever};
 ghost use Rattle.nf_phase_laws.specs.RunLaws.{reached_by};
 ghost use Rattle.nf_curve.specs.Flows.{flow_of as flow_in};
-ghost use Rattle.nf_phase.specs.Stepping.{Reaches, IsRunState, IsCause, IsCauseOn, LeadsOnlyTo, tail_of};
+ghost use Rattle.nf_phase.specs.Stepping.{Reaches, IsRunState, IsCause, IsCauseOn, LeadsOnlyTo, tail_by};
 
 use crate::fault::StepFault;
 use crate::finding::PhaseStart;
@@ -53,8 +53,8 @@ impl Model for Run {
 }
 
 impl Run {
-    /// Returns the run before its first phase, at departure 0. Its labels are the least transit sums from the source. Refuses only if
-    /// memory can't be allocated.
+    /// Returns the run before its first phase, at departure 0. Its labels are the least transit sums from the source. Fails if an
+    /// allocation fails.
     pub fn start(alloc: Global, net: &Network) -> Result<Run, AllocError>
         ensures starts { IfOk result (IsStart net.now.net) }
         ensures state { IfOk result (IsRunState passes_Q net.now.net) }
@@ -78,7 +78,7 @@ impl Run {
     /// Extends the run by one phase, which is as long as possible but ends at `horizon` at the latest. The phase has the first accepted
     /// pattern, of at most `patterns` patterns. The curves up to the departure reached stay an equilibrium in short form, and end at its
     /// labels. The last pattern stays if the phase is the remainder of an interrupted one, that is, the first after the run was restored.
-    /// Refuses if no phase can be computed, with the first cause, or if memory can't be allocated. The run is then unchanged.
+    /// Refuses if no phase can be computed, with the first cause, or if an allocation fails. The run is then unchanged.
     pub fn step(
         &mut self,
         alloc: Global,
@@ -106,8 +106,8 @@ impl Run {
     /// Extends the run by one phase, which is as long as possible. The phase has the first accepted pattern, of at most `patterns`
     /// patterns. If its length is unlimited, returns its thin flow instead, by which the flow continues forever; the run is then unchanged.
     /// The curves up to the departure reached stay an equilibrium in short form, and end at its labels. The last pattern becomes that of
-    /// the phase, also in a restored run. Refuses if no phase can be computed, with the first cause, or if memory can't be allocated. The
-    /// run is then unchanged.
+    /// the phase, also in a restored run. Refuses if no phase can be computed, with the first cause, or if an allocation fails. The run is
+    /// then unchanged.
     pub fn step_to_end(
         &mut self,
         alloc: Global,
@@ -119,7 +119,7 @@ impl Run {
         ensures phase { IfOk result
             (λ tail. MatchOption tail (GoesToEnd passes_Q net.now.net patterns self.old self.new)
             (λ thin.
-            GoesForever passes_Q net.now.net patterns self.old thin.pattern (tail_of thin))) }
+            GoesForever passes_Q net.now.net patterns self.old thin.pattern (tail_by thin))) }
         ensures stays { IfOk result (λ tail. IsSome tail → self.new ≡ self.old) }
         ensures state { IsRunState passes_Q net.now.net self.new }
         ensures kept { OnErr result (self.new ≡ self.old) }
@@ -168,8 +168,7 @@ impl Run {
         &self.last
     }
 
-    /// Returns the flow up to the departure reached. The run is unchanged and can be extended further. Refuses only if memory can't be
-    /// allocated.
+    /// Returns the flow up to the departure reached. The run is unchanged and can be extended further. Fails if an allocation fails.
     pub fn flow(&self, alloc: Global) -> Result<Flow, AllocError>
         ensures { IfOk result (λ flow. flow_in flow ≡ flow_of self.now) }
     {

@@ -8,7 +8,7 @@ ghost use Rattle.nf_thin_def.specs.PhaseRun.{flow_of};
 ghost use Rattle.nf_phase_def.specs.Open.{RunsOn};
 ghost use Rattle.nf_curve.specs.Flows.{flow_of as flow_in};
 ghost use Rattle.nf_phase.specs.Stepping.{Reaches};
-ghost use Rattle.nf_phase.specs.Solution.{IsSolution, IsFinished, bounds_of, report_in, stop_after};
+ghost use Rattle.nf_phase.specs.Solution.{IsRunSolution, IsFinished, bounds_of, report_in, stop_after};
 
 use crate::run::Run;
 use crate::solution::{Budgets, Solution};
@@ -91,8 +91,7 @@ impl Run {
     /// Extends a run phase by phase, each phase by its first accepted pattern. The run ends at the horizon, after as many phases as
     /// allowed, or if no phase can be computed. No phase may have been added since departure 0 or since the run was restored. The horizon
     /// is a time, not before the departure reached. The resulting flow is an equilibrium. A phase fails only if an operation exceeds its
-    /// bound or more patterns than allowed are needed: each phase has a thin flow (`nf_phase_run_laws`). Refuses only if memory can't be
-    /// allocated.
+    /// bound or more patterns than allowed are needed: each phase has a thin flow (`nf_phase_run_laws`). Fails if an allocation fails.
     pub fn finish(
         self,
         alloc: Global,
@@ -117,8 +116,7 @@ impl Run {
 /// Solves a network phase by phase from departure 0, each phase by its first accepted pattern. The run ends at the horizon, after as many
 /// phases as allowed, or if no phase can be computed. The resulting flow is an equilibrium (a Nash flow over time: Koch and Skutella 2011).
 /// A phase fails only if an operation exceeds its bound or more patterns than allowed are needed: each phase has a thin flow, by the
-/// theorem `no_run_stops_for_no_pattern` of `nf_phase_run_laws`. The horizon is a time of at least 0. Refuses only if memory can't be
-/// allocated.
+/// theorem `no_run_stops_for_no_pattern` of `nf_phase_run_laws`. The horizon is a time of at least 0. Fails if an allocation fails.
 pub fn solve(
     alloc: Global,
     net: &Network,
@@ -127,7 +125,7 @@ pub fn solve(
 ) -> Result<Solution, AllocError>
     requires { 0ℚ ≤ℚ horizon }
     ensures solution { IfOk result
-        (λ s. IsSolution net.now.net (bounds_of horizon budgets) s.phases (report_in horizon s)) }
+        (λ s. IsRunSolution net.now.net (bounds_of horizon budgets) s.phases (report_in horizon s)) }
 {
     // Proof: the network is that of an accepted file.
     net.recall();

@@ -7,7 +7,7 @@ use nf_curve::Stop;
 use nf_thin::SearchFault;
 use std::alloc::AllocError;
 
-/// Returns why a run stops at phase number `phase`, or None if memory can't be allocated.
+/// Returns why a run stops at phase number `phase`, or None if the fault is an allocation failure.
 pub fn stop_by(phase: u64, fault: StepFault) -> Option<Stop>
     ensures { result ≡ cause_of phase fault }
 {
@@ -29,7 +29,7 @@ pub fn stop_by(phase: u64, fault: StepFault) -> Option<Stop>
     }
 }
 
-/// Returns why a run stops at phase number `phase`. Refuses exactly if the fault is that memory can't be allocated.
+/// Returns why a run stops at phase number `phase`. Fails exactly if the fault is an allocation failure.
 pub fn ended_by(phase: u64, fault: StepFault) -> Result<Option<Stop>, AllocError>
     ensures cause { IfOk result (λ stop. stop ≡ cause_of phase fault) }
     ensures some { IfOk result IsSome }

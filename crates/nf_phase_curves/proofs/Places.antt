@@ -6,7 +6,7 @@ use Rattle.std.specs.Option.{option_map}
 use Rattle.std.proofs.lemmas.Option.{same_Some, slice_get-map, slice_get_within}
 use Rattle.std.proofs.lemmas.List.{length-map}
 use Rattle.std.proofs.lemmas.Result.{IfOk-from_err}
-use Rattle.nf_phase_curves.specs.Growing.{Roomy, HasRoom, AllHaveRoom, all_grown}
+use Rattle.nf_phase_curves.specs.Growing.{Roomy, HasReserve, AllHaveRoom, all_grown}
 use Rattle.nf_rational_laws.proofs.Naturals.{before_or_at}
 
 -- ---- indices of lists
@@ -74,7 +74,7 @@ module _ {A : Type 0} where
   -- The value is unchanged, and memory is reserved.
   pub record RoomBelow (before now : List (Roomy A)) (i : ℕ) : Type 0 where
     pub same : all_grown now ≡ all_grown before
-    pub room : (k : ℕ) (r : Roomy A) → k < i → slice_get now k ≡ Some r → HasRoom r
+    pub room : (k : ℕ) (r : Roomy A) → k < i → slice_get now k ≡ Some r → HasReserve r
 
   pub none_roomy : (before : List (Roomy A)) → RoomBelow before before 0
   none_roomy before = record { same = refl; room = λ k r b at. absurd (omega arith) }
@@ -88,17 +88,17 @@ module _ {A : Type 0} where
       kept (x ∷ now) zero at = ap (λ (y : A). y ∷ all_grown now) (e ∙ ap (λ (r : Roomy A). r.grown) (sym (same_Some x old at)))
       kept (x ∷ now) (suc i) at = ap (λ (l : List A). x.grown ∷ l) (kept now i at)
 
-  pub one_roomy : (before now : List (Roomy A)) (i : ℕ) (old new : Roomy A) → i < length now → slice_get now i ≡ Some old → new.grown ≡ old.grown → HasRoom new → RoomBelow before now i
+  pub one_roomy : (before now : List (Roomy A)) (i : ℕ) (old new : Roomy A) → i < length now → slice_get now i ≡ Some old → new.grown ≡ old.grown → HasReserve new → RoomBelow before now i
       → RoomBelow before (set now i new) (i + 1)
   one_roomy before now i old new inside is e room h = record {
     same = still_grown before now i old new is e h.same;
     room = λ k r b at. of_place k r at (before_or_at k i b);
   }
     where
-      of_place : (k : ℕ) (r : Roomy A) → slice_get (set now i new) k ≡ Some r → (k < i) ⊎ (k ≡ i) → HasRoom r
+      of_place : (k : ℕ) (r : Roomy A) → slice_get (set now i new) k ≡ Some r → (k < i) ⊎ (k ≡ i) → HasReserve r
       of_place k r at (inl b) = h.room k r b (sym (beside_set now i k new (omega arith)) ∙ at)
       of_place k r at (inr k_is) =
-          subst HasRoom (same_Some new r (sym (at_set now i new inside) ∙ ap (slice_get (set now i new)) (sym k_is) ∙ at)) room
+          subst HasReserve (same_Some new r (sym (at_set now i new inside) ∙ ap (slice_get (set now i new)) (sym k_is) ∙ at)) room
 
   pub all_are_roomy : (before now : List (Roomy A)) (i : ℕ) → length now ≤ i → RoomBelow before now i → AllHaveRoom now
   all_are_roomy before now i end h k r at = h.room k r (inside k r at) at

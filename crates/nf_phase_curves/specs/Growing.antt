@@ -19,8 +19,8 @@ pub record Roomy (A : Type 0) : Type 0 where
   pub grown : A
   pub spare : ℕ
 
-abbrev pub HasRoom : {A : Type 0} → Roomy A → Type 0
-HasRoom r = 0 < r.spare
+abbrev pub HasReserve : {A : Type 0} → Roomy A → Type 0
+HasReserve r = 0 < r.spare
 
 -- The grown values of several curves.
 abbrev pub all_grown : {A : Type 0} → List (Roomy A) → List A
@@ -28,7 +28,7 @@ all_grown several = map (λ r. r.grown) several
 
 -- Memory is reserved for one more corner of each curve.
 abbrev pub AllHaveRoom : {A : Type 0} → List (Roomy A) → Type 0
-AllHaveRoom {A} several = (i : ℕ) (r : Roomy A) → slice_get several i ≡ Some r → HasRoom r
+AllHaveRoom {A} several = (i : ℕ) (r : Roomy A) → slice_get several i ≡ Some r → HasReserve r
 
 -- ---- corners and the moving end
 abbrev pub points_to : List Point → Option End → List Point

@@ -5,7 +5,7 @@ ghost use Rattle.nf_model.specs.Curve.{IsCurve};
 use nf_curve::Curve;
 use std::alloc::{AllocError, Global};
 
-/// Returns a curve of the first `count` points. Refuses only if memory can't be allocated.
+/// Returns a curve of the first `count` points. Fails if an allocation fails.
 pub(crate) fn first_points(alloc: Global, curve: &Curve, count: usize) -> Result<Curve, AllocError>
     requires curve { IsCurve curve.now.points }
     requires some { 0 < count }
@@ -21,7 +21,7 @@ pub(crate) fn first_points(alloc: Global, curve: &Curve, count: usize) -> Result
     Ok(points)
 }
 
-/// Returns an equal curve. Refuses only if memory can't be allocated.
+/// Returns an equal curve. Fails if an allocation fails.
 pub(crate) fn copy_of(alloc: Global, curve: &Curve) -> Result<Curve, AllocError>
     ensures { IfOk result (λ c. c.points ≡ curve.now.points) }
 {

@@ -10,7 +10,7 @@ use nf_curve::{Curve, Flow};
 use nf_frac::Q;
 use std::alloc::{AllocError, Global};
 
-// Returns the label curves so far, and ends their growth. Refuses only if memory can't be allocated.
+// Returns the label curves so far, and ends their growth. Fails if an allocation fails.
 fn finish_labels(alloc: Global, growing: Vec<GrowingCurve>) -> Result<Vec<Curve>, AllocError>
     ensures { IfOk result (λ curves. map (λ c. c.points) curves.items
         ≡ map (λ c. c.points) (all_grown growing.items)) }
@@ -22,7 +22,7 @@ fn finish_labels(alloc: Global, growing: Vec<GrowingCurve>) -> Result<Vec<Curve>
     Ok(curves)
 }
 
-// Returns copies of the label curves so far. Refuses only if memory can't be allocated.
+// Returns copies of the label curves so far. Fails if an allocation fails.
 fn copy_labels(alloc: Global, growing: &[GrowingCurve]) -> Result<Vec<Curve>, AllocError>
     ensures { IfOk result
         (λ curves. map (λ c. c.points) curves.items ≡ map (λ c. c.points) (all_grown growing.now)) }
@@ -53,7 +53,7 @@ fn without_links(alloc: Global, reached: Q, labels: Vec<Curve>) -> Flow
     }
 }
 
-// Appends the flow of the next link. Refuses only if memory can't be allocated.
+// Appends the flow of the next link. Fails if an allocation fails.
 fn add_link(flow: &mut Flow, link: LinkFlow) -> Result<(), AllocError>
     ensures { OnOk result
         (flow_of flow.new ≡ with_link (flow_of flow.old) (trace_of link.inflow)
@@ -70,7 +70,7 @@ fn add_link(flow: &mut Flow, link: LinkFlow) -> Result<(), AllocError>
     Ok(())
 }
 
-/// Returns the flow over time up to the departure `reached`, and ends the growth of its curves. Refuses only if memory can't be allocated.
+/// Returns the flow over time up to the departure `reached`, and ends the growth of its curves. Fails if an allocation fails.
 pub fn finish_flow(
     alloc: Global,
     reached: Q,
@@ -89,8 +89,7 @@ pub fn finish_flow(
     Ok(flow)
 }
 
-/// Returns a copy of the flow over time up to the departure `reached`; its curves can grow further. Refuses only if memory can't be
-/// allocated.
+/// Returns a copy of the flow over time up to the departure `reached`; its curves can grow further. Fails if an allocation fails.
 pub fn copy_flow(
     alloc: Global,
     reached: Q,

@@ -9,7 +9,7 @@ ghost use Rattle.nf_thin_def.specs.Ends.{end_of};
 ghost use Rattle.nf_thin_def.specs.ReportCurves.{keeps_slope as keeps_slope_by, curve_with, queue_after};
 ghost use Rattle.nf_thin_def.specs.ReportCurves.{first_label_curve, first_queue as queue_at_start};
 ghost use Rattle.nf_phase_def.specs.Restoring.{growing as growing_by};
-ghost use Rattle.nf_phase_curves.specs.Growing.{HasRoom, IsAfter, corners_by, points_to, end_value};
+ghost use Rattle.nf_phase_curves.specs.Growing.{HasReserve, IsAfter, corners_by, points_to, end_value};
 
 use crate::copies::{copy_of, first_points};
 use crate::last_slopes::last_slope;
@@ -121,7 +121,7 @@ impl GrowingCurve {
     }
 
     /// Returns the growing curve with the points of `curve` and this slope of its last piece. None means that the slope is unknown or there
-    /// is one point only. Refuses only if memory can't be allocated.
+    /// is one point only. Fails if an allocation fails.
     pub(crate) fn ended(
         alloc: Global,
         curve: &Curve,
@@ -145,7 +145,7 @@ impl GrowingCurve {
     }
 
     /// Returns the growing curve with the points of `curve`. Refuses with Passed, of the part Curve, at the first operation of its list
-    /// that exceeds its bound. Refuses with Memory only if memory can't be allocated.
+    /// that exceeds its bound. Fails with `Memory` if an allocation fails.
     pub(crate) fn of(alloc: Global, curve: &Curve) -> Result<GrowingCurve, Halt<Q>>
         ensures { Gives (λ c. c.grown) (λ q. q) result
             (at_part CurvePart (growing_by passes_Q curve.now.points)) }
@@ -155,10 +155,10 @@ impl GrowingCurve {
         Ok(grown)
     }
 
-    /// Reserves memory for one more corner. The curve is unchanged, also if memory can't be allocated.
+    /// Reserves memory for one more corner. The curve is unchanged, also if an allocation fails.
     pub(crate) fn reserve(&mut self) -> Result<(), AllocError>
         ensures same { self.new.grown ≡ self.old.grown }
-        ensures room { OnOk result (HasRoom self.new) }
+        ensures room { OnOk result (HasReserve self.new) }
         ensures kept { self.old.spare ≤ self.new.spare }
     {
         self.corners.reserve(1)
@@ -196,7 +196,7 @@ impl GrowingCurve {
 
     /// Extends the curve to a later point, with this slope. Memory for a corner must be reserved.
     pub(crate) fn extend(&mut self, time: Q, value: Q, slope: Q)
-        requires room { HasRoom self.old }
+        requires room { HasReserve self.old }
         requires later { end_of self.old.grown.points <ℚ time }
         ensures { self.new.grown ≡ curve_with self.old.grown (time, value) slope }
     {
@@ -208,7 +208,7 @@ impl GrowingCurve {
     /// Extends the queue of a link until the label of its tail, by a queue step. None means that the label is constant and the queue
     /// unchanged.
     pub(crate) fn extend_or_hold(&mut self, label: Q, step: Option<QueueStep>)
-        requires room { HasRoom self.old }
+        requires room { HasReserve self.old }
         requires later { IsSome step → end_of self.old.grown.points <ℚ label }
         ensures { self.new.grown ≡ queue_after self.old.grown label step }
     {
@@ -217,7 +217,7 @@ impl GrowingCurve {
         }
     }
 
-    /// Returns the curve so far. Refuses only if memory can't be allocated.
+    /// Returns the curve so far. Fails if an allocation fails.
     pub(crate) fn finish(self) -> Result<Curve, AllocError>
         ensures { IfOk result (λ c. c.points ≡ self.grown.points) }
     {
@@ -225,7 +225,7 @@ impl GrowingCurve {
         with_end(corners, end)
     }
 
-    /// Returns a copy of the curve so far. Refuses only if memory can't be allocated.
+    /// Returns a copy of the curve so far. Fails if an allocation fails.
     pub(crate) fn copy(&self, alloc: Global) -> Result<Curve, AllocError>
         ensures { IfOk result (λ c. c.points ≡ self.now.grown.points) }
     {

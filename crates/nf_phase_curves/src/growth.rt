@@ -13,8 +13,8 @@ use nf_curve::Curve;
 use nf_frac::{Halt, Q};
 use std::alloc::{AllocError, Global};
 
-/// Returns the curves of the nodes before the first phase, where `labels` are the labels of departure 0, times. Refuses only if memory
-/// can't be allocated.
+/// Returns the curves of the nodes before the first phase, where `labels` are the labels of departure 0, times. Fails if an allocation
+/// fails.
 pub fn first_labels(alloc: Global, labels: &[Q]) -> Result<Vec<GrowingCurve>, AllocError>
     ensures { IfOk result (λ curves. all_grown curves.items ≡ map first_label_curve labels.now) }
 {
@@ -26,7 +26,7 @@ pub fn first_labels(alloc: Global, labels: &[Q]) -> Result<Vec<GrowingCurve>, Al
 }
 
 /// Returns growing curves with the points of these curves. Refuses with Passed, of the part Curve, at the first operation of their list
-/// that exceeds its bound. Refuses with Memory only if memory can't be allocated.
+/// that exceeds its bound. Fails with `Memory` if an allocation fails.
 pub fn restore_labels(alloc: Global, curves: &[Curve]) -> Result<Vec<GrowingCurve>, Halt<Q>>
     ensures { Gives (λ grown. all_grown grown.items) (λ q. q) result
         (at_part CurvePart (each (growing passes_Q) (map (λ c. c.points) curves.now))) }
@@ -39,7 +39,7 @@ pub fn restore_labels(alloc: Global, curves: &[Curve]) -> Result<Vec<GrowingCurv
     Ok(grown)
 }
 
-/// Reserves memory for one more corner of each curve. The curves are unchanged, also if memory can't be allocated.
+/// Reserves memory for one more corner of each curve. The curves are unchanged, also if an allocation fails.
 pub fn reserve_labels(curves: &mut [GrowingCurve]) -> Result<(), AllocError>
     ensures same { all_grown curves.new ≡ all_grown curves.old }
     ensures room { OnOk result (AllHaveRoom curves.new) }
@@ -50,7 +50,7 @@ pub fn reserve_labels(curves: &mut [GrowingCurve]) -> Result<(), AllocError>
     Ok(())
 }
 
-/// Reserves memory for one more corner of each curve of each link. The curves are unchanged, also if memory can't be allocated.
+/// Reserves memory for one more corner of each curve of each link. The curves are unchanged, also if an allocation fails.
 pub fn reserve_links(curves: &mut [LinkCurves]) -> Result<(), AllocError>
     ensures same { all_grown curves.new ≡ all_grown curves.old }
     ensures room { OnOk result (AllHaveRoom curves.new) }

@@ -9,7 +9,7 @@ ghost use Rattle.nf_curve.specs.Flows.{trace_of};
 ghost use Rattle.nf_rational.specs.Signs.{is_positive};
 ghost use Rattle.nf_thin_def.specs.Ends.{end_of};
 ghost use Rattle.nf_thin_def.specs.ReportCurves.{trace_after, queue_after, first_trace, first_queue, amount_so_far};
-ghost use Rattle.nf_phase_curves.specs.Growing.{HasRoom};
+ghost use Rattle.nf_phase_curves.specs.Growing.{HasReserve};
 ghost use Rattle.nf_phase_curves.specs.Restoring.{of_link};
 
 use crate::growing::GrowingCurve;
@@ -53,8 +53,7 @@ impl Model for LinkCurves {
 }
 
 impl LinkCurves {
-    /// Returns the curves before the first phase, with these labels of departure 0 at the ends of the link. Refuses only if memory can't be
-    /// allocated.
+    /// Returns the curves before the first phase, with these labels of departure 0 at the ends of the link. Fails if an allocation fails.
     pub(crate) fn first(
         alloc: Global,
         tail_label: Q,
@@ -77,7 +76,7 @@ impl LinkCurves {
     }
 
     /// Returns the growing curves of a link with the points of these curves. Refuses with Passed, of the part Curve, at the first operation
-    /// of the list of the queue that exceeds its bound. Refuses with Memory only if memory can't be allocated.
+    /// of the list of the queue that exceeds its bound. Fails with `Memory` if an allocation fails.
     pub(crate) fn of(
         alloc: Global,
         inflow: &Trace,
@@ -100,10 +99,10 @@ impl LinkCurves {
         })
     }
 
-    /// Reserves memory for one more corner of each curve. The curves are unchanged, also if memory can't be allocated.
+    /// Reserves memory for one more corner of each curve. The curves are unchanged, also if an allocation fails.
     pub(crate) fn reserve(&mut self) -> Result<(), AllocError>
         ensures same { self.new.grown ≡ self.old.grown }
-        ensures room { OnOk result (HasRoom self.new) }
+        ensures room { OnOk result (HasReserve self.new) }
         ensures kept { self.old.spare ≤ self.new.spare }
     {
         self.inflow.reserve()?;
@@ -121,7 +120,7 @@ impl LinkCurves {
     /// Extends the curves until the labels of the link's ends, by the step of the link. No rate and no queue step mean that the label is
     /// constant and the curve unchanged.
     pub(crate) fn extend(&mut self, tail_label: Q, head_label: Q, step: &LinkStep)
-        requires room { HasRoom self.old }
+        requires room { HasReserve self.old }
         requires inflow { IsSome step.now.inflow_rate
             → end_of self.old.grown.inflow.points <ℚ tail_label }
         requires outflow { IsSome step.now.outflow_rate
@@ -141,7 +140,7 @@ impl LinkCurves {
         self.queue.extend_or_hold(tail_label, step.queue);
     }
 
-    /// Returns the curves so far, and ends their growth. Refuses only if memory can't be allocated.
+    /// Returns the curves so far, and ends their growth. Fails if an allocation fails.
     pub(crate) fn finish(self) -> Result<LinkFlow, AllocError>
         ensures inflow { IfOk result (λ link. trace_of link.inflow ≡ self.grown.inflow) }
         ensures outflow { IfOk result (λ link. trace_of link.outflow ≡ self.grown.outflow) }
@@ -159,7 +158,7 @@ impl LinkCurves {
         })
     }
 
-    /// Returns copies of the curves so far. Refuses only if memory can't be allocated.
+    /// Returns copies of the curves so far. Fails if an allocation fails.
     pub(crate) fn copy(&self, alloc: Global) -> Result<LinkFlow, AllocError>
         ensures inflow { IfOk result (λ link. trace_of link.inflow ≡ self.now.grown.inflow) }
         ensures outflow { IfOk result (λ link. trace_of link.outflow ≡ self.now.grown.outflow) }

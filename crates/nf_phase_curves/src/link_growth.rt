@@ -6,7 +6,7 @@ ghost use Rattle.nf_frac_def.specs.Checked.{at_part, Gives};
 ghost use Rattle.nf_model.specs.Equilibrium.{HasSlopes};
 ghost use Rattle.nf_curve.specs.Flows.{trace_of};
 ghost use Rattle.nf_thin_def.specs.ReportCurves.{amount_so_far, first_curves, curves_after, link_curves_after};
-ghost use Rattle.nf_phase_curves.specs.Growing.{HasRoom, AllHaveRoom, all_grown};
+ghost use Rattle.nf_phase_curves.specs.Growing.{HasReserve, AllHaveRoom, all_grown};
 ghost use Rattle.nf_phase_curves.specs.LinkGrowth.{LinkEndsBefore, AllLinksEndBefore};
 ghost use Rattle.nf_phase_curves.specs.Restoring.{of_links};
 
@@ -17,7 +17,7 @@ use nf_frac::{Halt, Q};
 use nf_net::{Link, LinkId, Network};
 use std::alloc::{AllocError, Global};
 
-/// Returns the amount that has entered each link so far. Refuses only if memory can't be allocated.
+/// Returns the amount that has entered each link so far. Fails if an allocation fails.
 pub fn amounts(alloc: Global, curves: &[LinkCurves]) -> Result<Vec<Q>, AllocError>
     ensures { IfOk result (λ amounts. amounts.items ≡ map amount_so_far (all_grown curves.now)) }
 {
@@ -38,8 +38,8 @@ fn first_of(alloc: Global, link: &Link, labels: &[Q]) -> Result<LinkCurves, Allo
     LinkCurves::first(alloc, tail, head)
 }
 
-/// Returns the curves of all links before the first phase, where `labels` are the labels of departure 0, times. Refuses only if memory
-/// can't be allocated.
+/// Returns the curves of all links before the first phase, where `labels` are the labels of departure 0, times. Fails if an allocation
+/// fails.
 pub fn first_links(
     alloc: Global,
     net: &Network,
@@ -59,7 +59,7 @@ pub fn first_links(
 }
 
 /// Returns growing curves of all links with the points of these curves. Refuses with Passed, of the part Curve, at the first operation of
-/// the list of the queues that exceeds its bound. Refuses with Memory only if memory can't be allocated.
+/// the list of the queues that exceeds its bound. Fails with `Memory` if an allocation fails.
 pub fn restore_links(
     alloc: Global,
     inflows: &[Trace],
@@ -86,7 +86,7 @@ pub fn restore_links(
 fn extend_link(curves: &mut LinkCurves, link: &Link, labels: &[Q], step: &LinkStep)
     requires tail { link.now.tail < length labels.now }
     requires head { link.now.head < length labels.now }
-    requires room { HasRoom curves.old }
+    requires room { HasReserve curves.old }
     requires later { LinkEndsBefore labels.now link.now curves.old.grown step.now }
     ensures { curves.new.grown ≡ curves_after labels.now link.now curves.old.grown step.now }
 {

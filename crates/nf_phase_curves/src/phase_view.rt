@@ -69,7 +69,7 @@ impl<'a> PhaseView<'a> {
     }
 
     /// Returns the steps of all links in the phase. `amounts` had entered the links by its beginning. Refuses with Passed, of the part
-    /// Curve, at the first operation of the curve list that exceeds its bound. Refuses with Memory only if memory can't be allocated.
+    /// Curve, at the first operation of the curve list that exceeds its bound. Fails with `Memory` if an allocation fails.
     pub fn link_steps(&self, alloc: Global, amounts: &[Q]) -> Result<Vec<LinkStep>, Halt<Q>>
         requires { count_of amounts.now ≡ count_of self.now.net.now.net.links }
         ensures { Gives (λ steps. steps.items) (λ q. q) result

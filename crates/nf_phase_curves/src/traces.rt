@@ -7,7 +7,7 @@ ghost use Rattle.nf_curve.specs.Flows.{trace_of};
 ghost use Rattle.nf_rational.specs.Signs.{is_positive};
 ghost use Rattle.nf_thin_def.specs.Ends.{end_of};
 ghost use Rattle.nf_thin_def.specs.ReportCurves.{trace_with, trace_after, first_trace};
-ghost use Rattle.nf_phase_curves.specs.Growing.{HasRoom, rates_by, end_value};
+ghost use Rattle.nf_phase_curves.specs.Growing.{HasReserve, rates_by, end_value};
 
 use crate::growing::GrowingCurve;
 use nf_curve::Trace;
@@ -79,7 +79,7 @@ impl GrowingTrace {
         })
     }
 
-    /// Returns the growing trace with the points and rates of `trace`. Refuses only if memory can't be allocated.
+    /// Returns the growing trace with the points and rates of `trace`. Fails if an allocation fails.
     pub(crate) fn of(alloc: Global, trace: &Trace) -> Result<GrowingTrace, AllocError>
         requires { AreSlopes (trace_of trace.now).points (trace_of trace.now).rates }
         ensures { IfOk result (λ t. t.grown ≡ trace_of trace.now) }
@@ -90,10 +90,10 @@ impl GrowingTrace {
         Ok(GrowingTrace { curve, rates })
     }
 
-    /// Reserves memory for one more corner. The trace is unchanged, also if memory can't be allocated.
+    /// Reserves memory for one more corner. The trace is unchanged, also if an allocation fails.
     pub(crate) fn reserve(&mut self) -> Result<(), AllocError>
         ensures same { self.new.grown ≡ self.old.grown }
-        ensures room { OnOk result (HasRoom self.new) }
+        ensures room { OnOk result (HasReserve self.new) }
         ensures kept { self.old.spare ≤ self.new.spare }
     {
         self.curve.reserve()?;
@@ -109,7 +109,7 @@ impl GrowingTrace {
 
     /// Extends the trace to a later point, at this rate. Memory for a corner must be reserved.
     pub(crate) fn extend(&mut self, time: Q, amount: Q, rate: Q)
-        requires room { HasRoom self.old }
+        requires room { HasReserve self.old }
         requires later { end_of self.old.grown.points <ℚ time }
         ensures { self.new.grown ≡ trace_with self.old.grown (time, amount) rate }
     {
@@ -122,7 +122,7 @@ impl GrowingTrace {
     /// Extends the trace until the label of its node, to this amount and at this rate. None means that the label is constant and the trace
     /// unchanged.
     pub(crate) fn extend_or_hold(&mut self, label: Q, amount: Q, rate: Option<Q>)
-        requires room { HasRoom self.old }
+        requires room { HasReserve self.old }
         requires later { IsSome rate → end_of self.old.grown.points <ℚ label }
         ensures { self.new.grown ≡ trace_after self.old.grown label amount rate }
     {
@@ -131,7 +131,7 @@ impl GrowingTrace {
         }
     }
 
-    /// Returns the trace so far. Refuses only if memory can't be allocated.
+    /// Returns the trace so far. Fails if an allocation fails.
     pub(crate) fn finish(self) -> Result<Trace, AllocError>
         ensures { IfOk result (λ t. trace_of t ≡ self.grown) }
     {
@@ -141,7 +141,7 @@ impl GrowingTrace {
         Ok(Trace { curve, rates })
     }
 
-    /// Returns a copy of the trace so far. Refuses only if memory can't be allocated.
+    /// Returns a copy of the trace so far. Fails if an allocation fails.
     pub(crate) fn copy(&self, alloc: Global) -> Result<Trace, AllocError>
         ensures { IfOk result (λ t. trace_of t ≡ self.now.grown) }
     {

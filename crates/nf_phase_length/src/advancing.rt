@@ -63,7 +63,7 @@ fn labels_after(alloc: Global, length: Q, labels: &[Q], slopes: &[Q]) -> Result<
 
 /// Returns the length of a phase that begins at `time`, and the labels at its end. The length is the extension length, but ends at the
 /// horizon at the latest. Refuses with Passed, of the part Advance, at the first operation of the advance list that exceeds its bound.
-/// Refuses with Memory only if memory can't be allocated.
+/// Fails with `Memory` if an allocation fails.
 #[tactic(auto, unfolding(nf_thin_def::specs::Advance::advance_list))]
 pub fn advance(
     alloc: Global,

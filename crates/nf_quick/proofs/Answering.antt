@@ -19,7 +19,7 @@ use Rattle.nf_quick_laws.proofs.Joined.{IsReached, EndsWell, EndsWell-list}
 use Rattle.nf_quick_laws.proofs.Nothing.{IsQuickFlow-list, IsMade-list, EndsAtBudget-list}
 use Rattle.nf_residual.proofs.Stopping.{ok_of_part, stopped, goes_on}
 use Rattle.nf_quick.specs.declared.fault.QuickFault.{QuickFault}
-use Rattle.nf_quick.specs.Answered.{of_halt, IsPushed, IsAnswered, IsInOrder}
+use Rattle.nf_quick.specs.Answered.{of_halt, IsPushResult, IsAnswered, IsInOrder}
 
 module _ (passes : Passing) (net : Network) (amount : ℚ) (augments : ℕ) where
   -- ---- the amount 0
@@ -45,7 +45,7 @@ module _ (passes : Passing) (net : Network) (amount : ℚ) (augments : ℕ) wher
     unfolding quickest_list
     opened = ap (λ (b : Bool). quickest_of passes net amount b augments) some
 
-    pub pushes_stop : (fault : QuickFault) → IsPushed passes net amount augments (Err fault) → IsAnswered passes net amount augments (Err fault)
+    pub pushes_stop : (fault : QuickFault) → IsPushResult passes net amount augments (Err fault) → IsAnswered passes net amount augments (Err fault)
     pushes_stop (QuickFault.Budget walks) e = (inr limited, ap (at_part Part.Quick) (opened ∙ goes_on pushes answer (OverBudget walks.items) e))
     pushes_stop (QuickFault.Unbounded links) e = absurd e
     pushes_stop (QuickFault.Passed at) e = (inr limited, ap (at_part Part.Quick) opened ∙ stopped pushes answer at e)

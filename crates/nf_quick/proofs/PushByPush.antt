@@ -13,7 +13,7 @@ use Rattle.nf_model.specs.Network.{Network}
 use Rattle.nf_quick_def.specs.Flows.{IsSound}
 use Rattle.nf_quick_def.specs.Rounds.{Walk}
 use Rattle.nf_quick_def.specs.Quick.{QuickStanding, Pushed, Done, OverBudget, start_of, push_on, next_list, ended, push_and, push_up_to}
-use Rattle.nf_quick.specs.Answered.{of_halt, IsPushed}
+use Rattle.nf_quick.specs.Answered.{of_halt, IsPushResult}
 use Rattle.nf_residual.proofs.Stopping.{stops, goes_on, stops_as}
 
 -- The remaining pushes give the result of all pushes.
@@ -85,6 +85,6 @@ module _ (passes : Passing) (net : Network) (amount : ℚ) (augments : ℕ) wher
       over_budget walk e = ap (at_part Part.Quick) (at_end ∙ goes_on next last (Some walk) e)
 
 -- A failure of the pushes is the answer.
-pub halted : (passes : Passing) (net : Network) (amount : ℚ) (augments : ℕ) (h : Halt ℚ) → Stops (λ (q : ℚ). q) h (at_part Part.Quick (push_up_to passes net amount augments (start_of net))) → IsPushed passes net amount augments (Err (of_halt h))
+pub halted : (passes : Passing) (net : Network) (amount : ℚ) (augments : ℕ) (h : Halt ℚ) → Stops (λ (q : ℚ). q) h (at_part Part.Quick (push_up_to passes net amount augments (start_of net))) → IsPushResult passes net amount augments (Err (of_halt h))
 halted passes net amount augments (Halt.Passed p) e = e
 halted passes net amount augments Halt.Memory e = tt

@@ -22,14 +22,14 @@ abbrev pub HasNoWay : Network → ℚ → Type 0
 HasNoWay net amount = (amount ≡ 0ℚ) ⊎ IsLimited net
 
 -- The result of the pushes: no walk is left to push, the budget is exceeded, or an operation exceeds its bound.
-abbrev pub IsPushed : Passing → Network → ℚ → ℕ → Result QuickStanding QuickFault → Type 0
-IsPushed passes net amount augments (Ok s) = at_part Part.Quick (push_up_to passes net amount augments (start_of net)) ≡ Ok (Done s)
-IsPushed passes net amount augments (Err (QuickFault.Budget walks)) =
+abbrev pub IsPushResult : Passing → Network → ℚ → ℕ → Result QuickStanding QuickFault → Type 0
+IsPushResult passes net amount augments (Ok s) = at_part Part.Quick (push_up_to passes net amount augments (start_of net)) ≡ Ok (Done s)
+IsPushResult passes net amount augments (Err (QuickFault.Budget walks)) =
     at_part Part.Quick (push_up_to passes net amount augments (start_of net)) ≡ Ok (OverBudget walks.items)
-IsPushed passes net amount augments (Err (QuickFault.Unbounded links)) = ⊥
-IsPushed passes net amount augments (Err (QuickFault.Passed at)) =
+IsPushResult passes net amount augments (Err (QuickFault.Unbounded links)) = ⊥
+IsPushResult passes net amount augments (Err (QuickFault.Passed at)) =
     at_part Part.Quick (push_up_to passes net amount augments (start_of net)) ≡ Err at
-IsPushed passes net amount augments (Err QuickFault.Memory) = Unit {0}
+IsPushResult passes net amount augments (Err QuickFault.Memory) = Unit {0}
 
 -- Unbounded implies that the amount is above 0, and carries a walk of unbounded links from source to sink. Each other result except Memory
 -- implies that the amount is 0 or no such walk exists, and is the result of `quickest_list`.

@@ -17,7 +17,7 @@ pub enum QuickFault {
     Unbounded { links: Vec<LinkId> },
     /// An operation exceeds its bound.
     Passed(PassedAt<Q>),
-    /// Memory can't be allocated.
+    /// An allocation failed.
     Memory,
 }
 

@@ -3,7 +3,7 @@ ghost use Rattle.std.specs.Prelude.{IfOk};
 ghost use Rattle.nf_frac_def.specs.Passing.{passes_Q};
 ghost use Rattle.nf_quick_def.specs.Steps.{IsLimited};
 ghost use Rattle.nf_quick_def.specs.Flows.{IsSound};
-ghost use Rattle.nf_quick.specs.Answered.{IsPushed};
+ghost use Rattle.nf_quick.specs.Answered.{IsPushResult};
 
 use crate::fault::QuickFault;
 use nf_frac::Q;
@@ -20,7 +20,7 @@ pub(crate) fn push_up_to(
     augments: u64,
 ) -> Result<QuickStanding, QuickFault>
     requires { IsLimited net.now.net }
-    ensures pushed { IsPushed passes_Q net.now.net amount augments result }
+    ensures pushed { IsPushResult passes_Q net.now.net amount augments result }
     ensures sound { IfOk result (λ s. IsSound net.now.net s.flows) }
 {
     let mut standing = QuickStanding::start(alloc, net)?;

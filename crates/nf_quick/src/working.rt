@@ -100,7 +100,7 @@ fn work_out(alloc: Global, net: &Network, amount: Q, augments: u64) -> Result<Qu
 /// - `Budget`: exactly if `augments` walks were pushed and the next is shorter than the time; has the pushed walks.
 /// - `Passed`: at the first operation that exceeds its bound, with part Quick: of the pushes, then of the walks, of the distances from
 ///   source and sink, of the cut, and of its value.
-/// - `Memory`: only if memory can't be allocated.
+/// - `Memory`: if an allocation fails.
 pub fn quickest(alloc: Global, net: &Network, amount: Q, augments: u64) -> Result<Quick, QuickFault>
     requires amount { 0ℚ ≤ℚ amount }
     requires augments { 1 ≤ augments }

@@ -45,7 +45,7 @@ fn distance_at(distances: &[Option<Q>], node: usize) -> Option<Q>
 }
 
 /// Returns the cut times of all nodes, given their distances (times) from source and sink. Refuses with Passed, of the part Quick, at the
-/// first operation of `node_times_list` that exceeds its bound. Refuses with Memory only if memory can't be allocated.
+/// first operation of `node_times_list` that exceeds its bound. Fails with `Memory` if an allocation fails.
 pub fn node_times(
     alloc: Global,
     time: Q,

@@ -7,7 +7,7 @@ use Rattle.nf_rational.specs.Rational.{ℚ}
 use Rattle.nf_rational_laws.proofs.Results.{not_both}
 use Rattle.nf_model.specs.Network.{Link, Network, IsLink, IsNetwork}
 use Rattle.nf_quick_def.specs.Steps.{IsUnboundedWalk}
-use Rattle.nf_quick_walks.specs.Ways.{Ways, way_at, leads_on, LeadsOn, NoneLeadsOn, AreWays, AreAllWays}
+use Rattle.nf_quick_walks.specs.Ways.{Ways, way_at, leads_on, LeadsToNew, NoneLeadsOn, AreWays, AreAllWays}
 
 -- ---- the number of nodes without a walk
 abbrev pub unknown : Ways → ℕ
@@ -93,7 +93,7 @@ module _ (net : Network) (good : IsNetwork net) where
           let none : ◌≡◌ {A = Option (List ℕ)} (Some []) (Some way) = sym there ∙ ap (λ (u : ℕ). way_at (set (replicate net.nodes None) net.source (Some [])) u) same ∙ f in
           let is : [] ≡ way = cc in subst (λ (w : List ℕ). IsUnboundedWalk net w net.source v) is same
 
-  module _ (ways : Ways) (are : AreWays net ways) (e : ℕ) (on : LeadsOn net ways e) (link : Link) (is : IsLink net e link) where
+  module _ (ways : Ways) (are : AreWays net ways) (e : ℕ) (on : LeadsToNew net ways e) (link : Link) (is : IsLink net e link) where
     same_link : (a b : Link) → IsLink net e a → IsLink net e b → a ≡ b
     same_link a b p q = let f : ◌≡◌ {A = Option Link} (Some a) (Some b) = sym p ∙ q in cc
 

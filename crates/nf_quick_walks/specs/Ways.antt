@@ -15,7 +15,7 @@ abbrev pub leads_on : Ways → Link → Bool
 leads_on ways link = is_none link.capacity && (is_some (way_at ways link.tail) && not (is_some (way_at ways link.head)))
 
 -- Link e leads to a new node.
-pub record LeadsOn (net : Network) (ways : Ways) (e : ℕ) : Type 0 where
+pub record LeadsToNew (net : Network) (ways : Ways) (e : ℕ) : Type 0 where
   pub link : Link
   pub is_link : IsLink net e link
   pub leads : leads_on ways link ≡ true

@@ -107,7 +107,7 @@ impl Model for QuickStanding {
 }
 
 impl QuickStanding {
-    /// Returns the state before the first push. Refuses only if memory can't be allocated.
+    /// Returns the state before the first push. Fails if an allocation fails.
     pub fn start(alloc: Global, net: &Network) -> Result<QuickStanding, AllocError>
         ensures start { IfOk result (λ s. s ≡ start_of net.now.net) }
         ensures sound { IfOk result (λ s. IsSound net.now.net s.flows) }
@@ -140,8 +140,8 @@ impl QuickStanding {
     }
 
     /// Returns the walk to push next. Returns None if no residual walk is left, or the shortest is at least as long as the time. Refuses
-    /// with Passed, of the part Quick, at the first operation of `next_list` that exceeds its bound. Refuses with Memory only if memory
-    /// can't be allocated.
+    /// with Passed, of the part Quick, at the first operation of `next_list` that exceeds its bound. Fails with `Memory` if an allocation
+    /// fails.
     pub fn next(&self, alloc: Global, net: &Network) -> Result<Option<Walk>, Halt<Q>>
         requires sound { IsSound net.now.net self.now.flows }
         requires limited { IsLimited net.now.net }
@@ -156,8 +156,8 @@ impl QuickStanding {
     }
 
     /// Pushes a walk with its whole room, adds the room to the rate, and computes the time anew. Refuses with Passed, of the part Quick, at
-    /// the first operation that exceeds its bound: of the push, then of the time. Refuses with Memory only if memory can't be allocated.
-    /// After a refusal only the flow may differ, and it is sound.
+    /// the first operation that exceeds its bound: of the push, then of the time. Fails with `Memory` if an allocation fails. After a
+    /// refusal only the flow may differ, and it is sound.
     pub fn push_on(&mut self, net: &Network, amount: Q, walk: Walk) -> Result<(), Halt<Q>>
         requires sound { IsSound net.now.net self.old.flows }
         requires walk { IsShortestWalk net.now.net self.old.flows walk }

@@ -1,7 +1,7 @@
 // Walks of unbounded links from source to sink.
 ghost use Rattle.std.specs.Prelude.{◌≡◌, ℕ, ◌<◌, List, [], ◌∷◌, ◌++◌, length, set, replicate, Some, None, is_some, IfOk, MatchOption};
 ghost use Rattle.nf_quick_def.specs.Steps.{IsUnboundedWalk, IsLimited};
-ghost use Rattle.nf_quick_walks.specs.Ways.{way_at, leads_on as leads_on_by, LeadsOn, NoneLeadsOn, AreAllWays};
+ghost use Rattle.nf_quick_walks.specs.Ways.{way_at, leads_on as leads_on_by, LeadsToNew, NoneLeadsOn, AreAllWays};
 
 use nf_graph::NodeId;
 use nf_net::{Link, LinkId, Network};
@@ -46,7 +46,7 @@ fn leads_on(ways: &[Option<Way>], link: Link) -> bool
 fn next_link(net: &Network, ways: &[Option<Way>]) -> Option<LinkId>
     requires { length ways.now ≡ net.now.net.nodes }
     ensures { MatchOption result (NoneLeadsOn net.now.net ways.now)
-        (λ e. LeadsOn net.now.net ways.now e) }
+        (λ e. LeadsToNew net.now.net ways.now e) }
 {
     net.recall();
     for number in 0..net.link_count() {
@@ -114,7 +114,7 @@ fn all_ways(alloc: Global, net: &Network) -> Result<Vec<Option<Way>>, AllocError
     Ok(ways)
 }
 
-/// Returns a walk of unbounded links from source to sink, or None exactly if there is none. Refuses only if memory can't be allocated.
+/// Returns a walk of unbounded links from source to sink, or None exactly if there is none. Fails if an allocation fails.
 pub fn unbounded_walk(alloc: Global, net: &Network) -> Result<Option<Vec<LinkId>>, AllocError>
     ensures { IfOk result (λ found. MatchOption found (IsLimited net.now.net)
         (λ links. IsUnboundedWalk net.now.net links.items net.now.net.source net.now.net.sink)) }

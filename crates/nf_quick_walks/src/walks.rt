@@ -163,7 +163,7 @@ fn is_none(way: &[LinkId]) -> bool
 
 /// Removes walks from these flows until none is left, and returns them. Each walk removes the whole flow of at least one link, so there are
 /// at most as many walks as links. A node never examines a spent link again. Refuses with Passed, of the part Quick, at the first
-/// subtraction that exceeds its bound. Refuses with Memory only if memory can't be allocated.
+/// subtraction that exceeds its bound. Fails with `Memory` if an allocation fails.
 pub fn walks_off(alloc: Global, net: &Network, flows: Vec<Q>) -> Result<Vec<Rated>, Halt<Q>>
     requires { length flows.items ≡ length net.now.net.links }
     ensures { Gives (λ walks. walks.items) (λ q. q) result

@@ -21,7 +21,7 @@ use Rattle.nf_report_lines.specs.declared.draft.Draft.{Draft}
 use Rattle.nf_report_lines.specs.declared.entry.RatedPoint.{RatedPoint}
 use Rattle.nf_report_lines.specs.declared.entry.Opening.TheVariants.{Begins}
 use Rattle.nf_report_lines.specs.declared.entry.Entry.TheVariants.{OfCurve, Never, OfLink}
-use Rattle.nf_report_lines.specs.Drafts.{seen_stage, seen_curve, seen_done, seen_current, with_open, begun_count, seen_draft, LacksIdleOnly, IsWithin}
+use Rattle.nf_report_lines.specs.Drafts.{seen_stage, seen_curve, seen_done, seen_current, with_open, begun_count, seen_draft, LacksIdleOnly, IsWithinNetwork}
 use Rattle.nf_report_lines.specs.Entries.{begun_by, opened_by, closed, drafted, IsNeverNext}
 use Rattle.nf_text.specs.Within.{word_at}
 use Rattle.nf_frac_def.specs.Checked.{◌>>=◌}
@@ -143,7 +143,7 @@ module _ (n : Named) (d : Draft) where
 abbrev opens : Named → Draft → lines.Kind → Name → Option Trace → Result Opened ReportRule
 opens n d kind name current = opened (seen_with n d d.done.items current) kind name (seen_current (key_at n (length d.done.items)) current)
 
-module _ (n : Named) (d : Draft) (within : IsWithin n d) (kind : lines.Kind) (name : Name) where
+module _ (n : Named) (d : Draft) (within : IsWithinNetwork n d) (kind : lines.Kind) (name : Name) where
   -- none is being read
   pub begins_first : d.current ≡ None → is_some_key kind name (key_of_number n (length d.done.items)) ≡ true → opened (seen_draft n d) kind name (seen_draft n d).current ≡ Ok (opened_by (seen_draft n d) Begins)
   begins_first none e =
@@ -218,11 +218,11 @@ pub nothing_read : (n : Named) (horizon reached : ℚ) (done : List (Option Trac
 nothing_read n horizon reached done states h r d s = rw (h, r, d, s) refl
 
 pub within_by : (n : Named) (d : Draft) (count : ℕ) → d.current ≡ None → length d.done.items ≡ count → count ≤ length (curve_keys n) → LacksIdleOnly n d.done.items
-    → length d.states ≡ length n.net.links → IsWithin n d
+    → length d.states ≡ length n.net.links → IsWithinNetwork n d
 within_by n d count none many few idle states =
     record { curves = subst (λ (k : ℕ). k ≤ length (curve_keys n)) (sym (ap (with_open (length d.done.items)) none ∙ many)) few; idle = idle; states = states }
 
-pub done_few : (n : Named) (d : Draft) → IsWithin n d → length d.done.items ≤ length (curve_keys n)
+pub done_few : (n : Named) (d : Draft) → IsWithinNetwork n d → length d.done.items ≤ length (curve_keys n)
 done_few n d within = by_current d.current within.curves
   where
     by_current : (o : Option Trace) → with_open (length d.done.items) o ≤ length (curve_keys n) → length d.done.items ≤ length (curve_keys n)

@@ -58,7 +58,7 @@ abbrev pub LacksIdleOnly : Named → List (Option Trace) → Type 0
 LacksIdleOnly n curves = (i : ℕ) → slice_get curves i ≡ Some None → (key_at n i).kind ≡ lines.OfNever
 
 -- the state has at most the network's curves, lacks only those of idle nodes, and has an entry for each link
-pub record IsWithin (n : Named) (draft : Draft) : Type 0 where
+pub record IsWithinNetwork (n : Named) (draft : Draft) : Type 0 where
   pub curves : begun_count draft ≤ length (curve_keys n)
   pub idle : LacksIdleOnly n draft.done.items
   pub states : length draft.states ≡ length n.net.links

@@ -54,8 +54,8 @@ IsNeverNext [] = ⊥
 IsNeverNext (key ∷ keys) = key.kind ≡ lines.OfNever
 
 -- times of points increase, a `never` line belongs to the next curve, and a link belongs to the network
-abbrev pub Fits : Named → ReportDraft → Entry → Type 0
-Fits n draft (OfCurve opening p) = CanOpen draft opening × (comes_after (last_or None (opened_by draft opening).curve.points) p.time ≡ true)
-Fits n draft Never = IsNeverNext draft.keys
-Fits n draft (OfLink link state) = link < length n.net.links
-Fits n draft entry = Unit {0}
+abbrev pub FitsDraft : Named → ReportDraft → Entry → Type 0
+FitsDraft n draft (OfCurve opening p) = CanOpen draft opening × (comes_after (last_or None (opened_by draft opening).curve.points) p.time ≡ true)
+FitsDraft n draft Never = IsNeverNext draft.keys
+FitsDraft n draft (OfLink link state) = link < length n.net.links
+FitsDraft n draft entry = Unit {0}

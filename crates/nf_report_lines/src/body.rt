@@ -4,8 +4,8 @@ ghost use Rattle.std.specs.Option.{option_copied};
 ghost use Rattle.nf_report_def.specs.ReportLines.{key_word, begins_with, point_line, trace_line, never_line, state_in, capacity_at, state_line, end_line, line_kind, body_line, are_alike as are_alike_by};
 ghost use Rattle.nf_report_lines.specs.Keys.{seen_kind};
 ghost use Rattle.nf_report_lines.specs.Lines.{seen_line_kind, words_behind, state_read};
-ghost use Rattle.nf_report_lines.specs.Drafts.{seen_draft, IsWithin};
-ghost use Rattle.nf_report_lines.specs.Entries.{drafted, Fits};
+ghost use Rattle.nf_report_lines.specs.Drafts.{seen_draft, IsWithinNetwork};
+ghost use Rattle.nf_report_lines.specs.Entries.{drafted, FitsDraft};
 ghost use Rattle.nf_side.specs.Said.{said_by};
 
 use crate::draft::Draft;
@@ -102,11 +102,11 @@ impl Draft {
     // Reads `label NODE TIME VALUE` and `queue LINK TIME VALUE`.
     fn read_point(&self, net: &Network, kind: Kind, line: &ReadLine) -> Result<Entry, ReportRule>
         requires words { 0 < length line.now.words }
-        requires within { IsWithin net.now self.now }
+        requires within { IsWithinNetwork net.now self.now }
         ensures says { let draft = seen_draft net.now self.now in
             point_line (seen_kind kind) draft (drop 1 line.now.words)
             ≡ said_by (drafted net.now draft) result }
-        ensures fits { IfOk result (λ entry. Fits net.now (seen_draft net.now self.now) entry) }
+        ensures fits { IfOk result (λ entry. FitsDraft net.now (seen_draft net.now self.now) entry) }
     {
         if line.len() != 4 {
             return Err(ReportRule::P6);
@@ -136,12 +136,12 @@ impl Draft {
         next: Option<&ReadLine>,
     ) -> Result<Entry, ReportRule>
         requires words { 0 < length line.now.words }
-        requires within { IsWithin net.now self.now }
+        requires within { IsWithinNetwork net.now self.now }
         ensures says { let draft = seen_draft net.now self.now in
             trace_line (seen_kind kind) draft (words_behind (option_copied next.entry))
             (drop 1 line.now.words)
             ≡ said_by (drafted net.now draft) result }
-        ensures fits { IfOk result (λ entry. Fits net.now (seen_draft net.now self.now) entry) }
+        ensures fits { IfOk result (λ entry. FitsDraft net.now (seen_draft net.now self.now) entry) }
     {
         if line.len() != 5 {
             return Err(ReportRule::P6);
@@ -166,10 +166,10 @@ impl Draft {
     // Reads `never NODE`.
     fn read_never(&self, net: &Network, line: &ReadLine) -> Result<Entry, ReportRule>
         requires words { 0 < length line.now.words }
-        requires within { IsWithin net.now self.now }
+        requires within { IsWithinNetwork net.now self.now }
         ensures says { let draft = seen_draft net.now self.now in
             never_line draft (drop 1 line.now.words) ≡ said_by (drafted net.now draft) result }
-        ensures fits { IfOk result (λ entry. Fits net.now (seen_draft net.now self.now) entry) }
+        ensures fits { IfOk result (λ entry. FitsDraft net.now (seen_draft net.now self.now) entry) }
     {
         if line.len() != 2 {
             return Err(ReportRule::P6);
@@ -183,11 +183,11 @@ impl Draft {
     // Reads `state LINK STATE`.
     fn read_state(&self, net: &Network, line: &ReadLine) -> Result<Entry, ReportRule>
         requires words { 0 < length line.now.words }
-        requires within { IsWithin net.now self.now }
+        requires within { IsWithinNetwork net.now self.now }
         ensures says { let draft = seen_draft net.now self.now in
             state_line net.now draft (drop 1 line.now.words)
             ≡ said_by (drafted net.now draft) result }
-        ensures fits { IfOk result (λ entry. Fits net.now (seen_draft net.now self.now) entry) }
+        ensures fits { IfOk result (λ entry. FitsDraft net.now (seen_draft net.now self.now) entry) }
     {
         if line.len() != 3 {
             return Err(ReportRule::P6);
@@ -211,10 +211,10 @@ impl Draft {
     // Reads `end`.
     fn read_end(&self, net: &Network, line: &ReadLine) -> Result<Entry, ReportRule>
         requires words { 0 < length line.now.words }
-        requires within { IsWithin net.now self.now }
+        requires within { IsWithinNetwork net.now self.now }
         ensures says { let draft = seen_draft net.now self.now in
             end_line draft (drop 1 line.now.words) ≡ said_by (drafted net.now draft) result }
-        ensures fits { IfOk result (λ entry. Fits net.now (seen_draft net.now self.now) entry) }
+        ensures fits { IfOk result (λ entry. FitsDraft net.now (seen_draft net.now self.now) entry) }
     {
         if line.len() != 1 {
             return Err(ReportRule::P6);
@@ -233,11 +233,11 @@ impl Draft {
         next: Option<&ReadLine>,
     ) -> Result<Entry, ReportRule>
         requires words { 0 < length line.now.words }
-        requires within { IsWithin net.now self.now }
+        requires within { IsWithinNetwork net.now self.now }
         ensures says { let draft = seen_draft net.now self.now in
             body_line net.now draft (words_behind (option_copied next.entry)) line.now.words
             ≡ said_by (drafted net.now draft) result }
-        ensures fits { IfOk result (λ entry. Fits net.now (seen_draft net.now self.now) entry) }
+        ensures fits { IfOk result (λ entry. FitsDraft net.now (seen_draft net.now self.now) entry) }
     {
         let Some(kind) = kind_of_line(net.version(), line.at(0)) else {
             return Err(ReportRule::P5);

@@ -3,8 +3,8 @@ ghost use Rattle.std.specs.Prelude.{◌≡◌, true, ◌+◌, ◌<◌, [], ◌�
 ghost use Rattle.std.specs.List.{last_or};
 ghost use Rattle.nf_net_def.specs.Named.{Named};
 ghost use Rattle.nf_report_def.specs.ReportLines.{empty_report, curve_keys, with_rate, comes_after, has_all as has_all_by};
-ghost use Rattle.nf_report_lines.specs.Drafts.{seen_draft, LacksIdleOnly, IsWithin, begun_count};
-ghost use Rattle.nf_report_lines.specs.Entries.{drafted, closed, Fits};
+ghost use Rattle.nf_report_lines.specs.Drafts.{seen_draft, LacksIdleOnly, IsWithinNetwork, begun_count};
+ghost use Rattle.nf_report_lines.specs.Entries.{drafted, closed, FitsDraft};
 ghost use Rattle.nf_report_lines.specs.declared.entry.Entry.TheVariants.{OfCurve, Never, OfLink, End};
 ghost use Rattle.nf_report_lines.specs.declared.entry.Opening.TheVariants.{GoesOn, Begins};
 
@@ -93,7 +93,7 @@ impl Draft {
     /// Returns the state before the first line.
     pub fn new(alloc: Global, net: &Network) -> Result<Draft, AllocError>
         ensures draft { IfOk result (λ draft. seen_draft net.now draft ≡ empty_report net.now) }
-        ensures within { IfOk result (λ draft. IsWithin net.now draft) }
+        ensures within { IfOk result (λ draft. IsWithinNetwork net.now draft) }
     {
         // Proof: each link has a name.
         net.recall();
@@ -129,7 +129,7 @@ impl Draft {
 
     /// Returns whether every curve of the network has begun.
     pub(crate) fn has_all(&self, net: &Network) -> bool
-        requires { IsWithin net.now self.now }
+        requires { IsWithinNetwork net.now self.now }
         ensures { result ≡ has_all_by (seen_draft net.now self.now).keys }
     {
         self.begun_count() == curve_count(net)
@@ -186,10 +186,10 @@ impl Draft {
 
     // Completes the current curve, and adds an idle node, which has no curve.
     fn add_never(&mut self) -> Result<(), AllocError>
-        ensures draft { (n : Named) → IsWithin n self.old → Fits n (seen_draft n self.old) Never
+        ensures draft { (n : Named) → IsWithinNetwork n self.old → FitsDraft n (seen_draft n self.old) Never
             → OnOk result (seen_draft n self.new ≡ drafted n (seen_draft n self.old) Never) }
-        ensures within { (n : Named) → IsWithin n self.old → Fits n (seen_draft n self.old) Never
-            → OnOk result (IsWithin n self.new) }
+        ensures within { (n : Named) → IsWithinNetwork n self.old → FitsDraft n (seen_draft n self.old) Never
+            → OnOk result (IsWithinNetwork n self.new) }
     {
         self.close()?;
         self.done.push(None)?;
@@ -198,11 +198,11 @@ impl Draft {
 
     // Completes the current curve, and sets the state of a link.
     fn add_state(&mut self, net: &Network, link: LinkId, state: State) -> Result<(), AllocError>
-        requires within { IsWithin net.now self.old }
-        requires fits { Fits net.now (seen_draft net.now self.old) (OfLink link state) }
+        requires within { IsWithinNetwork net.now self.old }
+        requires fits { FitsDraft net.now (seen_draft net.now self.old) (OfLink link state) }
         ensures draft { OnOk result (seen_draft net.now self.new
             ≡ drafted net.now (seen_draft net.now self.old) (OfLink link state)) }
-        ensures within { OnOk result (IsWithin net.now self.new) }
+        ensures within { OnOk result (IsWithinNetwork net.now self.new) }
     {
         // Proof: the number of links is small.
         net.recall();
@@ -216,20 +216,20 @@ impl Draft {
     fn add_end(&mut self) -> Result<(), AllocError>
         ensures draft { (n : Named)
             → OnOk result (seen_draft n self.new ≡ drafted n (seen_draft n self.old) End) }
-        ensures within { (n : Named) → IsWithin n self.old → OnOk result (IsWithin n self.new) }
+        ensures within { (n : Named) → IsWithinNetwork n self.old → OnOk result (IsWithinNetwork n self.new) }
     {
         self.close()?;
         self.stage = Stage::End;
         Ok(())
     }
 
-    /// Applies the meaning of a line to the state. Fails only if an allocation fails.
+    /// Applies the meaning of a line to the state. Fails if an allocation fails.
     pub fn add(&mut self, alloc: Global, net: &Network, entry: &Entry) -> Result<(), AllocError>
-        requires within { IsWithin net.now self.old }
-        requires fits { Fits net.now (seen_draft net.now self.old) entry.now }
+        requires within { IsWithinNetwork net.now self.old }
+        requires fits { FitsDraft net.now (seen_draft net.now self.old) entry.now }
         ensures draft { OnOk result (seen_draft net.now self.new
             ≡ drafted net.now (seen_draft net.now self.old) entry.now) }
-        ensures within { OnOk result (IsWithin net.now self.new) }
+        ensures within { OnOk result (IsWithinNetwork net.now self.new) }
     {
         match entry {
             Entry::Version => self.stage = Stage::Horizon,

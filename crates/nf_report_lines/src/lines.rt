@@ -4,8 +4,8 @@ ghost use Rattle.std.specs.Option.{option_copied};
 ghost use Rattle.nf_net_def.specs.Named.{Named};
 ghost use Rattle.nf_report_def.specs.ReportLines.{ReportDraft, version_line, nothing_more, staged_line, report_line};
 ghost use Rattle.nf_report_lines.specs.Lines.{words_behind};
-ghost use Rattle.nf_report_lines.specs.Drafts.{seen_draft, IsWithin};
-ghost use Rattle.nf_report_lines.specs.Entries.{drafted, Fits};
+ghost use Rattle.nf_report_lines.specs.Drafts.{seen_draft, IsWithinNetwork};
+ghost use Rattle.nf_report_lines.specs.Entries.{drafted, FitsDraft};
 ghost use Rattle.nf_side.specs.Said.{said_by};
 
 use crate::draft::{Draft, Stage};
@@ -19,7 +19,7 @@ use nf_text::ReadLine;
 fn read_version(net: &Network, line: &ReadLine) -> Result<Entry, ReportRule>
     ensures says { (draft : ReportDraft)
         → version_line net.now draft line.now.words ≡ said_by (drafted net.now draft) result }
-    ensures fits { (draft : ReportDraft) → IfOk result (λ entry. Fits net.now draft entry) }
+    ensures fits { (draft : ReportDraft) → IfOk result (λ entry. FitsDraft net.now draft entry) }
 {
     if !is_version(net, line) {
         return Err(ReportRule::P4);
@@ -48,12 +48,12 @@ impl Draft {
         next: Option<&ReadLine>,
     ) -> Result<Entry, ReportRule>
         requires words { 0 < length line.now.words }
-        requires within { IsWithin net.now self.now }
+        requires within { IsWithinNetwork net.now self.now }
         ensures says { let draft = seen_draft net.now self.now in
             staged_line net.now draft
             (words_behind (option_copied next.entry)) line.now.words draft.stage
             ≡ said_by (drafted net.now draft) result }
-        ensures fits { IfOk result (λ entry. Fits net.now (seen_draft net.now self.now) entry) }
+        ensures fits { IfOk result (λ entry. FitsDraft net.now (seen_draft net.now self.now) entry) }
     {
         match self.stage {
             Stage::Version => read_version(net, line),
@@ -81,12 +81,12 @@ impl Draft {
         line: &ReadLine,
         next: Option<&ReadLine>,
     ) -> Result<Entry, ReportRule>
-        requires { IsWithin net.now self.now }
+        requires { IsWithinNetwork net.now self.now }
         ensures says { let draft = seen_draft net.now self.now in
             report_line net.now draft line.now.plain
             (words_behind (option_copied next.entry)) line.now.words
             ≡ said_by (drafted net.now draft) result }
-        ensures fits { IfOk result (λ entry. Fits net.now (seen_draft net.now self.now) entry) }
+        ensures fits { IfOk result (λ entry. FitsDraft net.now (seen_draft net.now self.now) entry) }
     {
         if line.len() == 0 || !line.is_plain() {
             return Err(ReportRule::P3);

@@ -5,7 +5,7 @@ ghost use Rattle.nf_net_def.specs.Named.{Named};
 ghost use Rattle.nf_report_def.specs.ReportLines as lines;
 ghost use Rattle.nf_report_def.specs.ReportLines.{opened as opened_for, comes_after as comes_after_by};
 ghost use Rattle.nf_report_lines.specs.Keys.{seen_kind, key_of_number, is_some_key};
-ghost use Rattle.nf_report_lines.specs.Drafts.{seen_draft, IsWithin, begun_count};
+ghost use Rattle.nf_report_lines.specs.Drafts.{seen_draft, IsWithinNetwork, begun_count};
 ghost use Rattle.nf_report_lines.specs.Entries.{opened_by, CanOpen};
 ghost use Rattle.nf_side.specs.Said.{said_by};
 
@@ -33,7 +33,7 @@ impl Draft {
         kind: Kind,
         name: &[u8],
     ) -> Result<Opening, ReportRule>
-        requires { IsWithin net.now self.now }
+        requires { IsWithinNetwork net.now self.now }
         ensures says { let draft = seen_draft net.now self.now in
             opened_for draft (seen_kind kind) name.now draft.current
             ≡ said_by (opened_by draft) result }
@@ -50,7 +50,7 @@ impl Draft {
 
     /// Returns whether the next curve is an idle node of this name.
     pub(crate) fn never_comes(&self, net: &Network, name: &[u8]) -> bool
-        requires { IsWithin net.now self.now }
+        requires { IsWithinNetwork net.now self.now }
         ensures { result
             ≡ is_some_key lines.OfNever name.now (key_of_number net.now (begun_count self.now)) }
     {

@@ -12,7 +12,7 @@ use Rattle.nf_report_def.specs.ReportLines.{ReportDraft, report_line, empty_repo
 use Rattle.nf_report_def.specs.ReportFile.{ReportBroken, next_words, in_report_line, report_lines_from, report_draft, if_at_end, as_report_rule, report_by_bytes, report_in}
 use Rattle.nf_text.specs.declared.TextFault.{TextFault}
 use Rattle.nf_text.specs.declared.fault.FileFault.{FileFault}
-use Rattle.nf_text.specs.Reading.{Tells}
+use Rattle.nf_text.specs.Reading.{MatchesFault}
 use Rattle.nf_text.specs.Faults.{fault_of_text}
 use Rattle.nf_report_def.specs.declared.ReportRule.{ReportRule}
 use Rattle.nf_report_read.specs.declared.report.Report.{Report}
@@ -27,11 +27,11 @@ broken_more (FileFault.Broken rule line) P Q f h = f (record { rule = rule; line
 broken_more FileFault.Memory P Q f h = tt
 
 -- a line with a fault
-pub text_refused : (found : Option LineFault) (fault : TextFault) (answer : FileFault ReportRule) → answer ≡ fault_of_text P1 P2 fault → Tells fault found
+pub text_refused : (found : Option LineFault) (fault : TextFault) (answer : FileFault ReportRule) → answer ≡ fault_of_text P1 P2 fault → MatchesFault fault found
     → IfBroken answer (λ broken. option_map as_report_rule found ≡ Some broken)
 text_refused found fault answer e tells = subst (λ (f : FileFault ReportRule). IfBroken f (λ broken. option_map as_report_rule found ≡ Some broken)) (sym e) (at fault tells)
   where
-    at : (fault : TextFault) → Tells fault found → IfBroken (fault_of_text P1 P2 fault) (λ broken. option_map as_report_rule found ≡ Some broken)
+    at : (fault : TextFault) → MatchesFault fault found → IfBroken (fault_of_text P1 P2 fault) (λ broken. option_map as_report_rule found ≡ Some broken)
     at (TextFault.NotAscii line) e = ap (option_map as_report_rule) e
     at (TextFault.LongLine line) e = ap (option_map as_report_rule) e
     at TextFault.Memory e = tt

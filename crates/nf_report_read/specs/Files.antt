@@ -19,11 +19,11 @@ abbrev pub closed_by : Result ReportDraft ReportBroken → Result formats.Report
 closed_by read = read >>= λ draft. if_at_end draft.stage draft
 
 -- the report that a value represents
-abbrev pub report_of : Report → formats.Report
-report_of r = record { horizon = r.horizon; flow = flow_of r.flow; stop = r.stopped; last = r.last }
+abbrev pub seen_report : Report → formats.Report
+seen_report r = record { horizon = r.horizon; flow = flow_of r.flow; stop = r.stopped; last = r.last }
 
 -- the result is this report, unless an allocation failed
-abbrev pub Shows : formats.Report → Result Report (FileFault ReportRule) → Type 0
-Shows report (Ok read) = report_of read ≡ report
-Shows report (Err (FileFault.Broken rule line)) = ⊥
-Shows report (Err FileFault.Memory) = Unit {0}
+abbrev pub ReturnsReport : formats.Report → Result Report (FileFault ReportRule) → Type 0
+ReturnsReport report (Ok read) = seen_report read ≡ report
+ReturnsReport report (Err (FileFault.Broken rule line)) = ⊥
+ReturnsReport report (Err FileFault.Memory) = Unit {0}

@@ -8,8 +8,8 @@ ghost use Rattle.nf_report_def.specs.ReportLines.{report_line};
 ghost use Rattle.nf_report_def.specs.ReportFile.{ReportBroken, as_report_rule, in_report_line, report_by_bytes, report_lines_from, if_at_end, report_in};
 ghost use Rattle.nf_report_laws.specs.Readable.{IsReadable};
 ghost use Rattle.nf_report_lines.specs.Lines.{words_behind};
-ghost use Rattle.nf_report_lines.specs.Drafts.{seen_draft, seen_stage, IsWithin};
-ghost use Rattle.nf_report_read.specs.Files.{IfBroken, report_of, closed_by, Shows};
+ghost use Rattle.nf_report_lines.specs.Drafts.{seen_draft, seen_stage, IsWithinNetwork};
+ghost use Rattle.nf_report_read.specs.Files.{IfBroken, seen_report, closed_by, ReturnsReport};
 
 use crate::fault::ReportFault;
 use crate::report::{Report, report_at_end};
@@ -75,13 +75,13 @@ fn add_line(
     line: &ReadLine,
     next: Option<&ReadLine>,
 ) -> Result<(), ReportFault>
-    requires { IsWithin net.now draft.old }
+    requires { IsWithinNetwork net.now draft.old }
     ensures adds { let read = in_report_line line.now.number
         (report_line net.now (seen_draft net.now draft.old) line.now.plain
         (words_behind (option_copied next.entry)) line.now.words) in
         MatchResult result (λ _. read ≡ Ok (seen_draft net.now draft.new))
         (λ fault. IfBroken fault (λ broken. read ≡ Err broken)) }
-    ensures within { OnOk result (IsWithin net.now draft.new) }
+    ensures within { OnOk result (IsWithinNetwork net.now draft.new) }
 {
     match draft.read_entry(net, line, next) {
         Ok(entry) => {
@@ -103,11 +103,11 @@ fn add_lines(
     first: ReadLine,
     draft: &mut Draft,
 ) -> Result<(), ReportFault>
-    requires { IsWithin net.now draft.old }
+    requires { IsWithinNetwork net.now draft.old }
     ensures draft { OnOk result (report_lines_from net.now (seen_draft net.now draft.old)
         (first.entry ∷ map read_line cursor.old)
         ≡ Ok (seen_draft net.now draft.new)) }
-    ensures within { OnOk result (IsWithin net.now draft.new) }
+    ensures within { OnOk result (IsWithinNetwork net.now draft.new) }
     ensures fine { OnOk result (first_fault_of cursor.old ≡ None) }
     ensures fault { IfErr result (λ fault. IfBroken fault (λ broken.
         report_by_bytes (first_fault_of cursor.old)
@@ -134,7 +134,7 @@ fn read_draft(alloc: Global, net: &Network, text: &[u8]) -> Result<Draft, Report
     requires { length text.now ≤ longest_text }
     ensures draft { IfOk result (λ draft. report_in net.now text.now
         ≡ if_at_end (seen_stage draft.stage) (seen_draft net.now draft)) }
-    ensures within { IfOk result (λ draft. IsWithin net.now draft) }
+    ensures within { IfOk result (λ draft. IsWithinNetwork net.now draft) }
     ensures fault { IfErr result
         (λ fault. IfBroken fault (λ broken. report_in net.now text.now ≡ Err broken)) }
 {
@@ -159,7 +159,7 @@ fn read_draft(alloc: Global, net: &Network, text: &[u8]) -> Result<Draft, Report
 // Returns the report that a text is.
 fn read_report(alloc: Global, net: &Network, text: &[u8]) -> Result<Report, ReportFault>
     requires { length text.now ≤ longest_text }
-    ensures { MatchResult result (λ report. report_in net.now text.now ≡ Ok (report_of report))
+    ensures { MatchResult result (λ report. report_in net.now text.now ≡ Ok (seen_report report))
         (λ fault. IfBroken fault (λ broken. report_in net.now text.now ≡ Err broken)) }
 {
     match read_draft(alloc, net, text) {
@@ -174,13 +174,13 @@ fn read_report(alloc: Global, net: &Network, text: &[u8]) -> Result<Report, Repo
 pub fn parse_report(alloc: Global, net: &Network, text: &[u8]) -> Result<Report, ReportFault>
     requires { length text.now ≤ longest_text }
     ensures reads { MatchResult result
-        (λ report. report_in net.now text.now ≡ Ok (report_of report))
+        (λ report. report_in net.now text.now ≡ Ok (seen_report report))
         (λ fault. IfBroken fault (λ broken. report_in net.now text.now ≡ Err broken)) }
-    ensures formed { IfOk result (λ report. IsWellFormed net.now.net (report_of report)) }
-    ensures text { IfOk result (λ report. text.now ≡ report_text net.now (report_of report)) }
+    ensures formed { IfOk result (λ report. IsWellFormed net.now.net (seen_report report)) }
+    ensures text { IfOk result (λ report. text.now ≡ report_text net.now (seen_report report)) }
     ensures all { (report : SeenReport) → IsWellFormed net.now.net report → IsReadable report
         → text.now ≡ report_text net.now report
-        → Shows report result }
+        → ReturnsReport report result }
 {
     // Proof: the network is that of an accepted file.
     net.recall();

@@ -3,8 +3,8 @@ ghost use Rattle.std.specs.Prelude.{◌≡◌, ◌≤◌, List, [], ◌∷◌, �
 ghost use Rattle.nf_report_def.specs.ReportLines.{CurveKey, ReadCurve, OfNever, curve_keys};
 ghost use Rattle.nf_report_def.specs.ReportFile.{if_at_end};
 ghost use Rattle.nf_report_lines.specs.Keys.{seen_kind};
-ghost use Rattle.nf_report_lines.specs.Drafts.{seen_draft, seen_curve, seen_done, LacksIdleOnly, IsWithin};
-ghost use Rattle.nf_report_read.specs.Files.{IfBroken, report_of};
+ghost use Rattle.nf_report_lines.specs.Drafts.{seen_draft, seen_curve, seen_done, LacksIdleOnly, IsWithinNetwork};
+ghost use Rattle.nf_report_read.specs.Files.{IfBroken, seen_report};
 ghost use Rattle.nf_report_read.specs.Sorted.{AreSorted};
 
 use crate::fault::ReportFault;
@@ -98,9 +98,9 @@ pub(crate) fn report_at_end(
     net: &Network,
     draft: Draft,
 ) -> Result<Report, ReportFault>
-    requires { IsWithin net.now draft }
+    requires { IsWithinNetwork net.now draft }
     ensures { let read = seen_draft net.now draft in
-        MatchResult result (λ report. if_at_end read.stage read ≡ Ok (report_of report))
+        MatchResult result (λ report. if_at_end read.stage read ≡ Ok (seen_report report))
         (λ fault. IfBroken fault (λ broken. if_at_end read.stage read ≡ Err broken)) }
 {
     if !matches!(draft.stage, Stage::End) {

@@ -16,7 +16,7 @@ use Rattle.nf_quick_def.specs.Order.{Reach}
 use Rattle.nf_quick_def.specs.Rounds.{Known, known_at, along}
 use Rattle.nf_residual.specs.declared.ways.Twig.{Twig}
 use Rattle.nf_residual.specs.declared.legs.Leg.{Leg}
-use Rattle.nf_residual.specs.Ways.{way_at, IsTree, Places, place_at, AreWithin, known_by, Grows}
+use Rattle.nf_residual.specs.Ways.{way_at, IsPathTree, Places, place_at, ArePathsBelow, known_by, Grows}
 use Rattle.nf_residual.specs.Legs.{AreLegs, along_leg, AreSettled, StopsBy, GivesBy}
 use Rattle.nf_residual.specs.Chains.{legs_out, IsNextOut, AreChains}
 use Rattle.nf_residual.proofs.Stopping.{ok_of_part}
@@ -64,7 +64,7 @@ module _ (passes : Passing) (legs : List Leg) (node way : ℕ) (old : List Twig)
           longer_than : (added : List Twig) → way < length (old ++ added)
           longer_than added = let e : length (old ++ added) ≡ length old + length added = length-append old added in omega arith
 
-      pub offers_more : IsTree tree → way < length old → (new : List Twig) (next : Places)
+      pub offers_more : IsPathTree tree → way < length old → (new : List Twig) (next : Places)
           → at_part Part.Quick (along passes true (Some (way_at tree way)) leg.step leg.transit leg.end (known_by tree places)) ≡ Ok (known_by new next) → Grows tree new places next
           → (after : ℕ) → IsNextOut legs leg.begin (arc + 1) after → OffersOn passes legs node way old before new next after
       offers_more good h new next came grows after chained = record {
@@ -154,11 +154,11 @@ module _ (passes : Passing) (legs : List Leg) (fresh : ℕ) (old : List Twig) (b
       pub nodes_all : fold_checked (along_leg passes (known_by old before)) (known_by old before) legs ≡ Ok (known_by tree places)
       nodes_all = any_order passes (known_by old before) legs on.tried (known_by tree places) (ends_known ends (known_by old before) count_same) on.among on.came all_settled
 
-      pub nodes_settled : IsTree old → AreSettled passes legs (length old) tree places
+      pub nodes_settled : IsPathTree old → AreSettled passes legs (length old) tree places
       nodes_settled good = settled_next passes legs old before tree places on.grows good all_settled
 
     -- The path to the node as the offers see it.
-    module _ (good : IsTree old) (within : AreWithin (length old) before) (way : ℕ) (at : place_at before node ≡ Some way) where
+    module _ (good : IsPathTree old) (within : ArePathsBelow (length old) before) (way : ℕ) (at : place_at before node ≡ Some way) where
       pub known_here : known_at (known_by old before) node ≡ Some (way_at tree way)
       known_here =
           known_at-by old before node ∙ ap (λ (o : Option ℕ). option_map (way_at old) o) at

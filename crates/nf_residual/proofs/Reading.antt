@@ -6,7 +6,7 @@ use Rattle.nf_rational.specs.Rational.{ℚ}
 use Rattle.nf_model.specs.Entries.{number_at}
 use Rattle.nf_quick_def.specs.Rounds.{Known, known_at}
 use Rattle.nf_residual.specs.declared.ways.Twig.{Twig}
-use Rattle.nf_residual.specs.Ways.{twig_at, way_at, Places, place_at, known_by, AreWithin}
+use Rattle.nf_residual.specs.Ways.{twig_at, way_at, Places, place_at, known_by, ArePathsBelow}
 use Rattle.nf_residual.proofs.Twigs.{known_at-by}
 
 pub number_read : (flows now : List ℚ) (i link : ℕ) (x : ℚ) → flows ≡ now → i ≡ link → link < length now → x ≡ get_or flows i x → x ≡ number_at now link
@@ -31,7 +31,7 @@ twig_read twigs now way twig same b r = r ∙ ap (λ (l : List Twig). get_or l w
     go (t ∷ l) (suc k) b = go l k (omega arith)
 
 -- The index of a known path is below the number of paths.
-pub way_within : (count : ℕ) (places : Places) (v : ℕ) (place : Option ℕ) → AreWithin count places → place ≡ place_at places v → IfSome place (λ way. way < count)
+pub way_within : (count : ℕ) (places : Places) (v : ℕ) (place : Option ℕ) → ArePathsBelow count places → place ≡ place_at places v → IfSome place (λ way. way < count)
 way_within count places v None within e = tt
 way_within count places v (Some way) within e = within v way (sym e)
 

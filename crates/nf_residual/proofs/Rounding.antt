@@ -14,7 +14,7 @@ use Rattle.nf_quick_def.specs.Order.{Reach}
 use Rattle.nf_quick_def.specs.Rounds.{Known, known_at, first_known, along, round_list, rounds_list, reaches_list}
 use Rattle.nf_residual.specs.declared.ways.Twig.{Twig}
 use Rattle.nf_residual.specs.declared.legs.Leg.{Leg}
-use Rattle.nf_residual.specs.Ways.{first_twig, way_at, IsTree, Places, place_at, first_places, AreWithin, known_by, Grows}
+use Rattle.nf_residual.specs.Ways.{first_twig, way_at, IsPathTree, Places, place_at, first_places, ArePathsBelow, known_by, Grows}
 use Rattle.nf_residual.specs.Legs.{legs_from, AreLegs, along_leg, AreSettled}
 use Rattle.nf_residual.proofs.Stopping.{ok_of_part, stops, goes_on, stops_as}
 use Rattle.nf_residual.proofs.Twigs.{IsTree-first, way_kept, known_at-by, known_kept, known_set}
@@ -63,7 +63,7 @@ grows_on old mid new before between after f g = record {
     by_place v (inr a) b = inr (a.0, a.1, omega (arith, a.2, long), a.3)
 
 -- The index is that of an old path or of a new one.
-pub within_grown : (old new : List Twig) (before after : Places) → Grows old new before after → AreWithin (length old) before → AreWithin (length new) after
+pub within_grown : (old new : List Twig) (before after : Places) → Grows old new before after → ArePathsBelow (length old) before → ArePathsBelow (length new) after
 within_grown old new before after g h = λ v way e. by_place v way e (g.places v)
   where
     long : length new ≡ length old + length g.added
@@ -76,14 +76,14 @@ within_grown old new before after g h = λ v way e. by_place v way e (g.places v
     by_place v way e (inl a) = let b : way < length old = h v way (sym a ∙ e) in omega (arith, b, long)
     by_place v way e (inr a) = let b : a.0 ≡ way = same a.0 way (sym a.1 ∙ e) in omega (arith, b, a.3)
 
-pub known_grown : (old new : List Twig) (before after : Places) → Grows old new before after → IsTree old → AreWithin (length old) before → known_by new before ≡ known_by old before
+pub known_grown : (old new : List Twig) (before after : Places) → Grows old new before after → IsPathTree old → ArePathsBelow (length old) before → known_by new before ≡ known_by old before
 known_grown old new before after g good h = ap (λ (t : List Twig). known_by t before) g.grown ∙ known_kept old g.added before good h
 
-pub within_more : (old new : List Twig) (before after : Places) → Grows old new before after → AreWithin (length old) before → AreWithin (length new) before
+pub within_more : (old new : List Twig) (before after : Places) → Grows old new before after → ArePathsBelow (length old) before → ArePathsBelow (length new) before
 within_more old new before after g h = λ v way e. let b : way < length old = h v way e in let long : length new ≡ length old + length g.added = ap (λ (t : List Twig). length t) g.grown ∙ length-append old g.added in omega arith
 
 -- After a round, arcs whose path is not new in it offer nothing new.
-module _ (passes : Passing) (legs : List Leg) (old : List Twig) (before : Places) (tree : List Twig) (places : Places) (grows : Grows old tree before places) (good : IsTree old)
+module _ (passes : Passing) (legs : List Leg) (old : List Twig) (before : Places) (tree : List Twig) (places : Places) (grows : Grows old tree before places) (good : IsPathTree old)
     (done : (j : ℕ) (leg : Leg) → slice_get legs j ≡ Some leg → along_leg passes (known_by old before) (known_by tree places) leg ≡ Ok (known_by tree places)) where
   pub settled_next : AreSettled passes legs (length old) tree places
   settled_next j leg is way at h = by_place (grows.places leg.begin)
@@ -125,7 +125,7 @@ module _ (passes : Passing) (legs : List Leg) (fresh : ℕ) (old : List Twig) (b
     pub round_all : length legs ≤ k → at_part Part.Quick (fold_checked (along_leg passes (known_by old before)) (known_by old before) legs) ≡ Ok (known_by tree places)
     round_all b = ap (at_part Part.Quick) (sym on.same ∙ ap (λ (l : List Leg). fold_checked goes (known_by tree places) l) (drop_all k legs b))
 
-    pub settled_all : length legs ≤ k → IsTree old → AreSettled passes legs (length old) tree places
+    pub settled_all : length legs ≤ k → IsPathTree old → AreSettled passes legs (length old) tree places
     settled_all b good = settled_next passes legs old before tree places on.grows good
         (λ j leg is. on.settled j leg is (inl (let i : j < length legs = slice_get_within legs j leg is in omega (arith, i, b))))
 
@@ -140,12 +140,12 @@ module _ (passes : Passing) (legs : List Leg) (fresh : ℕ) (old : List Twig) (b
       pub leg_ends : AreLegs (length before) legs → (leg.begin < length before) × (leg.end < length before)
       leg_ends h = h k leg there
 
-      pub leg_settled : IsTree old → AreWithin (length old) before → (way : ℕ) → place_at before leg.begin ≡ Some way → way < fresh
+      pub leg_settled : IsPathTree old → ArePathsBelow (length old) before → (way : ℕ) → place_at before leg.begin ≡ Some way → way < fresh
           → along_leg passes (known_by tree before) (known_by tree places) leg ≡ Ok (known_by tree places)
       leg_settled good within way at h =
           ap (λ (x : Known). along_leg passes x (known_by tree places) leg) (known_grown old tree before places on.grows good within) ∙ on.settled k leg there (inr (way, at, h))
 
-      module _ (good : IsTree old) (within : AreWithin (length old) before) where
+      module _ (good : IsPathTree old) (within : ArePathsBelow (length old) before) where
         as_before : along_leg passes (known_by tree before) (known_by tree places) leg ≡ goes (known_by tree places) leg
         as_before = ap (λ (x : Known). along_leg passes x (known_by tree places) leg) (known_grown old tree before places on.grows good within)
 
@@ -272,15 +272,15 @@ module _ (passes : Passing) (net : Network) (flows : List ℚ) (from : ℕ) wher
 -- ---- with the arcs and the known paths
 pub record SearchOn (passes : Passing) (net : Network) (flows : List ℚ) (from : ℕ) (legs : List Leg) (fresh : ℕ) (tree : List Twig) (places : Places) (k : ℕ) : Type 0 where
   pub rounds : RoundsOn passes net flows from (known_by tree places) k
-  pub good : IsTree tree
-  pub within : AreWithin (length tree) places
+  pub good : IsPathTree tree
+  pub within : ArePathsBelow (length tree) places
   pub settled : AreSettled passes legs fresh tree places
 
 module _ (passes : Passing) (net : Network) (flows : List ℚ) (from : ℕ) (legs : List Leg) where
   pub search_first : (tree : List Twig) (places : Places) → tree ≡ first_twig ∷ [] → places ≡ first_places net.nodes from → SearchOn passes net flows from legs 0 tree places 1
   search_first tree places e f = record {
     rounds = rounds_first passes net flows from (known_by tree places) (ap (λ (t : List Twig). known_by t places) e ∙ ap (λ (p : Places). known_by (first_twig ∷ []) p) f ∙ none_known);
-    good = subst (λ (t : List Twig). IsTree t) (sym e) IsTree-first;
+    good = subst (λ (t : List Twig). IsPathTree t) (sym e) IsTree-first;
     within = λ v way at. ap_length (only v way (sym (ap (λ (p : Places). place_at p v) f) ∙ at));
     settled = λ k leg is way at h. absurd (omega arith);
   }
@@ -339,10 +339,10 @@ module _ (passes : Passing) (net : Network) (flows : List ℚ) (from : ℕ) (leg
         came_whole : at_part Part.Quick (round_list passes net.links flows (known_by tree before)) ≡ Ok (known_by new next)
         came_whole = ap (at_part Part.Quick) whole ∙ came
 
-        within_before : AreWithin (length tree) before
-        within_before = subst (λ (p : Places). AreWithin (length tree) p) (sym seen) on.within
+        within_before : ArePathsBelow (length tree) before
+        within_before = subst (λ (p : Places). ArePathsBelow (length tree) p) (sym seen) on.within
 
-        pub search_more : IsTree new → AreSettled passes lent (length tree) new next → (count : ℕ) → count ≡ length tree → SearchOn passes net flows from legs count new next (k + 1)
+        pub search_more : IsPathTree new → AreSettled passes lent (length tree) new next → (count : ℕ) → count ≡ length tree → SearchOn passes net flows from legs count new next (k + 1)
         search_more good settled count e = record {
           rounds = rounds_more passes net flows from (known_by tree places) k on.rounds b (known_by tree before) known_seen (known_by new next) came_whole
               (length-map next (option_map (way_at new)) ∙ grows.count ∙ sym (length-map before (option_map (way_at tree))));
@@ -358,8 +358,8 @@ module _ (passes : Passing) (net : Network) (flows : List ℚ) (from : ℕ) (leg
             rounds_still passes net flows from (known_by tree places) k on.rounds b (known_by tree before) known_seen (known_by new next) came_whole (ap (λ (p : Places). known_by new p) same ∙ kept)
             ∙ ap Ok (sym (f ∙ ap (λ (p : Places). known_by new p) (sym seen) ∙ kept ∙ known_seen))
 
-        pub within_still : AreWithin (length new) places
-        within_still = subst (λ (p : Places). AreWithin (length new) p) seen (within_more tree new before next grows within_before)
+        pub within_still : ArePathsBelow (length new) places
+        within_still = subst (λ (p : Places). ArePathsBelow (length new) p) seen (within_more tree new before next grows within_before)
 
         pub count_still : (found : Known) → found ≡ known_by new places → length found ≡ net.nodes
         count_still found f = ap (λ (x : Known). length x) f ∙ length-map places (option_map (way_at new)) ∙ places_are

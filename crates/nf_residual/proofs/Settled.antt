@@ -16,7 +16,7 @@ use Rattle.nf_quick_def.specs.Rounds.{Known, op_of, known_at, better_of, offered
 use Rattle.nf_quick_laws.proofs.Orders.{IsAtMost-refl, IsAtMost-trans, is_better-true, is_better-false}
 use Rattle.nf_residual.specs.declared.legs.Leg.{Leg}
 use Rattle.nf_residual.specs.Legs.{along_leg}
-use Rattle.nf_residual.specs.Ways.{longer}
+use Rattle.nf_residual.specs.Ways.{extended_by}
 use Rattle.nf_residual.proofs.Offering.{same_set, set_here, set_elsewhere}
 
 -- ---- two paths that are at most each other are equal
@@ -146,8 +146,8 @@ module _ (passes : Passing) (before : Known) (leg : Leg) where
       → ((later : Known) → from_known o later ≡ Ok later) ⊎ ((way : Reach) × (next ≡ offered so_far leg.end way) × ((later : Known) → from_known o later ≡ Ok (offered later leg.end way)))
   gives None so_far next e = inl (λ later. refl)
   gives (Some way) so_far next e =
-      let b = bound (checked passes (op_of leg.step.forward) way.distance leg.transit) (λ d. offered so_far leg.end (longer way leg.step d)) next e in
-      inr (longer way leg.step b.0, sym b.2, λ later. ap (λ (r : Checked ℚ). r >>= λ d. Ok (offered later leg.end (longer way leg.step d))) b.1)
+      let b = bound (checked passes (op_of leg.step.forward) way.distance leg.transit) (λ d. offered so_far leg.end (extended_by way leg.step d)) next e in
+      inr (extended_by way leg.step b.0, sym b.2, λ later. ap (λ (r : Checked ℚ). r >>= λ d. Ok (offered later leg.end (extended_by way leg.step d))) b.1)
 
 abbrev pub Offers : Passing → Known → Leg → Known → Known → Type 0
 Offers passes before leg so_far next = (way : Reach) × (next ≡ offered so_far leg.end way) × ((later : Known) → along_leg passes before later leg ≡ Ok (offered later leg.end way))

@@ -8,7 +8,7 @@ use Rattle.nf_quick_def.specs.Steps.{Step}
 use Rattle.nf_quick_def.specs.Order.{Reach}
 use Rattle.nf_quick_def.specs.Rounds.{Known, known_at}
 use Rattle.nf_residual.specs.declared.ways.Twig.{Twig}
-use Rattle.nf_residual.specs.Ways.{first_twig, twig_at, steps_back, way_at, longer, twig_after, IsTree, Places, place_at, AreWithin, known_by}
+use Rattle.nf_residual.specs.Ways.{first_twig, twig_at, steps_back, way_at, extended_by, twig_after, IsPathTree, Places, place_at, ArePathsBelow, known_by}
 
 -- ---- one more path
 at_end : (tree : List Twig) (twig : Twig) (i : ℕ) → (twig_at (tree ++ twig ∷ []) i ≡ twig_at tree i) ⊎ ((i ≡ length tree) × (twig_at (tree ++ twig ∷ []) i ≡ twig))
@@ -33,7 +33,7 @@ inside (t ∷ tree) zero n h = omega arith
 inside (t ∷ tree) (suc i) n h = let k : i < length tree = inside tree i n h in omega arith
 
 -- ---- earlier paths are unchanged
-pub steps_kept : (tree more : List Twig) → IsTree tree → (n i : ℕ) → i < length tree → steps_back n (tree ++ more) i ≡ steps_back n tree i
+pub steps_kept : (tree more : List Twig) → IsPathTree tree → (n i : ℕ) → i < length tree → steps_back n (tree ++ more) i ≡ steps_back n tree i
 steps_kept tree more good zero i h = refl
 steps_kept tree more good (suc n) i h =
     let same : twig_at (tree ++ more) i ≡ twig_at tree i = twig_kept tree more i h in
@@ -41,20 +41,20 @@ steps_kept tree more good (suc n) i h =
     ap (λ (t : Twig). steps_back n (tree ++ more) t.before ++ t.last ∷ []) same
     ∙ ap (λ (s : List Step). s ++ (twig_at tree i).last ∷ []) (steps_kept tree more good n (twig_at tree i).before (omega arith))
 
-pub way_kept : (tree more : List Twig) (i : ℕ) → IsTree tree → i < length tree → way_at (tree ++ more) i ≡ way_at tree i
+pub way_kept : (tree more : List Twig) (i : ℕ) → IsPathTree tree → i < length tree → way_at (tree ++ more) i ≡ way_at tree i
 way_kept tree more i good h =
     ap (λ (t : Twig). record { distance = t.distance; steps = steps_back t.count (tree ++ more) i }) (twig_kept tree more i h)
     ∙ ap (λ (s : List Step). record { distance = (twig_at tree i).distance; steps = s }) (steps_kept tree more good (twig_at tree i).count i h)
 
-pub way_added : (tree : List Twig) (way : ℕ) (step : Step) (distance : ℚ) → IsTree tree → way < length tree
-    → way_at (tree ++ twig_after tree way step distance ∷ []) (length tree) ≡ longer (way_at tree way) step distance
+pub way_added : (tree : List Twig) (way : ℕ) (step : Step) (distance : ℚ) → IsPathTree tree → way < length tree
+    → way_at (tree ++ twig_after tree way step distance ∷ []) (length tree) ≡ extended_by (way_at tree way) step distance
 way_added tree way step distance good h =
     ap (λ (t : Twig). record { distance = t.distance; steps = steps_back t.count (tree ++ twig_after tree way step distance ∷ []) (length tree) }) (last_twig tree (twig_after tree way step distance))
     ∙ ap (λ (t : Twig). record { distance = distance; steps = steps_back (twig_at tree way).count (tree ++ twig_after tree way step distance ∷ []) t.before ++ t.last ∷ [] }) (last_twig tree (twig_after tree way step distance))
     ∙ ap (λ (s : List Step). record { distance = distance; steps = s ++ step ∷ [] }) (steps_kept tree (twig_after tree way step distance ∷ []) good (twig_at tree way).count way h)
 
 -- ---- the extended list is a tree
-pub IsTree-first : IsTree (first_twig ∷ [])
+pub IsTree-first : IsPathTree (first_twig ∷ [])
 IsTree-first = record {
   earlier = λ i. subst (λ (t : Twig). t.before ≤ i) (sym (everywhere i)) (omega arith);
   fewer = λ i n e. absurd (none n (sym (ap (λ (t : Twig). t.count) (everywhere i)) ∙ e));
@@ -68,7 +68,7 @@ IsTree-first = record {
     none : (n : ℕ) → 0 ≡ suc n → ⊥
     none n e = omega arith
 
-module _ (tree : List Twig) (good : IsTree tree) (way : ℕ) (step : Step) (distance : ℚ) (h : way < length tree) where
+module _ (tree : List Twig) (good : IsPathTree tree) (way : ℕ) (step : Step) (distance : ℚ) (h : way < length tree) where
   abbrev twig : Twig
   twig = twig_after tree way step distance
 
@@ -99,20 +99,20 @@ module _ (tree : List Twig) (good : IsTree tree) (way : ℕ) (step : Step) (dist
       let count : suc (twig_at tree way).count ≡ suc n = sym (ap (λ (t : Twig). t.count) e.1) ∙ f in
       same_before (twig_at more i).before way n h (sym (ap (λ (t : Twig). t.before) e.1)) (omega arith)
 
-  pub IsTree-added : IsTree (tree ++ twig_after tree way step distance ∷ [])
+  pub IsTree-added : IsPathTree (tree ++ twig_after tree way step distance ∷ [])
   IsTree-added = record {
     earlier = λ i. earlier_than i (at_end tree twig i);
     fewer = λ i n f. fewer_than i n (at_end tree twig i) f;
     few = λ i. few_than i (at_end tree twig i);
   }
 
-pub IsTree-pushed : (tree new : List Twig) (way n : ℕ) (step : Step) (distance : ℚ) → IsTree tree → way < length tree → n ≡ (twig_at tree way).count
-    → new ≡ tree ++ record { distance = distance; count = n + 1; last = step; before = way } ∷ [] → IsTree new
+pub IsTree-pushed : (tree new : List Twig) (way n : ℕ) (step : Step) (distance : ℚ) → IsPathTree tree → way < length tree → n ≡ (twig_at tree way).count
+    → new ≡ tree ++ record { distance = distance; count = n + 1; last = step; before = way } ∷ [] → IsPathTree new
 IsTree-pushed tree new way n step distance good h e made =
     let count : n + 1 ≡ suc (twig_at tree way).count = omega arith in
-    subst (λ (t : List Twig). IsTree t) (sym (made ∙ ap (λ (k : ℕ). tree ++ record { distance = distance; count = k; last = step; before = way } ∷ []) count)) (IsTree-added tree good way step distance h)
+    subst (λ (t : List Twig). IsPathTree t) (sym (made ∙ ap (λ (k : ℕ). tree ++ record { distance = distance; count = k; last = step; before = way } ∷ []) count)) (IsTree-added tree good way step distance h)
 
-pub before_within : (tree : List Twig) (way : ℕ) → IsTree tree → way < length tree → (twig_at tree way).before < length tree
+pub before_within : (tree : List Twig) (way : ℕ) → IsPathTree tree → way < length tree → (twig_at tree way).before < length tree
 before_within tree way good h = let earlier : (twig_at tree way).before ≤ way = good.earlier way in omega arith
 
 -- ---- the number of steps
@@ -162,7 +162,7 @@ known_at-by tree [] v = refl
 known_at-by tree (p ∷ places) zero = refl
 known_at-by tree (p ∷ places) (suc v) = known_at-by tree places v
 
-pub known_kept : (tree added : List Twig) (places : Places) → IsTree tree → AreWithin (length tree) places → known_by (tree ++ added) places ≡ known_by tree places
+pub known_kept : (tree added : List Twig) (places : Places) → IsPathTree tree → ArePathsBelow (length tree) places → known_by (tree ++ added) places ≡ known_by tree places
 known_kept tree added [] good h = refl
 known_kept tree added (None ∷ places) good h = ap (λ (k : Known). None ∷ k) (known_kept tree added places good (λ v way e. h (suc v) way e))
 known_kept tree added (Some way ∷ places) good h =

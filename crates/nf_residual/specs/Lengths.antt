@@ -9,8 +9,8 @@ use Rattle.nf_residual.specs.declared.length.Form.{Form}
 use Rattle.nf_residual.specs.declared.length.Form.TheVariants.{Whole, Other}
 
 -- The greatest magnitude of a length held as a whole number.
-abbrev pub most : ℕ
-most = 2 ^ 62 - 1
+abbrev pub longest_whole : ℕ
+longest_whole = 2 ^ 62 - 1
 
 -- The sum for a forward step, the difference for a backward one.
 abbrev pub along_by : Bool → ℤ → ℤ → ℤ
@@ -22,10 +22,10 @@ abbrev pub measured : Form → ℚ
 measured (Whole n) = whole n
 measured (Other q) = q
 
-abbrev pub IsCounted : Form → Type 0
-IsCounted (Whole n) = nat_abs n ≤ most
-IsCounted (Other q) = Unit {0}
+abbrev pub IsHeldWhole : Form → Type 0
+IsHeldWhole (Whole n) = nat_abs n ≤ longest_whole
+IsHeldWhole (Other q) = Unit {0}
 
 -- The checked operation of a forward or backward step has this result, within its bound.
-abbrev pub IsExact : Bool → ℚ → ℚ → ℚ → Type 0
-IsExact forward length transit changed = Ok changed ≡ checked passes_Q (op_of forward) length transit
+abbrev pub IsExactStep : Bool → ℚ → ℚ → ℚ → Type 0
+IsExactStep forward length transit changed = Ok changed ≡ checked passes_Q (op_of forward) length transit

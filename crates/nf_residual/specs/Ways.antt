@@ -23,14 +23,14 @@ abbrev pub way_at : List Twig → ℕ → Reach
 way_at tree i = record { distance = (twig_at tree i).distance; steps = steps_back (twig_at tree i).count tree i }
 
 -- The path before the last step has one step fewer, and path i has at most i steps.
-pub record IsTree (tree : List Twig) : Type 0 where
+pub record IsPathTree (tree : List Twig) : Type 0 where
   pub earlier : (i : ℕ) → (twig_at tree i).before ≤ i
   pub fewer : (i n : ℕ) → (twig_at tree i).count ≡ suc n → (twig_at tree (twig_at tree i).before).count ≡ n
   pub few : (i : ℕ) → (twig_at tree i).count ≤ i
 
 -- ---- a path extended by a step, of the given length
-abbrev pub longer : Reach → Step → ℚ → Reach
-longer way step distance = record { distance = distance; steps = way.steps ++ step ∷ [] }
+abbrev pub extended_by : Reach → Step → ℚ → Reach
+extended_by way step distance = record { distance = distance; steps = way.steps ++ step ∷ [] }
 
 abbrev pub twig_after : List Twig → ℕ → Step → ℚ → Twig
 twig_after tree way step distance = record { distance = distance; count = suc (twig_at tree way).count; last = step; before = way }
@@ -52,8 +52,8 @@ abbrev pub place_at : Places → ℕ → Option ℕ
 place_at places v = unwrap_or (slice_get places v) None
 
 -- Every index is below `count`.
-abbrev pub AreWithin : ℕ → Places → Type 0
-AreWithin count places = (v way : ℕ) → place_at places v ≡ Some way → way < count
+abbrev pub ArePathsBelow : ℕ → Places → Type 0
+ArePathsBelow count places = (v way : ℕ) → place_at places v ≡ Some way → way < count
 
 -- The table of best paths that the tree and the indices represent.
 abbrev pub known_by : List Twig → Places → Known

@@ -45,8 +45,8 @@ fn add_leg(
     Ok(())
 }
 
-/// Returns the residual arcs of a flow in the order of the link numbers, for each link the forward arc before the backward one. Refuses
-/// only if memory can't be allocated.
+/// Returns the residual arcs of a flow in the order of the link numbers, for each link the forward arc before the backward one. Fails if an
+/// allocation fails.
 pub(crate) fn legs_of(alloc: Global, net: &Network, flows: &[Q]) -> Result<Vec<Leg>, AllocError>
     requires { length flows.now ≡ length net.now.net.links }
     ensures legs { IfOk result (λ legs. legs.items ≡ legs_from 0 net.now.net.links flows.now) }
@@ -74,7 +74,7 @@ pub(crate) struct Arcs {
 }
 
 impl Arcs {
-    /// Chains residual arcs of a network with this number of nodes. Refuses only if memory can't be allocated.
+    /// Chains residual arcs of a network with this number of nodes. Fails if an allocation fails.
     pub(crate) fn of(alloc: Global, nodes: u32, legs: Vec<Leg>) -> Result<Arcs, AllocError>
         requires { AreLegs nodes legs.items }
         ensures legs { IfOk result (λ arcs. arcs.legs.items ≡ legs.items) }

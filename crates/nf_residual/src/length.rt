@@ -6,7 +6,7 @@ ghost use Rattle.nf_frac_def.specs.declared.Part.TheVariants.{Quick};
 ghost use Rattle.nf_frac_def.specs.Passing.{passes_Q};
 ghost use Rattle.nf_frac_def.specs.Checked.{checked_at};
 ghost use Rattle.nf_quick_def.specs.Rounds.{op_of};
-ghost use Rattle.nf_residual.specs.Lengths.{most, along_by, measured, IsCounted, IsExact};
+ghost use Rattle.nf_residual.specs.Lengths.{longest_whole, along_by, measured, IsHeldWhole, IsExactStep};
 
 use crate::step::changed;
 use nf_frac::{PassedAt, Q};
@@ -30,19 +30,19 @@ pub(crate) struct Length {
 
 impl Model for Length {
     ghost use Rattle.nf_rational.specs.Rational.{ℚ};
-    ghost use Rattle.nf_residual.specs.Lengths.{measured, IsCounted};
+    ghost use Rattle.nf_residual.specs.Lengths.{measured, IsHeldWhole};
 
     ghost Value = { ℚ };
 
     ghost view = { λ l. measured l.form };
 
-    ghost invariant = { λ l. IsCounted l.form };
+    ghost invariant = { λ l. IsHeldWhole l.form };
 }
 
 // Returns the sum, or None exactly if its magnitude exceeds 2^62 - 1.
 #[inline(always)]
 fn added(a: i64, b: i64) -> Option<i64>
-    ensures { SomeIff result (nat_abs (a +ℤ b) ≤ most) (a +ℤ b) }
+    ensures { SomeIff result (nat_abs (a +ℤ b) ≤ longest_whole) (a +ℤ b) }
 {
     match a.checked_add(b) {
         Some(sum) if sum.unsigned_abs() <= MOST => Some(sum),
@@ -53,7 +53,7 @@ fn added(a: i64, b: i64) -> Option<i64>
 // Returns the difference, or None exactly if its magnitude exceeds 2^62 - 1.
 #[inline(always)]
 fn taken(a: i64, b: i64) -> Option<i64>
-    ensures { SomeIff result (nat_abs (a -ℤ b) ≤ most) (a -ℤ b) }
+    ensures { SomeIff result (nat_abs (a -ℤ b) ≤ longest_whole) (a -ℤ b) }
 {
     match a.checked_sub(b) {
         Some(difference) if difference.unsigned_abs() <= MOST => Some(difference),
@@ -64,7 +64,7 @@ fn taken(a: i64, b: i64) -> Option<i64>
 // Returns the sum for a forward step and the difference for a backward one, or None exactly if its magnitude exceeds 2^62 - 1.
 #[inline(always)]
 fn along(forward: bool, a: i64, b: i64) -> Option<i64>
-    ensures { SomeIff result (nat_abs (along_by forward a b) ≤ most) (along_by forward a b) }
+    ensures { SomeIff result (nat_abs (along_by forward a b) ≤ longest_whole) (along_by forward a b) }
 {
     if forward { added(a, b) } else { taken(a, b) }
 }
@@ -72,7 +72,7 @@ fn along(forward: bool, a: i64, b: i64) -> Option<i64>
 // Returns the whole number equal to `value`, of magnitude at most 2^62 - 1. The contract allows None for any value, and the caller then
 // keeps the fraction.
 fn counted(value: Q) -> Option<i64>
-    ensures { IfSome result (λ n. (nat_abs n ≤ most) × (whole n ≡ value)) }
+    ensures { IfSome result (λ n. (nat_abs n ≤ longest_whole) × (whole n ≡ value)) }
 {
     let number = value.numer();
     if value.denom() == 1 && number.unsigned_abs() <= MOST as u128 {
@@ -84,7 +84,7 @@ fn counted(value: Q) -> Option<i64>
 
 // Returns the whole number as a fraction.
 fn fraction(number: i64) -> Q
-    requires { nat_abs number ≤ most }
+    requires { nat_abs number ≤ longest_whole }
     ensures { result ≡ whole number }
 {
     Q::make(number as i128, 1).unwrap()
@@ -120,7 +120,7 @@ impl Length {
     #[inline(always)]
     pub(crate) fn whole_change(&self, forward: bool, transit: &Length) -> Option<i64>
         ensures { IfSome result
-            (λ n. (nat_abs n ≤ most) × IsExact forward self.now transit.now (whole n)) }
+            (λ n. (nat_abs n ≤ longest_whole) × IsExactStep forward self.now transit.now (whole n)) }
     {
         if let Form::Whole(number) = &self.form {
             if let Form::Whole(change) = &transit.form {
@@ -133,7 +133,7 @@ impl Length {
     /// Returns the length of this whole number.
     #[inline(always)]
     pub(crate) fn of_whole(number: i64) -> Length
-        requires { nat_abs number ≤ most }
+        requires { nat_abs number ≤ longest_whole }
         ensures { result ≡ whole number }
     {
         Length {
@@ -144,7 +144,7 @@ impl Length {
     /// Compares a whole number with the length by their values.
     #[inline(always)]
     pub(crate) fn compare_whole(number: i64, other: &Length) -> Ordering
-        requires { nat_abs number ≤ most }
+        requires { nat_abs number ≤ longest_whole }
         ensures { result ≡ cmp_ℚ (whole number) other.now }
     {
         match &other.form {

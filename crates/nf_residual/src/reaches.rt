@@ -1,7 +1,7 @@
 // The result of the Bellman-Ford rounds: for each node the best path to it, if there is one.
 ghost use Rattle.std.specs.Prelude.{◌≡◌, ◌<◌, length, map, option_map, IfOk};
 ghost use Rattle.nf_quick_def.specs.Rounds.{known_at};
-ghost use Rattle.nf_residual.specs.Ways.{place_at, known_by, AreWithin};
+ghost use Rattle.nf_residual.specs.Ways.{place_at, known_by, ArePathsBelow};
 
 use crate::step::Step;
 use crate::ways::Ways;
@@ -38,13 +38,13 @@ pub(crate) struct Reaches {
 impl Model for Reaches {
     ghost use Rattle.std.specs.Prelude.{length};
     ghost use Rattle.nf_quick_def.specs.Rounds.{Known};
-    ghost use Rattle.nf_residual.specs.Ways.{known_by, AreWithin};
+    ghost use Rattle.nf_residual.specs.Ways.{known_by, ArePathsBelow};
 
     ghost Value = { Known };
 
     ghost view = { λ r. known_by r.ways r.places.items };
 
-    ghost invariant = { λ r. AreWithin (length r.ways) r.places.items };
+    ghost invariant = { λ r. ArePathsBelow (length r.ways) r.places.items };
 }
 
 /// Returns the index of the best path to a node, or None if no path is known.
@@ -58,13 +58,13 @@ pub(crate) fn place_of(places: &[Option<usize>], node: usize) -> Option<usize>
 impl Reaches {
     /// Returns the table made of these paths and, for each node, the index of its best path.
     pub(crate) fn of(ways: Ways, places: Vec<Option<usize>>) -> Reaches
-        requires { AreWithin (length ways) places.items }
+        requires { ArePathsBelow (length ways) places.items }
         ensures { result ≡ known_by ways places.items }
     {
         Reaches { ways, places }
     }
 
-    /// Returns the best path to a node, or None if no path is known. Refuses only if memory can't be allocated.
+    /// Returns the best path to a node, or None if no path is known. Fails if an allocation fails.
     pub(crate) fn way_to(&self, alloc: Global, node: NodeId) -> Result<Option<Reach>, AllocError>
         requires { node < length self.now }
         ensures { IfOk result (λ way. way ≡ known_at self.now node) }
@@ -92,8 +92,7 @@ impl Reaches {
         }
     }
 
-    /// Returns for each node the length of the best path to it, a time, or None if no path is known. Refuses only if memory can't be
-    /// allocated.
+    /// Returns for each node the length of the best path to it, a time, or None if no path is known. Fails if an allocation fails.
     pub(crate) fn distances(&self, alloc: Global) -> Result<Vec<Option<Q>>, AllocError>
         ensures { IfOk result
             (λ distances. distances.items ≡ map (option_map (λ reach. reach.distance)) self.now) }

@@ -7,7 +7,7 @@ ghost use Rattle.nf_frac_def.specs.Checked.{at_part, fold_checked, Gives};
 ghost use Rattle.nf_quick_def.specs.Rounds.{Known, known_at, along as along_by, reaches_list};
 ghost use Rattle.nf_residual.specs.Legs.{AreLegs, along_leg, AreSettled, GivesBy};
 ghost use Rattle.nf_residual.specs.Chains.{legs_out, AreChains};
-ghost use Rattle.nf_residual.specs.Ways.{place_at, way_at, known_by, first_places as first_places_by, AreWithin, IsTree, Grows};
+ghost use Rattle.nf_residual.specs.Ways.{place_at, way_at, known_by, first_places as first_places_by, ArePathsBelow, IsPathTree, Grows};
 
 use crate::legs::{Arcs, Leg, legs_of};
 use crate::length::Length;
@@ -36,13 +36,13 @@ fn offer_value(
 ) -> Result<(), Halt<Q>>
     requires way { way < length ways.old }
     requires end { leg.now.end < length places.old.items }
-    requires within { AreWithin (length ways.old) places.old.items }
+    requires within { ArePathsBelow (length ways.old) places.old.items }
     ensures list { Gives (λ _. known_by ways.new places.new.items) (λ q. q) result
         (at_part Quick (along_by passes_Q true
         (Some (way_at ways.old way)) leg.now.step leg.now.transit leg.now.end
         (known_by ways.old places.old.items))) }
     ensures grows { OnOk result (Grows ways.old ways.new places.old.items places.new.items) }
-    ensures tree { IsTree ways.old }
+    ensures tree { IsPathTree ways.old }
 {
     let number = ways.count();
     let distance = ways.changed(way, leg)?;
@@ -64,13 +64,13 @@ fn offer(
 ) -> Result<(), Halt<Q>>
     requires way { way < length ways.old }
     requires end { leg.now.end < length places.old.items }
-    requires within { AreWithin (length ways.old) places.old.items }
+    requires within { ArePathsBelow (length ways.old) places.old.items }
     ensures list { Gives (λ _. known_by ways.new places.new.items) (λ q. q) result
         (at_part Quick (along_by passes_Q true
         (Some (way_at ways.old way)) leg.now.step leg.now.transit leg.now.end
         (known_by ways.old places.old.items))) }
     ensures grows { OnOk result (Grows ways.old ways.new places.old.items places.new.items) }
-    ensures tree { IsTree ways.old }
+    ensures tree { IsPathTree ways.old }
 {
     let number = ways.count();
     let Some(whole) = ways.whole_change(way, leg) else {
@@ -116,9 +116,9 @@ fn round_in_order(
     places: &mut Vec<Option<usize>>,
 ) -> Result<(), Halt<Q>>
     requires legs { AreLegs (length before.now) legs.now }
-    requires tree { IsTree ways.old }
+    requires tree { IsPathTree ways.old }
     requires same { places.old.items ≡ before.now }
-    requires within { AreWithin (length ways.old) before.now }
+    requires within { ArePathsBelow (length ways.old) before.now }
     requires settled { AreSettled passes_Q legs.now fresh ways.old before.now }
     ensures list { Gives (λ _. known_by ways.new places.new.items) (λ q. q) result
         (at_part Quick (fold_checked (along_leg passes_Q (known_by ways.old before.now))
@@ -146,7 +146,7 @@ fn offer_from(
 ) -> Result<(), Halt<Q>>
     requires node { node < length places.old.items }
     requires way { way < length ways.old }
-    requires within { AreWithin (length ways.old) places.old.items }
+    requires within { ArePathsBelow (length ways.old) places.old.items }
     requires legs { AreLegs (length places.old.items) arcs.now.legs.items }
     requires chains { AreChains
         (length places.old.items) arcs.now.legs.items arcs.now.first.items arcs.now.next.items }
@@ -176,9 +176,9 @@ fn round_by_nodes(
     requires legs { AreLegs (length before.now) arcs.now.legs.items }
     requires chains { AreChains
         (length before.now) arcs.now.legs.items arcs.now.first.items arcs.now.next.items }
-    requires tree { IsTree ways.old }
+    requires tree { IsPathTree ways.old }
     requires same { places.old.items ≡ before.now }
-    requires within { AreWithin (length ways.old) before.now }
+    requires within { ArePathsBelow (length ways.old) before.now }
     requires settled { AreSettled passes_Q arcs.now.legs.items fresh ways.old before.now }
     ensures list { OnOk result
         (fold_checked (along_leg passes_Q (known_by ways.old before.now))
@@ -208,9 +208,9 @@ fn round(
     requires legs { AreLegs (length before.now) arcs.now.legs.items }
     requires chains { AreChains
         (length before.now) arcs.now.legs.items arcs.now.first.items arcs.now.next.items }
-    requires tree { IsTree ways.old }
+    requires tree { IsPathTree ways.old }
     requires same { places.old.items ≡ before.now }
-    requires within { AreWithin (length ways.old) before.now }
+    requires within { ArePathsBelow (length ways.old) before.now }
     requires settled { AreSettled passes_Q arcs.now.legs.items fresh ways.old before.now }
     ensures list { GivesBy in_order (λ _. known_by ways.new places.new.items) result (at_part Quick
         (fold_checked (along_leg passes_Q (known_by ways.old before.now))

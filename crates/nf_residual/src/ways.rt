@@ -9,8 +9,8 @@ ghost use Rattle.nf_frac_def.specs.Checked.{checked_at};
 ghost use Rattle.nf_quick_def.specs.Steps.{place as place_of};
 ghost use Rattle.nf_quick_def.specs.Rounds.{op_of};
 ghost use Rattle.nf_quick_def.specs.Order.{are_before as are_before_by, are_fewer_or_before as are_fewer_or_before_by, is_better as is_better_by};
-ghost use Rattle.nf_residual.specs.Lengths.{most, IsExact};
-ghost use Rattle.nf_residual.specs.Ways.{first_twig, twig_at, way_at, longer, one_before, gains, twig_after, IsTree};
+ghost use Rattle.nf_residual.specs.Lengths.{longest_whole, IsExactStep};
+ghost use Rattle.nf_residual.specs.Ways.{first_twig, twig_at, way_at, extended_by, one_before, gains, twig_after, IsPathTree};
 
 use crate::legs::Leg;
 use crate::length::Length;
@@ -40,13 +40,13 @@ pub(crate) struct Ways {
 impl Model for Ways {
     ghost use Rattle.std.specs.Prelude.{List};
     ghost use Rattle.nf_residual.specs.declared.ways.Twig.{Twig as SeenTwig};
-    ghost use Rattle.nf_residual.specs.Ways.{IsTree};
+    ghost use Rattle.nf_residual.specs.Ways.{IsPathTree};
 
     ghost Value = { List SeenTwig };
 
     ghost view = { λ w. w.twigs.items };
 
-    ghost invariant = { λ w. IsTree w.twigs.items };
+    ghost invariant = { λ w. IsPathTree w.twigs.items };
 }
 
 // Returns the sort key of a step: steps are ordered by link number, a forward step before the backward one.
@@ -87,7 +87,7 @@ impl Ways {
     /// Returns the number of paths.
     pub(crate) fn count(&self) -> usize
         ensures count { result ≡ length self.now }
-        ensures tree { IsTree self.now }
+        ensures tree { IsPathTree self.now }
     {
         self.twigs.len()
     }
@@ -116,8 +116,8 @@ impl Ways {
     #[inline(always)]
     pub(crate) fn whole_change(&self, way: usize, leg: &Leg) -> Option<i64>
         requires { way < length self.now }
-        ensures { IfSome result (λ n. (nat_abs n ≤ most)
-            × IsExact leg.now.step.forward (twig_at self.now way).distance leg.now.transit
+        ensures { IfSome result (λ n. (nat_abs n ≤ longest_whole)
+            × IsExactStep leg.now.step.forward (twig_at self.now way).distance leg.now.transit
             (whole n)) }
     {
         self.twigs[way]
@@ -136,7 +136,7 @@ impl Ways {
     // Compares this whole length with the length of a path.
     #[inline(always)]
     fn compare_whole(&self, number: i64, way: usize) -> Ordering
-        requires number { nat_abs number ≤ most }
+        requires number { nat_abs number ≤ longest_whole }
         requires way { way < length self.now }
         ensures { result ≡ cmp_ℚ (whole number) (twig_at self.now way).distance }
     {
@@ -215,7 +215,7 @@ impl Ways {
         requires other { other < length self.now }
         ensures { (distance : ℚ) → order ≡ cmp_ℚ distance (twig_at self.now other).distance
             → result
-            ≡ is_better_by (longer (way_at self.now way) step distance) (way_at self.now other) }
+            ≡ is_better_by (extended_by (way_at self.now way) step distance) (way_at self.now other) }
     {
         match order {
             Ordering::Less => true,
@@ -234,7 +234,7 @@ impl Ways {
     ) -> bool
         requires way { way < length self.now }
         requires known { IfSome known (λ other. other < length self.now) }
-        ensures { result ≡ gains (longer (way_at self.now way) step distance.now)
+        ensures { result ≡ gains (extended_by (way_at self.now way) step distance.now)
             (option_map (way_at self.now) known) }
     {
         match known {
@@ -246,7 +246,7 @@ impl Ways {
         }
     }
 
-    /// The same as `is_gain`, for a whole length.
+    /// Returns the same as `is_gain`, for a whole length.
     #[inline(always)]
     pub(crate) fn is_whole_gain(
         &self,
@@ -255,10 +255,10 @@ impl Ways {
         number: i64,
         known: Option<usize>,
     ) -> bool
-        requires number { nat_abs number ≤ most }
+        requires number { nat_abs number ≤ longest_whole }
         requires way { way < length self.now }
         requires known { IfSome known (λ other. other < length self.now) }
-        ensures { result ≡ gains (longer (way_at self.now way) step (whole number))
+        ensures { result ≡ gains (extended_by (way_at self.now way) step (whole number))
             (option_map (way_at self.now) known) }
     {
         match known {
@@ -270,7 +270,7 @@ impl Ways {
         }
     }
 
-    /// Adds a path extended by `step`, of length `distance`. Refuses only if memory can't be allocated.
+    /// Adds a path extended by `step`, of length `distance`. Fails if an allocation fails.
     pub(crate) fn add(&mut self, way: usize, step: Step, distance: Length) -> Result<(), AllocError>
         requires { way < length self.old }
         ensures { OnOk result (self.new ≡ self.old ++ twig_after self.old way step distance ∷ []) }
@@ -285,7 +285,7 @@ impl Ways {
         Ok(())
     }
 
-    /// Returns the steps of a path from first to last. Refuses only if memory can't be allocated.
+    /// Returns the steps of a path from first to last. Fails if an allocation fails.
     pub(crate) fn steps(&self, alloc: Global, way: usize) -> Result<Vec<Step>, AllocError>
         requires { way < length self.now }
         ensures { IfOk result (λ steps. steps.items ≡ (way_at self.now way).steps) }

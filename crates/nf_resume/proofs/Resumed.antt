@@ -26,7 +26,7 @@ use Rattle.nf_resume_def.specs.Meanings.{GoesOnFrom, IsResumedReport}
 use Rattle.nf_resume_laws.proofs.Stepping.{resumed-goes_on}
 use Rattle.nf_phase.specs.Solution.{IsFinished}
 use Rattle.nf_resume.specs.declared.fault.ResumeFault.{ResumeFault}
-use Rattle.nf_resume.specs.Faults.{of_halt, IsRefusedReport, IsCause, IsResumeFault}
+use Rattle.nf_resume.specs.Faults.{of_halt, IsRefusedReport, IsCauseAtAnyHorizon, IsResumeFault}
 
 -- Whether a time is before another.
 pub below_or_not : (b : Bool) (x y : ℚ) → b ≡ lt_ℚ x y → MatchBool b (x <ℚ y) (y ≤ℚ x)
@@ -60,12 +60,12 @@ module _ (passes : Passing) (net : Network) (report : Report) where
     said_equilibrium (Ok x) s exact = subst (IsExact net report.flow) s exact
     said_equilibrium (Err fault) s exact = tt
 
-    pub said_no : (result : Result (Unit {0}) ResumeFault) → Said answer result → Checks net report.flow answer → IsExact net report.flow answer → IfErr result (IsCause passes net report)
+    pub said_no : (result : Result (Unit {0}) ResumeFault) → Said answer result → Checks net report.flow answer → IsExact net report.flow answer → IfErr result (IsCauseAtAnyHorizon passes net report)
     said_no (Ok x) s rules exact = tt
-    said_no (Err fault) s rules exact = subst (IsCause passes net report) (sym s.0) (refused answer s.1 is rules exact)
+    said_no (Err fault) s rules exact = subst (IsCauseAtAnyHorizon passes net report) (sym s.0) (refused answer s.1 is rules exact)
 
   -- An operation of the check exceeds its bound.
-  pub check_stops : (h : Halt ℚ) → Stops (λ (q : ℚ). q) h answered → IsCause passes net report (of_halt h)
+  pub check_stops : (h : Halt ℚ) → Stops (λ (q : ℚ). q) h answered → IsCauseAtAnyHorizon passes net report (of_halt h)
   check_stops (Halt.Passed at) s = by_answer (Err at) s
   check_stops Halt.Memory s = tt
 
@@ -88,7 +88,7 @@ module _ (passes : Passing) (net : Network) (report : Report) where
     after_yes : (r : Result Standing (PassedAt ℚ)) → restarted ≡ r → resume_list passes net report ≡ (r >>= λ first. Ok (Stands first))
     after_yes r e = by_answer (Ok Yes) yes ∙ ap (λ (r : Result Standing (PassedAt ℚ)). r >>= λ first. Ok (Stands first)) e
 
-    pub restart_stops : (h : Halt ℚ) → Stops (λ (q : ℚ). q) h restarted → IsCause passes net report (of_halt h)
+    pub restart_stops : (h : Halt ℚ) → Stops (λ (q : ℚ). q) h restarted → IsCauseAtAnyHorizon passes net report (of_halt h)
     restart_stops (Halt.Passed at) s = after_yes (Err at) s
     restart_stops Halt.Memory s = tt
 
@@ -96,7 +96,7 @@ module _ (passes : Passing) (net : Network) (report : Report) where
     list_stands first e = after_yes (Ok first) e
 
   -- ---- the horizon is not before the departure reached
-  pub in_time : (horizon : ℚ) (fault : ResumeFault) → report.flow.reached ≤ℚ horizon → IsCause passes net report fault → IsResumeFault passes net report horizon fault
+  pub in_time : (horizon : ℚ) (fault : ResumeFault) → report.flow.reached ≤ℚ horizon → IsCauseAtAnyHorizon passes net report fault → IsResumeFault passes net report horizon fault
   in_time horizon (ResumeFault.Earlier reached) later cause = absurd cause
   in_time horizon (ResumeFault.No answer) later cause = (later, cause)
   in_time horizon (ResumeFault.Passed at) later cause = (later, cause)

@@ -25,14 +25,14 @@ pub record IsRefusedReport (passes : Passing) (net : Network) (report : Report) 
   pub none : Equilibrium net report.flow → ⊥
 
 -- The causes that don't depend on the horizon. An allocation failure implies nothing.
-abbrev pub IsCause : Passing → Network → Report → ResumeFault → Type 0
-IsCause passes net report (ResumeFault.Earlier reached) = ⊥
-IsCause passes net report (ResumeFault.No answer) = IsRefusedReport passes net report answer
-IsCause passes net report (ResumeFault.Passed at) = resume_list passes net report ≡ Err at
-IsCause passes net report ResumeFault.Memory = Unit {0}
+abbrev pub IsCauseAtAnyHorizon : Passing → Network → Report → ResumeFault → Type 0
+IsCauseAtAnyHorizon passes net report (ResumeFault.Earlier reached) = ⊥
+IsCauseAtAnyHorizon passes net report (ResumeFault.No answer) = IsRefusedReport passes net report answer
+IsCauseAtAnyHorizon passes net report (ResumeFault.Passed at) = resume_list passes net report ≡ Err at
+IsCauseAtAnyHorizon passes net report ResumeFault.Memory = Unit {0}
 
 -- A horizon before the departure reached is the first cause, whatever else holds. Every other cause implies that the horizon is not before
 -- it.
 abbrev pub IsResumeFault : Passing → Network → Report → ℚ → ResumeFault → Type 0
 IsResumeFault passes net report horizon (ResumeFault.Earlier reached) = (reached ≡ report.flow.reached) × (horizon <ℚ reached)
-IsResumeFault passes net report horizon fault = (report.flow.reached ≤ℚ horizon) × IsCause passes net report fault
+IsResumeFault passes net report horizon fault = (report.flow.reached ≤ℚ horizon) × IsCauseAtAnyHorizon passes net report fault

@@ -40,7 +40,7 @@ struct OfLinks {
 }
 
 impl OfLinks {
-    // Appends the curves of a link. Refuses only if memory can't be allocated.
+    // Appends the curves of a link. Fails if an allocation fails.
     fn push(&mut self, cut: CutLink) -> Result<(), AllocError>
         ensures inflows { OnOk result
             (map trace_of self.new.inflows.items
@@ -77,7 +77,7 @@ fn in_lists(alloc: Global, cuts: Vec<CutLink>) -> Result<OfLinks, AllocError>
 
 /// Returns an equilibrium, cut at the departure that it reached. Its labels end there. Inflow and queue of a link end at the label of its
 /// tail there, the outflow at that of its head. All curves are in short form and have their rates. Refuses at the first operation that
-/// exceeds its bound, or if memory can't be allocated.
+/// exceeds its bound, or if an allocation fails.
 #[tactic(auto, unfolding(nf_resume_def::specs::Resuming::cut_flow))]
 pub(crate) fn cut_flow(alloc: Global, net: &Network, flow: &Flow) -> Result<Flow, Halt<Q>>
     requires { Equilibrium net.now.net (flow_of flow.now) }

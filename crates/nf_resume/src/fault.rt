@@ -16,7 +16,7 @@ pub enum ResumeFault {
     No(Answer),
     /// An operation exceeds its bound.
     Passed(PassedAt<Q>),
-    /// Memory can't be allocated.
+    /// An allocation failed.
     Memory,
 }
 

@@ -52,8 +52,8 @@ fn cut_link(
     })
 }
 
-/// Returns the curves of all links up to the labels of their ends. Refuses at the first operation that exceeds its bound, or if memory
-/// can't be allocated.
+/// Returns the curves of all links up to the labels of their ends. Refuses at the first operation that exceeds its bound, or if an
+/// allocation fails.
 pub(crate) fn cut_links(
     alloc: Global,
     net: &Network,

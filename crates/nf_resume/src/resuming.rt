@@ -12,11 +12,11 @@ ghost use Rattle.nf_thin_def.specs.PhaseRun.{IsShortFlow};
 ghost use Rattle.nf_resume_def.specs.Resuming.{restart_list};
 ghost use Rattle.nf_resume_def.specs.Meanings.{GoesOnFrom, IsResumedReport};
 ghost use Rattle.nf_curve.specs.Flows.{flow_of};
-ghost use Rattle.nf_report_read.specs.Files.{report_of};
+ghost use Rattle.nf_report_read.specs.Files.{seen_report};
 ghost use Rattle.nf_phase_def.specs.Restoring.{EndsAtItsLabels};
 ghost use Rattle.nf_phase.specs.Stepping.{Reaches};
 ghost use Rattle.nf_phase.specs.Solution.{bounds_of, report_in};
-ghost use Rattle.nf_resume.specs.Faults.{IsCause, IsResumeFault};
+ghost use Rattle.nf_resume.specs.Faults.{IsCauseAtAnyHorizon, IsResumeFault};
 ghost use Rattle.nf_resume.specs.declared.fault.ResumeFault.TheVariants as ResumeFault;
 
 use crate::cutting::cut_flow;
@@ -48,11 +48,11 @@ fn unless_no(answer: Answer) -> Result<(), ResumeFault>
 
 // Refuses if the flow of the report is no equilibrium.
 fn check_first(alloc: Global, net: &Network, report: &Report) -> Result<(), ResumeFault>
-    requires { IsWellFormed net.now.net (report_of report.now) }
+    requires { IsWellFormed net.now.net (seen_report report.now) }
     ensures yes { OnOk result
-        (check_list passes_Q net.now.net (report_of report.now).flow ≡ Ok Yes) }
-    ensures equilibrium { OnOk result (Equilibrium net.now.net (report_of report.now).flow) }
-    ensures cause { IfErr result (IsCause passes_Q net.now.net (report_of report.now)) }
+        (check_list passes_Q net.now.net (seen_report report.now).flow ≡ Ok Yes) }
+    ensures equilibrium { OnOk result (Equilibrium net.now.net (seen_report report.now).flow) }
+    ensures cause { IfErr result (IsCauseAtAnyHorizon passes_Q net.now.net (seen_report report.now)) }
 {
     match check(alloc, net, &report.flow) {
         Ok(answer) => unless_no(answer),
@@ -62,12 +62,12 @@ fn check_first(alloc: Global, net: &Network, report: &Report) -> Result<(), Resu
 
 // Returns the run at the end of a report's flow.
 fn restart(alloc: Global, net: &Network, report: &Report) -> Result<Run, Halt<Q>>
-    requires formed { IsWellFormed net.now.net (report_of report.now) }
-    requires equilibrium { Equilibrium net.now.net (report_of report.now).flow }
+    requires formed { IsWellFormed net.now.net (seen_report report.now) }
+    requires equilibrium { Equilibrium net.now.net (seen_report report.now).flow }
     ensures list { Gives (λ run. run) (λ q. q) result
-        (at_part OfCurve (restart_list passes_Q net.now.net (report_of report.now))) }
+        (at_part OfCurve (restart_list passes_Q net.now.net (seen_report report.now))) }
     ensures reaches { IfOk result (Reaches passes_Q net.now.net) }
-    ensures time { IfOk result (λ run. run.time ≡ (report_of report.now).flow.reached) }
+    ensures time { IfOk result (λ run. run.time ≡ (seen_report report.now).flow.reached) }
     ensures fresh { IfOk result (λ run. run.made ≡ 0) }
 {
     // Proof: the network is that of an accepted file.
@@ -89,7 +89,7 @@ fn restart(alloc: Global, net: &Network, report: &Report) -> Result<Run, Halt<Q>
 /// - `No`: if the flow is no equilibrium; has the answer of the check.
 /// - `Passed`: at the first operation of `resume_list` that exceeds its bound. The operations are those of the check, then with part Curve
 ///   those of cutting the flow at the departure reached and of the slopes of its last pieces.
-/// - `Memory`: only if memory can't be allocated.
+/// - `Memory`: if an allocation fails.
 pub fn resume(
     alloc: Global,
     net: &Network,
@@ -97,19 +97,19 @@ pub fn resume(
     horizon: Q,
     budgets: Budgets,
 ) -> Result<Solution, ResumeFault>
-    requires { IsWellFormed net.now.net (report_of report.now) }
+    requires { IsWellFormed net.now.net (seen_report report.now) }
     ensures resumed { IfOk result
         (λ s. IsResumedReport passes_Q net.now.net (bounds_of horizon budgets)
-        (report_of report.now) s.phases (report_in horizon s)) }
+        (seen_report report.now) s.phases (report_in horizon s)) }
     ensures equilibrium { IfOk result (λ s. Equilibrium net.now.net (flow_of s.flow)) }
     ensures goes_on { IfOk result
-        (λ s. GoesOnFrom net.now.net (report_of report.now).flow (flow_of s.flow)) }
+        (λ s. GoesOnFrom net.now.net (seen_report report.now).flow (flow_of s.flow)) }
     ensures short { IfOk result (λ s. IsShortFlow net.now.net (flow_of s.flow)) }
     ensures ends { IfOk result (λ s. EndsAtItsLabels net.now.net (flow_of s.flow)) }
     ensures formed { IfOk result (λ s. IsWellFormed net.now.net (report_in horizon s)) }
-    ensures not_earlier { OnOk result ((report_of report.now).flow.reached ≤ℚ horizon) }
+    ensures not_earlier { OnOk result ((seen_report report.now).flow.reached ≤ℚ horizon) }
     ensures fault { IfErr result
-        (IsResumeFault passes_Q net.now.net (report_of report.now) horizon) }
+        (IsResumeFault passes_Q net.now.net (seen_report report.now) horizon) }
 {
     // Proof: the network is that of an accepted file.
     net.recall();

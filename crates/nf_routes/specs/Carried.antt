@@ -12,8 +12,8 @@ use Rattle.nf_load.specs.Loadings.{loaded_of}
 use Rattle.nf_routes.specs.declared.carried.Carried.{Carried}
 
 -- a result with these entries
-abbrev pub with_entries : List (List (List Point)) → Carried → lists.Routed
-with_entries entries c = record {
+abbrev pub with_kept_entries : List (List (List Point)) → Carried → lists.Routed
+with_kept_entries entries c = record {
   ends = c.ends.items;
   links = map loaded_of c.links.items;
   entries = entries;
@@ -28,4 +28,4 @@ entries_or (Err passed) = []
 
 -- the result with the entries of the operation sequence
 abbrev pub carried_of : Network → List Route → ℚ → Carried → lists.Routed
-carried_of net routes horizon c = with_entries (entries_or (routes_list passes_Q net routes horizon)) c
+carried_of net routes horizon c = with_kept_entries (entries_or (routes_list passes_Q net routes horizon)) c

@@ -11,7 +11,7 @@ ghost use Rattle.nf_routes_def.specs.RoutesList.{end_or, loaded_or, but_last, la
 ghost use Rattle.nf_routes_def.specs.Meanings.{IsRouted, RoutesArrive};
 ghost use Rattle.nf_routes_def.specs.RoutesFile.{routes_of};
 ghost use Rattle.nf_load.specs.Loadings.{loaded_of};
-ghost use Rattle.nf_routes_links.specs.Standing.{AreLoaded, HaveSent};
+ghost use Rattle.nf_routes_links.specs.Standing.{AreAllLoaded, HaveSent};
 ghost use Rattle.nf_routes.specs.KeptList.{kept_list};
 ghost use Rattle.nf_routes.specs.Routed.{routed_of};
 
@@ -38,7 +38,7 @@ pub struct Routed {
 
 // Returns the ends and the loadings of the links.
 fn ended(alloc: Global, links: Vec<Option<LoadedLink>>) -> Result<(Vec<Q>, Vec<Loaded>), AllocError>
-    requires { AreLoaded links.items }
+    requires { AreAllLoaded links.items }
     ensures ends { IfOk result (λ parts. parts.0.items ≡ map (end_or passes_Q) links.items) }
     ensures loaded { IfOk result
         (λ parts. map loaded_of parts.1.items ≡ map (loaded_or passes_Q) links.items) }

@@ -8,7 +8,7 @@ use Rattle.nf_model.specs.Entries.{number_at}
 use Rattle.nf_model.specs.Network.{Link, Network, IsLink, supplied}
 use Rattle.nf_model.specs.Queue.{IsQueue, IsExit, IsOutflow}
 use Rattle.nf_load_def.specs.Loading.{Loaded}
-use Rattle.nf_routes_def.specs.Routes.{Route, IsBefore}
+use Rattle.nf_routes_def.specs.Routes.{Route, PrecedesOnRoute}
 use Rattle.nf_routes_def.specs.RoutesList.{Routed}
 
 abbrev pub link_loaded : Routed → ℕ → Loaded
@@ -52,8 +52,8 @@ inflow_by routes routed e time = sent_by_routes (λ r place. sent_by routed r pl
 -- its own end.
 pub record IsEnd (routes : List Route) (horizon : ℚ) (routed : Routed) (e : ℕ) (end : ℚ) : Type 0 where
   pub horizon_by : horizon ≤ℚ end
-  pub before : (f : ℕ) → IsBefore routes f e → exit_by routed f (number_at routed.ends f) ≤ℚ end
-  pub taken : (end ≡ horizon) ⊎ ((f : ℕ) × IsBefore routes f e × (end ≡ exit_by routed f (number_at routed.ends f)))
+  pub before : (f : ℕ) → PrecedesOnRoute routes f e → exit_by routed f (number_at routed.ends f) ≤ℚ end
+  pub taken : (end ≡ horizon) ⊎ ((f : ℕ) × PrecedesOnRoute routes f e × (end ≡ exit_by routed f (number_at routed.ends f)))
 
 -- the composition of the exits of some links, in order
 abbrev pub exits_along : Routed → List ℕ → ℚ → ℚ

@@ -27,7 +27,7 @@ abbrev pub all_pairs : List Route → List (ℕ × ℕ)
 all_pairs routes = flat_map (λ route. pairs_of route.links) routes
 
 -- link e directly precedes link f on some route
-pub record IsBefore (routes : List Route) (e f : ℕ) : Type 0 where
+pub record PrecedesOnRoute (routes : List Route) (e f : ℕ) : Type 0 where
   pub number : ℕ
   pub place : ℕ
   pub route : Route
@@ -36,13 +36,13 @@ pub record IsBefore (routes : List Route) (e f : ℕ) : Type 0 where
   pub next : slice_get route.links (suc place) ≡ Some f
 
 -- a sequence of links from e to f, over `between`, in which each link directly precedes the next on some route
-abbrev pub LeadsTo : List Route → ℕ → List ℕ → ℕ → Type 0
-LeadsTo routes e [] f = IsBefore routes e f
-LeadsTo routes e (g ∷ rest) f = IsBefore routes e g × LeadsTo routes g rest f
+abbrev pub LeadsOverRoutes : List Route → ℕ → List ℕ → ℕ → Type 0
+LeadsOverRoutes routes e [] f = PrecedesOnRoute routes e f
+LeadsOverRoutes routes e (g ∷ rest) f = PrecedesOnRoute routes e g × LeadsOverRoutes routes g rest f
 
 -- a circle: a sequence of links from a link to itself, in which each directly precedes the next on some route
 abbrev pub HoldCircle : List Route → Type 0
-HoldCircle routes = (e : ℕ) × (between : List ℕ) × LeadsTo routes e between e
+HoldCircle routes = (e : ℕ) × (between : List ℕ) × LeadsOverRoutes routes e between e
 
 -- ---- the loading order: repeatedly the lowest remaining link whose direct predecessors were all taken
 abbrev pub is_taken : List ℕ → ℕ → Bool

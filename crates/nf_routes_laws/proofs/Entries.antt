@@ -15,7 +15,7 @@ use Rattle.nf_load_def.specs.Cumulative.{checked_cumulative}
 use Rattle.nf_load_def.specs.Meanings.{IsCumulative}
 use Rattle.nf_load_laws.proofs.Cumulative.{checked_cumulative-is}
 use Rattle.nf_routes_def.specs.RoutesList.{next_entry}
-use Rattle.nf_routes_laws.specs.Laws.{CanShare, IsNext}
+use Rattle.nf_routes_laws.specs.Laws.{CanShare, IsSentOn}
 use Rattle.nf_routes_laws.proofs.Next.{next_entry-is}
 use Rattle.nf_routes_laws.proofs.Ends.{UpTo, upto-longer, short-upto, cumulative-upto, next-upto}
 use Rattle.nf_rational_laws.proofs.Chains.{≤ℚ_refl, ≤ℚ_trans}
@@ -61,7 +61,7 @@ first-is passes pieces horizon amounts points good h e f =
 
 -- ---- into the next one
 module _ (passes : Passing) (exit entry next : List Point) (last : ℚ) (can : CanShare exit entry last) (entry_is : IsEntry entry last) (exit_up : UpTo exit last) (e : next_entry passes exit entry ≡ Ok next) where
-  pub shared : IsNext exit entry last next
+  pub shared : IsSentOn exit entry last next
   shared = next_entry-is passes exit entry last can next e
 
   -- the amount sent on by z is the amount sent in by u: a time whose exit is z, or the first or last time

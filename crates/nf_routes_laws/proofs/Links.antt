@@ -18,10 +18,10 @@ use Rattle.nf_curve_laws.proofs.Following.{EndsAtTime}
 use Rattle.nf_load_def.specs.Meanings.{IsLoaded}
 use Rattle.nf_load_laws.proofs.Loading.{checked_loading-is}
 use Rattle.nf_check_def.specs.Curves.{last_value}
-use Rattle.nf_routes_def.specs.Routes.{Route, AreRoutes, IsBefore}
+use Rattle.nf_routes_def.specs.Routes.{Route, AreRoutes, PrecedesOnRoute}
 use Rattle.nf_routes_def.specs.RoutesList.{SoFar, Routed}
 use Rattle.nf_routes_def.specs.Meanings.{link_loaded, exit_by, entry_at, sent_by, sent_by_routes, inflow_by, IsEnd}
-use Rattle.nf_routes_laws.specs.Laws.{CanShare, IsNext}
+use Rattle.nf_routes_laws.specs.Laws.{CanShare, IsSentOn}
 use Rattle.nf_routes_laws.proofs.Arriving.{routes-le, routes-none}
 use Rattle.nf_routes_laws.proofs.Ordering.{In, in-either, placed}
 use Rattle.nf_routes_laws.proofs.Sharing.{shares-equal}
@@ -48,7 +48,7 @@ pub record LinkIs (net : Network) (routes : List Route) (horizon : ℚ) (all : R
   pub entries : (r place : ℕ) (route : Route) → slice_get routes r ≡ Some route → slice_get route.links place ≡ Some e → IsEntry (entry_at all r place) (number_at all.ends e)
   pub nexts : (r place : ℕ) (route : Route) → slice_get routes r ≡ Some route → slice_get route.links place ≡ Some e → IsEntry (entry_at all r (suc place)) (exit_by all e (number_at all.ends e))
   pub shares : (r place : ℕ) (route : Route) → slice_get routes r ≡ Some route → slice_get route.links place ≡ Some e
-      → IsNext (link_loaded all e).exit (entry_at all r place) (number_at all.ends e) (entry_at all r (suc place))
+      → IsSentOn (link_loaded all e).exit (entry_at all r place) (number_at all.ends e) (entry_at all r (suc place))
   pub firsts : (r : ℕ) (route : Route) → slice_get routes r ≡ Some route → slice_get route.links 0 ≡ Some e → IsFirst route.pieces horizon (entry_at all r 0)
 
 module _ (passes : Passing) (net : Network) (routes : List Route) (horizon : ℚ) (final : SoFar) (travels : List (List Point)) (good : IsNetwork net) (are : AreRoutes net routes) (from_0 : 0ℚ ≤ℚ horizon) where
@@ -59,7 +59,7 @@ module _ (passes : Passing) (net : Network) (routes : List Route) (horizon : ℚ
   Is e = LinkIs net routes horizon all e
 
   -- ---- the step of the link, if each link directly before it is loaded
-  module _ (e : ℕ) (step : LinkStep passes net routes horizon final travels e) (before : (f : ℕ) → IsBefore routes f e → Is f) where
+  module _ (e : ℕ) (step : LinkStep passes net routes horizon final travels e) (before : (f : ℕ) → PrecedesOnRoute routes f e → Is f) where
     abbrev end : ℚ
     end = number_at all.ends e
 
@@ -72,7 +72,7 @@ module _ (passes : Passing) (net : Network) (routes : List Route) (horizon : ℚ
       before = λ f b. subst (λ (x : ℚ). x ≤ℚ end) (before f b).last (step.ends.before f b);
       taken = ⊎_elim
           (λ (v : end ≡ horizon). inl v)
-          (λ (v : (f : ℕ) × IsBefore routes f e × (end ≡ last_value (link_loaded all f).exit)). inr (v.0, v.1, v.2 ∙ (before v.0 v.1).last))
+          (λ (v : (f : ℕ) × PrecedesOnRoute routes f e × (end ≡ last_value (link_loaded all f).exit)). inr (v.0, v.1, v.2 ∙ (before v.0 v.1).last))
           step.ends.taken;
     }
 
@@ -90,7 +90,7 @@ module _ (passes : Passing) (net : Network) (routes : List Route) (horizon : ℚ
     entered r (suc place) route h k =
         let below = slice_get_within route.links (suc place) e k in
         let f : (f : ℕ) × (slice_get route.links place ≡ Some f) = entry route.links place (omega arith) in
-        let b : IsBefore routes f.0 e = record { number = r; place = place; route = route; is_route = h; here = f.1; next = k } in
+        let b : PrecedesOnRoute routes f.0 e = record { number = r; place = place; route = route; is_route = h; here = f.1; next = k } in
         entry-longer (entry_at all r (suc place)) (exit_by all f.0 (number_at all.ends f.0)) end (is_end.before f.0 b) ((before f.0 b).nexts r place route h f.1)
 
     -- ---- its inflow

@@ -23,7 +23,7 @@ use Rattle.nf_curve_laws.proofs.Times.{IsOne, AreNext, NextOnes, both_times-next
 use Rattle.nf_curve_laws.proofs.Pieces.{left_affine, right_affine, left_flat, AreSides, sides_at-is}
 use Rattle.nf_curve_laws.proofs.Short.{checked_short-is}
 use Rattle.nf_routes_def.specs.RoutesList.{next_from, next_entry}
-use Rattle.nf_routes_laws.specs.Laws.{NoneBeyond, CanShare, IsNext}
+use Rattle.nf_routes_laws.specs.Laws.{NoneBeyond, CanShare, IsSentOn}
 use Rattle.nf_rational_laws.proofs.Chains.{≤ℚ_refl, ≤ℚ_trans}
 use Rattle.nf_rational_laws.proofs.Results.{same_Ok}
 
@@ -213,7 +213,7 @@ module _ (passes : Passing) (exit entry : List Point) (last : ℚ) (can : CanSha
       (λ (h : IsOne t (times_of exit)). beyond-none exit last t can.exit_ends h)
       (both_times-either entry exit t w)
 
-  pub next_entry-is : (next : List Point) → next_entry passes exit entry ≡ Ok next → IsNext exit entry last next
+  pub next_entry-is : (next : List Point) → next_entry passes exit entry ≡ Ok next → IsSentOn exit entry last next
   unfolding next_entry
   next_entry-is next e =
       let s = then_ok (each (sides_at passes entry exit) (both_times entry exit)) _ next e in

@@ -10,7 +10,7 @@ use Rattle.std.proofs.lemmas.Option.{slice_get_within, same_Some}
 use Rattle.std.proofs.lemmas.Bool.{and_parts, not-true}
 use Rattle.std.proofs.lemmas.List.{append-nil}
 use Rattle.nf_rational_laws.proofs.Results.{true_or_false, not_both}
-use Rattle.nf_routes_def.specs.Routes.{Route, AreRoutes, pairs_of, all_pairs, IsBefore, LeadsTo, HoldCircle, is_taken, is_free, first_free, with_next, order_from, loading_order, takes_all}
+use Rattle.nf_routes_def.specs.Routes.{Route, AreRoutes, pairs_of, all_pairs, PrecedesOnRoute, LeadsOverRoutes, HoldCircle, is_taken, is_free, first_free, with_next, order_from, loading_order, takes_all}
 use Rattle.nf_routes_laws.proofs.Arriving.{walk-links}
 
 -- ---- truth values
@@ -99,7 +99,7 @@ place-pairs (x ∷ []) (suc place) e f h k = absurd (cc)
 place-pairs (x ∷ y ∷ rest) zero e f h k = inl (let a = same_Some x e h in let b = same_Some y f k in λ i. (sym a i, sym b i))
 place-pairs (x ∷ y ∷ rest) (suc place) e f h k = inr (place-pairs (y ∷ rest) place e f h k)
 
-pub before-pair : (routes : List Route) (e f : ℕ) → IsBefore routes e f → In (e, f) (all_pairs routes)
+pub before-pair : (routes : List Route) (e f : ℕ) → PrecedesOnRoute routes e f → In (e, f) (all_pairs routes)
 before-pair routes e f b = at routes b.number b.is_route
   where
     at : (routes : List Route) (r : ℕ) → slice_get routes r ≡ Some b.route → In (e, f) (all_pairs routes)
@@ -107,7 +107,7 @@ before-pair routes e f b = at routes b.number b.is_route
     at (x ∷ routes) zero h = in-front (e, f) (pairs_of x.links) (all_pairs routes) (subst (λ (y : Route). In (e, f) (pairs_of y.links)) (sym (same_Some x b.route h)) (place-pairs b.route.links b.place e f b.here b.next))
     at (x ∷ routes) (suc r) h = in-back (e, f) (pairs_of x.links) (all_pairs routes) (at routes r h)
 
-pair-before : (routes all : List Route) (shift : ℕ) (p : ℕ × ℕ) → ((r : ℕ) → slice_get routes r ≡ slice_get all (shift + r)) → In p (all_pairs routes) → IsBefore all p.0 p.1
+pair-before : (routes all : List Route) (shift : ℕ) (p : ℕ × ℕ) → ((r : ℕ) → slice_get routes r ≡ slice_get all (shift + r)) → In p (all_pairs routes) → PrecedesOnRoute all p.0 p.1
 pair-before [] all shift p same h = absurd h
 pair-before (x ∷ routes) all shift p same h = ⊎_elim
     (λ (k : In p (pairs_of x.links)). let w = pair-places x.links p k in
@@ -115,7 +115,7 @@ pair-before (x ∷ routes) all shift p same h = ⊎_elim
     (λ (k : In p (all_pairs routes)). pair-before routes all (suc shift) p (λ r. same (suc r) ∙ ap (λ (n : ℕ). slice_get all n) (let n : shift + suc r ≡ suc shift + r = omega arith in n)) k)
     (in-either p (pairs_of x.links) (all_pairs routes) h)
 
-pub before-of : (routes : List Route) (p : ℕ × ℕ) → In p (all_pairs routes) → IsBefore routes p.0 p.1
+pub before-of : (routes : List Route) (p : ℕ × ℕ) → In p (all_pairs routes) → PrecedesOnRoute routes p.0 p.1
 before-of routes p h = pair-before routes routes 0 p (λ r. ap (λ (n : ℕ). slice_get routes n) (let n : r ≡ 0 + r = omega arith in n)) h
 
 -- ---- the lowest free link
@@ -157,7 +157,7 @@ distinct_none : IsDistinct eqb []
 unfolding IsDistinct
 distinct_none = tt
 
-link-below : (net : Network) (routes : List Route) → AreRoutes net routes → (e f : ℕ) → IsBefore routes e f → e < length net.links
+link-below : (net : Network) (routes : List Route) → AreRoutes net routes → (e f : ℕ) → PrecedesOnRoute routes e f → e < length net.links
 link-below net routes are e f b = let l = walk-links net b.route.links net.source net.sink b.place e (are.walks b.number b.route b.is_route) b.here in slice_get_within net.links e l.0 l.1
 
 -- ---- each link is taken, or there is a circle
@@ -168,25 +168,25 @@ module _ (net : Network) (routes : List Route) (are : AreRoutes net routes) wher
   abbrev pairs : List (ℕ × ℕ)
   pairs = all_pairs routes
 
-  before-below : (e f : ℕ) → IsBefore routes e f → e < many
+  before-below : (e f : ℕ) → PrecedesOnRoute routes e f → e < many
   before-below e f b = link-below net routes are e f b
 
   abbrev Way : ℕ → ℕ → Type 0
-  Way u v = (u ≡ v) ⊎ ((between : List ℕ) × LeadsTo routes u between v)
+  Way u v = (u ≡ v) ⊎ ((between : List ℕ) × LeadsOverRoutes routes u between v)
 
-  longer : (u v w : ℕ) → IsBefore routes u v → Way v w → Way u w
-  longer u v w b (inl e) = inr ([], subst (λ (x : ℕ). IsBefore routes u x) e b)
+  longer : (u v w : ℕ) → PrecedesOnRoute routes u v → Way v w → Way u w
+  longer u v w b (inl e) = inr ([], subst (λ (x : ℕ). PrecedesOnRoute routes u x) e b)
   longer u v w b (inr (between, way)) = inr (v ∷ between, (b, way))
 
-  closed : (u v : ℕ) → IsBefore routes u v → Way v u → HoldCircle routes
-  closed u v b (inl e) = (u, [], subst (λ (x : ℕ). IsBefore routes u x) e b)
+  closed : (u v : ℕ) → PrecedesOnRoute routes u v → Way v u → HoldCircle routes
+  closed u v b (inl e) = (u, [], subst (λ (x : ℕ). PrecedesOnRoute routes u x) e b)
   closed u v b (inr (between, way)) = (u, v ∷ between, (b, way))
 
   -- there is a path from a link to each of these
   abbrev Seen : List ℕ → ℕ → Type 0
   Seen seen v = (q : ℕ) → list_any (eqb q) seen ≡ true → (q < many) × Way v q
 
-  seen_more : (u v : ℕ) (seen : List ℕ) → IsBefore routes u v → Seen seen v → Seen (u ∷ seen) u
+  seen_more : (u v : ℕ) (seen : List ℕ) → PrecedesOnRoute routes u v → Seen seen v → Seen (u ∷ seen) u
   seen_more u v seen b ways q e = ⊎_elim
       (λ (w : (eqb q u ≡ true) × (q ≡ u)). (subst (λ (k : ℕ). k < many) (sym w.1) (before-below u v b), inl (sym w.1)))
       (λ (w : (eqb q u ≡ false) × (q ≢ u)). let s : (q < many) × Way v q = ways q (ap (λ (t : Bool). t || list_any (eqb q) seen) (sym w.0) ∙ e) in (s.0, longer u v q b s.1))
@@ -200,12 +200,12 @@ module _ (net : Network) (routes : List Route) (are : AreRoutes net routes) wher
     abbrev Left : ℕ → Type 0
     Left v = is_taken taken v ≡ false
 
-    left-before : (v : ℕ) → v < many → Left v → (u : ℕ) × IsBefore routes u v × Left u
+    left-before : (v : ℕ) → v < many → Left v → (u : ℕ) × PrecedesOnRoute routes u v × Left u
     left-before v h left =
         let none : list_all (λ q. not (eqb q.1 v) || is_taken taken q.0) pairs ≡ false = open_end (is_taken taken v) _ left (stuck v h) in
         let p = not-all (λ q. not (eqb q.1 v) || is_taken taken q.0) pairs none in
         let w = both_off (eqb p.0.1 v) (is_taken taken p.0.0) p.2 in
-        (p.0.0, subst (λ (x : ℕ). IsBefore routes p.0.0 x) (same p.0.1 w.0) (before-of routes p.0 p.1), w.1)
+        (p.0.0, subst (λ (x : ℕ). PrecedesOnRoute routes p.0.0 x) (same p.0.1 w.0) (before-of routes p.0 p.1), w.1)
       where
         open_end : (a b : Bool) → a ≡ false → (not a && b) ≡ false → b ≡ false
         open_end true b h k = absurd (cc)
@@ -221,13 +221,13 @@ module _ (net : Network) (routes : List Route) (are : AreRoutes net routes) wher
     -- going back over links that are not taken, one link repeats
     meets : (left v : ℕ) (seen : List ℕ) → many ≤ length seen + left → v < many → Left v → IsDistinct eqb seen → Seen seen v → HoldCircle routes
     meets zero v seen m h out d ways =
-        let b : (u : ℕ) × IsBefore routes u v × Left u = left-before v h out in
+        let b : (u : ℕ) × PrecedesOnRoute routes u v × Left u = left-before v h out in
         ⊎_elim
         (λ (w : list_any (eqb b.0) seen ≡ true). closed b.0 v b.1 (ways b.0 w).1)
         (λ (w : list_any (eqb b.0) seen ≡ false). absurd (full b.0 seen (omega arith) (distinct_more b.0 seen w d) (seen_more b.0 v seen b.1 ways)))
         (true_or_false (list_any (eqb b.0) seen))
     meets (suc left) v seen m h out d ways =
-        let b : (u : ℕ) × IsBefore routes u v × Left u = left-before v h out in
+        let b : (u : ℕ) × PrecedesOnRoute routes u v × Left u = left-before v h out in
         ⊎_elim
         (λ (w : list_any (eqb b.0) seen ≡ true). closed b.0 v b.1 (ways b.0 w).1)
         (λ (w : list_any (eqb b.0) seen ≡ false).
@@ -316,7 +316,7 @@ module _ (routes : List Route) (many : ℕ) where
 
   -- a link of the order comes after those before it, and once
   pub placed : (more : ℕ) (taken front : List ℕ) (e : ℕ) (back : List ℕ) → order_from more pairs' many taken ≡ front ++ e ∷ back
-      → (In e (front ++ taken) → ⊥) × ((f : ℕ) → IsBefore routes f e → In f (front ++ taken))
+      → (In e (front ++ taken) → ⊥) × ((f : ℕ) → PrecedesOnRoute routes f e → In f (front ++ taken))
   placed zero taken [] e back h = absurd (cc)
   placed zero taken (x ∷ front) e back h = absurd (cc)
   placed (suc more) taken front e back h = by (first_free pairs' taken (range_with_len 0 many)) refl front h (λ f front' k. placed more (f ∷ taken) front' e back k)
@@ -325,8 +325,8 @@ module _ (routes : List Route) (many : ℕ) where
       head-of x y xs ys h = (cc, cc)
 
       by : (o : Option ℕ) → first_free pairs' taken (range_with_len 0 many) ≡ o → (front : List ℕ) → with_next o (λ f. order_from more pairs' many (f ∷ taken)) ≡ front ++ e ∷ back
-          → ((f : ℕ) (front' : List ℕ) → order_from more pairs' many (f ∷ taken) ≡ front' ++ e ∷ back → (In e (front' ++ f ∷ taken) → ⊥) × ((g : ℕ) → IsBefore routes g e → In g (front' ++ f ∷ taken)))
-          → (In e (front ++ taken) → ⊥) × ((f : ℕ) → IsBefore routes f e → In f (front ++ taken))
+          → ((f : ℕ) (front' : List ℕ) → order_from more pairs' many (f ∷ taken) ≡ front' ++ e ∷ back → (In e (front' ++ f ∷ taken) → ⊥) × ((g : ℕ) → PrecedesOnRoute routes g e → In g (front' ++ f ∷ taken)))
+          → (In e (front ++ taken) → ⊥) × ((f : ℕ) → PrecedesOnRoute routes f e → In f (front ++ taken))
       by None none [] h later = absurd (cc)
       by None none (x ∷ front) h later = absurd (cc)
       by (Some f) some [] h later =
@@ -360,14 +360,14 @@ module _ (routes : List Route) (many : ℕ) where
   joined (y ∷ a) x b c = ap (λ (l : List ℕ). y ∷ l) (joined a x b c)
 
   -- the links that lead to a link of the order precede it
-  led : (between : List ℕ) (e w : ℕ) (front back : List ℕ) → order_from many pairs' many [] ≡ front ++ w ∷ back → LeadsTo routes e between w → In e front
+  led : (between : List ℕ) (e w : ℕ) (front back : List ℕ) → order_from many pairs' many [] ≡ front ++ w ∷ back → LeadsOverRoutes routes e between w → In e front
   led [] e w front back h way = subst (In e) (append-nil front) ((placed many [] front w back h).1 e way)
   led (g ∷ between) e w front back h way =
       let s = split front g (led between g w front back h way.1) in
       let there : order_from many pairs' many [] ≡ s.0 ++ g ∷ (s.1 ++ w ∷ back) = h ∙ ap (λ (l : List ℕ). l ++ w ∷ back) s.2 ∙ joined s.0 g s.1 (w ∷ back) in
       subst (In e) (sym s.2) (in-front e s.0 (g ∷ s.1) (subst (In e) (append-nil s.0) ((placed many [] s.0 g (s.1 ++ w ∷ back) there).1 e way.0)))
 
-  pub circle-left : (e : ℕ) (between : List ℕ) → e < many → LeadsTo routes e between e → takes_all many routes ≡ true → ⊥
+  pub circle-left : (e : ℕ) (between : List ℕ) → e < many → LeadsOverRoutes routes e between e → takes_all many routes ≡ true → ⊥
   unfolding takes_all loading_order
   circle-left e between h way all =
       let s = split (order_from many pairs' many []) e (taken-in (order_from many pairs' many []) e (all-at (λ f. is_taken (order_from many pairs' many []) f) (range_with_len 0 many) e all (in-range 0 many e (omega arith) (let n : e < 0 + many = omega arith in n)))) in

@@ -9,7 +9,7 @@ use Rattle.nf_model.specs.Curve.{Point}
 use Rattle.nf_model.specs.Network.{Piece}
 use Rattle.nf_curve_def.specs.Short.{checked_short}
 use Rattle.nf_load_def.specs.Cumulative.{checked_cumulative}
-use Rattle.nf_routes_def.specs.Routes.{Route, IsBefore}
+use Rattle.nf_routes_def.specs.Routes.{Route, PrecedesOnRoute}
 use Rattle.nf_routes_def.specs.RoutesList.{begins_with, goes_over, last_entry, next_entry, begin_if, next_if}
 use Rattle.nf_curve_laws.proofs.Operations.{then_ok}
 use Rattle.nf_routes_laws.proofs.Ordering.{In, in-front, in-back, in-either}
@@ -33,7 +33,7 @@ pub stands-none : (links : List ℕ) → Stands [] links 0
 stands-none links = record { within = omega arith; taken = λ i f h k. absurd (omega arith); left = λ i f h k w. w }
 
 -- ---- a link outside the prefix, with its direct predecessors in the prefix
-module _ (routes : List Route) (front : List ℕ) (e : ℕ) (new : In e front → ⊥) (led : (f : ℕ) → IsBefore routes f e → In f front) where
+module _ (routes : List Route) (front : List ℕ) (e : ℕ) (new : In e front → ⊥) (led : (f : ℕ) → PrecedesOnRoute routes f e → In f front) where
   module _ (r : ℕ) (route : Route) (is_route : slice_get routes r ≡ Some route) (n : ℕ) (stands : Stands front route.links n) where
     later : (place : ℕ) → slice_get route.links place ≡ Some e → n < place → ⊥
     later zero at h = omega arith

@@ -16,7 +16,7 @@ use Rattle.nf_model.specs.Entries.{number_at}
 use Rattle.nf_model.specs.Network.{Link, Network, IsLink}
 use Rattle.nf_load_def.specs.Loading.{Loaded, checked_loading}
 use Rattle.nf_check_def.specs.Curves.{last_value}
-use Rattle.nf_routes_def.specs.Routes.{Route, all_pairs, IsBefore, first_free, with_next, order_from}
+use Rattle.nf_routes_def.specs.Routes.{Route, all_pairs, PrecedesOnRoute, first_free, with_next, order_from}
 use Rattle.nf_routes_def.specs.RoutesList.{LoadedLink, SoFar, Routed, exit_end, end_by, begins_with, goes_over, last_entry, but_last, begin_if, begin_all, sum_from, next_if, next_all, next_entry, load_here, load_all, end_or, loaded_or}
 use Rattle.nf_routes_def.specs.Meanings.{link_loaded, stages_at, arrival_at, entry_at}
 use Rattle.nf_curve_laws.proofs.Operations.{then_ok}
@@ -43,8 +43,8 @@ order-below pairs many (suc more) taken e h = by (first_free pairs taken (range_
 -- ---- the end of a link: the greatest of the horizon and the end exits of its direct predecessors
 pub record EndsBy (routes : List Route) (horizon : ℚ) (e : ℕ) (exits : ℕ → ℚ) (end : ℚ) : Type 0 where
   pub horizon_by : horizon ≤ℚ end
-  pub before : (f : ℕ) → IsBefore routes f e → exits f ≤ℚ end
-  pub taken : (end ≡ horizon) ⊎ ((f : ℕ) × IsBefore routes f e × (end ≡ exits f))
+  pub before : (f : ℕ) → PrecedesOnRoute routes f e → exits f ≤ℚ end
+  pub taken : (end ≡ horizon) ⊎ ((f : ℕ) × PrecedesOnRoute routes f e × (end ≡ exits f))
 
 record EndsOver (pairs : List (ℕ × ℕ)) (horizon : ℚ) (e : ℕ) (exits : ℕ → ℚ) (end : ℚ) : Type 0 where
   pub horizon_by : horizon ≤ℚ end
@@ -87,7 +87,7 @@ module _ (horizon : ℚ) (links : List (Option LoadedLink)) (e : ℕ) where
       other : eqb p.1 e ≡ false → p.1 ≢ e
       other f = ⊎_elim (λ (w : (eqb p.1 e ≡ true) × (p.1 ≡ e)). absurd (not_both (eqb p.1 e) w.0 f)) (λ (w : (eqb p.1 e ≡ false) × (p.1 ≢ e)). w.1) (eqb_tells p.1 e)
 
-  pub end_by-is : (routes : List Route) (exits : ℕ → ℚ) → ((f : ℕ) → IsBefore routes f e → exit_end (slice_get links f) ≡ exits f) → EndsBy routes horizon e exits (end_by horizon (all_pairs routes) links e)
+  pub end_by-is : (routes : List Route) (exits : ℕ → ℚ) → ((f : ℕ) → PrecedesOnRoute routes f e → exit_end (slice_get links f) ≡ exits f) → EndsBy routes horizon e exits (end_by horizon (all_pairs routes) links e)
   end_by-is routes exits same =
       let w : EndsOver (all_pairs routes) horizon e Exits (end_by horizon (all_pairs routes) links e) = over_pairs (all_pairs routes) in
       record {
@@ -96,7 +96,7 @@ module _ (horizon : ℚ) (links : List (Option LoadedLink)) (e : ℕ) where
         taken = ⊎_elim
             (λ (v : end_by horizon (all_pairs routes) links e ≡ horizon). inl v)
             (λ (v : (p : ℕ × ℕ) × In p (all_pairs routes) × (p.1 ≡ e) × (end_by horizon (all_pairs routes) links e ≡ Exits p.0)).
-            let b : IsBefore routes v.0.0 e = subst (λ (x : ℕ). IsBefore routes v.0.0 x) v.2 (before-of routes v.0 v.1) in
+            let b : PrecedesOnRoute routes v.0.0 e = subst (λ (x : ℕ). PrecedesOnRoute routes v.0.0 x) v.2 (before-of routes v.0 v.1) in
             inr (v.0.0, b, v.3 ∙ same v.0.0 b))
             w.taken;
       }
@@ -159,7 +159,7 @@ module _ (passes : Passing) (net : Network) (routes : List Route) (horizon : ℚ
     pub after_here : slice_get next.entries r ≡ Some after
     pub case : Over passes e horizon route was.entries begun d.loaded.exit was.n after ⊎ (((place : ℕ) → slice_get route.links place ≡ Some e → ⊥) × (after ≡ was.entries))
 
-  module _ (front : List ℕ) (s : SoFar) (e : ℕ) (link : Link) (next : SoFar) (d : LinkDone s e link next) (standing : RoutesStanding front s) (new : In e front → ⊥) (led : (f : ℕ) → IsBefore routes f e → In f front) where
+  module _ (front : List ℕ) (s : SoFar) (e : ℕ) (link : Link) (next : SoFar) (d : LinkDone s e link next) (standing : RoutesStanding front s) (new : In e front → ⊥) (led : (f : ℕ) → PrecedesOnRoute routes f e → In f front) where
     route-done : (r : ℕ) (route : Route) → slice_get routes r ≡ Some route → RouteDone front s e link next d r route
     route-done r route here =
         let was : RouteStands front s r route = standing.at r route here in
@@ -281,7 +281,7 @@ module _ (passes : Passing) (net : Network) (routes : List Route) (horizon : ℚ
       pub ends : EndsBy routes horizon e (λ f. last_value (link_loaded routed f).exit) (number_at routed.ends e)
       pub over : (r place : ℕ) (route : Route) → slice_get routes r ≡ Some route → slice_get route.links place ≡ Some e → RouteOver e r place route begun
 
-    module _ (front : List ℕ) (s : SoFar) (e : ℕ) (link : Link) (next : SoFar) (d : LinkDone s e link next) (standing : RoutesStanding front s) (new : In e front → ⊥) (led : (f : ℕ) → IsBefore routes f e → In f front)
+    module _ (front : List ℕ) (s : SoFar) (e : ℕ) (link : Link) (next : SoFar) (d : LinkDone s e link next) (standing : RoutesStanding front s) (new : In e front → ⊥) (led : (f : ℕ) → PrecedesOnRoute routes f e → In f front)
         (is_link : IsLink net e link) (grows : Grows (front ++ e ∷ []) next) where
       below : e < length s.links
       below = let b = slice_get_within net.links e link is_link in let c = standing.link_count in omega arith
@@ -374,7 +374,7 @@ module _ (passes : Passing) (net : Network) (routes : List Route) (horizon : ℚ
         let d : LinkDone s e l.0 step.between = link-done s e l.0 step.between (ap (λ (o : Option Link). load_here passes horizon routes s e o) (sym l.1) ∙ step.first) in
         let p = placed routes many many [] front e back same in
         let new : In e front → ⊥ = λ w. p.0 (subst (λ (l : List ℕ). In e l) (sym (append-nil front)) w) in
-        let led : (f : ℕ) → IsBefore routes f e → In f front = λ f b. subst (λ (l : List ℕ). In f l) (append-nil front) (p.1 f b) in
+        let led : (f : ℕ) → PrecedesOnRoute routes f e → In f front = λ f b. subst (λ (l : List ℕ). In f l) (append-nil front) (p.1 f b) in
         let rest : Unrolled (front ++ e ∷ []) step.between back = unroll back (front ++ e ∷ []) step.between (same ∙ sym (append_assoc front (e ∷ []) back)) (step-standing front s e l.0 step.between d standing new led) step.next in
         record {
           grows = step-final front s e l.0 step.between d standing new led l.1 rest.grows;

@@ -30,7 +30,7 @@ pub record CanShare (exit entry : List Point) (last : ℚ) : Type 0 where
 
 -- `next` is the amount that the route sends into its next link. By each exit the amount sent by its entry is sent on. The amount is 0 until
 -- the first exit, and constant after the last.
-pub record IsNext (exit entry : List Point) (last : ℚ) (next : List Point) : Type 0 where
+pub record IsSentOn (exit entry : List Point) (last : ℚ) (next : List Point) : Type 0 where
   pub curve : IsCurve next
   pub form : IsShort next
   pub at_exit : (time : ℚ) → Within 0ℚ last time → value next (value exit time) ≡ value entry time
@@ -39,7 +39,7 @@ pub record IsNext (exit entry : List Point) (last : ℚ) (next : List Point) : T
 
 abbrev pub NextEntryShares : Type 0
 NextEntryShares = (passes : Passing) (exit entry next : List Point) (last : ℚ) → CanShare exit entry last
-    → next_entry passes exit entry ≡ Ok next → IsNext exit entry last next
+    → next_entry passes exit entry ≡ Ok next → IsSentOn exit entry last next
 
 -- a loading by route arrives
 abbrev pub LoadedRoutesArrive : Type 0

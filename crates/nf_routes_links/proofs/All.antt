@@ -17,7 +17,7 @@ use Rattle.nf_routes_def.specs.RoutesList.{SoFar, load_here}
 use Rattle.nf_routes_laws.proofs.Ordering.{takes_all-straight}
 use Rattle.nf_routes_read.proofs.Taking.{IsPlaced, order_placed}
 use Rattle.nf_routes_links.specs.Beginning.{nothing_loaded, nothing_sent, all_loaded}
-use Rattle.nf_routes_links.specs.Standing.{MayLoad, IsComplete}
+use Rattle.nf_routes_links.specs.Standing.{MayLoad, IsFullyLoaded}
 use Rattle.nf_routes_links.specs.Keeping.{kept_after, load_kept, all_kept}
 use Rattle.nf_routes_links.specs.declared.keeping.Kept.{Kept}
 use Rattle.nf_routes_links.proofs.Alone.{stands_kept, all_kept-is}
@@ -49,7 +49,7 @@ module _ (net : Network) (routes : List Route) (order : List ℕ) (is_order : or
         (stands_next passes net routes horizon (take i order) e link so_far next from_0 good is stands placed_at
         (steps_of passes horizon routes so_far e link next (ap (λ (o : Option Link). load_here passes horizon routes so_far e o) (sym is) ∙ was)))
 
-  pub stands_complete : (are : AreRoutes net routes) (so_far : SoFar) (i : ℕ) → Stands net routes (take i order) so_far → length order ≤ i → IsNetwork net → (HoldCircle routes → ⊥) → IsComplete net routes so_far
+  pub stands_complete : (are : AreRoutes net routes) (so_far : SoFar) (i : ℕ) → Stands net routes (take i order) so_far → length order ≤ i → IsNetwork net → (HoldCircle routes → ⊥) → IsFullyLoaded net routes so_far
   stands_complete are so_far i stands h good straight = stands_last net routes order so_far good are (all_taken (length net.links) routes order is_order (takes_all-straight net routes are straight))
       (subst (λ (l : List ℕ). Stands net routes l so_far) (take_all i order h) stands)
 

@@ -15,7 +15,7 @@ use Rattle.nf_routes_def.specs.RoutesList.{SoFar, begins_with, goes_over, last_e
 use Rattle.nf_routes_links.specs.Amounts.{IsAmount}
 use Rattle.nf_routes_links.specs.Beginning.{nothing_loaded, nothing_sent, all_loaded}
 use Rattle.nf_routes_links.specs.Standing.{Along}
-use Rattle.nf_routes_links.specs.Keeping.{last_alone, with_last, kept_after, load_kept, all_kept}
+use Rattle.nf_routes_links.specs.Keeping.{last_alone, keeping_last, kept_after, load_kept, all_kept}
 use Rattle.nf_routes_links.specs.declared.keeping.Kept.{Kept}
 use Rattle.nf_routes_links.specs.declared.keeping.Kept.TheVariants.{Every, Last}
 use Rattle.nf_routes_links.proofs.Lists.{last_push}
@@ -98,7 +98,7 @@ along_alone taken [] (sent ∷ rest) along = absurd along
 along_alone taken (route ∷ routes) [] along = absurd along
 along_alone taken (route ∷ routes) (sent ∷ rest) along = (alone_sound taken route sent along.0, along_alone taken routes rest along.1)
 
-stands_alone : (net : Network) (routes : List Route) (taken : List ℕ) (so_far : SoFar) → Stands net routes taken so_far → Stands net routes taken (with_last so_far)
+stands_alone : (net : Network) (routes : List Route) (taken : List ℕ) (so_far : SoFar) → Stands net routes taken so_far → Stands net routes taken (keeping_last so_far)
 stands_alone net routes taken so_far s = record { count = s.count; loaded = s.loaded; exits = s.exits; entries = along_alone taken routes so_far.entries s.entries }
 
 pub stands_kept : (net : Network) (routes : List Route) (taken : List ℕ) (kept : Kept) (so_far : SoFar) → Stands net routes taken so_far → Stands net routes taken (kept_after kept so_far)
@@ -177,7 +177,7 @@ module _ (passes : Passing) where
   -- ---- the loading of a link
   module _ (horizon : ℚ) (routes : List Route) (s : SoFar) (e : ℕ) where
     abbrev ended : Checked SoFar → Checked SoFar
-    ended r = r >>= λ next. Ok (with_last next)
+    ended r = r >>= λ next. Ok (keeping_last next)
 
     module _ (link : Link) where
       abbrev comes : Loaded → List Sent → Checked SoFar
@@ -207,29 +207,29 @@ module _ (passes : Passing) where
 
       loads_alone : (begun : List Sent) (inflow : List Point) → ended (after_sum (map last_alone begun) inflow) ≡ ended (after_sum begun inflow)
       loads_alone begun inflow =
-          chain (load inflow) (after_load (map last_alone begun)) (λ next. Ok (with_last next))
+          chain (load inflow) (after_load (map last_alone begun)) (λ next. Ok (keeping_last next))
           ∙ after_same (load inflow) (λ loaded. ended (after_load (map last_alone begun) loaded)) (λ loaded. ended (after_load begun loaded)) (λ loaded. sends_alone begun loaded)
-          ∙ sym (chain (load inflow) (after_load begun) (λ next. Ok (with_last next)))
+          ∙ sym (chain (load inflow) (after_load begun) (λ next. Ok (keeping_last next)))
 
       sums_alone : (begun : List Sent) → ended (after_begin (map last_alone begun)) ≡ ended (after_begin begun)
       sums_alone begun =
           let sum = sum_from passes e ((0ℚ, 0ℚ) ∷ []) routes begun in
           ap (λ (r : Checked (List Point)). ended (r >>= after_sum (map last_alone begun))) (sum_alone e ((0ℚ, 0ℚ) ∷ []) routes begun)
-          ∙ chain sum (after_sum (map last_alone begun)) (λ next. Ok (with_last next))
+          ∙ chain sum (after_sum (map last_alone begun)) (λ next. Ok (keeping_last next))
           ∙ after_same sum (λ inflow. ended (after_sum (map last_alone begun) inflow)) (λ inflow. ended (after_sum begun inflow)) (λ inflow. loads_alone begun inflow)
-          ∙ sym (chain sum (after_sum begun) (λ next. Ok (with_last next)))
+          ∙ sym (chain sum (after_sum begun) (λ next. Ok (keeping_last next)))
 
       begun_alone : (r : Checked (List Sent)) → ended (all_alone r >>= after_begin) ≡ ended (r >>= after_begin)
       begun_alone (Ok begun) = sums_alone begun
       begun_alone (Err p) = refl
 
-      link_alone : ended (load_here passes horizon routes (with_last s) e (Some link)) ≡ ended (load_here passes horizon routes s e (Some link))
+      link_alone : ended (load_here passes horizon routes (keeping_last s) e (Some link)) ≡ ended (load_here passes horizon routes s e (Some link))
       link_alone =
           sym (begun_alone (begin_all passes horizon e routes (map last_alone s.entries)))
           ∙ ap (λ (r : Checked (List Sent)). ended (r >>= after_begin)) (begins_alone horizon e routes s.entries)
           ∙ begun_alone (begin_all passes horizon e routes s.entries)
 
-    here_alone : (link : Option Link) → ended (load_here passes horizon routes (with_last s) e link) ≡ ended (load_here passes horizon routes s e link)
+    here_alone : (link : Option Link) → ended (load_here passes horizon routes (keeping_last s) e link) ≡ ended (load_here passes horizon routes s e link)
     here_alone None = ap (λ (l : List Sent). Ok (record { links = s.links; entries = l })) (all_twice s.entries)
     here_alone (Some link) = link_alone link
 

@@ -23,7 +23,7 @@ use Rattle.nf_routes_read.proofs.Taking.{taken-push, IsPlaced}
 use Rattle.nf_routes_links.specs.Amounts.{IsAmount, AreExits}
 use Rattle.nf_routes_links.proofs.Amounts.{no_amount, loaded_exits}
 use Rattle.nf_routes_links.specs.Beginning.{nothing_loaded, nothing_sent}
-use Rattle.nf_routes_links.specs.Standing.{Along, MayBegin, Sends, MayLoad, IsComplete}
+use Rattle.nf_routes_links.specs.Standing.{Along, MayBegin, Sends, MayLoad, IsFullyLoaded}
 use Rattle.nf_routes_links.proofs.Greatest.{end-least}
 use Rattle.nf_routes_links.proofs.Folds.{Sent, begin_all-is, next_all-is, steps_keep, along_as}
 use Rattle.nf_routes_links.proofs.Sound.{IsSound, IsBegun, IsReady, sends_here, sound_first, all_ready, begun_keeps, inflow_amount, next_keeps}
@@ -182,7 +182,7 @@ module _ (net : Network) (routes : List Route) (order : List ℕ) (so_far : SoFa
       over : goes_over (f ∷ rest) f ≡ true
       over = ⊎_elim (λ (w : (eqb f f ≡ true) × (f ≡ f)). ap (λ (b : Bool). b || goes_over rest f) w.0) (λ (w : (eqb f f ≡ false) × (f ≢ f)). absurd (w.1 refl)) (eqb_tells f f)
 
-  pub stands_last : IsComplete net routes so_far
+  pub stands_last : IsFullyLoaded net routes so_far
   stands_last = record {
     count = s.count;
     links = record { each = λ e h. s.loaded e (all e (let w = slice_get_within so_far.links e None h in let c = s.count in omega arith)) h };

@@ -27,7 +27,7 @@ use Rattle.nf_routes_def.specs.Routes.{Route, AreRoutes}
 use Rattle.nf_routes_def.specs.RoutesList.{LoadedLink, SoFar, exit_of, loaded_or, travel_on}
 use Rattle.nf_routes_laws.proofs.Arriving.{walk-links}
 use Rattle.nf_routes_links.specs.Amounts.{AreExits}
-use Rattle.nf_routes_links.specs.Standing.{IsComplete}
+use Rattle.nf_routes_links.specs.Standing.{IsFullyLoaded}
 use Rattle.nf_routes_links.specs.Travels.{HaveExits, GoOverAll, travel_along}
 use Rattle.nf_routes_links.proofs.Folds.{drop_at}
 
@@ -56,7 +56,7 @@ each_same {A} {B} f g same (x ∷ xs) =
     ∙ ap (λ (r : Checked (List B)). g x >>= λ y. r >>= λ ys. Ok (y ∷ ys)) (each_same f g same xs)
 
 -- ---- what is complete has exits, and routes go over its links
-pub complete_exits : (passes : Passing) (net : Network) (routes : List Route) (so_far : SoFar) → IsComplete net routes so_far → HaveExits (map (loaded_or passes) so_far.links)
+pub complete_exits : (passes : Passing) (net : Network) (routes : List Route) (so_far : SoFar) → IsFullyLoaded net routes so_far → HaveExits (map (loaded_or passes) so_far.links)
 complete_exits passes net routes so_far c = record { each = λ e link h. at so_far.links e link h (c.links.each e) (c.exits e) }
   where
     at : (links : List (Option LoadedLink)) (e : ℕ) (link : Loaded) → slice_get (map (loaded_or passes) links) e ≡ Some link → (slice_get links e ≡ Some None → ⊥)
@@ -66,7 +66,7 @@ complete_exits passes net routes so_far c = record { each = λ e link h. at so_f
     at (Some l ∷ links) zero link h none some = let same : l.loaded ≡ link = cc in subst (λ (x : Loaded). AreExits x.exit) same (some l refl)
     at (o ∷ links) (suc e) link h none some = at links e link h none some
 
-pub complete_over : (passes : Passing) (net : Network) (routes : List Route) (so_far : SoFar) → IsComplete net routes so_far → AreRoutes net routes → GoOverAll (map (loaded_or passes) so_far.links) routes
+pub complete_over : (passes : Passing) (net : Network) (routes : List Route) (so_far : SoFar) → IsFullyLoaded net routes so_far → AreRoutes net routes → GoOverAll (map (loaded_or passes) so_far.links) routes
 complete_over passes net routes so_far c are = record {
   each = λ r route h. record {
     each = λ place e k.

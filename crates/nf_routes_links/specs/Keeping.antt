@@ -17,13 +17,13 @@ last_alone [] = []
 last_alone (entry ∷ rest) = last_entry (entry ∷ rest) ∷ []
 
 -- the same progress, with the last entry of each route alone
-abbrev pub with_last : SoFar → SoFar
-with_last s = record { links = s.links; entries = map last_alone s.entries }
+abbrev pub keeping_last : SoFar → SoFar
+keeping_last s = record { links = s.links; entries = map last_alone s.entries }
 
 -- the progress with the entries that are kept
 abbrev pub kept_after : Kept → SoFar → SoFar
 kept_after Every s = s
-kept_after Last s = with_last s
+kept_after Last s = keeping_last s
 
 module _ (passes : Passing) where
   -- the links in order, with what is kept after each

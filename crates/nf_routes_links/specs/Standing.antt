@@ -37,7 +37,7 @@ pub record MayLoad (net : Network) (routes : List Route) (e : ℕ) (so_far : lis
   pub entries : Along (MayBegin e) routes so_far.entries
 
 -- all of the links are loaded
-pub record AreLoaded (links : List (Option LoadedLink)) : Type 0 where
+pub record AreAllLoaded (links : List (Option LoadedLink)) : Type 0 where
   pub each : (e : ℕ) → slice_get links e ≡ Some None → ⊥
 
 -- each of the routes has sent something
@@ -45,8 +45,8 @@ pub record HaveSent (entries : List (List (List Point))) : Type 0 where
   pub each : (r : ℕ) (sent : List (List Point)) → slice_get entries r ≡ Some sent → 0 < length sent
 
 -- all links are loaded, with exits that never fall, and each route has sent something
-pub record IsComplete (net : Network) (routes : List Route) (so_far : lists.SoFar) : Type 0 where
+pub record IsFullyLoaded (net : Network) (routes : List Route) (so_far : lists.SoFar) : Type 0 where
   pub count : length so_far.links ≡ length net.links
-  pub links : AreLoaded so_far.links
+  pub links : AreAllLoaded so_far.links
   pub exits : (e : ℕ) (link : LoadedLink) → slice_get so_far.links e ≡ Some (Some link) → AreExits link.loaded.exit
   pub sent : HaveSent so_far.entries

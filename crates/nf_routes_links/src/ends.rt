@@ -45,7 +45,7 @@ fn end_along(along: &[LinkId], links: &[Option<LoadedLink>], link: LinkId, least
 
 /// Returns the end of a link: the time up to which it is loaded, at least `horizon`. The exits of the links that directly precede it on a
 /// route may raise it.
-pub(crate) fn end_of(routes: &[Route], links: &[Option<LoadedLink>], link: LinkId, horizon: Q) -> Q
+pub(crate) fn end_by(routes: &[Route], links: &[Option<LoadedLink>], link: LinkId, horizon: Q) -> Q
     ensures { result ≡ end_by horizon (all_pairs (routes_of routes.now)) links.now link }
 {
     let mut end = horizon;

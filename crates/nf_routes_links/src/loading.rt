@@ -9,9 +9,9 @@ ghost use Rattle.nf_routes_def.specs.Routes.{AreRoutes, HoldCircle};
 ghost use Rattle.nf_routes_def.specs.RoutesList as lists;
 ghost use Rattle.nf_routes_def.specs.RoutesFile.{routes_of};
 ghost use Rattle.nf_routes_links.specs.Keeping.{all_kept};
-ghost use Rattle.nf_routes_links.specs.Standing.{seen_so_far, MayLoad, IsComplete};
+ghost use Rattle.nf_routes_links.specs.Standing.{seen_so_far, MayLoad, IsFullyLoaded};
 
-use crate::ends::end_of;
+use crate::ends::end_by;
 use crate::entries::{begin_all, inflow_of, send_all_on};
 use crate::keeping::{Kept, keep};
 use crate::so_far::{LoadedLink, SoFar};
@@ -39,7 +39,7 @@ pub(crate) fn load_here(
         (slice_get net.now.net.links link))) }
 {
     let here = net.link(link);
-    let end = end_of(routes, &so_far.links, link, horizon);
+    let end = end_by(routes, &so_far.links, link, horizon);
     begin_all(alloc, routes, link, horizon, &mut so_far.entries)?;
     let inflow = inflow_of(alloc, routes, link, &so_far.entries)?;
     let loaded = load_link(alloc, here.transit, here.capacity, &inflow, end)?;
@@ -63,7 +63,7 @@ pub fn load_all(
     ensures list { Gives seen_so_far (λ q. q) result
         (at_part Load (all_kept passes_Q kept net.now.net (routes_of routes.now) horizon)) }
     ensures complete { IfOk result
-        (λ so_far. IsComplete net.now.net (routes_of routes.now) (seen_so_far so_far)) }
+        (λ so_far. IsFullyLoaded net.now.net (routes_of routes.now) (seen_so_far so_far)) }
 {
     // Proof: transit times and capacities are those of a network.
     net.recall();

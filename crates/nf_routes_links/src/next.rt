@@ -11,7 +11,7 @@ ghost use Rattle.nf_curve_def.specs.Sums.{sides_at as sides_by};
 ghost use Rattle.nf_curve.specs.Moments.{IsMoment};
 ghost use Rattle.nf_curve.specs.Sides.{sides_of};
 ghost use Rattle.nf_routes_def.specs.RoutesList.{next_from, next_entry as next_by};
-ghost use Rattle.nf_routes_laws.specs.Laws.{CanShare, IsNext};
+ghost use Rattle.nf_routes_laws.specs.Laws.{CanShare, IsSentOn};
 ghost use Rattle.nf_routes_links.specs.Amounts.{IsAmount, AreExits};
 ghost use Rattle.nf_routes_links.specs.Points.{right_point, AreKnown, AreThere};
 
@@ -144,7 +144,7 @@ pub(crate) fn next_entry(
     ensures known { AreKnown exit.now.points known.new.items }
     ensures amount { IfOk result (λ c. IsAmount c.points) }
     ensures next { (last : ℚ) → CanShare exit.now.points entry.now.points last
-        → IfOk result (λ c. IsNext exit.now.points entry.now.points last c.points) }
+        → IfOk result (λ c. IsSentOn exit.now.points entry.now.points last c.points) }
 {
     let sides = all_sides(alloc, entry.as_points(), exit.as_points(), known.as_slice())?;
     keep_exits(alloc, &sides, known)?;

@@ -20,16 +20,16 @@ abbrev pub Says : Result file.RoutesEntry RoutesRule → Result Entry (LineFault
 Says said result = MatchResult result (λ entry. said ≡ Ok (seen_entry entry)) (λ fault. IfRule fault (λ rule. said ≡ Err rule))
 
 -- a new route has no pieces, and the route of a piece is one of the first `routes`
-abbrev pub Fits : ℕ → Entry → Type 0
-Fits routes (Route route) = route.route.pieces ≡ []
-Fits routes (Rate place piece) = place < routes
-Fits routes End = Unit {0}
+abbrev pub FitsRoutes : ℕ → Entry → Type 0
+FitsRoutes routes (Route route) = route.route.pieces ≡ []
+FitsRoutes routes (Rate place piece) = place < routes
+FitsRoutes routes End = Unit {0}
 
 -- the links of a new route are among the first `links`
-abbrev pub HasLinks : ℕ → Entry → Type 0
-HasLinks links (Route route) = All (λ e. e < links) route.route.links
-HasLinks links (Rate place piece) = Unit {0}
-HasLinks links End = Unit {0}
+abbrev pub HasLinksBelow : ℕ → Entry → Type 0
+HasLinksBelow links (Route route) = All (λ e. e < links) route.route.links
+HasLinksBelow links (Rate place piece) = Unit {0}
+HasLinksBelow links End = Unit {0}
 
 -- the words name exactly these links
 pub record AreLinksOf (names : List Name) (words : List (List ℕ)) (links : List ℕ) : Type 0 where

@@ -3,7 +3,7 @@ ghost use Rattle.std.specs.Prelude.{◌≡◌, ◌<◌, length, Ok, Err, OnOk, M
 ghost use Rattle.nf_side.specs.Drafted.{open_frame};
 ghost use Rattle.nf_side.specs.Faults.{IfBroken};
 ghost use Rattle.nf_routes_def.specs.RoutesFile.{RouteLine, routes_rule_of, routes_after, routes_frame};
-ghost use Rattle.nf_routes_read.specs.Entries.{seen_entry, Fits, HasLinks};
+ghost use Rattle.nf_routes_read.specs.Entries.{seen_entry, FitsRoutes, HasLinksBelow};
 ghost use Rattle.nf_routes_def.specs.Kept.{AreSound};
 ghost use Rattle.nf_routes_read.specs.Drafts.{routes_closed};
 
@@ -69,8 +69,8 @@ impl Draft {
 
     // Returns the first of G10 to G15 that the entry breaks after the lines before it.
     fn rule(&self, net: &Network, entry: &Entry) -> Option<RoutesRule>
-        requires fits { Fits (length self.now.routes) entry.now }
-        requires links { HasLinks (length net.now.link_names) entry.now }
+        requires fits { FitsRoutes (length self.now.routes) entry.now }
+        requires links { HasLinksBelow (length net.now.link_names) entry.now }
         ensures { result ≡ routes_rule_of net.now.net self.now (seen_entry entry.now) }
     {
         match entry {
@@ -85,7 +85,7 @@ impl Draft {
     }
 
     fn add(&mut self, entry: Entry) -> Result<(), AllocError>
-        requires { Fits (length self.old.routes) entry }
+        requires { FitsRoutes (length self.old.routes) entry }
         ensures { OnOk result (self.new ≡ routes_after self.old (seen_entry entry)) }
     {
         match entry {

@@ -6,7 +6,7 @@ ghost use Rattle.nf_net_def.specs.Names.{has_name};
 ghost use Rattle.nf_side.specs.NameAt.{IsNameAt};
 ghost use Rattle.nf_routes_def.specs.declared.RoutesRule.TheVariants.{G8};
 ghost use Rattle.nf_routes_def.specs.RoutesFile.{route_names, route_line, rate_line, end_line, routes_entry};
-ghost use Rattle.nf_routes_read.specs.Entries.{AreLinksOf, NoLinks, Says, Fits, HasLinks};
+ghost use Rattle.nf_routes_read.specs.Entries.{AreLinksOf, NoLinks, Says, FitsRoutes, HasLinksBelow};
 
 use crate::route::Route;
 use nf_net::{LinkId, Network, Piece};
@@ -79,8 +79,8 @@ fn read_links(
 fn read_route(alloc: Global, net: &Network, line: &ReadLine) -> Result<Entry, LineFault<RoutesRule>>
     requires { 0 < length line.now.words }
     ensures says { Says (route_line net.now.link_names (drop 1 line.now.words)) result }
-    ensures fits { (routes : ℕ) → IfOk result (λ entry. Fits routes entry) }
-    ensures links { IfOk result (λ entry. HasLinks (length net.now.link_names) entry) }
+    ensures fits { (routes : ℕ) → IfOk result (λ entry. FitsRoutes routes entry) }
+    ensures links { IfOk result (λ entry. HasLinksBelow (length net.now.link_names) entry) }
 {
     if line.len() < 3 {
         return Err(LineFault::Broken(RoutesRule::G6));
@@ -98,8 +98,8 @@ fn read_route(alloc: Global, net: &Network, line: &ReadLine) -> Result<Entry, Li
 fn read_rate(routes: &[Route], line: &ReadLine) -> Result<Entry, LineFault<RoutesRule>>
     requires { 0 < length line.now.words }
     ensures says { Says (rate_line (route_names routes.now) (drop 1 line.now.words)) result }
-    ensures fits { IfOk result (λ entry. Fits (length routes.now) entry) }
-    ensures links { (links : ℕ) → IfOk result (λ entry. HasLinks links entry) }
+    ensures fits { IfOk result (λ entry. FitsRoutes (length routes.now) entry) }
+    ensures links { (links : ℕ) → IfOk result (λ entry. HasLinksBelow links entry) }
 {
     if line.len() != 4 {
         return Err(LineFault::Broken(RoutesRule::G6));
@@ -121,8 +121,8 @@ fn read_rate(routes: &[Route], line: &ReadLine) -> Result<Entry, LineFault<Route
 fn read_end(line: &ReadLine) -> Result<Entry, LineFault<RoutesRule>>
     requires { 0 < length line.now.words }
     ensures says { Says (end_line (drop 1 line.now.words)) result }
-    ensures fits { (routes : ℕ) → IfOk result (λ entry. Fits routes entry) }
-    ensures links { (links : ℕ) → IfOk result (λ entry. HasLinks links entry) }
+    ensures fits { (routes : ℕ) → IfOk result (λ entry. FitsRoutes routes entry) }
+    ensures links { (links : ℕ) → IfOk result (λ entry. HasLinksBelow links entry) }
 {
     if line.len() != 1 {
         return Err(LineFault::Broken(RoutesRule::G6));
@@ -140,8 +140,8 @@ pub fn read_entry(
 ) -> Result<Entry, LineFault<RoutesRule>>
     ensures says { Says
         (routes_entry net.now.link_names (route_names routes.now) line.now.words) result }
-    ensures fits { IfOk result (λ entry. Fits (length routes.now) entry) }
-    ensures links { IfOk result (λ entry. HasLinks (length net.now.link_names) entry) }
+    ensures fits { IfOk result (λ entry. FitsRoutes (length routes.now) entry) }
+    ensures links { IfOk result (λ entry. HasLinksBelow (length net.now.link_names) entry) }
 {
     if line.len() == 0 {
         return Err(LineFault::Broken(RoutesRule::G5));

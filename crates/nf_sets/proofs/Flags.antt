@@ -8,7 +8,7 @@ use Rattle.nf_rational_laws.proofs.Order.{≤ℚ_of_lt}
 use Rattle.nf_rational_laws.proofs.Tests.{test_of_le, lt_ℚ_cases}
 use Rattle.nf_model.specs.Entries.{Has}
 use Rattle.nf_model.specs.ThinFlow.{sets_of}
-use Rattle.nf_graph.specs.Sets.{AreSets}
+use Rattle.nf_graph.specs.Sets.{AreLinkSets}
 
 positive_is_active : (x : ℚ) → lt_ℚ 0ℚ x ≡ true → le_ℚ 0ℚ x ≡ true
 positive_is_active x e = ⊎_elim
@@ -28,5 +28,5 @@ resetting_is_active [] e h = absurd (cc)
 resetting_is_active (x ∷ slacks) zero h = ap (λ (b : Bool). Some b) (positive_is_active x (same_flag _ h))
 resetting_is_active (x ∷ slacks) (suc e) h = resetting_is_active slacks e h
 
-pub are_sets : (slacks : List ℚ) → AreSets (sets_of slacks)
+pub are_sets : (slacks : List ℚ) → AreLinkSets (sets_of slacks)
 are_sets slacks = record { count = same_count slacks; active = resetting_is_active slacks }

@@ -36,10 +36,10 @@ fn slack(labels: &[Q], hop: &Hop) -> Result<Q, PassedAt<Q>>
     Ok(slack)
 }
 
-/// Returns the slack of each link at labels of the nodes, in units of time. The slack is the label of the head, less the sum of the
-/// tail's label and the transit time. Both ends of each link must have a label. The operation sequence is `slack_list` in
+/// Returns the slack of each link at labels of the nodes, in units of time. The slack is the label of the head, less the sum of the tail's
+/// label and the transit time. Both ends of each link must have a label. The operation sequence is `slack_list` in
 /// nf_thin_def/specs/Slack.antt: for each link in order, the sum and then the difference. Returns `Passed` exactly if one of these
-/// operations passes: the first one, with the part Slack. Otherwise fails only if an allocation fails.
+/// operations passes: the first one, with the part Slack. Otherwise fails if an allocation fails.
 pub fn slacks(alloc: Global, hops: &[Hop], labels: &[Q]) -> Result<Vec<Q>, Halt<Q>>
     requires { AreBelow (length labels.now) hops.now }
     ensures list { Gives (λ slacks. slacks.items) (λ q. q) result
@@ -85,8 +85,7 @@ fn resetting_flags(alloc: Global, slacks: &[Q]) -> Result<Vec<bool>, AllocError>
         .collect(alloc)
 }
 
-/// Returns the active links, whose slacks are at least 0, and the resetting links, whose slacks are positive. Fails only if an allocation
-/// fails.
+/// Returns the active links, whose slacks are at least 0, and the resetting links, whose slacks are positive. Fails if an allocation fails.
 pub fn sets(alloc: Global, slacks: &[Q]) -> Result<LinkSets, AllocError>
     ensures { IfOk result (λ sets. sets ≡ sets_of slacks.now) }
 {

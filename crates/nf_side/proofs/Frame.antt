@@ -8,7 +8,7 @@ use Rattle.nf_text_def.specs.Faults.{LineFault as TextLineFault, NotAscii, LongL
 use Rattle.nf_text.specs.declared.TextFault.{TextFault}
 use Rattle.nf_text.specs.declared.fault.FileFault.{FileFault}
 use Rattle.nf_text.specs.declared.fault.LineFault.{LineFault}
-use Rattle.nf_text.specs.Reading.{Tells}
+use Rattle.nf_text.specs.Reading.{MatchesFault}
 use Rattle.nf_text.specs.Faults.{IfRule, fault_in_line, fault_of_text}
 use Rattle.nf_side_def.specs.Lines.{is_head}
 use Rattle.nf_side_def.specs.Frame.{Broken, Frame, in_line, add_lines, draft_of, by_bytes, file_in}
@@ -109,11 +109,11 @@ module _ {Rule Draft : Type 0} (frame : Frame Rule Draft Draft) (text : List ℕ
   by_fault fault = by_bytes frame fault (draft_of frame (content_lines (read_lines text)))
 
   -- a line with a fault
-  pub text_refused : (head : FileHead Rule) → IsHeadOf frame head → (fault : TextFault) (answer : FileFault Rule) → answer ≡ fault_of_text head.not_ascii head.long_line fault → Tells fault (first_fault text)
+  pub text_refused : (head : FileHead Rule) → IsHeadOf frame head → (fault : TextFault) (answer : FileFault Rule) → answer ≡ fault_of_text head.not_ascii head.long_line fault → MatchesFault fault (first_fault text)
       → IfBroken answer (λ broken. drafted_in frame text ≡ Err broken)
   text_refused head of_frame fault answer e tells = subst (λ (f : FileFault Rule). IfBroken f (λ broken. drafted_in frame text ≡ Err broken)) (sym e) (at fault tells)
     where
-      at : (fault : TextFault) → Tells fault (first_fault text) → IfBroken (fault_of_text head.not_ascii head.long_line fault) (λ broken. drafted_in frame text ≡ Err broken)
+      at : (fault : TextFault) → MatchesFault fault (first_fault text) → IfBroken (fault_of_text head.not_ascii head.long_line fault) (λ broken. drafted_in frame text ≡ Err broken)
       at (TextFault.NotAscii line) e = ap by_fault e ∙ ap (λ (r : Rule). Err (record { rule = r; line = line })) (sym of_frame.not_ascii)
       at (TextFault.LongLine line) e = ap by_fault e ∙ ap (λ (r : Rule). Err (record { rule = r; line = line })) (sym of_frame.long_line)
       at TextFault.Memory e = tt

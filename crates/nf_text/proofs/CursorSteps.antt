@@ -6,7 +6,7 @@ use Rattle.nf_text_def.specs.Lines.{TextLine, lines_from}
 use Rattle.nf_text_def.specs.Words.{ReadLine, read_line}
 use Rattle.nf_text_def.specs.Faults.{LineFault, line_fault, first_fault_of}
 use Rattle.nf_text.specs.declared.TextFault.{TextFault}
-use Rattle.nf_text.specs.Reading.{whole_len, first_line, Tells}
+use Rattle.nf_text.specs.Reading.{whole_len, first_line, MatchesFault}
 use Rattle.nf_text.proofs.FirstLines.{lines_first}
 use Rattle.nf_text.proofs.LineSteps.{tells_or}
 
@@ -21,9 +21,9 @@ module _ (text : List ℕ) (start n : ℕ) (within : start < length text) (left 
   left_faults : first_fault_of left ≡ option_or (line_fault first) (first_fault_of (lines_from (n + 1) (drop (start + whole_len (drop start text)) text)))
   left_faults = ap first_fault_of these_lines
 
-  pub next_faulty : (fault : TextFault) → Tells fault (line_fault first) → Tells fault (first_fault_of left)
+  pub next_faulty : (fault : TextFault) → MatchesFault fault (line_fault first) → MatchesFault fault (first_fault_of left)
   next_faulty fault h =
-      subst (Tells fault) (sym left_faults) (tells_or fault (line_fault first) (first_fault_of (lines_from (n + 1) (drop (start + whole_len (drop start text)) text))) h)
+      subst (MatchesFault fault) (sym left_faults) (tells_or fault (line_fault first) (first_fault_of (lines_from (n + 1) (drop (start + whole_len (drop start text)) text))) h)
 
   module _ (next : ℕ) (is : next ≡ start + whole_len (drop start text)) where
     pub next_read : (line : ReadLine) → line ≡ read_line first → map read_line left ≡ line ∷ map read_line (lines_from (n + 1) (drop next text))

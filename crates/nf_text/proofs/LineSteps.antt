@@ -12,7 +12,7 @@ use Rattle.nf_text_def.specs.Faults.{LineFault, line_fault, first_fault_of}
 use Rattle.nf_text.specs.declared.Line.{Line}
 use Rattle.nf_text.specs.declared.TextFault.{TextFault}
 use Rattle.nf_text.specs.Spans.{Rise}
-use Rattle.nf_text.specs.Reading.{seen_line, spans_of, WordsAreIn, Tells, whole_len, first_line}
+use Rattle.nf_text.specs.Reading.{seen_line, spans_of, WordsAreIn, MatchesFault, whole_len, first_line}
 use Rattle.nf_text.proofs.Extents.{lines_from-first}
 use Rattle.nf_text.proofs.Parts.{Rise-append, Rise_within, Rise_front, Rise_back}
 
@@ -45,19 +45,19 @@ step_fault text first before n after start next h b a e none f =
     ∙ ap (λ o. option_or o (first_fault_of (lines_from (n + 1) (drop next text)))) none
     ∙ ap (λ n. first_fault_of (lines_from n (drop next text))) (sym a)
 
-pub tells_or : (fault : TextFault) (o p : Option LineFault) → Tells fault o → Tells fault (option_or o p)
+pub tells_or : (fault : TextFault) (o p : Option LineFault) → MatchesFault fault o → MatchesFault fault (option_or o p)
 tells_or (TextFault.NotAscii line) o p h = ap (λ o. option_or o p) h
 tells_or (TextFault.LongLine line) o p h = ap (λ o. option_or o p) h
 tells_or TextFault.Memory o p h = tt
 
-tells_same : (fault : TextFault) (o p : Option LineFault) → p ≡ o → Tells fault o → Tells fault p
+tells_same : (fault : TextFault) (o p : Option LineFault) → p ≡ o → MatchesFault fault o → MatchesFault fault p
 tells_same (TextFault.NotAscii line) o p e h = e ∙ h
 tells_same (TextFault.LongLine line) o p e h = e ∙ h
 tells_same TextFault.Memory o p e h = tt
 
 pub stops_at_fault : (text : List ℕ) (first : Option LineFault) (fault : TextFault) (before n start : ℕ)
-    → start < length text → before ≡ n → Tells fault (line_fault (first_line n (drop start text)))
-    → first ≡ first_fault_of (lines_from before (drop start text)) → Tells fault first
+    → start < length text → before ≡ n → MatchesFault fault (line_fault (first_line n (drop start text)))
+    → first ≡ first_fault_of (lines_from before (drop start text)) → MatchesFault fault first
 stops_at_fault text first fault before n start h b t f =
     let next : ℕ = start + whole_len (drop start text) in
     let left : first ≡ option_or (line_fault (first_line n (drop start text))) (first_fault_of (lines_from (n + 1) (drop next text))) =

@@ -7,7 +7,7 @@ use Rattle.std.proofs.lemmas.List.{drop_more, drop_all}
 use Rattle.std.proofs.lemmas.Bool.{lt-ltb}
 use Rattle.std.proofs.lemmas.Slice.Eq.{bytes_eq-Decides}
 use Rattle.nf_text.specs.declared.Span.{Span}
-use Rattle.nf_text.specs.Spans.{text_of, between, space_before, GoesOn}
+use Rattle.nf_text.specs.Spans.{text_of, between, space_before, ComparesPrefix}
 use Rattle.nf_text.proofs.Parts.{drop-between}
 
 and-assoc : (a b c : Bool) → ((a && b) && c) ≡ (a && (b && c))
@@ -85,7 +85,7 @@ words_left-all words (suc n) h = ap (flat_map (λ w. 32 ∷ w)) (drop_all (suc n
 -- ---- the steps of the loop over the words
 -- the next word is there, with its space
 pub plain_step : (whole : Bool) (text : List ℕ) (end : ℕ) (line : List ℕ) (words : List (List ℕ)) (i : ℕ) (d w : List ℕ) (next : ℕ) → i < length words
-    → w ≡ get_or words i d → GoesOn text end line (space_before (nat_lt 0 i) w) (Some next)
+    → w ≡ get_or words i d → ComparesPrefix text end line (space_before (nat_lt 0 i) w) (Some next)
     → whole ≡ bytes_eq line (words_left words i ++ 10 ∷ []) → whole ≡ bytes_eq (between text next end) (words_left words (i + 1) ++ 10 ∷ [])
 plain_step whole text end line words i d w next h k g e = e ∙ ap (λ t. bytes_eq line (t ++ 10 ∷ [])) (words_left-step words i d h)
     ∙ ap (bytes_eq line) (append_assoc (space_before (nat_lt 0 i) (get_or words i d)) (words_left words (i + 1)) (10 ∷ []))
@@ -93,7 +93,7 @@ plain_step whole text end line words i d w next h k g e = e ∙ ap (λ t. bytes_
 
 -- or it isn't
 pub plain_stop : (whole : Bool) (text : List ℕ) (end : ℕ) (line : List ℕ) (words : List (List ℕ)) (i : ℕ) (d w : List ℕ) → i < length words
-    → w ≡ get_or words i d → GoesOn text end line (space_before (nat_lt 0 i) w) None
+    → w ≡ get_or words i d → ComparesPrefix text end line (space_before (nat_lt 0 i) w) None
     → whole ≡ bytes_eq line (words_left words i ++ 10 ∷ []) → false ≡ whole
 plain_stop whole text end line words i d w h k g e = sym (e ∙ ap (λ t. bytes_eq line (t ++ 10 ∷ [])) (words_left-step words i d h)
     ∙ ap (bytes_eq line) (append_assoc (space_before (nat_lt 0 i) (get_or words i d)) (words_left words (i + 1)) (10 ∷ []))

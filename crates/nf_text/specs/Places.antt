@@ -5,7 +5,7 @@ use Rattle.nf_text_def.specs.Lines.{TextLine}
 use Rattle.nf_text_def.specs.Faults.{longest_text}
 
 -- a line of this number begins at this place of a text
-pub record IsPlace (text : List ℕ) (start line_number : ℕ) : Type 0 where
+pub record IsLineStart (text : List ℕ) (start line_number : ℕ) : Type 0 where
   pub within : start ≤ length text
   pub small : length text ≤ longest_text
   pub number : line_number ≤ start + 1

@@ -20,11 +20,11 @@ spans_of lines = flat_map (λ line. line.words.items) lines
 abbrev pub WordsAreIn : List ℕ → Line → Type 0
 WordsAreIn text line = All (λ span. span.start + span.len ≤ length text) line.words.items
 
--- the fault that is answered is the one that there is, unless memory is wanting
-abbrev pub Tells : TextFault → Option LineFault → Type 0
-Tells (TextFault.NotAscii line) fault = fault ≡ Some (NotAscii line)
-Tells (TextFault.LongLine line) fault = fault ≡ Some (LongLine line)
-Tells TextFault.Memory fault = Unit {0}
+-- the fault that is answered is the one that there is, unless an allocation failed
+abbrev pub MatchesFault : TextFault → Option LineFault → Type 0
+MatchesFault (TextFault.NotAscii line) fault = fault ≡ Some (NotAscii line)
+MatchesFault (TextFault.LongLine line) fault = fault ≡ Some (LongLine line)
+MatchesFault TextFault.Memory fault = Unit {0}
 
 -- ---- the first line of a text that isn't empty
 -- its bytes before the LF, or all

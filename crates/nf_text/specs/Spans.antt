@@ -23,6 +23,6 @@ between text start end = take (end - start) (drop start text)
 
 -- the line, a part of a text, begins with these bytes and goes on at a place of the text, or it doesn't begin with them: told by what
 -- comparisons answer
-abbrev pub GoesOn : List ℕ → ℕ → List ℕ → List ℕ → Option ℕ → Type 0
-GoesOn text end line front next = (tail : List ℕ)
+abbrev pub ComparesPrefix : List ℕ → ℕ → List ℕ → List ℕ → Option ℕ → Type 0
+ComparesPrefix text end line front next = (tail : List ℕ)
     → MatchOption next (bytes_eq line (front ++ tail) ≡ false) (λ n. bytes_eq line (front ++ tail) ≡ bytes_eq (between text n end) tail)

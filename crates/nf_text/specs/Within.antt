@@ -3,7 +3,7 @@ use Rattle.std.specs.Prelude.{ℕ, ◌+◌, ◌≤◌, List, [], length, slice_g
 use Rattle.nf_text.specs.declared.Span.{Span}
 
 -- each word lies in the bytes
-pub record AreWithin (bytes : List ℕ) (spans : List Span) : Type 0 where
+pub record LieWithin (bytes : List ℕ) (spans : List Span) : Type 0 where
   pub each : All (λ (span : Span). span.start + span.len ≤ length bytes) spans
 
 abbrev pub word_at : List (List ℕ) → ℕ → List ℕ

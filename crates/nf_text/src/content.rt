@@ -2,7 +2,7 @@
 ghost use Rattle.std.specs.Prelude.{◌≡◌, ◌≤◌, [], ◌∷◌, ◌++◌, length, None, IfOk, IfErr, OnOk};
 ghost use Rattle.nf_text_def.specs.Words.{read_lines, content_lines};
 ghost use Rattle.nf_text_def.specs.Faults.{first_fault, longest_text};
-ghost use Rattle.nf_text.specs.Reading.{Tells};
+ghost use Rattle.nf_text.specs.Reading.{MatchesFault};
 
 use crate::{Cursor, ReadLine, TextFault};
 use std::alloc::{AllocError, Global};
@@ -23,7 +23,7 @@ pub fn contents<'a>(alloc: Global, text: &'a [u8]) -> Result<Vec<ReadLine<'a>>, 
     requires { length text.now ≤ longest_text }
     ensures lines { IfOk result (λ lines. lines.items ≡ content_lines (read_lines text.now)) }
     ensures none { OnOk result (first_fault text.now ≡ None) }
-    ensures fault { IfErr result (λ fault. Tells fault (first_fault text.now)) }
+    ensures fault { IfErr result (λ fault. MatchesFault fault (first_fault text.now)) }
 {
     let mut cursor = Cursor::new(text);
     let mut lines = Vec::new(alloc);

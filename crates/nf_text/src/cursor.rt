@@ -3,7 +3,7 @@ ghost use Rattle.std.specs.Prelude.{◌≡◌, ◌≤◌, [], ◌∷◌, length,
 ghost use Rattle.nf_text_def.specs.Lines.{lines as lines_of};
 ghost use Rattle.nf_text_def.specs.Words.{read_line as as_read};
 ghost use Rattle.nf_text_def.specs.Faults.{first_fault_of, longest_text};
-ghost use Rattle.nf_text.specs.Reading.{Tells};
+ghost use Rattle.nf_text.specs.Reading.{MatchesFault};
 
 use crate::TextFault;
 use crate::cursor_line::ReadLine;
@@ -23,7 +23,7 @@ impl<'a> Model for Cursor<'a> {
     ghost use Rattle.std.specs.Prelude.{List, drop};
     ghost use Rattle.std.specs.Coded.{coded_list};
     ghost use Rattle.nf_text_def.specs.Lines.{TextLine, lines_from};
-    ghost use Rattle.nf_text.specs.Places.{IsPlace, coded_text_line};
+    ghost use Rattle.nf_text.specs.Places.{IsLineStart, coded_text_line};
 
     ghost Value = { List TextLine };
 
@@ -31,7 +31,7 @@ impl<'a> Model for Cursor<'a> {
 
     ghost view = { λ c. lines_from c.line_number (drop c.start c.text.now) };
 
-    ghost invariant = { λ c. IsPlace c.text.now c.start c.line_number };
+    ghost invariant = { λ c. IsLineStart c.text.now c.start c.line_number };
 }
 
 impl<'a> Cursor<'a> {
@@ -55,7 +55,7 @@ impl<'a> Cursor<'a> {
         ensures fine { IfOk result
             (λ next. MatchOption next (self.new ≡ self.old)
             (λ line. first_fault_of self.old ≡ first_fault_of self.new)) }
-        ensures fault { IfErr result (λ fault. Tells fault (first_fault_of self.old)) }
+        ensures fault { IfErr result (λ fault. MatchesFault fault (first_fault_of self.old)) }
         ensures kept { OnErr result (self.new ≡ self.old) }
     {
         if self.start == self.text.len() {

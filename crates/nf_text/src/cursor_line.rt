@@ -2,7 +2,7 @@
 ghost use Rattle.std.specs.Prelude.{◌≡◌, ◌<◌, length, map};
 ghost use Rattle.std.specs.Str.{bytes_eq};
 ghost use Rattle.nf_text.specs.Spans.{text_of};
-ghost use Rattle.nf_text.specs.Within.{AreWithin, word_at};
+ghost use Rattle.nf_text.specs.Within.{LieWithin, word_at};
 
 use crate::Span;
 use crate::sameness::is_same;
@@ -21,19 +21,19 @@ impl<'a> Model for ReadLine<'a> {
     ghost use Rattle.std.specs.Prelude.{map};
     ghost use Rattle.nf_text_def.specs.Words.{ReadLine as SeenLine};
     ghost use Rattle.nf_text.specs.Spans.{text_of};
-    ghost use Rattle.nf_text.specs.Within.{AreWithin};
+    ghost use Rattle.nf_text.specs.Within.{LieWithin};
 
     ghost Value = { SeenLine };
 
     ghost view = { λ l. record { number = l.line_number; plain = l.is_plain; words = map (text_of l.bytes.now) l.spans.items } };
 
-    ghost invariant = { λ l. AreWithin l.bytes.now l.spans.items };
+    ghost invariant = { λ l. LieWithin l.bytes.now l.spans.items };
 }
 
 impl<'a> ReadLine<'a> {
     // Makes the line of these words, which must lie within `bytes`.
     pub(crate) fn new(number: u32, plain: bool, bytes: &'a [u8], spans: Vec<Span>) -> ReadLine<'a>
-        requires { AreWithin bytes.now spans.items }
+        requires { LieWithin bytes.now spans.items }
         ensures { result
             ≡ record { number = number; plain = plain; words = map (text_of bytes.now) spans.items } }
     {

@@ -5,7 +5,7 @@
 ghost use Rattle.std.specs.Prelude.{◌≡◌, ◌+◌, ◌≤◌, length, map, All, None, IfOk, IfErr, OnOk};
 ghost use Rattle.nf_text_def.specs.Words.{read_lines};
 ghost use Rattle.nf_text_def.specs.Faults.{first_fault, longest_text};
-ghost use Rattle.nf_text.specs.Reading.{seen_line, spans_of, WordsAreIn, Tells};
+ghost use Rattle.nf_text.specs.Reading.{seen_line, spans_of, WordsAreIn, MatchesFault};
 ghost use Rattle.nf_text.specs.Spans.{text_of, Rise};
 ghost use Rattle.nf_text.specs.declared.TextFault.TheVariants as TextFault;
 
@@ -99,7 +99,7 @@ pub fn lines(alloc: Global, text: &[u8]) -> Result<Vec<Line>, TextFault>
     ensures rise { IfOk result (λ read. Rise 0 (length text.now) (spans_of read.items)) }
 
     ensures none { OnOk result (first_fault text.now ≡ None) }
-    ensures fault { IfErr result (λ fault. Tells fault (first_fault text.now)) }
+    ensures fault { IfErr result (λ fault. MatchesFault fault (first_fault text.now)) }
 {
     let mut lines = Vec::new(alloc);
     let mut start = 0;

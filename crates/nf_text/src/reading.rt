@@ -5,7 +5,7 @@ ghost use Rattle.nf_text_def.specs.Lines.{lines_from};
 ghost use Rattle.nf_text_def.specs.Words.{read_line as as_read};
 ghost use Rattle.nf_text_def.specs.Faults.{is_allowed, fault_of, line_fault, longest_text};
 ghost use Rattle.nf_text.specs.Spans.{Rise};
-ghost use Rattle.nf_text.specs.Reading.{seen_line, WordsAreIn, Tells, bytes_len, whole_len, first_line};
+ghost use Rattle.nf_text.specs.Reading.{seen_line, WordsAreIn, MatchesFault, bytes_len, whole_len, first_line};
 
 use crate::places::{comment_start, line_len};
 use crate::words::{is_plain, spans};
@@ -31,7 +31,7 @@ fn is_text(bytes: &[u8]) -> bool
 
 fn check_line(bytes: &[u8], number: u32) -> Result<(), TextFault>
     ensures { MatchResult result (λ _. fault_of number bytes.now ≡ None)
-        (λ fault. Tells fault (fault_of number bytes.now)) }
+        (λ fault. MatchesFault fault (fault_of number bytes.now)) }
 {
     if !is_text(bytes) {
         return Err(TextFault::NotAscii { line: number });
@@ -94,7 +94,7 @@ pub fn read_line(
     ensures words { IfOk result (λ r. WordsAreIn text.now r.0) }
     ensures none { OnOk result (line_fault (first_line number (drop start text.now)) ≡ None) }
     ensures fault { IfErr result
-        (λ fault. Tells fault (line_fault (first_line number (drop start text.now)))) }
+        (λ fault. MatchesFault fault (line_fault (first_line number (drop start text.now)))) }
 {
     let extent = first_extent(&text[start..]);
     let bytes = &text[start..start + extent.bytes];

@@ -2,7 +2,7 @@
 ghost use Rattle.std.specs.Prelude.{◌≡◌, length, take};
 ghost use Rattle.std.specs.Str.{bytes_eq};
 
-/// Whether these are the same bytes. A loop, for speed: `==` takes some 190 instructions for a word of 6 bytes, measured.
+/// Returns whether two words have the same bytes. The loop is for speed: `==` takes about 190 instructions for a word of 6 bytes.
 pub fn is_same(left: &[u8], right: &[u8]) -> bool
     ensures { result ≡ bytes_eq left.now right.now }
 {
@@ -17,7 +17,7 @@ pub fn is_same(left: &[u8], right: &[u8]) -> bool
     true
 }
 
-/// Whether a line begins with these bytes.
+/// Returns whether a line begins with these bytes.
 pub fn begins_with(line: &[u8], front: &[u8]) -> bool
     ensures { result ≡ bytes_eq (take (length front.now) line.now) front.now }
 {

@@ -3,7 +3,7 @@ ghost use Rattle.std.specs.Prelude.{◌≡◌, ◌+◌, ◌-◌, ◌<◌, ◌≤
 ghost use Rattle.std.specs.List.{position_or_len, slice_split};
 ghost use Rattle.std.specs.Str.{bytes_eq};
 ghost use Rattle.nf_text_def.specs.Words.{is_blank, parts_with_bytes, line_of_words, without_comment};
-ghost use Rattle.nf_text.specs.Spans.{text_of, between, Rise, space_before, GoesOn};
+ghost use Rattle.nf_text.specs.Spans.{text_of, between, Rise, space_before, ComparesPrefix};
 
 use crate::Span;
 use crate::places::word_len;
@@ -41,7 +41,7 @@ pub fn spans(alloc: Global, text: &[u8], start: usize, end: usize) -> Result<Vec
 fn after_space(text: &[u8], at: usize, end: usize) -> Option<usize>
     requires ordered { at ≤ end }
     requires within { end ≤ length text.now }
-    ensures goes_on { GoesOn text.now end (between text.now at end) (32 ∷ []) result }
+    ensures goes_on { ComparesPrefix text.now end (between text.now at end) (32 ∷ []) result }
     ensures within { IfSome result (λ next. next ≤ end) }
 {
     if at == end || text[at] != b' ' {
@@ -73,7 +73,7 @@ fn after(text: &[u8], at: usize, end: usize, word: Span) -> Option<usize>
     requires ordered { at ≤ end }
     requires within { end ≤ length text.now }
     requires word { word.start + word.len ≤ length text.now }
-    ensures goes_on { GoesOn text.now end (between text.now at end) (text_of text.now word) result }
+    ensures goes_on { ComparesPrefix text.now end (between text.now at end) (text_of text.now word) result }
     ensures within { IfSome result (λ next. next ≤ end) }
 {
     if has_word(text, at, end, word) {
@@ -88,7 +88,7 @@ fn after_word(text: &[u8], at: usize, end: usize, word: Span, spaced: bool) -> O
     requires ordered { at ≤ end }
     requires within { end ≤ length text.now }
     requires word { word.start + word.len ≤ length text.now }
-    ensures goes_on { GoesOn text.now end (between text.now at end)
+    ensures goes_on { ComparesPrefix text.now end (between text.now at end)
         (space_before spaced (text_of text.now word)) result }
     ensures within { IfSome result (λ next. next ≤ end) }
 {

@@ -4,7 +4,7 @@ ghost use Rattle.nf_text_def.specs.Words.{line_of_words};
 
 use std::alloc::AllocError;
 
-/// Appends the bytes. Fails only if an allocation fails.
+/// Appends the bytes. Fails if an allocation fails.
 pub fn push_bytes(text: &mut Vec<u8>, bytes: &[u8]) -> Result<(), AllocError>
     ensures { OnOk result (text.new.items ≡ text.old.items ++ bytes.now) }
 {
@@ -12,7 +12,7 @@ pub fn push_bytes(text: &mut Vec<u8>, bytes: &[u8]) -> Result<(), AllocError>
     Ok(())
 }
 
-/// Appends a space and the word. Fails only if an allocation fails.
+/// Appends a space and the word. Fails if an allocation fails.
 pub fn push_word(text: &mut Vec<u8>, word: &[u8]) -> Result<(), AllocError>
     ensures { OnOk result (text.new.items ≡ text.old.items ++ 32 ∷ word.now) }
 {
@@ -32,7 +32,7 @@ fn push_words(text: &mut Vec<u8>, words: &[&[u8]]) -> Result<(), AllocError>
     Ok(())
 }
 
-/// Appends the line of the words. Fails only if an allocation fails.
+/// Appends the line of the words. Fails if an allocation fails.
 pub fn push_line(text: &mut Vec<u8>, first: &[u8], words: &[&[u8]]) -> Result<(), AllocError>
     ensures { OnOk result (text.new.items
         ≡ text.old.items ++ line_of_words (first.now ∷ map (λ w. w.now) words.now)) }

@@ -1,6 +1,6 @@
 // Forced states of links: patterns with and without them, and the link sets without the forced links.
 ghost use Rattle.std.specs.Prelude.{◌≡◌, length, List, Bool, IfOk};
-ghost use Rattle.nf_graph.specs.Sets.{AreSets};
+ghost use Rattle.nf_graph.specs.Sets.{AreLinkSets};
 ghost use Rattle.nf_thin_laws.specs.Forcing.{entrywise, free_state as free_state_of, given_state as given_state_of, still_active as still_active_of, now_resetting as now_resetting_of, left_of, filled, sets_left, IsForcing};
 
 use nf_graph::{LinkId, LinkSets};
@@ -95,7 +95,7 @@ pub(crate) fn left_sets(
     links: u32,
 ) -> Result<LinkSets, AllocError>
     requires links { length sets.now.active ≡ links }
-    requires sets { AreSets sets.now }
+    requires sets { AreLinkSets sets.now }
     requires forcing { (unbounded : List Bool) × IsForcing sets.now unbounded forced.now }
     ensures { IfOk result (λ left. left ≡ sets_left forced.now sets.now) }
 {

@@ -3,7 +3,7 @@ ghost use Rattle.std.specs.Prelude.{◌≡◌, length, IfOk};
 ghost use Rattle.nf_model.specs.Network.{hops as hops_of};
 ghost use Rattle.nf_model.specs.Pattern.{IsPattern};
 ghost use Rattle.nf_graph.specs.Graph.{AreBelow};
-ghost use Rattle.nf_graph.specs.Sets.{AreSets};
+ghost use Rattle.nf_graph.specs.Sets.{AreLinkSets};
 ghost use Rattle.nf_pattern.specs.Given.{AtStart};
 ghost use Rattle.nf_thin_laws.specs.Forcing.{IsForcing};
 ghost use Rattle.nf_thin_narrow.specs.Asking.{question_left};
@@ -29,7 +29,7 @@ pub fn narrow_listing(
     requires resetting { length sets.now.resetting ≡ length net.now.net.links }
     requires unbounded { length unbounded.now ≡ length net.now.net.links }
     requires base { IsPattern sets.now unbounded.now base.now }
-    requires sets { AreSets sets.now }
+    requires sets { AreLinkSets sets.now }
     requires forcing { IsForcing sets.now unbounded.now forced.now }
     ensures { IfOk result (λ patterns. patterns ≡ record {
       question = question_left forced.now (record {

@@ -10,7 +10,7 @@ pub struct File {
 }
 
 impl File {
-    /// A file with no bytes.
+    /// Returns a file with no bytes.
     pub fn new(alloc: Global, name: &str) -> Result<File, AllocError> {
         Ok(File {
             name: name.to_owned(alloc)?,

@@ -8,7 +8,7 @@ use nf_net::text;
 use std::alloc::{AllocError, Global};
 use std::io;
 
-// The number and the rungs of a line.
+// Returns the number and the rungs that a line asks for.
 fn asked(line: &str) -> Option<(u64, u32)> {
     let (number, rungs) = line.split_once(' ')?;
     Some((number.parse().ok()?, rungs.parse().ok()?))
@@ -22,7 +22,7 @@ fn ladder(alloc: Global, number: u64, rungs: u32) -> Result<Vec<u8>, AllocError>
     text(alloc, &net)
 }
 
-// The text of a ladder.
+// Prints the text of a ladder.
 fn tell_ladder(rt: &HostRuntime, number: u64, rungs: u32) -> io::Result<()>
     requires some { 1 ≤ rungs }
     requires few { rungs ≤ most_rungs }

@@ -3,7 +3,7 @@ use Rattle.std.specs.Prelude.{Option, Some, None, is_some}
 use Rattle.nf_rational.specs.Rational.{ℚ}
 use Rattle.nf_net_def.specs.declared.Cause.{Cause}
 use Rattle.std.proofs.lemmas.List.{length-map}
-use Rattle.nf_phase.specs.Solution.{IsSolution, bounds_of, report_in}
+use Rattle.nf_phase.specs.Solution.{IsRunSolution, bounds_of, report_in}
 use Rattle.library_callers.proofs.Arriving.{arrives, stops}
 use Rattle.library_callers.proofs.phase.arrival_after.Goals as goal
 

@@ -1,7 +1,7 @@
 use Rattle.std.proofs.Common.{◌≡◌, sym, subst}
 use Rattle.nf_net_def.specs.Report.{Report, IsWellFormed}
 use Rattle.nf_model.specs.Equilibrium.{Equilibrium, label}
-use Rattle.nf_report_read.specs.Files.{report_of}
+use Rattle.nf_report_read.specs.Files.{seen_report}
 use Rattle.library_callers.proofs.resume.continued.Goals as goal
 
 pub returns-in-Ok-clause-formed : goal.returns-in-Ok-clause-formed
@@ -12,4 +12,4 @@ returns-in-Ok-clause-equilibrium c = subst (λ (r : Report). Equilibrium c.args.
 
 pub returns-in-Ok-clause-arrivals : goal.returns-in-Ok-clause-arrivals
 returns-in-Ok-clause-arrivals c = λ v departure node within.
-    subst (λ (r : Report). label r.flow v departure ≡ label (report_of c.args.report.now).flow v departure) (sym c.report_to.ensures) (c.in-Ok.ensures.goes_on.labels v departure node within)
+    subst (λ (r : Report). label r.flow v departure ≡ label (seen_report c.args.report.now).flow v departure) (sym c.report_to.ensures) (c.in-Ok.ensures.goes_on.labels v departure node within)

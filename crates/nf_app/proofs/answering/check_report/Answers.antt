@@ -4,7 +4,7 @@ use Rattle.std.proofs.lemmas.List.{length-map}
 use Rattle.std.proofs.lemmas.Result.{err_from_is_err_and}
 use Rattle.nf_curve.specs.Flows.{trace_of}
 use Rattle.nf_report_def.specs.ReportFile.{report_in}
-use Rattle.nf_report_read.specs.Files.{IfBroken, report_of}
+use Rattle.nf_report_read.specs.Files.{IfBroken, seen_report}
 use Rattle.nf_app.proofs.CheckResult.{report_refused, checking_stopped, verdict_given}
 use Rattle.nf_app.proofs.answering.check_report.Goals as goal
 
@@ -47,12 +47,12 @@ returns-in_err-report c file name =
 pub returns-in_err-verdict : goal.returns-in_err-verdict
 returns-in_err-verdict c file name =
     let p = err_from_is_err_and c.from_residual-in_err-verdict.result c.from_residual-in_err-verdict.ensures.1 in
-    rw (p.1, p.2) (checking_stopped c.args.net.now c.recall.ensures file name c.args.text.items (report_of c.in_ok-report.report)
+    rw (p.1, p.2) (checking_stopped c.args.net.now c.recall.ensures file name c.args.text.items (seen_report c.in_ok-report.report)
     (ap (report_in c.args.net.now) (sym c.deref.ensures.value) ∙ c.in_ok-report.ensures.reads) c.in_err-verdict.field-0.0 c.in_err-verdict.ensures.list)
 
 pub returns : goal.returns
 returns c file name = (
-  verdict_given c.args.net.now c.recall.ensures file name c.args.text.items (report_of c.in_ok-report.report)
+  verdict_given c.args.net.now c.recall.ensures file name c.args.text.items (seen_report c.in_ok-report.report)
       (ap (report_in c.args.net.now) (sym c.deref.ensures.value) ∙ c.in_ok-report.ensures.reads) c.in_ok-verdict.verdict c.in_ok-verdict.ensures.list c.in_ok-verdict.ensures.rules c.in_ok-verdict.ensures.exact,
   tt,
 )

@@ -5,7 +5,7 @@ use Rattle.nf_frac_words.specs.Printed.{printed}
 use Rattle.nf_net_def.specs.Report.{for_each}
 use Rattle.nf_load.specs.Loadings.{loaded_of}
 use Rattle.nf_routes_def.specs.RoutesText.{link_curve_lines, route_lines, routed_lines}
-use Rattle.nf_routes.specs.Carried.{with_entries}
+use Rattle.nf_routes.specs.Carried.{with_kept_entries}
 use Rattle.nf_report_pages.specs.Written.{Line}
 use Rattle.nf_report_pages.proofs.Written.{wrote_next, wrote_failed, wrote_then_failed, same_lines}
 use Rattle.nf_app_answers.proofs.RouteLines.{links_told}
@@ -23,7 +23,7 @@ write_routes-requires-clause-travels g c = c.requires.travels
 pub returns-in_err-write_head : goal.returns-in_err-write_head
 returns-in_err-write_head g c =
     let head = (codes "routed" ∷ codes "1" ∷ []) ∷ (codes "horizon" ∷ printed c.args.horizon ∷ []) ∷ [] in
-    let routed = with_entries [] c.args.routed.now in
+    let routed = with_kept_entries [] c.args.routed.now in
     let links = for_each (length c.args.net.now.net.links) (link_curve_lines c.args.net.now routed) in
     let routes = for_each (length c.args.routes.now) (route_lines c.args.routes.now routed) in
     let end = (codes "end" ∷ []) ∷ [] in
@@ -33,7 +33,7 @@ returns-in_err-write_head g c =
 pub returns-in_err-write_links : goal.returns-in_err-write_links
 returns-in_err-write_links g c =
     let head = (codes "routed" ∷ codes "1" ∷ []) ∷ (codes "horizon" ∷ printed c.args.horizon ∷ []) ∷ [] in
-    let routed = with_entries [] c.args.routed.now in
+    let routed = with_kept_entries [] c.args.routed.now in
     let links = for_each (length c.args.net.now.net.links) (link_curve_lines c.args.net.now routed) in
     let routes = for_each (length c.args.routes.now) (route_lines c.args.routes.now routed) in
     let end = (codes "end" ∷ []) ∷ [] in
@@ -45,7 +45,7 @@ returns-in_err-write_links g c =
 pub returns-in_err-write_routes : goal.returns-in_err-write_routes
 returns-in_err-write_routes g c =
     let head = (codes "routed" ∷ codes "1" ∷ []) ∷ (codes "horizon" ∷ printed c.args.horizon ∷ []) ∷ [] in
-    let routed = with_entries [] c.args.routed.now in
+    let routed = with_kept_entries [] c.args.routed.now in
     let links = for_each (length c.args.net.now.net.links) (link_curve_lines c.args.net.now routed) in
     let routes = for_each (length c.args.routes.now) (route_lines c.args.routes.now routed) in
     let end = (codes "end" ∷ []) ∷ [] in
@@ -57,7 +57,7 @@ returns-in_err-write_routes g c =
 pub returns : goal.returns
 returns g c =
     let head = (codes "routed" ∷ codes "1" ∷ []) ∷ (codes "horizon" ∷ printed c.args.horizon ∷ []) ∷ [] in
-    let routed = with_entries [] c.args.routed.now in
+    let routed = with_kept_entries [] c.args.routed.now in
     let links = for_each (length c.args.net.now.net.links) (link_curve_lines c.args.net.now routed) in
     let routes = for_each (length c.args.routes.now) (route_lines c.args.routes.now routed) in
     let end = (codes "end" ∷ []) ∷ [] in

@@ -8,7 +8,7 @@ use Rattle.nf_routes_def.specs.RoutesFile.{NamedRoute, route_names}
 use Rattle.nf_routes_def.specs.RoutesList.{Routed}
 use Rattle.nf_routes_def.specs.Meanings.{arrival_at, travel_at}
 use Rattle.nf_routes_def.specs.RoutesText.{route_lines}
-use Rattle.nf_routes.specs.Carried.{with_entries}
+use Rattle.nf_routes.specs.Carried.{with_kept_entries}
 use Rattle.nf_report_pages.proofs.Parts.{each_next, each_left, each_all, points_there}
 use Rattle.nf_report_pages.proofs.Written.{wrote_next, wrote_then_failed, same_lines}
 use Rattle.nf_app_answers.proofs.routes_text.write_routes.Goals as goal
@@ -22,7 +22,7 @@ loop-route-preserved g c =
     let i = c.loop-route.route in
     let n = length c.args.routes.now in
     let below : i < n = omega arith in
-    let routed = with_entries [] c.args.routed.now in
+    let routed = with_kept_entries [] c.args.routed.now in
     let lines = route_lines c.args.routes.now routed in
     let here = same_route c.args.routes.now routed i _ _ _ (c.as_bytes-name.ensures.value ∙ c.name.ensures.value)
     (points_there c.args.routed.now.arrivals.items i c.index-arrival.result.now c.index-arrival.ensures (omega arith))
@@ -35,7 +35,7 @@ returns-in_err-write_route g c =
     let i = c.loop-route.route in
     let n = length c.args.routes.now in
     let below : i < n = omega arith in
-    let routed = with_entries [] c.args.routed.now in
+    let routed = with_kept_entries [] c.args.routed.now in
     let lines = route_lines c.args.routes.now routed in
     let here = same_route c.args.routes.now routed i _ _ _ (c.as_bytes-name.ensures.value ∙ c.name.ensures.value)
     (points_there c.args.routed.now.arrivals.items i c.index-arrival.result.now c.index-arrival.ensures (omega arith))
@@ -48,5 +48,5 @@ returns g c =
     let i = c.loop-route.route in
     let n = length c.args.routes.now in
     let end : i ≡ n = omega arith in
-    let lines = route_lines c.args.routes.now (with_entries [] c.args.routed.now) in
+    let lines = route_lines c.args.routes.now (with_kept_entries [] c.args.routed.now) in
     same_lines (flat_map lines (take i (range_with_len 0 n))) (for_each n lines) (each_all n lines i end) c.loop-route.invariant

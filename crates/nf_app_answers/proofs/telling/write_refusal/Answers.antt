@@ -9,7 +9,7 @@ use Rattle.nf_app_answers.proofs.telling.write_refusal.Goals as goal
 
 pub returns-in-Malformed : goal.returns-in-Malformed
 returns-in-Malformed g c = same_text _ _
-    (ap (λ (rule : List ℕ). broken_line (codes "network") c.in-Malformed.line rule) c.rule_text.ensures
+    (ap (λ (rule : List ℕ). broken_line (codes "network") c.in-Malformed.line rule) c.network_rule_text.ensures
     ∙ sym (ap (λ (r : Refusal). err_text (answer_of r)) c.in-Malformed.is)) c.write_broken.ensures
 
 pub returns-in-MalformedLoads : goal.returns-in-MalformedLoads

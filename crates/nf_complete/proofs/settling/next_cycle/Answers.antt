@@ -4,7 +4,7 @@ use Rattle.nf_model.specs.Entries.{Has}
 use Rattle.nf_model.specs.Walk.{Hop}
 use Rattle.nf_model.specs.Network.{hops}
 use Rattle.nf_model.specs.Pattern.{IsForest}
-use Rattle.nf_complete_cycles.specs.Cycles.{Closes}
+use Rattle.nf_complete_cycles.specs.Cycles.{ClosesFirst}
 use Rattle.nf_complete_conditions.proofs.Interiors.{flags_by_flows}
 use Rattle.nf_graph.proofs.NetworkHops.{hops_length, below_nodes}
 use Rattle.nf_net.proofs.Limits.{few_hops}
@@ -31,6 +31,6 @@ first_cycle-requires-clause-known c =
 
 pub returns : goal.returns
 returns c =
-    subst (λ (f : List Bool). IfOk c.first_cycle.result (λ found. MatchOption found (IsForest (hops c.args.net.now.net) (Has f)) (λ cycle. Closes (hops c.args.net.now.net) f cycle.last cycle.steps.items)))
+    subst (λ (f : List Bool). IfOk c.first_cycle.result (λ found. MatchOption found (IsForest (hops c.args.net.now.net) (Has f)) (λ cycle. ClosesFirst (hops c.args.net.now.net) f cycle.last cycle.steps.items)))
     (c.deref.ensures.value ∙ c.in_ok-interior.ensures)
-    (subst (λ (h : List Hop). IfOk c.first_cycle.result (λ found. MatchOption found (IsForest h (Has c.deref.result.now)) (λ cycle. Closes h c.deref.result.now cycle.last cycle.steps.items))) c.hops.ensures.value c.first_cycle.ensures)
+    (subst (λ (h : List Hop). IfOk c.first_cycle.result (λ found. MatchOption found (IsForest h (Has c.deref.result.now)) (λ cycle. ClosesFirst h c.deref.result.now cycle.last cycle.steps.items))) c.hops.ensures.value c.first_cycle.ensures)

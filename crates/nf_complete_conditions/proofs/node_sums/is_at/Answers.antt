@@ -2,15 +2,15 @@ use Rattle.std.proofs.Common.{ℕ, eqb, sym, ap, ◌∙◌}
 use Rattle.nf_model.specs.Network.{Link}
 use Rattle.nf_model_laws.proofs.Networks.{IsLink-unique}
 use Rattle.nf_complete_conditions.specs.declared.node_sums.End.{End}
-use Rattle.nf_complete_conditions.specs.NodeSums.{end_by}
+use Rattle.nf_complete_conditions.specs.NodeSums.{node_by}
 use Rattle.nf_complete_conditions.proofs.node_sums.is_at.Goals as goal
 
 pub returns-in-Head : goal.returns-in-Head
 returns-in-Head c = λ here p.
     c.eq.ensures ∙ ap (λ (k : ℕ). eqb k c.args.node) (ap (λ (l : Link). l.head) (c.here.view_is ∙ IsLink-unique c.args.net.now.net c.args.link c.link-here.result here c.link-here.ensures.link p))
-    ∙ ap (λ (e : End). eqb (end_by e here) c.args.node) (sym c.in-Head.is)
+    ∙ ap (λ (e : End). eqb (node_by e here) c.args.node) (sym c.in-Head.is)
 
 pub returns-in-Tail : goal.returns-in-Tail
 returns-in-Tail c = λ here p.
     c.eq-in-Tail.ensures ∙ ap (λ (k : ℕ). eqb k c.args.node) (ap (λ (l : Link). l.tail) (c.here.view_is ∙ IsLink-unique c.args.net.now.net c.args.link c.link-here.result here c.link-here.ensures.link p))
-    ∙ ap (λ (e : End). eqb (end_by e here) c.args.node) (sym c.in-Tail.is)
+    ∙ ap (λ (e : End). eqb (node_by e here) c.args.node) (sym c.in-Tail.is)

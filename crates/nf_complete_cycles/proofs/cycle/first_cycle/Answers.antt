@@ -5,7 +5,7 @@ use Rattle.nf_model.specs.Walk.{Hop, IsHop}
 use Rattle.nf_graph.proofs.Flags.{Has_from_read, not_Has_from_read}
 use Rattle.nf_graph.proofs.Walks.{IsHop-read}
 use Rattle.nf_complete_cycles.specs.Trees.{IsWay, AreApart}
-use Rattle.nf_complete_cycles.specs.Cycles.{IsClosed}
+use Rattle.nf_complete_cycles.specs.Cycles.{IsClosedTrail}
 use Rattle.nf_complete_cycles.proofs.Cycling.{AreBefore, before_first, before_same, before_more, before_known, forest_before, closed-way, forest-end}
 use Rattle.nf_complete_cycles.proofs.cycle.first_cycle.Goals.{then-chosen-e+then-e-known, else-chosen-e+then-chosen-e-2+in_ok-steps+in-None, else-chosen-e+else-chosen-e-2}
 use Rattle.nf_complete_cycles.proofs.cycle.first_cycle.Goals as goal
@@ -64,7 +64,7 @@ returns-in-Some c =
     subst (λ o. MatchOption o (AreApart c.args.hops.now c.deref.result.now c.hop.inside.tail c.hop.inside.head) (λ steps. IsWay c.args.hops.now c.deref.result.now c.hop.inside.tail c.hop.inside.head steps.items)) c.in-Some.is c.in_ok-steps.ensures in
     record {
       is_first = c.in_ok-steps-in-Some.ensures c.args.hops.now c.args.chosen.now
-          (subst (λ (s : List (ℕ × Bool)). IsClosed c.args.hops.now c.args.chosen.now s) (sym c.in_ok-push-in-Some.ensures.items)
+          (subst (λ (s : List (ℕ × Bool)). IsClosedTrail c.args.hops.now c.args.chosen.now s) (sym c.in_ok-push-in-Some.ensures.items)
           (closed-way c.args.hops.now c.args.chosen.now c.loop-e.e c.loop-e.before.items c.loop-e.invariant c.index-hops-e.result c.in-Some.steps.items p
           (Has_from_read c.args.chosen.now c.loop-e.e c.if-chosen-e-2.true)
           (subst (λ (h : Hop). IsWay c.args.hops.now c.loop-e.before.items h.tail h.head c.in-Some.steps.items) c.hop.view_is

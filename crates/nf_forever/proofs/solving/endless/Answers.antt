@@ -3,7 +3,7 @@ use Rattle.std.specs.Prelude.{Some, None}
 use Rattle.nf_model.specs.Equilibrium.{Flow}
 use Rattle.nf_model.specs.Pattern.{Pattern}
 use Rattle.nf_thin_def.specs.PhaseRun.{Standing, flow_of}
-use Rattle.nf_phase.specs.Stepping.{tail_of}
+use Rattle.nf_phase.specs.Stepping.{tail_by}
 use Rattle.nf_phase_def.specs.ToEnd.{Tail}
 use Rattle.nf_forever_def.specs.ForeverRun.{Forever, NeverEnds, forever_of}
 use Rattle.nf_forever.proofs.solving.endless.Goals as goal
@@ -16,4 +16,4 @@ told s flow phases last tail e f =
     ∙ ap (λ (n : ℕ). record { flow = flow_of s; phases = n; last = last; stop = None; tail = Some tail }) f
 
 pub returns : goal.returns
-returns c = told c.args.run.now _ c.phases-phases.result c.args.thin.pattern (tail_of c.args.thin) c.in_ok-flow.ensures c.phases-phases.ensures
+returns c = told c.args.run.now _ c.phases-phases.result c.args.thin.pattern (tail_by c.args.thin) c.in_ok-flow.ensures c.phases-phases.ensures

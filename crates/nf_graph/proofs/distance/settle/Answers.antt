@@ -4,14 +4,14 @@ use Rattle.std.proofs.lemmas.Option.{slice_get_within}
 use Rattle.std.proofs.lemmas.Result.{err_from_is_err_and}
 use Rattle.nf_rational.specs.Rational.{ℚ}
 use Rattle.nf_model.specs.Walk.{Hop, IsHop}
-use Rattle.nf_graph.specs.Distances.{HasSum, AreOffers, IsOpen, LinksBefore}
+use Rattle.nf_graph.specs.Distances.{HasSum, AreOffers, IsUnsettled, LinksBefore}
 use Rattle.nf_graph.proofs.Walks.{hop_at}
 use Rattle.nf_graph.proofs.Entries.{set_same}
 use Rattle.nf_graph.proofs.Offering.{offers_settled, offers_next, offers_all, stops_at}
 use Rattle.nf_graph.proofs.distance.settle.Goals as goal
 
 -- the node is settled with the sum that was written
-settled : (sums : List (Option ℚ)) (i v : ℕ) (sum : ℚ) → i ≡ v → IsOpen sums v → HasSum (set sums i (Some sum)) v sum
+settled : (sums : List (Option ℚ)) (i v : ℕ) (sum : ℚ) → i ≡ v → IsUnsettled sums v → HasSum (set sums i (Some sum)) v sum
 settled sums i v sum e o = subst (λ (k : ℕ). HasSum (set sums k (Some sum)) v sum) (sym e) (set_same sums v (Some sum) (slice_get_within sums v _ o))
 
 pub loop-e-init : goal.loop-e-init

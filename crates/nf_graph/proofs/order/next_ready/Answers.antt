@@ -1,7 +1,7 @@
 use Rattle.std.proofs.Common.{ℕ, ◌<◌, get_or, below_more, sym, subst}
 use Rattle.std.proofs.lemmas.Option.{slice_get-get_or}
 use Rattle.nf_model.specs.Entries.{Has}
-use Rattle.nf_graph.specs.Order.{Enters}
+use Rattle.nf_graph.specs.Order.{EntersFromUnplaced}
 use Rattle.nf_graph.proofs.Searching.{searched_set}
 use Rattle.nf_graph.proofs.order.next_ready.Goals as goal
 
@@ -15,6 +15,6 @@ returns-then-is_ready-clause-searched c =
 
 pub loop-v-preserved : goal.loop-v-preserved
 loop-v-preserved c = record {
-  entered = below_more (λ (v : ℕ). (Has c.args.placed.now v → ⊥) → (e : ℕ) × Enters c.args.hops.now c.args.chosen.now c.args.placed.now e v) c.loop-v.v c.loop-v.invariant.entered c.if-is_ready.ensures.ready;
+  entered = below_more (λ (v : ℕ). (Has c.args.placed.now v → ⊥) → (e : ℕ) × EntersFromUnplaced c.args.hops.now c.args.chosen.now c.args.placed.now e v) c.loop-v.v c.loop-v.invariant.entered c.if-is_ready.ensures.ready;
   searched = searched_set c.args.hops.now c.args.chosen.now c.args.placed.now c.loop-v.searched c.loop-v.v c.is_ready.new.searched c.is_ready.ensures.searched c.loop-v.invariant.searched;
 }

@@ -4,7 +4,7 @@ use Rattle.nf_frac_def.specs.Passing.{passes_Q}
 use Rattle.nf_residual.specs.declared.legs.Leg.{Leg}
 use Rattle.nf_residual.specs.Legs.{AreLegs, AreSettled}
 use Rattle.nf_residual.specs.Chains.{AreChains}
-use Rattle.nf_residual.specs.Ways.{Places, AreWithin}
+use Rattle.nf_residual.specs.Ways.{Places, ArePathsBelow}
 use Rattle.nf_residual.proofs.NodeByNode.{stops_by}
 use Rattle.nf_residual.proofs.Rounding.{SearchOn, search_first, search_stops, search_still, search_more, places_are, within_still, count_still, search_all, search_count}
 use Rattle.nf_residual.proofs.rounds.reaches_by.Goals as goal
@@ -41,7 +41,7 @@ pub round-requires-clause-same : goal.round-requires-clause-same
 round-requires-clause-same c = c.copy_from_slice.ensures.items ∙ c.deref-in-loop.ensures.value ∙ sym c.deref-in-loop-2.ensures.value
 
 pub round-requires-clause-within : goal.round-requires-clause-within
-round-requires-clause-within c = subst (λ (p : Places). AreWithin (length c.loop.ways) p) (sym c.deref-in-loop-2.ensures.value) c.loop.invariant.0.within
+round-requires-clause-within c = subst (λ (p : Places). ArePathsBelow (length c.loop.ways) p) (sym c.deref-in-loop-2.ensures.value) c.loop.invariant.0.within
 
 pub round-requires-clause-settled : goal.round-requires-clause-settled
 round-requires-clause-settled c =

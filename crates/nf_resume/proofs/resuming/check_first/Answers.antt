@@ -2,8 +2,8 @@ use Rattle.std.proofs.Common.{map, sym, subst, ◌∙◌}
 use Rattle.std.proofs.lemmas.List.{length-map}
 use Rattle.nf_frac_def.specs.Passing.{passes_Q}
 use Rattle.nf_curve.specs.Flows.{trace_of}
-use Rattle.nf_report_read.specs.Files.{report_of}
-use Rattle.nf_resume.specs.Faults.{IsCause}
+use Rattle.nf_report_read.specs.Files.{seen_report}
+use Rattle.nf_resume.specs.Faults.{IsCauseAtAnyHorizon}
 use Rattle.nf_resume.proofs.Resumed.{check_stops, said_yes, said_equilibrium, said_no}
 use Rattle.nf_resume.proofs.resuming.check_first.Goals as goal
 
@@ -32,13 +32,13 @@ check-requires-clause-reached c = c.requires.reached
 
 pub returns-in-Err-clause-cause : goal.returns-in-Err-clause-cause
 returns-in-Err-clause-cause c =
-    subst (IsCause passes_Q c.args.net.now.net (report_of c.args.report.now)) (sym c.from.ensures) (check_stops passes_Q c.args.net.now.net (report_of c.args.report.now) c.in-Err.halt c.in-Err.ensures.list)
+    subst (IsCauseAtAnyHorizon passes_Q c.args.net.now.net (seen_report c.args.report.now)) (sym c.from.ensures) (check_stops passes_Q c.args.net.now.net (seen_report c.args.report.now) c.in-Err.halt c.in-Err.ensures.list)
 
 pub returns-in-Ok-clause-yes : goal.returns-in-Ok-clause-yes
-returns-in-Ok-clause-yes c = said_yes passes_Q c.args.net.now.net (report_of c.args.report.now) c.in-Ok.answer c.in-Ok.ensures.list c.unless_no.result c.unless_no.ensures
+returns-in-Ok-clause-yes c = said_yes passes_Q c.args.net.now.net (seen_report c.args.report.now) c.in-Ok.answer c.in-Ok.ensures.list c.unless_no.result c.unless_no.ensures
 
 pub returns-in-Ok-clause-equilibrium : goal.returns-in-Ok-clause-equilibrium
-returns-in-Ok-clause-equilibrium c = said_equilibrium passes_Q c.args.net.now.net (report_of c.args.report.now) c.in-Ok.answer c.in-Ok.ensures.list c.unless_no.result c.unless_no.ensures c.in-Ok.ensures.exact
+returns-in-Ok-clause-equilibrium c = said_equilibrium passes_Q c.args.net.now.net (seen_report c.args.report.now) c.in-Ok.answer c.in-Ok.ensures.list c.unless_no.result c.unless_no.ensures c.in-Ok.ensures.exact
 
 pub returns-in-Ok-clause-cause : goal.returns-in-Ok-clause-cause
-returns-in-Ok-clause-cause c = said_no passes_Q c.args.net.now.net (report_of c.args.report.now) c.in-Ok.answer c.in-Ok.ensures.list c.unless_no.result c.unless_no.ensures c.in-Ok.ensures.rules c.in-Ok.ensures.exact
+returns-in-Ok-clause-cause c = said_no passes_Q c.args.net.now.net (seen_report c.args.report.now) c.in-Ok.answer c.in-Ok.ensures.list c.unless_no.result c.unless_no.ensures c.in-Ok.ensures.rules c.in-Ok.ensures.exact

@@ -14,7 +14,7 @@ use Rattle.nf_curve.proofs.Exits.{was_ok}
 use Rattle.nf_resume_def.specs.Resuming.{cut_flow}
 use Rattle.nf_resume_laws.proofs.CutFlow.{cut_flow-is}
 use Rattle.nf_resume_laws.proofs.Restarted.{Equilibrium-cut_flow, IsShortFlow-cut_flow, EndsAtItsLabels-cut_flow}
-use Rattle.nf_report_read.specs.Files.{report_of}
+use Rattle.nf_report_read.specs.Files.{seen_report}
 use Rattle.nf_phase_def.specs.Restoring.{NoneFull}
 use Rattle.nf_resume.proofs.Resumed.{cut_stops, restored}
 use Rattle.nf_resume.proofs.resuming.restart.Goals as goal
@@ -22,7 +22,7 @@ use Rattle.nf_resume.proofs.resuming.restart.Goals as goal
 pub returns-in_err-flow-clause-list : goal.returns-in_err-flow-clause-list
 returns-in_err-flow-clause-list c =
     let p = err_from_is_err_and c.from_residual.result c.from_residual.ensures.1 in
-    rw (p.1, p.2) (cut_stops passes_Q c.args.net.now.net (report_of c.args.report.now) c.in_err-flow.field-0.0 c.in_err-flow.ensures)
+    rw (p.1, p.2) (cut_stops passes_Q c.args.net.now.net (seen_report c.args.report.now) c.in_err-flow.field-0.0 c.in_err-flow.ensures)
 
 pub restore-requires-clause-equilibrium : goal.restore-requires-clause-equilibrium
 restore-requires-clause-equilibrium c =
@@ -49,11 +49,11 @@ pub returns-in_err-run-clause-list : goal.returns-in_err-run-clause-list
 returns-in_err-run-clause-list c =
     let p = err_from_is_err_and c.from_residual-in_err-run.result c.from_residual-in_err-run.ensures.1 in
     rw (p.1, p.2) (subst (λ (r : Result Standing (PassedAt ℚ)). Stops (λ (q : ℚ). q) c.in_err-run.field-0.0 r)
-    (restored passes_Q c.args.net.now.net (report_of c.args.report.now) (flow_of c.in_ok-flow.flow) c.in_ok-last.last c.in_ok-flow.ensures c.in_ok-last.ensures) c.in_err-run.ensures.list)
+    (restored passes_Q c.args.net.now.net (seen_report c.args.report.now) (flow_of c.in_ok-flow.flow) c.in_ok-last.last c.in_ok-flow.ensures c.in_ok-last.ensures) c.in_err-run.ensures.list)
 
 pub returns-clause-list : goal.returns-clause-list
 returns-clause-list c =
-    sym (restored passes_Q c.args.net.now.net (report_of c.args.report.now) (flow_of c.in_ok-flow.flow) c.in_ok-last.last c.in_ok-flow.ensures c.in_ok-last.ensures) ∙ c.in_ok-run.ensures.list
+    sym (restored passes_Q c.args.net.now.net (seen_report c.args.report.now) (flow_of c.in_ok-flow.flow) c.in_ok-last.last c.in_ok-flow.ensures c.in_ok-last.ensures) ∙ c.in_ok-run.ensures.list
 
 pub returns-clause-time : goal.returns-clause-time
 returns-clause-time c =

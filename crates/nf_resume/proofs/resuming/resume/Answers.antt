@@ -3,7 +3,7 @@ use Rattle.nf_rational.specs.Rational.{ℚ}
 use Rattle.nf_rational.specs.Order.{◌≤ℚ◌}
 use Rattle.std.proofs.lemmas.Result.{err_from_is_err_and}
 use Rattle.nf_frac_def.specs.Passing.{passes_Q}
-use Rattle.nf_report_read.specs.Files.{report_of}
+use Rattle.nf_report_read.specs.Files.{seen_report}
 use Rattle.nf_phase.specs.Solution.{bounds_of, report_in}
 use Rattle.nf_resume.specs.Faults.{of_halt}
 use Rattle.nf_resume.proofs.Resumed.{in_time, restart_stops, is_resumed, went_on}
@@ -12,17 +12,17 @@ use Rattle.nf_resume.proofs.resuming.resume.Goals as goal
 pub returns-in_err-run-clause-fault : goal.returns-in_err-run-clause-fault
 returns-in_err-run-clause-fault c =
     let p = err_from_is_err_and c.from_residual-in_err-run.result c.from_residual-in_err-run.ensures.1 in
-    rw (p.1, p.2) (in_time passes_Q c.args.net.now.net (report_of c.args.report.now) c.args.horizon (of_halt c.in_err-run.field-0.0) c.if-is_earlier.ensures
-    (restart_stops passes_Q c.args.net.now.net (report_of c.args.report.now) c.in_ok-check_first.ensures.yes c.in_err-run.field-0.0 c.in_err-run.ensures.list))
+    rw (p.1, p.2) (in_time passes_Q c.args.net.now.net (seen_report c.args.report.now) c.args.horizon (of_halt c.in_err-run.field-0.0) c.if-is_earlier.ensures
+    (restart_stops passes_Q c.args.net.now.net (seen_report c.args.report.now) c.in_ok-check_first.ensures.yes c.in_err-run.field-0.0 c.in_err-run.ensures.list))
 
 pub returns-clause-resumed : goal.returns-clause-resumed
 returns-clause-resumed c =
-    is_resumed c.args.net.now.net (bounds_of c.args.horizon c.args.budgets) (report_of c.args.report.now) c.in_ok-solution.solution.phases (report_in c.args.horizon c.in_ok-solution.solution)
+    is_resumed c.args.net.now.net (bounds_of c.args.horizon c.args.budgets) (seen_report c.args.report.now) c.in_ok-solution.solution.phases (report_in c.args.horizon c.in_ok-solution.solution)
     c.in_ok-check_first.ensures.yes c.in_ok-run.run' c.in_ok-run.ensures.list c.in_ok-solution.ensures.finished
 
 pub returns-clause-goes_on : goal.returns-clause-goes_on
 returns-clause-goes_on c =
-    went_on c.args.net.now.net (bounds_of c.args.horizon c.args.budgets) (report_of c.args.report.now) c.in_ok-solution.solution.phases (report_in c.args.horizon c.in_ok-solution.solution)
+    went_on c.args.net.now.net (bounds_of c.args.horizon c.args.budgets) (seen_report c.args.report.now) c.in_ok-solution.solution.phases (report_in c.args.horizon c.in_ok-solution.solution)
     c.in_ok-check_first.ensures.yes c.in_ok-run.run' c.in_ok-run.ensures.list c.in_ok-solution.ensures.finished c.recall.ensures.network c.in_ok-check_first.ensures.equilibrium
 
 pub finish-requires-clause-horizon : goal.finish-requires-clause-horizon

@@ -14,7 +14,7 @@ use Rattle.nf_curve.specs.declared.lines.Sides.{Sides}
 use Rattle.nf_curve.specs.Sides.{sides_of}
 use Rattle.nf_curve.proofs.Exits.{was_ok, stops_on}
 use Rattle.nf_routes_def.specs.RoutesList.{next_from, next_entry}
-use Rattle.nf_routes_laws.specs.Laws.{IsNext}
+use Rattle.nf_routes_laws.specs.Laws.{IsSentOn}
 use Rattle.nf_routes_laws.proofs.Next.{next_entry-is}
 use Rattle.nf_routes_links.specs.Amounts.{IsAmount}
 use Rattle.nf_routes_links.specs.Points.{AreKnown, right_point}
@@ -67,7 +67,7 @@ returns-clause-amount c =
 
 pub returns-clause-next : goal.returns-clause-next
 returns-clause-next c = λ last can.
-    gives_ok (λ c'. c'.points) c.short.result (next_entry passes_Q c.args.exit.now.points c.args.entry.now.points) (λ (l : List Point). IsNext c.args.exit.now.points c.args.entry.now.points last l) (returns-clause-list c)
+    gives_ok (λ c'. c'.points) c.short.result (next_entry passes_Q c.args.exit.now.points c.args.entry.now.points) (λ (l : List Point). IsSentOn c.args.exit.now.points c.args.entry.now.points last l) (returns-clause-list c)
     (next_entry-is passes_Q c.args.exit.now.points c.args.entry.now.points last can)
 
 pub all_sides-requires-clause-known : goal.all_sides-requires-clause-known

@@ -5,7 +5,7 @@ use Rattle.nf_text_def.specs.Words.{line_of_words}
 use Rattle.std.proofs.lemmas.List.{take_rest}
 use Rattle.std.proofs.lemmas.Result.{err_from_is_err_and}
 use Rattle.nf_text.specs.Spans.{text_of}
-use Rattle.nf_text.specs.Reading.{bytes_len, whole_len, Tells}
+use Rattle.nf_text.specs.Reading.{bytes_len, whole_len, MatchesFault}
 use Rattle.nf_text.proofs.Parts.{Rise_within, Rise_higher}
 use Rattle.nf_text.proofs.Extents.{line_bytes, next_after, next_within}
 use Rattle.nf_text.proofs.LineWords.{words_of_line, line_is_read, comment_within}
@@ -60,5 +60,5 @@ returns-clause-none c =
 pub returns-in_err-check_line-clause-fault : goal.returns-in_err-check_line-clause-fault
 returns-in_err-check_line-clause-fault c =
     let p = err_from_is_err_and c.from_residual.result c.from_residual.ensures.1 in
-    rw (p.1, p.2) (subst (λ (bytes : List ℕ). Tells c.in_err-check_line.field-0.0 (fault_of c.args.number bytes))
+    rw (p.1, p.2) (subst (λ (bytes : List ℕ). MatchesFault c.in_err-check_line.field-0.0 (fault_of c.args.number bytes))
     (line_bytes c.args.text.now c.args.start c.first_extent-extent.result.bytes c.first_extent-extent.ensures.bytes) c.in_err-check_line.ensures)

@@ -2,7 +2,7 @@ use Rattle.std.proofs.Common.{◌≡◌, ℕ, ◌≤◌, List, Bool, length, tak
 use Rattle.std.specs.Prelude.{Some, IfOk}
 use Rattle.std.proofs.lemmas.List.{take_all}
 use Rattle.nf_model.specs.ThinFlow.{Sets}
-use Rattle.nf_graph.specs.Sets.{AreSets}
+use Rattle.nf_graph.specs.Sets.{AreLinkSets}
 use Rattle.nf_pattern.proofs.Each.{take_pushed}
 use Rattle.nf_thin_laws.specs.Forcing.{entrywise, still_active, now_resetting, sets_left}
 use Rattle.nf_thin_laws.proofs.Entrywise.{entrywise-length, entrywise-at}
@@ -35,8 +35,8 @@ new-requires c =
     let flags = c.requires.forcing.1.flags in
     let a = whole still_active c.args.forced.now c.args.sets.now.active c.loop-e.active.items c.deref.result.now c.args.links c.loop-e.e c.deref.ensures.value c.loop-e.invariant.active count c.requires.links c.loop-e-test.false in
     let r = whole now_resetting c.args.forced.now c.args.sets.now.resetting c.loop-e.resetting.items c.deref-2.result.now c.args.links c.loop-e.e c.deref-2.ensures.value c.loop-e.invariant.resetting (count ∙ sym flags) (flags ∙ c.requires.links) c.loop-e-test.false in
-    subst (λ (flags : List Bool). AreSets (record { active = flags; resetting = c.deref-2.result.now })) (sym a)
-    (subst (λ (flags : List Bool). AreSets (record { active = (sets_left c.args.forced.now c.args.sets.now).active; resetting = flags })) (sym r)
+    subst (λ (flags : List Bool). AreLinkSets (record { active = flags; resetting = c.deref-2.result.now })) (sym a)
+    (subst (λ (flags : List Bool). AreLinkSets (record { active = (sets_left c.args.forced.now c.args.sets.now).active; resetting = flags })) (sym r)
     (record {
       count = sets_count c.args.sets.now c.requires.forcing.0 c.args.forced.now c.requires.forcing.1 ∙ sym (flags_count c.args.sets.now c.requires.forcing.0 c.args.forced.now c.requires.forcing.1);
       active = left_active c.args.sets.now c.requires.forcing.0 c.args.forced.now c.requires.forcing.1 c.requires.sets.active;

@@ -6,7 +6,7 @@ use Rattle.nf_model.specs.Network.{Piece}
 use Rattle.nf_model.specs.Pattern.{Pattern}
 use Rattle.nf_thin_def.specs.PhaseRun.{Standing}
 use Rattle.nf_phase_def.specs.Open.{IsOpen}
-use Rattle.nf_phase.specs.OpenRuns.{none_starts, AreApart}
+use Rattle.nf_phase.specs.OpenRuns.{none_starts, HaveStateOrSlack}
 use Rattle.nf_phase.proofs.Reached.{Stands-reached, slacks_count}
 use Rattle.nf_phase.proofs.Opened.{open_if, not_started}
 use Rattle.nf_phase.proofs.run.Run.is_open.Goals as goal
@@ -21,7 +21,7 @@ returns-then-starts c =
     (Stands-reached passes_Q c.args.net.now.net c.requires.named.network c.args.self.now c.requires.reaches).last_count c.none_starts-starts.result
     (c.none_starts-starts.ensures ∙ ap (λ (p : List Piece). none_starts p c.self.inside.reached) c.pieces.ensures.value ∙ ap (λ (s : Standing). none_starts c.args.net.now.net.pieces s.time) c.self.view_is)
     c.if-starts.true c.are_apart-apart.result
-    (subst (λ (p : Pattern). MatchBool c.are_apart-apart.result (AreApart c.args.slacks.now p) (AreApart c.args.slacks.now p → ⊥)) (ap (λ (s : Standing). s.last) c.self.view_is) c.are_apart-apart.ensures)
+    (subst (λ (p : Pattern). MatchBool c.are_apart-apart.result (HaveStateOrSlack c.args.slacks.now p) (HaveStateOrSlack c.args.slacks.now p → ⊥)) (ap (λ (s : Standing). s.last) c.self.view_is) c.are_apart-apart.ensures)
 
 pub returns-else-starts : goal.returns-else-starts
 returns-else-starts c =

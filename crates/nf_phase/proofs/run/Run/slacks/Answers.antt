@@ -4,7 +4,7 @@ use Rattle.nf_thin_def.specs.PhaseRun.{Standing}
 use Rattle.nf_phase_laws.proofs.Standing.{label_count_at}
 use Rattle.nf_graph.proofs.NetworkHops.{below_nodes}
 use Rattle.nf_phase.specs.Faults.{of_halt}
-use Rattle.nf_phase.specs.Stepping.{StandsFor}
+use Rattle.nf_phase.specs.Stepping.{IsFaultOf}
 use Rattle.nf_phase.specs.Finding.{FindsNone}
 use Rattle.nf_phase.proofs.Reached.{Stands-reached}
 use Rattle.nf_phase.proofs.Found.{by_fault, slacks_cause, slacks_made}
@@ -19,7 +19,7 @@ slacks-requires c =
 
 pub returns-in_err-slacks-clause-cause : goal.returns-in_err-slacks-clause-cause
 returns-in_err-slacks-clause-cause c = λ patterns.
-    by_fault c.from_residual.result (of_halt c.in_err-slacks.field-0.0) (StandsFor (FindsNone passes_Q c.args.net.now.net patterns c.args.self.now) (suc c.args.self.now.made)) c.from_residual.ensures.1
+    by_fault c.from_residual.result (of_halt c.in_err-slacks.field-0.0) (IsFaultOf (FindsNone passes_Q c.args.net.now.net patterns c.args.self.now) (suc c.args.self.now.made)) c.from_residual.ensures.1
     (slacks_cause passes_Q c.args.net.now.net patterns c.args.self.now c.hops.result.now c.deref.result.now c.hops.ensures.value
     (c.deref.ensures.value ∙ ap (λ (s : Standing). s.labels) c.self.view_is) c.in_err-slacks.field-0.0 c.in_err-slacks.ensures.list)
 

@@ -2,22 +2,22 @@ use Rattle.std.proofs.Common.{◌≡◌, sym, ap, subst}
 use Rattle.std.specs.Prelude.{OnOk}
 use Rattle.nf_report_lines.specs.declared.entry.Entry.{Entry}
 use Rattle.nf_report_lines.specs.Drafts.{seen_draft}
-use Rattle.nf_report_lines.specs.Entries.{drafted, Fits}
+use Rattle.nf_report_lines.specs.Entries.{drafted, FitsDraft}
 use Rattle.nf_report_lines.proofs.draft.Draft.add.Goals as goal
 
 pub add_state-requires-clause-within : goal.add_state-requires-clause-within
 add_state-requires-clause-within c = c.requires.within
 
 pub add_state-requires-clause-fits : goal.add_state-requires-clause-fits
-add_state-requires-clause-fits c = subst (Fits c.args.net.now (seen_draft c.args.net.now c.args.self.now)) c.in-OfLink.is c.requires.fits
+add_state-requires-clause-fits c = subst (FitsDraft c.args.net.now (seen_draft c.args.net.now c.args.self.now)) c.in-OfLink.is c.requires.fits
 
 pub returns-in-Never-clause-draft : goal.returns-in-Never-clause-draft
 returns-in-Never-clause-draft c = subst (λ (e : Entry). OnOk c.add_never.result (seen_draft c.args.net.now c.add_never.new.self ≡ drafted c.args.net.now (seen_draft c.args.net.now c.args.self.now) e)) (sym c.in-Never.is)
-    (c.add_never.ensures.draft c.args.net.now c.requires.within (subst (Fits c.args.net.now (seen_draft c.args.net.now c.args.self.now)) c.in-Never.is c.requires.fits))
+    (c.add_never.ensures.draft c.args.net.now c.requires.within (subst (FitsDraft c.args.net.now (seen_draft c.args.net.now c.args.self.now)) c.in-Never.is c.requires.fits))
 
 pub returns-in-Never-clause-within : goal.returns-in-Never-clause-within
 returns-in-Never-clause-within c =
-    c.add_never.ensures.within c.args.net.now c.requires.within (subst (Fits c.args.net.now (seen_draft c.args.net.now c.args.self.now)) c.in-Never.is c.requires.fits)
+    c.add_never.ensures.within c.args.net.now c.requires.within (subst (FitsDraft c.args.net.now (seen_draft c.args.net.now c.args.self.now)) c.in-Never.is c.requires.fits)
 
 pub returns-in-OfLink-clause-draft : goal.returns-in-OfLink-clause-draft
 returns-in-OfLink-clause-draft c = subst (λ (e : Entry). OnOk c.add_state.result (seen_draft c.args.net.now c.add_state.new.self ≡ drafted c.args.net.now (seen_draft c.args.net.now c.args.self.now) e)) (sym c.in-OfLink.is) c.add_state.ensures.draft

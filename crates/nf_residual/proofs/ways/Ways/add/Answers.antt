@@ -1,6 +1,6 @@
 use Rattle.std.proofs.Common.{◌<◌, List, length, ap, sym, subst, ◌∙◌}
 use Rattle.nf_residual.specs.declared.ways.Twig.{Twig}
-use Rattle.nf_residual.specs.Ways.{twig_at, IsTree}
+use Rattle.nf_residual.specs.Ways.{twig_at, IsPathTree}
 use Rattle.nf_residual.proofs.Twigs.{IsTree-pushed}
 use Rattle.nf_residual.proofs.ways.Ways.add.Goals as goal
 
@@ -10,4 +10,4 @@ invariant_of-self-2 c = IsTree-pushed c.self.inside.twigs.items c.push.new.self.
     (c.step_count-count.ensures.value ∙ ap (λ (t : List Twig). (twig_at t c.args.way).count) (sym c.self.view_is)) c.in_ok-push.ensures.items
 
 pub invariant_of-self : goal.invariant_of-self
-invariant_of-self c = let kept = c.in_err-push.ensures {u = tt} in subst IsTree (sym kept.items) c.self.invariant
+invariant_of-self c = let kept = c.in_err-push.ensures {u = tt} in subst IsPathTree (sym kept.items) c.self.invariant

@@ -1,5 +1,5 @@
 use Rattle.std.proofs.Common.{ℕ, ◌<◌, length, sym, ap, subst}
-use Rattle.nf_residual.specs.Ways.{IsTree}
+use Rattle.nf_residual.specs.Ways.{IsPathTree}
 use Rattle.nf_residual.proofs.Twigs.{before_within}
 use Rattle.nf_residual.specs.declared.ways.Twig.{Twig}
 use Rattle.nf_residual.proofs.Reading.{twig_read}
@@ -11,4 +11,4 @@ returns-clause-value c = ap (λ (t : Twig). t.before) (twig_read c.self.inside.t
 pub returns-clause-within : goal.returns-clause-within
 returns-clause-within c =
     subst (λ (before : ℕ). before < length c.args.self.now) (sym (ap (λ (t : Twig). t.before) (twig_read c.self.inside.twigs.items c.args.self.now c.args.way c.index.result.now c.self.view_is c.requires c.index.ensures)))
-    (before_within c.args.self.now c.args.way (subst IsTree c.self.view_is c.self.invariant) c.requires)
+    (before_within c.args.self.now c.args.way (subst IsPathTree c.self.view_is c.self.invariant) c.requires)

@@ -3,7 +3,7 @@ use Rattle.std.proofs.lemmas.Option.{slice_get_read}
 use Rattle.nf_routes_def.specs.Routes.{pairs_of}
 use Rattle.nf_routes_def.specs.RoutesList.{end_by}
 use Rattle.nf_routes_links.proofs.Greatest.{end_route}
-use Rattle.nf_routes_links.proofs.ends.end_of.Goals as goal
+use Rattle.nf_routes_links.proofs.ends.end_by.Goals as goal
 
 pub loop-route-preserved : goal.loop-route-preserved
 loop-route-preserved c =
