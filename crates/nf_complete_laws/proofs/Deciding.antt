@@ -1,6 +1,7 @@
 -- Decidable properties of a network's links.
 use Rattle.std.proofs.Common.{◌≡◌, ℕ, zero, suc, ◌<◌, List, [], ◌∷◌, ◌⊎◌, inl, inr, ⊎_elim, Some, slice_get, sym, subst, refl, arith}
 use Rattle.nf_complete_laws.proofs.Common.{same_Some, ℚ, ◌≤ℚ◌, ◌<ℚ◌, ≤ℚ_of_same, ≤ℚ_antisymm, lt_or_le_ℚ, not_both_ℚ, Link}
+pub use Rattle.nf_rational_laws.proofs.Order.{some_or_none}
 
 abbrev pub Decided : Type 0 → Type 0
 Decided A = A ⊎ (A → ⊥)

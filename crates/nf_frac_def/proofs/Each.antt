@@ -1,7 +1,7 @@
 -- A loop over a list, one value at a time: what is there so far stands before what comes of the rest.
 use Rattle.std.proofs.Common.{ℕ, zero, suc, length, sym, ap, ◌∙◌, append_assoc, ◌≡◌, List, [], ◌∷◌, ◌++◌, Result, Ok, Err, Some, slice_get, refl}
 use Rattle.std.proofs.lemmas.Option.{same_Some}
-use Rattle.nf_frac_def.specs.Checked.{Checked, each, fold_checked, ◌>>=◌}
+use Rattle.nf_frac_def.specs.Checked.{each, fold_checked, ◌>>=◌}
 use Rattle.nf_frac_def.proofs.Binding.{bind_ok}
 use Rattle.nf_frac_def.proofs.Exact.{same_value}
 
@@ -48,15 +48,7 @@ each_at f (w ∷ xs) ys (suc i) x e h =
     let y = each_at f xs rest.0 i x rest.1 h in
     (y.0, ap (λ (l : List _). slice_get l (suc i)) (sym (same_value _ _ ys refl rest.2)) ∙ y.1, y.2)
 
--- ---- nothing before, and nothing after
+-- nothing before
 pub no_front : {B E : Type 0} (r : Result (List B) E) → with_front [] r ≡ r
 no_front (Ok ys) = refl
 no_front (Err p) = refl
-
-pub bind_end : {A : Type 0} (r : Checked A) → (r >>= λ x. Ok x) ≡ r
-bind_end (Ok x) = refl
-bind_end (Err p) = refl
-
-pub bind_same : {A B : Type 0} (r : Checked A) (f g : A → Checked B) → ((x : A) → f x ≡ g x) → (r >>= f) ≡ (r >>= g)
-bind_same (Ok x) f g e = e x
-bind_same (Err p) f g e = refl

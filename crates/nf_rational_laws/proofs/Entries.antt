@@ -1,10 +1,8 @@
 -- The entries of lists.
-use Rattle.std.proofs.Common.{◌≡◌, ℕ, suc, ◌+◌, ◌<◌, List, [], ◌∷◌, ◌++◌, length, slice_get, get_or, unwrap_or, ap, ◌∙◌, refl, arith, zero-add, option_map, drop, sym, set, zero}
+use Rattle.std.proofs.Common.{◌≡◌, ℕ, suc, ◌+◌, ◌<◌, List, [], ◌∷◌, ◌++◌, length, slice_get, get_or, unwrap_or, ap, ◌∙◌, refl, arith, option_map}
 use Rattle.std.specs.Prelude.{Option, Some, map}
-use Rattle.std.specs.List.{last_or, enumerate_from, range_with_len}
-use Rattle.std.proofs.lemmas.Option.{slice_get-map, slice_get-get_or, slice_get_within, unwrap_or-slice_get}
-use Rattle.std.proofs.lemmas.List.FromFn.{get_or-range_with_len, length-range_with_len}
-use Rattle.std.proofs.lemmas.List.{drop_more}
+use Rattle.std.specs.List.{last_or, enumerate_from}
+use Rattle.std.proofs.lemmas.Option.{slice_get-map, slice_get-get_or}
 
 pub entry : {A : Type 0} (xs : List A) (e : ℕ) → e < length xs → (x : A) × (slice_get xs e ≡ Some x)
 entry (x ∷ xs) e h = (get_or (x ∷ xs) e x, slice_get-get_or (x ∷ xs) e x h)
@@ -27,19 +25,3 @@ same_entries d [] [] h e = refl
 same_entries d [] (y ∷ ys) h e = absurd (cc)
 same_entries d (x ∷ xs) [] h e = absurd (cc)
 same_entries d (x ∷ xs) (y ∷ ys) h e = let a : x ≡ y = e 0 (omega arith) in let b : xs ≡ ys = same_entries d xs ys (cc) (λ i k. e (suc i) (omega arith)) in cc
-
-pub drop_next : {A : Type 0} (xs : List A) (i : ℕ) (x : A) → slice_get xs i ≡ Some x → drop i xs ≡ x ∷ drop (i + 1) xs
-drop_next xs i x e =
-    drop_more xs i x (slice_get_within xs i x e) ∙ ap (λ (y : _). y ∷ drop (i + 1) xs) (sym (unwrap_or-slice_get xs i x) ∙ ap (λ (o : _). unwrap_or o x) e)
-
-pub set_same : {A : Type 0} (xs : List A) (v : ℕ) (y : A) → v < length xs → slice_get (set xs v y) v ≡ Some y
-set_same [] v y h = absurd (omega arith)
-set_same (x ∷ xs) zero y h = refl
-set_same (x ∷ xs) (suc v) y h = set_same xs v y (omega arith)
-
--- ---- numbers in order
-pub range_at : (a n i : ℕ) → i < n → slice_get (range_with_len a n) i ≡ Some (a + i)
-range_at a n i h = slice_get-get_or (range_with_len a n) i 0 (omega (arith, h, length-range_with_len a n)) ∙ ap Some (get_or-range_with_len a n i 0 h)
-
-pub below_at : (n i : ℕ) → i < n → slice_get (range_with_len 0 n) i ≡ Some i
-below_at n i h = range_at 0 n i h ∙ ap Some (zero-add i)

@@ -22,7 +22,7 @@ unfolding whole ratio gcd
 zero_den = refl
 
 -- ---- the sign of x is that of n
-pub times_one : (a : ℤ) → a *ℤ pos 1 ≡ a
+times_one : (a : ℤ) → a *ℤ pos 1 ≡ a
 times_one a = ring ints_ring (a ∷ []) (search reading depth 30) tt
 
 nn_self : (x : ℚ) → 0ℚ ≤ℚ x → pos 0 ≤ℤ x.num
