@@ -47,8 +47,3 @@ each_at f (w ∷ xs) ys (suc i) x e h =
     let rest = bind_ok (each f xs) _ ys first.2 in
     let y = each_at f xs rest.0 i x rest.1 h in
     (y.0, ap (λ (l : List _). slice_get l (suc i)) (sym (same_value _ _ ys refl rest.2)) ∙ y.1, y.2)
-
--- nothing before
-pub no_front : {B E : Type 0} (r : Result (List B) E) → with_front [] r ≡ r
-no_front (Ok ys) = refl
-no_front (Err p) = refl

@@ -1,28 +1,14 @@
 -- The loading of all links, one after the other, as the list has it.
 use Rattle.std.proofs.Common.{◌≡◌, ℕ, zero, suc, ◌+◌, ◌≤◌, List, [], ◌∷◌, ◌++◌, length, take, drop, sym, ap, subst, ◌∙◌, arith}
-use Rattle.std.specs.Prelude.{Option, Some, Ok, Err, slice_get}
-use Rattle.std.proofs.lemmas.List.{drop_all, take_all, take-append-drop}
-use Rattle.nf_rational.specs.Rational.{ℚ}
-use Rattle.nf_rational.specs.Operations.{0ℚ}
-use Rattle.nf_rational.specs.Order.{◌≤ℚ◌}
-use Rattle.nf_frac_def.specs.declared.Halt.{Halt}
-use Rattle.nf_frac_def.specs.declared.Part.TheVariants.{Load}
-use Rattle.nf_frac_def.specs.declared.PassedAt.{PassedAt}
-use Rattle.nf_frac_def.specs.Passing.{Passing}
-use Rattle.nf_frac_def.specs.Checked.{Checked, Stops, at_part, ◌>>=◌}
-use Rattle.nf_model.specs.Network.{Link, Network, IsLink, IsNetwork}
-use Rattle.nf_curve.proofs.Exits.{after_err, was_ok, stops_on, err_before, ok_before}
+use Rattle.nf_routes_links.proofs.Common.{Option, Some, Ok, Err, slice_get, drop_all, take_all, take-append-drop, ℚ, 0ℚ, ◌≤ℚ◌, Halt, Load, PassedAt, Passing}
+use Rattle.nf_routes_links.proofs.Common.{Checked, Stops, at_part, ◌>>=◌, Link, Network, IsLink, IsNetwork, after_err, was_ok, stops_on, err_before, ok_before}
+use Rattle.nf_routes_links.proofs.Common.{SoFar, load_here, IsPlaced, order_placed, nothing_loaded, nothing_sent, all_loaded, MayLoad, IsComplete, kept_after}
+use Rattle.nf_routes_links.proofs.Common.{load_kept, all_kept, Kept}
 use Rattle.nf_routes_def.specs.Routes.{Route, AreRoutes, HoldCircle, all_pairs, loading_order}
-use Rattle.nf_routes_def.specs.RoutesList.{SoFar, load_here}
 use Rattle.nf_routes_laws.proofs.Ordering.{takes_all-straight}
-use Rattle.nf_routes_read.proofs.Taking.{IsPlaced, order_placed}
-use Rattle.nf_routes_links.specs.Beginning.{nothing_loaded, nothing_sent, all_loaded}
-use Rattle.nf_routes_links.specs.Standing.{MayLoad, IsFullyLoaded}
-use Rattle.nf_routes_links.specs.Keeping.{kept_after, load_kept, all_kept}
-use Rattle.nf_routes_links.specs.declared.keeping.Kept.{Kept}
 use Rattle.nf_routes_links.proofs.Alone.{stands_kept, all_kept-is}
-use Rattle.nf_routes_links.proofs.Folds.{drop_at}
 use Rattle.nf_routes_links.proofs.Stands.{Stands, stands_first, may_load, steps_of, stands_next, stands_last, all_taken}
+use Rattle.nf_routes_links.proofs.Folds.{drop_at}
 
 -- ---- a link of the order, when those before it are taken
 take_on : (xs : List ℕ) (i e : ℕ) → slice_get xs i ≡ Some e → take i xs ++ e ∷ [] ≡ take (suc i) xs

@@ -1,22 +1,9 @@
 -- The last entry of each route alone: the loading goes on as with all entries.
 use Rattle.std.proofs.Common.{◌≡◌, ℕ, zero, suc, ◌+◌, ◌<◌, ◌≤◌, List, [], ◌∷◌, ◌++◌, length, map, take, drop, set, Bool, true, false, refl, sym, ap, ◌∙◌, append-nil, arith}
-use Rattle.std.specs.Prelude.{Option, Some, None, Ok, Err, slice_get}
-use Rattle.std.specs.List.{AllByRecursion}
-use Rattle.std.proofs.lemmas.List.{drop_all, take_all}
-use Rattle.nf_rational.specs.Rational.{ℚ}
-use Rattle.nf_rational.specs.Operations.{0ℚ}
-use Rattle.nf_frac_def.specs.Passing.{Passing}
-use Rattle.nf_frac_def.specs.Checked.{Checked, ◌>>=◌}
-use Rattle.nf_model.specs.Curve.{Point}
-use Rattle.nf_model.specs.Network.{Link, Network}
-use Rattle.nf_load_def.specs.Loading.{Loaded, checked_loading}
-use Rattle.nf_routes_def.specs.Routes.{Route, all_pairs, loading_order}
-use Rattle.nf_routes_def.specs.RoutesList.{SoFar, begins_with, goes_over, last_entry, end_by, next_entry, begin_if, begin_all, add_if, sum_from, next_if, next_all, load_here, load_all}
-use Rattle.nf_routes_links.specs.Amounts.{IsAmount}
-use Rattle.nf_routes_links.specs.Beginning.{nothing_loaded, nothing_sent, all_loaded}
-use Rattle.nf_routes_links.specs.Standing.{Along}
-use Rattle.nf_routes_links.specs.Keeping.{last_alone, keeping_last, kept_after, load_kept, all_kept}
-use Rattle.nf_routes_links.specs.declared.keeping.Kept.{Kept}
+use Rattle.nf_routes_links.proofs.Common.{Option, Some, None, Ok, Err, slice_get, AllByRecursion, drop_all, take_all, ℚ, 0ℚ, Passing, Checked, ◌>>=◌, Point}
+use Rattle.nf_routes_links.proofs.Common.{Link, Network, Loaded, checked_loading, Route, all_pairs, loading_order, SoFar, begins_with, goes_over, last_entry}
+use Rattle.nf_routes_links.proofs.Common.{end_by, next_entry, begin_if, begin_all, add_if, sum_from, next_if, next_all, load_here, load_all, IsAmount}
+use Rattle.nf_routes_links.proofs.Common.{nothing_loaded, nothing_sent, all_loaded, Along, last_alone, keeping_last, kept_after, load_kept, all_kept, Kept}
 use Rattle.nf_routes_links.specs.declared.keeping.Kept.TheVariants.{Every, Last}
 use Rattle.nf_routes_links.proofs.Lists.{last_push}
 use Rattle.nf_routes_links.proofs.Passed.{chain}
@@ -109,6 +96,7 @@ first_kept : (kept : Kept) (s : SoFar) → map last_alone s.entries ≡ s.entrie
 first_kept Every s e = refl
 first_kept Last s e = ap (λ (l : List Sent). record { links = s.links; entries = l }) e
 
+-- ---- computations, one after the other
 -- ---- computations, one after the other
 after_same : {A B : Type 0} (r : Checked A) (f g : A → Checked B) → ((x : A) → f x ≡ g x) → (r >>= f) ≡ (r >>= g)
 after_same (Ok x) f g same = same x

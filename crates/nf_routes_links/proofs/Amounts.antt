@@ -1,30 +1,19 @@
 -- Amounts: brought into short form, summed up, and what pieces supply. Exits: those of a link's loading.
-use Rattle.std.proofs.Common.{◌≡◌, List, [], ◌∷◌, Option, refl, sym, subst, ◌∙◌}
-use Rattle.std.specs.Prelude.{Ok}
-use Rattle.nf_rational.specs.Rational.{ℚ}
-use Rattle.nf_rational.specs.Operations.{0ℚ, ◌+ℚ◌}
-use Rattle.nf_rational.specs.Order.{◌≤ℚ◌}
+use Rattle.std.proofs.Common.{◌≡◌, List, [], ◌∷◌, Option, refl, sym, subst, ◌∙◌, Ok}
+use Rattle.nf_routes_links.proofs.Common.{ℚ, 0ℚ, ◌+ℚ◌, ◌≤ℚ◌, ≤ℚ_refl, ≤ℚ_trans, Passing, Point, value, IsCurve, NeverFalls, Piece, NeverFalls-value}
+use Rattle.nf_routes_links.proofs.Common.{checked_sum, checked_short-is, Loaded, checked_loading, IsAmount, AreExits}
 use Rattle.nf_rational_laws.proofs.Polynomial.{reading_of}
 use Rattle.nf_rational_laws.proofs.Linear.{le, linear_le}
-use Rattle.nf_rational_laws.proofs.Chains.{≤ℚ_refl, ≤ℚ_trans}
-use Rattle.nf_frac_def.specs.Passing.{Passing}
-use Rattle.nf_model.specs.Curve.{Point, value, IsCurve, NeverFalls}
-use Rattle.nf_model.specs.Network.{Piece}
 use Rattle.nf_model_laws.specs.Capacity.{IsPositive}
-use Rattle.nf_model_laws.proofs.Curves.{NeverFalls-value}
 use Rattle.nf_model_laws.proofs.Queues.{IsExit-after, IsExit-monotone}
-use Rattle.nf_curve_def.specs.Sums.{checked_sum}
 use Rattle.nf_curve_def.specs.Meanings.{IsShortOf, IsSumOf}
 use Rattle.nf_curve_laws.proofs.Following.{FollowsFrom}
 use Rattle.nf_curve_laws.proofs.Values.{follows-curve, follows-values}
-use Rattle.nf_curve_laws.proofs.Short.{checked_short-is}
 use Rattle.nf_curve_laws.proofs.Sums.{checked_sum-is}
-use Rattle.nf_load_def.specs.Loading.{Loaded, checked_loading}
 use Rattle.nf_load_def.specs.Meanings.{IsCumulative}
 use Rattle.nf_load_laws.proofs.Cumulative.{follows-values_rise}
 use Rattle.nf_load_laws.proofs.Functions.{exit_at, exit_at-is}
 use Rattle.nf_load_laws.proofs.Loading.{ExitPoints, exit_points}
-use Rattle.nf_routes_links.specs.Amounts.{IsAmount, AreExits}
 use Rattle.nf_routes_laws.proofs.Entries.{rises-same}
 use Rattle.nf_rational_laws.proofs.Facts.{sum_le, both_are_zero}
 

@@ -1,19 +1,9 @@
 -- A step for each route with what it has sent, one route after the other.
 use Rattle.std.proofs.Common.{◌≡◌, ℕ, zero, suc, ◌+◌, ◌<◌, ◌≤◌, List, [], ◌∷◌, ◌++◌, length, take, drop, set, refl, sym, ap, subst, ◌∙◌, append_assoc, append-nil, arith}
-use Rattle.std.specs.Prelude.{Some, Ok, Err, slice_get}
-use Rattle.std.proofs.lemmas.List.{take_more_set, drop-set-lt, drop-drop, drop_all, take_all, length-set}
-use Rattle.nf_rational.specs.Rational.{ℚ}
-use Rattle.nf_frac_def.specs.declared.Halt.{Halt}
-use Rattle.nf_frac_def.specs.declared.Part.TheVariants.{Load}
-use Rattle.nf_frac_def.specs.Passing.{Passing}
-use Rattle.nf_frac_def.specs.Checked.{Checked, Stops, at_part, ◌>>=◌}
-use Rattle.nf_frac_def.proofs.Each.{with_front}
-use Rattle.nf_model.specs.Curve.{Point}
-use Rattle.nf_routes_def.specs.Routes.{Route}
-use Rattle.nf_routes_def.specs.RoutesList.{begins_with, goes_over, last_entry, begin_if, begin_all, add_if, sum_from, next_if, next_all}
-use Rattle.nf_curve.proofs.Exits.{after_err, was_ok, front_none, front_err, stops_on}
 use Rattle.nf_curve.proofs.Shortening.{drop-at}
-use Rattle.nf_routes_links.specs.Standing.{Along}
+use Rattle.nf_routes_links.proofs.Common.{Some, Ok, Err, slice_get, take_more_set, drop-set-lt, drop-drop, drop_all, take_all, length-set, ℚ, Halt, Load}
+use Rattle.nf_routes_links.proofs.Common.{Passing, Checked, Stops, at_part, ◌>>=◌, with_front, Point, Route, begins_with, goes_over, last_entry, begin_if}
+use Rattle.nf_routes_links.proofs.Common.{begin_all, add_if, sum_from, next_if, next_all, after_err, was_ok, front_none, front_err, stops_on, Along}
 
 abbrev pub Sent : Type 0
 Sent = List (List Point)

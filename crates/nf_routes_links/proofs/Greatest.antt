@@ -1,17 +1,8 @@
 -- The end of a link, worked out pair by pair.
 use Rattle.std.proofs.Common.{◌≡◌, ℕ, zero, suc, ◌+◌, ◌-◌, ◌<◌, ◌≤◌, List, [], ◌∷◌, ◌++◌, length, drop, Bool, true, false, eqb, refl, sym, ap, ◌∙◌, arith}
-use Rattle.std.specs.Prelude.{Option, Some, if◌then◌else◌, slice_get}
-use Rattle.std.proofs.lemmas.Option.{none-some, same_Some}
-use Rattle.nf_rational.specs.Rational.{ℚ}
-use Rattle.nf_rational.specs.Order.{◌≤ℚ◌, max_ℚ}
-use Rattle.nf_rational_laws.proofs.Order.{≤ℚ_antisymm}
-use Rattle.nf_rational_laws.proofs.Chains.{≤ℚ_refl, ≤ℚ_trans}
+use Rattle.nf_routes_links.proofs.Common.{Option, Some, if◌then◌else◌, slice_get, none-some, same_Some, ℚ, ◌≤ℚ◌, max_ℚ, ≤ℚ_antisymm, ≤ℚ_refl, ≤ℚ_trans, Point}
+use Rattle.nf_routes_links.proofs.Common.{last_value, pairs_of, all_pairs, NamedRoute, routes_of, LoadedLink, exit_end, end_by}
 use Rattle.nf_rational_laws.proofs.Extremes.{max_left, max_right, max_keeps}
-use Rattle.nf_model.specs.Curve.{Point}
-use Rattle.nf_check_def.specs.Curves.{last_value}
-use Rattle.nf_routes_def.specs.Routes.{pairs_of, all_pairs}
-use Rattle.nf_routes_def.specs.RoutesFile.{NamedRoute, routes_of}
-use Rattle.nf_routes_def.specs.RoutesList.{LoadedLink, exit_end, end_by}
 use Rattle.nf_routes_read.proofs.Pairs.{pairs_at, pairs_none, all_pairs_at}
 
 max_least : (x y z : ℚ) → x ≤ℚ z → y ≤ℚ z → max_ℚ x y ≤ℚ z

@@ -1,24 +1,9 @@
 -- The loading of a link, step by step, as the list has it.
-use Rattle.std.proofs.Common.{◌≡◌, ℕ, List, [], ◌∷◌, set, sym, ◌∙◌}
-use Rattle.std.specs.Prelude.{Some, Ok, Err}
-use Rattle.nf_rational.specs.Rational.{ℚ}
-use Rattle.nf_rational.specs.Operations.{0ℚ}
-use Rattle.nf_rational.specs.Order.{◌≤ℚ◌}
-use Rattle.nf_rational_laws.proofs.Chains.{≤ℚ_trans}
-use Rattle.nf_frac_def.specs.declared.PassedAt.{PassedAt}
-use Rattle.nf_frac_def.specs.declared.Part.TheVariants.{Load}
-use Rattle.nf_frac_def.specs.Passing.{Passing}
-use Rattle.nf_frac_def.specs.Checked.{Checked, at_part, ◌>>=◌}
-use Rattle.nf_model.specs.Curve.{Point}
-use Rattle.nf_model.specs.Network.{Link, Network, IsLink, IsNetwork}
-use Rattle.nf_model_laws.proofs.Earliest.{IsPositive-link}
-use Rattle.nf_load_def.specs.Loading.{Loaded, checked_loading}
-use Rattle.nf_curve.proofs.Exits.{after_err, after_ok, was_ok}
-use Rattle.nf_routes_def.specs.Routes.{Route, all_pairs}
-use Rattle.nf_routes_def.specs.RoutesList.{SoFar, begins_with, begin_if, end_by, begin_all, sum_from, next_all, load_here}
-use Rattle.nf_routes_links.specs.Amounts.{IsAmount, AreExits}
+use Rattle.std.proofs.Common.{◌≡◌, ℕ, List, [], ◌∷◌, set, sym, ◌∙◌, Some, Ok, Err}
+use Rattle.nf_routes_links.proofs.Common.{ℚ, 0ℚ, ◌≤ℚ◌, ≤ℚ_trans, PassedAt, Load, Passing, Checked, at_part, ◌>>=◌, Point, Link, Network, IsLink, IsNetwork}
+use Rattle.nf_routes_links.proofs.Common.{IsPositive-link, Loaded, checked_loading, after_err, after_ok, was_ok, Route, all_pairs, SoFar, begins_with, begin_if}
+use Rattle.nf_routes_links.proofs.Common.{end_by, begin_all, sum_from, next_all, load_here, IsAmount, AreExits, Along, MayBegin, Sends, MayLoad}
 use Rattle.nf_routes_links.proofs.Amounts.{no_amount, loaded_exits}
-use Rattle.nf_routes_links.specs.Standing.{Along, MayBegin, Sends, MayLoad}
 use Rattle.nf_routes_links.proofs.Greatest.{end-least}
 use Rattle.nf_routes_links.proofs.Folds.{Sent, begin_all-is, steps_keep}
 use Rattle.nf_routes_links.proofs.Sound.{begun_sends, inflow_amount}

@@ -1,23 +1,13 @@
 -- Values that are those of points are known.
-use Rattle.std.proofs.Common.{◌≡◌, ◌≢◌, ⊎_elim, ℕ, zero, suc, List, [], ◌∷◌, map, Bool, true, false, refl, sym, ap, subst, ◌∙◌}
-use Rattle.std.specs.Prelude.{Some, Ok, slice_get, if◌then◌else◌}
-use Rattle.nf_rational.specs.Rational.{ℚ}
-use Rattle.nf_rational.specs.Order.{◌≤ℚ◌, ◌<ℚ◌, lt_ℚ}
-use Rattle.nf_rational.specs.Signs.{is_same}
-use Rattle.nf_rational_laws.proofs.Chains.{≤ℚ_trans}
-use Rattle.nf_rational_laws.proofs.Order.{≤ℚ_of_lt, ≤ℚ_of_same, <ℚ_irrefl}
-use Rattle.nf_rational_laws.proofs.Results.{same_Ok}
+use Rattle.std.proofs.Common.{◌≡◌, ℕ, zero, suc, List, [], ◌∷◌, map, Bool, refl, sym, ap, subst, ◌∙◌}
+use Rattle.nf_curve_laws.proofs.Operations.{not_same}
+use Rattle.nf_routes_links.proofs.Common.{Some, Ok, slice_get, if◌then◌else◌, ℚ, ◌≤ℚ◌, lt_ℚ, ≤ℚ_trans, ≤ℚ_of_lt, ≤ℚ_of_same, same_Ok}
+use Rattle.nf_routes_links.proofs.Common.{Passing, passes_Q, Checked, each, ◌>>=◌, Point, TimesRise, IsCurve, sides_at, both_times, then_ok}
+use Rattle.nf_routes_links.proofs.Common.{AreKnown, AreThere, right_point}
 use Rattle.nf_rational_laws.proofs.Tests.{test_of_not_less}
-use Rattle.nf_frac_def.specs.Passing.{Passing, passes_Q}
-use Rattle.nf_frac_def.specs.Checked.{Checked, each, ◌>>=◌}
-use Rattle.nf_model.specs.Curve.{Point, TimesRise, IsCurve}
 use Rattle.nf_model_laws.proofs.Affine.{<_≤_trans}
 use Rattle.nf_curve_def.specs.Lines.{Sides, checked_line}
-use Rattle.nf_curve_def.specs.Sums.{sides_at}
-use Rattle.nf_curve_def.specs.Times.{both_times}
 use Rattle.nf_curve_def.specs.Values.{value_from, checked_value}
-use Rattle.nf_curve_laws.proofs.Operations.{then_ok, is_same_cases}
-use Rattle.nf_routes_links.specs.Points.{AreKnown, AreThere, right_point}
 use Rattle.nf_rational_laws.proofs.SignTests.{is_same-itself}
 
 -- ---- the value at the time of a point
@@ -25,12 +15,6 @@ from_first : (p : Point) (rest : List Point) (i : ℕ) (q : Point) → TimesRise
 from_first p rest zero q r h = let same : p ≡ q = cc in ≤ℚ_of_same p.0 q.0 (ap (λ (x : Point). x.0) same)
 from_first p [] (suc i) q r h = absurd (cc)
 from_first p (s ∷ rest) (suc i) q r h = ≤ℚ_trans _ _ _ (≤ℚ_of_lt _ _ r.0) (from_first s rest i q r.1 h)
-
-later_test : (x y : ℚ) → y <ℚ x → is_same x y ≡ false
-later_test x y h = ⊎_elim
-    (λ (w : (is_same x y ≡ true) × (x ≡ y)). absurd (<ℚ_irrefl y (subst (λ (z : ℚ). y <ℚ z) w.1 h)))
-    (λ (w : (is_same x y ≡ false) × (x ≢ y)). w.0)
-    (is_same_cases x y)
 
 module _ (passes : Passing) where
   at_first : (p : Point) (rest : List Point) → value_from passes p rest p.0 ≡ Ok p.1
@@ -42,7 +26,7 @@ module _ (passes : Passing) where
   at_later p [] (suc i) q r h = absurd (cc)
   at_later p (s ∷ rest) (suc i) q r h =
       let from : s.0 ≤ℚ q.0 = from_first s rest i q r.1 h in
-      ap (λ (b : Bool). if b then Ok p.1 else (if lt_ℚ q.0 s.0 then checked_line passes p s q.0 else value_from passes s rest q.0)) (later_test q.0 p.0 (<_≤_trans _ _ _ r.0 from))
+      ap (λ (b : Bool). if b then Ok p.1 else (if lt_ℚ q.0 s.0 then checked_line passes p s q.0 else value_from passes s rest q.0)) (not_same q.0 p.0 (<_≤_trans _ _ _ r.0 from))
       ∙ ap (λ (b : Bool). if b then checked_line passes p s q.0 else value_from passes s rest q.0) (test_of_not_less q.0 s.0 from)
       ∙ at_later s rest i q r.1 h
 

@@ -1,3 +1,4 @@
+mod Common
 pub mod Amounts
 pub mod Sharing
 pub mod Lists

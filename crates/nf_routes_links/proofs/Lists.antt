@@ -1,10 +1,6 @@
 -- Lists that end with one more.
-use Rattle.std.proofs.Common.{◌≡◌, ℕ, zero, suc, ◌+◌, ◌<◌, ◌≤◌, List, [], ◌∷◌, ◌++◌, length, take, map, refl, sym, ap, ◌∙◌, arith}
-use Rattle.std.proofs.lemmas.List.{map-append}
-use Rattle.std.specs.Prelude.{Some, slice_get}
-use Rattle.nf_frac_def.specs.Passing.{Passing}
-use Rattle.nf_model.specs.Curve.{Point}
-use Rattle.nf_routes_def.specs.RoutesList.{last_entry, but_last}
+use Rattle.std.proofs.Common.{◌≡◌, ℕ, zero, suc, ◌+◌, ◌<◌, List, [], ◌∷◌, ◌++◌, length, take, map, refl, sym, ap, ◌∙◌, arith, Some, slice_get}
+use Rattle.nf_routes_links.proofs.Common.{map-append, Passing, Point, last_entry, but_last}
 
 pub last_push : (sent : List (List Point)) (x : List Point) → last_entry (sent ++ x ∷ []) ≡ x
 last_push [] x = refl
@@ -45,9 +41,3 @@ same_of-next {A} {B} {C} f y xs i h = same_of-more f y xs i h ∙ ap (λ (k : �
 pub same_pushed : {A B C : Type 0} (f : A → C) (g : B → C) (xs : List A) (x : A) (ys : List B) (y : B) (more : List A) → more ≡ xs ++ x ∷ [] → map f xs ≡ map g ys → f x ≡ g y → map f more ≡ map g (ys ++ y ∷ [])
 same_pushed {A} {B} {C} f g xs x ys y more pushed same here =
     ap (λ (l : List A). map f l) pushed ∙ map-append f xs (x ∷ []) ∙ ap (λ (l : List C). l ++ f x ∷ []) same ∙ ap (λ (z : C). map g ys ++ z ∷ []) here ∙ sym (map-append g ys (y ∷ []))
-
-pub take_past : {A : Type 0} (xs : List A) (i : ℕ) → length xs ≤ i → take i xs ≡ xs
-take_past [] zero h = refl
-take_past [] (suc i) h = refl
-take_past (x ∷ xs) zero h = absurd (omega arith)
-take_past {A} (x ∷ xs) (suc i) h = ap (λ (l : List A). x ∷ l) (take_past xs i (omega arith))

@@ -1,20 +1,7 @@
 -- Where an operation passes, so does what it is part of.
-use Rattle.std.proofs.Common.{◌≡◌, Bool, true, List, [], ◌∷◌, ◌++◌, refl, sym, ap, ◌∙◌}
-use Rattle.std.specs.Prelude.{Ok, Err}
-use Rattle.nf_rational.specs.Rational.{ℚ}
-use Rattle.nf_frac_def.specs.declared.Part.TheVariants.{Load}
-use Rattle.nf_frac_def.specs.declared.PassedAt.{PassedAt}
-use Rattle.nf_frac_def.specs.Passing.{Passing}
-use Rattle.nf_frac_def.specs.Checked.{Checked, at_part, ◌>>=◌}
-use Rattle.nf_model.specs.Curve.{Point}
-use Rattle.nf_model.specs.Network.{Piece}
-use Rattle.nf_curve.proofs.Exits.{after_err}
-use Rattle.nf_curve_def.specs.Short.{checked_short}
-use Rattle.nf_load_def.specs.Cumulative.{checked_cumulative}
-use Rattle.nf_routes_def.specs.Routes.{Route}
-use Rattle.nf_routes_def.specs.RoutesList.{begin_if, next_if, last_entry}
-use Rattle.nf_routes_def.specs.RoutesList.{next_entry}
-use Rattle.nf_routes_links.specs.Beginning.{first_entry}
+use Rattle.std.proofs.Common.{◌≡◌, Bool, true, List, [], ◌∷◌, ◌++◌, refl, sym, ap, ◌∙◌, Ok, Err}
+use Rattle.nf_routes_links.proofs.Common.{ℚ, Load, PassedAt, Passing, Checked, at_part, ◌>>=◌, Point, Piece, after_err, checked_short, checked_cumulative}
+use Rattle.nf_routes_links.proofs.Common.{Route, begin_if, next_if, last_entry, next_entry, first_entry}
 
 pub chain : {A B C : Type 0} (r : Checked A) (g : A → Checked B) (f : B → Checked C) → ((r >>= g) >>= f) ≡ (r >>= λ a. g a >>= f)
 chain (Ok x) g f = refl

@@ -1,20 +1,8 @@
 -- Travels of routes over the same links: each is that of the first of them.
 use Rattle.std.proofs.Common.{◌≡◌, ◌⊎◌, inl, inr, ⊎_elim, ℕ, zero, suc, ◌+◌, ◌≤◌, List, [], ◌∷◌, ◌++◌, length, drop, refl, sym, ap, subst, ◌∙◌}
-use Rattle.std.specs.Prelude.{Some, Ok, slice_get}
-use Rattle.std.proofs.lemmas.List.{drop_all, length_push}
-use Rattle.nf_rational.specs.Rational.{ℚ}
-use Rattle.nf_frac_def.specs.declared.Halt.{Halt}
-use Rattle.nf_frac_def.specs.declared.Part.TheVariants.{Load}
-use Rattle.nf_frac_def.specs.Passing.{passes_Q}
-use Rattle.nf_frac_def.specs.Checked.{Checked, Stops, each, at_part}
-use Rattle.nf_frac_def.proofs.Each.{with_front}
-use Rattle.nf_model.specs.Curve.{Point}
-use Rattle.nf_load_def.specs.Loading.{Loaded}
-use Rattle.nf_check_def.specs.Curves.{departures}
-use Rattle.nf_curve.proofs.Exits.{each_goes, each_stops, each_ends, front_none, stops_on, was_ok}
-use Rattle.nf_routes_def.specs.Routes.{Route}
-use Rattle.nf_routes_def.specs.RoutesFile.{NamedRoute, routes_of, links_of, links_at}
-use Rattle.nf_routes_links.specs.Travels.{travel_along, AreTravels}
+use Rattle.nf_routes_links.proofs.Common.{Some, Ok, slice_get, drop_all, length_push, ℚ, Halt, Load, passes_Q, Checked, Stops, each, at_part, with_front, Point}
+use Rattle.nf_routes_links.proofs.Common.{Loaded, departures, each_goes, each_stops, each_ends, front_none, stops_on, was_ok, Route, NamedRoute, routes_of}
+use Rattle.nf_routes_links.proofs.Common.{links_of, links_at, travel_along, AreTravels}
 use Rattle.nf_routes_links.proofs.Folds.{drop_at}
 
 -- ---- the same links, one by one

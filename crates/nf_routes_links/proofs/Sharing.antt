@@ -1,32 +1,14 @@
 -- The points of what a route sends on: their times and their values rise.
-use Rattle.std.proofs.Common.{◌≡◌, List, [], ◌∷◌, ⊎_elim, Bool, true, false, refl, sym, ap, subst, ◌∙◌}
-use Rattle.std.specs.Prelude.{Result, Ok, Err, IfOk}
-use Rattle.nf_rational.specs.Rational.{ℚ}
-use Rattle.nf_rational.specs.Operations.{0ℚ}
-use Rattle.nf_rational.specs.Order.{◌≤ℚ◌, ◌<ℚ◌}
-use Rattle.nf_rational_laws.proofs.Order.{≤ℚ_of_lt, ≤ℚ_antisymm, lt_or_le_ℚ}
-use Rattle.nf_rational_laws.proofs.Chains.{≤ℚ_refl, ≤ℚ_trans}
-use Rattle.nf_frac_def.specs.declared.Halt.{Halt}
-use Rattle.nf_frac_def.specs.declared.PassedAt.{PassedAt}
-use Rattle.nf_frac_def.specs.declared.Part.TheVariants.{Load}
-use Rattle.nf_frac_def.specs.Passing.{Passing}
-use Rattle.nf_frac_def.specs.Checked.{Checked, Gives, at_part, each}
-use Rattle.nf_model.specs.Curve.{Point, value, TimesRise, IsCurve}
+use Rattle.std.proofs.Common.{◌≡◌, List, [], ◌∷◌, ⊎_elim, Bool, true, false, refl, sym, ap, subst, ◌∙◌, Result, Ok, Err, IfOk}
+use Rattle.nf_routes_links.proofs.Common.{ℚ, 0ℚ, ◌≤ℚ◌, ◌<ℚ◌, ≤ℚ_of_lt, ≤ℚ_antisymm, lt_or_le_ℚ, ≤ℚ_refl, ≤ℚ_trans, Halt, PassedAt, Load, Passing, Checked}
+use Rattle.nf_routes_links.proofs.Common.{Gives, at_part, each, Point, value, TimesRise, IsCurve, value-first, NeverFalls-value, is_same, checked_short}
+use Rattle.nf_routes_links.proofs.Common.{both_times, sides_at, then_ok, is_same_cases, checked_short-is, after_err, after_ok, was_ok, same_Ok, IsAmount}
+use Rattle.nf_routes_links.proofs.Common.{AreExits}
 use Rattle.nf_model_laws.specs.CurveLaws.{ValuesRise}
-use Rattle.nf_model_laws.proofs.Curves.{value-first, NeverFalls-value}
-use Rattle.nf_rational.specs.Signs.{is_same}
 use Rattle.nf_curve_def.specs.Lines.{Sides}
-use Rattle.nf_curve_def.specs.Short.{checked_short}
-use Rattle.nf_curve_def.specs.Times.{both_times}
-use Rattle.nf_curve_def.specs.Sums.{sides_at}
-use Rattle.nf_curve_laws.proofs.Operations.{then_ok, is_same_cases}
 use Rattle.nf_curve_laws.proofs.Times.{NextOnes, both_times-next}
 use Rattle.nf_curve_laws.proofs.Pieces.{AreSides, sides_at-is}
-use Rattle.nf_curve_laws.proofs.Short.{checked_short-is}
-use Rattle.nf_curve.proofs.Exits.{after_err, after_ok, was_ok}
-use Rattle.nf_rational_laws.proofs.Results.{same_Ok}
 use Rattle.nf_routes_def.specs.RoutesList.{next_from, next_entry}
-use Rattle.nf_routes_links.specs.Amounts.{IsAmount, AreExits}
 use Rattle.nf_routes_links.proofs.Amounts.{short_amount}
 
 strictly : (x y : ℚ) → x ≤ℚ y → (x ≡ y → ⊥) → x <ℚ y

@@ -1,31 +1,15 @@
 -- What holds of a route and what it has sent, from link to link.
-use Rattle.std.proofs.Common.{◌≡◌, ◌≢◌, ℕ, zero, suc, ◌<◌, List, [], ◌∷◌, ◌++◌, length, ⊎_elim, Bool, true, false, not, ◌&&◌, ◌||◌, eqb, refl, sym, ap, subst, ◌∙◌, arith}
-use Rattle.std.specs.Prelude.{Ok, Some, slice_get}
-use Rattle.std.specs.List.{AllByRecursion, list_all}
-use Rattle.std.proofs.lemmas.Bool.Decides.{eqb_tells}
-use Rattle.nf_rational.specs.Rational.{ℚ}
-use Rattle.nf_rational.specs.Operations.{0ℚ}
-use Rattle.nf_rational.specs.Order.{◌≤ℚ◌}
-use Rattle.nf_frac_def.specs.Passing.{Passing}
-use Rattle.nf_model.specs.Curve.{Point}
-use Rattle.nf_model.specs.Network.{ArePieces}
-use Rattle.nf_curve_def.specs.Short.{checked_short}
-use Rattle.nf_curve_laws.proofs.Operations.{then_ok}
-use Rattle.nf_curve_laws.proofs.Short.{checked_short-is}
-use Rattle.nf_load_def.specs.Cumulative.{checked_cumulative}
+use Rattle.std.proofs.Common.{◌≡◌, ◌≢◌, ℕ, zero, suc, ◌<◌, List, [], ◌∷◌, ◌++◌, length, ⊎_elim, Bool, true, false, not, ◌||◌, eqb, refl, sym, ap, subst, ◌∙◌, arith}
+use Rattle.nf_routes_links.proofs.Common.{Ok, Some, slice_get, AllByRecursion, list_all, eqb_tells, ℚ, 0ℚ, ◌≤ℚ◌, Passing, Point, ArePieces, checked_short}
+use Rattle.nf_routes_links.proofs.Common.{then_ok, checked_short-is, checked_cumulative, same_Ok, not_both, or_rest, Route, pairs_of, all_pairs, is_taken}
+use Rattle.nf_routes_links.proofs.Common.{begins_with, goes_over, last_entry, next_entry, begin_if, add_if, sum_from, next_if, taken-push, IsAmount, AreExits}
+use Rattle.nf_routes_links.proofs.Common.{nothing_sent, HavePieces, Along, MayBegin, Sends}
 use Rattle.nf_load_laws.proofs.Cumulative.{checked_cumulative-is}
-use Rattle.nf_rational_laws.proofs.Results.{same_Ok, not_both, or_rest}
-use Rattle.nf_routes_def.specs.Routes.{Route, pairs_of, all_pairs, is_taken}
-use Rattle.nf_routes_def.specs.RoutesList.{begins_with, goes_over, last_entry, next_entry, begin_if, add_if, sum_from, next_if}
 use Rattle.nf_routes_read.proofs.Pairs.{test}
-use Rattle.nf_routes_read.proofs.Taking.{taken-push}
-use Rattle.nf_routes_links.specs.Amounts.{IsAmount, AreExits}
 use Rattle.nf_routes_links.proofs.Amounts.{short_amount, summed_amount, supplied_amount}
 use Rattle.nf_routes_links.proofs.Sharing.{next_amount}
-use Rattle.nf_routes_links.specs.Beginning.{nothing_sent, HavePieces}
-use Rattle.nf_routes_links.specs.Standing.{Along, MayBegin, Sends}
 use Rattle.nf_routes_links.proofs.Folds.{Sent}
-use Rattle.std.proofs.lemmas.Bool.{or_right, or_left}
+use Rattle.std.proofs.lemmas.Bool.{or_right, or_left, and_parts, eq-eqb}
 use Rattle.std.proofs.lemmas.List.Folds.{list_all-append}
 
 -- with these links taken: each of those that it goes over has made it send something
@@ -51,13 +35,6 @@ sound_first (x ∷ routes) h = (record { pieces = h 0 x refl; amounts = tt; some
 
 -- ---- what stands before a link on a route was taken
 
-same_test : (x : ℕ) → eqb x x ≡ true
-same_test x = ⊎_elim (λ (w : (eqb x x ≡ true) × (x ≡ x)). w.0) (λ (w : (eqb x x ≡ false) × (x ≢ x)). absurd (w.1 refl)) (eqb_tells x x)
-
-and_true : (a b : Bool) → (a && b) ≡ true → (a ≡ true) × (b ≡ true)
-and_true true b h = (refl, h)
-and_true false b h = absurd (cc)
-
 needs : (a b : Bool) → (not a || b) ≡ true → a ≡ true → b ≡ true
 needs true b h k = h
 needs false b h k = absurd (cc)
@@ -70,10 +47,10 @@ pub record Came (taken links : List ℕ) : Type 0 where
 goes_back : (taken : List ℕ) (e : ℕ) (links : List ℕ) → list_all (test taken e) (pairs_of links) ≡ true → goes_over links e ≡ true → begins_with links e ≡ false → Came taken links
 goes_back taken e [] h over first = absurd (cc)
 goes_back taken e (x ∷ []) h over first = absurd (not_both false (or_rest (eqb x e) false first over) refl)
-goes_back taken e (x ∷ y ∷ rest) h over first = by (eqb y e) refl (λ k. goes_back taken e (y ∷ rest) (and_true (test taken e (x, y)) _ h).1 (or_rest (eqb x e) _ first over) k)
+goes_back taken e (x ∷ y ∷ rest) h over first = by (eqb y e) refl (λ k. goes_back taken e (y ∷ rest) (and_parts (test taken e (x, y)) _ h).1 (or_rest (eqb x e) _ first over) k)
   where
     by : (b : Bool) → eqb y e ≡ b → (eqb y e ≡ false → Came taken (y ∷ rest)) → Came taken (x ∷ y ∷ rest)
-    by true t later = record { link = x; taken_before = needs (eqb y e) (is_taken taken x) (and_true (test taken e (x, y)) _ h).0 t; over = or_left (eqb x x) _ (same_test x) }
+    by true t later = record { link = x; taken_before = needs (eqb y e) (is_taken taken x) (and_parts (test taken e (x, y)) _ h).0 t; over = or_left (eqb x x) _ (eq-eqb x x refl) }
     by false t later = let c = later t in record { link = c.link; taken_before = c.taken_before; over = or_right (eqb x c.link) _ c.over }
 
 may_begin : (taken : List ℕ) (e : ℕ) (route : Route) (sent : Sent) → IsSound taken route sent → list_all (test taken e) (pairs_of route.links) ≡ true → MayBegin e route sent
@@ -93,7 +70,7 @@ all_ready taken e [] [] along h = tt
 all_ready taken e [] (y ∷ entries) along h = absurd along
 all_ready taken e (x ∷ routes) [] along h = absurd along
 all_ready taken e (x ∷ routes) (y ∷ entries) along h =
-    let w = and_true (list_all (test taken e) (pairs_of x.links)) _ (sym (list_all-append (test taken e) (pairs_of x.links) (all_pairs routes)) ∙ h) in
+    let w = and_parts (list_all (test taken e) (pairs_of x.links)) _ (sym (list_all-append (test taken e) (pairs_of x.links) (all_pairs routes)) ∙ h) in
     (record { sound = along.0; may = may_begin taken e x y along.0 w.0 }, all_ready taken e routes entries along.1 w.1)
 
 -- ---- the first entry

@@ -1,33 +1,17 @@
 -- What holds of what is loaded so far, from link to link.
 use Rattle.std.proofs.Common.{◌≡◌, ◌≢◌, ℕ, zero, suc, ◌+◌, ◌<◌, ◌≤◌, List, [], ◌∷◌, ◌++◌, length, set, ⊎_elim, Bool, true, false, eqb, ◌&&◌, ◌||◌, refl, sym, ap, subst, ◌∙◌, arith}
-use Rattle.std.specs.Prelude.{Option, Some, None, Ok, slice_get}
-use Rattle.std.specs.List.{list_all, range_with_len}
-use Rattle.std.proofs.lemmas.List.{length-set, length-map}
-use Rattle.std.proofs.lemmas.Option.{slice_get_within}
-use Rattle.std.proofs.lemmas.Bool.Decides.{eqb_tells}
-use Rattle.nf_rational.specs.Rational.{ℚ}
-use Rattle.nf_rational.specs.Operations.{0ℚ}
-use Rattle.nf_rational.specs.Order.{◌≤ℚ◌}
-use Rattle.nf_rational_laws.proofs.Chains.{≤ℚ_trans}
-use Rattle.nf_frac_def.specs.Passing.{Passing}
-use Rattle.nf_model.specs.Curve.{Point}
-use Rattle.nf_model.specs.Network.{Link, Network, IsLink, IsNetwork, hops}
+use Rattle.nf_routes_laws.proofs.Stages.{set-same}
+use Rattle.nf_routes_links.proofs.Common.{Option, Some, None, Ok, slice_get, list_all, range_with_len, length-set, length-map, slice_get_within, eqb_tells, ℚ}
+use Rattle.nf_routes_links.proofs.Common.{0ℚ, ◌≤ℚ◌, ≤ℚ_trans, Passing, Point, Link, Network, IsLink, IsNetwork, hops, IsPositive-link, then_ok, Loaded}
+use Rattle.nf_routes_links.proofs.Common.{checked_loading, same_Ok, or_rest, LoadedLink, SoFar, begins_with, goes_over, end_by, begin_if, begin_all, sum_from}
+use Rattle.nf_routes_links.proofs.Common.{next_if, next_all, load_here, taken-push, IsPlaced, IsAmount, AreExits, nothing_loaded, nothing_sent, Along, MayBegin}
+use Rattle.nf_routes_links.proofs.Common.{Sends, MayLoad, IsComplete}
 use Rattle.nf_model.specs.Walk.{IsWalk}
-use Rattle.nf_model_laws.proofs.Earliest.{IsPositive-link}
-use Rattle.nf_curve_laws.proofs.Operations.{then_ok}
-use Rattle.nf_load_def.specs.Loading.{Loaded, checked_loading}
-use Rattle.nf_rational_laws.proofs.Results.{same_Ok, or_rest}
 use Rattle.nf_routes_def.specs.Routes.{Route, AreRoutes, all_pairs, is_taken, loading_order, takes_all}
-use Rattle.nf_routes_def.specs.RoutesList.{LoadedLink, SoFar, begins_with, goes_over, end_by, begin_if, begin_all, sum_from, next_if, next_all, load_here}
-use Rattle.nf_routes_read.proofs.Taking.{taken-push, IsPlaced}
-use Rattle.nf_routes_links.specs.Amounts.{IsAmount, AreExits}
 use Rattle.nf_routes_links.proofs.Amounts.{no_amount, loaded_exits}
-use Rattle.nf_routes_links.specs.Beginning.{nothing_loaded, nothing_sent}
-use Rattle.nf_routes_links.specs.Standing.{Along, MayBegin, Sends, MayLoad, IsFullyLoaded}
 use Rattle.nf_routes_links.proofs.Greatest.{end-least}
 use Rattle.nf_routes_links.proofs.Folds.{Sent, begin_all-is, next_all-is, steps_keep, along_as}
 use Rattle.nf_routes_links.proofs.Sound.{IsSound, IsBegun, IsReady, sends_here, sound_first, all_ready, begun_keeps, inflow_amount, next_keeps}
-use Rattle.nf_routes_laws.proofs.Stages.{set-same}
 
 -- with these links taken, they are loaded
 pub record Stands (net : Network) (routes : List Route) (taken : List ℕ) (so_far : SoFar) : Type 0 where

@@ -1,35 +1,16 @@
 -- Travels over loaded links: by what is loaded, and that no time of them is negative.
 use Rattle.std.proofs.Common.{◌≡◌, ℕ, zero, suc, ◌+◌, ◌≤◌, List, [], ◌∷◌, length, drop, ⊎_elim, Bool, true, false, refl, sym, ap, subst, ◌∙◌, arith}
-use Rattle.std.specs.Prelude.{Option, Some, None, Ok, Err, map, slice_get, unwrap_or, if◌then◌else◌}
-use Rattle.std.proofs.lemmas.List.{drop_all, length-map}
-use Rattle.std.proofs.lemmas.Option.{slice_get_within}
-use Rattle.nf_rational.specs.Rational.{ℚ}
-use Rattle.nf_rational.specs.Operations.{0ℚ}
-use Rattle.nf_rational.specs.Order.{◌≤ℚ◌}
-use Rattle.nf_rational_laws.proofs.Chains.{≤ℚ_refl, ≤ℚ_trans}
-use Rattle.nf_frac_def.specs.declared.Halt.{Halt}
-use Rattle.nf_frac_def.specs.declared.Part.TheVariants.{Load}
-use Rattle.nf_frac_def.specs.Passing.{Passing}
-use Rattle.nf_frac_def.specs.Checked.{Checked, Stops, at_part, each, ◌>>=◌}
-use Rattle.nf_model.specs.Curve.{Point, Within, value, IsCurve}
-use Rattle.nf_model.specs.Network.{Network}
+use Rattle.nf_routes_links.proofs.Common.{Option, Some, None, Ok, Err, map, slice_get, unwrap_or, if◌then◌else◌, drop_all, length-map, slice_get_within, ℚ, 0ℚ}
+use Rattle.nf_routes_links.proofs.Common.{◌≤ℚ◌, ≤ℚ_refl, ≤ℚ_trans, Halt, Load, Passing, Checked, Stops, at_part, each, ◌>>=◌, Point, Within, value, IsCurve}
+use Rattle.nf_routes_links.proofs.Common.{Network, NeverFalls-value, value-first, is_zero, is_same_cases, Loaded, loaded_at, departures, after_err, was_ok}
+use Rattle.nf_routes_links.proofs.Common.{stops_on, Route, AreRoutes, LoadedLink, SoFar, exit_of, loaded_or, travel_on, AreExits, IsComplete, HaveExits}
+use Rattle.nf_routes_links.proofs.Common.{GoOverAll, travel_along}
+use Rattle.nf_routes_links.proofs.Folds.{drop_at}
 use Rattle.nf_model_laws.specs.CurveLaws.{ValuesRise}
-use Rattle.nf_model_laws.proofs.Curves.{NeverFalls-value, value-first}
-use Rattle.nf_rational.specs.Signs.{is_zero}
-use Rattle.nf_curve_laws.proofs.Operations.{is_same_cases}
 use Rattle.nf_curve_def.specs.Composed.{checked_composed}
 use Rattle.nf_curve_def.specs.Meanings.{IsComposedOf}
-use Rattle.nf_load_def.specs.Loading.{Loaded}
-use Rattle.nf_check_def.specs.Curves.{loaded_at, departures}
-use Rattle.nf_curve.proofs.Exits.{after_err, was_ok, stops_on}
 use Rattle.nf_curve.proofs.Points.{positive}
-use Rattle.nf_routes_def.specs.Routes.{Route, AreRoutes}
-use Rattle.nf_routes_def.specs.RoutesList.{LoadedLink, SoFar, exit_of, loaded_or, travel_on}
 use Rattle.nf_routes_laws.proofs.Arriving.{walk-links}
-use Rattle.nf_routes_links.specs.Amounts.{AreExits}
-use Rattle.nf_routes_links.specs.Standing.{IsFullyLoaded}
-use Rattle.nf_routes_links.specs.Travels.{HaveExits, GoOverAll, travel_along}
-use Rattle.nf_routes_links.proofs.Folds.{drop_at}
 
 -- ---- the exits by what is loaded
 exit_same : (passes : Passing) (links : List (Option LoadedLink)) (e : ℕ) → exit_of passes links e ≡ (loaded_at (map (loaded_or passes) links) e).exit

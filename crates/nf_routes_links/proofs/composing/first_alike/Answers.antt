@@ -1,6 +1,5 @@
 use Rattle.std.proofs.Common.{◌<◌, length, refl, sym, ap, ◌∙◌, arith}
-use Rattle.std.proofs.lemmas.Option.{slice_get_read}
-use Rattle.nf_routes_def.specs.RoutesFile.{links_of}
+use Rattle.nf_routes_links.proofs.Common.{slice_get_read, links_of}
 use Rattle.nf_routes_links.proofs.composing.first_alike.Goals as goal
 
 pub returns-then-has_same_links-clause-alike : goal.returns-then-has_same_links-clause-alike

@@ -1,6 +1,5 @@
 use Rattle.std.proofs.Common.{◌≡◌, ◌<◌, ◌≤◌, length, refl, arith}
-use Rattle.std.proofs.lemmas.Bool.Decides.{nat_tests}
-use Rattle.std.proofs.lemmas.Option.{slice_get_read}
+use Rattle.nf_routes_links.proofs.Common.{nat_tests, slice_get_read}
 use Rattle.nf_routes_links.proofs.Repeating.{links_step, links_end}
 use Rattle.nf_routes_links.proofs.composing.has_same_links.Goals as goal
 

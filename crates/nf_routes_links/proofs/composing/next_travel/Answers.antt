@@ -1,19 +1,6 @@
-use Rattle.std.proofs.Common.{◌<◌, ℕ, List, length, map, refl, sym, ap, subst, ◌∙◌}
-use Rattle.std.specs.Prelude.{Ok, Option, Result}
-use Rattle.std.proofs.lemmas.Option.{slice_get_read}
-use Rattle.std.proofs.lemmas.Result.{err_from_is_err_and}
-use Rattle.nf_rational.specs.Rational.{ℚ}
-use Rattle.nf_frac_def.specs.declared.Part.TheVariants.{Load}
-use Rattle.nf_frac_def.specs.declared.PassedAt.{PassedAt}
-use Rattle.nf_frac_def.specs.Passing.{passes_Q}
-use Rattle.nf_frac_def.specs.Checked.{at_part, Gives}
-use Rattle.nf_model.specs.Curve.{Point}
-use Rattle.nf_check_def.specs.Curves.{departures}
-use Rattle.nf_curve.specs.Points.{Grown}
-use Rattle.nf_load.specs.Loadings.{loaded_of}
-use Rattle.nf_rational_laws.proofs.Entries.{slice_get-image}
-use Rattle.nf_routes_def.specs.RoutesFile.{NamedRoute, links_of}
-use Rattle.nf_routes_links.specs.Travels.{travel_along}
+use Rattle.std.proofs.Common.{◌<◌, ℕ, List, length, map, refl, sym, ap, subst, ◌∙◌, Ok, Option, Result}
+use Rattle.nf_routes_links.proofs.Common.{slice_get_read, err_from_is_err_and, ℚ, Load, PassedAt, passes_Q, at_part, Gives, Point, departures, Grown, loaded_of}
+use Rattle.nf_routes_links.proofs.Common.{slice_get-image, NamedRoute, links_of, travel_along}
 use Rattle.nf_routes_links.proofs.composing.next_travel.Goals as goal
 
 pub travel-requires-clause-over : goal.travel-requires-clause-over

@@ -1,18 +1,6 @@
-use Rattle.std.proofs.Common.{◌≡◌, ◌<◌, ◌≤◌, ℕ, List, length, get_or, map, refl, sym, ap, subst, ◌∙◌, rules, arith}
-use Rattle.std.specs.Prelude.{Some, Result}
-use Rattle.std.specs.List.{slice_get}
-use Rattle.std.proofs.lemmas.List.{length-map}
-use Rattle.std.proofs.lemmas.Option.{slice_get-get_or, slice_get_read}
-use Rattle.std.proofs.lemmas.Result.{err_from_is_err_and}
-use Rattle.nf_rational.specs.Rational.{ℚ}
-use Rattle.nf_frac_def.specs.declared.Part.TheVariants.{Load}
-use Rattle.nf_frac_def.specs.declared.PassedAt.{PassedAt}
-use Rattle.nf_frac_def.specs.Passing.{passes_Q}
-use Rattle.nf_frac_def.specs.Checked.{at_part, Gives}
-use Rattle.nf_model.specs.Curve.{Point}
-use Rattle.nf_curve.specs.Points.{Grown}
-use Rattle.nf_rational_laws.proofs.Entries.{slice_get-image}
-use Rattle.nf_load.specs.Loadings.{loaded_of}
+use Rattle.std.proofs.Common.{◌≡◌, ◌<◌, ◌≤◌, ℕ, List, length, get_or, map, refl, sym, ap, subst, ◌∙◌, rules, arith, Some, Result, slice_get}
+use Rattle.nf_routes_links.proofs.Common.{length-map, slice_get-get_or, slice_get_read, err_from_is_err_and, ℚ, Load, PassedAt, passes_Q, at_part, Gives, Point}
+use Rattle.nf_routes_links.proofs.Common.{Grown, slice_get-image, loaded_of}
 use Rattle.nf_routes_links.proofs.Travelling.{travels_first, travels_last, travels_stop, travels_go}
 use Rattle.nf_routes_links.proofs.composing.travel.Goals as goal
 

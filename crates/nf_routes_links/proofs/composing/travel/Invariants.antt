@@ -1,6 +1,5 @@
 use Rattle.std.proofs.Common.{map}
-use Rattle.nf_frac_def.specs.Passing.{passes_Q}
-use Rattle.nf_load.specs.Loadings.{loaded_of}
+use Rattle.nf_routes_links.proofs.Common.{passes_Q, loaded_of}
 use Rattle.nf_routes_links.proofs.Travelling.{Travels}
 use Rattle.nf_routes_links.proofs.composing.travel.Given as goal
 

@@ -1,15 +1,6 @@
 use Rattle.std.proofs.Common.{◌≡◌, ◌≤◌, ℕ, List, [], ◌∷◌, length, map, sym, ap, subst, ◌∙◌, arith}
-use Rattle.std.proofs.lemmas.List.{length-map, map-append}
-use Rattle.std.proofs.lemmas.Result.{err_from_is_err_and}
-use Rattle.nf_frac_def.specs.declared.Part.TheVariants.{Load}
-use Rattle.nf_frac_def.specs.Passing.{passes_Q}
-use Rattle.nf_frac_def.specs.Checked.{at_part}
-use Rattle.nf_check_def.specs.Curves.{departures}
-use Rattle.nf_curve.specs.Points.{Grown}
-use Rattle.nf_load.specs.Loadings.{loaded_of}
-use Rattle.nf_rational_laws.proofs.Entries.{entry}
-use Rattle.nf_routes_def.specs.RoutesFile.{links_at}
-use Rattle.nf_routes_links.specs.Travels.{travel_along, AreTravels}
+use Rattle.nf_routes_links.proofs.Common.{length-map, map-append, err_from_is_err_and, Load, passes_Q, at_part, departures, Grown, loaded_of, entry, links_at}
+use Rattle.nf_routes_links.proofs.Common.{travel_along, AreTravels}
 use Rattle.nf_routes_links.proofs.Repeating.{AllTravels, travels_none, travels_stopped, travels_next, travels_all}
 use Rattle.nf_routes_links.proofs.composing.travels.Goals as goal
 

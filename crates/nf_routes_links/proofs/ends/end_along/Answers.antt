@@ -1,10 +1,5 @@
 use Rattle.std.proofs.Common.{◌+◌, ◌-◌, ◌<◌, ◌≤◌, drop, length, refl, sym, ap, ◌∙◌, arith}
-use Rattle.std.proofs.lemmas.Option.{slice_get_read}
-use Rattle.nf_rational.specs.Rational.{ℚ}
-use Rattle.nf_rational_laws.proofs.Entries.{entry}
-use Rattle.nf_routes_def.specs.Routes.{pairs_of}
-use Rattle.nf_routes_def.specs.RoutesList.{end_by}
-use Rattle.nf_rational.specs.Order.{max_ℚ}
+use Rattle.nf_routes_links.proofs.Common.{slice_get_read, ℚ, entry, pairs_of, end_by, max_ℚ}
 use Rattle.nf_routes_links.proofs.Greatest.{along_end, along_here, along_other}
 use Rattle.nf_routes_links.proofs.ends.end_along.Goals.{then-eq, else-eq}
 use Rattle.nf_routes_links.proofs.ends.end_along.Goals as goal

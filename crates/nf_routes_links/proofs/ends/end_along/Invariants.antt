@@ -1,6 +1,5 @@
 use Rattle.std.proofs.Common.{◌≡◌, ◌-◌, ◌<◌, drop}
-use Rattle.nf_routes_def.specs.Routes.{pairs_of}
-use Rattle.nf_routes_def.specs.RoutesList.{end_by}
+use Rattle.nf_routes_links.proofs.Common.{pairs_of, end_by}
 use Rattle.nf_routes_links.proofs.ends.end_along.Given as goal
 
 abbrev pub invariant-loop-i : goal.invariant-loop-i

@@ -1,7 +1,5 @@
 use Rattle.std.proofs.Common.{ℕ, ◌<◌, List, length, refl, ap, ◌∙◌, arith}
-use Rattle.std.proofs.lemmas.Option.{slice_get_read}
-use Rattle.nf_routes_def.specs.Routes.{pairs_of}
-use Rattle.nf_routes_def.specs.RoutesList.{end_by}
+use Rattle.nf_routes_links.proofs.Common.{slice_get_read, pairs_of, end_by}
 use Rattle.nf_routes_links.proofs.Greatest.{end_route}
 use Rattle.nf_routes_links.proofs.ends.end_by.Goals as goal
 

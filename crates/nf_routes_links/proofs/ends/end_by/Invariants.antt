@@ -1,7 +1,5 @@
 use Rattle.std.proofs.Common.{◌≡◌, drop}
-use Rattle.nf_routes_def.specs.Routes.{all_pairs}
-use Rattle.nf_routes_def.specs.RoutesList.{end_by}
-use Rattle.nf_routes_def.specs.RoutesFile.{routes_of}
+use Rattle.nf_routes_links.proofs.Common.{all_pairs, end_by, routes_of}
 use Rattle.nf_routes_links.proofs.ends.end_by.Given as goal
 
 abbrev pub invariant-loop-route : goal.invariant-loop-route

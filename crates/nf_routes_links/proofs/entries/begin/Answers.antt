@@ -1,12 +1,5 @@
 use Rattle.std.proofs.Common.{◌≡◌, ℕ, true, List, sym, ap, subst, ◌∙◌}
-use Rattle.nf_model.specs.Network.{ArePieces}
-use Rattle.std.proofs.lemmas.Result.{err_from_is_err_and}
-use Rattle.nf_frac_def.specs.declared.Part.TheVariants.{Load}
-use Rattle.nf_frac_def.specs.Passing.{passes_Q}
-use Rattle.nf_frac_def.specs.Checked.{at_part}
-use Rattle.nf_curve.proofs.Exits.{stops_on}
-use Rattle.nf_routes_def.specs.RoutesList.{begins_with, begin_if}
-use Rattle.nf_routes_links.specs.Beginning.{first_entry}
+use Rattle.nf_routes_links.proofs.Common.{ArePieces, err_from_is_err_and, Load, passes_Q, at_part, stops_on, begins_with, begin_if, first_entry}
 use Rattle.nf_routes_links.proofs.Passed.{begin_passes}
 use Rattle.nf_routes_links.proofs.entries.begin.Goals as goal
 

@@ -1,14 +1,6 @@
 use Rattle.std.proofs.Common.{◌<◌, length, get_or, refl, sym, subst, arith}
-use Rattle.std.proofs.lemmas.Option.{slice_get-get_or, slice_get_read}
-use Rattle.std.proofs.lemmas.Result.{err_from_is_err_and}
-use Rattle.nf_rational.specs.Rational.{ℚ}
-use Rattle.nf_frac_def.specs.declared.Part.TheVariants.{Load}
-use Rattle.nf_frac_def.specs.Passing.{passes_Q}
-use Rattle.nf_frac_def.specs.Checked.{Checked, Stops, at_part}
-use Rattle.nf_rational_laws.proofs.Entries.{slice_get-image}
-use Rattle.nf_routes_def.specs.Routes.{Route}
-use Rattle.nf_routes_def.specs.RoutesFile.{NamedRoute, routes_of}
-use Rattle.nf_routes_def.specs.RoutesList.{begins_with, begin_if}
+use Rattle.nf_routes_links.proofs.Common.{slice_get-get_or, slice_get_read, err_from_is_err_and, ℚ, Load, passes_Q, Checked, Stops, at_part, slice_get-image}
+use Rattle.nf_routes_links.proofs.Common.{Route, NamedRoute, routes_of, begins_with, begin_if}
 use Rattle.nf_routes_links.proofs.Folds.{Sent, begin_all-is, steps_stop, steps_go}
 use Rattle.nf_routes_links.proofs.entries.begin_all.Goals as goal
 

@@ -1,6 +1,4 @@
-use Rattle.nf_frac_def.specs.Passing.{passes_Q}
-use Rattle.nf_routes_def.specs.RoutesList.{begins_with, begin_if}
-use Rattle.nf_routes_def.specs.RoutesFile.{routes_of}
+use Rattle.nf_routes_links.proofs.Common.{passes_Q, begins_with, begin_if, routes_of}
 use Rattle.nf_routes_links.proofs.Folds.{Steps}
 use Rattle.nf_routes_links.proofs.entries.begin_all.Given as goal
 

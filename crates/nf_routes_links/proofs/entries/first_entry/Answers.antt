@@ -1,13 +1,6 @@
 use Rattle.std.proofs.Common.{List}
-use Rattle.std.proofs.lemmas.Result.{err_from_is_err_and}
-use Rattle.nf_frac_def.specs.declared.Part.TheVariants.{Load}
-use Rattle.nf_frac_def.specs.Passing.{passes_Q}
-use Rattle.nf_frac_def.specs.Checked.{at_part}
-use Rattle.nf_model.specs.Curve.{Point}
-use Rattle.nf_curve.proofs.Exits.{after_err, stops_on}
-use Rattle.nf_curve_def.specs.Short.{checked_short}
-use Rattle.nf_load_def.specs.Cumulative.{checked_cumulative}
-use Rattle.nf_routes_links.specs.Beginning.{first_entry}
+use Rattle.nf_routes_links.proofs.Common.{err_from_is_err_and, Load, passes_Q, at_part, Point, after_err, stops_on, checked_short, checked_cumulative}
+use Rattle.nf_routes_links.proofs.Common.{first_entry}
 use Rattle.nf_routes_links.proofs.entries.first_entry.Goals as goal
 
 pub returns-in_err-amounts : goal.returns-in_err-amounts

@@ -1,16 +1,6 @@
 use Rattle.std.proofs.Common.{ℕ, ◌<◌, ◌≤◌, List, [], ◌∷◌, length, drop, refl, sym, ap, subst, ◌∙◌, arith}
-use Rattle.std.proofs.lemmas.List.{length-map, drop_all}
-use Rattle.std.proofs.lemmas.Option.{slice_get_read}
-use Rattle.std.proofs.lemmas.Result.{err_from_is_err_and}
-use Rattle.nf_rational.specs.Operations.{0ℚ}
-use Rattle.nf_frac_def.specs.declared.Part.TheVariants.{Load}
-use Rattle.nf_frac_def.specs.Passing.{passes_Q}
-use Rattle.nf_frac_def.specs.Checked.{at_part}
-use Rattle.nf_rational_laws.proofs.Entries.{slice_get-image}
-use Rattle.nf_routes_def.specs.Routes.{Route}
-use Rattle.nf_routes_def.specs.RoutesList.{sum_from}
-use Rattle.nf_routes_def.specs.RoutesFile.{NamedRoute, routes_of}
-use Rattle.nf_routes_links.specs.Standing.{Sends}
+use Rattle.nf_routes_links.proofs.Common.{length-map, drop_all, slice_get_read, err_from_is_err_and, 0ℚ, Load, passes_Q, at_part, slice_get-image, Route}
+use Rattle.nf_routes_links.proofs.Common.{sum_from, NamedRoute, routes_of, Sends}
 use Rattle.nf_routes_links.proofs.Folds.{along_at, along-count, sums_stop, sums_go}
 use Rattle.nf_routes_links.proofs.entries.inflow_of.Goals as goal
 

@@ -1,7 +1,5 @@
 use Rattle.std.proofs.Common.{[], ◌∷◌}
-use Rattle.nf_rational.specs.Operations.{0ℚ}
-use Rattle.nf_frac_def.specs.Passing.{passes_Q}
-use Rattle.nf_routes_def.specs.RoutesFile.{routes_of}
+use Rattle.nf_routes_links.proofs.Common.{0ℚ, passes_Q, routes_of}
 use Rattle.nf_routes_links.proofs.Folds.{Sums}
 use Rattle.nf_routes_links.proofs.entries.inflow_of.Given as goal
 

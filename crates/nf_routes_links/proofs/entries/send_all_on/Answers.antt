@@ -1,16 +1,6 @@
 use Rattle.std.proofs.Common.{◌<◌, ◌≤◌, length, get_or, refl, sym, ap, subst, ◌∙◌, arith}
-use Rattle.std.proofs.lemmas.List.{length-map}
-use Rattle.std.proofs.lemmas.Option.{slice_get-get_or, slice_get_read}
-use Rattle.std.proofs.lemmas.Result.{err_from_is_err_and}
-use Rattle.nf_rational.specs.Rational.{ℚ}
-use Rattle.nf_frac_def.specs.declared.Part.TheVariants.{Load}
-use Rattle.nf_frac_def.specs.Passing.{passes_Q}
-use Rattle.nf_frac_def.specs.Checked.{Checked, Stops, at_part}
-use Rattle.nf_rational_laws.proofs.Entries.{slice_get-image}
-use Rattle.nf_routes_def.specs.Routes.{Route}
-use Rattle.nf_routes_def.specs.RoutesFile.{NamedRoute, routes_of}
-use Rattle.nf_routes_def.specs.RoutesList.{goes_over, next_if}
-use Rattle.nf_routes_links.specs.Standing.{Sends}
+use Rattle.nf_routes_links.proofs.Common.{length-map, slice_get-get_or, slice_get_read, err_from_is_err_and, ℚ, Load, passes_Q, Checked, Stops, at_part}
+use Rattle.nf_routes_links.proofs.Common.{slice_get-image, Route, NamedRoute, routes_of, goes_over, next_if, Sends}
 use Rattle.nf_routes_links.proofs.Folds.{Sent, next_all-is, along_at, along-count, was, steps_first, steps_stop, steps_go, steps_last}
 use Rattle.nf_routes_links.proofs.Knowing.{known_first}
 use Rattle.nf_routes_links.proofs.entries.send_all_on.Goals as goal

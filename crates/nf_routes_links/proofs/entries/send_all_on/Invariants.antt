@@ -1,7 +1,4 @@
-use Rattle.nf_frac_def.specs.Passing.{passes_Q}
-use Rattle.nf_routes_def.specs.RoutesList.{goes_over, next_if}
-use Rattle.nf_routes_def.specs.RoutesFile.{routes_of}
-use Rattle.nf_routes_links.specs.Points.{AreKnown}
+use Rattle.nf_routes_links.proofs.Common.{passes_Q, goes_over, next_if, routes_of, AreKnown}
 use Rattle.nf_routes_links.proofs.Folds.{Steps}
 use Rattle.nf_routes_links.proofs.entries.send_all_on.Given as goal
 

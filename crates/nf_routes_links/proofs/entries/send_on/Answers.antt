@@ -1,12 +1,5 @@
 use Rattle.std.proofs.Common.{◌≡◌, ℕ, true, List, sym, ap, subst, ◌∙◌}
-use Rattle.std.proofs.lemmas.Result.{err_from_is_err_and}
-use Rattle.nf_frac_def.specs.declared.Part.TheVariants.{Load}
-use Rattle.nf_frac_def.specs.Passing.{passes_Q}
-use Rattle.nf_frac_def.specs.Checked.{at_part}
-use Rattle.nf_curve.proofs.Exits.{stops_on}
-use Rattle.nf_rational.specs.Rational.{ℚ}
-use Rattle.nf_routes_def.specs.RoutesList.{goes_over, next_if, next_entry}
-use Rattle.nf_routes_links.specs.Amounts.{IsAmount}
+use Rattle.nf_routes_links.proofs.Common.{err_from_is_err_and, Load, passes_Q, at_part, stops_on, ℚ, goes_over, next_if, next_entry, IsAmount}
 use Rattle.nf_routes_links.proofs.Passed.{next_passes}
 use Rattle.nf_routes_links.proofs.Sound.{last_amount}
 use Rattle.nf_routes_links.proofs.entries.send_on.Goals as goal

@@ -1,10 +1,5 @@
 use Rattle.std.proofs.Common.{◌≡◌, List, map, sym, ap, ◌∙◌}
-use Rattle.std.proofs.lemmas.List.{with_items_is}
-use Rattle.std.proofs.lemmas.Result.{err_from_is_err_and}
-use Rattle.nf_routes_def.specs.RoutesList.{SoFar}
-use Rattle.nf_routes_links.specs.Keeping.{last_alone, kept_after}
-use Rattle.nf_routes_links.specs.declared.keeping.Kept.{Kept}
-use Rattle.nf_routes_links.specs.Standing.{seen_so_far}
+use Rattle.nf_routes_links.proofs.Common.{with_items_is, err_from_is_err_and, SoFar, last_alone, kept_after, Kept, seen_so_far}
 use Rattle.nf_routes_links.proofs.Folds.{Sent}
 use Rattle.nf_routes_links.proofs.keeping.keep.Goals as goal
 

@@ -1,8 +1,5 @@
 use Rattle.std.proofs.Common.{◌<◌, ◌≤◌, List, length, get_or, set, ap, ◌∙◌, arith}
-use Rattle.std.proofs.lemmas.List.{length-set}
-use Rattle.std.proofs.lemmas.Option.{slice_get-get_or}
-use Rattle.std.proofs.lemmas.Result.{err_from_is_err_and}
-use Rattle.nf_model.specs.Curve.{Point}
+use Rattle.nf_routes_links.proofs.Common.{length-set, slice_get-get_or, err_from_is_err_and, Point}
 use Rattle.nf_routes_links.proofs.Alone.{turned_next, turned_all}
 use Rattle.nf_routes_links.proofs.keeping.keep_last_all.Goals as goal
 

@@ -1,12 +1,5 @@
 use Rattle.std.proofs.Common.{◌≡◌, ◌≤◌, ◌+◌, ℕ, length, refl, sym, ap, subst, ◌∙◌, arith}
-use Rattle.std.proofs.lemmas.Option.{slice_get_read}
-use Rattle.std.proofs.lemmas.Result.{err_from_is_err_and}
-use Rattle.nf_frac_def.specs.Passing.{passes_Q}
-use Rattle.nf_rational_laws.proofs.Entries.{entry}
-use Rattle.nf_routes_def.specs.Routes.{loading_order}
-use Rattle.nf_routes_def.specs.RoutesFile.{routes_of}
-use Rattle.nf_routes_def.specs.RoutesList.{SoFar}
-use Rattle.nf_routes_links.specs.Standing.{seen_so_far}
+use Rattle.nf_routes_links.proofs.Common.{slice_get_read, err_from_is_err_and, passes_Q, entry, loading_order, routes_of, SoFar, seen_so_far}
 use Rattle.nf_routes_links.proofs.All.{placed_at, may_load_at, stands_complete, Loads, loads_first, loads_last, loads_stop, loads_go}
 use Rattle.nf_routes_links.proofs.loading.load_all.Goals as goal
 

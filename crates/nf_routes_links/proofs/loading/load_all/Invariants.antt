@@ -1,6 +1,4 @@
-use Rattle.nf_frac_def.specs.Passing.{passes_Q}
-use Rattle.nf_routes_def.specs.RoutesFile.{routes_of}
-use Rattle.nf_routes_links.specs.Standing.{seen_so_far}
+use Rattle.nf_routes_links.proofs.Common.{passes_Q, routes_of, seen_so_far}
 use Rattle.nf_routes_links.proofs.All.{Loads}
 use Rattle.nf_routes_links.proofs.loading.load_all.Given as goal
 

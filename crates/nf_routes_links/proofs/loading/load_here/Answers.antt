@@ -1,25 +1,8 @@
-use Rattle.std.proofs.Common.{◌≡◌, List, [], ◌∷◌, length, set, sym, ap, subst, ◌∙◌, arith}
-use Rattle.std.specs.Prelude.{ℕ, Option, Some, Result, Ok}
-use Rattle.std.specs.List.{slice_get}
+use Rattle.std.proofs.Common.{◌≡◌, List, [], ◌∷◌, length, set, sym, ap, subst, ◌∙◌, arith, ℕ, Option, Some, Result, Ok, slice_get}
 use Rattle.std.specs.Vec.{with_items}
-use Rattle.std.proofs.lemmas.List.{length-map, with_items_is}
-use Rattle.std.proofs.lemmas.Result.{err_from_is_err_and}
-use Rattle.nf_rational.specs.Rational.{ℚ}
-use Rattle.nf_rational.specs.Operations.{0ℚ}
-use Rattle.nf_rational.specs.Order.{◌≤ℚ◌}
-use Rattle.nf_frac_def.specs.declared.PassedAt.{PassedAt}
-use Rattle.nf_frac_def.specs.declared.Part.TheVariants.{Load}
-use Rattle.nf_frac_def.specs.Passing.{passes_Q}
-use Rattle.nf_frac_def.specs.Checked.{Stops, at_part}
-use Rattle.nf_model.specs.Network.{Link}
-use Rattle.nf_model_laws.proofs.Earliest.{IsPositive-link}
-use Rattle.nf_curve.proofs.Exits.{stops_on}
-use Rattle.nf_load_def.specs.Loading.{Loaded, checked_loading}
-use Rattle.nf_load.specs.Loadings.{loaded_of}
-use Rattle.nf_routes_def.specs.Routes.{all_pairs}
-use Rattle.nf_routes_def.specs.RoutesFile.{NamedRoute, routes_of}
-use Rattle.nf_routes_def.specs.RoutesList.{LoadedLink, SoFar, end_by, begin_all, sum_from, next_all, load_here}
-use Rattle.nf_routes_links.specs.Standing.{seen_so_far, Along, MayBegin, Sends}
+use Rattle.nf_routes_links.proofs.Common.{length-map, with_items_is, err_from_is_err_and, ℚ, 0ℚ, ◌≤ℚ◌, PassedAt, Load, passes_Q, Stops, at_part, Link}
+use Rattle.nf_routes_links.proofs.Common.{IsPositive-link, stops_on, Loaded, checked_loading, loaded_of, all_pairs, NamedRoute, routes_of, LoadedLink, SoFar}
+use Rattle.nf_routes_links.proofs.Common.{end_by, begin_all, sum_from, next_all, load_here, seen_so_far, Along, MayBegin, Sends}
 use Rattle.nf_routes_links.proofs.Folds.{Sent, along-count}
 use Rattle.nf_routes_links.proofs.Sound.{have_pieces}
 use Rattle.nf_routes_links.proofs.Here.{end_nn, all_send, inflow_is, exits_are, begin_stops, sum_stops, load_stops, send_stops, comes_to}

@@ -1,17 +1,8 @@
 use Rattle.std.proofs.Common.{◌≡◌, List, ◌∷◌, map, sym, ap, ◌∙◌}
-use Rattle.std.proofs.lemmas.List.{map_push}
-use Rattle.std.proofs.lemmas.Result.{err_from_is_err_and}
-use Rattle.nf_rational.specs.Rational.{ℚ}
-use Rattle.nf_frac_def.specs.Passing.{passes_Q}
-use Rattle.nf_frac_def.specs.declared.Part.TheVariants.{Load}
-use Rattle.nf_frac_def.specs.Checked.{each}
-use Rattle.nf_frac_def.proofs.Each.{with_front}
-use Rattle.nf_curve_def.specs.Times.{both_times}
-use Rattle.nf_curve_def.specs.Sums.{sides_at}
+use Rattle.nf_routes_links.proofs.Common.{map_push, err_from_is_err_and, ℚ, passes_Q, Load, each, with_front, both_times, sides_at, sides_of, front_none}
+use Rattle.nf_routes_links.proofs.Common.{each_goes, each_stops, each_ends}
 use Rattle.nf_curve.specs.declared.lines.Sides.{Sides}
-use Rattle.nf_curve.specs.Sides.{sides_of}
 use Rattle.nf_curve.specs.Places.{times_after}
-use Rattle.nf_curve.proofs.Exits.{front_none, each_goes, each_stops, each_ends}
 use Rattle.nf_curve.proofs.Walking.{fewer_left}
 use Rattle.nf_routes_links.proofs.next.all_sides.Goals as goal
 

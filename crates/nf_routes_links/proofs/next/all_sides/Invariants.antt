@@ -1,10 +1,5 @@
 use Rattle.std.proofs.Common.{◌≡◌, length, map}
-use Rattle.nf_frac_def.specs.Passing.{passes_Q}
-use Rattle.nf_frac_def.specs.Checked.{each}
-use Rattle.nf_frac_def.proofs.Each.{with_front}
-use Rattle.nf_curve_def.specs.Times.{both_times}
-use Rattle.nf_curve_def.specs.Sums.{sides_at}
-use Rattle.nf_curve.specs.Sides.{sides_of}
+use Rattle.nf_routes_links.proofs.Common.{passes_Q, each, with_front, both_times, sides_at, sides_of}
 use Rattle.nf_curve.specs.Moments.{IsThere, times_left}
 use Rattle.nf_routes_links.proofs.next.all_sides.Given as goal
 

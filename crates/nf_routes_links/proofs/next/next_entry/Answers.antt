@@ -1,23 +1,9 @@
-use Rattle.std.proofs.Common.{◌≡◌, List, ◌∷◌, map, sym, ap, subst, ◌∙◌}
-use Rattle.std.specs.Prelude.{Ok}
-use Rattle.std.proofs.lemmas.Result.{err_from_is_err_and}
-use Rattle.nf_rational.specs.Rational.{ℚ}
-use Rattle.nf_rational.specs.Operations.{0ℚ}
-use Rattle.nf_frac_def.specs.declared.Part.TheVariants.{Load}
-use Rattle.nf_frac_def.specs.Passing.{passes_Q}
-use Rattle.nf_frac_def.specs.Checked.{Stops, at_part, each}
-use Rattle.nf_model.specs.Curve.{Point, IsCurve}
-use Rattle.nf_curve_def.specs.Short.{checked_short}
-use Rattle.nf_curve_def.specs.Times.{both_times}
-use Rattle.nf_curve_def.specs.Sums.{sides_at}
+use Rattle.std.proofs.Common.{◌≡◌, List, ◌∷◌, map, sym, ap, subst, ◌∙◌, Ok}
+use Rattle.nf_routes_links.proofs.Common.{err_from_is_err_and, ℚ, 0ℚ, Load, passes_Q, Stops, at_part, each, Point, IsCurve, checked_short, both_times, sides_at}
+use Rattle.nf_routes_links.proofs.Common.{sides_of, was_ok, stops_on, next_from, next_entry, IsAmount, AreKnown, right_point}
 use Rattle.nf_curve.specs.declared.lines.Sides.{Sides}
-use Rattle.nf_curve.specs.Sides.{sides_of}
-use Rattle.nf_curve.proofs.Exits.{was_ok, stops_on}
-use Rattle.nf_routes_def.specs.RoutesList.{next_from, next_entry}
 use Rattle.nf_routes_laws.specs.Laws.{IsSentOn}
 use Rattle.nf_routes_laws.proofs.Next.{next_entry-is}
-use Rattle.nf_routes_links.specs.Amounts.{IsAmount}
-use Rattle.nf_routes_links.specs.Points.{AreKnown, right_point}
 use Rattle.nf_routes_links.proofs.Knowing.{known_next}
 use Rattle.nf_routes_links.proofs.Sharing.{points_curve, next_amount, sides_stop, sides_go, gives_ok}
 use Rattle.nf_routes_links.proofs.next.next_entry.Goals as goal

@@ -1,7 +1,5 @@
 use Rattle.std.proofs.Common.{◌≡◌, ◌∷◌, ◌++◌, drop, map}
-use Rattle.nf_rational.specs.Operations.{0ℚ}
-use Rattle.nf_curve.specs.Sides.{sides_of}
-use Rattle.nf_routes_def.specs.RoutesList.{next_from}
+use Rattle.nf_routes_links.proofs.Common.{0ℚ, sides_of, next_from}
 use Rattle.nf_routes_links.proofs.next.next_points.Given as goal
 
 abbrev pub invariant-loop-sides : goal.invariant-loop-sides

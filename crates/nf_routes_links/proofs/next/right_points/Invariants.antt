@@ -1,6 +1,5 @@
 use Rattle.std.proofs.Common.{◌≡◌, ◌++◌, drop, map}
-use Rattle.nf_curve.specs.Sides.{sides_of}
-use Rattle.nf_routes_links.specs.Points.{right_point}
+use Rattle.nf_routes_links.proofs.Common.{sides_of, right_point}
 use Rattle.nf_routes_links.proofs.next.right_points.Given as goal
 
 abbrev pub invariant-loop-sides : goal.invariant-loop-sides

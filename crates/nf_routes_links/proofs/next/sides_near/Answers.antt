@@ -1,7 +1,5 @@
 use Rattle.std.proofs.Common.{sym, ap}
-use Rattle.nf_frac_def.specs.declared.Part.TheVariants.{Load}
-use Rattle.nf_frac_def.specs.Checked.{at_part}
-use Rattle.nf_curve.specs.Sides.{sides_of}
+use Rattle.nf_routes_links.proofs.Common.{Load, at_part, sides_of}
 use Rattle.nf_routes_links.proofs.Knowing.{sides_there}
 use Rattle.nf_routes_links.proofs.next.sides_near.Goals as goal
 

@@ -1,8 +1,5 @@
-use Rattle.std.proofs.Common.{◌<◌, length, refl, sym, ap, ◌∙◌, arith}
-use Rattle.std.specs.Prelude.{Some}
-use Rattle.std.proofs.lemmas.Option.{slice_get_read}
-use Rattle.nf_rational.specs.Rational.{ℚ}
-use Rattle.nf_curve_laws.proofs.Operations.{same_of}
+use Rattle.std.proofs.Common.{◌<◌, length, refl, sym, ap, ◌∙◌, arith, Some}
+use Rattle.nf_routes_links.proofs.Common.{slice_get_read, ℚ, same_of}
 use Rattle.nf_routes_links.proofs.points.value_there.Goals as goal
 
 pub returns : goal.returns

@@ -1,9 +1,5 @@
 use Rattle.std.proofs.Common.{List, [], ◌∷◌, ◌++◌, take, ap, ◌∙◌}
-use Rattle.std.proofs.lemmas.List.{take_all}
-use Rattle.std.proofs.lemmas.Result.{err_from_is_err_and}
-use Rattle.nf_model.specs.Curve.{Point}
-use Rattle.nf_routes_def.specs.RoutesFile.{NamedRoute, routes_of}
-use Rattle.nf_routes_links.specs.Beginning.{nothing_sent}
+use Rattle.nf_routes_links.proofs.Common.{take_all, err_from_is_err_and, Point, NamedRoute, routes_of, nothing_sent}
 use Rattle.nf_routes_links.proofs.Lists.{same_of-next}
 use Rattle.nf_routes_links.proofs.so_far.no_entries.Goals as goal
 

@@ -1,8 +1,6 @@
-use Rattle.std.proofs.Common.{ℕ, ◌<◌, ◌≤◌, List, [], ◌∷◌, ◌++◌, length, None, ap, subst, ◌∙◌, arith}
-use Rattle.std.specs.Prelude.{Option}
-use Rattle.nf_routes_def.specs.RoutesList.{LoadedLink}
-use Rattle.nf_routes_links.specs.Beginning.{nothing_loaded}
-use Rattle.nf_routes_links.proofs.Lists.{same_next, take_past}
+use Rattle.std.proofs.Common.{ℕ, ◌<◌, ◌≤◌, List, [], ◌∷◌, ◌++◌, length, None, ap, subst, ◌∙◌, arith, take_all, Option}
+use Rattle.nf_routes_links.proofs.Common.{LoadedLink, nothing_loaded}
+use Rattle.nf_routes_links.proofs.Lists.{same_next}
 use Rattle.nf_routes_links.proofs.so_far.no_links.Goals as goal
 
 pub loop-preserved : goal.loop-preserved
@@ -13,4 +11,4 @@ loop-preserved c =
 pub returns : goal.returns
 returns c =
     let past = subst (λ (n : ℕ). n ≤ c.loop.counter) c.link_count-end.ensures c.loop-test.false in
-    c.loop.invariant ∙ ap nothing_loaded (take_past c.args.net.now.net.links c.loop.counter past)
+    c.loop.invariant ∙ ap nothing_loaded (take_all c.loop.counter c.args.net.now.net.links past)

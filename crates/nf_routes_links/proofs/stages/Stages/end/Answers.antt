@@ -1,8 +1,5 @@
 use Rattle.std.proofs.Common.{List, map, sym, ap, ◌∙◌}
-use Rattle.std.proofs.lemmas.List.{map-append}
-use Rattle.nf_frac_def.specs.Passing.{passes_Q}
-use Rattle.nf_curve.specs.Points.{Grown}
-use Rattle.nf_routes_def.specs.RoutesList.{last_entry, but_last}
+use Rattle.nf_routes_links.proofs.Common.{map-append, passes_Q, Grown, last_entry, but_last}
 use Rattle.nf_routes_links.proofs.Lists.{last_push, but_last-push}
 use Rattle.nf_routes_links.proofs.stages.Stages.end.Goals as goal
 

@@ -1,9 +1,5 @@
-use Rattle.std.proofs.Common.{◌≡◌, List, [], ◌∷◌, map, sym, ap, subst, ◌∙◌}
-use Rattle.std.specs.Prelude.{OnOk}
-use Rattle.std.proofs.lemmas.List.{map-append}
-use Rattle.nf_model.specs.Curve.{Point}
-use Rattle.nf_curve.specs.Points.{Grown}
-use Rattle.nf_routes_links.specs.Keeping.{last_alone}
+use Rattle.std.proofs.Common.{◌≡◌, List, [], ◌∷◌, map, sym, ap, subst, ◌∙◌, OnOk}
+use Rattle.nf_routes_links.proofs.Common.{map-append, Point, Grown, last_alone}
 use Rattle.nf_routes_links.proofs.Alone.{alone_push}
 use Rattle.nf_routes_links.proofs.stages.Stages.keep_last.Goals as goal
 

@@ -1,10 +1,5 @@
 use Rattle.std.proofs.Common.{◌≡◌, ◌-◌, ◌<◌, List, length, map, refl, sym, ap, ◌∙◌, arith}
-use Rattle.std.proofs.lemmas.List.{length-map}
-use Rattle.std.proofs.lemmas.Option.{slice_get_read}
-use Rattle.nf_rational.specs.Rational.{ℚ}
-use Rattle.nf_curve.specs.Points.{Grown}
-use Rattle.nf_rational_laws.proofs.Entries.{slice_get-image}
-use Rattle.nf_routes_def.specs.RoutesList.{last_entry}
+use Rattle.nf_routes_links.proofs.Common.{length-map, slice_get_read, ℚ, Grown, slice_get-image, last_entry}
 use Rattle.nf_routes_links.proofs.Lists.{last_at}
 use Rattle.nf_routes_links.proofs.stages.Stages.last.Goals as goal
 
