@@ -34,9 +34,9 @@ pub use Rattle.nf_routes_def.specs.RoutesFile.{NamedRoute, links_at, links_of, r
 pub use Rattle.nf_routes_def.specs.RoutesList.{LoadedLink, SoFar, add_if, begin_all, begin_if, begins_with, but_last, end_by, exit_end, exit_of, goes_over, last_entry, load_all, load_here, loaded_or, next_all, next_entry, next_from, next_if, sum_from, travel_on}
 pub use Rattle.nf_routes_links.specs.Amounts.{AreExits, IsAmount}
 pub use Rattle.nf_routes_links.specs.Beginning.{HavePieces, all_loaded, first_entry, nothing_loaded, nothing_sent}
-pub use Rattle.nf_routes_links.specs.Keeping.{all_kept, kept_after, last_alone, load_kept, with_last}
+pub use Rattle.nf_routes_links.specs.Keeping.{all_kept, kept_after, last_alone, load_kept, keeping_last}
 pub use Rattle.nf_routes_links.specs.Points.{AreKnown, AreThere, right_point}
-pub use Rattle.nf_routes_links.specs.Standing.{Along, IsComplete, MayBegin, MayLoad, Sends, seen_so_far}
+pub use Rattle.nf_routes_links.specs.Standing.{Along, IsFullyLoaded, MayBegin, MayLoad, Sends, seen_so_far}
 pub use Rattle.nf_routes_links.specs.Travels.{AreTravels, GoOverAll, HaveExits, travel_along}
 pub use Rattle.nf_routes_links.specs.declared.keeping.Kept.{Kept}
 pub use Rattle.nf_routes_read.proofs.Taking.{IsPlaced, order_placed, taken-push}

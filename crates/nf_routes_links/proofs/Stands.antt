@@ -5,7 +5,7 @@ use Rattle.nf_routes_links.proofs.Common.{Option, Some, None, Ok, slice_get, lis
 use Rattle.nf_routes_links.proofs.Common.{0ℚ, ◌≤ℚ◌, ≤ℚ_trans, Passing, Point, Link, Network, IsLink, IsNetwork, hops, IsPositive-link, then_ok, Loaded}
 use Rattle.nf_routes_links.proofs.Common.{checked_loading, same_Ok, or_rest, LoadedLink, SoFar, begins_with, goes_over, end_by, begin_if, begin_all, sum_from}
 use Rattle.nf_routes_links.proofs.Common.{next_if, next_all, load_here, taken-push, IsPlaced, IsAmount, AreExits, nothing_loaded, nothing_sent, Along, MayBegin}
-use Rattle.nf_routes_links.proofs.Common.{Sends, MayLoad, IsComplete}
+use Rattle.nf_routes_links.proofs.Common.{Sends, MayLoad, IsFullyLoaded}
 use Rattle.nf_model.specs.Walk.{IsWalk}
 use Rattle.nf_routes_def.specs.Routes.{Route, AreRoutes, all_pairs, is_taken, loading_order, takes_all}
 use Rattle.nf_routes_links.proofs.Amounts.{no_amount, loaded_exits}

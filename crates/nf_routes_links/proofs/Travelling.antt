@@ -3,7 +3,7 @@ use Rattle.std.proofs.Common.{◌≡◌, ℕ, zero, suc, ◌+◌, ◌≤◌, Lis
 use Rattle.nf_routes_links.proofs.Common.{Option, Some, None, Ok, Err, map, slice_get, unwrap_or, if◌then◌else◌, drop_all, length-map, slice_get_within, ℚ, 0ℚ}
 use Rattle.nf_routes_links.proofs.Common.{◌≤ℚ◌, ≤ℚ_refl, ≤ℚ_trans, Halt, Load, Passing, Checked, Stops, at_part, each, ◌>>=◌, Point, Within, value, IsCurve}
 use Rattle.nf_routes_links.proofs.Common.{Network, NeverFalls-value, value-first, is_zero, is_same_cases, Loaded, loaded_at, departures, after_err, was_ok}
-use Rattle.nf_routes_links.proofs.Common.{stops_on, Route, AreRoutes, LoadedLink, SoFar, exit_of, loaded_or, travel_on, AreExits, IsComplete, HaveExits}
+use Rattle.nf_routes_links.proofs.Common.{stops_on, Route, AreRoutes, LoadedLink, SoFar, exit_of, loaded_or, travel_on, AreExits, IsFullyLoaded, HaveExits}
 use Rattle.nf_routes_links.proofs.Common.{GoOverAll, travel_along}
 use Rattle.nf_routes_links.proofs.Folds.{drop_at}
 use Rattle.nf_model_laws.specs.CurveLaws.{ValuesRise}
