@@ -29,7 +29,6 @@ use Rattle.nf_check_rules.specs.Exits.{AreKept, Keeps, exits_along}
 use Rattle.nf_check_rules.specs.Sent.{short_exits, sent_list, known_list}
 use Rattle.nf_check_rules.specs.Views.{network_in, labels_in, loaded_in}
 use Rattle.nf_check_rules.specs.Trials.{of_halt, EndsAs}
-use Rattle.nf_check_rules.specs.Views.{network_in, labels_in, loaded_in}
 use Rattle.nf_check_rules.proofs.Trying.{ends, part_ends, part_goes}
 
 -- ---- entries of a list of which one was set
